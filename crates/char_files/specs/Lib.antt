@@ -1,0 +1,2 @@
+pub mod CharName
+pub mod Stretch

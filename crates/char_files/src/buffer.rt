@@ -1,0 +1,120 @@
+ghost use Rattle.std.specs.Prelude.{◌≡◌, ◌^◌, ◌≤◌, [], ◌∷◌, ◌++◌, ◌↔◌, ◌⊎◌, length, IfOk, IfErr, OnOk, OnErr, IsTrue, IsErrOf};
+ghost use Rattle.char_files.specs.Stretch.{items_of, AreRuns, EndsIn};
+
+use crate::MAX_FILE;
+use crate::run::Run;
+use looks::{Looks, Refusal};
+use std::alloc::{AllocError, Global};
+use std::marker::Model;
+
+/// Characters with their looks, outside any text: at most 2^24 of them, kept as runs of equal looks.
+///
+/// Oberon's buffers (Project Oberon, chapter 5); the bound is this project's own.
+#[derive(Debug, Drop)]
+pub struct Buffer {
+    runs: Vec<Run>,
+    len: u64,
+}
+
+impl Model for Buffer {
+    ghost use Rattle.std.specs.Prelude.{◌≡◌, List, length};
+    ghost use Rattle.char_files.specs.Stretch.{Item, items_of, IsBuffer};
+
+    ghost Value = { List Item };
+
+    ghost view = { λ b. items_of b.runs.items };
+
+    ghost invariant = { λ b. IsBuffer b.runs.items b.len };
+}
+
+// Whether the last run has these looks.
+fn ends_in(runs: &[Run], looks: &Looks) -> bool
+    ensures { IsTrue result ↔ EndsIn runs.now looks.now }
+{
+    match runs.last() {
+        Some(last) => last.looks() == looks,
+        None => false,
+    }
+}
+
+// Puts a character at the end. An `Err` changes nothing.
+fn push_item(runs: &mut Vec<Run>, byte: u8, looks: Looks) -> Result<(), AllocError>
+    ensures ok { OnOk result (items_of runs.new.items ≡ items_of runs.old.items ++ (byte, looks) ∷ []) }
+    ensures maximal { AreRuns runs.old.items → AreRuns runs.new.items }
+    ensures err { OnErr result (runs.new.items ≡ runs.old.items) }
+{
+    if ends_in(runs, &looks) {
+        let last = runs.len() - 1;
+        return runs[last].push(byte);
+    }
+    let run = Run::new(*runs.allocator(), looks, byte)?;
+    runs.push(run)?;
+    Ok(())
+}
+
+impl Buffer {
+    /// No characters.
+    pub fn new(alloc: Global) -> Buffer
+        ensures { result ≡ [] }
+    {
+        Buffer {
+            runs: Vec::new(alloc),
+            len: 0,
+        }
+    }
+
+    /// How many characters there are, at most 2^24.
+    pub fn len(&self) -> u64
+        ensures value { result ≡ length self.now }
+        ensures bound { result ≤ 2 ^ 24 }
+    {
+        self.len
+    }
+
+    /// Whether there is no character.
+    pub fn is_empty(&self) -> bool
+        ensures { IsTrue result ↔ (self.now ≡ []) }
+    {
+        self.len == 0
+    }
+
+    /// The characters as maximal runs of equal looks.
+    pub fn runs(&self) -> &[Run]
+        ensures value { items_of result.now ≡ self.now }
+        ensures maximal { AreRuns result.now }
+    {
+        &self.runs
+    }
+
+    /// Puts a character at the end.
+    ///
+    /// Refused `FileSpent` where 2^24 characters are here, else `OutOfMemory` where memory is.
+    pub fn push(&mut self, byte: u8, looks: Looks) -> Result<(), Refusal>
+        ensures ok { OnOk result (self.new ≡ self.old ++ (byte, looks) ∷ []) }
+        ensures full { IsErrOf result Refusal.FileSpent ↔ (length self.old ≡ 2 ^ 24) }
+        ensures errors { IfErr result (λ e. (e ≡ Refusal.FileSpent) ⊎ (e ≡ Refusal.OutOfMemory)) }
+        ensures err { OnErr result (self.new ≡ self.old) }
+    {
+        if self.len == MAX_FILE {
+            return Err(Refusal::FileSpent);
+        }
+        push_item(&mut self.runs, byte, looks)?;
+        self.len += 1;
+        Ok(())
+    }
+
+    /// The same characters again. Refused `OutOfMemory` alone.
+    pub fn copy(&self) -> Result<Buffer, Refusal>
+        ensures ok { IfOk result (λ buffer. buffer ≡ self.now) }
+        ensures errors { IfErr result (λ e. e ≡ Refusal.OutOfMemory) }
+    {
+        let mut runs = Vec::new(*self.runs.allocator());
+        for run in &self.runs {
+            runs.push(run.copy()?)?;
+        }
+        Ok(Buffer {
+            runs,
+            len: self.len,
+        })
+    }
+}

@@ -1,0 +1,20 @@
+//! The lasting names of characters, and characters outside any text.
+#![tactic(auto)]
+
+mod buffer;
+mod name;
+mod run;
+mod site_no;
+mod text_no;
+
+pub use buffer::Buffer;
+pub use name::{Anchor, Name};
+pub use run::Run;
+pub use site_no::SiteNo;
+pub use text_no::TextNo;
+
+/// The most bytes that a site's file of one text may have, and the most characters of a stretch: 2^24. This project's own.
+pub const MAX_FILE: u64 = 1 << 24;
+
+#[cfg(test)]
+mod tests;

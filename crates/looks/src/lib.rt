@@ -1,0 +1,21 @@
+//! What a character looks like, the keys that order concurrent changes, and the refusals of the whole system.
+#![tactic(auto)]
+
+mod colour;
+mod font_name;
+mod key;
+mod looks;
+mod refusal;
+mod register;
+mod sel;
+
+pub use colour::Colour;
+pub use font_name::FontName;
+pub use key::Key;
+pub use looks::Looks;
+pub use refusal::Refusal;
+pub use register::Register;
+pub use sel::Sel;
+
+#[cfg(test)]
+mod tests;

@@ -1,0 +1,4 @@
+pub mod NameSet
+pub mod Operation
+pub mod Seen
+pub mod Spelling

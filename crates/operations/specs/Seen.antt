@@ -1,0 +1,15 @@
+-- Operations as the code has them, seen as the definition's.
+use Rattle.std.specs.Prelude.{◌≡◌, ℕ, List, ◌++◌, length, take, Result, Ok, Err}
+use Rattle.std.specs.declared.alloc.AllocError.{AllocError}
+use Rattle.operations.specs.declared.kind.Kind.{Kind}
+use Rattle.operations.specs.declared.kind.Kind.TheVariants.{Insert}
+use Rattle.operations.specs.Operation.{OpKind, insert}
+
+-- a kind, without where it lies in memory
+abbrev pub kind_of : Kind → OpKind
+kind_of (Insert cause at looks bytes) = insert cause at looks bytes.items
+
+-- the bytes were appended, or memory was refused, and perhaps some bytes stand at the end
+abbrev pub Appends : Result (Unit {0}) AllocError → List ℕ → List ℕ → List ℕ → Type 0
+Appends (Ok done) old new bytes = new ≡ old ++ bytes
+Appends (Err refused) old new bytes = take (length old) new ≡ old

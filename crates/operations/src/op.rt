@@ -1,0 +1,98 @@
+ghost use Rattle.std.specs.Prelude.{◌≡◌, ◌↔◌, IsSome, IfSome};
+ghost use Rattle.operations.specs.Spelling.{HasSpelling};
+ghost use Rattle.operations.specs.Seen.{kind_of};
+
+use crate::kind::Kind;
+use char_files::{SiteNo, TextNo};
+use std::marker::Model;
+
+/// The greatest stamp: 2^48 - 1. This project's own.
+pub const MAX_STAMP: u64 = (1 << 48) - 1;
+
+/// An operation that has a message: what one edit did, for every site to do alike. This project's own.
+#[derive(Debug, Drop)]
+pub struct Op {
+    text: TextNo,
+    site: SiteNo,
+    seq: u32,
+    stamp: u64,
+    kind: Kind,
+}
+
+impl Model for Op {
+    ghost use Rattle.operations.specs.Operation.{Operation};
+    ghost use Rattle.operations.specs.Spelling.{HasSpelling};
+    ghost use Rattle.operations.specs.Seen.{kind_of};
+
+    ghost Value = { Operation };
+
+    ghost view = { λ op. record { text = op.text; site = op.site; seq = op.seq; stamp = op.stamp; kind = kind_of op.kind } };
+
+    ghost invariant = { λ op. HasSpelling (record { text = op.text; site = op.site; seq = op.seq; stamp = op.stamp; kind = kind_of op.kind }) };
+}
+
+impl Op {
+    /// The operation of these fields, or `None` where it has no spelling.
+    ///
+    /// A stamp is 1 to 2^48 - 1, a seq 1 or more. An Insert has 1 to 4,096 bytes, which end within 2^24 bytes of its site's
+    /// file, and a cause of its own site is one that stood in that file before it.
+    pub fn new(text: TextNo, site: SiteNo, seq: u32, stamp: u64, kind: Kind) -> Option<Op>
+        ensures valid { IsSome result ↔ HasSpelling (record { text = text; site = site; seq = seq; stamp = stamp; kind = kind_of kind }) }
+        ensures value { IfSome result (λ op. op ≡ record { text = text; site = site; seq = seq; stamp = stamp; kind = kind_of kind }) }
+    {
+        // Texts and sites are above 0 by their types, as these readers say.
+        let _ = (text.get(), site.get());
+        if seq == 0 || stamp == 0 || MAX_STAMP < stamp || !kind.is_valid(site) {
+            return None;
+        }
+        Some(Op {
+            text,
+            site,
+            seq,
+            stamp,
+            kind,
+        })
+    }
+
+    /// The text that it belongs to.
+    pub fn text(&self) -> TextNo
+        ensures { result ≡ self.now.text }
+    {
+        self.text
+    }
+
+    /// The site that made it.
+    pub fn site(&self) -> SiteNo
+        ensures { result ≡ self.now.site }
+    {
+        self.site
+    }
+
+    /// Its number among its site's operations on this text, 1 or more; a site counts from 1 without gaps.
+    pub fn seq(&self) -> u32
+        ensures { result ≡ self.now.seq }
+    {
+        self.seq
+    }
+
+    /// Its stamp, 1 to 2^48 - 1; a site stamps each operation above all that it has taken in.
+    pub fn stamp(&self) -> u64
+        ensures { result ≡ self.now.stamp }
+    {
+        self.stamp
+    }
+
+    /// What it does.
+    pub fn kind(&self) -> &Kind
+        ensures { kind_of result.now ≡ self.now.kind }
+    {
+        &self.kind
+    }
+
+    /// A law: an operation has a spelling. A proof gets it by calling this, at no cost.
+    pub fn has_spelling(&self)
+        ensures { HasSpelling self.now }
+    {
+        let _ = &self.kind;
+    }
+}

@@ -1,0 +1,262 @@
+use super::*;
+use char_files::{Anchor, Name, SiteNo, TextNo};
+use looks::{Looks, Refusal};
+use std::alloc::{AllocError, Global};
+use std::test::Fail;
+
+// The fields of an Insert of default looks into text 1, and its message as the format's description spells it.
+#[derive(Clone, Copy)]
+struct Case {
+    what: &'static str,
+    site: u16,
+    seq: u32,
+    stamp: u64,
+    cause: Option<(u16, u32)>,
+    at: u32,
+    bytes: &'static [u8],
+    message: &'static [u8],
+}
+
+const CASES: [Case; 10] = [
+    Case {
+        what: "the first Insert of a text",
+        site: 1,
+        seq: 1,
+        stamp: 1,
+        cause: None,
+        at: 0,
+        bytes: b"Oberon",
+        message: b"OT\x01\x01\x00\x01\x00\x01\x00\x00\x00\x01\x00\x00\x00\x00\x00\x00\x00\x01\
+            \x00\x00\x00\x00\x00\x00\x00\x00\x00\x00\
+            \x10Oberon10.Scn.Fnt\x01\x00\x00\x06Oberon",
+    },
+    Case {
+        what: "an Insert below another site's character, of the same stamp",
+        site: 2,
+        seq: 1,
+        stamp: 1,
+        cause: Some((1, 0)),
+        at: 0,
+        bytes: b"X",
+        message: b"OT\x01\x01\x00\x01\x00\x02\x00\x00\x00\x01\x00\x00\x00\x00\x00\x00\x00\x01\
+            \x00\x01\x00\x00\x00\x00\x00\x00\x00\x00\
+            \x10Oberon10.Scn.Fnt\x01\x00\x00\x01X",
+    },
+    Case {
+        what: "a second Insert of a site",
+        site: 2,
+        seq: 2,
+        stamp: 2,
+        cause: Some((2, 0)),
+        at: 1,
+        bytes: b"Y",
+        message: b"OT\x01\x01\x00\x01\x00\x02\x00\x00\x00\x02\x00\x00\x00\x00\x00\x00\x00\x02\
+            \x00\x02\x00\x00\x00\x00\x00\x00\x00\x01\
+            \x10Oberon10.Scn.Fnt\x01\x00\x00\x01Y",
+    },
+    Case {
+        what: "the greatest stamp",
+        site: 2,
+        seq: 1,
+        stamp: 0xffffffffffff,
+        cause: None,
+        at: 0,
+        bytes: b"Z",
+        message: b"OT\x01\x01\x00\x01\x00\x02\x00\x00\x00\x01\x00\x00\xff\xff\xff\xff\xff\xff\
+            \x00\x00\x00\x00\x00\x00\x00\x00\x00\x00\
+            \x10Oberon10.Scn.Fnt\x01\x00\x00\x01Z",
+    },
+    Case {
+        what: "the greatest stamp but one",
+        site: 2,
+        seq: 1,
+        stamp: 0xfffffffffffe,
+        cause: None,
+        at: 0,
+        bytes: b"Z",
+        message: b"OT\x01\x01\x00\x01\x00\x02\x00\x00\x00\x01\x00\x00\xff\xff\xff\xff\xff\xfe\
+            \x00\x00\x00\x00\x00\x00\x00\x00\x00\x00\
+            \x10Oberon10.Scn.Fnt\x01\x00\x00\x01Z",
+    },
+    Case {
+        what: "two bytes",
+        site: 1,
+        seq: 1,
+        stamp: 1,
+        cause: None,
+        at: 0,
+        bytes: b"AC",
+        message: b"OT\x01\x01\x00\x01\x00\x01\x00\x00\x00\x01\x00\x00\x00\x00\x00\x00\x00\x01\
+            \x00\x00\x00\x00\x00\x00\x00\x00\x00\x00\
+            \x10Oberon10.Scn.Fnt\x01\x00\x00\x02AC",
+    },
+    Case {
+        what: "an Insert below the site's own character",
+        site: 1,
+        seq: 2,
+        stamp: 2,
+        cause: Some((1, 0)),
+        at: 2,
+        bytes: b"B",
+        message: b"OT\x01\x01\x00\x01\x00\x01\x00\x00\x00\x02\x00\x00\x00\x00\x00\x00\x00\x02\
+            \x00\x01\x00\x00\x00\x00\x00\x00\x00\x02\
+            \x10Oberon10.Scn.Fnt\x01\x00\x00\x01B",
+    },
+    Case {
+        what: "an Insert below another site's character",
+        site: 2,
+        seq: 1,
+        stamp: 2,
+        cause: Some((1, 0)),
+        at: 0,
+        bytes: b"X",
+        message: b"OT\x01\x01\x00\x01\x00\x02\x00\x00\x00\x01\x00\x00\x00\x00\x00\x00\x00\x02\
+            \x00\x01\x00\x00\x00\x00\x00\x00\x00\x00\
+            \x10Oberon10.Scn.Fnt\x01\x00\x00\x01X",
+    },
+    Case {
+        what: "the first Insert of a text, with another last letter",
+        site: 1,
+        seq: 1,
+        stamp: 1,
+        cause: None,
+        at: 0,
+        bytes: b"Oberoo",
+        message: b"OT\x01\x01\x00\x01\x00\x01\x00\x00\x00\x01\x00\x00\x00\x00\x00\x00\x00\x01\
+            \x00\x00\x00\x00\x00\x00\x00\x00\x00\x00\
+            \x10Oberon10.Scn.Fnt\x01\x00\x00\x06Oberoo",
+    },
+    Case {
+        what: "a third Insert of a site",
+        site: 1,
+        seq: 3,
+        stamp: 3,
+        cause: Some((1, 3)),
+        at: 4,
+        bytes: b"bc",
+        message: b"OT\x01\x01\x00\x01\x00\x01\x00\x00\x00\x03\x00\x00\x00\x00\x00\x00\x00\x03\
+            \x00\x01\x00\x00\x00\x03\x00\x00\x00\x04\
+            \x10Oberon10.Scn.Fnt\x01\x00\x00\x02bc",
+    },
+];
+
+fn anchor(cause: Option<(u16, u32)>) -> Option<Anchor> {
+    match cause {
+        None => Some(Anchor::Root),
+        Some((site, off)) => Some(Anchor::At(Name::new(SiteNo::new(site)?, off)?)),
+    }
+}
+
+// A vector of these bytes; an allocation that is refused once is tried again.
+fn vec_of(alloc: Global, bytes: &[u8]) -> Result<Vec<u8>, AllocError> {
+    match Vec::from_slice(alloc, bytes) {
+        Ok(vec) => Ok(vec),
+        Err(_) => Vec::from_slice(alloc, bytes),
+    }
+}
+
+// The operation, or none where these fields have no spelling.
+fn op_of(alloc: Global, case: &Case, bytes: &[u8]) -> Result<Option<Op>, AllocError> {
+    let bytes = vec_of(alloc, bytes)?;
+    let (Some(text), Some(site), Some(cause)) = (
+        TextNo::new(1),
+        SiteNo::new(case.site),
+        anchor(case.cause),
+    ) else {
+        return Ok(None);
+    };
+    let kind = Kind::Insert {
+        cause,
+        at: case.at,
+        looks: Looks::plain(),
+        bytes,
+    };
+    Ok(Op::new(text, site, case.seq, case.stamp, kind))
+}
+
+// Whichever allocation of `encode` is refused, the vector is as it was before.
+#[test]
+fn inserts_are_spelled(rt: HostRuntime) -> Result<(), Fail> {
+    for case in &CASES {
+        let op = op_of(rt.alloc(), case, case.bytes)?.ok_or(case.what)?;
+        let mut message = vec_of(rt.alloc(), b"before")?;
+        if let Err(refusal) = encode(&op, &mut message) {
+            assert_eq!(rt; refusal, Refusal::OutOfMemory);
+            assert_eq!(rt; message.as_slice(), b"before".as_slice());
+            encode(&op, &mut message)?;
+        }
+        let (before, spelling) = message.as_slice().split_at(6.min(message.len()));
+        assert_eq!(rt; before, b"before".as_slice());
+        assert_eq!(rt; spelling, case.message, "{}", case.what);
+    }
+    Ok(())
+}
+
+// A site 2's Insert with one field at its limit, and one past it.
+#[test]
+fn fields_past_their_limits(rt: HostRuntime) -> Result<(), Fail> {
+    let own = Some((2, 0));
+    let file = 0x0100_0000;
+    let letters = [b'a'; 4097];
+    for (what, seq, stamp, cause, at, len, want) in [
+        ("the least of all", 1, 1, None, 0, 1, true),
+        ("the greatest seq", 0xffff_ffff, 1, None, 0, 1, true),
+        ("seq 0", 0, 1, None, 0, 1, false),
+        ("stamp 0", 1, 0, None, 0, 1, false),
+        ("stamp 2^48 - 1", 1, 0xffff_ffff_ffff, None, 0, 1, true),
+        ("stamp 2^48", 1, 0x0001_0000_0000_0000, None, 0, 1, false),
+        ("no bytes", 1, 1, None, 0, 0, false),
+        ("4,096 bytes", 1, 1, None, 0, 4096, true),
+        ("4,097 bytes", 1, 1, None, 0, 4097, false),
+        ("the end of the file", 1, 1, None, file - 2, 2, true),
+        ("past the end of the file", 1, 1, None, file - 2, 3, false),
+        (
+            "an own cause that stands in the file",
+            2,
+            2,
+            own,
+            1,
+            1,
+            true,
+        ),
+        (
+            "an own cause that doesn't stand there",
+            2,
+            2,
+            own,
+            0,
+            1,
+            false,
+        ),
+        ("another site's cause", 2, 2, Some((3, 9)), 0, 1, true),
+    ] {
+        let case = Case {
+            what,
+            site: 2,
+            seq,
+            stamp,
+            cause,
+            at,
+            bytes: b"",
+            message: b"",
+        };
+        let op = op_of(rt.alloc(), &case, letters.get(..len).ok_or(what)?)?;
+        assert_eq!(rt; op.is_some(), want, "{what}");
+        if let Some(op) = op {
+            assert_eq!(rt; (op.text().get(), op.site().get()), (1, 2));
+            assert_eq!(rt; (op.seq(), op.stamp()), (seq, stamp));
+            let Kind::Insert {
+                cause: kept,
+                at: place,
+                looks,
+                bytes,
+            } = op.kind();
+            assert_eq!(rt;
+                (Some(*kept), *place, bytes.len()),
+                (anchor(cause), at, len)
+            );
+            assert_eq!(rt; looks, &Looks::plain());
+        }
+    }
+    Ok(())
+}
