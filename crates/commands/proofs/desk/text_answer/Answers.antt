@@ -1,0 +1,16 @@
+use Rattle.std.proofs.Common.{ℕ, List, ◌++◌, ap, ◌∙◌, append_assoc, map, take, arith}
+use Rattle.std.specs.Prelude.{slice_get}
+use Rattle.texts.specs.declared.shown.Char.{Char}
+use Rattle.commands.proofs.Counted.{flat_map-map-more, IfSome-first}
+use Rattle.commands.specs.Printing.{printed, printed_byte}
+use Rattle.commands.proofs.desk.text_answer.Goals as goal
+
+pub loop-pos-preserved : goal.loop-pos-preserved
+loop-pos-preserved c =
+    let shown = c.args.replica.now.shown in
+    let pos = c.loop-pos.pos in
+    let before = c.if-len-ne0.answer.items in
+    let byte = IfSome-first (slice_get shown pos) (λ (x : Char). x.byte) (λ (x : Char). x.looks) c.attributes.result c.attributes.ensures in
+    let more = flat_map-map-more printed_byte (λ (x : Char). x.byte) shown pos c.attributes.result.0 (omega arith) byte in
+    let so_far = printed (map (λ (x : Char). x.byte) (take pos shown)) in
+    rw more (c.in_ok-put_printed.ensures ∙ ap (λ (a : List ℕ). a ++ printed_byte c.attributes.result.0) c.loop-pos.invariant ∙ append_assoc before so_far (printed_byte c.attributes.result.0))

@@ -1,0 +1,10 @@
+//! One site's desk: its texts, and a call for each event.
+#![tactic(auto)]
+
+mod desk;
+mod printing;
+
+pub use desk::Desk;
+
+#[cfg(test)]
+mod tests;

@@ -1,0 +1,14 @@
+use Rattle.site_cli.proofs.Printed.{encode_lower-nil, hex_more}
+use Rattle.std.proofs.Common.{sym, subst}
+use Rattle.std.specs.Io.KnownBytes.{Appends}
+use Rattle.std.proofs.KnownBytes.{Appends-nil}
+use Rattle.site_cli.proofs.answers.put_hex.Goals as goal
+
+pub loop-byte-init : goal.loop-byte-init
+loop-byte-init g c =
+    let w = g.W.Write.contents c.args.writer.now in
+    subst (Appends w w) (sym encode_lower-nil) (Appends-nil w)
+
+pub loop-byte-preserved : goal.loop-byte-preserved
+loop-byte-preserved g c =
+    hex_more (g.W.Write.contents c.args.writer.now) (g.W.Write.contents c.loop-byte.writer) (g.W.Write.contents c.put_hex_byte.new.writer) c.args.bytes.now c.loop-byte.byte-index 0 c.loop-byte-test.true c.loop-byte.invariant c.in_ok-put_hex_byte.ensures.ok

@@ -1,0 +1,12 @@
+use Rattle.std.proofs.Common.{◌≤◌}
+use Rattle.std.specs.Prelude.{vec_capacity}
+use Rattle.std.specs.Io.KnownBytes.{Consumes}
+use Rattle.site_cli.specs.Session.{IsRaw}
+use Rattle.site_cli.proofs.lines.take_line.Given as goal
+
+abbrev pub invariant-loop : goal.invariant-loop
+invariant-loop g l = record {
+  consumed : Consumes (g.R.Read.remaining l.fn.reader) (g.R.Read.remaining l.reader) l.line.items;
+  raw : IsRaw l.line.items;
+  room : 32768 ≤ vec_capacity l.line;
+}

@@ -1,0 +1,107 @@
+use Rattle.std.proofs.Common.{◌+◌, arith}
+use Rattle.std.proofs.lemmas.List.{length-map}
+use Rattle.std.proofs.lemmas.List.FromFn.{length-range_with_len}
+use Rattle.site_cli.specs.Session.{Ends}
+use Rattle.site_cli.proofs.Sessions.{IsSoFar, IfSome-weaker, begins_known, goes_on_by, ends_by_last, ends_by_end, ends_broken}
+use Rattle.site_cli.proofs.run.run_lines.Goals as goal
+
+pub loop-init : goal.loop-init
+loop-init g c = record {
+  so_far = rw c.requires.begins (begins_known c.args.settings.first c.args.settings.count (g.R.Read.remaining c.args.reader.now) (g.W.Write.contents c.args.writer.now));
+  count = rw c.requires.begins (simp (length-map, length-range_with_len));
+  room = c.requires.room;
+}
+
+pub returns-in-Ok-Last : goal.returns-in-Ok-Last
+returns-in-Ok-Last g c =
+    let first = c.args.settings.first in
+    let count = c.args.settings.count in
+    let left = g.R.Read.remaining c.loop.reader in
+    let left' = g.R.Read.remaining c.take_line.new.reader in
+    let old = g.W.Write.contents c.args.writer.now in
+    let mid = g.W.Write.contents c.loop.writer in
+    let new = g.W.Write.contents c.answer-in-Ok-Last.new.writer in
+    let s = c.loop.sites in
+    let s' = c.answer-in-Ok-Last.new.sites in
+    let r = c.answer-in-Ok-Last.result in
+    let taken = rw c.in-Ok-Last.field-0-is at c.in-Ok-Last.ensures.taken in
+    let written = rw (c.loop.invariant.count, c.deref-in-Ok-Last.ensures.value) at c.answer-in-Ok-Last.ensures.ok in
+    IfSome-weaker (g.R.Read.remaining c.args.reader.now) (λ script. IsSoFar first count script left old mid c.loop.counter s) (λ script. Ends first count script r old new)
+    (λ script f. ends_by_last first count script left left' old mid new c.loop.counter s s' f r c.take_line.new.line.items (omega arith) taken written c.answer-in-Ok-Last.ensures.errors) c.loop.invariant.so_far
+
+pub returns-in-Ok-End : goal.returns-in-Ok-End
+returns-in-Ok-End g c =
+    let first = c.args.settings.first in
+    let count = c.args.settings.count in
+    let left = g.R.Read.remaining c.loop.reader in
+    let left' = g.R.Read.remaining c.take_line.new.reader in
+    let old = g.W.Write.contents c.args.writer.now in
+    let mid = g.W.Write.contents c.loop.writer in
+    let new = g.W.Write.contents c.flush.new.writer in
+    let s = c.loop.sites in
+    let r = c.flush.result in
+    let taken = rw c.in-Ok-End.field-0-is at c.in-Ok-End.ensures.taken in
+    IfSome-weaker (g.R.Read.remaining c.args.reader.now) (λ script. IsSoFar first count script left old mid c.loop.counter s) (λ script. Ends first count script r old new)
+    (λ script f. ends_by_end first count script left left' old mid new c.loop.counter s s f r c.take_line.new.line.items (omega arith) taken c.flush.ensures.ok c.flush.ensures.errors) c.loop.invariant.so_far
+
+pub returns-in-Err : goal.returns-in-Err
+returns-in-Err g c =
+    let first = c.args.settings.first in
+    let count = c.args.settings.count in
+    let left = g.R.Read.remaining c.loop.reader in
+    let old = g.W.Write.contents c.args.writer.now in
+    let mid = g.W.Write.contents c.loop.writer in
+    let new = g.W.Write.contents c.break_off.new.writer in
+    let s = c.loop.sites in
+    let r = c.break_off.result in
+    IfSome-weaker (g.R.Read.remaining c.args.reader.now) (λ script. IsSoFar first count script left old mid c.loop.counter s) (λ script. Ends first count script r old new)
+    (λ script f. ends_broken first count script left old mid new c.loop.counter s r f c.break_off.ensures) c.loop.invariant.so_far
+
+pub loop-preserved : goal.loop-preserved
+loop-preserved g c =
+    let first = c.args.settings.first in
+    let count = c.args.settings.count in
+    let left = g.R.Read.remaining c.loop.reader in
+    let left' = g.R.Read.remaining c.take_line.new.reader in
+    let old = g.W.Write.contents c.args.writer.now in
+    let mid = g.W.Write.contents c.loop.writer in
+    let new = g.W.Write.contents c.answer.new.writer in
+    let s = c.loop.sites in
+    let s' = c.answer.new.sites in
+    let n = c.loop.counter in
+    let taken = rw c.in-Ok-Line.field-0-is at c.in-Ok-Line.ensures.taken in
+    let written = rw (c.loop.invariant.count, c.deref.ensures.value) at c.in_ok-answer-in-Ok-Line.ensures.ok in
+    record {
+      so_far = IfSome-weaker (g.R.Read.remaining c.args.reader.now) (λ script. IsSoFar first count script left old mid n s) (λ script. IsSoFar first count script left' old new (n + 1) s')
+          (λ script f. goes_on_by first count script left left' old mid new n s s' f c.take_line.new.line.items taken written) c.loop.invariant.so_far;
+      count = rw c.loop.invariant.count at c.answer.ensures.count;
+      room = c.take_line.ensures.room;
+    }
+
+pub returns-in-Ok-End-take_line : goal.returns-in-Ok-End-take_line
+returns-in-Ok-End-take_line g c =
+    let first = c.args.settings.first in
+    let count = c.args.settings.count in
+    let left = g.R.Read.remaining c.loop.reader in
+    let left' = g.R.Read.remaining c.take_line-2.new.reader in
+    let old = g.W.Write.contents c.args.writer.now in
+    let mid = g.W.Write.contents c.loop.writer in
+    let new = g.W.Write.contents c.flush-in-Ok-End-take_line.new.writer in
+    let s = c.loop.sites in
+    let r = c.flush-in-Ok-End-take_line.result in
+    let taken = rw c.in-Ok-End-take_line.field-0-is at c.in-Ok-End-take_line.ensures.taken in
+    IfSome-weaker (g.R.Read.remaining c.args.reader.now) (λ script. IsSoFar first count script left old mid c.loop.counter s) (λ script. Ends first count script r old new)
+    (λ script f. ends_by_end first count script left left' old mid new c.loop.counter s s f r c.take_line-2.new.line.items (omega arith) taken c.flush-in-Ok-End-take_line.ensures.ok c.flush-in-Ok-End-take_line.ensures.errors) c.loop.invariant.so_far
+
+pub returns-in_default : goal.returns-in_default
+returns-in_default g c =
+    let first = c.args.settings.first in
+    let count = c.args.settings.count in
+    let left = g.R.Read.remaining c.loop.reader in
+    let old = g.W.Write.contents c.args.writer.now in
+    let mid = g.W.Write.contents c.loop.writer in
+    let new = g.W.Write.contents c.break_off-in_default.new.writer in
+    let s = c.loop.sites in
+    let r = c.break_off-in_default.result in
+    IfSome-weaker (g.R.Read.remaining c.args.reader.now) (λ script. IsSoFar first count script left old mid c.loop.counter s) (λ script. Ends first count script r old new)
+    (λ script f. ends_broken first count script left old mid new c.loop.counter s r f c.break_off-in_default.ensures) c.loop.invariant.so_far

@@ -1,0 +1,148 @@
+use super::*;
+use std::alloc::Global;
+use std::io;
+use std::test::Fail;
+
+// A reader that gives one byte a read.
+#[derive(Drop)]
+struct ByteByByte<'a>(&'a [u8]);
+
+impl io::Read for ByteByByte<'_> {
+    fn read(&mut self, buf: &mut [u8]) -> io::Result<usize> {
+        match (self.0.split_first(), buf.first_mut()) {
+            (Some((first, rest)), Some(place)) => {
+                *place = *first;
+                self.0 = rest;
+                Ok(1)
+            }
+            _ => Ok(0),
+        }
+    }
+}
+
+const CASES: [(&str, &[u8], &[u8]); 12] = [
+    (
+        "the first message",
+        b"1 type 1 0 Oberon\n1 text 1\n",
+        b"send m1 4f5401010001000100000001000000000000000100000000000000000000104f6265726f6e31302e53636e2e466e74010000064f6265726f6e\nok\ntext 6 Oberon\n",
+    ),
+    (
+        "what is wrong is refused before a position",
+        b"1 typo\n9 text 1\n1 text 17\n1 type 1 1 x\n1 type 1 0 Oberon\n1 text 1\n",
+        b"refused 20\nrefused 20\nrefused 20\nrefused 11\nsend m1 4f5401010001000100000001000000000000000100000000000000000000104f6265726f6e31302e53636e2e466e74010000064f6265726f6e\nok\ntext 6 Oberon\n",
+    ),
+    (
+        "verbs that are not there yet",
+        b"1 take 1 m1\n1 front 1\n1 show\n2 cut 1 0 0\n",
+        b"refused 20\nrefused 20\nrefused 20\nrefused 20\n",
+    ),
+    (
+        "carriage returns, comments, empty lines, no newline at the end",
+        b"# a comment\r\n\r\n\n1 type 1 0 ab\r\n#\n1 text 1",
+        b"send m1 4f5401010001000100000001000000000000000100000000000000000000104f6265726f6e31302e53636e2e466e74010000026162\nok\ntext 2 ab\n",
+    ),
+    (
+        "one carriage return is taken off, and none where there is no newline",
+        b"1 type 1 0 a\r\r\n1 text 1\n1 text 1\r",
+        b"send m1 4f5401010001000100000001000000000000000100000000000000000000104f6265726f6e31302e53636e2e466e7401000002610d\nok\ntext 2 a\\0d\nrefused 20\n",
+    ),
+    (
+        "escapes of both cases",
+        b"1 type 1 0 a\\0d\\5Cb\\fF\\C3 c\n1 text 1\n",
+        b"send m1 4f5401010001000100000001000000000000000100000000000000000000104f6265726f6e31302e53636e2e466e7401000008610d5c62ffc32063\nok\ntext 8 a\\0d\\5cb\\ff\\c3 c\n",
+    ),
+    (
+        "escapes that are none",
+        b"1 type 1 0 \\\n1 type 1 0 \\0\n1 type 1 0 \\0g\n1 type 1 0 a\\ 0\n",
+        b"refused 20\nrefused 20\nrefused 20\nrefused 20\n",
+    ),
+    (
+        "nothing typed, and its blank missing",
+        b"1 type 1 0 \n1 type 1 1 \n1 type 1 0\n1 text 1\n1 text 1 \n",
+        b"ok\nrefused 11\nrefused 20\ntext 0\nrefused 20\n",
+    ),
+    (
+        "numbers",
+        b"1 text 0000000001\n1 text 00000000001\n1 text 0\n1 text 16\n1 text +1\n1  text 1\n 1 text 1\n1 text  1\n0 text 1\n2 text 1\n3 text 1\n1 type 1 4294967295 x\n1 type 1 4294967296 x\n1 type 1 00000000000 x\n",
+        b"text 0\nrefused 20\nrefused 20\ntext 0\nrefused 20\nrefused 20\nrefused 20\nrefused 20\nrefused 20\ntext 0\nrefused 20\nrefused 11\nrefused 20\nrefused 20\n",
+    ),
+    (
+        "causes, seqs and stamps of a site",
+        b"1 type 1 0 AC\n1 type 1 1 B\n1 type 1 0 x\n1 type 1 4 yz\n1 text 1\n",
+        b"send m1 4f5401010001000100000001000000000000000100000000000000000000104f6265726f6e31302e53636e2e466e74010000024143\nok\nsend m2 4f5401010001000100000002000000000000000200010000000000000002104f6265726f6e31302e53636e2e466e740100000142\nok\nsend m3 4f5401010001000100000003000000000000000300000000000000000003104f6265726f6e31302e53636e2e466e740100000178\nok\nsend m4 4f5401010001000100000004000000000000000400010000000100000004104f6265726f6e31302e53636e2e466e7401000002797a\nok\ntext 6 xABCyz\n",
+    ),
+    (
+        "sites and texts have nothing to do with one another",
+        b"1 type 1 0 a\n2 type 1 0 b\n1 type 2 0 c\n1 text 1\n2 text 1\n1 text 2\n2 text 2\n",
+        b"send m1 4f5401010001000100000001000000000000000100000000000000000000104f6265726f6e31302e53636e2e466e740100000161\nok\nsend m2 4f5401010001000200000001000000000000000100000000000000000000104f6265726f6e31302e53636e2e466e740100000162\nok\nsend m3 4f5401010002000100000001000000000000000100000000000000000000104f6265726f6e31302e53636e2e466e740100000163\nok\ntext 1 a\ntext 1 b\ntext 1 c\ntext 0\n",
+    ),
+    ("nothing at all", b"", b""),
+];
+
+// What a run of sites 1 and 2 over the script writes, and how it ends.
+fn answered(alloc: Global, script: &[u8]) -> io::Result<(Vec<u8>, Result<(), looks::Refusal>)> {
+    let mut reader = script;
+    let mut answers = Vec::with_capacity(alloc, 70000)?;
+    let result = run(alloc, &mut reader, &mut answers, Settings::default());
+    Ok((answers, result))
+}
+
+#[test]
+fn scripts(rt: HostRuntime) -> Result<(), Fail> {
+    for (what, script, want) in &CASES {
+        let (answers, result) = answered(rt.alloc(), script)?;
+        assert_eq!(rt; answers.as_slice(), *want, "{what}");
+        assert_eq!(rt; result, Ok(()), "{what}");
+        let mut slow = ByteByByte(script);
+        let mut again = Vec::new(rt.alloc());
+        let result = run(rt.alloc(), &mut slow, &mut again, Settings::default());
+        assert_eq!(rt; again.as_slice(), *want, "byte by byte: {what}");
+        assert_eq!(rt; result, Ok(()), "byte by byte: {what}");
+    }
+    Ok(())
+}
+
+// A line of `len` bytes, a comment, and a line behind it.
+fn long_comment(alloc: Global, len: usize) -> io::Result<Vec<u8>> {
+    let mut script = Vec::from_slice(alloc, b"1 text 1\n")?;
+    for _ in 0..len {
+        script.push(b'#')?;
+    }
+    script.extend_from_slice(b"\n1 text 1\n")?;
+    Ok(script)
+}
+
+#[test]
+fn the_longest_line(rt: HostRuntime) -> Result<(), Fail> {
+    let (answers, result) = answered(rt.alloc(), &long_comment(rt.alloc(), 32768)?)?;
+    assert_eq!(rt; answers.as_slice(), b"text 0\ntext 0\n".as_slice());
+    assert_eq!(rt; result, Ok(()));
+    let (answers, result) = answered(rt.alloc(), &long_comment(rt.alloc(), 32769)?)?;
+    assert_eq!(rt; answers.as_slice(), b"text 0\nrefused 21\n".as_slice());
+    assert_eq!(rt; result, Err(looks::Refusal::ReadFault));
+    Ok(())
+}
+
+// Types `len` letters x into an empty text.
+fn long_type(alloc: Global, len: usize) -> io::Result<Vec<u8>> {
+    let mut script = Vec::from_slice(alloc, b"1 type 1 0 ")?;
+    for _ in 0..len {
+        script.push(b'x')?;
+    }
+    Ok(script)
+}
+
+#[test]
+fn the_longest_insert(rt: HostRuntime) -> Result<(), Fail> {
+    let (answers, result) = answered(rt.alloc(), &long_type(rt.alloc(), 4096)?)?;
+    let head = b"send m1 4f5401010001000100000001000000000000000100000000000000000000\
+        104f6265726f6e31302e53636e2e466e7401001000";
+    assert_eq!(rt; answers.len(), head.len() + 2 * 4096 + 4);
+    assert!(rt; answers.as_slice().starts_with(head));
+    assert!(rt; answers.as_slice().ends_with(b"7878\nok\n"));
+    assert_eq!(rt; result, Ok(()));
+    let (answers, result) = answered(rt.alloc(), &long_type(rt.alloc(), 4097)?)?;
+    assert_eq!(rt; answers.as_slice(), b"refused 20\n".as_slice());
+    assert_eq!(rt; result, Ok(()));
+    Ok(())
+}

@@ -1,0 +1,4 @@
+pub mod Inserted
+pub mod OneRun
+pub mod Refusals
+pub mod TakenLemmas
