@@ -12,7 +12,8 @@ use std::marker::Model;
 use texts::{EditRefusal, Outbox, Replica};
 
 // How many texts a desk has.
-const TEXTS: u16 = 16;
+/// The greatest number of a text on a desk; the least is 1.
+pub const MAX_TEXT: u16 = 16;
 
 /// One site's texts, 1 to 16, each empty until it is first changed. This project's own.
 #[derive(Debug, Drop)]
@@ -52,7 +53,7 @@ impl Desk {
         ensures errors { IfErr result (λ e. e ≡ Refusal.OutOfMemory) }
     {
         let mut texts = Vec::new(alloc);
-        for number in 1..TEXTS + 1 {
+        for number in 1..MAX_TEXT + 1 {
             texts.push(Replica::new(alloc, TextNo::new(number).unwrap(), site)?)?;
         }
         Ok(Desk { site, texts })

@@ -4,7 +4,7 @@
 mod desk;
 mod printing;
 
-pub use desk::Desk;
+pub use desk::{Desk, MAX_TEXT};
 
 #[cfg(test)]
 mod tests;

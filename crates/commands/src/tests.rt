@@ -15,7 +15,7 @@ fn desk_of(alloc: Global, site: SiteNo) -> Result<Desk, Refusal> {
 
 // The answer line of a text; what is refused memory once is tried again.
 fn text_of(desk: &Desk, text: TextNo) -> Result<Vec<u8>, Refusal> {
-    if 16 < text.get() {
+    if MAX_TEXT < text.get() {
         return Err(Refusal::BadEvent);
     }
     match desk.text(text) {
@@ -29,9 +29,9 @@ fn text_of(desk: &Desk, text: TextNo) -> Result<Vec<u8>, Refusal> {
 fn types_and_prints(rt: HostRuntime) -> Result<(), Fail> {
     let (site, text) = (
         SiteNo::new(1).ok_or("site 1")?,
-        TextNo::new(16).ok_or("text 16")?,
+        TextNo::new(MAX_TEXT).ok_or("text 16")?,
     );
-    assert!(rt; text.get() <= 16);
+    assert!(rt; text.get() <= MAX_TEXT);
     let mut desk = desk_of(rt.alloc(), site)?;
     let mut outbox = Outbox::new(rt.alloc());
     for (pos, bytes, before, after) in [

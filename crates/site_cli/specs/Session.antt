@@ -18,13 +18,18 @@ pub record IsRaw (raw : List ℕ) : Type 0 where
 abbrev pub without_return : List ℕ → List ℕ
 without_return raw = if slice_index raw (length raw - 1) == 13 then take (length raw - 1) raw else raw
 
--- what taking a line from the script answers: a line that a newline ends; the last line, without one; the end; or a fault, where
--- the reader failed or the line is too long
+-- where taking a line broke off: no newline was among the bytes taken, which are at most one more than a line has
+pub record IsUnended (part : List ℕ) : Type 0 where
+  pub one_line : All (λ b. b ≢ 10) part
+  pub short : length part ≤ 32769
+
+-- what taking a line from the script answers: a line that a newline ends; the last line, without one; the end; or a fault, in a
+-- line that has not ended
 abbrev pub Takes : Option (List ℕ) → Option (List ℕ) → Result Taken Refusal → List ℕ → Type 0
 Takes old new (Ok Line) line = (raw : List ℕ) × IsRaw raw × Consumes old new (raw ++ 10 ∷ []) × (line ≡ without_return raw)
 Takes old new (Ok Last) line = IsRaw line × (line ≢ []) × Consumes old new line × IsAtEnd new
 Takes old new (Ok End) line = Consumes old new [] × IsAtEnd new
-Takes old new (Err why) line = why ≡ ReadFault
+Takes old new (Err why) line = (why ≡ ReadFault) × ((part : List ℕ) × IsUnended part × Consumes old new part)
 
 -- empty lines and those that begin with `#` are answered by nothing
 abbrev pub is_silent : List ℕ → Bool
@@ -50,24 +55,31 @@ IsAnswered first count script answers =
     ⊎ ((n : ℕ) × (front before raw answer : List ℕ) × (s new : State) × (n < 2 ^ 20) × Session first count n front before s × IsRaw raw × (raw ≢ [])
     × Answers first count s raw answer new × (script ≡ front ++ raw) × (answers ≡ before ++ answer))
 
--- the answers where the reader failed or a limit was passed: to the lines that were ended before, then the refusal
-abbrev pub IsBrokenOff : (first count : ℕ) → List ℕ → List ℕ → Type 0
-IsBrokenOff first count script answers =
-    (n : ℕ) × (front rest before : List ℕ) × (s : State) × Session first count n front before s × (script ≡ front ++ rest) × (answers ≡ before ++ refused ReadFault)
+-- behind n lines a part of the script was taken that breaks the run off: it has no newline, or it is a line behind the last
+abbrev pub Breaks : ℕ → List ℕ → Type 0
+Breaks n part = IsUnended part ⊎ ((n ≡ 2 ^ 20) × ((raw : List ℕ) × IsRaw raw × (part ≡ raw ++ 10 ∷ [])))
 
--- How a run over the script ends, and what it has written then. Where the writer fails nothing is said of what it holds.
-abbrev pub Ends : (first count : ℕ) → List ℕ → Result (Unit {0}) Refusal → Option (List ℕ) → Option (List ℕ) → Type 0
-Ends first count script (Ok done) old new = (answers : List ℕ) × Appends old new answers × IsAnswered first count script answers
-Ends first count script (Err ReadFault) old new = (answers : List ℕ) × Appends old new answers × IsBrokenOff first count script answers
-Ends first count script (Err OutOfMemory) old new = Keeps old new
-Ends first count script (Err WriteFault) old new = Unit {0}
-Ends first count script (Err why) old new = ⊥
+-- the answers of a run that broke off, the reader having this left: to the lines that were ended before, 2^20 at most, then the
+-- refusal
+abbrev pub IsBrokenOff : (first count : ℕ) → List ℕ → Option (List ℕ) → List ℕ → Type 0
+IsBrokenOff first count script left answers =
+    (n : ℕ) × (front part before : List ℕ) × (s : State) × (n ≤ 2 ^ 20) × Session first count n front before s × Breaks n part × Consumes (Some script) left (front ++ part)
+    × (answers ≡ before ++ refused ReadFault)
+
+-- How a run over the script ends, what the reader then has left, and what was written. Refused memory is told before the first
+-- byte is read. Where the writer fails nothing is said of what it holds.
+abbrev pub Ends : (first count : ℕ) → List ℕ → Result (Unit {0}) Refusal → (left old new : Option (List ℕ)) → Type 0
+Ends first count script (Ok done) left old new = (answers : List ℕ) × Appends old new answers × IsAnswered first count script answers
+Ends first count script (Err ReadFault) left old new = (answers : List ℕ) × Appends old new answers × IsBrokenOff first count script left answers
+Ends first count script (Err OutOfMemory) left old new = Keeps (Some script) left × Keeps old new
+Ends first count script (Err WriteFault) left old new = Unit {0}
+Ends first count script (Err why) left old new = ⊥
 
 -- what taking a byte answers: the byte, or none at the end, or a fault
 abbrev pub TakesByte : Option (List ℕ) → Option (List ℕ) → Result (Option ℕ) Refusal → Type 0
 TakesByte old new (Ok (Some byte)) = Consumes old new (byte ∷ [])
 TakesByte old new (Ok None) = Consumes old new [] × IsAtEnd new
-TakesByte old new (Err why) = why ≡ ReadFault
+TakesByte old new (Err why) = (why ≡ ReadFault) × Keeps old new
 
 -- breaking off writes the refusal and answers it, or answers that the writer failed
 abbrev pub BreaksOff : Option (List ℕ) → Option (List ℕ) → Result (Unit {0}) Refusal → Type 0

@@ -6,6 +6,7 @@ ghost use Rattle.site_cli.specs.Seen.{event_of, IsInRun};
 
 use arrayvec::ArrayVec;
 use char_files::TextNo;
+use commands::MAX_TEXT;
 
 /// The most bytes that a line may type.
 pub const MAX_TYPED: usize = 4096;
@@ -70,7 +71,7 @@ fn text_in(word: &[u8]) -> Option<TextNo>
     ensures on_desk { IfSome result (λ text. text ≤ 16) }
 {
     let number = number_in(word)?;
-    if 16 < number {
+    if u32::from(MAX_TEXT) < number {
         return None;
     }
     TextNo::new(number as u16)

@@ -47,7 +47,7 @@ pub fn take_line<R: Read>(reader: &mut R, line: &mut Vec<u8>) -> Result<Taken, R
     ensures room { 32768 ≤ vec_capacity line.new }
 {
     line.clear();
-    for _ in 0..=MAX_LINE {
+    loop {
         match take_byte(reader)? {
             None if line.is_empty() => return Ok(Taken::End),
             None => return Ok(Taken::Last),
@@ -59,5 +59,4 @@ pub fn take_line<R: Read>(reader: &mut R, line: &mut Vec<u8>) -> Result<Taken, R
             Some(_) => return Err(Refusal::ReadFault),
         }
     }
-    Err(Refusal::ReadFault)
 }

@@ -60,7 +60,7 @@ fn run_lines<R: Read, W: Write>(
 ) -> Result<(), Refusal>
     requires room { 32768 ≤ vec_capacity line.old }
     requires begins { sites.old ≡ new_state settings.first settings.count }
-    ensures { IfSome (R.remaining reader.old) (λ script. Ends settings.first settings.count script result (W.contents writer.old) (W.contents writer.new)) }
+    ensures { IfSome (R.remaining reader.old) (λ script. Ends settings.first settings.count script result (R.remaining reader.new) (W.contents writer.old) (W.contents writer.new)) }
 {
     for _ in 0..MAX_LINES {
         match take_line(reader, line) {
@@ -88,7 +88,7 @@ pub fn run<R: Read, W: Write>(
     writer: &mut W,
     settings: Settings,
 ) -> Result<(), Refusal>
-    ensures answers { IfSome (R.remaining reader.old) (λ script. Ends settings.first settings.count script result (W.contents writer.old) (W.contents writer.new)) }
+    ensures answers { IfSome (R.remaining reader.old) (λ script. Ends settings.first settings.count script result (R.remaining reader.new) (W.contents writer.old) (W.contents writer.new)) }
 {
     let mut line = Vec::with_capacity(alloc, MAX_LINE)?;
     let mut sites = Sites::new(alloc, settings.first, settings.count)?;

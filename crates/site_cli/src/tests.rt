@@ -3,6 +3,33 @@ use std::alloc::Global;
 use std::io;
 use std::test::Fail;
 
+// A reader that fails behind its bytes.
+#[derive(Drop)]
+struct FailsBehind<'a>(&'a [u8]);
+
+impl io::Read for FailsBehind<'_> {
+    fn read(&mut self, buf: &mut [u8]) -> io::Result<usize> {
+        match self.0.read(buf) {
+            Ok(0) => Err(io::ErrorKind::Other.into()),
+            taken => taken,
+        }
+    }
+}
+
+// A writer that fails at once.
+#[derive(Drop)]
+struct Full;
+
+impl io::Write for Full {
+    fn write(&mut self, _: &[u8]) -> io::Result<usize> {
+        Err(io::ErrorKind::Other.into())
+    }
+
+    fn flush(&mut self) -> io::Result<()> {
+        Ok(())
+    }
+}
+
 // A reader that gives one byte a read.
 #[derive(Drop)]
 struct ByteByByte<'a>(&'a [u8]);
@@ -102,12 +129,18 @@ fn scripts(rt: HostRuntime) -> Result<(), Fail> {
     Ok(())
 }
 
-// A line of `len` bytes, a comment, and a line behind it.
-fn long_comment(alloc: Global, len: usize) -> io::Result<Vec<u8>> {
-    let mut script = Vec::from_slice(alloc, b"1 text 1\n")?;
+// These bytes, and `len` times another behind them.
+fn with_tail(alloc: Global, front: &[u8], byte: u8, len: usize) -> io::Result<Vec<u8>> {
+    let mut script = Vec::from_slice(alloc, front)?;
     for _ in 0..len {
-        script.push(b'#')?;
+        script.push(byte)?;
     }
+    Ok(script)
+}
+
+// A line of `len` bytes, a comment, between two others.
+fn long_comment(alloc: Global, len: usize) -> io::Result<Vec<u8>> {
+    let mut script = with_tail(alloc, b"1 text 1\n", b'#', len)?;
     script.extend_from_slice(b"\n1 text 1\n")?;
     Ok(script)
 }
@@ -123,25 +156,70 @@ fn the_longest_line(rt: HostRuntime) -> Result<(), Fail> {
     Ok(())
 }
 
-// Types `len` letters x into an empty text.
-fn long_type(alloc: Global, len: usize) -> io::Result<Vec<u8>> {
-    let mut script = Vec::from_slice(alloc, b"1 type 1 0 ")?;
-    for _ in 0..len {
-        script.push(b'x')?;
-    }
-    Ok(script)
+#[test]
+fn the_most_lines(rt: HostRuntime) -> Result<(), Fail> {
+    let mut script = with_tail(rt.alloc(), b"1 text 1\n", b'\n', (1 << 20) - 1)?;
+    let (answers, result) = answered(rt.alloc(), &script)?;
+    assert_eq!(rt; answers.as_slice(), b"text 0\n".as_slice());
+    assert_eq!(rt; result, Ok(()));
+    script.push(b'#')?;
+    let (answers, result) = answered(rt.alloc(), &script)?;
+    assert_eq!(rt; answers.as_slice(), b"text 0\nrefused 21\n".as_slice());
+    assert_eq!(rt; result, Err(looks::Refusal::ReadFault));
+    Ok(())
+}
+
+#[test]
+fn failures(rt: HostRuntime) -> Result<(), Fail> {
+    let mut answers = Vec::new(rt.alloc());
+    let mut reader = FailsBehind(b"1 text 1\n2 text 1");
+    let result = run(rt.alloc(), &mut reader, &mut answers, Settings::default());
+    assert_eq!(rt; answers.as_slice(), b"text 0\nrefused 21\n".as_slice());
+    assert_eq!(rt; result, Err(looks::Refusal::ReadFault));
+    let mut script = b"\n1 text 1\n".as_slice();
+    let result = run(rt.alloc(), &mut script, &mut Full, Settings::default());
+    assert_eq!(rt; result, Err(looks::Refusal::WriteFault));
+    Ok(())
+}
+
+#[test]
+fn other_sites(rt: HostRuntime) -> Result<(), Fail> {
+    let settings = Settings {
+        first: 65528,
+        count: 8,
+        width: 20,
+        height: 8,
+    };
+    let mut script =
+        b"65527 text 1\n65528 type 1 0 a\n65535 text 1\n65536 text 1\n1 text 1\n".as_slice();
+    let mut answers = Vec::new(rt.alloc());
+    let result = run(rt.alloc(), &mut script, &mut answers, settings);
+    assert_eq!(rt;
+        answers.as_slice(),
+        b"refused 20\nsend m1 4f5401010001fff800000001000000000000000100000000000000000000\
+            104f6265726f6e31302e53636e2e466e740100000161\nok\ntext 0\nrefused 20\nrefused 20\n"
+            .as_slice()
+    );
+    assert_eq!(rt; result, Ok(()));
+    Ok(())
 }
 
 #[test]
 fn the_longest_insert(rt: HostRuntime) -> Result<(), Fail> {
-    let (answers, result) = answered(rt.alloc(), &long_type(rt.alloc(), 4096)?)?;
+    let (answers, result) = answered(
+        rt.alloc(),
+        &with_tail(rt.alloc(), b"1 type 1 0 ", b'x', 4096)?,
+    )?;
     let head = b"send m1 4f5401010001000100000001000000000000000100000000000000000000\
         104f6265726f6e31302e53636e2e466e7401001000";
     assert_eq!(rt; answers.len(), head.len() + 2 * 4096 + 4);
     assert!(rt; answers.as_slice().starts_with(head));
     assert!(rt; answers.as_slice().ends_with(b"7878\nok\n"));
     assert_eq!(rt; result, Ok(()));
-    let (answers, result) = answered(rt.alloc(), &long_type(rt.alloc(), 4097)?)?;
+    let (answers, result) = answered(
+        rt.alloc(),
+        &with_tail(rt.alloc(), b"1 type 1 0 ", b'x', 4097)?,
+    )?;
     assert_eq!(rt; answers.as_slice(), b"refused 20\n".as_slice());
     assert_eq!(rt; result, Ok(()));
     Ok(())

@@ -1,9 +1,11 @@
-use Rattle.std.proofs.Common.{◌+◌, arith}
+use Rattle.std.proofs.Common.{◌≢◌, ◌+◌, Ok, arith, rules}
 use Rattle.std.proofs.lemmas.List.{length-map}
 use Rattle.std.proofs.lemmas.List.FromFn.{length-range_with_len}
 use Rattle.site_cli.specs.Session.{Ends}
-use Rattle.site_cli.proofs.Sessions.{IsSoFar, IfSome-weaker, begins_known, goes_on_by, ends_by_last, ends_by_end, ends_broken}
+use Rattle.site_cli.proofs.Sessions.{IsSoFar, IfSome-weaker, begins_known, goes_on_by, ends_by_last, ends_by_end, ends_by_fault, ends_by_limit}
+use Rattle.site_cli.specs.declared.lines.Taken.TheVariants.{End}
 use Rattle.site_cli.proofs.run.run_lines.Goals as goal
+use Rattle.site_cli.proofs.run.run_lines.Goals.{in_default-via-in-Ok+in_default, in_default-via-in_default}
 
 pub loop-init : goal.loop-init
 loop-init g c = record {
@@ -26,7 +28,7 @@ returns-in-Ok-Last g c =
     let r = c.answer-in-Ok-Last.result in
     let taken = rw c.in-Ok-Last.field-0-is at c.in-Ok-Last.ensures.taken in
     let written = rw (c.loop.invariant.count, c.deref-in-Ok-Last.ensures.value) at c.answer-in-Ok-Last.ensures.ok in
-    IfSome-weaker (g.R.Read.remaining c.args.reader.now) (λ script. IsSoFar first count script left old mid c.loop.counter s) (λ script. Ends first count script r old new)
+    IfSome-weaker (g.R.Read.remaining c.args.reader.now) (λ script. IsSoFar first count script left old mid c.loop.counter s) (λ script. Ends first count script r left' old new)
     (λ script f. ends_by_last first count script left left' old mid new c.loop.counter s s' f r c.take_line.new.line.items (omega arith) taken written c.answer-in-Ok-Last.ensures.errors) c.loop.invariant.so_far
 
 pub returns-in-Ok-End : goal.returns-in-Ok-End
@@ -41,7 +43,7 @@ returns-in-Ok-End g c =
     let s = c.loop.sites in
     let r = c.flush.result in
     let taken = rw c.in-Ok-End.field-0-is at c.in-Ok-End.ensures.taken in
-    IfSome-weaker (g.R.Read.remaining c.args.reader.now) (λ script. IsSoFar first count script left old mid c.loop.counter s) (λ script. Ends first count script r old new)
+    IfSome-weaker (g.R.Read.remaining c.args.reader.now) (λ script. IsSoFar first count script left old mid c.loop.counter s) (λ script. Ends first count script r left' old new)
     (λ script f. ends_by_end first count script left left' old mid new c.loop.counter s s f r c.take_line.new.line.items (omega arith) taken c.flush.ensures.ok c.flush.ensures.errors) c.loop.invariant.so_far
 
 pub returns-in-Err : goal.returns-in-Err
@@ -49,13 +51,14 @@ returns-in-Err g c =
     let first = c.args.settings.first in
     let count = c.args.settings.count in
     let left = g.R.Read.remaining c.loop.reader in
+    let left' = g.R.Read.remaining c.take_line.new.reader in
     let old = g.W.Write.contents c.args.writer.now in
     let mid = g.W.Write.contents c.loop.writer in
     let new = g.W.Write.contents c.break_off.new.writer in
     let s = c.loop.sites in
     let r = c.break_off.result in
-    IfSome-weaker (g.R.Read.remaining c.args.reader.now) (λ script. IsSoFar first count script left old mid c.loop.counter s) (λ script. Ends first count script r old new)
-    (λ script f. ends_broken first count script left old mid new c.loop.counter s r f c.break_off.ensures) c.loop.invariant.so_far
+    IfSome-weaker (g.R.Read.remaining c.args.reader.now) (λ script. IsSoFar first count script left old mid c.loop.counter s) (λ script. Ends first count script r left' old new)
+    (λ script f. ends_by_fault first count script left left' old mid new c.loop.counter s s f r c.take_line.new.line.items c.in-Err.field-0 (omega arith) c.in-Err.ensures.taken c.break_off.ensures) c.loop.invariant.so_far
 
 pub loop-preserved : goal.loop-preserved
 loop-preserved g c =
@@ -90,7 +93,7 @@ returns-in-Ok-End-take_line g c =
     let s = c.loop.sites in
     let r = c.flush-in-Ok-End-take_line.result in
     let taken = rw c.in-Ok-End-take_line.field-0-is at c.in-Ok-End-take_line.ensures.taken in
-    IfSome-weaker (g.R.Read.remaining c.args.reader.now) (λ script. IsSoFar first count script left old mid c.loop.counter s) (λ script. Ends first count script r old new)
+    IfSome-weaker (g.R.Read.remaining c.args.reader.now) (λ script. IsSoFar first count script left old mid c.loop.counter s) (λ script. Ends first count script r left' old new)
     (λ script f. ends_by_end first count script left left' old mid new c.loop.counter s s f r c.take_line-2.new.line.items (omega arith) taken c.flush-in-Ok-End-take_line.ensures.ok c.flush-in-Ok-End-take_line.ensures.errors) c.loop.invariant.so_far
 
 pub returns-in_default : goal.returns-in_default
@@ -98,10 +101,12 @@ returns-in_default g c =
     let first = c.args.settings.first in
     let count = c.args.settings.count in
     let left = g.R.Read.remaining c.loop.reader in
+    let left' = g.R.Read.remaining c.take_line-2.new.reader in
     let old = g.W.Write.contents c.args.writer.now in
     let mid = g.W.Write.contents c.loop.writer in
     let new = g.W.Write.contents c.break_off-in_default.new.writer in
     let s = c.loop.sites in
     let r = c.break_off-in_default.result in
-    IfSome-weaker (g.R.Read.remaining c.args.reader.now) (λ script. IsSoFar first count script left old mid c.loop.counter s) (λ script. Ends first count script r old new)
-    (λ script f. ends_broken first count script left old mid new c.loop.counter s r f c.break_off-in_default.ensures) c.loop.invariant.so_far
+    let some : c.take_line-2.result ≢ Ok End = elim c.in_default.branch [ in_default-via-in-Ok+in_default w ↦ (search rules) | in_default-via-in_default w ↦ (search rules) ] in
+    IfSome-weaker (g.R.Read.remaining c.args.reader.now) (λ script. IsSoFar first count script left old mid c.loop.counter s) (λ script. Ends first count script r left' old new)
+    (λ script f. ends_by_limit first count script left left' old mid new c.loop.counter s s f r c.take_line-2.result c.take_line-2.new.line.items (omega arith) some c.take_line-2.ensures.taken c.break_off-in_default.ensures) c.loop.invariant.so_far
