@@ -11,7 +11,6 @@ use std::alloc::Global;
 use std::marker::Model;
 use texts::{EditRefusal, Outbox, Replica};
 
-// How many texts a desk has.
 /// The greatest number of a text on a desk; the least is 1.
 pub const MAX_TEXT: u16 = 16;
 

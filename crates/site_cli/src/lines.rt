@@ -1,5 +1,5 @@
 ghost use Rattle.std.specs.Prelude.{◌≡◌, ◌≤◌, ◌<◌, vec_len, vec_capacity};
-ghost use Rattle.site_cli.specs.Session.{Takes, TakesByte, without_return};
+ghost use Rattle.site_cli.specs.Trace.{Takes, TakesByte, without_return};
 
 use looks::Refusal;
 use std::io::Read;

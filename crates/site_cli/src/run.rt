@@ -2,7 +2,7 @@ ghost use Rattle.std.specs.Prelude.{◌≡◌, ◌^◌, ◌≤◌, ◌⊎◌, �
 ghost use Rattle.std.specs.Io.KnownBytes.{Appends, Keeps};
 ghost use Rattle.commands.specs.Machine.{new_state};
 ghost use Rattle.commands.specs.Printing.{refused};
-ghost use Rattle.site_cli.specs.Session.{Answers, BreaksOff, Ends};
+ghost use Rattle.site_cli.specs.Trace.{Answers, BreaksOff, Ends, IsEnd};
 
 use crate::answers::put_refused;
 use crate::lines::{MAX_LINE, Taken, take_line};
@@ -60,7 +60,8 @@ fn run_lines<R: Read, W: Write>(
 ) -> Result<(), Refusal>
     requires room { 32768 ≤ vec_capacity line.old }
     requires begins { sites.old ≡ new_state settings.first settings.count }
-    ensures { IfSome (R.remaining reader.old) (λ script. Ends settings.first settings.count script result (R.remaining reader.new) (W.contents writer.old) (W.contents writer.new)) }
+    ensures answers { IfSome (R.remaining reader.old) (λ script. Ends settings.first settings.count script result (R.remaining reader.new) (W.contents writer.old) (W.contents writer.new)) }
+    ensures errors { IfErr result IsEnd }
 {
     for _ in 0..MAX_LINES {
         match take_line(reader, line) {
@@ -89,6 +90,7 @@ pub fn run<R: Read, W: Write>(
     settings: Settings,
 ) -> Result<(), Refusal>
     ensures answers { IfSome (R.remaining reader.old) (λ script. Ends settings.first settings.count script result (R.remaining reader.new) (W.contents writer.old) (W.contents writer.new)) }
+    ensures errors { IfErr result IsEnd }
 {
     let mut line = Vec::with_capacity(alloc, MAX_LINE)?;
     let mut sites = Sites::new(alloc, settings.first, settings.count)?;

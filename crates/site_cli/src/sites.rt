@@ -2,7 +2,7 @@ ghost use Rattle.std.specs.Prelude.{◌≡◌, ◌+◌, ◌≤◌, ◌<◌, List
 ghost use Rattle.std.specs.Io.KnownBytes.{Appends};
 ghost use Rattle.commands.specs.Machine.{State, Step, new_state, type_in, print_text, unknown};
 ghost use Rattle.site_cli.specs.Seen.{event_of, IsInRun};
-ghost use Rattle.site_cli.specs.Session.{Answers, is_silent};
+ghost use Rattle.site_cli.specs.Trace.{Answers, is_silent};
 
 use crate::answers::{put, put_edit_end, put_refused, put_sends};
 use crate::event::{Event, event_in};

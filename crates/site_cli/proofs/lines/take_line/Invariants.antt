@@ -1,7 +1,7 @@
 use Rattle.std.proofs.Common.{◌≤◌, ◌-◌, length}
 use Rattle.std.specs.Prelude.{vec_capacity}
 use Rattle.std.specs.Io.KnownBytes.{Consumes}
-use Rattle.site_cli.specs.Session.{IsRaw}
+use Rattle.site_cli.specs.Trace.{IsRaw}
 use Rattle.site_cli.proofs.lines.take_line.Given as goal
 
 abbrev pub invariant-loop-line : goal.invariant-loop-line

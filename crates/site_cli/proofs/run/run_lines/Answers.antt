@@ -1,8 +1,8 @@
 use Rattle.std.proofs.Common.{◌≢◌, ◌+◌, Ok, arith, rules}
 use Rattle.std.proofs.lemmas.List.{length-map}
 use Rattle.std.proofs.lemmas.List.FromFn.{length-range_with_len}
-use Rattle.site_cli.specs.Session.{Ends}
-use Rattle.site_cli.proofs.Sessions.{IsSoFar, IfSome-weaker, begins_known, goes_on_by, ends_by_last, ends_by_end, ends_by_fault, ends_by_limit}
+use Rattle.site_cli.specs.Trace.{Ends}
+use Rattle.site_cli.proofs.Traces.{IsSoFar, IfSome-weaker, begins_known, goes_on_by, ends_by_last, ends_by_end, ends_by_fault, ends_by_limit}
 use Rattle.site_cli.specs.declared.lines.Taken.TheVariants.{End}
 use Rattle.site_cli.proofs.run.run_lines.Goals as goal
 use Rattle.site_cli.proofs.run.run_lines.Goals.{in_default-via-in-Ok+in_default, in_default-via-in_default}
@@ -14,8 +14,8 @@ loop-init g c = record {
   room = c.requires.room;
 }
 
-pub returns-in-Ok-Last : goal.returns-in-Ok-Last
-returns-in-Ok-Last g c =
+pub returns-in-Ok-Last-clause-answers : goal.returns-in-Ok-Last-clause-answers
+returns-in-Ok-Last-clause-answers g c =
     let first = c.args.settings.first in
     let count = c.args.settings.count in
     let left = g.R.Read.remaining c.loop.reader in
@@ -31,8 +31,8 @@ returns-in-Ok-Last g c =
     IfSome-weaker (g.R.Read.remaining c.args.reader.now) (λ script. IsSoFar first count script left old mid c.loop.counter s) (λ script. Ends first count script r left' old new)
     (λ script f. ends_by_last first count script left left' old mid new c.loop.counter s s' f r c.take_line.new.line.items (omega arith) taken written c.answer-in-Ok-Last.ensures.errors) c.loop.invariant.so_far
 
-pub returns-in-Ok-End : goal.returns-in-Ok-End
-returns-in-Ok-End g c =
+pub returns-in-Ok-End-clause-answers : goal.returns-in-Ok-End-clause-answers
+returns-in-Ok-End-clause-answers g c =
     let first = c.args.settings.first in
     let count = c.args.settings.count in
     let left = g.R.Read.remaining c.loop.reader in
@@ -46,8 +46,8 @@ returns-in-Ok-End g c =
     IfSome-weaker (g.R.Read.remaining c.args.reader.now) (λ script. IsSoFar first count script left old mid c.loop.counter s) (λ script. Ends first count script r left' old new)
     (λ script f. ends_by_end first count script left left' old mid new c.loop.counter s s f r c.take_line.new.line.items (omega arith) taken c.flush.ensures.ok c.flush.ensures.errors) c.loop.invariant.so_far
 
-pub returns-in-Err : goal.returns-in-Err
-returns-in-Err g c =
+pub returns-in-Err-clause-answers : goal.returns-in-Err-clause-answers
+returns-in-Err-clause-answers g c =
     let first = c.args.settings.first in
     let count = c.args.settings.count in
     let left = g.R.Read.remaining c.loop.reader in
@@ -81,8 +81,8 @@ loop-preserved g c =
       room = c.take_line.ensures.room;
     }
 
-pub returns-in-Ok-End-take_line : goal.returns-in-Ok-End-take_line
-returns-in-Ok-End-take_line g c =
+pub returns-in-Ok-End-take_line-clause-answers : goal.returns-in-Ok-End-take_line-clause-answers
+returns-in-Ok-End-take_line-clause-answers g c =
     let first = c.args.settings.first in
     let count = c.args.settings.count in
     let left = g.R.Read.remaining c.loop.reader in
@@ -96,8 +96,8 @@ returns-in-Ok-End-take_line g c =
     IfSome-weaker (g.R.Read.remaining c.args.reader.now) (λ script. IsSoFar first count script left old mid c.loop.counter s) (λ script. Ends first count script r left' old new)
     (λ script f. ends_by_end first count script left left' old mid new c.loop.counter s s f r c.take_line-2.new.line.items (omega arith) taken c.flush-in-Ok-End-take_line.ensures.ok c.flush-in-Ok-End-take_line.ensures.errors) c.loop.invariant.so_far
 
-pub returns-in_default : goal.returns-in_default
-returns-in_default g c =
+pub returns-in_default-clause-answers : goal.returns-in_default-clause-answers
+returns-in_default-clause-answers g c =
     let first = c.args.settings.first in
     let count = c.args.settings.count in
     let left = g.R.Read.remaining c.loop.reader in

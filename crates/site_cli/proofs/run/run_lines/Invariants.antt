@@ -1,6 +1,6 @@
 use Rattle.std.proofs.Common.{◌≡◌, ◌≤◌, length}
 use Rattle.std.specs.Prelude.{IfSome, vec_capacity}
-use Rattle.site_cli.proofs.Sessions.{IsSoFar}
+use Rattle.site_cli.proofs.Traces.{IsSoFar}
 use Rattle.site_cli.proofs.run.run_lines.Given as goal
 
 abbrev pub invariant-loop : goal.invariant-loop

@@ -7,7 +7,7 @@ use Rattle.looks.specs.declared.refusal.Refusal.{Refusal}
 use Rattle.looks.specs.declared.refusal.Refusal.TheVariants.{ReadFault, WriteFault}
 use Rattle.commands.specs.Machine.{State, new_state}
 use Rattle.commands.specs.Printing.{refused}
-use Rattle.site_cli.specs.Session.{IsRaw, without_return, Answers, Session, begins, goes_on, Breaks, Ends, BreaksOff, Takes}
+use Rattle.site_cli.specs.Trace.{IsRaw, without_return, Answers, Trace, begins, goes_on, Breaks, Ends, BreaksOff, Takes}
 use Rattle.site_cli.specs.declared.lines.Taken.{Taken}
 use Rattle.site_cli.specs.declared.lines.Taken.TheVariants.{Line, Last, End}
 
@@ -17,11 +17,11 @@ pub record IsSoFar (first count : ℕ) (script : List ℕ) (left old new : Optio
   pub answers : List ℕ
   pub taken : Consumes (Some script) left front
   pub written : Appends old new answers
-  pub session : Session first count n front answers s
+  pub trace : Trace first count n front answers s
 
 module _ (first count : ℕ) (script : List ℕ) where
   pub so_far_begins : (old : Option (List ℕ)) → IsSoFar first count script (Some script) old old 0 (new_state first count)
-  so_far_begins old = record { front = []; answers = []; taken = Consumes-nil (Some script); written = Appends-nil old; session = begins }
+  so_far_begins old = record { front = []; answers = []; taken = Consumes-nil (Some script); written = Appends-nil old; trace = begins }
 
   pub so_far_goes_on : (left left' old mid new : Option (List ℕ)) (n : ℕ) (s s' : State) (raw answer : List ℕ) → IsSoFar first count script left old mid n s
       → IsRaw raw → Consumes left left' (raw ++ 10 ∷ []) → Appends mid new answer → Answers first count s (without_return raw) answer s' → IsSoFar first count script left' old new (n + 1) s'
@@ -30,7 +30,7 @@ module _ (first count : ℕ) (script : List ℕ) where
     answers = f.answers ++ answer;
     taken = Consumes-trans (Some script) left left' f.front (raw ++ 10 ∷ []) f.taken taken;
     written = Appends-trans old mid new f.answers answer f.written written;
-    session = goes_on raw answer s' f.session is_raw step;
+    trace = goes_on raw answer s' f.trace is_raw step;
   }
 
   whole : (left : Option (List ℕ)) (front : List ℕ) → Consumes (Some script) left front → IsAtEnd left → script ≡ front
@@ -43,15 +43,15 @@ module _ (first count : ℕ) (script : List ℕ) where
   ends_whole left left' old mid new n s f few taken end kept =
       let all = Consumes-trans (Some script) left left' f.front [] f.taken taken in
       let is : script ≡ f.front = whole left' (f.front ++ []) all end ∙ append-nil f.front in
-      let session = subst (λ (front : List ℕ). Session first count n front f.answers s) (sym is) f.session in
-      (f.answers, Appends-kept old mid new f.answers f.written kept, inl (n, s, few, session))
+      let trace = subst (λ (front : List ℕ). Trace first count n front f.answers s) (sym is) f.trace in
+      (f.answers, Appends-kept old mid new f.answers f.written kept, inl (n, s, few, trace))
 
   -- the last line has no newline
   pub ends_last : (left left' old mid new : Option (List ℕ)) (n : ℕ) (s s' : State) (raw answer : List ℕ) → IsSoFar first count script left old mid n s → n < 2 ^ 20
       → IsRaw raw → raw ≢ [] → Consumes left left' raw → IsAtEnd left' → Appends mid new answer → Answers first count s raw answer s' → Ends first count script (Ok tt) left' old new
   ends_last left left' old mid new n s s' raw answer f few is_raw some taken end written step =
       let is = whole left' (f.front ++ raw) (Consumes-trans (Some script) left left' f.front raw f.taken taken) end in
-      (f.answers ++ answer, Appends-trans old mid new f.answers answer f.written written, inr (n, f.front, f.answers, raw, answer, s, s', few, f.session, is_raw, some, step, is, refl))
+      (f.answers ++ answer, Appends-trans old mid new f.answers answer f.written written, inr (n, f.front, f.answers, raw, answer, s, s', few, f.trace, is_raw, some, step, is, refl))
 
   -- taking broke off behind the lines
   pub ends_broken : (left left' old mid new : Option (List ℕ)) (n : ℕ) (s : State) (part : List ℕ) (result : Result (Unit {0}) Refusal) → IsSoFar first count script left old mid n s
@@ -60,7 +60,7 @@ module _ (first count : ℕ) (script : List ℕ) where
   ends_broken left left' old mid new n s part (Err why) f few broken taken (inl b) =
       let all = Consumes-trans (Some script) left left' f.front part f.taken taken in
       subst (λ (w : Refusal). Ends first count script (Err w) left' old new) (sym b.0)
-      (f.answers ++ refused ReadFault, Appends-trans old mid new f.answers (refused ReadFault) f.written b.1, (n, f.front, part, f.answers, s, few, f.session, broken, all, refl))
+      (f.answers ++ refused ReadFault, Appends-trans old mid new f.answers (refused ReadFault) f.written b.1, (n, f.front, part, f.answers, s, few, f.trace, broken, all, refl))
   ends_broken left left' old mid new n s part (Err why) f few broken taken (inr b) = subst (λ (w : Refusal). Ends first count script (Err w) left' old new) (sym b) tt
 
 -- the writer failed

@@ -43,16 +43,16 @@ Answers first count s line answer new =
     (MatchOption (event_in first count line) (Step s unknown answer new) (λ event. Step s event answer new))
 
 -- the run has taken n lines, which are this front of the script, and has given these answers
-pub data Session (first count : ℕ) : ℕ → List ℕ → List ℕ → State → Type 0 where
-  begins : Session first count 0 [] [] (new_state first count)
-  goes_on : {n : ℕ} {script answers : List ℕ} {s : State} (raw answer : List ℕ) (new : State) → Session first count n script answers s → IsRaw raw
-      → Answers first count s (without_return raw) answer new → Session first count (n + 1) (script ++ (raw ++ 10 ∷ [])) (answers ++ answer) new
+pub data Trace (first count : ℕ) : ℕ → List ℕ → List ℕ → State → Type 0 where
+  begins : Trace first count 0 [] [] (new_state first count)
+  goes_on : {n : ℕ} {script answers : List ℕ} {s : State} (raw answer : List ℕ) (new : State) → Trace first count n script answers s → IsRaw raw
+      → Answers first count s (without_return raw) answer new → Trace first count (n + 1) (script ++ (raw ++ 10 ∷ [])) (answers ++ answer) new
 
 -- the answers to a whole script: to its lines, 2^20 at most, the last of which may lack its newline
 abbrev pub IsAnswered : (first count : ℕ) → List ℕ → List ℕ → Type 0
 IsAnswered first count script answers =
-    ((n : ℕ) × (s : State) × (n ≤ 2 ^ 20) × Session first count n script answers s)
-    ⊎ ((n : ℕ) × (front before raw answer : List ℕ) × (s new : State) × (n < 2 ^ 20) × Session first count n front before s × IsRaw raw × (raw ≢ [])
+    ((n : ℕ) × (s : State) × (n ≤ 2 ^ 20) × Trace first count n script answers s)
+    ⊎ ((n : ℕ) × (front before raw answer : List ℕ) × (s new : State) × (n < 2 ^ 20) × Trace first count n front before s × IsRaw raw × (raw ≢ [])
     × Answers first count s raw answer new × (script ≡ front ++ raw) × (answers ≡ before ++ answer))
 
 -- behind n lines a part of the script was taken that breaks the run off: it has no newline, or it is a line behind the last
@@ -63,8 +63,12 @@ Breaks n part = IsUnended part ⊎ ((n ≡ 2 ^ 20) × ((raw : List ℕ) × IsRaw
 -- refusal
 abbrev pub IsBrokenOff : (first count : ℕ) → List ℕ → Option (List ℕ) → List ℕ → Type 0
 IsBrokenOff first count script left answers =
-    (n : ℕ) × (front part before : List ℕ) × (s : State) × (n ≤ 2 ^ 20) × Session first count n front before s × Breaks n part × Consumes (Some script) left (front ++ part)
+    (n : ℕ) × (front part before : List ℕ) × (s : State) × (n ≤ 2 ^ 20) × Trace first count n front before s × Breaks n part × Consumes (Some script) left (front ++ part)
     × (answers ≡ before ++ refused ReadFault)
+
+-- what a run may end with, where it does not end well
+abbrev pub IsEnd : Refusal → Type 0
+IsEnd why = (why ≡ OutOfMemory) ⊎ ((why ≡ ReadFault) ⊎ (why ≡ WriteFault))
 
 -- How a run over the script ends, what the reader then has left, and what was written. Refused memory is told before the first
 -- byte is read. Where the writer fails nothing is said of what it holds.
