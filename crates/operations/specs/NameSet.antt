@@ -1,5 +1,6 @@
 -- Sets of names, as the stretches that a site's neighbouring names make.
-use Rattle.std.specs.Prelude.{◌≡◌, ℕ, ◌+◌, ◌^◌, ◌<◌, ◌≤◌, ◌⊎◌, List, length, All, Any, AllPairs}
+use Rattle.std.specs.Prelude.{◌≡◌, ℕ, ◌+◌, ◌^◌, ◌<◌, ◌≤◌, ◌⊎◌, Bool, ◌==◌, nat_lt, nat_le, ◌&&◌, ◌||◌, if◌then◌else◌, List, [], ◌∷◌, ◌++◌, length, take, drop, All, Any, AllPairs}
+use Rattle.std.specs.List.Sorted.{IsPartitionPoint}
 use Rattle.char_files.specs.CharName.{CharName}
 
 -- len neighbouring names of one site, from at on
@@ -34,3 +35,44 @@ pub record IsNamed (names : List Range) : Type 0 where
   pub set : IsSet names
   pub some : 0 < length names
   pub few : length names ≤ 1024
+
+-- the ranges below at stand ahead of r, the others don't
+abbrev pub IsPlace : List Range → ℕ → Range → Type 0
+IsPlace ranges at r = IsPartitionPoint (λ s. IsAhead s r) (λ s. ¬ IsAhead s r) ranges at
+
+-- the name alone
+abbrev pub of_name : CharName → Range
+of_name name = record { site = name.site; at = name.off; len = 1 }
+
+-- whether r stands ahead of s, and doesn't touch it
+abbrev pub is_ahead : Range → Range → Bool
+is_ahead r s = nat_lt r.site s.site || (r.site == s.site && nat_lt (r.at + r.len) s.at)
+
+-- whether s goes on where r ends
+abbrev pub touches : Range → Range → Bool
+touches r s = r.site == s.site && r.at + r.len == s.at
+
+-- whether the name is one of r's
+abbrev pub holds : Range → CharName → Bool
+holds r name = name.site == r.site && nat_le r.at name.off && nat_lt name.off (r.at + r.len)
+
+-- r ahead of the ranges, in one with the first of them where they touch
+abbrev pub joined : Range → List Range → List Range
+joined r [] = r ∷ []
+joined r (s ∷ ranges) = if touches r s then record r { len = r.len + s.len } ∷ ranges else r ∷ s ∷ ranges
+
+-- the same ahead of the ranges from at on
+abbrev pub joined_at : List Range → ℕ → Range → List Range
+joined_at ranges at r = take at ranges ++ joined r (drop at ranges)
+
+-- r in the place of the range at at, in one with the next where they touch
+abbrev pub replaced_at : List Range → ℕ → Range → List Range
+replaced_at ranges at r = take at ranges ++ joined r (drop (at + 1) ranges)
+
+-- the set with this name too
+abbrev pub with_name : List Range → CharName → List Range
+with_name [] name = of_name name ∷ []
+with_name (r ∷ ranges) name =
+    if is_ahead r (of_name name) then r ∷ with_name ranges name
+    else (if touches r (of_name name) then joined (record r { len = r.len + 1 }) ranges
+    else (if holds r name then r ∷ ranges else joined (of_name name) (r ∷ ranges)))

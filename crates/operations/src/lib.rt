@@ -2,10 +2,12 @@
 #![tactic(auto)]
 
 mod kind;
+mod name_set;
 mod op;
 mod writing;
 
 pub use kind::Kind;
+pub use name_set::{NameRange, NameSet};
 pub use op::{MAX_STAMP, Op};
 pub use writing::encode;
 

@@ -1,5 +1,5 @@
 pub mod Printed
-pub mod Traces
 pub mod Spelled
 pub mod Stepping
+pub mod Traces
 pub mod Words

@@ -1,0 +1,256 @@
+ghost use Rattle.std.specs.Prelude.{◌≡◌, ◌+◌, ◌<◌, ◌≤◌, ◌↔◌, ◌⊎◌, [], length, IsOk, IfOk, IfErr, OnOk, OnErr, IsTrue, IsErrOf};
+ghost use Rattle.char_files.specs.CharName.{CharName};
+ghost use Rattle.operations.specs.NameSet.{IsIn, IsAmong, IsRange, IsAhead, IsSet, IsPlace, of_name, joined_at, replaced_at, with_name};
+
+use char_files::{Name, SiteNo};
+use looks::Refusal;
+use std::alloc::Global;
+use std::marker::Model;
+
+// The most ranges that a set may have.
+const MAX_RANGES: usize = 1024;
+
+/// Neighbouring names of one site, one at least. This project's own.
+#[derive(Clone, Copy, Debug, PartialEq, Eq)]
+pub struct NameRange {
+    site: SiteNo,
+    at: u32,
+    len: u32,
+}
+
+impl Model for NameRange {
+    ghost use Rattle.operations.specs.NameSet.{Range, IsRange};
+
+    ghost Value = { Range };
+
+    ghost view = { λ r. record { site = r.site; at = r.at; len = r.len } };
+
+    ghost invariant = { λ r. IsRange (record { site = r.site; at = r.at; len = r.len }) };
+
+    ghost inverse = { λ r. record { site = r.site; at = r.at; len = r.len } };
+}
+
+impl NameRange {
+    // The name alone.
+    fn of(name: Name) -> NameRange
+        ensures value { result ≡ of_name name }
+        ensures range { IsRange result }
+    {
+        NameRange {
+            site: name.site(),
+            at: name.off(),
+            len: 1,
+        }
+    }
+
+    /// The site whose names they are.
+    pub fn site(self) -> SiteNo
+        ensures { result ≡ self.site }
+    {
+        self.site
+    }
+
+    /// The first name's place in the site's file.
+    pub fn at(self) -> u32
+        ensures { result ≡ self.at }
+    {
+        self.at
+    }
+
+    /// How many names there are, one at least.
+    pub fn len(self) -> u32
+        ensures value { result ≡ self.len }
+        ensures range { IsRange self }
+    {
+        self.len
+    }
+
+    // The place behind the last name.
+    fn end(self) -> u32
+        ensures { result ≡ self.at + self.len }
+    {
+        self.at + self.len
+    }
+
+    // Whether the name is one of the range's.
+    fn contains(self, name: Name) -> bool
+        ensures { IsTrue result ↔ IsIn self name }
+    {
+        name.site().get() == self.site.get() && self.at <= name.off() && name.off() < self.end()
+    }
+
+    // Whether the range stands ahead of the other, and doesn't touch it.
+    fn is_ahead(self, other: NameRange) -> bool
+        ensures { IsTrue result ↔ IsAhead self other }
+    {
+        let (site, next) = (self.site.get(), other.site.get());
+        site < next || (site == next && self.end() < other.at)
+    }
+
+    // Whether the other goes on where this one ends.
+    fn touches(self, other: NameRange) -> bool
+        ensures { IsTrue result ↔ ((self.site ≡ other.site) × (self.at + self.len ≡ other.at)) }
+    {
+        self.site.get() == other.site.get() && self.end() == other.at
+    }
+
+    // Its names and those of the next range, which it touches.
+    fn joined(self, next: NameRange) -> NameRange
+        requires site { self.site ≡ next.site }
+        requires at { self.at + self.len ≡ next.at }
+        ensures { result ≡ record self { len = self.len + next.len } }
+    {
+        NameRange {
+            site: self.site,
+            at: self.at,
+            len: self.len + next.len,
+        }
+    }
+}
+
+// How many ranges stand ahead of this one, and don't touch it.
+fn place_of(ranges: &[NameRange], range: NameRange) -> usize
+    requires { IsSet ranges.now }
+    ensures within { result ≤ length ranges.now }
+    ensures place { IsPlace ranges.now result range }
+{
+    ranges.partition_point(|other| other.is_ahead(range))
+}
+
+// Puts a range ahead of those from `at` on, in one with the first of them where they touch. An `Err` changes nothing.
+fn add(ranges: &mut Vec<NameRange>, at: usize, range: NameRange) -> Result<(), Refusal>
+    requires place { at ≤ length ranges.old.items }
+    requires few { length ranges.old.items ≤ 1024 }
+    ensures ok { OnOk result (ranges.new.items ≡ joined_at ranges.old.items at range) }
+    ensures scattered { IsErrOf result Refusal.Scattered ↔ (1024 < length (joined_at ranges.old.items at range)) }
+    ensures errors { IfErr result (λ e. (e ≡ Refusal.Scattered) ⊎ (e ≡ Refusal.OutOfMemory)) }
+    ensures err { OnErr result (ranges.new.items ≡ ranges.old.items) }
+{
+    if at < ranges.len() && range.touches(ranges[at]) {
+        ranges[at] = range.joined(ranges[at]);
+        return Ok(());
+    }
+    if ranges.len() == MAX_RANGES {
+        return Err(Refusal::Scattered);
+    }
+    ranges.insert(at, range)?;
+    Ok(())
+}
+
+// Puts a range in the place of the one at `at`, in one with the next where they touch.
+fn replace(ranges: &mut Vec<NameRange>, at: usize, range: NameRange)
+    requires { at < length ranges.old.items }
+    ensures { ranges.new.items ≡ replaced_at ranges.old.items at range }
+{
+    if at + 1 < ranges.len() && range.touches(ranges[at + 1]) {
+        let next = ranges.remove(at + 1);
+        ranges[at] = range.joined(next);
+    } else {
+        ranges[at] = range;
+    }
+}
+
+// Puts a name into a set's ranges at its place. An `Err` changes nothing.
+fn put(ranges: &mut Vec<NameRange>, at: usize, name: Name) -> Result<(), Refusal>
+    requires set { IsSet ranges.old.items }
+    requires within { at ≤ length ranges.old.items }
+    requires place { IsPlace ranges.old.items at (of_name name) }
+    requires few { length ranges.old.items ≤ 1024 }
+    ensures ok { OnOk result (ranges.new.items ≡ with_name ranges.old.items name) }
+    ensures scattered { IsErrOf result Refusal.Scattered ↔ (1024 < length (with_name ranges.old.items name)) }
+    ensures errors { IfErr result (λ e. (e ≡ Refusal.Scattered) ⊎ (e ≡ Refusal.OutOfMemory)) }
+    ensures err { OnErr result (ranges.new.items ≡ ranges.old.items) }
+    ensures held { IsAmong ranges.old.items name → IsOk result × (ranges.new.items ≡ ranges.old.items) }
+{
+    let one = NameRange::of(name);
+    if at < ranges.len() {
+        let range = ranges[at];
+        if range.contains(name) {
+            return Ok(());
+        }
+        if range.touches(one) {
+            replace(ranges, at, range.joined(one));
+            return Ok(());
+        }
+    }
+    add(ranges, at, one)
+}
+
+/// A set of names of characters: its maximal ranges, rising, at most 1,024 of them. This project's own.
+#[derive(Debug, Drop)]
+pub struct NameSet {
+    ranges: Vec<NameRange>,
+}
+
+impl Model for NameSet {
+    ghost use Rattle.std.specs.Prelude.{◌≤◌, List, length};
+    ghost use Rattle.operations.specs.NameSet.{Range, IsSet};
+
+    ghost Value = { List Range };
+
+    ghost view = { λ s. s.ranges.items };
+
+    ghost invariant = { λ s. IsSet s.ranges.items × (length s.ranges.items ≤ 1024) };
+}
+
+impl NameSet {
+    /// No names.
+    pub fn new(alloc: Global) -> NameSet
+        ensures { result ≡ [] }
+    {
+        NameSet {
+            ranges: Vec::new(alloc),
+        }
+    }
+
+    /// The same names again. Refused `OutOfMemory` alone.
+    pub fn copy(&self) -> Result<NameSet, Refusal>
+        ensures ok { IfOk result (λ set. set ≡ self.now) }
+        ensures errors { IfErr result (λ e. e ≡ Refusal.OutOfMemory) }
+    {
+        let alloc = *self.ranges.allocator();
+        Ok(NameSet {
+            ranges: Vec::from_slice(alloc, &self.ranges)?,
+        })
+    }
+
+    /// Whether the name is in the set.
+    pub fn contains(&self, name: Name) -> bool
+        ensures { IsTrue result ↔ IsAmong self.now name }
+    {
+        let at = place_of(&self.ranges, NameRange::of(name));
+        at < self.ranges.len() && self.ranges[at].contains(name)
+    }
+
+    /// The maximal ranges, rising.
+    pub fn ranges(&self) -> &[NameRange]
+        ensures value { result.now ≡ self.now }
+        ensures set { IsSet result.now }
+        ensures few { length result.now ≤ 1024 }
+    {
+        &self.ranges
+    }
+
+    /// A law: what `with_name` makes of a set. A proof gets it by calling this, at no cost.
+    pub fn with_name_law(&self, name: Name)
+        ensures set { IsSet (with_name self.now name) }
+        ensures names { (other : CharName) → IsAmong (with_name self.now name) other ↔ (IsAmong self.now other ⊎ (other ≡ name)) }
+    {
+        let _ = &self.ranges;
+        let _ = NameRange::of(name);
+    }
+
+    /// Puts a name into the set. Nothing changes where it is there already.
+    ///
+    /// Refused `Scattered` where the set would need more than 1,024 ranges, else `OutOfMemory` where memory is.
+    pub fn insert(&mut self, name: Name) -> Result<(), Refusal>
+        ensures ok { OnOk result (self.new ≡ with_name self.old name) }
+        ensures scattered { IsErrOf result Refusal.Scattered ↔ (1024 < length (with_name self.old name)) }
+        ensures errors { IfErr result (λ e. (e ≡ Refusal.Scattered) ⊎ (e ≡ Refusal.OutOfMemory)) }
+        ensures err { OnErr result (self.new ≡ self.old) }
+        ensures held { IsAmong self.old name → IsOk result × (self.new ≡ self.old) }
+    {
+        let at = place_of(&self.ranges, NameRange::of(name));
+        put(&mut self.ranges, at, name)
+    }
+}
