@@ -30,6 +30,26 @@ impl io::Write for Full {
     }
 }
 
+// A writer whose bytes are out when they are flushed.
+#[derive(Drop)]
+struct Buffered {
+    held: Vec<u8>,
+    out: Vec<u8>,
+}
+
+impl io::Write for Buffered {
+    fn write(&mut self, buf: &[u8]) -> io::Result<usize> {
+        self.held.extend_from_slice(buf)?;
+        Ok(buf.len())
+    }
+
+    fn flush(&mut self) -> io::Result<()> {
+        self.out.extend_from_slice(&self.held)?;
+        self.held.clear();
+        Ok(())
+    }
+}
+
 // A reader that gives one byte a read.
 #[derive(Drop)]
 struct ByteByByte<'a>(&'a [u8]);
@@ -179,6 +199,26 @@ fn failures(rt: HostRuntime) -> Result<(), Fail> {
     let mut script = b"\n1 text 1\n".as_slice();
     let result = run(rt.alloc(), &mut script, &mut Full, Settings::default());
     assert_eq!(rt; result, Err(looks::Refusal::WriteFault));
+    Ok(())
+}
+
+#[test]
+fn answers_are_flushed(rt: HostRuntime) -> Result<(), Fail> {
+    let mut writer = Buffered {
+        held: Vec::new(rt.alloc()),
+        out: Vec::new(rt.alloc()),
+    };
+    let mut script = b"1 text 1\n2 text 1\n".as_slice();
+    let result = run(rt.alloc(), &mut script, &mut writer, Settings::default());
+    assert_eq!(rt; result, Ok(()));
+    assert_eq!(rt; writer.out.as_slice(), b"text 0\ntext 0\n".as_slice());
+    let mut reader = FailsBehind(b"1 text 1");
+    let result = run(rt.alloc(), &mut reader, &mut writer, Settings::default());
+    assert_eq!(rt; result, Err(looks::Refusal::ReadFault));
+    assert_eq!(rt;
+        writer.out.as_slice(),
+        b"text 0\ntext 0\nrefused 21\n".as_slice()
+    );
     Ok(())
 }
 
