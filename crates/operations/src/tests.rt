@@ -192,44 +192,51 @@ fn inserts_are_spelled(rt: HostRuntime) -> Result<(), Fail> {
     Ok(())
 }
 
-// A site 2's Insert with one field at its limit, and one past it.
+// Site 2's Inserts with one field at its limit, and one past it: seq, stamp, cause, place in the file, how many bytes; and
+// whether there is such an operation.
+const LIMITS: [(&str, u32, u64, Option<(u16, u32)>, u32, usize, bool); 14] = [
+    ("the least of all", 1, 1, None, 0, 1, true),
+    ("the greatest seq", 0xffff_ffff, 1, None, 0, 1, true),
+    ("seq 0", 0, 1, None, 0, 1, false),
+    ("stamp 0", 1, 0, None, 0, 1, false),
+    ("stamp 2^48 - 1", 1, 0xffff_ffff_ffff, None, 0, 1, true),
+    ("stamp 2^48", 1, 0x0001_0000_0000_0000, None, 0, 1, false),
+    ("no bytes", 1, 1, None, 0, 0, false),
+    ("4,096 bytes", 1, 1, None, 0, 4096, true),
+    ("4,097 bytes", 1, 1, None, 0, 4097, false),
+    ("the end of the file", 1, 1, None, 0x00ff_fffe, 2, true),
+    (
+        "past the end of the file",
+        1,
+        1,
+        None,
+        0x00ff_fffe,
+        3,
+        false,
+    ),
+    ("an own cause in the file", 2, 2, Some((2, 0)), 1, 1, true),
+    ("an own cause to come", 2, 2, Some((2, 0)), 0, 1, false),
+    ("another site's cause", 2, 2, Some((3, 9)), 0, 1, true),
+];
+
+// Whether the operation's readers give these fields back.
+fn has_fields(op: &Op, case: &Case, len: usize) -> bool {
+    let Kind::Insert {
+        cause,
+        at,
+        looks,
+        bytes,
+    } = op.kind();
+    (op.text().get(), op.site().get()) == (1, case.site)
+        && (op.seq(), op.stamp()) == (case.seq, case.stamp)
+        && (Some(*cause), *at, bytes.len()) == (anchor(case.cause), case.at, len)
+        && looks == &Looks::plain()
+}
+
 #[test]
 fn fields_past_their_limits(rt: HostRuntime) -> Result<(), Fail> {
-    let own = Some((2, 0));
-    let file = 0x0100_0000;
     let letters = [b'a'; 4097];
-    for (what, seq, stamp, cause, at, len, want) in [
-        ("the least of all", 1, 1, None, 0, 1, true),
-        ("the greatest seq", 0xffff_ffff, 1, None, 0, 1, true),
-        ("seq 0", 0, 1, None, 0, 1, false),
-        ("stamp 0", 1, 0, None, 0, 1, false),
-        ("stamp 2^48 - 1", 1, 0xffff_ffff_ffff, None, 0, 1, true),
-        ("stamp 2^48", 1, 0x0001_0000_0000_0000, None, 0, 1, false),
-        ("no bytes", 1, 1, None, 0, 0, false),
-        ("4,096 bytes", 1, 1, None, 0, 4096, true),
-        ("4,097 bytes", 1, 1, None, 0, 4097, false),
-        ("the end of the file", 1, 1, None, file - 2, 2, true),
-        ("past the end of the file", 1, 1, None, file - 2, 3, false),
-        (
-            "an own cause that stands in the file",
-            2,
-            2,
-            own,
-            1,
-            1,
-            true,
-        ),
-        (
-            "an own cause that doesn't stand there",
-            2,
-            2,
-            own,
-            0,
-            1,
-            false,
-        ),
-        ("another site's cause", 2, 2, Some((3, 9)), 0, 1, true),
-    ] {
+    for (what, seq, stamp, cause, at, len, want) in LIMITS {
         let case = Case {
             what,
             site: 2,
@@ -243,19 +250,7 @@ fn fields_past_their_limits(rt: HostRuntime) -> Result<(), Fail> {
         let op = op_of(rt.alloc(), &case, letters.get(..len).ok_or(what)?)?;
         assert_eq!(rt; op.is_some(), want, "{what}");
         if let Some(op) = op {
-            assert_eq!(rt; (op.text().get(), op.site().get()), (1, 2));
-            assert_eq!(rt; (op.seq(), op.stamp()), (seq, stamp));
-            let Kind::Insert {
-                cause: kept,
-                at: place,
-                looks,
-                bytes,
-            } = op.kind();
-            assert_eq!(rt;
-                (Some(*kept), *place, bytes.len()),
-                (anchor(cause), at, len)
-            );
-            assert_eq!(rt; looks, &Looks::plain());
+            assert!(rt; has_fields(&op, &case, len), "{what}");
         }
     }
     Ok(())
