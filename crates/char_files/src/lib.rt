@@ -1,13 +1,15 @@
-//! The lasting names of characters, and characters outside any text.
+//! The lasting names of characters, a character as it is shown, and characters outside any text.
 #![tactic(auto)]
 
 mod buffer;
+mod character;
 mod name;
 mod run;
 mod site_no;
 mod text_no;
 
 pub use buffer::Buffer;
+pub use character::Char;
 pub use name::{Anchor, Name};
 pub use run::Run;
 pub use site_no::SiteNo;

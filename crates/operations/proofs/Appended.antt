@@ -17,3 +17,7 @@ kept old mid new x e f =
 pub Appends-after : (result : Result (Unit {0}) AllocError) (old mid new x y : List ℕ) → mid ≡ old ++ x → Appends result mid new y → Appends result old new (x ++ y)
 Appends-after (Ok done) old mid new x y e f = joined old mid new x y e f
 Appends-after (Err refused) old mid new x y e f = kept old mid new x e f
+
+-- memory was refused in a second part
+pub Appends-refused : (result : Result (Unit {0}) AllocError) (old mid new x bytes : List ℕ) → mid ≡ old ++ x → (e : AllocError) → result ≡ Err e → take (length mid) new ≡ mid → Appends result old new bytes
+Appends-refused result old mid new x bytes f e is h = rw is (kept old mid new x f h)

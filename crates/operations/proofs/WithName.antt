@@ -16,7 +16,7 @@ use Rattle.operations.specs.NameSet.{Range, IsIn, IsAmong, IsRange, IsAhead, IsS
 pub ahead : (r s : Range) → is_ahead r s ≡ true → IsAhead r s
 ahead r s e = grind (arith, nat_tests)
 
-is_ahead_true : (r s : Range) → IsAhead r s → is_ahead r s ≡ true
+pub is_ahead_true : (r s : Range) → IsAhead r s → is_ahead r s ≡ true
 is_ahead_true r s h = grind (arith, nat_tests)
 
 touching : (r s : Range) → touches r s ≡ true → (r.site ≡ s.site) × (r.at + r.len ≡ s.at)
@@ -41,11 +41,11 @@ held r name e = grind (arith, nat_tests)
 -- sets by recursion
 
 -- the relation to the first range, where there is one
-abbrev First : (Range → Type 0) → List Range → Type 0
+abbrev pub First : (Range → Type 0) → List Range → Type 0
 First P [] = Unit {0}
 First P (r ∷ ranges) = P r
 
-abbrev IsRising : List Range → Type 0
+abbrev pub IsRising : List Range → Type 0
 IsRising [] = Unit {0}
 IsRising (r ∷ ranges) = IsRange r × First (IsAhead r) ranges × IsRising ranges
 
@@ -91,11 +91,11 @@ with_name-rising (r ∷ ranges) name one rising =
 
 -- names by recursion
 
-abbrev Among : List Range → CharName → Type 0
+abbrev pub Among : List Range → CharName → Type 0
 Among [] name = ⊥
 Among (r ∷ ranges) name = IsIn r name ⊎ Among ranges name
 
-same_name : (m n : CharName) → m.site ≡ n.site → m.off ≡ n.off → m ≡ n
+pub same_name : (m n : CharName) → m.site ≡ n.site → m.off ≡ n.off → m ≡ n
 same_name m n e f =
     let named : ℕ → ℕ → CharName = λ a b. record { site = a; off = b } in
     ap (λ (a : ℕ). named a m.off) e ∙ ap (λ (b : ℕ). named n.site b) f
@@ -174,23 +174,23 @@ with_name-names (r ∷ ranges) name m =
 
 -- from the definitions to the recursions, and back
 
-among : (ranges : List Range) (m : CharName) → IsAmong ranges m → Among ranges m
+pub among : (ranges : List Range) (m : CharName) → IsAmong ranges m → Among ranges m
 among [] m (k, r, lt, is, h) = absurd (omega arith)
 among (x ∷ ranges) m (zero, r, lt, is, h) = inl (rw is h)
 among (x ∷ ranges) m (suc k, r, lt, is, h) = inr (among ranges m (k, r, omega arith, is, h))
 
-is_among : (ranges : List Range) (m : CharName) → Among ranges m → IsAmong ranges m
+pub is_among : (ranges : List Range) (m : CharName) → Among ranges m → IsAmong ranges m
 is_among [] m h = absurd h
 is_among (x ∷ ranges) m (inl h) = (0, x, omega arith, refl, h)
 is_among (x ∷ ranges) m (inr h) = let at : IsAmong ranges m = is_among ranges m h in (suc at.0, at.1, omega arith, at.3, at.4)
 
-rising : (ranges : List Range) → All IsRange ranges → AllPairs IsAhead ranges → IsRising ranges
+pub rising : (ranges : List Range) → All IsRange ranges → AllPairs IsAhead ranges → IsRising ranges
 rising [] all up = tt
 rising (r ∷ []) all up = (all 0 r (omega arith), tt, tt)
 rising (r ∷ s ∷ ranges) all up =
     (all 0 r (omega arith), up 0 1 r (omega arith) (omega arith), rising (s ∷ ranges) (λ k d h. all (suc k) d (omega arith)) (λ i j d h l. up (suc i) (suc j) d (omega arith) (omega arith)))
 
-ranges_of : (ranges : List Range) → IsRising ranges → All IsRange ranges
+pub ranges_of : (ranges : List Range) → IsRising ranges → All IsRange ranges
 ranges_of [] h k d l = absurd (omega arith)
 ranges_of (r ∷ ranges) h zero d l = h.0
 ranges_of (r ∷ ranges) h (suc k) d l = ranges_of ranges h.2 k d (omega arith)
@@ -204,7 +204,7 @@ ahead_of_all q (r ∷ ranges) first h zero d l = first
 ahead_of_all q (r ∷ ranges) first h (suc k) d l =
     ahead_of_all q ranges (First-weaker (IsAhead r) (IsAhead q) (λ s a. IsAhead-trans q r s first a) ranges h.1) h.2 k d (omega arith)
 
-pairs_of : (ranges : List Range) → IsRising ranges → AllPairs IsAhead ranges
+pub pairs_of : (ranges : List Range) → IsRising ranges → AllPairs IsAhead ranges
 pairs_of [] h i j d lt l = absurd (omega arith)
 pairs_of (r ∷ ranges) h zero zero d lt l = absurd (omega arith)
 pairs_of (r ∷ ranges) h zero (suc j) d lt l = ahead_of_all r ranges h.1 h.2 j d (omega arith)

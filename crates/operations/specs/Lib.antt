@@ -1,4 +1,6 @@
 pub mod NameSet
 pub mod Operation
+pub mod Parts
+pub mod Reading
 pub mod Seen
 pub mod Spelling

@@ -1,5 +1,6 @@
 -- Sets of names, as the stretches that a site's neighbouring names make.
-use Rattle.std.specs.Prelude.{◌≡◌, ℕ, ◌+◌, ◌^◌, ◌<◌, ◌≤◌, ◌⊎◌, Bool, ◌==◌, nat_lt, nat_le, ◌&&◌, ◌||◌, if◌then◌else◌, List, [], ◌∷◌, ◌++◌, length, take, drop, All, Any, AllPairs}
+use Rattle.std.specs.Prelude.{◌≡◌, ℕ, ◌+◌, ◌^◌, ◌<◌, ◌≤◌, ◌⊎◌, Bool, ◌==◌, nat_lt, nat_le, ◌&&◌, ◌||◌, if◌then◌else◌, List, [], ◌∷◌, ◌++◌, length, take, drop, map, All, Any, AllPairs}
+use Rattle.std.specs.List.{range_with_len, flat_map}
 use Rattle.std.specs.List.Sorted.{IsPartitionPoint}
 use Rattle.char_files.specs.CharName.{CharName}
 
@@ -43,6 +44,14 @@ IsPlace ranges at r = IsPartitionPoint (λ s. IsAhead s r) (λ s. ¬ IsAhead s r
 -- the name alone
 abbrev pub of_name : CharName → Range
 of_name name = record { site = name.site; at = name.off; len = 1 }
+
+-- the names of a range, rising
+abbrev pub names_of : Range → List CharName
+names_of r = map (λ off. record { site = r.site; off = off }) (range_with_len r.at r.len)
+
+-- the names of all ranges, one range after the other
+abbrev pub names_in : List Range → List CharName
+names_in ranges = flat_map names_of ranges
 
 -- whether r stands ahead of s, and doesn't touch it
 abbrev pub is_ahead : Range → Range → Bool

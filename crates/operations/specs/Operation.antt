@@ -1,11 +1,11 @@
 -- What an operation is, and which names it inserts and mentions.
-use Rattle.std.specs.Prelude.{◌≡◌, ℕ, List, length}
+use Rattle.std.specs.Prelude.{◌≡◌, ℕ, List, [], ◌∷◌, length}
 use Rattle.looks.specs.declared.looks.Looks.{Looks}
 use Rattle.looks.specs.Sel.{Selection}
 use Rattle.char_files.specs.CharName.{CharName}
 use Rattle.char_files.specs.declared.name.Anchor.{Anchor}
 use Rattle.char_files.specs.declared.name.Anchor.TheVariants.{Root, At}
-use Rattle.operations.specs.NameSet.{Range, IsIn, IsAmong}
+use Rattle.operations.specs.NameSet.{Range, IsIn, IsAmong, names_in}
 
 -- An insert puts bytes of one set of looks into the tree below the cause, and at the end of its site's file, which was at
 -- bytes long. A delete hides the characters that it names. A change of looks sets what is selected for those that it names.
@@ -21,6 +21,12 @@ pub record Operation : Type 0 where
   pub seq : ℕ
   pub stamp : ℕ
   pub kind : OpKind
+
+-- how many bytes an operation appends to its site's file
+abbrev pub appended_len : OpKind → ℕ
+appended_len (insert cause at looks bytes) = length bytes
+appended_len (delete names) = 0
+appended_len (change_looks sel looks names) = 0
 
 -- what an Insert of this site inserts; the other kinds insert nothing
 abbrev pub InsertsBy : ℕ → OpKind → CharName → Type 0
@@ -42,3 +48,14 @@ MentionsBy (change_looks sel looks names) name = IsAmong names name
 -- the operation mentions this name: its cause, or one of its set
 abbrev pub Mentions : Operation → CharName → Type 0
 Mentions op name = MentionsBy op.kind name
+
+-- what each kind mentions, in order: an Insert its cause, unless that is the root; the others the names of their sets, rising
+abbrev pub mentioned_by : OpKind → List CharName
+mentioned_by (insert Root at looks bytes) = []
+mentioned_by (insert (At cause) at looks bytes) = cause ∷ []
+mentioned_by (delete names) = names_in names
+mentioned_by (change_looks sel looks names) = names_in names
+
+-- the names that the operation mentions, in order: its cause, or those of its set
+abbrev pub mentioned : Operation → List CharName
+mentioned op = mentioned_by op.kind

@@ -2,12 +2,14 @@
 use Rattle.std.specs.Prelude.{◌≡◌, ℕ, List, ◌++◌, length, take, Result, Ok, Err}
 use Rattle.std.specs.declared.alloc.AllocError.{AllocError}
 use Rattle.operations.specs.declared.kind.Kind.{Kind}
-use Rattle.operations.specs.declared.kind.Kind.TheVariants.{Insert}
-use Rattle.operations.specs.Operation.{OpKind, insert}
+use Rattle.operations.specs.declared.kind.Kind.TheVariants.{Insert, Delete, ChangeLooks}
+use Rattle.operations.specs.Operation.{OpKind, insert, delete, change_looks}
 
 -- a kind, without where it lies in memory
 abbrev pub kind_of : Kind → OpKind
 kind_of (Insert cause at looks bytes) = insert cause at looks bytes.items
+kind_of (Delete names) = delete names
+kind_of (ChangeLooks sel looks names) = change_looks sel looks names
 
 -- the bytes were appended, or memory was refused, and perhaps some bytes stand at the end
 abbrev pub Appends : Result (Unit {0}) AllocError → List ℕ → List ℕ → List ℕ → Type 0

@@ -90,13 +90,17 @@ pub record IsInsert (site : ℕ) (cause : Anchor) (at : ℕ) (looks : Looks) (by
   pub in_file : at + length bytes ≤ 2 ^ 24
   pub valid_bytes : All (λ b. b < 256) bytes
 
--- the fields of a ChangeLooks are in range, and what isn't selected has its default
-pub record IsChange (sel : Selection) (looks : Looks) (names : List Range) : Type 0 where
-  pub some : 0 < bits_of sel
-  pub valid_looks : IsLooks looks
+-- the attributes that aren't selected have their defaults
+pub record IsPlainElsewhere (sel : Selection) (looks : Looks) : Type 0 where
   pub font : sel.font ≡ false → looks.font ≡ plain_looks.font
   pub colour : sel.colour ≡ false → looks.colour ≡ plain_looks.colour
   pub offset : sel.offset ≡ false → looks.offset ≡ plain_looks.offset
+
+-- the fields of a ChangeLooks are in range
+pub record IsChange (sel : Selection) (looks : Looks) (names : List Range) : Type 0 where
+  pub some : 0 < bits_of sel
+  pub valid_looks : IsLooks looks
+  pub plain_elsewhere : IsPlainElsewhere sel looks
   pub named : IsNamed names
 
 -- the fields of the kind are in range

@@ -1,9 +1,18 @@
-ghost use Rattle.std.specs.Prelude.{◌≡◌, ◌+◌, ◌^◌, ◌<◌, ◌≤◌, ◌↔◌, IsTrue};
-ghost use Rattle.operations.specs.Spelling.{IsKind, IsInsert, IsCause, kind_byte};
+ghost use Rattle.std.specs.Prelude.{◌≡◌, ◌+◌, ◌^◌, ◌<◌, ◌≤◌, ◌↔◌, IsTrue, IfOk, IfErr};
+ghost use Rattle.operations.specs.Spelling.{IsKind, IsInsert, IsCause, IsChange, IsPlainElsewhere, kind_byte};
+ghost use Rattle.operations.specs.NameSet.{IsNamed};
 ghost use Rattle.operations.specs.Seen.{kind_of};
 
+use crate::name_set::NameSet;
 use char_files::{Anchor, MAX_FILE, SiteNo};
-use looks::Looks;
+use looks::{Looks, Refusal, Sel};
+
+// The numbers that stand for the kinds in a message.
+pub(crate) const INSERT: u8 = 1;
+
+pub(crate) const DELETE: u8 = 2;
+
+pub(crate) const CHANGE_LOOKS: u8 = 3;
 
 // The most bytes that one Insert may have.
 const MAX_BYTES: usize = 4096;
@@ -21,10 +30,23 @@ pub enum Kind {
         /// 1 to 4,096 bytes.
         bytes: Vec<u8>,
     },
+    /// Hides characters.
+    Delete {
+        /// One name at least.
+        names: NameSet,
+    },
+    /// Sets some attributes of characters' looks (Project Oberon, chapter 5, ChangeLooks).
+    ChangeLooks {
+        sel: Sel,
+        /// The values of the selected attributes; each other one has its default.
+        looks: Looks,
+        /// One name at least.
+        names: NameSet,
+    },
 }
 
 // Whether an Insert of this site, whose file has `at` bytes, may have this cause.
-fn is_cause(site: SiteNo, at: u32, cause: Anchor) -> bool
+pub(crate) fn is_cause(site: SiteNo, at: u32, cause: Anchor) -> bool
     ensures { IsTrue result ↔ IsCause site at cause }
 {
     match cause {
@@ -37,7 +59,7 @@ fn is_cause(site: SiteNo, at: u32, cause: Anchor) -> bool
 }
 
 // Whether this many bytes make an Insert, behind `at` bytes of its site's file.
-fn fits_in_file(at: u32, len: usize) -> bool
+pub(crate) fn fits_in_file(at: u32, len: usize) -> bool
     ensures { IsTrue result ↔ ((0 < len) × (len ≤ 4096) × (at + len ≤ 2 ^ 24)) }
 {
     0 < len && len <= MAX_BYTES && u64::from(at) + len as u64 <= MAX_FILE
@@ -49,6 +71,32 @@ fn is_insert(site: SiteNo, cause: Anchor, at: u32, looks: &Looks, bytes: &[u8]) 
 {
     looks.are_in_range();
     fits_in_file(at, bytes.len()) && is_cause(site, at, cause)
+}
+
+// Whether a message may name these characters: a set may be empty, a message's may not.
+fn is_named(names: &NameSet) -> bool
+    ensures { IsTrue result ↔ IsNamed names.now }
+{
+    !names.ranges().is_empty()
+}
+
+// Whether the attributes that aren't selected have their defaults.
+fn is_plain_elsewhere(sel: Sel, looks: &Looks) -> bool
+    ensures { IsTrue result ↔ IsPlainElsewhere sel looks.now }
+{
+    let plain = Looks::plain();
+    (sel.font() || looks.font == plain.font)
+        && (sel.colour() || looks.colour == plain.colour)
+        && (sel.offset() || looks.offset == plain.offset)
+}
+
+// Whether the fields of a ChangeLooks are in range.
+fn is_change(sel: Sel, looks: &Looks, names: &NameSet) -> bool
+    ensures { IsTrue result ↔ IsChange sel looks.now names.now }
+{
+    looks.are_in_range();
+    let _ = sel.bits();
+    is_named(names) && is_plain_elsewhere(sel, looks)
 }
 
 impl Kind {
@@ -63,6 +111,75 @@ impl Kind {
                 looks,
                 bytes,
             } => is_insert(site, *cause, *at, looks, bytes),
+            Kind::Delete { names } => is_named(names),
+            Kind::ChangeLooks { sel, looks, names } => is_change(*sel, looks, names),
+        }
+    }
+
+    // The same again. Refused `OutOfMemory` alone.
+    pub(crate) fn copy(&self) -> Result<Kind, Refusal>
+        ensures ok { IfOk result (λ kind. kind_of kind ≡ kind_of self.now) }
+        ensures errors { IfErr result (λ e. e ≡ Refusal.OutOfMemory) }
+    {
+        Ok(match self {
+            Kind::Insert {
+                cause,
+                at,
+                looks,
+                bytes,
+            } => Kind::Insert {
+                cause: *cause,
+                at: *at,
+                looks: looks.copy(),
+                bytes: Vec::from_slice(*bytes.allocator(), bytes)?,
+            },
+            Kind::Delete { names } => Kind::Delete {
+                names: names.copy()?,
+            },
+            Kind::ChangeLooks { sel, looks, names } => Kind::ChangeLooks {
+                sel: *sel,
+                looks: looks.copy(),
+                names: names.copy()?,
+            },
+        })
+    }
+
+    // Whether both do the same.
+    pub(crate) fn is_same(&self, other: &Kind) -> bool
+        ensures { IsTrue result ↔ (kind_of self.now ≡ kind_of other.now) }
+    {
+        match (self, other) {
+            (
+                Kind::Insert {
+                    cause,
+                    at,
+                    looks,
+                    bytes,
+                },
+                Kind::Insert {
+                    cause: other_cause,
+                    at: other_at,
+                    looks: other_looks,
+                    bytes: other_bytes,
+                },
+            ) => {
+                *cause == *other_cause
+                    && *at == *other_at
+                    && *looks == *other_looks
+                    && bytes.as_slice() == other_bytes.as_slice()
+            }
+            (Kind::Delete { names }, Kind::Delete { names: other_names }) => {
+                names.is_same(other_names)
+            }
+            (
+                Kind::ChangeLooks { sel, looks, names },
+                Kind::ChangeLooks {
+                    sel: other_sel,
+                    looks: other_looks,
+                    names: other_names,
+                },
+            ) => *sel == *other_sel && *looks == *other_looks && names.is_same(other_names),
+            _ => false,
         }
     }
 
@@ -71,7 +188,9 @@ impl Kind {
         ensures { result ≡ kind_byte (kind_of self.now) }
     {
         match self {
-            Kind::Insert { .. } => 1,
+            Kind::Insert { .. } => INSERT,
+            Kind::Delete { .. } => DELETE,
+            Kind::ChangeLooks { .. } => CHANGE_LOOKS,
         }
     }
 }

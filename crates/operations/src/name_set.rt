@@ -1,6 +1,7 @@
-ghost use Rattle.std.specs.Prelude.{◌≡◌, ◌+◌, ◌<◌, ◌≤◌, ◌↔◌, ◌⊎◌, [], length, IsOk, IfOk, IfErr, OnOk, OnErr, IsTrue, IsErrOf};
+ghost use Rattle.std.specs.Prelude.{◌≡◌, ◌+◌, ◌<◌, ◌≤◌, ◌↔◌, ◌⊎◌, [], ◌∷◌, length, Some, IsOk, IfOk, IfErr, OnOk, OnErr, IsTrue, IsErrOf};
+ghost use Rattle.std.specs.Option.{option_map_or};
 ghost use Rattle.char_files.specs.CharName.{CharName};
-ghost use Rattle.operations.specs.NameSet.{IsIn, IsAmong, IsRange, IsAhead, IsSet, IsPlace, of_name, joined_at, replaced_at, with_name};
+ghost use Rattle.operations.specs.NameSet.{IsIn, IsAmong, IsRange, IsAhead, IsSet, IsPlace, of_name, names_of, joined_at, replaced_at, with_name};
 
 use char_files::{Name, SiteNo};
 use looks::Refusal;
@@ -8,7 +9,7 @@ use std::alloc::Global;
 use std::marker::Model;
 
 // The most ranges that a set may have.
-const MAX_RANGES: usize = 1024;
+pub(crate) const MAX_RANGES: usize = 1024;
 
 /// Neighbouring names of one site, one at least. This project's own.
 #[derive(Clone, Copy, Debug, PartialEq, Eq)]
@@ -30,9 +31,20 @@ impl Model for NameRange {
     ghost inverse = { λ r. record { site = r.site; at = r.at; len = r.len } };
 }
 
+impl Default for NameRange {
+    /// The first name of site 1: some value for the empty places of an array.
+    fn default() -> NameRange {
+        NameRange {
+            site: SiteNo::new(1).unwrap(),
+            at: 0,
+            len: 1,
+        }
+    }
+}
+
 impl NameRange {
     // The name alone.
-    fn of(name: Name) -> NameRange
+    pub(crate) fn of(name: Name) -> NameRange
         ensures value { result ≡ of_name name }
         ensures range { IsRange result }
     {
@@ -72,6 +84,27 @@ impl NameRange {
         self.at + self.len
     }
 
+    // The first name.
+    pub(crate) fn first(self) -> Option<Name>
+        ensures { result ≡ Some (record { site = self.site; off = self.at }) }
+    {
+        Name::new(self.site, self.at)
+    }
+
+    // The range without its first name, if there are others.
+    pub(crate) fn others(self) -> Option<NameRange>
+        ensures { names_of self ≡ record { site = self.site; off = self.at } ∷ option_map_or names_of result [] }
+    {
+        if self.len == 1 {
+            return None;
+        }
+        Some(NameRange {
+            site: self.site,
+            at: self.at + 1,
+            len: self.len - 1,
+        })
+    }
+
     // Whether the name is one of the range's.
     fn contains(self, name: Name) -> bool
         ensures { IsTrue result ↔ IsIn self name }
@@ -80,7 +113,7 @@ impl NameRange {
     }
 
     // Whether the range stands ahead of the other, and doesn't touch it.
-    fn is_ahead(self, other: NameRange) -> bool
+    pub(crate) fn is_ahead(self, other: NameRange) -> bool
         ensures { IsTrue result ↔ IsAhead self other }
     {
         let (site, next) = (self.site.get(), other.site.get());
@@ -105,6 +138,14 @@ impl NameRange {
             at: self.at,
             len: self.len + next.len,
         }
+    }
+
+    // So many names of the site, from this place on.
+    pub(crate) fn new(site: SiteNo, at: u32, len: u32) -> NameRange
+        requires { IsRange (record { site = site; at = at; len = len }) }
+        ensures { result ≡ record { site = site; at = at; len = len } }
+    {
+        NameRange { site, at, len }
     }
 }
 
@@ -214,6 +255,13 @@ impl NameSet {
         })
     }
 
+    /// Whether both have the same names.
+    pub fn is_same(&self, other: &NameSet) -> bool
+        ensures { IsTrue result ↔ (self.now ≡ other.now) }
+    {
+        self.ranges() == other.ranges()
+    }
+
     /// Whether the name is in the set.
     pub fn contains(&self, name: Name) -> bool
         ensures { IsTrue result ↔ IsAmong self.now name }
@@ -252,5 +300,17 @@ impl NameSet {
     {
         let at = place_of(&self.ranges, NameRange::of(name));
         put(&mut self.ranges, at, name)
+    }
+
+    // The set of these ranges. Refused `OutOfMemory` alone.
+    pub(crate) fn of_ranges(alloc: Global, ranges: &[NameRange]) -> Result<NameSet, Refusal>
+        requires set { IsSet ranges.now }
+        requires few { length ranges.now ≤ 1024 }
+        ensures ok { IfOk result (λ set. set ≡ ranges.now) }
+        ensures errors { IfErr result (λ e. e ≡ Refusal.OutOfMemory) }
+    {
+        Ok(NameSet {
+            ranges: Vec::from_slice(alloc, ranges)?,
+        })
     }
 }

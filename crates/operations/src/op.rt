@@ -1,9 +1,10 @@
-ghost use Rattle.std.specs.Prelude.{◌≡◌, ◌↔◌, IsSome, IfSome};
+ghost use Rattle.std.specs.Prelude.{◌≡◌, ◌↔◌, IsTrue, IsSome, IfSome, IfOk, IfErr};
 ghost use Rattle.operations.specs.Spelling.{HasSpelling};
 ghost use Rattle.operations.specs.Seen.{kind_of};
 
 use crate::kind::Kind;
 use char_files::{SiteNo, TextNo};
+use looks::Refusal;
 use std::marker::Model;
 
 /// The greatest stamp: 2^48 - 1. This project's own.
@@ -35,7 +36,8 @@ impl Op {
     /// The operation of these fields, or `None` where it has no spelling.
     ///
     /// A stamp is 1 to 2^48 - 1, a seq 1 or more. An Insert has 1 to 4,096 bytes, which end within 2^24 bytes of its site's
-    /// file, and a cause of its own site is one that stood in that file before it.
+    /// file, and a cause of its own site is one that stood in that file before it. The other kinds have a name at least, and
+    /// looks that aren't selected are the default.
     pub fn new(text: TextNo, site: SiteNo, seq: u32, stamp: u64, kind: Kind) -> Option<Op>
         ensures valid { IsSome result ↔ HasSpelling (record { text = text; site = site; seq = seq; stamp = stamp; kind = kind_of kind }) }
         ensures value { IfSome result (λ op. op ≡ record { text = text; site = site; seq = seq; stamp = stamp; kind = kind_of kind }) }
@@ -52,6 +54,31 @@ impl Op {
             stamp,
             kind,
         })
+    }
+
+    /// The same operation again. Refused `OutOfMemory` alone.
+    pub fn copy(&self) -> Result<Op, Refusal>
+        ensures ok { IfOk result (λ op. op ≡ self.now) }
+        ensures errors { IfErr result (λ e. e ≡ Refusal.OutOfMemory) }
+    {
+        Ok(Op {
+            text: self.text,
+            site: self.site,
+            seq: self.seq,
+            stamp: self.stamp,
+            kind: self.kind.copy()?,
+        })
+    }
+
+    /// Whether both are the same operation.
+    pub fn is_same(&self, other: &Op) -> bool
+        ensures { IsTrue result ↔ (self.now ≡ other.now) }
+    {
+        let same_identity = self.site == other.site && self.seq == other.seq;
+        same_identity
+            && self.text == other.text
+            && self.stamp == other.stamp
+            && self.kind.is_same(&other.kind)
     }
 
     /// The text that it belongs to.

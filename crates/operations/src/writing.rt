@@ -1,18 +1,20 @@
-ghost use Rattle.std.specs.Prelude.{◌≡◌, ◌≤◌, ◌++◌, length, IfErr, OnOk, OnErr};
+ghost use Rattle.std.specs.Prelude.{◌≡◌, ◌≤◌, ◌++◌, ◌↔◌, length, take, IsOk, IfErr, OnOk, OnErr};
 ghost use Rattle.std.specs.Int.{w16, w32, w64};
-ghost use Rattle.operations.specs.Spelling.{HasSpelling, tag_spelling, number_spelling, name_spelling, anchor_spelling, looks_spelling, kind_spelling, header_spelling, spelling};
+ghost use Rattle.std.specs.List.{flat_map};
+ghost use Rattle.operations.specs.Spelling.{HasSpelling, tag_spelling, number_spelling, name_spelling, anchor_spelling, font_spelling, looks_spelling, selected_spelling, range_spelling, set_spelling, kind_spelling, header_spelling, spelling};
 ghost use Rattle.operations.specs.Seen.{Appends};
-ghost use Rattle.operations.specs.Operation.{insert};
+ghost use Rattle.operations.specs.Operation.{insert, change_looks};
 
 use crate::kind::Kind;
+use crate::name_set::{NameRange, NameSet};
 use crate::op::Op;
 use byteorder::{BigEndian, ByteOrder};
 use char_files::Anchor;
-use looks::{Looks, Refusal};
+use looks::{FontName, Looks, Refusal, Sel};
 use std::alloc::AllocError;
 
 // The version of the messages.
-const VERSION: u8 = 1;
+pub(crate) const VERSION: u8 = 1;
 
 #[tactic(auto, unfolding(crate::specs::Spelling::number_spelling))]
 fn put_u16(out: &mut Vec<u8>, number: u16) -> Result<(), AllocError>
@@ -41,15 +43,62 @@ fn put_u64(out: &mut Vec<u8>, number: u64) -> Result<(), AllocError>
     out.extend_from_slice(&bytes)
 }
 
+fn put_font(out: &mut Vec<u8>, font: &FontName) -> Result<(), AllocError>
+    ensures { Appends result out.old.items out.new.items (font_spelling font.now) }
+{
+    let name = font.as_bytes();
+    out.push(name.len() as u8)?;
+    out.extend_from_slice(name)
+}
+
 fn put_looks(out: &mut Vec<u8>, looks: &Looks) -> Result<(), AllocError>
     ensures { Appends result out.old.items out.new.items (looks_spelling looks.now) }
 {
-    let font = looks.font.as_bytes();
-    out.push(font.len() as u8)?;
-    out.extend_from_slice(font)?;
+    put_font(out, &looks.font)?;
     out.push(looks.colour.number())?;
     out.push(looks.offset.cast_unsigned())?;
     Ok(())
+}
+
+// Of looks the selected values alone.
+fn put_selected(out: &mut Vec<u8>, sel: Sel, looks: &Looks) -> Result<(), AllocError>
+    ensures { Appends result out.old.items out.new.items (selected_spelling sel looks.now) }
+{
+    if sel.font() {
+        put_font(out, &looks.font)?;
+    }
+    if sel.colour() {
+        out.push(looks.colour.number())?;
+    }
+    if sel.offset() {
+        out.push(looks.offset.cast_unsigned())?;
+    }
+    Ok(())
+}
+
+fn put_range(out: &mut Vec<u8>, range: NameRange) -> Result<(), AllocError>
+    ensures { Appends result out.old.items out.new.items (range_spelling range) }
+{
+    put_u16(out, range.site().get())?;
+    put_u32(out, range.at())?;
+    put_u32(out, range.len())
+}
+
+fn put_ranges(out: &mut Vec<u8>, ranges: &[NameRange]) -> Result<(), AllocError>
+    ensures { Appends result out.old.items out.new.items (flat_map range_spelling ranges.now) }
+{
+    for range in ranges {
+        put_range(out, *range)?;
+    }
+    Ok(())
+}
+
+fn put_names(out: &mut Vec<u8>, names: &NameSet) -> Result<(), AllocError>
+    ensures { Appends result out.old.items out.new.items (set_spelling names.now) }
+{
+    let ranges = names.ranges();
+    put_u16(out, ranges.len() as u16)?;
+    put_ranges(out, ranges)
 }
 
 fn put_name(out: &mut Vec<u8>, site: u16, off: u32) -> Result<(), AllocError>
@@ -86,6 +135,15 @@ fn put_insert(
     out.extend_from_slice(bytes)
 }
 
+// What a ChangeLooks has behind the fields that every message has.
+fn put_change(out: &mut Vec<u8>, sel: Sel, looks: &Looks, names: &NameSet) -> Result<(), AllocError>
+    ensures { Appends result out.old.items out.new.items (kind_spelling (change_looks sel looks.now names.now)) }
+{
+    out.push(sel.bits())?;
+    put_selected(out, sel, looks)?;
+    put_names(out, names)
+}
+
 fn put_kind(out: &mut Vec<u8>, op: &Op) -> Result<(), AllocError>
     requires { HasSpelling op.now }
     ensures { Appends result out.old.items out.new.items (kind_spelling op.now.kind) }
@@ -97,6 +155,8 @@ fn put_kind(out: &mut Vec<u8>, op: &Op) -> Result<(), AllocError>
             looks,
             bytes,
         } => put_insert(out, *cause, *at, looks, bytes),
+        Kind::Delete { names } => put_names(out, names),
+        Kind::ChangeLooks { sel, looks, names } => put_change(out, *sel, looks, names),
     }
 }
 
@@ -134,6 +194,35 @@ fn put_op(out: &mut Vec<u8>, op: &Op) -> Result<(), AllocError>
     put_kind(out, op)
 }
 
+// Takes back what was appended from `start` on, where memory was refused.
+fn all_or_nothing(
+    put: Result<(), AllocError>,
+    out: &mut Vec<u8>,
+    start: usize,
+) -> Result<(), Refusal>
+    ensures ok { IsOk result ↔ IsOk put }
+    ensures errors { IfErr result (λ e. e ≡ Refusal.OutOfMemory) }
+    ensures kept { OnOk result (out.new.items ≡ out.old.items) }
+    ensures taken_back { OnErr result (out.new.items ≡ take start out.old.items) }
+{
+    if put.is_err() {
+        out.truncate(start);
+        return Err(Refusal::OutOfMemory);
+    }
+    Ok(())
+}
+
+/// Appends the bytes that stand for looks in a message. Refused `OutOfMemory` alone, and then the vector is as it was.
+pub fn write_looks(looks: &Looks, out: &mut Vec<u8>) -> Result<(), Refusal>
+    ensures ok { OnOk result (out.new.items ≡ out.old.items ++ looks_spelling looks.now) }
+    ensures errors { IfErr result (λ e. e ≡ Refusal.OutOfMemory) }
+    ensures err { OnErr result (out.new.items ≡ out.old.items) }
+{
+    let start = out.len();
+    let put = put_looks(out, looks);
+    all_or_nothing(put, out, start)
+}
+
 /// Appends the operation's message. Refused `OutOfMemory` alone, and then the vector is as it was.
 pub fn encode(op: &Op, out: &mut Vec<u8>) -> Result<(), Refusal>
     ensures ok { OnOk result (out.new.items ≡ out.old.items ++ spelling op.now) }
@@ -142,9 +231,6 @@ pub fn encode(op: &Op, out: &mut Vec<u8>) -> Result<(), Refusal>
 {
     op.has_spelling();
     let start = out.len();
-    if put_op(out, op).is_err() {
-        out.truncate(start);
-        return Err(Refusal::OutOfMemory);
-    }
-    Ok(())
+    let put = put_op(out, op);
+    all_or_nothing(put, out, start)
 }

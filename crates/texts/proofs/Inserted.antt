@@ -6,11 +6,11 @@ use Rattle.std.proofs.lemmas.List.Sums.{sum_by_push}
 use Rattle.std.proofs.lemmas.Bool.Decides.{eqb_tells}
 use Rattle.std.proofs.lemmas.Option.{slice_get_cases}
 use Rattle.looks.specs.declared.looks.Looks.{Looks}
-use Rattle.texts.specs.declared.shown.Char.{Char}
+use Rattle.char_files.specs.declared.character.Char.{Char}
 use Rattle.char_files.specs.declared.name.Anchor.{Anchor}
-use Rattle.operations.specs.Operation.{Operation, insert}
+use Rattle.operations.specs.Operation.{Operation, insert, appended_len}
 use Rattle.operations.specs.Spelling.{IsCause}
-use Rattle.texts.specs.Taken.{of_site, appended_len}
+use Rattle.texts.specs.Taken.{of_site}
 use Rattle.texts.specs.TextState.{IsReplica}
 use Rattle.texts.proofs.TakenLemmas.{greatest-push}
 use Rattle.texts.specs.Edits.{anchor_before, chars_of, put}

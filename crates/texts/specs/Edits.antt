@@ -9,7 +9,7 @@ use Rattle.char_files.specs.Stretch.{Item}
 use Rattle.char_files.specs.declared.name.Anchor.{Anchor}
 use Rattle.char_files.specs.declared.name.Anchor.TheVariants.{Root, At}
 use Rattle.operations.specs.Operation.{Operation, insert}
-use Rattle.texts.specs.declared.shown.Char.{Char}
+use Rattle.char_files.specs.declared.character.Char.{Char}
 use Rattle.texts.specs.Taken.{front_of, greatest_stamp, file_len_of}
 use Rattle.texts.specs.TextState.{TextState}
 

@@ -1,7 +1,7 @@
 -- Words over the operations that a replica has taken in.
-use Rattle.std.specs.Prelude.{ℕ, List, [], ◌∷◌, ◌==◌, max, length, if◌then◌else◌}
+use Rattle.std.specs.Prelude.{ℕ, List, [], ◌∷◌, ◌==◌, max, if◌then◌else◌}
 use Rattle.std.specs.List.{sum_by}
-use Rattle.operations.specs.Operation.{Operation, OpKind, insert, delete, change_looks}
+use Rattle.operations.specs.Operation.{Operation, appended_len}
 
 -- the greatest number that f gives, 0 for none
 abbrev pub greatest : (Operation → ℕ) → List Operation → ℕ
@@ -19,12 +19,6 @@ front_of ops site = greatest (of_site site (λ op. op.seq)) ops
 -- the greatest stamp, 0 for none
 abbrev pub greatest_stamp : List Operation → ℕ
 greatest_stamp ops = greatest (λ op. op.stamp) ops
-
--- how many bytes an operation appends to its site's file
-abbrev pub appended_len : OpKind → ℕ
-appended_len (insert cause at looks bytes) = length bytes
-appended_len (delete names) = 0
-appended_len (change_looks sel looks names) = 0
 
 -- the length of a site's file
 abbrev pub file_len_of : List Operation → ℕ → ℕ

@@ -4,7 +4,7 @@ use Rattle.char_files.specs.CharName.{CharName}
 use Rattle.char_files.specs.Stretch.{Item}
 use Rattle.operations.specs.Operation.{Operation}
 use Rattle.texts.specs.Taken.{front_of, greatest_stamp, file_len_of}
-use Rattle.texts.specs.declared.shown.Char.{Char}
+use Rattle.char_files.specs.declared.character.Char.{Char}
 
 -- The text and the site; the operations taken in, in the order of taking; all characters in order, deleted ones too; those
 -- that are shown; the operations that wait, in order of arrival; the stretch that was deleted last.

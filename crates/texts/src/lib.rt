@@ -9,7 +9,6 @@ mod shown;
 pub use edit_refusal::EditRefusal;
 pub use outbox::Outbox;
 pub use replica::Replica;
-pub use shown::Char;
 
 #[cfg(test)]
 mod tests;

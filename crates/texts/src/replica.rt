@@ -5,8 +5,8 @@ ghost use Rattle.texts.specs.TextState.{TextState};
 
 use crate::edit_refusal::EditRefusal;
 use crate::outbox::Outbox;
-use crate::shown::{Char, anchor_before, chars_of, put};
-use char_files::{Buffer, MAX_FILE, SiteNo, TextNo};
+use crate::shown::{anchor_before, chars_of, put};
+use char_files::{Buffer, Char, MAX_FILE, SiteNo, TextNo};
 use looks::{Looks, Refusal};
 use operations::{Kind, MAX_STAMP, Op, encode};
 use std::alloc::{AllocError, Global};

@@ -1,17 +1,9 @@
 ghost use Rattle.std.specs.Prelude.{◌≡◌, ◌+◌, ◌^◌, ◌≤◌, ◌++◌, take, drop, length, vec_len, vec_capacity, IfOk};
 ghost use Rattle.texts.specs.Edits.{anchor_before, chars_of, put};
 
-use char_files::{Anchor, Name, SiteNo};
+use char_files::{Anchor, Char, Name, SiteNo};
 use looks::Looks;
 use std::alloc::{AllocError, Global};
-
-/// A character of a text, as a replica shows it.
-#[derive(Debug, Drop)]
-pub struct Char {
-    pub name: Name,
-    pub byte: u8,
-    pub looks: Looks,
-}
 
 // What a character hangs on that is typed behind the first `pos` characters.
 pub(crate) fn anchor_before(shown: &[Char], pos: usize) -> Anchor

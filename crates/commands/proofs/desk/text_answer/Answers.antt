@@ -1,6 +1,6 @@
 use Rattle.std.proofs.Common.{ℕ, List, ◌++◌, ap, ◌∙◌, append_assoc, map, take, arith}
 use Rattle.std.specs.Prelude.{slice_get}
-use Rattle.texts.specs.declared.shown.Char.{Char}
+use Rattle.char_files.specs.declared.character.Char.{Char}
 use Rattle.commands.proofs.Counted.{flat_map-map-more, IfSome-first}
 use Rattle.commands.specs.Printing.{printed, printed_byte}
 use Rattle.commands.proofs.desk.text_answer.Goals as goal

@@ -1,4 +1,5 @@
 use Rattle.std.proofs.Common.{◌≡◌, ℕ, List, ◌++◌, ◌∷◌, [], ◌+◌, length, None, refl, sym, ap, ◌∙◌, arith}
+use Rattle.std.proofs.lemmas.Result.{err_from_is_err_and}
 use Rattle.operations.specs.Operation.{Operation, insert}
 use Rattle.operations.specs.Spelling.{spelling}
 use Rattle.texts.specs.Edits.{insert_refusal, own_insert, anchor_before, chars_of, put}
@@ -31,3 +32,8 @@ returns-clause-ok c =
       rw (← c.self.view_is, taken_is, shown_is, op_is, c.self.invariant.file_len_is) refl,
       c.in_ok-push.ensures ∙ ap (λ (message : List ℕ). c.args.outbox.now ++ message ∷ []) message_is,
     )
+
+pub returns-in_err-push-clause-err : goal.returns-in_err-push-clause-err
+returns-in_err-push-clause-err c =
+    let refused = err_from_is_err_and c.from_residual-in_err-push.result c.from_residual-in_err-push.ensures.1 in
+    rw refused.1 (rw (c.in_ok-reserve.ensures.items, c.in_ok-reserve-2.ensures.items) c.self.view_is, c.in_err-push.ensures)

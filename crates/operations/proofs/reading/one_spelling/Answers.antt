@@ -1,0 +1,8 @@
+use Rattle.operations.proofs.ReadMessages.{nothing_follows, same_operation}
+use Rattle.operations.proofs.reading.one_spelling.Goals as goal
+
+pub returns-clause-prefix : goal.returns-clause-prefix
+returns-clause-prefix c = nothing_follows
+
+pub returns-clause-one : goal.returns-clause-one
+returns-clause-one c = same_operation

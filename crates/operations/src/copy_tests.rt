@@ -1,0 +1,56 @@
+use crate::fixtures::{Does, Fields, INSERT, has_these, op_with};
+use looks::Refusal;
+use std::test::Fail;
+
+// An operation of each kind.
+const KINDS: [(&str, Fields); 4] = [
+    (
+        "an Insert at the root",
+        Fields {
+            site: 1,
+            seq: 1,
+            stamp: 1,
+            does: Does::Insert {
+                cause: None,
+                at: 0,
+                bytes: b"Oberon",
+            },
+        },
+    ),
+    ("an Insert below a character", INSERT),
+    (
+        "a Delete",
+        Fields {
+            site: 3,
+            seq: 4,
+            stamp: 5,
+            does: Does::Delete(&[(1, 3, 2), (2, 0, 1)]),
+        },
+    ),
+    (
+        "a ChangeLooks",
+        Fields {
+            site: 4,
+            seq: 5,
+            stamp: 6,
+            does: Does::ChangeLooks(7, (b"Syntax12.Scn.Fnt", 15, -3), &[(1, 3, 2), (2, 0, 1)]),
+        },
+    ),
+];
+
+#[test]
+fn operations_are_copied(rt: HostRuntime) -> Result<(), Fail> {
+    for (what, fields) in KINDS {
+        let op = op_with(rt.alloc(), fields)?.ok_or(what)?;
+        let copy = match op.copy() {
+            Ok(copy) => copy,
+            Err(refusal) => {
+                assert_eq!(rt; refusal, Refusal::OutOfMemory);
+                op.copy()?
+            }
+        };
+        assert!(rt; has_these(&copy, fields), "{what}");
+        assert!(rt; has_these(&op, fields), "{what}");
+    }
+    Ok(())
+}

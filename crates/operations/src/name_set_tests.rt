@@ -1,0 +1,153 @@
+use crate::NameSet;
+use crate::fixtures::{are_ranges, name};
+use looks::Refusal;
+use std::test::Fail;
+
+// Names as (site, off) that go into a set one by one, and the set's ranges as (site, at, len).
+struct Names {
+    what: &'static str,
+    names: &'static [(u16, u32)],
+    ranges: &'static [(u16, u32, u32)],
+    out: (u16, u32),
+}
+
+const NAMES: [Names; 11] = [
+    Names {
+        what: "no name",
+        names: &[],
+        ranges: &[],
+        out: (1, 0),
+    },
+    Names {
+        what: "one name",
+        names: &[(1, 5)],
+        ranges: &[(1, 5, 1)],
+        out: (1, 6),
+    },
+    Names {
+        what: "directly behind a range",
+        names: &[(1, 5), (1, 6), (1, 7)],
+        ranges: &[(1, 5, 3)],
+        out: (1, 8),
+    },
+    Names {
+        what: "directly ahead of a range",
+        names: &[(1, 5), (1, 4), (1, 3)],
+        ranges: &[(1, 3, 3)],
+        out: (1, 2),
+    },
+    Names {
+        what: "between two ranges",
+        names: &[(1, 4), (1, 3), (1, 6), (1, 7), (1, 5)],
+        ranges: &[(1, 3, 5)],
+        out: (1, 8),
+    },
+    Names {
+        what: "two names that don't touch",
+        names: &[(1, 6), (1, 4)],
+        ranges: &[(1, 4, 1), (1, 6, 1)],
+        out: (1, 5),
+    },
+    Names {
+        what: "between two ranges, and touching neither",
+        names: &[(1, 9), (1, 1), (1, 5)],
+        ranges: &[(1, 1, 1), (1, 5, 1), (1, 9, 1)],
+        out: (1, 3),
+    },
+    Names {
+        what: "names twice",
+        names: &[(1, 5), (1, 5), (1, 6), (1, 7), (1, 5), (1, 6), (1, 7)],
+        ranges: &[(1, 5, 3)],
+        out: (1, 4),
+    },
+    Names {
+        what: "two sites' neighbouring places",
+        names: &[(2, 4), (1, 5), (2, 6), (1, 3), (2, 5), (3, 7)],
+        ranges: &[(1, 3, 1), (1, 5, 1), (2, 4, 3), (3, 7, 1)],
+        out: (1, 4),
+    },
+    Names {
+        what: "a join in the midst of others",
+        names: &[(1, 0), (1, 4), (1, 6), (1, 10), (1, 5)],
+        ranges: &[(1, 0, 1), (1, 4, 3), (1, 10, 1)],
+        out: (1, 7),
+    },
+    Names {
+        what: "the ends of the last site's file",
+        names: &[(0xffff, 0x00ff_ffff), (0xffff, 0), (0xffff, 0x00ff_fffe)],
+        ranges: &[(0xffff, 0, 1), (0xffff, 0x00ff_fffe, 2)],
+        out: (0xffff, 0x00ff_fffd),
+    },
+];
+
+// A copy; an allocation that is refused once is tried again.
+fn copied(set: &NameSet) -> Result<NameSet, Refusal> {
+    match set.copy() {
+        Ok(set) => Ok(set),
+        Err(_) => set.copy(),
+    }
+}
+
+// Whichever allocation is refused, the set is as it was before.
+#[test]
+fn names_go_into_a_set(rt: HostRuntime) -> Result<(), Fail> {
+    for case in &NAMES {
+        let mut set = NameSet::new(rt.alloc());
+        for place in case.names {
+            let name = name(*place).ok_or(case.what)?;
+            let before = copied(&set)?;
+            if let Err(refusal) = set.insert(name) {
+                assert_eq!(rt; refusal, Refusal::OutOfMemory);
+                assert_eq!(rt; set.ranges(), before.ranges());
+                set.insert(name)?;
+            }
+        }
+        assert!(rt; are_ranges(&set, case.ranges), "{}", case.what);
+        let copy = copied(&set)?;
+        assert_eq!(rt; copy.ranges(), set.ranges());
+        for place in case.names {
+            let name = name(*place).ok_or(case.what)?;
+            assert!(rt; copy.contains(name), "{}", case.what);
+        }
+        let out = name(case.out).ok_or(case.what)?;
+        assert!(rt; !copy.contains(out), "{}", case.what);
+    }
+    Ok(())
+}
+
+// The names of every second place make 1,024 ranges, and no more.
+#[test]
+fn a_set_of_1024_ranges(rt: HostRuntime) -> Result<(), Fail> {
+    let mut set = NameSet::new(rt.alloc());
+    for index in 0..1024 {
+        let name = name((1, 2 * index)).ok_or("no name")?;
+        if let Err(refusal) = set.insert(name) {
+            assert_eq!(rt; refusal, Refusal::OutOfMemory);
+            assert_eq!(rt; set.ranges().len(), index as usize);
+            set.insert(name)?;
+        }
+    }
+    let full = copied(&set)?;
+    assert_eq!(rt; full.ranges().len(), 1024);
+    for (index, range) in full.ranges().iter().enumerate() {
+        assert_eq!(rt; (range.at() as usize, range.len()), (2 * index, 1));
+    }
+    for place in [(1, 2048), (1, 2050), (2, 0)] {
+        let name = name(place).ok_or("no name")?;
+        assert_eq!(rt; set.insert(name), Err(Refusal::Scattered));
+        assert_eq!(rt; set.ranges(), full.ranges());
+        assert!(rt; !set.contains(name));
+    }
+    for (place, len) in [
+        ((1, 2046), 1024),
+        ((1, 2047), 1024),
+        ((1, 1), 1023),
+        ((2, 0), 1024),
+    ] {
+        let name = name(place).ok_or("no name")?;
+        set.insert(name)?;
+        assert_eq!(rt; set.ranges().len(), len);
+        assert!(rt; set.contains(name));
+    }
+    Ok(())
+}

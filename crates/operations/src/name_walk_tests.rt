@@ -1,0 +1,68 @@
+ghost use Rattle.std.specs.Prelude.{◌≡◌, IfOk};
+ghost use Rattle.operations.specs.Operation.{mentioned};
+
+use crate::fixtures::{Does, Fields, INSERT, PLAIN, op_with};
+use crate::{Op, named};
+use char_files::Name;
+use std::alloc::{AllocError, Global};
+use std::test::Fail;
+
+// What site 2 does, and the names (site, off) that it mentions.
+const MENTIONED: [(&str, Does, &[(u16, u32)]); 5] = [
+    (
+        "an Insert at the root",
+        Does::Insert {
+            cause: None,
+            at: 0,
+            bytes: b"Oberon",
+        },
+        &[],
+    ),
+    (
+        "an Insert below the site's own character",
+        Does::Insert {
+            cause: Some((2, 0)),
+            at: 1,
+            bytes: b"Y",
+        },
+        &[(2, 0)],
+    ),
+    (
+        "a Delete of one character",
+        Does::Delete(&[(1, 0, 1)]),
+        &[(1, 0)],
+    ),
+    (
+        "a Delete of two ranges",
+        Does::Delete(&[(1, 3, 2), (2, 0, 1)]),
+        &[(1, 3), (1, 4), (2, 0)],
+    ),
+    (
+        "a change of the looks of two ranges",
+        Does::ChangeLooks(7, PLAIN, &[(1, 0, 1), (1, 2, 2)]),
+        &[(1, 0), (1, 2), (1, 3)],
+    ),
+];
+
+fn walked(alloc: Global, op: &Op) -> Result<Vec<Name>, AllocError>
+    ensures { IfOk result (λ names. names.items ≡ mentioned op.now) }
+{
+    named(op).collect(alloc)
+}
+
+#[test]
+fn names_are_walked(rt: HostRuntime) -> Result<(), Fail> {
+    for (what, does, places) in MENTIONED {
+        let fields = Fields { does, ..INSERT };
+        let op = op_with(rt.alloc(), fields)?.ok_or(what)?;
+        let names = match walked(rt.alloc(), &op) {
+            Ok(names) => names,
+            Err(_) => walked(rt.alloc(), &op)?,
+        };
+        assert_eq!(rt; names.len(), places.len(), "{what}");
+        for (name, (site, off)) in names.iter().zip(places) {
+            assert_eq!(rt; (name.site().get(), name.off()), (*site, *off), "{what}");
+        }
+    }
+    Ok(())
+}

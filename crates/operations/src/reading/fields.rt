@@ -1,0 +1,242 @@
+//! The fields of a message, each with the bytes behind it.
+
+ghost use Rattle.std.specs.Prelude.{◌≡◌};
+ghost use Rattle.std.specs.Int.{w16, w32, w64};
+ghost use Rattle.looks.specs.Looks.{plain_looks};
+ghost use Rattle.operations.specs.Reading.{Finds, stretch_at, number_at, positive_at, byte_at, font_at, colour_at, offset_at, looks_at, selected_or, selected_at, sel_at, anchor_of, anchor_at};
+
+use char_files::{Anchor, Name, SiteNo, TextNo};
+use looks::{Colour, FontName, Looks, Sel};
+
+pub(super) fn stretch_at(len: usize, bytes: &[u8]) -> Option<(&[u8], &[u8])>
+    ensures { Finds (λ x. (x.0.now, x.1.now)) result (stretch_at len bytes.now) }
+{
+    if bytes.len() < len {
+        return None;
+    }
+    Some(bytes.split_at(len))
+}
+
+pub(super) fn u16_at(bytes: &[u8]) -> Option<(u16, &[u8])>
+    ensures { Finds (λ x. (x.0, x.1.now)) result (number_at w16 bytes.now) }
+{
+    if bytes.len() < 2 {
+        return None;
+    }
+    let (front, rest) = bytes.split_at(2);
+    let number = u16::from_be_bytes([front[0], front[1]]);
+    Some((number, rest))
+}
+
+pub(super) fn u32_at(bytes: &[u8]) -> Option<(u32, &[u8])>
+    ensures { Finds (λ x. (x.0, x.1.now)) result (number_at w32 bytes.now) }
+{
+    if bytes.len() < 4 {
+        return None;
+    }
+    let (front, rest) = bytes.split_at(4);
+    let number = u32::from_be_bytes([front[0], front[1], front[2], front[3]]);
+    Some((number, rest))
+}
+
+fn u64_at(bytes: &[u8]) -> Option<(u64, &[u8])>
+    ensures { Finds (λ x. (x.0, x.1.now)) result (number_at w64 bytes.now) }
+{
+    if bytes.len() < 8 {
+        return None;
+    }
+    let (front, rest) = bytes.split_at(8);
+    let number = u64::from_be_bytes([
+        front[0], front[1], front[2], front[3], front[4], front[5], front[6], front[7],
+    ]);
+    Some((number, rest))
+}
+
+#[tactic(auto, unfolding(crate::specs::Reading::positive_at))]
+pub(super) fn text_at(bytes: &[u8]) -> Option<(TextNo, &[u8])>
+    ensures { Finds (λ x. (x.0, x.1.now)) result (positive_at w16 bytes.now) }
+{
+    let (number, rest) = u16_at(bytes)?;
+    let text = TextNo::new(number)?;
+    Some((text, rest))
+}
+
+#[tactic(auto, unfolding(crate::specs::Reading::positive_at))]
+pub(super) fn site_at(bytes: &[u8]) -> Option<(SiteNo, &[u8])>
+    ensures { Finds (λ x. (x.0, x.1.now)) result (positive_at w16 bytes.now) }
+{
+    let (number, rest) = u16_at(bytes)?;
+    let site = SiteNo::new(number)?;
+    Some((site, rest))
+}
+
+// A number from 1 on.
+#[tactic(auto, unfolding(crate::specs::Reading::positive_at))]
+pub(super) fn positive_u16_at(bytes: &[u8]) -> Option<(u16, &[u8])>
+    ensures { Finds (λ x. (x.0, x.1.now)) result (positive_at w16 bytes.now) }
+{
+    let (number, rest) = u16_at(bytes)?;
+    if number == 0 {
+        return None;
+    }
+    Some((number, rest))
+}
+
+// A number from 1 on.
+#[tactic(auto, unfolding(crate::specs::Reading::positive_at))]
+pub(super) fn positive_u32_at(bytes: &[u8]) -> Option<(u32, &[u8])>
+    ensures { Finds (λ x. (x.0, x.1.now)) result (positive_at w32 bytes.now) }
+{
+    let (number, rest) = u32_at(bytes)?;
+    if number == 0 {
+        return None;
+    }
+    Some((number, rest))
+}
+
+// A number from 1 on.
+#[tactic(auto, unfolding(crate::specs::Reading::positive_at))]
+pub(super) fn positive_u64_at(bytes: &[u8]) -> Option<(u64, &[u8])>
+    ensures { Finds (λ x. (x.0, x.1.now)) result (positive_at w64 bytes.now) }
+{
+    let (number, rest) = u64_at(bytes)?;
+    if number == 0 {
+        return None;
+    }
+    Some((number, rest))
+}
+
+fn byte_at(bytes: &[u8]) -> Option<(u8, &[u8])>
+    ensures { Finds (λ x. (x.0, x.1.now)) result (byte_at bytes.now) }
+{
+    match bytes {
+        [] => None,
+        [byte, rest @ ..] => Some((*byte, rest)),
+    }
+}
+
+#[tactic(auto, unfolding(crate::specs::Reading::font_at), using(crate::proofs::Fields::font_name_is))]
+fn font_at(bytes: &[u8]) -> Option<(FontName, &[u8])>
+    ensures { Finds (λ x. (x.0, x.1.now)) result (font_at bytes.now) }
+{
+    let (len, rest) = byte_at(bytes)?;
+    let (name, rest) = stretch_at(usize::from(len), rest)?;
+    let font = FontName::new(name)?;
+    Some((font, rest))
+}
+
+#[tactic(auto, unfolding(crate::specs::Reading::colour_at))]
+fn colour_at(bytes: &[u8]) -> Option<(Colour, &[u8])>
+    ensures { Finds (λ x. (x.0, x.1.now)) result (colour_at bytes.now) }
+{
+    let (number, rest) = byte_at(bytes)?;
+    let colour = Colour::new(number)?;
+    Some((colour, rest))
+}
+
+#[tactic(auto, unfolding(crate::specs::Reading::offset_at))]
+fn offset_at(bytes: &[u8]) -> Option<(i8, &[u8])>
+    ensures { Finds (λ x. (x.0, x.1.now)) result (offset_at bytes.now) }
+{
+    let (number, rest) = byte_at(bytes)?;
+    Some((number.cast_signed(), rest))
+}
+
+#[tactic(auto, unfolding(crate::specs::Reading::looks_at))]
+pub(super) fn looks_at(bytes: &[u8]) -> Option<(Looks, &[u8])>
+    ensures { Finds (λ x. (x.0, x.1.now)) result (looks_at bytes.now) }
+{
+    let Some((font, rest)) = font_at(bytes) else {
+        return None;
+    };
+    let Some((colour, rest)) = colour_at(rest) else {
+        return None;
+    };
+    let (offset, rest) = offset_at(rest)?;
+    let looks = Looks {
+        font,
+        colour,
+        offset,
+    };
+    Some((looks, rest))
+}
+
+fn font_or_default(selected: bool, bytes: &[u8]) -> Option<(FontName, &[u8])>
+    ensures { Finds (λ x. (x.0, x.1.now)) result (selected_or selected plain_looks.font font_at bytes.now) }
+{
+    if selected {
+        font_at(bytes)
+    } else {
+        Some((Looks::plain().font, bytes))
+    }
+}
+
+fn colour_or_default(selected: bool, bytes: &[u8]) -> Option<(Colour, &[u8])>
+    ensures { Finds (λ x. (x.0, x.1.now)) result (selected_or selected plain_looks.colour colour_at bytes.now) }
+{
+    if selected {
+        colour_at(bytes)
+    } else {
+        Some((Looks::plain().colour, bytes))
+    }
+}
+
+fn offset_or_default(selected: bool, bytes: &[u8]) -> Option<(i8, &[u8])>
+    ensures { Finds (λ x. (x.0, x.1.now)) result (selected_or selected plain_looks.offset offset_at bytes.now) }
+{
+    if selected {
+        offset_at(bytes)
+    } else {
+        Some((Looks::plain().offset, bytes))
+    }
+}
+
+// Looks of which the selected values alone stand there; each other one is the default.
+#[tactic(auto, unfolding(crate::specs::Reading::selected_at))]
+pub(super) fn selected_at(sel: Sel, bytes: &[u8]) -> Option<(Looks, &[u8])>
+    ensures { Finds (λ x. (x.0, x.1.now)) result (selected_at sel bytes.now) }
+{
+    let Some((font, rest)) = font_or_default(sel.font(), bytes) else {
+        return None;
+    };
+    let Some((colour, rest)) = colour_or_default(sel.colour(), rest) else {
+        return None;
+    };
+    let (offset, rest) = offset_or_default(sel.offset(), rest)?;
+    let looks = Looks {
+        font,
+        colour,
+        offset,
+    };
+    Some((looks, rest))
+}
+
+#[tactic(auto, unfolding(crate::specs::Reading::sel_at), using(crate::proofs::Fields::selection_is))]
+pub(super) fn sel_at(bytes: &[u8]) -> Option<(Sel, &[u8])>
+    ensures { Finds (λ x. (x.0, x.1.now)) result (sel_at bytes.now) }
+{
+    let (bits, rest) = byte_at(bytes)?;
+    let sel = Sel::new(bits)?;
+    Some((sel, rest))
+}
+
+// The cause of these numbers: the root is place 0 of site 0.
+fn anchor_of(site: u16, off: u32) -> Option<Anchor>
+    ensures { result ≡ anchor_of site off }
+{
+    match SiteNo::new(site) {
+        None if off == 0 => Some(Anchor::Root),
+        None => None,
+        Some(site) => Some(Anchor::At(Name::new(site, off)?)),
+    }
+}
+
+#[tactic(auto, unfolding(crate::specs::Reading::anchor_at))]
+pub(super) fn anchor_at(bytes: &[u8]) -> Option<(Anchor, &[u8])>
+    ensures { Finds (λ x. (x.0, x.1.now)) result (anchor_at bytes.now) }
+{
+    let (site, rest) = u16_at(bytes)?;
+    let (off, rest) = u32_at(rest)?;
+    let anchor = anchor_of(site, off)?;
+    Some((anchor, rest))
+}

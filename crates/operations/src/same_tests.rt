@@ -1,0 +1,101 @@
+use crate::fixtures::{Does, Fields, INSERT, PLAIN, op_with};
+use std::test::Fail;
+
+// Operations that differ, each from the first or the one before it in one field alone.
+const DIFFERENT: [(&str, Fields); 13] = [
+    ("an Insert", INSERT),
+    ("another site", Fields { site: 3, ..INSERT }),
+    ("another seq", Fields { seq: 3, ..INSERT }),
+    ("another stamp", Fields { stamp: 4, ..INSERT }),
+    (
+        "another cause",
+        Fields {
+            does: Does::Insert {
+                cause: None,
+                at: 4,
+                bytes: b"Y",
+            },
+            ..INSERT
+        },
+    ),
+    (
+        "another place",
+        Fields {
+            does: Does::Insert {
+                cause: Some((1, 5)),
+                at: 5,
+                bytes: b"Y",
+            },
+            ..INSERT
+        },
+    ),
+    (
+        "another byte",
+        Fields {
+            does: Does::Insert {
+                cause: Some((1, 5)),
+                at: 4,
+                bytes: b"y",
+            },
+            ..INSERT
+        },
+    ),
+    (
+        "one byte more",
+        Fields {
+            does: Does::Insert {
+                cause: Some((1, 5)),
+                at: 4,
+                bytes: b"YY",
+            },
+            ..INSERT
+        },
+    ),
+    (
+        "a Delete",
+        Fields {
+            does: Does::Delete(&[(1, 0, 1)]),
+            ..INSERT
+        },
+    ),
+    (
+        "a Delete of one name more",
+        Fields {
+            does: Does::Delete(&[(1, 0, 2)]),
+            ..INSERT
+        },
+    ),
+    (
+        "a change of the colour",
+        Fields {
+            does: Does::ChangeLooks(2, PLAIN, &[(1, 0, 2)]),
+            ..INSERT
+        },
+    ),
+    (
+        "a change to another colour",
+        Fields {
+            does: Does::ChangeLooks(2, (b"Oberon10.Scn.Fnt", 5, 0), &[(1, 0, 2)]),
+            ..INSERT
+        },
+    ),
+    (
+        "a change of the colour and the offset",
+        Fields {
+            does: Does::ChangeLooks(6, (b"Oberon10.Scn.Fnt", 5, 0), &[(1, 0, 2)]),
+            ..INSERT
+        },
+    ),
+];
+
+#[test]
+fn operations_are_compared(rt: HostRuntime) -> Result<(), Fail> {
+    for (i, (what, fields)) in DIFFERENT.iter().enumerate() {
+        let op = op_with(rt.alloc(), *fields)?.ok_or(*what)?;
+        for (j, (other_what, other_fields)) in DIFFERENT.iter().enumerate() {
+            let other = op_with(rt.alloc(), *other_fields)?.ok_or(*other_what)?;
+            assert_eq!(rt; op.is_same(&other), i == j, "{what} and {other_what}");
+        }
+    }
+    Ok(())
+}
