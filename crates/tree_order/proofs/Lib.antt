@@ -1,0 +1,16 @@
+pub mod Before
+pub mod Characters
+pub mod Each
+pub mod Files
+pub mod GoodParts
+pub mod LastLemmas
+pub mod OneText
+pub mod Paths
+pub mod PlacedLemmas
+pub mod Runs
+pub mod SameSet
+pub mod ShownLemmas
+pub mod Sorted
+pub mod Trails
+pub mod Tree
+pub mod Turns

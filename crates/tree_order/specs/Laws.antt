@@ -1,0 +1,54 @@
+-- The laws of the order and of what is shown, over any list of operations that is good.
+use Rattle.std.specs.Prelude.{◌≡◌, ℕ, ◌+◌, ◌⊎◌, ◌↔◌, List, Contains}
+use Rattle.char_files.specs.CharName.{CharName}
+use Rattle.char_files.specs.declared.character.Char.{Char}
+use Rattle.char_files.specs.declared.name.Anchor.{Anchor}
+use Rattle.operations.specs.Operation.{Operation}
+use Rattle.tree_order.specs.Taken.{Good, key_of}
+use Rattle.tree_order.specs.Tree.{IsChar, IsInsertOf, IsDescendant}
+use Rattle.tree_order.specs.Order.{Before, IsAheadIn, IsOrder}
+use Rattle.tree_order.specs.Shown.{IsShown, IsPlace}
+
+-- two operations have different keys
+abbrev pub KeysDiffer : List Operation → Type 0
+KeysDiffer ops = (a b : Operation) → Contains ops a → Contains ops b → key_of a ≡ key_of b → a ≡ b
+
+-- before is a strict total order on the characters
+pub record IsStrictTotalOrder (ops : List Operation) : Type 0 where
+  pub irreflexive : (c : CharName) → Before ops c c → ⊥
+  pub transitive : (c d e : CharName) → Before ops c d → Before ops d e → Before ops c e
+  pub total : (c d : CharName) → IsChar ops c → IsChar ops d → (c ≡ d) ⊎ (Before ops c d ⊎ Before ops d c)
+
+-- there is one list that is the order, and no other
+pub record HasOneOrder (ops : List Operation) : Type 0 where
+  pub order : List CharName
+  pub is : IsOrder ops order
+  pub only : (other : List CharName) → IsOrder ops other → other ≡ order
+
+-- d is the next byte of the Insert that inserts c
+pub record IsNextByte (ops : List Operation) (c d : CharName) : Type 0 where
+  pub insert : Operation
+  pub first : IsInsertOf ops c insert
+  pub second : IsInsertOf ops d insert
+  pub next : c.off + 1 ≡ d.off
+
+-- what stands between two neighbouring bytes of one Insert are descendants of the former, and not of the latter
+abbrev pub RunsStayTogether : List Operation → Type 0
+RunsStayTogether ops =
+    (order : List CharName) (c d x : CharName) → IsOrder ops order → IsNextByte ops c d → IsAheadIn order c x → IsAheadIn order x d
+    → IsDescendant ops c x × (IsDescendant ops d x → ⊥)
+
+-- no two lists are what is shown, and no two numbers are the place of an anchor
+pub record ShowsOneText (ops : List Operation) : Type 0 where
+  pub shown : (a b : List Char) → IsShown ops a → IsShown ops b → a ≡ b
+  pub place : (anchor : Anchor) (m n : ℕ) → IsPlace ops anchor m → IsPlace ops anchor n → m ≡ n
+
+-- the same operations, in whatever order and however often
+abbrev pub AreSameSet : List Operation → List Operation → Type 0
+AreSameSet a b = (op : Operation) → Contains a op ↔ Contains b op
+
+-- whatever the definitions say of one list they say of the other
+pub record SaysTheSame (a b : List Operation) : Type 0 where
+  pub good : Good b
+  pub order : (order : List CharName) → IsOrder a order → IsOrder b order
+  pub shown : (shown : List Char) → IsShown a shown → IsShown b shown

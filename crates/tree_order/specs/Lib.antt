@@ -1,0 +1,9 @@
+pub mod Attribute
+pub mod GoodEach
+pub mod Laws
+pub mod Looks
+pub mod Order
+pub mod Placed
+pub mod Shown
+pub mod Taken
+pub mod Tree

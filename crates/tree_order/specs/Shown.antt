@@ -1,0 +1,44 @@
+-- What a set of operations shows.
+use Rattle.std.specs.Prelude.{◌≡◌, ℕ, Bool, false, ◌==◌, ◌&&◌, not, List, [], ◌∷◌, All, filter, map, count_by, if◌then◌else◌}
+use Rattle.std.specs.List.{list_any}
+use Rattle.char_files.specs.CharName.{CharName}
+use Rattle.char_files.specs.declared.character.Char.{Char}
+use Rattle.char_files.specs.declared.name.Anchor.{Anchor}
+use Rattle.char_files.specs.declared.name.Anchor.TheVariants.{Root, At}
+use Rattle.operations.specs.NameSet.{holds}
+use Rattle.operations.specs.Operation.{Operation, OpKind, insert, delete, change_looks}
+use Rattle.tree_order.specs.Tree.{HasByte}
+use Rattle.tree_order.specs.Order.{IsOrder}
+use Rattle.tree_order.specs.Looks.{HasLooks}
+
+-- whether a Delete names c
+abbrev pub deletes : OpKind → CharName → Bool
+deletes (insert cause at looks bytes) c = false
+deletes (delete names) c = list_any (λ r. holds r c) names
+deletes (change_looks sel looks names) c = false
+
+-- whether c is visible: no Delete names it
+abbrev pub is_visible : List Operation → CharName → Bool
+is_visible ops c = not (list_any (λ op. deletes op.kind c) ops)
+
+-- the visible characters in their order, each with its byte and its looks
+pub record IsShown (ops : List Operation) (shown : List Char) : Type 0 where
+  pub order : List CharName
+  pub in_order : IsOrder ops order
+  pub visible : map (λ s. s.name) shown ≡ filter (is_visible ops) order
+  pub bytes : All (λ s. HasByte ops s.name s.byte) shown
+  pub looks : All (λ s. HasLooks ops s.name s.looks) shown
+
+-- the list up to c, and with it
+abbrev pub up_to : CharName → List CharName → List CharName
+up_to c [] = []
+up_to c (d ∷ order) = d ∷ (if d.site == c.site && d.off == c.off then [] else up_to c order)
+
+-- how many visible characters of the list are the anchor or stand ahead of it; the root stands ahead of all
+abbrev pub place : List Operation → List CharName → Anchor → ℕ
+place ops order Root = 0
+place ops order (At c) = count_by (is_visible ops) (up_to c order)
+
+-- the place of the anchor in the order
+abbrev pub IsPlace : List Operation → Anchor → ℕ → Type 0
+IsPlace ops a n = (order : List CharName) × IsOrder ops order × (n ≡ place ops order a)

@@ -1,0 +1,150 @@
+use crate::fixtures::{Does, Told, ops_of};
+use crate::is_good;
+use looks::Refusal;
+use operations::Op;
+use std::alloc::Global;
+use std::process::Abort;
+use std::test::Fail;
+
+// Three sites, one cause: sites 1 and 2 both type behind the `A` of `AC`.
+const M1: Told = (1, 1, 1, Does::Types(None, 0, b"AC"));
+
+const M2: Told = (1, 2, 2, Does::Types(Some((1, 0)), 2, b"B"));
+
+const M3: Told = (2, 1, 2, Does::Types(Some((1, 0)), 0, b"X"));
+
+const M4: Told = (2, 2, 3, Does::Types(Some((2, 0)), 1, b"Y"));
+
+const GOOD: [(&str, &[Told]); 8] = [
+    ("no operation", &[]),
+    ("one Insert", &[M1]),
+    ("three sites, one cause", &[M1, M2, M3, M4]),
+    ("the same backwards", &[M4, M3, M2, M1]),
+    ("the same with repeats", &[M4, M1, M2, M1, M3, M4, M2]),
+    ("site 2's part, on what it stands", &[M1, M3, M4]),
+    (
+        "other sites delete and change what they have taken in",
+        &[
+            M1,
+            (2, 1, 2, Does::Deletes((1, 1))),
+            (3, 1, 3, Does::Changes(3, 3, (1, 1))),
+            (2, 2, 4, Does::Types(Some((1, 0)), 0, b"X")),
+        ],
+    ),
+    (
+        "a site deletes and changes its own",
+        &[
+            M1,
+            (1, 2, 2, Does::Deletes((1, 0))),
+            (1, 3, 3, Does::Types(Some((1, 1)), 2, b"B")),
+            (1, 4, 4, Does::Changes(2, 5, (1, 2))),
+        ],
+    ),
+];
+
+// Each breaks one rule alone, but for the last two: under a name that comes later no stamps are right either.
+const BAD: [(&str, &[Told]); 17] = [
+    (
+        "another byte under one identity",
+        &[M1, (1, 1, 1, Does::Types(None, 0, b"AD"))],
+    ),
+    (
+        "another stamp under one identity",
+        &[M1, (1, 1, 2, Does::Types(None, 0, b"AC"))],
+    ),
+    (
+        "another kind under one identity",
+        &[
+            M1,
+            M2,
+            (1, 3, 3, Does::Deletes((1, 0))),
+            (1, 3, 3, Does::Changes(2, 1, (1, 0))),
+        ],
+    ),
+    ("no predecessor", &[(1, 2, 1, Does::Types(None, 0, b"A"))]),
+    (
+        "a gap in the seqs",
+        &[M1, (1, 3, 2, Does::Types(None, 2, b"B"))],
+    ),
+    (
+        "no Insert of a cause",
+        &[M1, (2, 1, 2, Does::Types(Some((1, 2)), 0, b"X"))],
+    ),
+    (
+        "no Insert of a name that is deleted",
+        &[M1, (1, 2, 2, Does::Deletes((2, 0)))],
+    ),
+    (
+        "no Insert of a name that is changed",
+        &[M1, (1, 2, 2, Does::Changes(2, 5, (2, 0)))],
+    ),
+    (
+        "an Insert that begins too early",
+        &[M1, (1, 2, 2, Does::Types(None, 1, b"B"))],
+    ),
+    (
+        "an Insert that begins too late",
+        &[M1, (1, 2, 2, Does::Types(None, 3, b"B"))],
+    ),
+    (
+        "the predecessor's stamp",
+        &[M1, (1, 2, 1, Does::Types(None, 2, b"B"))],
+    ),
+    (
+        "the stamp of the cause's Insert",
+        &[M1, (2, 1, 1, Does::Types(Some((1, 0)), 0, b"X"))],
+    ),
+    (
+        "the stamp of the Insert of what is deleted",
+        &[M1, (2, 1, 1, Does::Deletes((1, 1)))],
+    ),
+    (
+        "a stamp below the Insert's of what is deleted",
+        &[
+            (1, 1, 2, Does::Types(None, 0, b"A")),
+            (2, 1, 1, Does::Deletes((1, 0))),
+        ],
+    ),
+    (
+        "the stamp of the Insert of what is changed",
+        &[M1, (2, 1, 1, Does::Changes(2, 5, (1, 1)))],
+    ),
+    (
+        "an own name that comes later",
+        &[
+            M1,
+            (1, 2, 4, Does::Deletes((1, 2))),
+            (1, 3, 3, Does::Types(None, 2, b"B")),
+        ],
+    ),
+    ("three sites, one cause, without the cause", &[M2, M3, M4]),
+];
+
+// Whether the operations are good; an answer that is refused once is asked for again.
+fn answer(rt: &impl Abort, alloc: Global, ops: &[Op]) -> Result<bool, Refusal> {
+    match is_good(alloc, ops) {
+        Ok(good) => Ok(good),
+        Err(refusal) => {
+            assert_eq!(rt; refusal, Refusal::OutOfMemory);
+            is_good(alloc, ops)
+        }
+    }
+}
+
+#[test]
+fn good_sets(rt: HostRuntime) -> Result<(), Fail> {
+    for (what, told) in GOOD {
+        let ops = ops_of(rt.alloc(), told)?;
+        assert!(rt; answer(&rt, rt.alloc(), &ops)?, "{what}");
+    }
+    Ok(())
+}
+
+#[test]
+fn sets_that_break_a_rule(rt: HostRuntime) -> Result<(), Fail> {
+    for (what, told) in BAD {
+        let ops = ops_of(rt.alloc(), told)?;
+        assert!(rt; !answer(&rt, rt.alloc(), &ops)?, "{what}");
+    }
+    Ok(())
+}

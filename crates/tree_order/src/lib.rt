@@ -1,0 +1,24 @@
+//! Good sets of operations, the order of their characters, and what they show, as they are defined: laws of them, and slow
+//! programs that compute them.
+#![tactic(auto)]
+
+mod attributes;
+mod good;
+pub mod laws;
+mod lookup;
+mod path_order;
+mod placing;
+mod showing;
+
+pub use good::is_good;
+pub use lookup::has_char;
+pub use path_order::slow_before;
+pub use placing::slow_order;
+pub use showing::{slow_place, slow_shown};
+
+#[cfg(test)]
+mod fixtures;
+#[cfg(test)]
+mod good_tests;
+#[cfg(test)]
+mod slow_tests;

@@ -1,0 +1,260 @@
+ghost use Rattle.std.specs.Prelude.{IfOk, IsTrue};
+ghost use Rattle.tree_order.specs.Taken.{Good};
+ghost use Rattle.tree_order.specs.Tree.{IsChar};
+
+use crate::fixtures::{Does, Told, looks, name, ops_of};
+use crate::{has_char, is_good, slow_before, slow_order, slow_place, slow_shown};
+use char_files::{Char, Name};
+use looks::Refusal;
+use operations::Op;
+use std::alloc::Global;
+use std::process::Abort;
+use std::test::Fail;
+
+// Operations, with the order of their characters, the hidden ones among them, and what is shown, all of it in the same looks.
+#[derive(Clone, Copy)]
+struct Case {
+    what: &'static str,
+    ops: &'static [Told],
+    order: &'static [(u16, u32)],
+    hidden: &'static [(u16, u32)],
+    shown: &'static [u8],
+    font: &'static [u8],
+    colour: u8,
+    offset: i8,
+}
+
+const PLAIN: Case = Case {
+    what: "no operation",
+    ops: &[],
+    order: &[],
+    hidden: &[],
+    shown: b"",
+    font: b"Oberon10.Scn.Fnt",
+    colour: 1,
+    offset: 0,
+};
+
+const CASES: [Case; 7] = [
+    PLAIN,
+    Case {
+        what: "three sites, one cause",
+        ops: &[
+            (1, 1, 1, Does::Types(None, 0, b"AC")),
+            (1, 2, 2, Does::Types(Some((1, 0)), 2, b"B")),
+            (2, 1, 2, Does::Types(Some((1, 0)), 0, b"X")),
+            (2, 2, 3, Does::Types(Some((2, 0)), 1, b"Y")),
+        ],
+        order: &[(1, 0), (2, 0), (2, 1), (1, 2), (1, 1)],
+        shown: b"AXYBC",
+        ..PLAIN
+    },
+    Case {
+        what: "equal stamps",
+        ops: &[
+            (1, 1, 1, Does::Types(None, 0, b"AC")),
+            (1, 2, 2, Does::Types(Some((1, 0)), 2, b"B")),
+            (2, 1, 2, Does::Types(Some((1, 0)), 0, b"X")),
+        ],
+        order: &[(1, 0), (2, 0), (1, 2), (1, 1)],
+        shown: b"AXBC",
+        ..PLAIN
+    },
+    Case {
+        what: "concurrent at the start",
+        ops: &[
+            (1, 1, 1, Does::Types(None, 0, b"one")),
+            (2, 1, 1, Does::Types(None, 0, b"two")),
+        ],
+        order: &[(2, 0), (2, 1), (2, 2), (1, 0), (1, 1), (1, 2)],
+        shown: b"twoone",
+        ..PLAIN
+    },
+    Case {
+        what: "typing behind a deleted character",
+        ops: &[
+            (1, 1, 1, Does::Types(None, 0, b"abc")),
+            (1, 2, 2, Does::Deletes((1, 1))),
+            (2, 1, 2, Does::Types(Some((1, 1)), 0, b"X")),
+        ],
+        order: &[(1, 0), (1, 1), (2, 0), (1, 2)],
+        hidden: &[(1, 1)],
+        shown: b"aXc",
+        ..PLAIN
+    },
+    Case {
+        what: "looks by attribute",
+        ops: &[
+            (1, 1, 1, Does::Types(None, 0, b"Q")),
+            (1, 2, 2, Does::Changes(3, 3, (1, 0))),
+            (2, 1, 2, Does::Changes(2, 5, (1, 0))),
+        ],
+        order: &[(1, 0)],
+        shown: b"Q",
+        font: b"Mono.Fnt",
+        colour: 5,
+        ..PLAIN
+    },
+    Case {
+        what: "the offset by itself",
+        ops: &[
+            (1, 1, 1, Does::Types(None, 0, b"Q")),
+            (1, 2, 2, Does::Changes(6, 5, (1, 0))),
+            (2, 1, 2, Does::Changes(3, 9, (1, 0))),
+        ],
+        order: &[(1, 0)],
+        shown: b"Q",
+        font: b"Mono.Fnt",
+        colour: 9,
+        offset: -3,
+        ..PLAIN
+    },
+];
+
+// The order in which operations come.
+#[derive(Clone, Copy)]
+enum Arrival {
+    AsTold,
+    Backwards,
+    // Each one, and then each one again.
+    Twice,
+}
+
+// The operations in this order; an allocation that is refused once is tried again.
+fn arriving(alloc: Global, told: &[Told], arrival: Arrival) -> Result<Vec<Told>, Fail> {
+    let mut all = match Vec::with_capacity(alloc, 2 * told.len()) {
+        Ok(all) => all,
+        Err(_) => Vec::with_capacity(alloc, 2 * told.len())?,
+    };
+    all.extend_from_slice(told)?;
+    match arrival {
+        Arrival::AsTold => {}
+        Arrival::Backwards => all.reverse(),
+        Arrival::Twice => all.extend_from_slice(told)?,
+    }
+    Ok(all)
+}
+
+fn are_good(rt: &impl Abort, alloc: Global, ops: &[Op]) -> Result<bool, Fail>
+    ensures { IfOk result (λ good. IsTrue good → Good ops.now) }
+{
+    match is_good(alloc, ops) {
+        Ok(good) => Ok(good),
+        Err(refusal) => {
+            assert_eq!(rt; refusal, Refusal::OutOfMemory);
+            Ok(is_good(alloc, ops)?)
+        }
+    }
+}
+
+fn order_of(rt: &impl Abort, alloc: Global, ops: &[Op]) -> Result<Vec<Name>, Fail>
+    requires { Good ops.now }
+{
+    match slow_order(alloc, ops) {
+        Ok(order) => Ok(order),
+        Err(refusal) => {
+            assert_eq!(rt; refusal, Refusal::OutOfMemory);
+            Ok(slow_order(alloc, ops)?)
+        }
+    }
+}
+
+fn shown_of(rt: &impl Abort, alloc: Global, ops: &[Op]) -> Result<Vec<Char>, Fail>
+    requires { Good ops.now }
+{
+    match slow_shown(alloc, ops) {
+        Ok(shown) => Ok(shown),
+        Err(refusal) => {
+            assert_eq!(rt; refusal, Refusal::OutOfMemory);
+            Ok(slow_shown(alloc, ops)?)
+        }
+    }
+}
+
+fn place_of(rt: &impl Abort, alloc: Global, ops: &[Op], c: Name) -> Result<u64, Fail>
+    requires good { Good ops.now }
+    requires character { IsChar ops.now c }
+{
+    match slow_place(alloc, ops, c) {
+        Ok(place) => Ok(place),
+        Err(refusal) => {
+            assert_eq!(rt; refusal, Refusal::OutOfMemory);
+            Ok(slow_place(alloc, ops, c)?)
+        }
+    }
+}
+
+fn before(rt: &impl Abort, alloc: Global, ops: &[Op], c: Name, d: Name) -> Result<bool, Fail>
+    requires good { Good ops.now }
+    requires first { IsChar ops.now c }
+    requires second { IsChar ops.now d }
+{
+    match slow_before(alloc, ops, c, d) {
+        Ok(before) => Ok(before),
+        Err(refusal) => {
+            assert_eq!(rt; refusal, Refusal::OutOfMemory);
+            Ok(slow_before(alloc, ops, c, d)?)
+        }
+    }
+}
+
+// The order is the case's; each character has its place and stands before those behind it alone.
+fn check_order(rt: &impl Abort, alloc: Global, ops: &[Op], case: &Case) -> Result<(), Fail>
+    requires { Good ops.now }
+{
+    let order = order_of(rt, alloc, ops)?;
+    assert_eq!(rt; order.len(), case.order.len(), "{}", case.what);
+    let mut shown: u64 = 0;
+    for (i, place) in case.order.iter().enumerate() {
+        let c = name(*place).ok_or("no name")?;
+        assert!(rt; has_char(ops, c), "{}", case.what);
+        assert_eq!(rt; order.get(i).copied(), Some(c), "{}", case.what);
+        if !case.hidden.contains(place) {
+            shown = shown.saturating_add(1);
+        }
+        assert_eq!(rt; place_of(rt, alloc, ops, c)?, shown, "{}", case.what);
+        for (j, other) in case.order.iter().enumerate() {
+            let d = name(*other).ok_or("no name")?;
+            assert!(rt; has_char(ops, d), "{}", case.what);
+            assert_eq!(rt; before(rt, alloc, ops, c, d)?, i < j, "{}", case.what);
+        }
+    }
+    Ok(())
+}
+
+// The visible characters are shown in the order, with their bytes and looks.
+fn check_shown(rt: &impl Abort, alloc: Global, ops: &[Op], case: &Case) -> Result<(), Fail>
+    requires { Good ops.now }
+{
+    let want = looks(case.font, case.colour, case.offset).ok_or("no looks")?;
+    let shown = shown_of(rt, alloc, ops)?;
+    assert_eq!(rt; shown.len(), case.shown.len(), "{}", case.what);
+    let visible = case
+        .order
+        .iter()
+        .filter(|place| !case.hidden.contains(place));
+    for ((place, byte), char) in visible.zip(case.shown).zip(&shown) {
+        assert_eq!(rt; Some(char.name), name(*place), "{}", case.what);
+        assert_eq!(rt; char.byte, *byte, "{}", case.what);
+        assert!(rt; char.looks == want, "{}", case.what);
+    }
+    Ok(())
+}
+
+// In whichever order the operations come, and however often, they show the same. Whichever allocation is refused, the call
+// says so, and is right when it is tried again.
+#[test]
+fn operations_show_a_text(rt: HostRuntime) -> Result<(), Fail> {
+    let out = name((9, 9)).ok_or("no name")?;
+    for case in &CASES {
+        for arrival in [Arrival::AsTold, Arrival::Backwards, Arrival::Twice] {
+            let told = arriving(rt.alloc(), case.ops, arrival)?;
+            let ops = ops_of(rt.alloc(), &told)?;
+            assert!(rt; are_good(&rt, rt.alloc(), &ops)?, "{}", case.what);
+            assert!(rt; !has_char(&ops, out), "{}", case.what);
+            check_order(&rt, rt.alloc(), &ops, case)?;
+            check_shown(&rt, rt.alloc(), &ops, case)?;
+        }
+    }
+    Ok(())
+}
