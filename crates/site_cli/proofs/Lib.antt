@@ -3,3 +3,4 @@ pub mod Spelled
 pub mod Stepping
 pub mod Traces
 pub mod Words
+pub mod Written

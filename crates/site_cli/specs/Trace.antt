@@ -6,6 +6,7 @@ use Rattle.looks.specs.declared.refusal.Refusal.TheVariants.{ReadFault, WriteFau
 use Rattle.commands.specs.Machine.{State, Step, new_state, unknown}
 use Rattle.commands.specs.Printing.{refused}
 use Rattle.commands.specs.Script.{event_in}
+use Rattle.site_cli.specs.Written.{AppendsPrefix}
 use Rattle.site_cli.specs.declared.lines.Taken.{Taken}
 use Rattle.site_cli.specs.declared.lines.Taken.TheVariants.{Line, Last, End}
 
@@ -70,13 +71,20 @@ IsBrokenOff first count script left answers =
 abbrev pub IsEnd : Refusal → Type 0
 IsEnd why = (why ≡ OutOfMemory) ⊎ ((why ≡ ReadFault) ⊎ (why ≡ WriteFault))
 
+-- the answers that a run was giving where the writer failed, the reader having this left: those to the lines that were taken, each
+-- ended by its newline; or to the whole script; or those of a run that broke off
+abbrev pub AreDue : (first count : ℕ) → List ℕ → Option (List ℕ) → List ℕ → Type 0
+AreDue first count script left answers =
+    ((n : ℕ) × (front : List ℕ) × (s : State) × (n ≤ 2 ^ 20) × Trace first count n front answers s × Consumes (Some script) left front)
+    ⊎ ((IsAnswered first count script answers × Consumes (Some script) left script) ⊎ IsBrokenOff first count script left answers)
+
 -- How a run over the script ends, what the reader then has left, and what was written. Refused memory is told before the first
--- byte is read. Where the writer fails nothing is said of what it holds.
+-- byte is read. Where the writer fails, a prefix of the answers that were due was written.
 abbrev pub Ends : (first count : ℕ) → List ℕ → Result (Unit {0}) Refusal → (left old new : Option (List ℕ)) → Type 0
 Ends first count script (Ok done) left old new = (answers : List ℕ) × Appends old new answers × IsAnswered first count script answers
 Ends first count script (Err ReadFault) left old new = (answers : List ℕ) × Appends old new answers × IsBrokenOff first count script left answers
 Ends first count script (Err OutOfMemory) left old new = Keeps (Some script) left × Keeps old new
-Ends first count script (Err WriteFault) left old new = Unit {0}
+Ends first count script (Err WriteFault) left old new = (answers : List ℕ) × AppendsPrefix old new answers × AreDue first count script left answers
 Ends first count script (Err why) left old new = ⊥
 
 -- what taking a byte answers: the byte, or none at the end, or a fault
@@ -85,7 +93,7 @@ TakesByte old new (Ok (Some byte)) = Consumes old new (byte ∷ [])
 TakesByte old new (Ok None) = Consumes old new [] × IsAtEnd new
 TakesByte old new (Err why) = (why ≡ ReadFault) × Keeps old new
 
--- breaking off writes the refusal and answers it, or answers that the writer failed
+-- breaking off writes the refusal and answers it, or answers that the writer failed, with a prefix of the refusal written
 abbrev pub BreaksOff : Option (List ℕ) → Option (List ℕ) → Result (Unit {0}) Refusal → Type 0
 BreaksOff old new (Ok done) = ⊥
-BreaksOff old new (Err why) = ((why ≡ ReadFault) × Appends old new (refused ReadFault)) ⊎ (why ≡ WriteFault)
+BreaksOff old new (Err why) = ((why ≡ ReadFault) × Appends old new (refused ReadFault)) ⊎ ((why ≡ WriteFault) × AppendsPrefix old new (refused ReadFault))

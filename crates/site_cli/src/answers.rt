@@ -1,34 +1,45 @@
-ghost use Rattle.std.specs.Prelude.{◌≡◌, ◌+◌, ◌^◌, ◌<◌, ◌∷◌, [], ◌++◌, drop, length, IfErr, OnOk};
+ghost use Rattle.std.specs.Prelude.{◌≡◌, ◌+◌, ◌^◌, ◌<◌, ◌∷◌, [], ◌++◌, drop, length, Err};
 ghost use Rattle.std.specs.Fmt.{decimal};
-ghost use Rattle.std.specs.Io.KnownBytes.{Appends};
 ghost use Rattle.hex.specs.Hex.{encode_lower};
 ghost use Rattle.commands.specs.Printing.{refused, send_line, send_lines, edit_end};
+ghost use Rattle.texts.specs.declared.edit_refusal.EditRefusal.TheVariants.{Partial};
+ghost use Rattle.site_cli.specs.Written.{Writes};
 
 use looks::Refusal;
 use std::io::Write;
 use texts::{EditRefusal, Outbox};
 
-/// Writes the bytes. Refused `WriteFault` where the writer fails.
+/// Writes the bytes. Refused `WriteFault` where the writer fails, is interrupted or takes nothing.
 pub fn put<W: Write>(writer: &mut W, bytes: &[u8]) -> Result<(), Refusal>
-    ensures ok { OnOk result (Appends (W.contents writer.old) (W.contents writer.new) bytes.now) }
-    ensures errors { IfErr result (λ e. e ≡ Refusal.WriteFault) }
+    ensures { Writes result (W.contents writer.old) (W.contents writer.new) bytes.now }
 {
-    match writer.write_all(bytes) {
-        Ok(()) => Ok(()),
-        Err(_) => Err(Refusal::WriteFault),
+    let mut rest = bytes;
+    while !rest.is_empty() {
+        match writer.write(rest) {
+            Ok(0) | Err(_) => return Err(Refusal::WriteFault),
+            Ok(taken) => rest = &rest[taken..],
+        }
     }
+    Ok(())
 }
 
 fn put_number<W: Write>(writer: &mut W, number: u64) -> Result<(), Refusal>
-    ensures ok { OnOk result (Appends (W.contents writer.old) (W.contents writer.new) (decimal number)) }
-    ensures errors { IfErr result (λ e. e ≡ Refusal.WriteFault) }
+    ensures { Writes result (W.contents writer.old) (W.contents writer.new) (decimal number) }
 {
     put(writer, itoa::Buffer::new().format(number).as_bytes())
 }
 
+// Some bytes, and a number behind them.
+#[tactic(auto, using(crate::proofs::Written::writes_after, crate::proofs::Written::writes_stopped))]
+fn put_numbered<W: Write>(writer: &mut W, front: &[u8], number: u64) -> Result<(), Refusal>
+    ensures { Writes result (W.contents writer.old) (W.contents writer.new) (front.now ++ decimal number) }
+{
+    put(writer, front)?;
+    put_number(writer, number)
+}
+
 fn put_hex_byte<W: Write>(writer: &mut W, byte: u8) -> Result<(), Refusal>
-    ensures ok { OnOk result (Appends (W.contents writer.old) (W.contents writer.new) (encode_lower (byte ∷ []))) }
-    ensures errors { IfErr result (λ e. e ≡ Refusal.WriteFault) }
+    ensures { Writes result (W.contents writer.old) (W.contents writer.new) (encode_lower (byte ∷ [])) }
 {
     let mut digits = [0; 2];
     let _ = hex::encode_to_slice([byte].as_slice(), &mut digits);
@@ -36,8 +47,7 @@ fn put_hex_byte<W: Write>(writer: &mut W, byte: u8) -> Result<(), Refusal>
 }
 
 fn put_hex<W: Write>(writer: &mut W, bytes: &[u8]) -> Result<(), Refusal>
-    ensures ok { OnOk result (Appends (W.contents writer.old) (W.contents writer.new) (encode_lower bytes.now)) }
-    ensures errors { IfErr result (λ e. e ≡ Refusal.WriteFault) }
+    ensures { Writes result (W.contents writer.old) (W.contents writer.new) (encode_lower bytes.now) }
 {
     for byte in bytes {
         put_hex_byte(writer, *byte)?;
@@ -47,22 +57,17 @@ fn put_hex<W: Write>(writer: &mut W, bytes: &[u8]) -> Result<(), Refusal>
 
 /// Writes the answer that refuses an event.
 pub fn put_refused<W: Write>(writer: &mut W, why: Refusal) -> Result<(), Refusal>
-    ensures ok { OnOk result (Appends (W.contents writer.old) (W.contents writer.new) (refused why)) }
-    ensures errors { IfErr result (λ e. e ≡ Refusal.WriteFault) }
+    ensures { Writes result (W.contents writer.old) (W.contents writer.new) (refused why) }
 {
-    put(writer, b"refused ")?;
-    put_number(writer, u64::from(why.number()))?;
+    put_numbered(writer, b"refused ", u64::from(why.number()))?;
     put(writer, b"\n")
 }
 
 // The line of one message, the run's k-th.
-#[tactic(auto, unfolding(commands::specs::Printing::send_line))]
 fn put_send<W: Write>(writer: &mut W, k: u64, message: &[u8]) -> Result<(), Refusal>
-    ensures ok { OnOk result (Appends (W.contents writer.old) (W.contents writer.new) (send_line k message.now)) }
-    ensures errors { IfErr result (λ e. e ≡ Refusal.WriteFault) }
+    ensures { Writes result (W.contents writer.old) (W.contents writer.new) (send_line k message.now) }
 {
-    put(writer, b"send m")?;
-    put_number(writer, k)?;
+    put_numbered(writer, b"send m", k)?;
     put(writer, b" ")?;
     put_hex(writer, message)?;
     put(writer, b"\n")
@@ -70,8 +75,7 @@ fn put_send<W: Write>(writer: &mut W, k: u64, message: &[u8]) -> Result<(), Refu
 
 /// Writes the lines of the messages that were sent after the first `from`.
 pub fn put_sends<W: Write>(writer: &mut W, outbox: &Outbox, from: usize) -> Result<(), Refusal>
-    ensures ok { OnOk result (Appends (W.contents writer.old) (W.contents writer.new) (send_lines from (drop from outbox.now))) }
-    ensures errors { IfErr result (λ e. e ≡ Refusal.WriteFault) }
+    ensures { Writes result (W.contents writer.old) (W.contents writer.new) (send_lines from (drop from outbox.now)) }
 {
     for index in from..outbox.len() {
         put_send(writer, index as u64 + 1, outbox.message(index))?;
@@ -79,23 +83,25 @@ pub fn put_sends<W: Write>(writer: &mut W, outbox: &Outbox, from: usize) -> Resu
     Ok(())
 }
 
+// The last line of an edit of which the first messages stand.
+fn put_partial<W: Write>(writer: &mut W, done: u32, why: Refusal) -> Result<(), Refusal>
+    ensures { Writes result (W.contents writer.old) (W.contents writer.new) (edit_end (Err (Partial done why))) }
+{
+    put_numbered(writer, b"partial ", u64::from(done))?;
+    put_numbered(writer, b" ", u64::from(why.number()))?;
+    put(writer, b"\n")
+}
+
 /// Writes the last line of an edit's answer.
 pub fn put_edit_end<W: Write>(
     writer: &mut W,
     outcome: Result<u32, EditRefusal>,
 ) -> Result<(), Refusal>
-    ensures ok { OnOk result (Appends (W.contents writer.old) (W.contents writer.new) (edit_end outcome)) }
-    ensures errors { IfErr result (λ e. e ≡ Refusal.WriteFault) }
+    ensures { Writes result (W.contents writer.old) (W.contents writer.new) (edit_end outcome) }
 {
     match outcome {
         Ok(_) => put(writer, b"ok\n"),
         Err(EditRefusal::Whole(why)) => put_refused(writer, why),
-        Err(EditRefusal::Partial { done, why }) => {
-            put(writer, b"partial ")?;
-            put_number(writer, u64::from(done))?;
-            put(writer, b" ")?;
-            put_number(writer, u64::from(why.number()))?;
-            put(writer, b"\n")
-        }
+        Err(EditRefusal::Partial { done, why }) => put_partial(writer, done, why),
     }
 }

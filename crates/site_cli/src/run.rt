@@ -1,8 +1,9 @@
-ghost use Rattle.std.specs.Prelude.{◌≡◌, ◌^◌, ◌≤◌, ◌⊎◌, ℕ, List, length, vec_capacity, Err, IfSome, IfErr, IsErr, OnOk};
-ghost use Rattle.std.specs.Io.KnownBytes.{Appends, Keeps};
+ghost use Rattle.std.specs.Prelude.{◌≡◌, ◌^◌, ◌≤◌, ◌⊎◌, ℕ, List, length, vec_capacity, Err, IfSome, IfErr};
+ghost use Rattle.std.specs.Io.KnownBytes.{Keeps};
 ghost use Rattle.commands.specs.Machine.{new_state};
 ghost use Rattle.commands.specs.Printing.{refused};
 ghost use Rattle.site_cli.specs.Trace.{Answers, BreaksOff, Ends, IsEnd};
+ghost use Rattle.site_cli.specs.Written.{Writes};
 
 use crate::answers::put_refused;
 use crate::lines::{MAX_LINE, Taken, take_line};
@@ -16,7 +17,7 @@ use std::io::{Read, Write};
 const MAX_LINES: usize = 1 << 20;
 
 fn flush<W: Write>(writer: &mut W) -> Result<(), Refusal>
-    ensures ok { Keeps (W.contents writer.old) (W.contents writer.new) }
+    ensures kept { Keeps (W.contents writer.old) (W.contents writer.new) }
     ensures errors { IfErr result (λ e. e ≡ Refusal.WriteFault) }
 {
     match writer.flush() {
@@ -32,10 +33,9 @@ fn answer<W: Write>(
     first: u16,
     line: &[u8],
 ) -> Result<(), Refusal>
-    ensures ok { OnOk result ((answer : List ℕ) × Appends (W.contents writer.old) (W.contents writer.new) answer
-        × Answers first (length sites.old.desks) sites.old line.now answer sites.new) }
+    ensures answers { (answer : List ℕ) × Writes result (W.contents writer.old) (W.contents writer.new) answer
+        × Answers first (length sites.old.desks) sites.old line.now answer sites.new }
     ensures count { length sites.new.desks ≡ length sites.old.desks }
-    ensures errors { IfErr result (λ e. e ≡ Refusal.WriteFault) }
 {
     sites.answer(writer, first, line)?;
     flush(writer)
@@ -82,7 +82,7 @@ fn run_lines<R: Read, W: Write>(
 ///
 /// Ends with `OutOfMemory` where the first memory is refused, with nothing written; with `ReadFault`, after the line
 /// `refused 21`, where the reader fails or the script passes a limit: 2^20 lines of at most 32,768 bytes; and with
-/// `WriteFault` where the writer fails.
+/// `WriteFault` where the writer fails, with a prefix of the answers written.
 pub fn run<R: Read, W: Write>(
     alloc: Global,
     reader: &mut R,

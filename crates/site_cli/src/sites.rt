@@ -1,8 +1,8 @@
-ghost use Rattle.std.specs.Prelude.{◌≡◌, ◌+◌, ◌≤◌, ◌<◌, List, ℕ, length, slice_get, Some, IfOk, IfErr, OnOk};
-ghost use Rattle.std.specs.Io.KnownBytes.{Appends};
+ghost use Rattle.std.specs.Prelude.{◌≡◌, ◌+◌, ◌≤◌, ◌<◌, List, ℕ, length, slice_get, Some, IfOk, IfErr};
 ghost use Rattle.commands.specs.Machine.{State, Step, new_state, type_in, print_text, unknown};
 ghost use Rattle.site_cli.specs.Seen.{event_of, IsInRun};
 ghost use Rattle.site_cli.specs.Trace.{Answers, is_silent};
+ghost use Rattle.site_cli.specs.Written.{Writes};
 
 use crate::answers::{put, put_edit_end, put_refused, put_sends};
 use crate::event::{Event, event_in};
@@ -70,10 +70,9 @@ impl Sites {
         requires in_run { desk < length self.old.desks }
         requires on_desk { text ≤ 16 }
         requires short { length bytes.now ≤ 4096 }
-        ensures ok { OnOk result ((answer : List ℕ) × Appends (W.contents writer.old) (W.contents writer.new) answer
-            × Step self.old (type_in desk text pos bytes.now) answer self.new) }
+        ensures answers { (answer : List ℕ) × Writes result (W.contents writer.old) (W.contents writer.new) answer
+            × Step self.old (type_in desk text pos bytes.now) answer self.new }
         ensures count { length self.new.desks ≡ length self.old.desks }
-        ensures errors { IfErr result (λ e. e ≡ Refusal.WriteFault) }
     {
         let sent = self.outbox.len();
         let outcome = self.desks[desk].type_in(text, pos, bytes, &mut self.outbox);
@@ -85,9 +84,8 @@ impl Sites {
     fn print_text<W: Write>(&self, writer: &mut W, desk: usize, text: TextNo) -> Result<(), Refusal>
         requires in_run { desk < length self.now.desks }
         requires on_desk { text ≤ 16 }
-        ensures ok { OnOk result ((answer : List ℕ) × Appends (W.contents writer.old) (W.contents writer.new) answer
-            × Step self.now (print_text desk text) answer self.now) }
-        ensures errors { IfErr result (λ e. e ≡ Refusal.WriteFault) }
+        ensures { (answer : List ℕ) × Writes result (W.contents writer.old) (W.contents writer.new) answer
+            × Step self.now (print_text desk text) answer self.now }
     {
         match self.desks[desk].text(text) {
             Ok(answer) => put(writer, &answer),
@@ -102,10 +100,9 @@ impl Sites {
         first: u16,
         line: &[u8],
     ) -> Result<(), Refusal>
-        ensures ok { OnOk result ((answer : List ℕ) × Appends (W.contents writer.old) (W.contents writer.new) answer
-            × Answers first (length self.old.desks) self.old line.now answer self.new) }
+        ensures answers { (answer : List ℕ) × Writes result (W.contents writer.old) (W.contents writer.new) answer
+            × Answers first (length self.old.desks) self.old line.now answer self.new }
         ensures count { length self.new.desks ≡ length self.old.desks }
-        ensures errors { IfErr result (λ e. e ≡ Refusal.WriteFault) }
     {
         if is_silent(line) {
             return Ok(());
@@ -119,10 +116,9 @@ impl Sites {
     // Answers an event.
     fn step<W: Write>(&mut self, writer: &mut W, event: Event) -> Result<(), Refusal>
         requires { IsInRun (length self.old.desks) event }
-        ensures ok { OnOk result ((answer : List ℕ) × Appends (W.contents writer.old) (W.contents writer.new) answer
-            × Step self.old (event_of event) answer self.new) }
+        ensures answers { (answer : List ℕ) × Writes result (W.contents writer.old) (W.contents writer.new) answer
+            × Step self.old (event_of event) answer self.new }
         ensures count { length self.new.desks ≡ length self.old.desks }
-        ensures errors { IfErr result (λ e. e ≡ Refusal.WriteFault) }
     {
         match event {
             Event::TypeIn {

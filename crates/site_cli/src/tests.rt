@@ -16,16 +16,43 @@ impl io::Read for FailsBehind<'_> {
     }
 }
 
-// A writer that fails at once.
-#[derive(Drop)]
-struct Full;
+// How a writer fails.
+#[derive(Clone, Copy, Debug)]
+enum Fault {
+    Fails,
+    IsInterrupted,
+    TakesNothing,
+}
 
-impl io::Write for Full {
-    fn write(&mut self, _: &[u8]) -> io::Result<usize> {
-        Err(io::ErrorKind::Other.into())
+// A writer that takes at most `step` bytes at a time and fails behind `room` bytes, or when it was flushed `flushes` times.
+#[derive(Drop)]
+struct Limited {
+    out: Vec<u8>,
+    step: usize,
+    room: usize,
+    flushes: usize,
+    fault: Fault,
+}
+
+impl io::Write for Limited {
+    fn write(&mut self, buf: &[u8]) -> io::Result<usize> {
+        let left = self.room.saturating_sub(self.out.len());
+        let taken = buf.len().min(self.step).min(left);
+        match self.fault {
+            Fault::Fails if left == 0 => Err(io::ErrorKind::Other.into()),
+            Fault::IsInterrupted if left == 0 => Err(io::ErrorKind::Interrupted.into()),
+            _ => {
+                self.out.extend_from_slice(&buf[..taken])?;
+                Ok(taken)
+            }
+        }
     }
 
     fn flush(&mut self) -> io::Result<()> {
+        if self.flushes == 0 {
+            return Err(io::ErrorKind::Other.into());
+        }
+        self.flushes -= 1;
         Ok(())
     }
 }
@@ -189,16 +216,120 @@ fn the_most_lines(rt: HostRuntime) -> Result<(), Fail> {
     Ok(())
 }
 
+// Lines, each with its answer.
+const LINES: [(&[u8], &[u8]); 4] = [
+    (
+        b"1 type 1 0 Oberon\n",
+        b"send m1 4f5401010001000100000001000000000000000100000000000000000000104f6265726f6e31302e53636e2e466e74010000064f6265726f6e\nok\n",
+    ),
+    (b"1 text 1\n", b"text 6 Oberon\n"),
+    (b"1 typo\n", b"refused 20\n"),
+    (b"# a comment\n", b""),
+];
+
 #[test]
-fn failures(rt: HostRuntime) -> Result<(), Fail> {
-    let mut answers = Vec::new(rt.alloc());
-    let mut reader = FailsBehind(b"1 text 1\n2 text 1");
-    let result = run(rt.alloc(), &mut reader, &mut answers, Settings::default());
-    assert_eq!(rt; answers.as_slice(), b"text 0\nrefused 21\n".as_slice());
-    assert_eq!(rt; result, Err(looks::Refusal::ReadFault));
-    let mut script = b"\n1 text 1\n".as_slice();
-    let result = run(rt.alloc(), &mut script, &mut Full, Settings::default());
-    assert_eq!(rt; result, Err(looks::Refusal::WriteFault));
+fn the_reader_fails_at_each_byte(rt: HostRuntime) -> Result<(), Fail> {
+    let mut script = Vec::new(rt.alloc());
+    let mut answered = Vec::new(rt.alloc());
+    for (line, answer) in &LINES {
+        for cut in 0..line.len() {
+            let mut given = Vec::from_slice(rt.alloc(), &script)?;
+            given.extend_from_slice(&line[..cut])?;
+            let mut want = Vec::from_slice(rt.alloc(), &answered)?;
+            want.extend_from_slice(b"refused 21\n")?;
+            let mut reader = FailsBehind(&given);
+            let mut answers = Vec::new(rt.alloc());
+            let result = run(rt.alloc(), &mut reader, &mut answers, Settings::default());
+            assert_eq!(rt; answers.as_slice(), want.as_slice());
+            assert_eq!(rt; result, Err(looks::Refusal::ReadFault));
+        }
+        script.extend_from_slice(line)?;
+        answered.extend_from_slice(answer)?;
+    }
+    Ok(())
+}
+
+// What a run writes to such a writer, and how it ends.
+fn written<R: io::Read>(
+    alloc: Global,
+    reader: &mut R,
+    step: usize,
+    room: usize,
+    fault: Fault,
+) -> (Vec<u8>, Result<(), looks::Refusal>) {
+    let mut writer = Limited {
+        out: Vec::new(alloc),
+        step,
+        room,
+        flushes: 100,
+        fault,
+    };
+    let result = run(alloc, reader, &mut writer, Settings::default());
+    (writer.out, result)
+}
+
+#[test]
+fn the_writer_fails_at_each_byte(rt: HostRuntime) -> Result<(), Fail> {
+    let mut script = Vec::new(rt.alloc());
+    let mut want = Vec::new(rt.alloc());
+    for (line, answer) in &LINES {
+        script.extend_from_slice(line)?;
+        want.extend_from_slice(answer)?;
+    }
+    for fault in [Fault::Fails, Fault::IsInterrupted, Fault::TakesNothing] {
+        for step in [1, 7, 1000] {
+            for room in 0..want.len() {
+                let mut reader = script.as_slice();
+                let (out, result) = written(rt.alloc(), &mut reader, step, room, fault);
+                assert_eq!(rt;
+                    out.as_slice(),
+                    &want[..room],
+                    "{fault:?}, {step} at a time"
+                );
+                assert_eq!(rt; result, Err(looks::Refusal::WriteFault));
+            }
+            let mut reader = script.as_slice();
+            let (out, result) = written(rt.alloc(), &mut reader, step, want.len(), fault);
+            assert_eq!(rt; out.as_slice(), want.as_slice(), "{step} at a time");
+            assert_eq!(rt; result, Ok(()));
+        }
+    }
+    Ok(())
+}
+
+#[test]
+fn reader_and_writer_fail(rt: HostRuntime) -> Result<(), Fail> {
+    let want = b"text 0\nrefused 21\n".as_slice();
+    for room in 0..want.len() {
+        let mut reader = FailsBehind(b"1 text 1\n2 text 1");
+        let (out, result) = written(rt.alloc(), &mut reader, 3, room, Fault::Fails);
+        assert_eq!(rt; out.as_slice(), &want[..room]);
+        assert_eq!(rt; result, Err(looks::Refusal::WriteFault));
+    }
+    Ok(())
+}
+
+#[test]
+fn a_flush_fails(rt: HostRuntime) -> Result<(), Fail> {
+    // Two lines, and the end, where there is a flush too.
+    let wants: [(usize, &[u8]); 3] = [
+        (0, b"text 0\n"),
+        (1, b"text 0\nrefused 20\n"),
+        (2, b"text 0\nrefused 20\n"),
+    ];
+    for (flushes, want) in wants {
+        let mut writer = Limited {
+            out: Vec::new(rt.alloc()),
+            step: 1000,
+            room: 1000,
+            flushes,
+            fault: Fault::Fails,
+        };
+        let mut script = b"1 text 1\n1 typo\n".as_slice();
+        let result = run(rt.alloc(), &mut script, &mut writer, Settings::default());
+        assert_eq!(rt; writer.out.as_slice(), want);
+        assert_eq!(rt; result, Err(looks::Refusal::WriteFault));
+    }
     Ok(())
 }
 

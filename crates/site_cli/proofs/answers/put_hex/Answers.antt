@@ -1,4 +1,4 @@
-use Rattle.site_cli.proofs.Printed.{encode_lower-nil, hex_more}
+use Rattle.site_cli.proofs.Printed.{encode_lower-nil, hex_more, hex_stopped}
 use Rattle.std.proofs.Common.{sym, subst}
 use Rattle.std.specs.Io.KnownBytes.{Appends}
 use Rattle.std.proofs.KnownBytes.{Appends-nil}
@@ -11,4 +11,8 @@ loop-byte-init g c =
 
 pub loop-byte-preserved : goal.loop-byte-preserved
 loop-byte-preserved g c =
-    hex_more (g.W.Write.contents c.args.writer.now) (g.W.Write.contents c.loop-byte.writer) (g.W.Write.contents c.put_hex_byte.new.writer) c.args.bytes.now c.loop-byte.byte-index 0 c.loop-byte-test.true c.loop-byte.invariant c.in_ok-put_hex_byte.ensures.ok
+    hex_more (g.W.Write.contents c.args.writer.now) (g.W.Write.contents c.loop-byte.writer) (g.W.Write.contents c.put_hex_byte.new.writer) c.args.bytes.now c.loop-byte.byte-index 0 c.loop-byte-test.true c.loop-byte.invariant c.in_ok-put_hex_byte.ensures
+
+pub returns-in_err-put_hex_byte : goal.returns-in_err-put_hex_byte
+returns-in_err-put_hex_byte g c =
+    hex_stopped _ _ _ (g.W.Write.contents c.loop-byte.writer) _ c.args.bytes.now c.loop-byte.byte-index 0 c.loop-byte-test.true c.loop-byte.invariant c.from_residual.ensures.1 c.in_err-put_hex_byte.ensures
