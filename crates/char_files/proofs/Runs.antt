@@ -1,5 +1,6 @@
 -- Runs that get one more character at their end.
-use Rattle.std.proofs.Common.{◌≡◌, ◌≢◌, ℕ, ◌+◌, ◌-◌, ◌<◌, cond, List, [], ◌∷◌, ◌++◌, length, get_or, set, take, Result, Ok, Err, Some, subst, sym, ap, ◌∙◌, suc, append_assoc, arith}
+use Rattle.std.proofs.Common.{◌≡◌, ◌≢◌, ℕ, ◌+◌, ◌-◌, ◌<◌, cond, List, [], ◌∷◌, ◌++◌, length, get_or, set}
+use Rattle.std.proofs.Common.{take, Result, Ok, Err, Some, subst, sym, ap, ◌∙◌, suc, append_assoc, arith}
 use Rattle.std.specs.Prelude.{OnOk, is_ok, slice_get, IsSomeAnd}
 use Rattle.std.specs.declared.alloc.AllocError.{AllocError}
 use Rattle.std.proofs.Math.Seq.{take-length}
@@ -10,7 +11,8 @@ use Rattle.looks.specs.declared.looks.Looks.{Looks}
 use Rattle.char_files.specs.Stretch.{Stretch, items_of, AreRuns, EndsIn}
 
 -- a list is its front and its last
-last_is : {X : Type 0} (xs : List X) (n : ℕ) (x : X) → n + 1 ≡ length xs → x ≡ get_or xs n x → xs ≡ take n xs ++ x ∷ []
+last_is : {X : Type 0} (xs : List X) (n : ℕ) (x : X) → n + 1 ≡ length xs → x ≡ get_or xs n x
+    → xs ≡ take n xs ++ x ∷ []
 last_is xs n x len is =
     let whole : take (n + 1) xs ≡ xs = rw len (take-length xs) in
     sym whole ∙ take_more xs n x (omega arith) ∙ ap (λ y. take n xs ++ y ∷ []) (sym is)
@@ -30,16 +32,19 @@ append_some : (bs : List ℕ) (b : ℕ) → bs ++ b ∷ [] ≢ []
 append_some [] b = λ e. cc
 append_some (x ∷ bs) b = λ e. cc
 
-AreRuns-longer : (front : List Stretch) (r : Stretch) (b : ℕ) → AreRuns (front ++ r ∷ []) → AreRuns (front ++ with_byte r b ∷ [])
+AreRuns-longer : (front : List Stretch) (r : Stretch) (b : ℕ) → AreRuns (front ++ r ∷ [])
+    → AreRuns (front ++ with_byte r b ∷ [])
 AreRuns-longer [] r b h = append_some r.bytes b
 AreRuns-longer (x ∷ []) r b h = (h.0, h.1, append_some r.bytes b)
 AreRuns-longer (x ∷ y ∷ ys) r b h = (h.0, h.1, AreRuns-longer (y ∷ ys) r b h.2)
 
-items_of-longer : (front : List Stretch) (r : Stretch) (b : ℕ) → items_of (front ++ with_byte r b ∷ []) ≡ items_of (front ++ r ∷ []) ++ (b, r.looks) ∷ []
+items_of-longer : (front : List Stretch) (r : Stretch) (b : ℕ) → items_of (front ++ with_byte r b ∷ [])
+    ≡ items_of (front ++ r ∷ []) ++ (b, r.looks) ∷ []
 items_of-longer front r b = simp (flat_map-append, append-nil, map-append, append_assoc)
 
 -- a run of other looks may follow
-pub AreRuns-push : (runs : List Stretch) (looks : Looks) (b : ℕ) → AreRuns runs → ¬ EndsIn runs looks → AreRuns (runs ++ record { looks = looks; bytes = b ∷ [] } ∷ [])
+pub AreRuns-push : (runs : List Stretch) (looks : Looks) (b : ℕ) → AreRuns runs → ¬ EndsIn runs looks
+    → AreRuns (runs ++ record { looks = looks; bytes = b ∷ [] } ∷ [])
 AreRuns-push [] looks b h apart = λ e. cc
 AreRuns-push (x ∷ []) looks b h apart = (h, apart, λ e. cc)
 AreRuns-push (x ∷ y ∷ ys) looks b h apart =
@@ -51,7 +56,8 @@ some_runs [] looks ends = elim ends [ ]
 some_runs (r ∷ runs) looks ends = omega arith
 
 -- what a push to the last run leaves, where that run has these looks
-module _ (runs : List Stretch) (n : ℕ) (looks : Looks) (ends : EndsIn runs looks) (at_end : n ≡ length runs) (old new : Stretch) (b : ℕ) (is : old ≡ get_or runs (n - 1) old) where
+module _ (runs : List Stretch) (n : ℕ) (looks : Looks) (ends : EndsIn runs looks) (at_end : n ≡ length runs)
+    (old new : Stretch) (b : ℕ) (is : old ≡ get_or runs (n - 1) old) where
   some : 0 < length runs
   some = some_runs runs looks ends
 
@@ -64,10 +70,14 @@ module _ (runs : List Stretch) (n : ℕ) (looks : Looks) (ends : EndsIn runs loo
   old_looks : old.looks ≡ looks
   old_looks =
       let ends_at : IsSomeAnd (slice_get runs (n - 1)) (λ r. r.looks ≡ looks) = rw at_end ends in
-      let read : slice_get runs (n - 1) ≡ Some old = slice_get-get_or runs (n - 1) old (omega (arith, some, at_end)) ∙ ap (λ (r : Stretch). Some r) (sym is) in
+      let read : slice_get runs (n - 1) ≡ Some old =
+      slice_get-get_or runs (n - 1) old (omega (arith, some, at_end))
+      ∙ ap (λ (r : Stretch). Some r) (sym is) in
       rw read at ends_at
 
-  pub items_of-push_to_last : (result : Result (Unit {0}) AllocError) → new ≡ cond (is_ok result) (with_byte old b) old → OnOk result (items_of (set runs (n - 1) new) ≡ items_of runs ++ (b, looks) ∷ [])
+  pub items_of-push_to_last : (result : Result (Unit {0}) AllocError)
+      → new ≡ cond (is_ok result) (with_byte old b) old
+      → OnOk result (items_of (set runs (n - 1) new) ≡ items_of runs ++ (b, looks) ∷ [])
   items_of-push_to_last (Ok u) e =
       ap items_of (replaced new ∙ ap (λ (r : Stretch). take (n - 1) runs ++ r ∷ []) e)
       ∙ items_of-longer (take (n - 1) runs) old b
@@ -75,7 +85,8 @@ module _ (runs : List Stretch) (n : ℕ) (looks : Looks) (ends : EndsIn runs loo
       ∙ ap (λ (l : Looks). items_of runs ++ (b, l) ∷ []) old_looks
   items_of-push_to_last (Err u) e = tt
 
-  pub AreRuns-push_to_last : (result : Result (Unit {0}) AllocError) → new ≡ cond (is_ok result) (with_byte old b) old → AreRuns runs → AreRuns (set runs (n - 1) new)
+  pub AreRuns-push_to_last : (result : Result (Unit {0}) AllocError)
+      → new ≡ cond (is_ok result) (with_byte old b) old → AreRuns runs → AreRuns (set runs (n - 1) new)
   AreRuns-push_to_last (Ok u) e h =
       let longer = AreRuns-longer (take (n - 1) runs) old b (subst AreRuns parts h) in
       subst AreRuns (sym (replaced new ∙ ap (λ (r : Stretch). take (n - 1) runs ++ r ∷ []) e)) longer

@@ -1,6 +1,7 @@
-use Rattle.std.specs.Prelude.{◌≡◌, ◌≢◌, ℕ, ◌-◌, ◌^◌, ◌≤◌, List, [], ◌∷◌, length, map, slice_get, IsSomeAnd}
+use Rattle.std.specs.Prelude.{◌≡◌, ◌≢◌, ℕ, ◌-◌, ◌≤◌, List, [], ◌∷◌, length, map, slice_get, IsSomeAnd}
 use Rattle.std.specs.List.{flat_map}
 use Rattle.looks.specs.declared.looks.Looks.{Looks}
+use Rattle.char_files.specs.declared.TheConstants.{MAX_FILE}
 
 -- neighbouring characters of equal looks
 pub record Stretch : Type 0 where
@@ -33,4 +34,4 @@ EndsIn runs looks = IsSomeAnd (slice_get runs (length runs - 1)) (λ r. r.looks 
 pub record IsBuffer (runs : List Stretch) (len : ℕ) : Type 0 where
   pub maximal : AreRuns runs
   pub counted : len ≡ length (items_of runs)
-  pub few : len ≤ 2 ^ 24
+  pub few : len ≤ MAX_FILE

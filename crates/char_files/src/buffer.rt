@@ -1,4 +1,6 @@
-ghost use Rattle.std.specs.Prelude.{◌≡◌, ◌^◌, ◌≤◌, [], ◌∷◌, ◌++◌, ◌↔◌, ◌⊎◌, length, IfOk, IfErr, OnOk, OnErr, IsTrue, IsErrOf};
+ghost use Rattle.std.specs.Prelude.{◌≡◌, ◌≤◌, [], ◌∷◌, ◌++◌, ◌↔◌, ◌⊎◌, length};
+ghost use Rattle.std.specs.Prelude.{IfOk, IfErr, OnOk, OnErr, IsTrue, IsErrOf};
+ghost use Rattle.looks.specs.Refusal.{RefusedForMemoryAlone};
 ghost use Rattle.char_files.specs.Stretch.{items_of, AreRuns, EndsIn};
 
 use crate::MAX_FILE;
@@ -66,7 +68,7 @@ impl Buffer {
     /// How many characters there are, at most 2^24.
     pub fn len(&self) -> u64
         ensures value { result ≡ length self.now }
-        ensures bound { result ≤ 2 ^ 24 }
+        ensures bound { result ≤ MAX_FILE }
     {
         self.len
     }
@@ -91,7 +93,7 @@ impl Buffer {
     /// Refused `FileSpent` where 2^24 characters are here, else `OutOfMemory` where memory is.
     pub fn push(&mut self, byte: u8, looks: Looks) -> Result<(), Refusal>
         ensures ok { OnOk result (self.new ≡ self.old ++ (byte, looks) ∷ []) }
-        ensures full { IsErrOf result Refusal.FileSpent ↔ (length self.old ≡ 2 ^ 24) }
+        ensures full { IsErrOf result Refusal.FileSpent ↔ (length self.old ≡ MAX_FILE) }
         ensures errors { IfErr result (λ e. (e ≡ Refusal.FileSpent) ⊎ (e ≡ Refusal.OutOfMemory)) }
         ensures err { OnErr result (self.new ≡ self.old) }
     {
@@ -106,7 +108,7 @@ impl Buffer {
     /// The same characters again. Refused `OutOfMemory` alone.
     pub fn copy(&self) -> Result<Buffer, Refusal>
         ensures ok { IfOk result (λ buffer. buffer ≡ self.now) }
-        ensures errors { IfErr result (λ e. e ≡ Refusal.OutOfMemory) }
+        ensures errors { RefusedForMemoryAlone result }
     {
         let mut runs = Vec::new(*self.runs.allocator());
         for run in &self.runs {

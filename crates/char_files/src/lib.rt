@@ -15,7 +15,8 @@ pub use run::Run;
 pub use site_no::SiteNo;
 pub use text_no::TextNo;
 
-/// The most bytes that a site's file of one text may have, and the most characters of a stretch: 2^24. This project's own.
+/// The most bytes that a site's file of one text may have, and the most characters of a stretch: 2^24. This
+/// project's own.
 pub const MAX_FILE: u64 = 1 << 24;
 
 #[cfg(test)]

@@ -1,13 +1,14 @@
-ghost use Rattle.std.specs.Prelude.{◌≡◌, ◌^◌, ◌<◌, ◌↔◌, IsSome, IfSome};
+ghost use Rattle.std.specs.Prelude.{◌≡◌, ◌<◌, ◌↔◌, IsSome, IfSome};
 ghost use Rattle.char_files.specs.CharName.{CharName};
 
 use crate::MAX_FILE;
 use crate::site_no::SiteNo;
 use std::marker::Model;
 
-/// The lasting name of a character: the site that inserted it, and its place in that site's file of one text.
+/// The lasting name of a character (its identity, or dot): the site that inserted it, and its offset in that
+/// site's file of one text.
 ///
-/// Places count from 0, over all bytes that the site ever inserted in the text. This project's own.
+/// Offsets count from 0, over all bytes that the site ever inserted in the text. This project's own.
 #[derive(Clone, Copy, Debug, PartialEq, Eq, Hash, PartialOrd, Ord)]
 pub struct Name {
     site: SiteNo,
@@ -15,22 +16,23 @@ pub struct Name {
 }
 
 impl Model for Name {
-    ghost use Rattle.std.specs.Prelude.{◌^◌, ◌<◌};
+    ghost use Rattle.std.specs.Prelude.{◌<◌};
     ghost use Rattle.char_files.specs.CharName.{CharName};
+    ghost use Rattle.char_files.specs.declared.TheConstants.{MAX_FILE};
 
     ghost Value = { CharName };
 
     ghost view = { λ n. record { site = n.site; off = n.off } };
 
-    ghost invariant = { λ n. n.off < 2 ^ 24 };
+    ghost invariant = { λ n. n.off < MAX_FILE };
 
     ghost inverse = { λ n. record { site = n.site; off = n.off } };
 }
 
 impl Name {
-    /// The name of this place in the site's file, or `None` at 2^24 and past it, where no file reaches.
+    /// The name at this offset of the site's file, or `None` at 2^24 and past it, where no file reaches.
     pub fn new(site: SiteNo, off: u32) -> Option<Name>
-        ensures valid { IsSome result ↔ (off < 2 ^ 24) }
+        ensures valid { IsSome result ↔ (off < MAX_FILE) }
         ensures value { IfSome result (λ name. name ≡ record { site = site; off = off }) }
     {
         if u64::from(off) < MAX_FILE {
@@ -47,10 +49,10 @@ impl Name {
         self.site
     }
 
-    /// The character's place in its site's file, below 2^24.
+    /// The character's offset in its site's file, below 2^24.
     pub fn off(self) -> u32
         ensures value { result ≡ self.off }
-        ensures in_file { result < 2 ^ 24 }
+        ensures in_file { result < MAX_FILE }
     {
         self.off
     }

@@ -35,7 +35,8 @@ impl Run {
 
     // One more character of these looks.
     pub(crate) fn push(&mut self, byte: u8) -> Result<(), AllocError>
-        ensures { self.new ≡ (if is_ok result then record self.old { bytes = self.old.bytes ++ byte ∷ [] } else self.old) }
+        ensures { self.new
+            ≡ (if is_ok result then record self.old { bytes = self.old.bytes ++ byte ∷ [] } else self.old) }
     {
         self.bytes.push(byte)?;
         Ok(())

@@ -1,6 +1,11 @@
-use Rattle.std.specs.Prelude.{ℕ}
+use Rattle.std.specs.Prelude.{◌≡◌, ℕ, Result, IfErr}
 use Rattle.looks.specs.declared.refusal.Refusal.{Refusal}
-use Rattle.looks.specs.declared.refusal.Refusal.TheVariants.{Malformed, WrongText, Conflict, BadOffset, BadStamp, RoomFull, OutOfMemory, Behind, StampsSpent, FileSpent, OutOfRange, Scattered, BadFile, NoRoom, NoViewer, UnknownCommand, BadParameter, NoSelection, NoCaret, BadEvent, ReadFault, WriteFault, SeqSpent}
+use Rattle.looks.specs.declared.refusal.Refusal.TheVariants.{Malformed, WrongText, Conflict, BadOffset}
+use Rattle.looks.specs.declared.refusal.Refusal.TheVariants.{BadStamp, RoomFull, OutOfMemory, Behind}
+use Rattle.looks.specs.declared.refusal.Refusal.TheVariants.{StampsSpent, FileSpent, OutOfRange, Scattered}
+use Rattle.looks.specs.declared.refusal.Refusal.TheVariants.{BadFile, NoRoom, NoViewer, UnknownCommand}
+use Rattle.looks.specs.declared.refusal.Refusal.TheVariants.{BadParameter, NoSelection, NoCaret, BadEvent}
+use Rattle.looks.specs.declared.refusal.Refusal.TheVariants.{ReadFault, WriteFault, SeqSpent}
 
 -- the number that stands for each refusal
 abbrev pub number_of : Refusal → ℕ
@@ -27,3 +32,7 @@ number_of BadEvent = 20
 number_of ReadFault = 21
 number_of WriteFault = 22
 number_of SeqSpent = 23
+
+-- the call ended well, or memory was refused
+abbrev pub RefusedForMemoryAlone : {X : Type 0} → Result X Refusal → Type 0
+RefusedForMemoryAlone result = IfErr result (λ e. e ≡ OutOfMemory)

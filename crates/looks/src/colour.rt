@@ -1,6 +1,9 @@
-ghost use Rattle.std.specs.Prelude.{◌≡◌, ℕ, ◌<◌, ◌↔◌, IsSome, IfSome};
+ghost use Rattle.std.specs.Prelude.{◌≡◌, ◌≤◌, ◌↔◌, IsSome, IfSome};
 
 use std::marker::Model;
+
+/// The greatest number of a colour. This project's own.
+pub const MAX_COLOUR: u8 = 15;
 
 /// A colour, 0 to 15. Which colour a number stands for is the display's business.
 ///
@@ -11,11 +14,14 @@ pub struct Colour {
 }
 
 impl Model for Colour {
+    ghost use Rattle.std.specs.Prelude.{ℕ, ◌≤◌};
+    ghost use Rattle.looks.specs.declared.colour.TheConstants.{MAX_COLOUR};
+
     ghost Value = { ℕ };
 
     ghost view = { λ c. c.number };
 
-    ghost invariant = { λ c. c.number < 16 };
+    ghost invariant = { λ c. c.number ≤ MAX_COLOUR };
 
     ghost inverse = { λ n. record { number = n } };
 }
@@ -23,10 +29,10 @@ impl Model for Colour {
 impl Colour {
     /// The colour of this number, or `None` above 15.
     pub fn new(number: u8) -> Option<Colour>
-        ensures valid { IsSome result ↔ (number < 16) }
+        ensures valid { IsSome result ↔ (number ≤ MAX_COLOUR) }
         ensures value { IfSome result (λ colour. colour ≡ number) }
     {
-        if number < 16 {
+        if number <= MAX_COLOUR {
             Some(Colour { number })
         } else {
             None
@@ -36,7 +42,7 @@ impl Colour {
     /// The colour's number, 0 to 15.
     pub fn number(self) -> u8
         ensures value { result ≡ self }
-        ensures in_range { result < 16 }
+        ensures in_range { result ≤ MAX_COLOUR }
     {
         self.number
     }

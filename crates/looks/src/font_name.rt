@@ -4,12 +4,16 @@ ghost use Rattle.looks.specs.FontName.{IsFontName, is_font_byte};
 use arrayvec::ArrayVec;
 use std::marker::Model;
 
+/// The most bytes that a font's name may have. This project's own.
+pub const MAX_FONT_NAME: usize = 31;
+
 /// The name of a font: 1 to 31 letters, digits and full stops, the first a letter.
 ///
-/// Oberon names fonts by files, as `Oberon10.Scn.Fnt` (Project Oberon, chapter 5); the bounds are this project's own.
+/// Oberon names fonts by files, as `Oberon10.Scn.Fnt` (Project Oberon, chapter 5); the bounds are this
+/// project's own.
 #[derive(Debug, Drop, PartialEq, Eq)]
 pub struct FontName {
-    bytes: ArrayVec<u8, 31>,
+    bytes: ArrayVec<u8, MAX_FONT_NAME>,
 }
 
 impl Model for FontName {
@@ -32,8 +36,8 @@ fn is_font_byte(byte: u8) -> bool
     byte.is_ascii_alphanumeric() || byte == b'.'
 }
 
-fn array_of(bytes: &[u8]) -> ArrayVec<u8, 31>
-    requires { length bytes.now ≤ 31 }
+fn array_of(bytes: &[u8]) -> ArrayVec<u8, MAX_FONT_NAME>
+    requires { length bytes.now ≤ MAX_FONT_NAME }
     ensures { result.items ≡ bytes.now }
 {
     let mut array = ArrayVec::new();
@@ -48,7 +52,7 @@ impl FontName {
         ensures value { IfSome result (λ font. font ≡ bytes.now) }
     {
         let first = *bytes.first()?;
-        if 31 < bytes.len()
+        if MAX_FONT_NAME < bytes.len()
             || !first.is_ascii_alphabetic()
             || !bytes.iter().all(|byte| is_font_byte(*byte))
         {

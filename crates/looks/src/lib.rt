@@ -9,8 +9,8 @@ mod refusal;
 mod register;
 mod sel;
 
-pub use colour::Colour;
-pub use font_name::FontName;
+pub use colour::{Colour, MAX_COLOUR};
+pub use font_name::{FontName, MAX_FONT_NAME};
 pub use key::Key;
 pub use looks::Looks;
 pub use refusal::Refusal;

@@ -4,7 +4,8 @@ ghost use Rattle.looks.specs.Refusal.{number_of};
 
 use std::alloc::{AllocError, AllocFailed};
 
-/// Why a call was refused. After a refusal the object is unchanged, unless the call says otherwise. This project's own.
+/// Why a call was refused. After a refusal the object is unchanged, unless the call says otherwise. This
+/// project's own.
 #[derive(Clone, Copy, Debug, PartialEq, Eq, Hash)]
 pub enum Refusal {
     /// The bytes spell no message.
@@ -13,7 +14,8 @@ pub enum Refusal {
     WrongText = 2,
     /// Another operation has this identity.
     Conflict = 3,
-    /// The message's place in its site's file isn't where that file ends, or it names an own character behind that end.
+    /// The message's offset in its site's file isn't where that file ends, or it names an own character
+    /// behind that end.
     BadOffset = 4,
     /// The stamp isn't above each cause's.
     BadStamp = 5,

@@ -5,7 +5,8 @@ use std::marker::Model;
 
 /// Which attributes of looks a change sets: one of them at least.
 ///
-/// Its bits are a set of Oberon's (Project Oberon, chapter 5): 0 selects the font, 1 the colour, 2 the offset.
+/// Its bits are a set of Oberon's (Project Oberon, chapter 5): 0 selects the font, 1 the colour, 2 the
+/// offset.
 #[derive(Clone, Copy, Debug, PartialEq, Eq, Hash)]
 pub struct Sel {
     font: bool,

@@ -1,15 +1,22 @@
 -- What one more name does to the ranges of a set of names.
-use Rattle.std.proofs.Common.{◌≡◌, ℕ, ◌+◌, ◌<◌, ◌≤◌, ◌⊎◌, ◌↔◌, inl, inr, Bool, true, false, List, [], ◌∷◌, ◌++◌, length, get_or, set, take, drop, append_assoc, refl, sym, ap, subst, ◌∙◌, suc, zero, add-one, length-append, length-drop, Result, Ok, Err, arith}
+use Rattle.std.proofs.Common.{◌≡◌, ℕ, ◌+◌, ◌<◌, ◌≤◌, ◌⊎◌, ◌↔◌, inl, inr, Bool, true, false, List, [], ◌∷◌}
+use Rattle.std.proofs.Common.{◌++◌, length, get_or, set, take, drop, append_assoc, refl, sym, ap, subst}
+use Rattle.std.proofs.Common.{◌∙◌, suc, zero, add-one, length-append, length-drop, Result, Ok, Err, arith}
 use Rattle.std.specs.Prelude.{OnOk, OnErr, IsErrOf}
 use Rattle.looks.specs.declared.refusal.Refusal.{Refusal}
 use Rattle.looks.specs.declared.refusal.Refusal.TheVariants.{Scattered}
 use Rattle.std.specs.List.{All, AllPairs, remove}
 use Rattle.std.specs.List.Sorted.{IsPartitionedBy}
-use Rattle.std.proofs.lemmas.Bool.{cond_both, cond-true, cond-false, cases_lt, cases_eq, cases_order, false_from_ne_true, both_ways}
-use Rattle.std.proofs.lemmas.List.{get_or_read, get_or_default, drop_more, drop_all, take_more, set_split, set_at, length-take-le, take-append-drop}
+use Rattle.std.proofs.lemmas.Bool.{cond_both, cond-true, cond-false, cases_lt, cases_eq, cases_order}
+use Rattle.std.proofs.lemmas.Bool.{false_from_ne_true, both_ways}
+use Rattle.std.proofs.lemmas.List.{get_or_read, get_or_default, drop_more, drop_all, take_more, set_split}
+use Rattle.std.proofs.lemmas.List.{set_at, length-take-le, take-append-drop}
 use Rattle.std.proofs.lemmas.Bool.Decides.{nat_tests}
 use Rattle.char_files.specs.CharName.{CharName}
-use Rattle.operations.specs.NameSet.{Range, IsIn, IsAmong, IsRange, IsAhead, IsSet, IsPlace, of_name, is_ahead, touches, holds, joined, joined_at, replaced_at, with_name}
+use Rattle.operations.specs.declared.name_set.TheConstants.{MAX_RANGES}
+use Rattle.operations.specs.NameSet.{Range, IsIn, IsAmong, IsRange, IsAhead, IsSet, IsInsertionPoint}
+use Rattle.operations.specs.NameSet.{of_name, is_ahead, touches, range_contains, with_first, with_range_at}
+use Rattle.operations.specs.NameSet.{with_other_at, with_name}
 
 -- what the tests say
 
@@ -29,14 +36,15 @@ Leads r s = (r.site < s.site) ⊎ ((r.site ≡ s.site) × (r.at + r.len ≤ s.at
 ahead_of_next : (r s : Range) → touches r s ≡ false → Leads r s → IsAhead r s
 ahead_of_next r s e leads = grind (arith, nat_tests)
 
-in_front : (r : Range) (name : CharName) → is_ahead r (of_name name) ≡ false → touches r (of_name name) ≡ false → holds r name ≡ false → Leads (of_name name) r
+in_front : (r : Range) (name : CharName) → is_ahead r (of_name name) ≡ false → touches r (of_name name)
+    ≡ false → range_contains r name ≡ false → Leads (of_name name) r
 in_front r name e f g = grind (arith, nat_tests)
 
-holds_true : (r : Range) (name : CharName) → IsIn r name → holds r name ≡ true
-holds_true r name h = grind (arith, nat_tests)
+range_contains-in : (r : Range) (name : CharName) → IsIn r name → range_contains r name ≡ true
+range_contains-in r name h = grind (arith, nat_tests)
 
-held : (r : Range) (name : CharName) → holds r name ≡ true → IsIn r name
-held r name e = grind (arith, nat_tests)
+in-range_contains : (r : Range) (name : CharName) → range_contains r name ≡ true → IsIn r name
+in-range_contains r name e = grind (arith, nat_tests)
 
 -- sets by recursion
 
@@ -49,45 +57,61 @@ abbrev pub IsRising : List Range → Type 0
 IsRising [] = Unit {0}
 IsRising (r ∷ ranges) = IsRange r × First (IsAhead r) ranges × IsRising ranges
 
-First-weaker : (P Q : Range → Type 0) → ((r : Range) → P r → Q r) → (ranges : List Range) → First P ranges → First Q ranges
+First-weaker : (P Q : Range → Type 0) → ((r : Range) → P r → Q r) → (ranges : List Range) → First P ranges
+    → First Q ranges
 First-weaker P Q f [] h = tt
 First-weaker P Q f (r ∷ ranges) h = f r h
 
-first_joined : (q r : Range) (ranges : List Range) → IsAhead q r → First (IsAhead q) (joined r ranges)
-first_joined q r [] h = h
-first_joined q r (s ∷ ranges) h = cond_both (touches r s) _ _ (First (IsAhead q)) (λ e. h) (λ e. h)
+First-with_first : (q r : Range) (ranges : List Range) → IsAhead q r → First (IsAhead q) (with_first r ranges)
+First-with_first q r [] h = h
+First-with_first q r (s ∷ ranges) h = cond_both (touches r s) _ _ (First (IsAhead q)) (λ e. h) (λ e. h)
 
-first_with_name : (q : Range) (ranges : List Range) (name : CharName) → IsAhead q (of_name name) → First (IsAhead q) ranges → First (IsAhead q) (with_name ranges name)
+first_with_name : (q : Range) (ranges : List Range) (name : CharName) → IsAhead q (of_name name)
+    → First (IsAhead q) ranges → First (IsAhead q) (with_name ranges name)
 first_with_name q [] name h first = h
 first_with_name q (r ∷ ranges) name h first =
     cond_both (is_ahead r (of_name name)) _ _ (First (IsAhead q)) (λ e. first)
     (λ e. cond_both (touches r (of_name name)) _ _ (First (IsAhead q))
-    (λ f. first_joined q (record r { len = r.len + 1 }) ranges first)
-    (λ f. cond_both (holds r name) _ _ (First (IsAhead q)) (λ g. first) (λ g. first_joined q (of_name name) (r ∷ ranges) h)))
+    (λ f. First-with_first q (record r { len = r.len + 1 }) ranges first)
+    (λ f. cond_both (range_contains r name) _ _ (First (IsAhead q)) (λ g. first)
+    (λ g. First-with_first q (of_name name) (r ∷ ranges) h)))
 
-joined-rising : (r : Range) (ranges : List Range) → IsRange r → First (Leads r) ranges → IsRising ranges → IsRising (joined r ranges)
-joined-rising r [] range leads rising = (range, tt, tt)
-joined-rising r (s ∷ ranges) range leads rising =
+with_first-rising : (r : Range) (ranges : List Range) → IsRange r → First (Leads r) ranges → IsRising ranges
+    → IsRising (with_first r ranges)
+with_first-rising r [] range leads rising = (range, tt, tt)
+with_first-rising r (s ∷ ranges) range leads rising =
     cond_both (touches r s) _ _ IsRising
     (λ e.
     let t : (r.site ≡ s.site) × (r.at + r.len ≡ s.at) = touching r s e in
     let both : Range = record r { len = r.len + s.len } in
-    let next : (q : Range) → IsAhead s q → IsAhead both q = λ q h. grind arith in
-    ((omega arith, omega arith, omega arith, omega arith), First-weaker (IsAhead s) (IsAhead both) next ranges rising.1, rising.2))
+    let next : (q : Range) → IsAhead s q → IsAhead both q = λ q h. grind arith in (
+      (omega arith, omega arith, omega arith, omega arith),
+      First-weaker (IsAhead s) (IsAhead both) next
+          ranges rising.1,
+      rising.2,
+    ))
     (λ e. (range, ahead_of_next r s e leads, rising))
 
-with_name-rising : (ranges : List Range) (name : CharName) → IsRange (of_name name) → IsRising ranges → IsRising (with_name ranges name)
+with_name-rising : (ranges : List Range) (name : CharName) → IsRange (of_name name) → IsRising ranges
+    → IsRising (with_name ranges name)
 with_name-rising [] name one rising = (one, tt, tt)
 with_name-rising (r ∷ ranges) name one rising =
     cond_both (is_ahead r (of_name name)) _ _ IsRising
-    (λ e. (rising.0, first_with_name r ranges name (ahead r (of_name name) e) rising.1, with_name-rising ranges name one rising.2))
+    (λ e. (
+      rising.0,
+      first_with_name r ranges name (ahead r (of_name name) e) rising.1,
+      with_name-rising
+          ranges name one rising.2,
+    ))
     (λ e. cond_both (touches r (of_name name)) _ _ IsRising
     (λ f.
     let t : (r.site ≡ name.site) × (r.at + r.len ≡ name.off) = touching r (of_name name) f in
     let longer : Range = record r { len = r.len + 1 } in
     let next : (q : Range) → IsAhead r q → Leads longer q = λ q h. grind arith in
-    joined-rising longer ranges (omega arith, omega arith, omega arith, omega arith) (First-weaker (IsAhead r) (Leads longer) next ranges rising.1) rising.2)
-    (λ f. cond_both (holds r name) _ _ IsRising (λ g. rising) (λ g. joined-rising (of_name name) (r ∷ ranges) one (in_front r name e f g) rising)))
+    with_first-rising longer ranges (omega arith, omega arith, omega arith, omega arith)
+    (First-weaker (IsAhead r) (Leads longer) next ranges rising.1) rising.2)
+    (λ f. cond_both (range_contains r name) _ _ IsRising (λ g. rising)
+    (λ g. with_first-rising (of_name name) (r ∷ ranges) one (in_front r name e f g) rising)))
 
 -- names by recursion
 
@@ -97,18 +121,22 @@ Among (r ∷ ranges) name = IsIn r name ⊎ Among ranges name
 
 pub same_name : (m n : CharName) → m.site ≡ n.site → m.off ≡ n.off → m ≡ n
 same_name m n e f =
-    let named : ℕ → ℕ → CharName = λ a b. record { site = a; off = b } in
-    ap (λ (a : ℕ). named a m.off) e ∙ ap (λ (b : ℕ). named n.site b) f
+    let name_at : ℕ → ℕ → CharName = λ a b. record { site = a; off = b } in
+    ap (λ (a : ℕ). name_at a m.off) e ∙ ap (λ (b : ℕ). name_at n.site b) f
 
 -- the names of two ranges that touch
-in_both : (r s : Range) (m : CharName) → r.site ≡ s.site → r.at + r.len ≡ s.at → IsIn (record r { len = r.len + s.len }) m → IsIn r m ⊎ IsIn s m
+in_both : (r s : Range) (m : CharName) → r.site ≡ s.site → r.at + r.len ≡ s.at → IsIn (record r {
+  len =
+      r.len + s.len;
+}) m → IsIn r m ⊎ IsIn s m
 in_both r s m e f h =
     elim (cases_lt m.off s.at) [
       | inl lt ↦ inl (omega arith, omega arith, omega arith)
       | inr ge ↦ inr (omega arith, omega arith, omega arith)
     ]
 
-from_both : (r s : Range) (m : CharName) → r.site ≡ s.site → r.at + r.len ≡ s.at → IsIn r m ⊎ IsIn s m → IsIn (record r { len = r.len + s.len }) m
+from_both : (r s : Range) (m : CharName) → r.site ≡ s.site → r.at + r.len ≡ s.at → IsIn r m ⊎ IsIn s m
+    → IsIn (record r { len = r.len + s.len }) m
 from_both r s m e f (inl h) = (omega arith, omega arith, omega arith)
 from_both r s m e f (inr h) = (omega arith, omega arith, omega arith)
 
@@ -118,13 +146,18 @@ in_one m name h = same_name m name (omega arith) (omega arith)
 from_one : (m name : CharName) → m ≡ name → IsIn (of_name name) m
 from_one m name e = rw e (refl, omega arith, omega arith)
 
-joined-names : (r : Range) (ranges : List Range) (m : CharName) → Among (joined r ranges) m ↔ (IsIn r m ⊎ Among ranges m)
-joined-names r [] m = (λ h. h, λ h. h)
-joined-names r (s ∷ ranges) m =
+with_first-names : (r : Range) (ranges : List Range) (m : CharName)
+    → Among (with_first r ranges) m ↔ (IsIn r m ⊎ Among ranges m)
+with_first-names r [] m = (λ h. h, λ h. h)
+with_first-names r (s ∷ ranges) m =
     cond_both (touches r s) _ _ (λ xs. Among xs m ↔ (IsIn r m ⊎ Among (s ∷ ranges) m))
     (λ e.
     let t : (r.site ≡ s.site) × (r.at + r.len ≡ s.at) = touching r s e in (
-      λ h. elim h [ inl x ↦ elim (in_both r s m t.0 t.1 x) [ inl y ↦ inl y | inr y ↦ inr (inl y) ] | inr x ↦ inr (inr x) ],
+      λ h. elim h [
+        | inl x ↦ elim (in_both r s m t.0 t.1 x) [ inl y ↦ inl y | inr y ↦ inr (inl y) ]
+        | inr x ↦
+            inr (inr x)
+      ],
       λ h. elim h [
         | inl x ↦ inl (from_both r s m t.0 t.1 (inl x))
         | inr x ↦ elim x [ inl y ↦ inl (from_both r s m t.0 t.1 (inr y)) | inr y ↦ inr y ]
@@ -142,21 +175,34 @@ swap_back (inl (inl a)) = inl a
 swap_back (inl (inr b)) = inr (inl b)
 swap_back (inr c) = inr (inr c)
 
-with_name-names : (ranges : List Range) (name m : CharName) → Among (with_name ranges name) m ↔ (Among ranges m ⊎ (m ≡ name))
-with_name-names [] name m = (λ h. elim h [ inl x ↦ inr (in_one m name x) | inr x ↦ inl x ], λ h. elim h [ inl x ↦ inr x | inr e ↦ inl (from_one m name e) ])
+with_name-names : (ranges : List Range) (name m : CharName)
+    → Among (with_name ranges name) m ↔ (Among ranges m ⊎ (m ≡ name))
+with_name-names [] name m = (
+  λ h. elim h [ inl x ↦ inr (in_one m name x) | inr x ↦ inl x ],
+  λ h. elim h
+      [ inl x ↦ inr x | inr e ↦ inl (from_one m name e) ],
+)
 with_name-names (r ∷ ranges) name m =
     cond_both (is_ahead r (of_name name)) _ _ (λ xs. Among xs m ↔ (Among (r ∷ ranges) m ⊎ (m ≡ name)))
     (λ e.
-    let rest : Among (with_name ranges name) m ↔ (Among ranges m ⊎ (m ≡ name)) = with_name-names ranges name m in (
+    let rest : Among (with_name ranges name) m ↔ (Among ranges m ⊎ (m ≡ name)) =
+    with_name-names ranges name m in (
       λ h. elim h [ inl x ↦ inl (inl x) | inr x ↦ swap (inr (rest.0 x)) ],
       λ h. elim (swap_back h) [ inl x ↦ inl x | inr x ↦ inr (rest.1 x) ],
     ))
     (λ e. cond_both (touches r (of_name name)) _ _ (λ xs. Among xs m ↔ (Among (r ∷ ranges) m ⊎ (m ≡ name)))
     (λ f.
     let t : (r.site ≡ name.site) × (r.at + r.len ≡ name.off) = touching r (of_name name) f in
-    let is : Among (joined (record r { len = r.len + 1 }) ranges) m ↔ (IsIn (record r { len = r.len + 1 }) m ⊎ Among ranges m) = joined-names (record r { len = r.len + 1 }) ranges m in (
+    let is : Among (with_first (record r { len = r.len + 1 }) ranges) m ↔ (IsIn (record r {
+      len =
+          r.len + 1;
+    }) m ⊎ Among ranges m) = with_first-names (record r { len = r.len + 1 }) ranges m in (
       λ h. elim (is.0 h) [
-        | inl x ↦ elim (in_both r (of_name name) m t.0 t.1 x) [ inl y ↦ inl (inl y) | inr y ↦ inr (in_one m name y) ]
+        | inl x ↦ elim (in_both r (of_name name) m t.0 t.1 x) [
+          | inl y ↦ inl (inl y)
+          | inr y ↦ inr
+              (in_one m name y)
+        ]
         | inr x ↦ inl (inr x)
       ],
       λ h. is.1 (elim h [
@@ -164,10 +210,11 @@ with_name-names (r ∷ ranges) name m =
         | inr x ↦ inl (from_both r (of_name name) m t.0 t.1 (inr (from_one m name x)))
       ]),
     ))
-    (λ f. cond_both (holds r name) _ _ (λ xs. Among xs m ↔ (Among (r ∷ ranges) m ⊎ (m ≡ name)))
-    (λ g. (λ h. inl h, λ h. elim h [ inl x ↦ x | inr x ↦ inl (rw x (held r name g)) ]))
+    (λ f. cond_both (range_contains r name) _ _ (λ xs. Among xs m ↔ (Among (r ∷ ranges) m ⊎ (m ≡ name)))
+    (λ g. (λ h. inl h, λ h. elim h [ inl x ↦ x | inr x ↦ inl (rw x (in-range_contains r name g)) ]))
     (λ g.
-    let is : Among (joined (of_name name) (r ∷ ranges)) m ↔ (IsIn (of_name name) m ⊎ Among (r ∷ ranges) m) = joined-names (of_name name) (r ∷ ranges) m in (
+    let is : Among (with_first (of_name name) (r ∷ ranges)) m ↔ (IsIn (of_name name) m
+    ⊎ Among (r ∷ ranges) m) = with_first-names (of_name name) (r ∷ ranges) m in (
       λ h. elim (is.0 h) [ inl x ↦ inr (in_one m name x) | inr x ↦ inl x ],
       λ h. is.1 (elim h [ inl x ↦ inr x | inr x ↦ inl (from_one m name x) ]),
     ))))
@@ -182,13 +229,19 @@ among (x ∷ ranges) m (suc k, r, lt, is, h) = inr (among ranges m (k, r, omega 
 pub is_among : (ranges : List Range) (m : CharName) → Among ranges m → IsAmong ranges m
 is_among [] m h = absurd h
 is_among (x ∷ ranges) m (inl h) = (0, x, omega arith, refl, h)
-is_among (x ∷ ranges) m (inr h) = let at : IsAmong ranges m = is_among ranges m h in (suc at.0, at.1, omega arith, at.3, at.4)
+is_among (x ∷ ranges) m (inr h) = let at : IsAmong ranges m = is_among ranges m h in
+    (suc at.0, at.1, omega arith, at.3, at.4)
 
 pub rising : (ranges : List Range) → All IsRange ranges → AllPairs IsAhead ranges → IsRising ranges
 rising [] all up = tt
 rising (r ∷ []) all up = (all 0 r (omega arith), tt, tt)
-rising (r ∷ s ∷ ranges) all up =
-    (all 0 r (omega arith), up 0 1 r (omega arith) (omega arith), rising (s ∷ ranges) (λ k d h. all (suc k) d (omega arith)) (λ i j d h l. up (suc i) (suc j) d (omega arith) (omega arith)))
+rising (r ∷ s ∷ ranges) all up = (
+  all 0 r (omega arith),
+  up 0 1 r (omega arith) (omega arith),
+  rising (s ∷ ranges)
+      (λ k d h. all (suc k) d (omega arith)) (λ i j d h l. up (suc i) (suc j) d (omega arith)
+      (omega arith)),
+)
 
 pub ranges_of : (ranges : List Range) → IsRising ranges → All IsRange ranges
 ranges_of [] h k d l = absurd (omega arith)
@@ -198,11 +251,13 @@ ranges_of (r ∷ ranges) h (suc k) d l = ranges_of ranges h.2 k d (omega arith)
 IsAhead-trans : (r s t : Range) → IsAhead r s → IsAhead s t → IsAhead r t
 IsAhead-trans r s t a b = grind arith
 
-ahead_of_all : (q : Range) (ranges : List Range) → First (IsAhead q) ranges → IsRising ranges → All (IsAhead q) ranges
+ahead_of_all : (q : Range) (ranges : List Range) → First (IsAhead q) ranges → IsRising ranges
+    → All (IsAhead q) ranges
 ahead_of_all q [] first h k d l = absurd (omega arith)
 ahead_of_all q (r ∷ ranges) first h zero d l = first
 ahead_of_all q (r ∷ ranges) first h (suc k) d l =
-    ahead_of_all q ranges (First-weaker (IsAhead r) (IsAhead q) (λ s a. IsAhead-trans q r s first a) ranges h.1) h.2 k d (omega arith)
+    ahead_of_all q ranges (First-weaker (IsAhead r) (IsAhead q) (λ s a. IsAhead-trans q r s first a) ranges
+    h.1) h.2 k d (omega arith)
 
 pub pairs_of : (ranges : List Range) → IsRising ranges → AllPairs IsAhead ranges
 pairs_of [] h i j d lt l = absurd (omega arith)
@@ -211,25 +266,37 @@ pairs_of (r ∷ ranges) h zero (suc j) d lt l = ahead_of_all r ranges h.1 h.2 j 
 pairs_of (r ∷ ranges) h (suc i) zero d lt l = absurd (omega arith)
 pairs_of (r ∷ ranges) h (suc i) (suc j) d lt l = pairs_of ranges h.2 i j d (omega arith) (omega arith)
 
-pub IsSet-with_name : (ranges : List Range) (name : CharName) → IsRange (of_name name) → IsSet ranges → IsSet (with_name ranges name)
+pub IsSet-with_name : (ranges : List Range) (name : CharName) → IsRange (of_name name) → IsSet ranges
+    → IsSet (with_name ranges name)
 IsSet-with_name ranges name one set =
-    let up : IsRising (with_name ranges name) = with_name-rising ranges name one (rising ranges set.ranges set.rising) in
+    let up : IsRising (with_name ranges name) =
+    with_name-rising ranges name one (rising ranges set.ranges set.rising) in
     record { ranges = ranges_of (with_name ranges name) up; rising = pairs_of (with_name ranges name) up }
 
-pub IsAmong-with_name : (ranges : List Range) (name m : CharName) → IsAmong (with_name ranges name) m ↔ (IsAmong ranges m ⊎ (m ≡ name))
+pub IsAmong-with_name : (ranges : List Range) (name m : CharName)
+    → IsAmong (with_name ranges name) m ↔ (IsAmong ranges m ⊎ (m ≡ name))
 IsAmong-with_name ranges name m =
-    let is : Among (with_name ranges name) m ↔ (Among ranges m ⊎ (m ≡ name)) = with_name-names ranges name m in (
-      λ h. elim (is.0 (among (with_name ranges name) m h)) [ inl x ↦ inl (is_among ranges m x) | inr x ↦ inr x ],
-      λ h. is_among (with_name ranges name) m (is.1 (elim h [ inl x ↦ inl (among ranges m x) | inr x ↦ inr x ])),
+    let is : Among (with_name ranges name) m ↔ (Among ranges m ⊎ (m ≡ name)) =
+    with_name-names ranges name m in (
+      λ h. elim (is.0 (among (with_name ranges name) m h)) [
+        | inl x ↦ inl (is_among ranges m x)
+        | inr x ↦ inr
+            x
+      ],
+      λ h. is_among (with_name ranges name) m
+          (is.1 (elim h [ inl x ↦ inl (among ranges m x) | inr x ↦ inr x ])),
     )
 
 -- the ranges ahead of the name stay
-pub with_name-behind : (ranges : List Range) (at : ℕ) (name : CharName) → at ≤ length ranges → ((k : ℕ) (d : Range) → k < at → IsAhead (get_or ranges k d) (of_name name)) → with_name ranges name ≡ take at ranges ++ with_name (drop at ranges) name
+pub with_name-behind : (ranges : List Range) (at : ℕ) (name : CharName) → at ≤ length ranges
+    → ((k : ℕ) (d : Range) → k < at → IsAhead (get_or ranges k d) (of_name name)) → with_name ranges name
+    ≡ take at ranges ++ with_name (drop at ranges) name
 with_name-behind ranges zero name le h = refl
 with_name-behind [] (suc at) name le h = absurd (omega arith)
 with_name-behind (r ∷ ranges) (suc at) name le h =
     cond-true (is_ahead r (of_name name)) _ _ (is_ahead_true r (of_name name) (h 0 r (omega arith)))
-    ∙ ap (λ (xs : List Range). r ∷ xs) (with_name-behind ranges at name (omega arith) (λ k d l. h (suc k) d (omega arith)))
+    ∙ ap (λ (xs : List Range). r ∷ xs) (with_name-behind ranges at name (omega arith)
+    (λ k d l. h (suc k) d (omega arith)))
 
 -- what the steps of an insertion leave
 
@@ -239,8 +306,10 @@ Touch r s = (r.site ≡ s.site) × (r.at + r.len ≡ s.at)
 abbrev pub both : Range → Range → Range
 both r s = record r { len = r.len + s.len }
 
-set_parts : (ranges : List Range) (at : ℕ) (r : Range) → at < length ranges → set ranges at r ≡ take at ranges ++ r ∷ drop (at + 1) ranges
-set_parts ranges at r lt = set_split ranges at r lt ∙ ap (λ (n : ℕ). take at ranges ++ r ∷ drop n ranges) (sym (add-one at))
+set_parts : (ranges : List Range) (at : ℕ) (r : Range) → at < length ranges → set ranges at r
+    ≡ take at ranges ++ r ∷ drop (at + 1) ranges
+set_parts ranges at r lt =
+    set_split ranges at r lt ∙ ap (λ (n : ℕ). take at ranges ++ r ∷ drop n ranges) (sym (add-one at))
 
 touches_true : (r s : Range) → Touch r s → touches r s ≡ true
 touches_true r s h = grind (arith, nat_tests)
@@ -248,111 +317,157 @@ touches_true r s h = grind (arith, nat_tests)
 touches_false : (r s : Range) → ¬ Touch r s → touches r s ≡ false
 touches_false r s h = false_from_ne_true (touches r s) (λ e. h (touching r s e))
 
-joined_touching : (ranges : List Range) (at : ℕ) (r s : Range) → at < length ranges → s ≡ get_or ranges at s → Touch r s → joined r (drop at ranges) ≡ both r s ∷ drop (at + 1) ranges
-joined_touching ranges at r s lt is t =
-    ap (joined r) (drop_more ranges at s lt ∙ ap (λ (x : Range). x ∷ drop (at + 1) ranges) (sym is))
+with_first-touching : (ranges : List Range) (at : ℕ) (r s : Range) → at < length ranges
+    → s ≡ get_or ranges at s → Touch r s → with_first r (drop at ranges) ≡ both r s ∷ drop (at + 1) ranges
+with_first-touching ranges at r s lt is t =
+    ap (with_first r) (drop_more ranges at s lt ∙ ap (λ (x : Range). x ∷ drop (at + 1) ranges) (sym is))
     ∙ cond-true (touches r s) _ _ (touches_true r s t)
 
-joined_apart : (ranges : List Range) (at : ℕ) (r s : Range) → at < length ranges → s ≡ get_or ranges at s → ¬ Touch r s → joined r (drop at ranges) ≡ r ∷ drop at ranges
-joined_apart ranges at r s lt is t =
-    let split : drop at ranges ≡ s ∷ drop (at + 1) ranges = drop_more ranges at s lt ∙ ap (λ (x : Range). x ∷ drop (at + 1) ranges) (sym is) in
-    ap (joined r) split ∙ cond-false (touches r s) _ _ (touches_false r s t) ∙ ap (λ (xs : List Range). r ∷ xs) (sym split)
+with_first-apart : (ranges : List Range) (at : ℕ) (r s : Range) → at < length ranges
+    → s ≡ get_or ranges at s → ¬ Touch r s → with_first r (drop at ranges) ≡ r ∷ drop at ranges
+with_first-apart ranges at r s lt is t =
+    let split : drop at ranges ≡ s ∷ drop (at + 1) ranges =
+    drop_more ranges at s lt ∙ ap (λ (x : Range). x ∷ drop (at + 1) ranges) (sym is) in
+    ap (with_first r) split ∙ cond-false (touches r s) _ _ (touches_false r s t)
+    ∙ ap (λ (xs : List Range). r ∷ xs) (sym split)
 
-joined_past : (ranges : List Range) (at : ℕ) (r : Range) → length ranges ≤ at → joined r (drop at ranges) ≡ r ∷ drop at ranges
-joined_past ranges at r le = let past : drop at ranges ≡ [] = drop_all at ranges le in rw past refl
+with_first-past : (ranges : List Range) (at : ℕ) (r : Range)
+    → length ranges ≤ at → with_first r (drop at ranges) ≡ r ∷ drop at ranges
+with_first-past ranges at r le = let past : drop at ranges ≡ [] = drop_all at ranges le in rw past refl
 
--- two reads of one place
-same_read : (ranges : List Range) (at : ℕ) (s q : Range) → at < length ranges → s ≡ get_or ranges at s → q ≡ get_or ranges at q → s ≡ q
+-- two reads of one point
+same_read : (ranges : List Range) (at : ℕ) (s q : Range) → at < length ranges → s ≡ get_or ranges at s
+    → q ≡ get_or ranges at q → s ≡ q
 same_read ranges at s q lt is is' = get_or_read ranges at s lt is q ∙ sym is'
 
-pub joined_at-touching : (ranges : List Range) (at : ℕ) (r s q : Range) → at < length ranges → s ≡ get_or ranges at s → q ≡ get_or ranges at q → Touch r s → set ranges at (both r q) ≡ joined_at ranges at r
-joined_at-touching ranges at r s q lt is is' t =
+pub with_range_at-touching : (ranges : List Range) (at : ℕ) (r s q : Range) → at < length ranges
+    → s ≡ get_or ranges at s → q ≡ get_or ranges at q → Touch r s → set ranges at (both r q)
+    ≡ with_range_at ranges at r
+with_range_at-touching ranges at r s q lt is is' t =
     let t' : Touch r q = subst (λ (x : Range). Touch r x) (same_read ranges at s q lt is is') t in
-    set_parts ranges at (both r q) lt ∙ ap (λ (xs : List Range). take at ranges ++ xs) (sym (joined_touching ranges at r q lt is' t'))
+    set_parts ranges at (both r q) lt ∙ ap (λ (xs : List Range). take at ranges
+    ++ xs) (sym (with_first-touching ranges at r q lt is' t'))
 
-pub replaced_at-touching : (ranges : List Range) (at : ℕ) (r s q : Range) → at + 1 < length ranges → s ≡ get_or ranges (at + 1) s → q ≡ get_or ranges (at + 1) q → Touch r s → set (remove ranges (at + 1)) at (both r q) ≡ replaced_at ranges at r
-replaced_at-touching ranges at r s q lt is is' t =
+pub with_other_at-touching : (ranges : List Range) (at : ℕ) (r s q : Range) → at + 1 < length ranges
+    → s ≡ get_or ranges (at + 1) s → q ≡ get_or ranges (at + 1) q → Touch r s
+    → set (remove ranges (at + 1)) at (both r q) ≡ with_other_at ranges at r
+with_other_at-touching ranges at r s q lt is is' t =
     let t' : Touch r q = subst (λ (x : Range). Touch r x) (same_read ranges (at + 1) s q lt is is') t in
     let rest : List Range = drop (at + 1 + 1) ranges in
     let front : remove ranges (at + 1) ≡ take at ranges ++ (get_or ranges at s ∷ rest) =
     ap (λ (n : ℕ). take (at + 1) ranges ++ drop n ranges) (sym (add-one (at + 1)))
-    ∙ ap (λ (xs : List Range). xs ++ rest) (take_more ranges at s (omega arith)) ∙ append_assoc (take at ranges) (get_or ranges at s ∷ []) rest in
+    ∙ ap (λ (xs : List Range). xs ++ rest) (take_more ranges at s (omega arith))
+    ∙ append_assoc (take at ranges) (get_or ranges at s ∷ []) rest in
     ap (λ (xs : List Range). set xs at (both r q)) front
     ∙ set_at (take at ranges) (get_or ranges at s) rest (both r q) at (length-take-le at ranges (omega arith))
-    ∙ ap (λ (xs : List Range). take at ranges ++ xs) (sym (joined_touching ranges (at + 1) r q lt is' t'))
+    ∙ ap (λ (xs : List Range). take at ranges ++ xs) (sym (with_first-touching ranges (at + 1) r q lt is' t'))
 
-pub replaced_at-apart : (ranges : List Range) (at : ℕ) (r s : Range) → at + 1 < length ranges → s ≡ get_or ranges (at + 1) s → ¬ Touch r s → set ranges at r ≡ replaced_at ranges at r
-replaced_at-apart ranges at r s lt is t =
-    set_parts ranges at r (omega arith) ∙ ap (λ (xs : List Range). take at ranges ++ xs) (sym (joined_apart ranges (at + 1) r s lt is t))
+pub with_other_at-apart : (ranges : List Range) (at : ℕ) (r s : Range) → at + 1 < length ranges
+    → s ≡ get_or ranges (at + 1) s → ¬ Touch r s → set ranges at r ≡ with_other_at ranges at r
+with_other_at-apart ranges at r s lt is t =
+    set_parts ranges at r (omega arith) ∙ ap (λ (xs : List Range). take at ranges
+    ++ xs) (sym (with_first-apart ranges (at + 1) r s lt is t))
 
-pub replaced_at-end : (ranges : List Range) (at : ℕ) (r : Range) → at < length ranges → length ranges ≤ at + 1 → set ranges at r ≡ replaced_at ranges at r
-replaced_at-end ranges at r lt le =
-    set_parts ranges at r lt ∙ ap (λ (xs : List Range). take at ranges ++ xs) (sym (joined_past ranges (at + 1) r le))
+pub with_other_at-end : (ranges : List Range) (at : ℕ) (r : Range) → at < length ranges
+    → length ranges ≤ at + 1 → set ranges at r ≡ with_other_at ranges at r
+with_other_at-end ranges at r lt le =
+    set_parts ranges at r lt ∙ ap (λ (xs : List Range). take at ranges ++ xs)
+    (sym (with_first-past ranges (at + 1) r le))
 
 -- where the ranges ahead of one end
-pub IsPartitionedBy-ahead : (ranges : List Range) (q : Range) → IsSet ranges → IsPartitionedBy (λ r. is_ahead r q) ranges
+pub IsPartitionedBy-ahead : (ranges : List Range) (q : Range) → IsSet ranges
+    → IsPartitionedBy (λ r. is_ahead r q) ranges
 IsPartitionedBy-ahead ranges q set i j d le lt e =
     elim (cases_eq i j) [
       | inl same ↦ rw same e
-      | inr apart ↦ is_ahead_true (get_or ranges i d) q (IsAhead-trans (get_or ranges i d) (get_or ranges j d) q (set.rising i j d (omega arith) lt) (ahead (get_or ranges j d) q e))
+      | inr apart ↦ is_ahead_true (get_or ranges i d) q (IsAhead-trans (get_or ranges i d)
+          (get_or ranges j d) q (set.rising i j d (omega arith) lt) (ahead (get_or ranges j d) q e))
     ]
 
 pub ahead_only : (r q : Range) → is_ahead r q ≡ false → ¬ IsAhead r q
 ahead_only r q e h = both_ways (is_ahead r q) e (is_ahead_true r q h)
 
-length-joined : (r : Range) (ranges : List Range) → length (joined r ranges) ≤ length ranges + 1
-length-joined r [] = omega arith
-length-joined r (s ∷ ranges) = cond_both (touches r s) _ _ (λ xs. length xs ≤ length (s ∷ ranges) + 1) (λ e. omega arith) (λ e. omega arith)
+length-with_first : (r : Range) (ranges : List Range) → length (with_first r ranges) ≤ length ranges + 1
+length-with_first r [] = omega arith
+length-with_first r (s ∷ ranges) =
+    cond_both (touches r s) _ _ (λ xs. length xs ≤ length (s ∷ ranges) + 1) (λ e. omega arith)
+    (λ e. omega arith)
 
-pub length-replaced_at : (ranges : List Range) (at : ℕ) (r : Range) → at < length ranges → length (replaced_at ranges at r) ≤ length ranges
-length-replaced_at ranges at r lt =
-    omega (arith, length-append (take at ranges) (joined r (drop (at + 1) ranges)), length-joined r (drop (at + 1) ranges), length-drop (at + 1) ranges, length-take-le at ranges (omega arith))
+pub length-with_other_at : (ranges : List Range) (at : ℕ) (r : Range) → at < length ranges
+    → length (with_other_at ranges at r) ≤ length ranges
+length-with_other_at ranges at r lt =
+    omega (
+      arith,
+      length-append (take at ranges) (with_first r (drop (at + 1) ranges)),
+      length-with_first r
+          (drop (at + 1) ranges),
+      length-drop (at + 1) ranges,
+      length-take-le at ranges (omega arith),
+    )
 
-pub not_scattered : (xs ys : List Range) → xs ≡ ys → length ys ≤ 1024 → IsErrOf {T = Unit {0}} {E = Refusal} (Ok tt) Scattered ↔ (1024 < length xs)
+pub not_scattered : (xs ys : List Range) → xs ≡ ys → length ys ≤ MAX_RANGES → IsErrOf {T = Unit {0}} {E =
+    Refusal} (Ok tt) Scattered ↔ (MAX_RANGES < length xs)
 not_scattered xs ys e few = (λ h. absurd (cc), λ more. absurd (omega (arith, ap length e)))
 
 -- an insertion leaves a set of at most 1,024 ranges
-pub set_after : (result : Result (Unit {0}) Refusal) (old new : List Range) (name : CharName) → IsRange (of_name name) → IsSet old → length old ≤ 1024 → OnOk result (new ≡ with_name old name) → (IsErrOf result Scattered ↔ (1024 < length (with_name old name))) → OnErr result (new ≡ old) → IsSet new × (length new ≤ 1024)
+pub set_after : (result : Result (Unit {0}) Refusal) (old new : List Range) (name : CharName)
+    → IsRange (of_name name) → IsSet old → length old ≤ MAX_RANGES → OnOk result (new ≡ with_name old name)
+    → (IsErrOf result Scattered ↔ (MAX_RANGES < length (with_name old name))) → OnErr result (new ≡ old)
+    → IsSet new × (length new ≤ MAX_RANGES)
 set_after (Ok done) old new name one set few ok scattered err =
-    elim (cases_lt 1024 (length (with_name old name))) [
-      | inl more ↦ let e : ◌≡◌ {A = Result (Unit {0}) Refusal} (Ok done) (Err Scattered) = scattered.1 more in absurd cc
+    elim (cases_lt MAX_RANGES (length (with_name old name))) [
+      | inl more ↦ let e : ◌≡◌ {A = Result (Unit {0}) Refusal} (Ok done) (Err Scattered) =
+          scattered.1 more in absurd cc
       | inr le ↦ rw ok (IsSet-with_name old name one set, le)
     ]
 set_after (Err e) old new name one set few ok scattered err = rw err (set, few)
 
--- a name of the set is in the range at its place
-in_place : (ranges : List Range) (at : ℕ) (name : CharName) → IsSet ranges → IsPlace ranges at (of_name name) → IsAmong ranges name → (d : Range) → (at < length ranges) × IsIn (get_or ranges at d) name
-in_place ranges at name set place (k, r, lt, is, h) d =
+-- a name of the set is in the range at its point
+in_at_point : (ranges : List Range) (at : ℕ) (name : CharName) → IsSet ranges
+    → IsInsertionPoint ranges at (of_name name) → IsAmong ranges name → (d : Range) → (at < length ranges)
+    × IsIn (get_or ranges at d) name
+in_at_point ranges at name set point (k, r, lt, is, h) d =
     let here : get_or ranges k d ≡ r = get_or_default ranges k d r lt ∙ is in
     let inside : IsIn (get_or ranges k d) name = rw here h in
     elim (cases_order k at) [
       | inl same ↦ subst (λ (n : ℕ). (n < length ranges) × IsIn (get_or ranges n d) name) same (lt, inside)
       | inr apart ↦ elim apart [
-        | inl below ↦ let past : IsAhead (get_or ranges k d) (of_name name) = place.0 k d (omega arith) below in absurd (grind arith)
+        | inl below ↦ let past : IsAhead (get_or ranges k d) (of_name name) =
+            point.0 k d (omega arith) below in absurd (grind arith)
         | inr above ↦
             let past : IsAhead (get_or ranges at d) (get_or ranges k d) = set.rising at k d above lt in
-            absurd (place.1 at d (omega arith) (omega arith) (grind arith))
+            absurd (point.1 at d (omega arith) (omega arith) (grind arith))
       ]
     ]
 
-pub among_at_place : (ranges : List Range) (at : ℕ) (name : CharName) (r : Range) (b : Bool) → IsSet ranges → IsPlace ranges at (of_name name) → at < length ranges → r ≡ get_or ranges at r → (b ≡ true) ↔ IsIn r name → (b ≡ true) ↔ IsAmong ranges name
-among_at_place ranges at name r b set place lt is h =
-    (λ e. (at, r, lt, sym is, h.0 e), λ among. h.1 (subst (λ (x : Range). IsIn x name) (sym is) (in_place ranges at name set place among r).1))
+pub among_at_point : (ranges : List Range) (at : ℕ) (name : CharName) (r : Range) (b : Bool) → IsSet ranges
+    → IsInsertionPoint ranges at (of_name name) → at < length ranges → r ≡ get_or ranges at r
+    → (b ≡ true) ↔ IsIn r name → (b ≡ true) ↔ IsAmong ranges name
+among_at_point ranges at name r b set point lt is h = (
+  λ e. (at, r, lt, sym is, h.0 e),
+  λ among. h.1 (subst (λ (x : Range). IsIn x name) (sym is)
+      (in_at_point ranges at name set point among r).1),
+)
 
-pub not_among : (ranges : List Range) (at : ℕ) (name : CharName) (r : Range) → IsSet ranges → IsPlace ranges at (of_name name) → r ≡ get_or ranges at r → ¬ IsIn r name → ¬ IsAmong ranges name
-not_among ranges at name r set place is h among = h (subst (λ (x : Range). IsIn x name) (sym is) (in_place ranges at name set place among r).1)
+pub not_among : (ranges : List Range) (at : ℕ) (name : CharName) (r : Range) → IsSet ranges
+    → IsInsertionPoint ranges at (of_name name) → r ≡ get_or ranges at r → ¬ IsIn r name
+    → ¬ IsAmong ranges name
+not_among ranges at name r set point is h among =
+    h (subst (λ (x : Range). IsIn x name) (sym is) (in_at_point ranges at name set point among r).1)
 
-pub none_past : (ranges : List Range) (at : ℕ) (name : CharName) → IsSet ranges → IsPlace ranges at (of_name name) → length ranges ≤ at → ¬ IsAmong ranges name
-none_past ranges at name set place past among =
-    let within : at < length ranges = (in_place ranges at name set place among (of_name name)).0 in
+pub none_past : (ranges : List Range) (at : ℕ) (name : CharName) → IsSet ranges
+    → IsInsertionPoint ranges at (of_name name) → length ranges ≤ at → ¬ IsAmong ranges name
+none_past ranges at name set point past among =
+    let within : at < length ranges = (in_at_point ranges at name set point among (of_name name)).0 in
     absurd (omega arith)
 
--- what an insertion does at its place
-module _ (ranges : List Range) (at : ℕ) (name : CharName) (le : at ≤ length ranges) (place : IsPlace ranges at (of_name name)) where
+-- what an insertion does at its point
+module _ (ranges : List Range) (at : ℕ) (name : CharName) (le : at ≤ length ranges)
+    (point : IsInsertionPoint ranges at (of_name name)) where
   behind : with_name ranges name ≡ take at ranges ++ with_name (drop at ranges) name
-  behind = with_name-behind ranges at name le (λ k d lt. place.0 k d (omega arith) lt)
+  behind = with_name-behind ranges at name le (λ k d lt. point.0 k d (omega arith) lt)
 
-  pub with_name-past : length ranges ≤ at → with_name ranges name ≡ joined_at ranges at (of_name name)
+  pub with_name-past : length ranges ≤ at → with_name ranges name ≡ with_range_at ranges at (of_name name)
   with_name-past past = let rest : drop at ranges ≡ [] = drop_all at ranges past in behind ∙ rw rest refl
 
   module _ (r : Range) (lt : at < length ranges) (is : r ≡ get_or ranges at r) where
@@ -360,25 +475,35 @@ module _ (ranges : List Range) (at : ℕ) (name : CharName) (le : at ≤ length 
     split = drop_more ranges at r lt ∙ ap (λ (x : Range). x ∷ drop (at + 1) ranges) (sym is)
 
     not_ahead : is_ahead r (of_name name) ≡ false
-    not_ahead = false_from_ne_true (is_ahead r (of_name name)) (λ e. place.1 at r (omega arith) lt (rw (sym is) (ahead r (of_name name) e)))
+    not_ahead =
+        false_from_ne_true (is_ahead r (of_name name)) (λ e. point.1 at r (omega arith) lt
+        (rw (sym is) (ahead r (of_name name) e)))
 
     step : with_name ranges name ≡ take at ranges ++ with_name (r ∷ drop (at + 1) ranges) name
     step = behind ∙ ap (λ (xs : List Range). take at ranges ++ with_name xs name) split
 
-    pub with_name-touching : Touch r (of_name name) → with_name ranges name ≡ replaced_at ranges at (both r (of_name name))
+    pub with_name-touching : Touch r (of_name name) → with_name ranges name
+        ≡ with_other_at ranges at (both r (of_name name))
     with_name-touching t =
         step ∙ ap (λ (xs : List Range). take at ranges ++ xs)
-        (cond-false (is_ahead r (of_name name)) _ _ not_ahead ∙ cond-true (touches r (of_name name)) _ _ (touches_true r (of_name name) t))
+        (cond-false (is_ahead r (of_name name)) _ _ not_ahead ∙ cond-true (touches r (of_name name)) _ _
+        (touches_true r (of_name name) t))
 
     pub with_name-held : IsIn r name → with_name ranges name ≡ ranges
     with_name-held h =
-        let apart : touches r (of_name name) ≡ false = touches_false r (of_name name) (λ t. absurd (omega arith)) in
+        let apart : touches r (of_name name) ≡ false =
+        touches_false r (of_name name) (λ t. absurd (omega arith)) in
         step ∙ ap (λ (xs : List Range). take at ranges ++ xs)
-        (cond-false (is_ahead r (of_name name)) _ _ not_ahead ∙ cond-false (touches r (of_name name)) _ _ apart ∙ cond-true (holds r name) _ _ (holds_true r name h) ∙ sym split)
+        (cond-false (is_ahead r (of_name name)) _ _ not_ahead ∙ cond-false (touches r (of_name name)) _ _
+        apart ∙ cond-true (range_contains r name) _ _ (range_contains-in r name h) ∙ sym split)
         ∙ take-append-drop at ranges
 
-    pub with_name-apart : ¬ Touch r (of_name name) → ¬ IsIn r name → with_name ranges name ≡ joined_at ranges at (of_name name)
+    pub with_name-apart : ¬ Touch r (of_name name) → ¬ IsIn r name → with_name ranges name
+        ≡ with_range_at ranges at (of_name name)
     with_name-apart t h =
-        let out : holds r name ≡ false = false_from_ne_true (holds r name) (λ e. h (held r name e)) in
+        let out : range_contains r name ≡ false =
+        false_from_ne_true (range_contains r name) (λ e. h (in-range_contains r name e)) in
         step ∙ ap (λ (xs : List Range). take at ranges ++ xs)
-        (cond-false (is_ahead r (of_name name)) _ _ not_ahead ∙ cond-false (touches r (of_name name)) _ _ (touches_false r (of_name name) t) ∙ cond-false (holds r name) _ _ out ∙ ap (joined (of_name name)) (sym split))
+        (cond-false (is_ahead r (of_name name)) _ _ not_ahead ∙ cond-false (touches r (of_name name)) _ _
+        (touches_false r (of_name name) t) ∙ cond-false (range_contains r name) _ _ out
+        ∙ ap (with_first (of_name name)) (sym split))

@@ -1,8 +1,12 @@
 -- Sets of names, as the stretches that a site's neighbouring names make.
-use Rattle.std.specs.Prelude.{◌≡◌, ℕ, ◌+◌, ◌^◌, ◌<◌, ◌≤◌, ◌⊎◌, Bool, ◌==◌, nat_lt, nat_le, ◌&&◌, ◌||◌, if◌then◌else◌, List, [], ◌∷◌, ◌++◌, length, take, drop, map, All, Any, AllPairs}
+use Rattle.std.specs.Prelude.{◌≡◌, ℕ, ◌+◌, ◌^◌, ◌<◌, ◌≤◌, ◌⊎◌, Bool, ◌==◌, nat_lt, nat_le, ◌&&◌, ◌||◌}
+use Rattle.std.specs.Prelude.{if◌then◌else◌, List, [], ◌∷◌, ◌++◌, length, take, drop, map, All, Any}
+use Rattle.std.specs.Prelude.{AllPairs}
 use Rattle.std.specs.List.{range_with_len, flat_map}
 use Rattle.std.specs.List.Sorted.{IsPartitionPoint}
 use Rattle.char_files.specs.CharName.{CharName}
+use Rattle.char_files.specs.declared.TheConstants.{MAX_FILE}
+use Rattle.operations.specs.declared.name_set.TheConstants.{MAX_RANGES}
 
 -- len neighbouring names of one site, from at on
 pub record Range : Type 0 where
@@ -20,7 +24,7 @@ IsAmong names name = Any (λ r. IsIn r name) names
 
 -- one name at least, all of them within a site's file
 abbrev pub IsRange : Range → Type 0
-IsRange r = (0 < r.site) × (r.site < 2 ^ 16) × (0 < r.len) × (r.at + r.len ≤ 2 ^ 24)
+IsRange r = (0 < r.site) × (r.site < 2 ^ 16) × (0 < r.len) × (r.at + r.len ≤ MAX_FILE)
 
 -- r stands ahead of s, and doesn't touch it
 abbrev pub IsAhead : Range → Range → Type 0
@@ -35,11 +39,11 @@ pub record IsSet (names : List Range) : Type 0 where
 pub record IsNamed (names : List Range) : Type 0 where
   pub set : IsSet names
   pub some : 0 < length names
-  pub few : length names ≤ 1024
+  pub few : length names ≤ MAX_RANGES
 
 -- the ranges below at stand ahead of r, the others don't
-abbrev pub IsPlace : List Range → ℕ → Range → Type 0
-IsPlace ranges at r = IsPartitionPoint (λ s. IsAhead s r) (λ s. ¬ IsAhead s r) ranges at
+abbrev pub IsInsertionPoint : List Range → ℕ → Range → Type 0
+IsInsertionPoint ranges at r = IsPartitionPoint (λ s. IsAhead s r) (λ s. ¬ IsAhead s r) ranges at
 
 -- the name alone
 abbrev pub of_name : CharName → Range
@@ -62,26 +66,26 @@ abbrev pub touches : Range → Range → Bool
 touches r s = r.site == s.site && r.at + r.len == s.at
 
 -- whether the name is one of r's
-abbrev pub holds : Range → CharName → Bool
-holds r name = name.site == r.site && nat_le r.at name.off && nat_lt name.off (r.at + r.len)
+abbrev pub range_contains : Range → CharName → Bool
+range_contains r name = name.site == r.site && nat_le r.at name.off && nat_lt name.off (r.at + r.len)
 
--- r ahead of the ranges, in one with the first of them where they touch
-abbrev pub joined : Range → List Range → List Range
-joined r [] = r ∷ []
-joined r (s ∷ ranges) = if touches r s then record r { len = r.len + s.len } ∷ ranges else r ∷ s ∷ ranges
+-- the ranges with r ahead of them, in one with the first of them where they touch
+abbrev pub with_first : Range → List Range → List Range
+with_first r [] = r ∷ []
+with_first r (s ∷ ranges) = if touches r s then record r { len = r.len + s.len } ∷ ranges else r ∷ s ∷ ranges
 
 -- the same ahead of the ranges from at on
-abbrev pub joined_at : List Range → ℕ → Range → List Range
-joined_at ranges at r = take at ranges ++ joined r (drop at ranges)
+abbrev pub with_range_at : List Range → ℕ → Range → List Range
+with_range_at ranges at r = take at ranges ++ with_first r (drop at ranges)
 
--- r in the place of the range at at, in one with the next where they touch
-abbrev pub replaced_at : List Range → ℕ → Range → List Range
-replaced_at ranges at r = take at ranges ++ joined r (drop (at + 1) ranges)
+-- r instead of the range at at, in one with the next where they touch
+abbrev pub with_other_at : List Range → ℕ → Range → List Range
+with_other_at ranges at r = take at ranges ++ with_first r (drop (at + 1) ranges)
 
 -- the set with this name too
 abbrev pub with_name : List Range → CharName → List Range
 with_name [] name = of_name name ∷ []
 with_name (r ∷ ranges) name =
     if is_ahead r (of_name name) then r ∷ with_name ranges name
-    else (if touches r (of_name name) then joined (record r { len = r.len + 1 }) ranges
-    else (if holds r name then r ∷ ranges else joined (of_name name) (r ∷ ranges)))
+    else (if touches r (of_name name) then with_first (record r { len = r.len + 1 }) ranges
+    else (if range_contains r name then r ∷ ranges else with_first (of_name name) (r ∷ ranges)))

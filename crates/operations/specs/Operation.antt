@@ -7,8 +7,9 @@ use Rattle.char_files.specs.declared.name.Anchor.{Anchor}
 use Rattle.char_files.specs.declared.name.Anchor.TheVariants.{Root, At}
 use Rattle.operations.specs.NameSet.{Range, IsIn, IsAmong, names_in}
 
--- An insert puts bytes of one set of looks into the tree below the cause, and at the end of its site's file, which was at
--- bytes long. A delete hides the characters that it names. A change of looks sets what is selected for those that it names.
+-- An insert puts bytes of one set of looks into the tree below the cause, and at the end of its site's file,
+-- which was at bytes long. A delete hides the characters that it names. A change of looks sets what is
+-- selected for those that it names.
 pub data OpKind : Type 0 where
   insert : (cause : Anchor) (at : ℕ) (looks : Looks) (bytes : List ℕ) → OpKind
   delete : (names : List Range) → OpKind
@@ -30,7 +31,8 @@ appended_len (change_looks sel looks names) = 0
 
 -- what an Insert of this site inserts; the other kinds insert nothing
 abbrev pub InsertsBy : ℕ → OpKind → CharName → Type 0
-InsertsBy site (insert cause at looks bytes) name = IsIn (record { site = site; at = at; len = length bytes }) name
+InsertsBy site (insert cause at looks bytes) name =
+    IsIn (record { site = site; at = at; len = length bytes }) name
 InsertsBy site (delete names) name = ⊥
 InsertsBy site (change_looks sel looks names) name = ⊥
 
@@ -49,13 +51,14 @@ MentionsBy (change_looks sel looks names) name = IsAmong names name
 abbrev pub Mentions : Operation → CharName → Type 0
 Mentions op name = MentionsBy op.kind name
 
--- what each kind mentions, in order: an Insert its cause, unless that is the root; the others the names of their sets, rising
-abbrev pub mentioned_by : OpKind → List CharName
-mentioned_by (insert Root at looks bytes) = []
-mentioned_by (insert (At cause) at looks bytes) = cause ∷ []
-mentioned_by (delete names) = names_in names
-mentioned_by (change_looks sel looks names) = names_in names
+-- what each kind mentions, in order: an Insert its cause, unless that is the root; the others the names of
+-- their sets, rising
+abbrev pub mentioned_names_by : OpKind → List CharName
+mentioned_names_by (insert Root at looks bytes) = []
+mentioned_names_by (insert (At cause) at looks bytes) = cause ∷ []
+mentioned_names_by (delete names) = names_in names
+mentioned_names_by (change_looks sel looks names) = names_in names
 
 -- the names that the operation mentions, in order: its cause, or those of its set
-abbrev pub mentioned : Operation → List CharName
-mentioned op = mentioned_by op.kind
+abbrev pub mentioned_names : Operation → List CharName
+mentioned_names op = mentioned_names_by op.kind

@@ -1,16 +1,26 @@
--- Reading from left to right. Each function gives the value that the front of the bytes spells, and the bytes behind it.
-use Rattle.std.specs.Prelude.{◌≡◌, ℕ, ℤ, zero, suc, ◌+◌, ◌-◌, ◌/◌, ◌%◌, ◌^◌, ◌⊎◌, Bool, true, nat_lt, nat_le, ◌==◌, ◌&&◌, ◌||◌, not, if◌then◌else◌, List, [], ◌∷◌, ◌++◌, length, take, drop, slice_get, slice_index, Option, Some, None, IsSome, Result, Ok, Err}
+-- Reading from left to right. Each function gives the value that the front of the bytes spells, and the bytes
+-- behind it.
+use Rattle.std.specs.Prelude.{◌≡◌, ℕ, ℤ, zero, suc, ◌+◌, ◌-◌, ◌/◌, ◌%◌, ◌^◌, ◌⊎◌, Bool, true, nat_lt}
+use Rattle.std.specs.Prelude.{nat_le, ◌==◌, ◌&&◌, ◌||◌, not, if◌then◌else◌, List, [], ◌∷◌, ◌++◌, length}
+use Rattle.std.specs.Prelude.{take, drop, slice_get, slice_index, Option, Some, None, IsSome, Result, Ok}
+use Rattle.std.specs.Prelude.{Err}
 use Rattle.std.specs.Char.{is_ascii_alphabetic}
 use Rattle.std.specs.List.{list_all}
 use Rattle.std.specs.Int.{Width, w8, w16, w32, w64, byte_len, from_be_bytes, cast_signed}
 use Rattle.looks.specs.declared.refusal.Refusal.{Refusal}
 use Rattle.looks.specs.declared.refusal.Refusal.TheVariants.{Malformed, OutOfMemory}
+use Rattle.looks.specs.declared.colour.TheConstants.{MAX_COLOUR}
+use Rattle.looks.specs.declared.font_name.TheConstants.{MAX_FONT_NAME}
 use Rattle.looks.specs.declared.looks.Looks.{Looks}
 use Rattle.looks.specs.FontName.{is_font_byte}
 use Rattle.looks.specs.Looks.{plain_looks}
 use Rattle.looks.specs.Sel.{Selection}
 use Rattle.char_files.specs.declared.name.Anchor.{Anchor}
 use Rattle.char_files.specs.declared.name.Anchor.TheVariants.{Root, At}
+use Rattle.char_files.specs.declared.TheConstants.{MAX_FILE}
+use Rattle.operations.specs.declared.kind.TheConstants.{MAX_INSERT}
+use Rattle.operations.specs.declared.name_set.TheConstants.{MAX_RANGES}
+use Rattle.operations.specs.declared.op.TheConstants.{MAX_STAMP}
 use Rattle.operations.specs.NameSet.{Range, is_ahead}
 use Rattle.operations.specs.Operation.{OpKind, insert, delete, change_looks, Operation}
 use Rattle.operations.specs.Spelling.{HasSpelling, spelling}
@@ -37,7 +47,9 @@ stretch_at n bytes = if nat_lt (length bytes) n then None else Some (take n byte
 
 -- a number of this width, the highest byte first
 abbrev pub number_at : Width → List ℕ → Option (ℕ × List ℕ)
-number_at w bytes = if nat_lt (length bytes) (byte_len w) then None else Some (from_be_bytes w (take (byte_len w) bytes), drop (byte_len w) bytes)
+number_at w bytes =
+    if nat_lt (length bytes) (byte_len w) then None
+    else Some (from_be_bytes w (take (byte_len w) bytes), drop (byte_len w) bytes)
 
 -- a number from 1 on
 unfoldable pub positive_at : Width → List ℕ → Option (ℕ × List ℕ)
@@ -52,7 +64,9 @@ byte_at (b ∷ rest) = Some (b, rest)
 
 -- 1 to 31 letters, digits and full stops, the first a letter
 abbrev pub is_font_name : List ℕ → Bool
-is_font_name bytes = nat_lt 0 (length bytes) && nat_le (length bytes) 31 && is_ascii_alphabetic (slice_index bytes 0) && list_all is_font_byte bytes
+is_font_name bytes =
+    nat_lt 0 (length bytes) && nat_le (length bytes) MAX_FONT_NAME
+    && is_ascii_alphabetic (slice_index bytes 0) && list_all is_font_byte bytes
 
 -- a font's name behind its length
 unfoldable pub font_at : List ℕ → Option (List ℕ × List ℕ)
@@ -65,7 +79,7 @@ font_at bytes = do
 unfoldable pub colour_at : List ℕ → Option (ℕ × List ℕ)
 colour_at bytes = do
   colour ← byte_at bytes
-  if nat_lt colour.0 16 then Some colour else None
+  if nat_le colour.0 MAX_COLOUR then Some colour else None
 
 -- an offset in two's complement
 unfoldable pub offset_at : List ℕ → Option (ℤ × List ℕ)
@@ -88,7 +102,8 @@ looks_len_at bytes = do
   Some (looks.0, length bytes - length looks.1)
 
 -- a value where it is selected, else the default, which takes no bytes
-abbrev pub selected_or : {A : Type 0} → Bool → A → (List ℕ → Option (A × List ℕ)) → List ℕ → Option (A × List ℕ)
+abbrev pub selected_or :
+    {A : Type 0} → Bool → A → (List ℕ → Option (A × List ℕ)) → List ℕ → Option (A × List ℕ)
 selected_or selected default reader bytes = if selected then reader bytes else Some (default, bytes)
 
 -- the looks of which the selected values alone stand there
@@ -109,11 +124,11 @@ sel_at bytes = do
   bits ← byte_at bytes
   if nat_lt 0 bits.0 && nat_lt bits.0 8 then Some (selection_of bits.0, bits.1) else None
 
--- the root is place 0 of site 0, and no other place of it is anything; a place of a file is below 2^24
+-- the root is offset 0 of site 0, which has no other one; an offset in a site's file is below MAX_FILE
 abbrev pub anchor_of : ℕ → ℕ → Option Anchor
 anchor_of site off =
     if site == 0 then (if off == 0 then Some Root else None)
-    else (if nat_lt off (2 ^ 24) then Some (At (record { site = site; off = off })) else None)
+    else (if nat_lt off MAX_FILE then Some (At (record { site = site; off = off })) else None)
 
 -- a cause
 unfoldable pub anchor_at : List ℕ → Option (Anchor × List ℕ)
@@ -129,7 +144,8 @@ range_at bytes = do
   site ← positive_at w16 bytes
   at ← number_at w32 site.1
   len ← positive_at w32 at.1
-  if nat_lt (2 ^ 24) (at.0 + len.0) then None else Some (record { site = site.0; at = at.0; len = len.0 }, len.1)
+  if nat_lt MAX_FILE (at.0 + len.0) then None
+      else Some (record { site = site.0; at = at.0; len = len.0 }, len.1)
 
 -- the range stands behind the last one, if there is one, and doesn't touch it
 abbrev pub is_behind : Option Range → Range → Bool
@@ -148,23 +164,25 @@ ranges_at last (suc n) bytes = do
 unfoldable pub next_at : List Range → List ℕ → Option (List Range × List ℕ)
 next_at ranges bytes = do
   next ← range_at bytes
-  if is_behind (slice_get ranges (length ranges - 1)) next.0 then Some (ranges ++ next.0 ∷ [], next.1) else None
+  if is_behind (slice_get ranges (length ranges - 1)) next.0 then Some (ranges ++ next.0 ∷ [], next.1)
+      else None
 
 -- a set of names: 1 to 1,024 ranges behind their count
 unfoldable pub set_at : List ℕ → Option (List Range × List ℕ)
 set_at bytes = do
   count ← positive_at w16 bytes
-  if nat_lt 1024 count.0 then None else ranges_at None count.0 count.1
+  if nat_lt MAX_RANGES count.0 then None else ranges_at None count.0 count.1
 
 -- a cause that there may be: under the operation's own site it was inserted before
 abbrev pub is_cause : ℕ → ℕ → Anchor → Bool
 is_cause site at Root = true
 is_cause site at (At name) =
-    nat_lt 0 name.site && nat_lt name.site (2 ^ 16) && nat_lt name.off (2 ^ 24) && (not (name.site == site) || nat_lt name.off at)
+    nat_lt 0 name.site && nat_lt name.site (2 ^ 16) && nat_lt name.off MAX_FILE
+    && (not (name.site == site) || nat_lt name.off at)
 
 -- 1 to 4,096 bytes behind at others, within the site's file
 abbrev pub fits_in_file : ℕ → ℕ → Bool
-fits_in_file at len = nat_lt 0 len && nat_le len 4096 && nat_le (at + len) (2 ^ 24)
+fits_in_file at len = nat_lt 0 len && nat_le len MAX_INSERT && nat_le (at + len) MAX_FILE
 
 -- what an Insert of this site has to itself
 unfoldable pub insert_at : ℕ → List ℕ → Option (OpKind × List ℕ)
@@ -174,7 +192,9 @@ insert_at site bytes = do
   looks ← looks_at at.1
   len ← number_at w16 looks.1
   stretch ← stretch_at len.0 len.1
-  if fits_in_file at.0 len.0 && is_cause site at.0 cause.0 then Some (insert cause.0 at.0 looks.0 stretch.0, stretch.1) else None
+  if fits_in_file at.0 len.0 && is_cause site at.0 cause.0
+      then Some (insert cause.0 at.0 looks.0 stretch.0, stretch.1)
+      else None
 
 -- what a Delete has to itself
 unfoldable pub delete_at : List ℕ → Option (OpKind × List ℕ)
@@ -199,14 +219,15 @@ kind_at kind site bytes =
 
 -- the letters OT, the version 1, and the number of the kind
 abbrev pub tag_at : List ℕ → Option (ℕ × List ℕ)
-tag_at (o ∷ t ∷ version ∷ kind ∷ rest) = if o == 79 && t == 84 && version == 1 then Some (kind, rest) else None
+tag_at (o ∷ t ∷ version ∷ kind ∷ rest) =
+    if o == 79 && t == 84 && version == 1 then Some (kind, rest) else None
 tag_at bytes = None
 
--- a stamp, from 1 and below 2^48
+-- a stamp, 1 to 2^48 - 1
 unfoldable pub stamp_at : List ℕ → Option (ℕ × List ℕ)
 stamp_at bytes = do
   stamp ← positive_at w64 bytes
-  if nat_lt stamp.0 (2 ^ 48) then Some stamp else None
+  if nat_le stamp.0 MAX_STAMP then Some stamp else None
 
 -- what all messages begin with
 pub record Header : Type 0 where
@@ -249,7 +270,9 @@ SpellsNone bytes = (op : Operation) → HasSpelling op → bytes ≡ spelling op
 
 -- no spelling begins another one
 abbrev pub NoneBeginsAnother : Type 0
-NoneBeginsAnother = (a b : Operation) (rest : List ℕ) → HasSpelling a → HasSpelling b → spelling b ≡ spelling a ++ rest → rest ≡ []
+NoneBeginsAnother =
+    (a b : Operation) (rest : List ℕ) → HasSpelling a → HasSpelling b → spelling b ≡ spelling a ++ rest
+    → rest ≡ []
 
 -- no two operations share a spelling
 abbrev pub NoneIsShared : Type 0

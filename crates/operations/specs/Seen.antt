@@ -3,13 +3,18 @@ use Rattle.std.specs.Prelude.{◌≡◌, ℕ, List, ◌++◌, length, take, Resu
 use Rattle.std.specs.declared.alloc.AllocError.{AllocError}
 use Rattle.operations.specs.declared.kind.Kind.{Kind}
 use Rattle.operations.specs.declared.kind.Kind.TheVariants.{Insert, Delete, ChangeLooks}
-use Rattle.operations.specs.Operation.{OpKind, insert, delete, change_looks}
+use Rattle.operations.specs.Operation.{OpKind, insert, delete, change_looks, Operation}
 
 -- a kind, without where it lies in memory
 abbrev pub kind_of : Kind → OpKind
 kind_of (Insert cause at looks bytes) = insert cause at looks bytes.items
 kind_of (Delete names) = delete names
 kind_of (ChangeLooks sel looks names) = change_looks sel looks names
+
+-- the operation of these fields
+abbrev pub operation_with : (text site seq stamp : ℕ) → Kind → Operation
+operation_with text site seq stamp kind =
+    record { text = text; site = site; seq = seq; stamp = stamp; kind = kind_of kind }
 
 -- the bytes were appended, or memory was refused, and perhaps some bytes stand at the end
 abbrev pub Appends : Result (Unit {0}) AllocError → List ℕ → List ℕ → List ℕ → Type 0

@@ -1,13 +1,17 @@
 -- The one spelling of an operation, field by field, and which operations have one.
-use Rattle.std.specs.Prelude.{◌≡◌, ℕ, ℤ, ◌+◌, ◌^◌, ◌<◌, ◌≤◌, List, [], ◌∷◌, ◌++◌, length, if◌then◌else◌, All, false}
+use Rattle.std.specs.Prelude.{◌≡◌, ℕ, ℤ, ◌+◌, ◌^◌, ◌<◌, ◌≤◌, List, [], ◌∷◌, ◌++◌, length, if◌then◌else◌}
+use Rattle.std.specs.Prelude.{All, false}
 use Rattle.std.specs.Int.{Width, w8, w16, w32, w64, to_be_bytes, cast_unsigned}
 use Rattle.std.specs.List.{flat_map}
 use Rattle.looks.specs.declared.looks.Looks.{Looks}
 use Rattle.looks.specs.Looks.{IsLooks, plain_looks}
 use Rattle.looks.specs.Sel.{Selection, bits_of}
 use Rattle.char_files.specs.CharName.{CharName}
+use Rattle.char_files.specs.declared.TheConstants.{MAX_FILE}
 use Rattle.char_files.specs.declared.name.Anchor.{Anchor}
 use Rattle.char_files.specs.declared.name.Anchor.TheVariants.{Root, At}
+use Rattle.operations.specs.declared.kind.TheConstants.{MAX_INSERT}
+use Rattle.operations.specs.declared.op.TheConstants.{MAX_STAMP}
 use Rattle.operations.specs.NameSet.{Range, IsNamed}
 use Rattle.operations.specs.Operation.{OpKind, insert, delete, change_looks, Operation}
 
@@ -33,16 +37,16 @@ selected_spelling sel l =
     (if sel.font then font_spelling l.font else []) ++ (if sel.colour then l.colour ∷ [] else [])
     ++ (if sel.offset then offset_spelling l.offset else [])
 
--- a name: the site, and the place in its file
+-- a name: the site, and the offset in its file
 abbrev pub name_spelling : CharName → List ℕ
 name_spelling n = number_spelling w16 n.site ++ number_spelling w32 n.off
 
--- a cause: the root is spelled as place 0 of site 0
+-- a cause: the root is spelled as offset 0 of site 0
 abbrev pub anchor_spelling : Anchor → List ℕ
 anchor_spelling Root = name_spelling (record { site = 0; off = 0 })
 anchor_spelling (At name) = name_spelling name
 
--- a range of names: the site, the first place, the length
+-- a range of names: the site, the first offset, the length
 abbrev pub range_spelling : Range → List ℕ
 range_spelling r = number_spelling w16 r.site ++ number_spelling w32 r.at ++ number_spelling w32 r.len
 
@@ -59,7 +63,8 @@ kind_byte (change_looks sel looks names) = 3
 -- what the kinds have each to themselves
 abbrev pub kind_spelling : OpKind → List ℕ
 kind_spelling (insert cause at looks bytes) =
-    anchor_spelling cause ++ number_spelling w32 at ++ looks_spelling looks ++ number_spelling w16 (length bytes) ++ bytes
+    anchor_spelling cause ++ number_spelling w32 at ++ looks_spelling looks
+    ++ number_spelling w16 (length bytes) ++ bytes
 kind_spelling (delete names) = set_spelling names
 kind_spelling (change_looks sel looks names) = bits_of sel ∷ selected_spelling sel looks ++ set_spelling names
 
@@ -70,7 +75,8 @@ tag_spelling kind = 79 ∷ 84 ∷ 1 ∷ kind ∷ []
 -- what all messages begin with: the tag, the text, the identity, the stamp
 abbrev pub header_spelling : (kind text site seq stamp : ℕ) → List ℕ
 header_spelling kind text site seq stamp =
-    tag_spelling kind ++ number_spelling w16 text ++ number_spelling w16 site ++ number_spelling w32 seq ++ number_spelling w64 stamp
+    tag_spelling kind ++ number_spelling w16 text ++ number_spelling w16 site ++ number_spelling w32 seq
+    ++ number_spelling w64 stamp
 
 -- the whole message
 abbrev pub spelling : Operation → List ℕ
@@ -79,15 +85,16 @@ spelling op = header_spelling (kind_byte op.kind) op.text op.site op.seq op.stam
 -- a cause that there may be: under the operation's own site it was inserted before
 abbrev pub IsCause : ℕ → ℕ → Anchor → Type 0
 IsCause site at Root = Unit {0}
-IsCause site at (At name) = (0 < name.site) × (name.site < 2 ^ 16) × (name.off < 2 ^ 24) × (name.site ≡ site → name.off < at)
+IsCause site at (At name) =
+    (0 < name.site) × (name.site < 2 ^ 16) × (name.off < MAX_FILE) × (name.site ≡ site → name.off < at)
 
 -- the fields of an Insert are in range: 1 to 4,096 bytes, that end within the site's file
 pub record IsInsert (site : ℕ) (cause : Anchor) (at : ℕ) (looks : Looks) (bytes : List ℕ) : Type 0 where
   pub caused : IsCause site at cause
   pub valid_looks : IsLooks looks
   pub some : 0 < length bytes
-  pub few : length bytes ≤ 4096
-  pub in_file : at + length bytes ≤ 2 ^ 24
+  pub few : length bytes ≤ MAX_INSERT
+  pub in_file : at + length bytes ≤ MAX_FILE
   pub valid_bytes : All (λ b. b < 256) bytes
 
 -- the attributes that aren't selected have their defaults
@@ -114,5 +121,5 @@ pub record HasSpelling (op : Operation) : Type 0 where
   pub text : (0 < op.text) × (op.text < 2 ^ 16)
   pub site : (0 < op.site) × (op.site < 2 ^ 16)
   pub seq : (0 < op.seq) × (op.seq < 2 ^ 32)
-  pub stamp : (0 < op.stamp) × (op.stamp < 2 ^ 48)
+  pub stamp : (0 < op.stamp) × (op.stamp ≤ MAX_STAMP)
   pub kind : IsKind op.site op.kind

@@ -1,4 +1,5 @@
-ghost use Rattle.std.specs.Prelude.{◌≡◌, ◌+◌, ◌^◌, ◌<◌, ◌≤◌, ◌↔◌, IsTrue, IfOk, IfErr};
+ghost use Rattle.std.specs.Prelude.{◌≡◌, ◌+◌, ◌<◌, ◌≤◌, ◌↔◌, IsTrue, IfOk};
+ghost use Rattle.looks.specs.Refusal.{RefusedForMemoryAlone};
 ghost use Rattle.operations.specs.Spelling.{IsKind, IsInsert, IsCause, IsChange, IsPlainElsewhere, kind_byte};
 ghost use Rattle.operations.specs.NameSet.{IsNamed};
 ghost use Rattle.operations.specs.Seen.{kind_of};
@@ -14,8 +15,8 @@ pub(crate) const DELETE: u8 = 2;
 
 pub(crate) const CHANGE_LOOKS: u8 = 3;
 
-// The most bytes that one Insert may have.
-const MAX_BYTES: usize = 4096;
+/// The most bytes that one Insert may have. This project's own.
+pub const MAX_INSERT: usize = 4096;
 
 /// What an operation does. This project's own.
 #[derive(Debug, Drop)]
@@ -30,7 +31,7 @@ pub enum Kind {
         /// 1 to 4,096 bytes.
         bytes: Vec<u8>,
     },
-    /// Hides characters.
+    /// Hides characters, whose names stay (tombstones).
     Delete {
         /// One name at least.
         names: NameSet,
@@ -60,9 +61,9 @@ pub(crate) fn is_cause(site: SiteNo, at: u32, cause: Anchor) -> bool
 
 // Whether this many bytes make an Insert, behind `at` bytes of its site's file.
 pub(crate) fn fits_in_file(at: u32, len: usize) -> bool
-    ensures { IsTrue result ↔ ((0 < len) × (len ≤ 4096) × (at + len ≤ 2 ^ 24)) }
+    ensures { IsTrue result ↔ ((0 < len) × (len ≤ MAX_INSERT) × (at + len ≤ MAX_FILE)) }
 {
-    0 < len && len <= MAX_BYTES && u64::from(at) + len as u64 <= MAX_FILE
+    0 < len && len <= MAX_INSERT && u64::from(at) + len as u64 <= MAX_FILE
 }
 
 // Whether the fields of an Insert of this site are in range.
@@ -119,7 +120,7 @@ impl Kind {
     // The same again. Refused `OutOfMemory` alone.
     pub(crate) fn copy(&self) -> Result<Kind, Refusal>
         ensures ok { IfOk result (λ kind. kind_of kind ≡ kind_of self.now) }
-        ensures errors { IfErr result (λ e. e ≡ Refusal.OutOfMemory) }
+        ensures errors { RefusedForMemoryAlone result }
     {
         Ok(match self {
             Kind::Insert {

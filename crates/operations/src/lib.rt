@@ -8,8 +8,8 @@ mod op;
 mod reading;
 mod writing;
 
-pub use kind::Kind;
-pub use name_set::{NameRange, NameSet};
+pub use kind::{Kind, MAX_INSERT};
+pub use name_set::{MAX_RANGES, NameRange, NameSet};
 pub use name_walk::{NameWalk, named};
 pub use op::{MAX_STAMP, Op};
 pub use reading::{decode, one_spelling, read_looks};

@@ -3,8 +3,8 @@ use looks::Refusal;
 use std::alloc::Global;
 use std::test::Fail;
 
-// Site 2's Inserts with one field at its limit, and one past it: seq, stamp, cause, place in the file, how many bytes; and
-// whether there is such an operation.
+// Site 2's Inserts with one field at its limit, and one past it: seq, stamp, cause, place in the file, how
+// many bytes; and whether there is such an operation.
 const LIMITS: [(&str, u32, u64, Option<(u16, u32)>, u32, usize, bool); 14] = [
     ("the least of all", 1, 1, None, 0, 1, true),
     ("the greatest seq", 0xffff_ffff, 1, None, 0, 1, true),

@@ -5,7 +5,8 @@ use std::test::Fail;
 
 const PLAIN: &[u8] = b"\x10Oberon10.Scn.Fnt\x01\x00";
 
-// Bytes, and the font, the colour and the offset of the looks that they begin with, and how many bytes these are.
+// Bytes, and the font, the colour and the offset of the looks that they begin with, and how many bytes these
+// are.
 const LOOKS: [(&str, &[u8], Option<(&'static [u8], u8, i8, usize)>); 9] = [
     (
         "default looks",

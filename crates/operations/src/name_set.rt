@@ -1,15 +1,18 @@
-ghost use Rattle.std.specs.Prelude.{◌≡◌, ◌+◌, ◌<◌, ◌≤◌, ◌↔◌, ◌⊎◌, [], ◌∷◌, length, Some, IsOk, IfOk, IfErr, OnOk, OnErr, IsTrue, IsErrOf};
+ghost use Rattle.std.specs.Prelude.{◌≡◌, ◌+◌, ◌<◌, ◌≤◌, ◌↔◌, ◌⊎◌, [], ◌∷◌, length, Some, IsOk, IfOk, IfErr};
+ghost use Rattle.std.specs.Prelude.{OnOk, OnErr, IsTrue, IsErrOf};
 ghost use Rattle.std.specs.Option.{option_map_or};
+ghost use Rattle.looks.specs.Refusal.{RefusedForMemoryAlone};
 ghost use Rattle.char_files.specs.CharName.{CharName};
-ghost use Rattle.operations.specs.NameSet.{IsIn, IsAmong, IsRange, IsAhead, IsSet, IsPlace, of_name, names_of, joined_at, replaced_at, with_name};
+ghost use Rattle.operations.specs.NameSet.{IsIn, IsAmong, IsRange, IsAhead, IsSet, IsInsertionPoint};
+ghost use Rattle.operations.specs.NameSet.{of_name, names_of, with_range_at, with_other_at, with_name};
 
 use char_files::{Name, SiteNo};
 use looks::Refusal;
 use std::alloc::Global;
 use std::marker::Model;
 
-// The most ranges that a set may have.
-pub(crate) const MAX_RANGES: usize = 1024;
+/// The most ranges that a set of names may have. This project's own.
+pub const MAX_RANGES: usize = 1024;
 
 /// Neighbouring names of one site, one at least. This project's own.
 #[derive(Clone, Copy, Debug, PartialEq, Eq)]
@@ -32,7 +35,7 @@ impl Model for NameRange {
 }
 
 impl Default for NameRange {
-    /// The first name of site 1: some value for the empty places of an array.
+    /// The first name of site 1: some value to fill an array with.
     fn default() -> NameRange {
         NameRange {
             site: SiteNo::new(1).unwrap(),
@@ -62,7 +65,7 @@ impl NameRange {
         self.site
     }
 
-    /// The first name's place in the site's file.
+    /// The first name's offset in the site's file.
     pub fn at(self) -> u32
         ensures { result ≡ self.at }
     {
@@ -77,7 +80,7 @@ impl NameRange {
         self.len
     }
 
-    // The place behind the last name.
+    // The offset behind the last name.
     fn end(self) -> u32
         ensures { result ≡ self.at + self.len }
     {
@@ -93,7 +96,8 @@ impl NameRange {
 
     // The range without its first name, if there are others.
     pub(crate) fn others(self) -> Option<NameRange>
-        ensures { names_of self ≡ record { site = self.site; off = self.at } ∷ option_map_or names_of result [] }
+        ensures { names_of self
+            ≡ record { site = self.site; off = self.at } ∷ option_map_or names_of result [] }
     {
         if self.len == 1 {
             return None;
@@ -128,7 +132,7 @@ impl NameRange {
     }
 
     // Its names and those of the next range, which it touches.
-    fn joined(self, next: NameRange) -> NameRange
+    fn union(self, next: NameRange) -> NameRange
         requires site { self.site ≡ next.site }
         requires at { self.at + self.len ≡ next.at }
         ensures { result ≡ record self { len = self.len + next.len } }
@@ -140,7 +144,7 @@ impl NameRange {
         }
     }
 
-    // So many names of the site, from this place on.
+    // So many names of the site, from this offset on.
     pub(crate) fn new(site: SiteNo, at: u32, len: u32) -> NameRange
         requires { IsRange (record { site = site; at = at; len = len }) }
         ensures { result ≡ record { site = site; at = at; len = len } }
@@ -150,25 +154,27 @@ impl NameRange {
 }
 
 // How many ranges stand ahead of this one, and don't touch it.
-fn place_of(ranges: &[NameRange], range: NameRange) -> usize
+fn insertion_point(ranges: &[NameRange], range: NameRange) -> usize
     requires { IsSet ranges.now }
     ensures within { result ≤ length ranges.now }
-    ensures place { IsPlace ranges.now result range }
+    ensures point { IsInsertionPoint ranges.now result range }
 {
     ranges.partition_point(|other| other.is_ahead(range))
 }
 
-// Puts a range ahead of those from `at` on, in one with the first of them where they touch. An `Err` changes nothing.
+// Puts a range ahead of those from `at` on, in one with the first of them where they touch. An `Err` changes
+// nothing.
 fn add(ranges: &mut Vec<NameRange>, at: usize, range: NameRange) -> Result<(), Refusal>
-    requires place { at ≤ length ranges.old.items }
-    requires few { length ranges.old.items ≤ 1024 }
-    ensures ok { OnOk result (ranges.new.items ≡ joined_at ranges.old.items at range) }
-    ensures scattered { IsErrOf result Refusal.Scattered ↔ (1024 < length (joined_at ranges.old.items at range)) }
+    requires within { at ≤ length ranges.old.items }
+    requires few { length ranges.old.items ≤ MAX_RANGES }
+    ensures ok { OnOk result (ranges.new.items ≡ with_range_at ranges.old.items at range) }
+    ensures scattered { IsErrOf result Refusal.Scattered
+        ↔ (MAX_RANGES < length (with_range_at ranges.old.items at range)) }
     ensures errors { IfErr result (λ e. (e ≡ Refusal.Scattered) ⊎ (e ≡ Refusal.OutOfMemory)) }
     ensures err { OnErr result (ranges.new.items ≡ ranges.old.items) }
 {
     if at < ranges.len() && range.touches(ranges[at]) {
-        ranges[at] = range.joined(ranges[at]);
+        ranges[at] = range.union(ranges[at]);
         return Ok(());
     }
     if ranges.len() == MAX_RANGES {
@@ -178,27 +184,28 @@ fn add(ranges: &mut Vec<NameRange>, at: usize, range: NameRange) -> Result<(), R
     Ok(())
 }
 
-// Puts a range in the place of the one at `at`, in one with the next where they touch.
+// Replaces the range at `at` by another, in one with the next where they touch.
 fn replace(ranges: &mut Vec<NameRange>, at: usize, range: NameRange)
     requires { at < length ranges.old.items }
-    ensures { ranges.new.items ≡ replaced_at ranges.old.items at range }
+    ensures { ranges.new.items ≡ with_other_at ranges.old.items at range }
 {
     if at + 1 < ranges.len() && range.touches(ranges[at + 1]) {
         let next = ranges.remove(at + 1);
-        ranges[at] = range.joined(next);
+        ranges[at] = range.union(next);
     } else {
         ranges[at] = range;
     }
 }
 
-// Puts a name into a set's ranges at its place. An `Err` changes nothing.
+// Puts a name into a set's ranges at its insertion point. An `Err` changes nothing.
 fn put(ranges: &mut Vec<NameRange>, at: usize, name: Name) -> Result<(), Refusal>
     requires set { IsSet ranges.old.items }
     requires within { at ≤ length ranges.old.items }
-    requires place { IsPlace ranges.old.items at (of_name name) }
-    requires few { length ranges.old.items ≤ 1024 }
+    requires point { IsInsertionPoint ranges.old.items at (of_name name) }
+    requires few { length ranges.old.items ≤ MAX_RANGES }
     ensures ok { OnOk result (ranges.new.items ≡ with_name ranges.old.items name) }
-    ensures scattered { IsErrOf result Refusal.Scattered ↔ (1024 < length (with_name ranges.old.items name)) }
+    ensures scattered { IsErrOf result Refusal.Scattered
+        ↔ (MAX_RANGES < length (with_name ranges.old.items name)) }
     ensures errors { IfErr result (λ e. (e ≡ Refusal.Scattered) ⊎ (e ≡ Refusal.OutOfMemory)) }
     ensures err { OnErr result (ranges.new.items ≡ ranges.old.items) }
     ensures held { IsAmong ranges.old.items name → IsOk result × (ranges.new.items ≡ ranges.old.items) }
@@ -210,7 +217,7 @@ fn put(ranges: &mut Vec<NameRange>, at: usize, name: Name) -> Result<(), Refusal
             return Ok(());
         }
         if range.touches(one) {
-            replace(ranges, at, range.joined(one));
+            replace(ranges, at, range.union(one));
             return Ok(());
         }
     }
@@ -226,12 +233,13 @@ pub struct NameSet {
 impl Model for NameSet {
     ghost use Rattle.std.specs.Prelude.{◌≤◌, List, length};
     ghost use Rattle.operations.specs.NameSet.{Range, IsSet};
+    ghost use Rattle.operations.specs.declared.name_set.TheConstants.{MAX_RANGES};
 
     ghost Value = { List Range };
 
     ghost view = { λ s. s.ranges.items };
 
-    ghost invariant = { λ s. IsSet s.ranges.items × (length s.ranges.items ≤ 1024) };
+    ghost invariant = { λ s. IsSet s.ranges.items × (length s.ranges.items ≤ MAX_RANGES) };
 }
 
 impl NameSet {
@@ -247,12 +255,9 @@ impl NameSet {
     /// The same names again. Refused `OutOfMemory` alone.
     pub fn copy(&self) -> Result<NameSet, Refusal>
         ensures ok { IfOk result (λ set. set ≡ self.now) }
-        ensures errors { IfErr result (λ e. e ≡ Refusal.OutOfMemory) }
+        ensures errors { RefusedForMemoryAlone result }
     {
-        let alloc = *self.ranges.allocator();
-        Ok(NameSet {
-            ranges: Vec::from_slice(alloc, &self.ranges)?,
-        })
+        NameSet::of_ranges(*self.ranges.allocator(), &self.ranges)
     }
 
     /// Whether both have the same names.
@@ -266,7 +271,7 @@ impl NameSet {
     pub fn contains(&self, name: Name) -> bool
         ensures { IsTrue result ↔ IsAmong self.now name }
     {
-        let at = place_of(&self.ranges, NameRange::of(name));
+        let at = insertion_point(&self.ranges, NameRange::of(name));
         at < self.ranges.len() && self.ranges[at].contains(name)
     }
 
@@ -274,7 +279,7 @@ impl NameSet {
     pub fn ranges(&self) -> &[NameRange]
         ensures value { result.now ≡ self.now }
         ensures set { IsSet result.now }
-        ensures few { length result.now ≤ 1024 }
+        ensures few { length result.now ≤ MAX_RANGES }
     {
         &self.ranges
     }
@@ -282,7 +287,8 @@ impl NameSet {
     /// A law: what `with_name` makes of a set. A proof gets it by calling this, at no cost.
     pub fn with_name_law(&self, name: Name)
         ensures set { IsSet (with_name self.now name) }
-        ensures names { (other : CharName) → IsAmong (with_name self.now name) other ↔ (IsAmong self.now other ⊎ (other ≡ name)) }
+        ensures names { (other : CharName) →
+            IsAmong (with_name self.now name) other ↔ (IsAmong self.now other ⊎ (other ≡ name)) }
     {
         let _ = &self.ranges;
         let _ = NameRange::of(name);
@@ -290,24 +296,26 @@ impl NameSet {
 
     /// Puts a name into the set. Nothing changes where it is there already.
     ///
-    /// Refused `Scattered` where the set would need more than 1,024 ranges, else `OutOfMemory` where memory is.
+    /// Refused `Scattered` where the set would need more than 1,024 ranges, else `OutOfMemory` where memory
+    /// is.
     pub fn insert(&mut self, name: Name) -> Result<(), Refusal>
         ensures ok { OnOk result (self.new ≡ with_name self.old name) }
-        ensures scattered { IsErrOf result Refusal.Scattered ↔ (1024 < length (with_name self.old name)) }
+        ensures scattered { IsErrOf result Refusal.Scattered
+            ↔ (MAX_RANGES < length (with_name self.old name)) }
         ensures errors { IfErr result (λ e. (e ≡ Refusal.Scattered) ⊎ (e ≡ Refusal.OutOfMemory)) }
         ensures err { OnErr result (self.new ≡ self.old) }
         ensures held { IsAmong self.old name → IsOk result × (self.new ≡ self.old) }
     {
-        let at = place_of(&self.ranges, NameRange::of(name));
+        let at = insertion_point(&self.ranges, NameRange::of(name));
         put(&mut self.ranges, at, name)
     }
 
     // The set of these ranges. Refused `OutOfMemory` alone.
     pub(crate) fn of_ranges(alloc: Global, ranges: &[NameRange]) -> Result<NameSet, Refusal>
         requires set { IsSet ranges.now }
-        requires few { length ranges.now ≤ 1024 }
+        requires few { length ranges.now ≤ MAX_RANGES }
         ensures ok { IfOk result (λ set. set ≡ ranges.now) }
-        ensures errors { IfErr result (λ e. e ≡ Refusal.OutOfMemory) }
+        ensures errors { RefusedForMemoryAlone result }
     {
         Ok(NameSet {
             ranges: Vec::from_slice(alloc, ranges)?,

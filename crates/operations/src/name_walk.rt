@@ -1,7 +1,7 @@
 ghost use Rattle.std.specs.Prelude.{◌≡◌, ◌≢◌, ◌↔◌, AllPairs, Contains};
 ghost use Rattle.std.specs.Iterator.{YieldsFirst, item_count};
 ghost use Rattle.char_files.specs.CharName.{CharName};
-ghost use Rattle.operations.specs.Operation.{Mentions, mentioned};
+ghost use Rattle.operations.specs.Operation.{Mentions, mentioned_names};
 
 use crate::kind::Kind;
 use crate::name_set::NameRange;
@@ -50,10 +50,10 @@ impl<'a> Iterator for NameWalk<'a> {
     }
 }
 
-/// Walks the names that the operation mentions, each once: the cause of an Insert, unless it is the root, or the names of a
-/// set, rising.
+/// Walks the names that the operation mentions, each once: the cause of an Insert, unless it is the root, or
+/// the names of a set, rising.
 pub fn named(op: &Op) -> NameWalk<'_>
-    ensures names { result ≡ mentioned op.now }
+    ensures names { result ≡ mentioned_names op.now }
     ensures all { (name : CharName) → Contains result name ↔ Mentions op.now name }
     ensures once { AllPairs (λ a b. a ≢ b) result }
 {

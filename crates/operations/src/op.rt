@@ -1,6 +1,7 @@
-ghost use Rattle.std.specs.Prelude.{◌≡◌, ◌↔◌, IsTrue, IsSome, IfSome, IfOk, IfErr};
+ghost use Rattle.std.specs.Prelude.{◌≡◌, ◌↔◌, IsTrue, IsSome, IfSome, IfOk};
+ghost use Rattle.looks.specs.Refusal.{RefusedForMemoryAlone};
 ghost use Rattle.operations.specs.Spelling.{HasSpelling};
-ghost use Rattle.operations.specs.Seen.{kind_of};
+ghost use Rattle.operations.specs.Seen.{kind_of, operation_with};
 
 use crate::kind::Kind;
 use char_files::{SiteNo, TextNo};
@@ -23,24 +24,24 @@ pub struct Op {
 impl Model for Op {
     ghost use Rattle.operations.specs.Operation.{Operation};
     ghost use Rattle.operations.specs.Spelling.{HasSpelling};
-    ghost use Rattle.operations.specs.Seen.{kind_of};
+    ghost use Rattle.operations.specs.Seen.{operation_with};
 
     ghost Value = { Operation };
 
-    ghost view = { λ op. record { text = op.text; site = op.site; seq = op.seq; stamp = op.stamp; kind = kind_of op.kind } };
+    ghost view = { λ op. operation_with op.text op.site op.seq op.stamp op.kind };
 
-    ghost invariant = { λ op. HasSpelling (record { text = op.text; site = op.site; seq = op.seq; stamp = op.stamp; kind = kind_of op.kind }) };
+    ghost invariant = { λ op. HasSpelling (operation_with op.text op.site op.seq op.stamp op.kind) };
 }
 
 impl Op {
     /// The operation of these fields, or `None` where it has no spelling.
     ///
-    /// A stamp is 1 to 2^48 - 1, a seq 1 or more. An Insert has 1 to 4,096 bytes, which end within 2^24 bytes of its site's
-    /// file, and a cause of its own site is one that stood in that file before it. The other kinds have a name at least, and
-    /// looks that aren't selected are the default.
+    /// A stamp is 1 to 2^48 - 1, a seq 1 or more. An Insert has 1 to 4,096 bytes, which end within 2^24 bytes
+    /// of its site's file, and a cause of its own site is one that stood in that file before it. The other
+    /// kinds have a name at least, and looks that aren't selected are the default.
     pub fn new(text: TextNo, site: SiteNo, seq: u32, stamp: u64, kind: Kind) -> Option<Op>
-        ensures valid { IsSome result ↔ HasSpelling (record { text = text; site = site; seq = seq; stamp = stamp; kind = kind_of kind }) }
-        ensures value { IfSome result (λ op. op ≡ record { text = text; site = site; seq = seq; stamp = stamp; kind = kind_of kind }) }
+        ensures valid { IsSome result ↔ HasSpelling (operation_with text site seq stamp kind) }
+        ensures value { IfSome result (λ op. op ≡ operation_with text site seq stamp kind) }
     {
         // Texts and sites are above 0 by their types, as these readers say.
         let _ = (text.get(), site.get());
@@ -59,7 +60,7 @@ impl Op {
     /// The same operation again. Refused `OutOfMemory` alone.
     pub fn copy(&self) -> Result<Op, Refusal>
         ensures ok { IfOk result (λ op. op ≡ self.now) }
-        ensures errors { IfErr result (λ e. e ≡ Refusal.OutOfMemory) }
+        ensures errors { RefusedForMemoryAlone result }
     {
         Ok(Op {
             text: self.text,
@@ -95,14 +96,16 @@ impl Op {
         self.site
     }
 
-    /// Its number among its site's operations on this text, 1 or more; a site counts from 1 without gaps.
+    /// Its number among its site's operations on this text, 1 or more; a site counts from 1 without gaps. Site
+    /// and number are its identity (a dot).
     pub fn seq(&self) -> u32
         ensures { result ≡ self.now.seq }
     {
         self.seq
     }
 
-    /// Its stamp, 1 to 2^48 - 1; a site stamps each operation above all that it has taken in.
+    /// Its stamp (a Lamport timestamp), 1 to 2^48 - 1; a site stamps each operation above all that it has
+    /// taken in.
     pub fn stamp(&self) -> u64
         ensures { result ≡ self.now.stamp }
     {

@@ -1,10 +1,15 @@
-ghost use Rattle.std.specs.Prelude.{◌≡◌, ℕ, ◌<◌, ◌≤◌, ◌^◌, ◌++◌, ◌↔◌, ◌⊎◌, ◌&&◌, List, length, take, Some, IsNone, IfSome, IfOk, IfErr, IsErrOf};
+ghost use Rattle.std.specs.Prelude.{◌≡◌, ℕ, ◌<◌, ◌≤◌, ◌^◌, ◌++◌, ◌↔◌, ◌⊎◌, ◌&&◌, List, length, take, Some};
+ghost use Rattle.std.specs.Prelude.{IsNone, IfSome, IfOk, IfErr, IsErrOf};
 ghost use Rattle.std.specs.Int.{w64};
 ghost use Rattle.looks.specs.declared.looks.Looks.{Looks};
 ghost use Rattle.looks.specs.Looks.{IsLooks};
+ghost use Rattle.looks.specs.Refusal.{RefusedForMemoryAlone};
 ghost use Rattle.operations.specs.Operation.{Operation};
 ghost use Rattle.operations.specs.Spelling.{HasSpelling, looks_spelling, spelling};
-ghost use Rattle.operations.specs.Reading.{Finds, Makes, looks_len_at, fits_in_file, is_cause, insert_at, delete_at, change_at, kind_at, tag_at, stamp_at, header_at, operation_of, operation_at, message_of, SpellsNone, NoneBeginsAnother, NoneIsShared};
+ghost use Rattle.operations.specs.Reading.{Finds, Makes, looks_len_at, fits_in_file, is_cause, insert_at};
+ghost use Rattle.operations.specs.Reading.{delete_at, change_at, kind_at, tag_at, stamp_at, header_at};
+ghost use Rattle.operations.specs.Reading.{operation_of, operation_at, message_of, SpellsNone};
+ghost use Rattle.operations.specs.Reading.{NoneBeginsAnother, NoneIsShared};
 ghost use Rattle.operations.specs.Parts.{view_header, view_parts, NamesFew};
 ghost use Rattle.operations.specs.Seen.{kind_of};
 
@@ -186,7 +191,7 @@ fn message_of(bytes: &[u8]) -> Option<(Header, Parts<'_>)>
 fn kind_from(alloc: Global, parts: Parts<'_>) -> Result<Kind, Refusal>
     requires { NamesFew (view_parts parts) }
     ensures ok { IfOk result (λ kind. kind_of kind ≡ view_parts parts.entry) }
-    ensures errors { IfErr result (λ e. e ≡ Refusal.OutOfMemory) }
+    ensures errors { RefusedForMemoryAlone result }
 {
     Ok(match parts {
         Parts::Insert {
@@ -215,7 +220,7 @@ fn kind_from(alloc: Global, parts: Parts<'_>) -> Result<Kind, Refusal>
 fn operation_from(alloc: Global, header: Header, parts: Parts<'_>) -> Result<Op, Refusal>
     requires { HasSpelling (operation_of (view_header header) (view_parts parts)) }
     ensures ok { IfOk result (λ op. op ≡ operation_of (view_header header) (view_parts parts.entry)) }
-    ensures errors { IfErr result (λ e. e ≡ Refusal.OutOfMemory) }
+    ensures errors { RefusedForMemoryAlone result }
 {
     let kind = kind_from(alloc, parts)?;
     let op = Op::new(header.text, header.site, header.seq, header.stamp, kind);
@@ -233,13 +238,14 @@ fn read_message(alloc: Global, bytes: &[u8]) -> Result<Op, Refusal>
 
 /// The operation that these bytes spell, all of them.
 ///
-/// Refused `Malformed` where they spell none, which is told before memory is asked for; else `OutOfMemory` where memory is
-/// refused.
+/// Refused `Malformed` where they spell none, which is told before memory is asked for; else `OutOfMemory`
+/// where memory is refused.
 pub fn decode(alloc: Global, bytes: &[u8]) -> Result<Op, Refusal>
     // What is read is spelled so.
     ensures ok { IfOk result (λ op. bytes.now ≡ spelling op) }
     // What is spelled so is read, unless memory is refused.
-    ensures only { (op : Operation) → HasSpelling op → bytes.now ≡ spelling op → IfOk result (λ decoded. decoded ≡ op) }
+    ensures only { (op : Operation) → HasSpelling op → bytes.now ≡ spelling op
+        → IfOk result (λ decoded. decoded ≡ op) }
     // Whether there is memory or not.
     ensures malformed { IsErrOf result Refusal.Malformed ↔ SpellsNone bytes.now }
     ensures errors { IfErr result (λ e. (e ≡ Refusal.Malformed) ⊎ (e ≡ Refusal.OutOfMemory)) }
@@ -258,17 +264,21 @@ fn looks_len_at(bytes: &[u8]) -> Option<(Looks, usize)>
     Some((looks, len))
 }
 
-/// The looks that the bytes begin with, as a message spells them, and how many bytes these are; `None` where they begin with
-/// none. It takes no memory.
+/// The looks that the bytes begin with, as a message spells them, and how many bytes these are; `None` where
+/// they begin with none. It takes no memory.
 pub fn read_looks(bytes: &[u8]) -> Option<(Looks, usize)>
-    ensures some { IfSome result (λ found. IsLooks found.0 × (found.1 ≤ length bytes.now) × (take found.1 bytes.now ≡ looks_spelling found.0)) }
-    ensures only { (looks : Looks) (rest : List ℕ) → IsLooks looks → bytes.now ≡ looks_spelling looks ++ rest → result ≡ Some (looks, length (looks_spelling looks)) }
-    ensures none { IsNone result ↔ ((looks : Looks) (rest : List ℕ) → IsLooks looks → bytes.now ≡ looks_spelling looks ++ rest → ⊥) }
+    ensures some { IfSome result (λ found. IsLooks found.0 × (found.1 ≤ length bytes.now)
+        × (take found.1 bytes.now ≡ looks_spelling found.0)) }
+    ensures only { (looks : Looks) (rest : List ℕ) → IsLooks looks → bytes.now ≡ looks_spelling looks ++ rest
+        → result ≡ Some (looks, length (looks_spelling looks)) }
+    ensures none { IsNone result ↔ ((looks : Looks) (rest : List ℕ) → IsLooks looks
+        → bytes.now ≡ looks_spelling looks ++ rest → ⊥) }
 {
     looks_len_at(bytes)
 }
 
-/// A law: no two operations share a spelling, and no spelling begins another one. A proof gets it by calling this, at no cost.
+/// A law: no two operations share a spelling, and no spelling begins another one. A proof gets it by calling
+/// this, at no cost.
 pub fn one_spelling()
     ensures prefix { NoneBeginsAnother }
     ensures one { NoneIsShared }

@@ -1,11 +1,15 @@
-ghost use Rattle.std.specs.Prelude.{◌≡◌, ◌≤◌, ◌++◌, ◌↔◌, length, take, IsOk, IfErr, OnOk, OnErr};
+ghost use Rattle.std.specs.Prelude.{◌≡◌, ◌≤◌, ◌++◌, ◌↔◌, length, take, IsOk, OnOk, OnErr};
 ghost use Rattle.std.specs.Int.{w16, w32, w64};
 ghost use Rattle.std.specs.List.{flat_map};
-ghost use Rattle.operations.specs.Spelling.{HasSpelling, tag_spelling, number_spelling, name_spelling, anchor_spelling, font_spelling, looks_spelling, selected_spelling, range_spelling, set_spelling, kind_spelling, header_spelling, spelling};
+ghost use Rattle.looks.specs.Refusal.{RefusedForMemoryAlone};
+ghost use Rattle.operations.specs.Spelling.{HasSpelling, tag_spelling, number_spelling, name_spelling};
+ghost use Rattle.operations.specs.Spelling.{anchor_spelling, font_spelling, looks_spelling};
+ghost use Rattle.operations.specs.Spelling.{selected_spelling, range_spelling, set_spelling, kind_spelling};
+ghost use Rattle.operations.specs.Spelling.{header_spelling, spelling};
 ghost use Rattle.operations.specs.Seen.{Appends};
 ghost use Rattle.operations.specs.Operation.{insert, change_looks};
 
-use crate::kind::Kind;
+use crate::kind::{Kind, MAX_INSERT};
 use crate::name_set::{NameRange, NameSet};
 use crate::op::Op;
 use byteorder::{BigEndian, ByteOrder};
@@ -125,8 +129,9 @@ fn put_insert(
     looks: &Looks,
     bytes: &[u8],
 ) -> Result<(), AllocError>
-    requires { length bytes.now ≤ 4096 }
-    ensures { Appends result out.old.items out.new.items (kind_spelling (insert cause at looks.now bytes.now)) }
+    requires { length bytes.now ≤ MAX_INSERT }
+    ensures { Appends result out.old.items out.new.items
+        (kind_spelling (insert cause at looks.now bytes.now)) }
 {
     put_anchor(out, cause)?;
     put_u32(out, at)?;
@@ -137,7 +142,8 @@ fn put_insert(
 
 // What a ChangeLooks has behind the fields that every message has.
 fn put_change(out: &mut Vec<u8>, sel: Sel, looks: &Looks, names: &NameSet) -> Result<(), AllocError>
-    ensures { Appends result out.old.items out.new.items (kind_spelling (change_looks sel looks.now names.now)) }
+    ensures { Appends result out.old.items out.new.items
+        (kind_spelling (change_looks sel looks.now names.now)) }
 {
     out.push(sel.bits())?;
     put_selected(out, sel, looks)?;
@@ -201,7 +207,7 @@ fn all_or_nothing(
     start: usize,
 ) -> Result<(), Refusal>
     ensures ok { IsOk result ↔ IsOk put }
-    ensures errors { IfErr result (λ e. e ≡ Refusal.OutOfMemory) }
+    ensures errors { RefusedForMemoryAlone result }
     ensures kept { OnOk result (out.new.items ≡ out.old.items) }
     ensures taken_back { OnErr result (out.new.items ≡ take start out.old.items) }
 {
@@ -212,10 +218,11 @@ fn all_or_nothing(
     Ok(())
 }
 
-/// Appends the bytes that stand for looks in a message. Refused `OutOfMemory` alone, and then the vector is as it was.
+/// Appends the bytes that stand for looks in a message. Refused `OutOfMemory` alone, and then the vector is
+/// as it was.
 pub fn write_looks(looks: &Looks, out: &mut Vec<u8>) -> Result<(), Refusal>
     ensures ok { OnOk result (out.new.items ≡ out.old.items ++ looks_spelling looks.now) }
-    ensures errors { IfErr result (λ e. e ≡ Refusal.OutOfMemory) }
+    ensures errors { RefusedForMemoryAlone result }
     ensures err { OnErr result (out.new.items ≡ out.old.items) }
 {
     let start = out.len();
@@ -226,7 +233,7 @@ pub fn write_looks(looks: &Looks, out: &mut Vec<u8>) -> Result<(), Refusal>
 /// Appends the operation's message. Refused `OutOfMemory` alone, and then the vector is as it was.
 pub fn encode(op: &Op, out: &mut Vec<u8>) -> Result<(), Refusal>
     ensures ok { OnOk result (out.new.items ≡ out.old.items ++ spelling op.now) }
-    ensures errors { IfErr result (λ e. e ≡ Refusal.OutOfMemory) }
+    ensures errors { RefusedForMemoryAlone result }
     ensures err { OnErr result (out.new.items ≡ out.old.items) }
 {
     op.has_spelling();

@@ -3,7 +3,9 @@
 ghost use Rattle.std.specs.Prelude.{◌≡◌};
 ghost use Rattle.std.specs.Int.{w16, w32, w64};
 ghost use Rattle.looks.specs.Looks.{plain_looks};
-ghost use Rattle.operations.specs.Reading.{Finds, stretch_at, number_at, positive_at, byte_at, font_at, colour_at, offset_at, looks_at, selected_or, selected_at, sel_at, anchor_of, anchor_at};
+ghost use Rattle.operations.specs.Reading.{Finds, stretch_at, number_at, positive_at, byte_at, font_at};
+ghost use Rattle.operations.specs.Reading.{colour_at, offset_at, looks_at, selected_or, selected_at};
+ghost use Rattle.operations.specs.Reading.{sel_at, anchor_of, anchor_at};
 
 use char_files::{Anchor, Name, SiteNo, TextNo};
 use looks::{Colour, FontName, Looks, Sel};
@@ -20,36 +22,22 @@ pub(super) fn stretch_at(len: usize, bytes: &[u8]) -> Option<(&[u8], &[u8])>
 pub(super) fn u16_at(bytes: &[u8]) -> Option<(u16, &[u8])>
     ensures { Finds (λ x. (x.0, x.1.now)) result (number_at w16 bytes.now) }
 {
-    if bytes.len() < 2 {
-        return None;
-    }
-    let (front, rest) = bytes.split_at(2);
-    let number = u16::from_be_bytes([front[0], front[1]]);
-    Some((number, rest))
+    let (front, rest) = bytes.split_first_chunk::<2>()?;
+    Some((u16::from_be_bytes(*front), rest))
 }
 
 pub(super) fn u32_at(bytes: &[u8]) -> Option<(u32, &[u8])>
     ensures { Finds (λ x. (x.0, x.1.now)) result (number_at w32 bytes.now) }
 {
-    if bytes.len() < 4 {
-        return None;
-    }
-    let (front, rest) = bytes.split_at(4);
-    let number = u32::from_be_bytes([front[0], front[1], front[2], front[3]]);
-    Some((number, rest))
+    let (front, rest) = bytes.split_first_chunk::<4>()?;
+    Some((u32::from_be_bytes(*front), rest))
 }
 
 fn u64_at(bytes: &[u8]) -> Option<(u64, &[u8])>
     ensures { Finds (λ x. (x.0, x.1.now)) result (number_at w64 bytes.now) }
 {
-    if bytes.len() < 8 {
-        return None;
-    }
-    let (front, rest) = bytes.split_at(8);
-    let number = u64::from_be_bytes([
-        front[0], front[1], front[2], front[3], front[4], front[5], front[6], front[7],
-    ]);
-    Some((number, rest))
+    let (front, rest) = bytes.split_first_chunk::<8>()?;
+    Some((u64::from_be_bytes(*front), rest))
 }
 
 #[tactic(auto, unfolding(crate::specs::Reading::positive_at))]
@@ -172,7 +160,8 @@ fn font_or_default(selected: bool, bytes: &[u8]) -> Option<(FontName, &[u8])>
 }
 
 fn colour_or_default(selected: bool, bytes: &[u8]) -> Option<(Colour, &[u8])>
-    ensures { Finds (λ x. (x.0, x.1.now)) result (selected_or selected plain_looks.colour colour_at bytes.now) }
+    ensures { Finds (λ x. (x.0, x.1.now)) result
+        (selected_or selected plain_looks.colour colour_at bytes.now) }
 {
     if selected {
         colour_at(bytes)
@@ -182,7 +171,8 @@ fn colour_or_default(selected: bool, bytes: &[u8]) -> Option<(Colour, &[u8])>
 }
 
 fn offset_or_default(selected: bool, bytes: &[u8]) -> Option<(i8, &[u8])>
-    ensures { Finds (λ x. (x.0, x.1.now)) result (selected_or selected plain_looks.offset offset_at bytes.now) }
+    ensures { Finds (λ x. (x.0, x.1.now)) result
+        (selected_or selected plain_looks.offset offset_at bytes.now) }
 {
     if selected {
         offset_at(bytes)
@@ -220,7 +210,7 @@ pub(super) fn sel_at(bytes: &[u8]) -> Option<(Sel, &[u8])>
     Some((sel, rest))
 }
 
-// The cause of these numbers: the root is place 0 of site 0.
+// The cause of these numbers: the root is offset 0 of site 0.
 fn anchor_of(site: u16, off: u32) -> Option<Anchor>
     ensures { result ≡ anchor_of site off }
 {

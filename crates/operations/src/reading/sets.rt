@@ -8,7 +8,7 @@ use crate::name_set::{MAX_RANGES, NameRange};
 use arrayvec::ArrayVec;
 use char_files::MAX_FILE;
 
-/// As many ranges as a set may have, in a place of their own.
+/// Room for as many ranges as a set may have.
 pub(super) type Ranges = ArrayVec<NameRange, MAX_RANGES>;
 
 #[tactic(auto, unfolding(crate::specs::Reading::range_at), using(crate::proofs::Readers::positive_is))]
@@ -27,7 +27,7 @@ fn range_at(bytes: &[u8]) -> Option<(NameRange, &[u8])>
 }
 
 // Whether the range stands behind the last of these, if there is one, and doesn't touch it.
-fn is_behind(ranges: &[NameRange], range: NameRange) -> bool
+fn is_behind_last(ranges: &[NameRange], range: NameRange) -> bool
     ensures { result ≡ is_behind (slice_get ranges.now (length ranges.now - 1)) range }
 {
     match ranges.last() {
@@ -39,21 +39,21 @@ fn is_behind(ranges: &[NameRange], range: NameRange) -> bool
 // Puts the next range at the end, where it stands behind the others.
 #[tactic(auto, unfolding(crate::specs::Reading::next_at))]
 fn push_next<'a>(ranges: &mut Ranges, bytes: &'a [u8]) -> Option<&'a [u8]>
-    requires { length ranges.old.items < 1024 }
+    requires { length ranges.old.items < MAX_RANGES }
     ensures { Finds (λ rest. (ranges.new.items, rest.now)) result (next_at ranges.old.items bytes.now) }
 {
     let Some((range, rest)) = range_at(bytes) else {
         return None;
     };
-    if !is_behind(ranges.as_slice(), range) {
+    if !is_behind_last(ranges.as_slice(), range) {
         return None;
     }
     ranges.push(range);
     Some(rest)
 }
 
-fn ranges_at(count: u16, bytes: &[u8]) -> Option<(Ranges, &[u8])>
-    requires { count ≤ 1024 }
+fn counted_ranges_at(count: u16, bytes: &[u8]) -> Option<(Ranges, &[u8])>
+    requires { count ≤ MAX_RANGES }
     ensures { Finds (λ x. (x.0.items, x.1.now)) result (ranges_at None count bytes.now) }
 {
     let mut ranges = ArrayVec::new();
@@ -72,5 +72,5 @@ pub(super) fn set_at(bytes: &[u8]) -> Option<(Ranges, &[u8])>
     if MAX_RANGES < usize::from(count) {
         return None;
     }
-    ranges_at(count, rest)
+    counted_ranges_at(count, rest)
 }

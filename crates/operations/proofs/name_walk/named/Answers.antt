@@ -9,7 +9,8 @@ pub returns-in-Delete-clause-all : goal.returns-in-Delete-clause-all
 returns-in-Delete-clause-all c = λ name.
     let names = c.in-Delete.names in
     let ranges = c.ranges-in-Delete.result.now in
-    let there : Contains (names_in ranges) name ↔ MentionsBy (delete names) name = rw c.ranges-in-Delete.ensures.value (Contains-names_in names name) in
+    let there : Contains (names_in ranges) name ↔ MentionsBy (delete names) name =
+    rw c.ranges-in-Delete.ensures.value (Contains-names_in names name) in
     elim c.in-Delete.is [
       | inl e ↦
           let is : delete names ≡ c.args.op.now.kind = sym (ap kind_of e) ∙ c.kind.ensures in
@@ -20,4 +21,5 @@ returns-in-Delete-clause-all c = λ name.
     ]
 
 pub returns-in-Delete-clause-once : goal.returns-in-Delete-clause-once
-returns-in-Delete-clause-once c = AllPairs-names_in c.ranges-in-Delete.result.now c.ranges-in-Delete.ensures.set
+returns-in-Delete-clause-once c =
+    AllPairs-names_in c.ranges-in-Delete.result.now c.ranges-in-Delete.ensures.set

@@ -1,6 +1,6 @@
 use Rattle.std.proofs.Common.{◌≡◌, ◌∷◌, ◌++◌, []}
 use Rattle.looks.specs.Sel.{bits_of}
-use Rattle.operations.proofs.Appended.{Appends-after, joined}
+use Rattle.operations.proofs.Appended.{Appends-after, append_both}
 use Rattle.operations.specs.Spelling.{selected_spelling, set_spelling}
 use Rattle.operations.proofs.writing.put_change.Goals as goal
 
@@ -10,5 +10,8 @@ returns c =
     let sel = bits_of c.args.sel ∷ [] in
     let selected = selected_spelling c.args.sel c.args.looks.now in
     let one : c.push.new.self.items ≡ old ++ sel = cc (c.in_ok-push.ensures.items, c.bits.ensures.value) in
-    let two = joined old c.push.new.self.items c.put_selected.new.out.items sel selected one c.in_ok-put_selected.ensures in
-    Appends-after c.put_names.result old c.put_selected.new.out.items c.put_names.new.out.items (sel ++ selected) (set_spelling c.args.names.now) two c.put_names.ensures
+    let two =
+    append_both old c.push.new.self.items c.put_selected.new.out.items sel selected one
+    c.in_ok-put_selected.ensures in
+    Appends-after c.put_names.result old c.put_selected.new.out.items c.put_names.new.out.items (sel
+    ++ selected) (set_spelling c.args.names.now) two c.put_names.ensures

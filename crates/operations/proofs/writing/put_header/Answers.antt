@@ -1,6 +1,6 @@
 use Rattle.std.proofs.Common.{◌++◌}
 use Rattle.std.specs.Int.{w16, w32, w64}
-use Rattle.operations.proofs.Appended.{Appends-after, joined}
+use Rattle.operations.proofs.Appended.{Appends-after, append_both}
 use Rattle.operations.specs.Spelling.{tag_spelling, number_spelling}
 use Rattle.operations.proofs.writing.put_header.Goals as goal
 
@@ -12,7 +12,12 @@ returns c =
     let site = number_spelling w16 c.args.site in
     let seq = number_spelling w32 c.args.seq in
     let stamp = number_spelling w64 c.args.stamp in
-    let two = joined old c.put_tag.new.out.items c.put_u16.new.out.items tag text c.in_ok-put_tag.ensures c.in_ok-put_u16.ensures in
-    let three = joined old c.put_u16.new.out.items c.put_u16-2.new.out.items (tag ++ text) site two c.in_ok-put_u16-2.ensures in
-    let four = joined old c.put_u16-2.new.out.items c.put_u32.new.out.items (tag ++ text ++ site) seq three c.in_ok-put_u32.ensures in
-    Appends-after c.put_u64.result old c.put_u32.new.out.items c.put_u64.new.out.items (tag ++ text ++ site ++ seq) stamp four c.put_u64.ensures
+    let two =
+    append_both old c.put_tag.new.out.items c.put_u16.new.out.items tag text c.in_ok-put_tag.ensures
+    c.in_ok-put_u16.ensures in
+    let three = append_both old c.put_u16.new.out.items c.put_u16-2.new.out.items (tag ++ text) site two
+    c.in_ok-put_u16-2.ensures in
+    let four = append_both old c.put_u16-2.new.out.items c.put_u32.new.out.items (tag ++ text ++ site) seq
+    three c.in_ok-put_u32.ensures in
+    Appends-after c.put_u64.result old c.put_u32.new.out.items c.put_u64.new.out.items (tag ++ text ++ site
+    ++ seq) stamp four c.put_u64.ensures

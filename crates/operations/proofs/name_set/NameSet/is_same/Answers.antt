@@ -5,7 +5,8 @@ use Rattle.operations.proofs.name_set.NameSet.is_same.Goals as goal
 
 pub returns : goal.returns
 returns c =
-    let same : (c.eq.result ≡ true) ↔ (c.ranges-2.result.now ≡ c.ranges-3.result.now) = slice_eq-Decides {A = Range} (λ a b. search rules) _ _ _ c.eq.ensures in
+    let same : (c.eq.result ≡ true) ↔ (c.ranges-2.result.now ≡ c.ranges-3.result.now) =
+    slice_eq-Decides {A = Range} (λ a b. search rules) _ _ _ c.eq.ensures in
     let left = c.ranges-2.ensures.value in
     let right = c.ranges-3.ensures.value in
     (λ e. let h = same.0 e in cc, λ e. same.1 cc)

@@ -5,7 +5,8 @@ use Rattle.operations.proofs.name_set.NameSet.with_name_law.Goals as goal
 
 pub returns-clause-set : goal.returns-clause-set
 returns-clause-set c =
-    IsSet-with_name c.args.self.now c.args.name (subst IsRange c.of.ensures.value c.of.ensures.range) (subst IsSet c.self.view_is c.self.invariant.0)
+    IsSet-with_name c.args.self.now c.args.name (subst IsRange c.of.ensures.value c.of.ensures.range)
+    (subst IsSet c.self.view_is c.self.invariant.0)
 
 pub returns-clause-names : goal.returns-clause-names
 returns-clause-names c = λ other. IsAmong-with_name c.args.self.now c.args.name other

@@ -1,7 +1,7 @@
 use Rattle.std.specs.Prelude.{None}
 use Rattle.operations.specs.Reading.{ranges_at}
 use Rattle.operations.proofs.ReadSets.{IsRead}
-use Rattle.operations.proofs.reading.sets.ranges_at.Given as goal
+use Rattle.operations.proofs.reading.sets.counted_ranges_at.Given as goal
 
 -- the ranges so far, and how the rest will go on
 abbrev pub invariant-loop : goal.invariant-loop
