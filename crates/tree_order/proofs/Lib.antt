@@ -6,11 +6,12 @@ pub mod GoodParts
 pub mod LastLemmas
 pub mod OneText
 pub mod Paths
-pub mod PlacedLemmas
 pub mod Runs
 pub mod SameSet
 pub mod ShownLemmas
+pub mod SomeText
 pub mod Sorted
+pub mod SortedPathsLemmas
 pub mod Trails
 pub mod Tree
 pub mod Turns

@@ -7,12 +7,14 @@ use Rattle.operations.specs.Operation.{Operation}
 use Rattle.tree_order.specs.Tree.{IsParent, Leads}
 
 -- a way on from where a path ends
-pub Leads-append : (ops : List Operation) (a b c : Anchor) (p q : List CharName) → Leads ops a p b → Leads ops b q c → Leads ops a (p ++ q) c
+pub Leads-append : (ops : List Operation) (a b c : Anchor) (p q : List CharName) → Leads ops a p b
+    → Leads ops b q c → Leads ops a (p ++ q) c
 Leads-append ops a b c [] q h k = subst (λ (x : Anchor). Leads ops x q c) (sym h) k
 Leads-append ops a b c (d ∷ p) q h k = (h.0, Leads-append ops (At d) b c p q h.1 k)
 
 -- a path ends at one anchor
-pub Leads-end : (ops : List Operation) (a b c : Anchor) (path : List CharName) → Leads ops a path b → Leads ops a path c → b ≡ c
+pub Leads-end : (ops : List Operation) (a b c : Anchor) (path : List CharName) → Leads ops a path b
+    → Leads ops a path c → b ≡ c
 Leads-end ops a b c [] h k = sym h ∙ k
 Leads-end ops a b c (d ∷ path) h k = Leads-end ops (At d) b c path h.1 k.1
 
@@ -27,8 +29,18 @@ pub record LastStep (ops : List Operation) (a : Anchor) (path : List CharName) (
   pub ends : At last ≡ b
 
 -- a path that isn't empty has a last step
-pub last_step : (ops : List Operation) (a b : Anchor) (c : CharName) (path : List CharName) → Leads ops a (c ∷ path) b → LastStep ops a (c ∷ path) b
-last_step ops a b c [] h = record { front = []; last = c; x = a; is = refl; leads = refl; hangs = h.0; ends = h.1 }
+pub last_step : (ops : List Operation) (a b : Anchor) (c : CharName) (path : List CharName)
+    → Leads ops a (c ∷ path) b → LastStep ops a (c ∷ path) b
+last_step ops a b c [] h = record {
+  front = [];
+  last = c;
+  x = a;
+  is = refl;
+  leads = refl;
+  hangs =
+      h.0;
+  ends = h.1;
+}
 last_step ops a b c (d ∷ path) h =
     let s : LastStep ops (At c) (d ∷ path) b = last_step ops (At c) b d path h.1 in
     record {

@@ -1,28 +1,33 @@
 -- What stands between two neighbouring bytes of one Insert.
-use Rattle.std.proofs.Common.{◌≡◌, ℕ, ◌+◌, ◌-◌, inl, inr, false, eqb, List, [], ◌∷◌, ◌++◌, refl, ap, ne_eqb, arith}
+use Rattle.std.proofs.Common.{◌≡◌, ℕ, ◌+◌, ◌-◌, inl, inr, false, eqb, List, [], ◌∷◌, ◌++◌, refl, ap, ne_eqb}
+use Rattle.std.proofs.Common.{arith}
 use Rattle.char_files.specs.CharName.{CharName}
 use Rattle.char_files.specs.declared.name.Anchor.TheVariants.{Root, At}
 use Rattle.operations.specs.Operation.{Operation, OpKind, insert, delete, change_looks, InsertsBy}
-use Rattle.tree_order.specs.Taken.{Good}
+use Rattle.tree_order.specs.Good.{Good}
 use Rattle.tree_order.specs.Tree.{IsParent, IsPath, IsDescendant, parent_by}
 use Rattle.tree_order.specs.Order.{Before}
 use Rattle.tree_order.specs.Laws.{RunsStayTogether}
 use Rattle.tree_order.proofs.Before.{trail_from_Before}
 use Rattle.tree_order.proofs.Files.{same_name}
 use Rattle.tree_order.proofs.Paths.{Leads-append}
-use Rattle.tree_order.proofs.Trails.{Trail, Trail-from_prefix, Trail-irreflexive, Trail-transitive, cases_longer}
+use Rattle.tree_order.proofs.Trails.{Trail, Trail-from_prefix, Trail-irreflexive, Trail-transitive}
+use Rattle.tree_order.proofs.Trails.{cases_longer}
 
 -- the next byte hangs on the one before
-next_hangs : (site : ℕ) (kind : OpKind) (c d : CharName) → InsertsBy site kind c → InsertsBy site kind d → c.off + 1 ≡ d.off → At c ≡ parent_by kind d
+next_hangs : (site : ℕ) (kind : OpKind) (c d : CharName) → InsertsBy site kind c → InsertsBy site kind d
+    → c.off + 1 ≡ d.off → At c ≡ parent_by kind d
 next_hangs site (insert cause at looks bytes) c d h k next =
     let later : eqb d.off at ≡ false = ne_eqb d.off at (omega arith) in
-    let same : c ≡ record { site = d.site; off = d.off - 1 } = same_name c (record { site = d.site; off = d.off - 1 }) (omega arith) (omega arith) in
+    let same : c ≡ record { site = d.site; off = d.off - 1 } =
+    same_name c (record { site = d.site; off = d.off - 1 }) (omega arith) (omega arith) in
     rw later (ap At same)
 next_hangs site (delete names) c d h k next = absurd h
 next_hangs site (change_looks sel looks names) c d h k next = absurd h
 
 -- what stands between a character and one that hangs on it is a descendant of the former
-between : (ops : List Operation) → Good ops → (c d x : CharName) → IsParent ops d (At c) → Before ops c x → Before ops x d → IsDescendant ops c x
+between : (ops : List Operation) → Good ops → (c d x : CharName) → IsParent ops d (At c) → Before ops c x
+    → Before ops x d → IsDescendant ops c x
 between ops good c d x on b b' =
     let p = b.0 in
     let q = b.1 in
@@ -44,7 +49,8 @@ not_below ops good d x b (p, q, up, uq, begins) =
 pub runs_stay : (ops : List Operation) → Good ops → RunsStayTogether ops
 runs_stay ops good order c d x is run ahead behind =
     let i = run.insert in
-    let on : IsParent ops d (At c) = (i, run.second, next_hangs i.site i.kind c d run.first.inserts run.second.inserts run.next) in
+    let on : IsParent ops d (At c) =
+    (i, run.second, next_hangs i.site i.kind c d run.first.inserts run.second.inserts run.next) in
     let b : Before ops c x = (is.ahead c x).0 ahead in
     let b' : Before ops x d = (is.ahead x d).0 behind in
     (between ops good c d x on b b', not_below ops good d x b')

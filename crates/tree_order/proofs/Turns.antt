@@ -1,5 +1,7 @@
--- Two paths, place by place: which goes ahead; and the way up from a character.
-use Rattle.std.proofs.Common.{◌≡◌, ◌≢◌, ℕ, zero, suc, ◌+◌, ◌-◌, ◌*◌, ◌^◌, ◌<◌, ◌≤◌, ◌⊎◌, ◌↔◌, min, false, true, ◌==◌, ◌&&◌, inl, inr, List, [], ◌∷◌, All, length, get_or, take, drop, length-drop, sym, ap, subst, ◌∙◌, arith}
+-- Two paths, step by step: which goes ahead; and the way up from a character.
+use Rattle.std.proofs.Common.{◌≡◌, ◌≢◌, ℕ, zero, suc, ◌+◌, ◌-◌, ◌*◌, ◌^◌, ◌<◌, ◌≤◌, ◌⊎◌, ◌↔◌, min, false}
+use Rattle.std.proofs.Common.{true, ◌==◌, ◌&&◌, inl, inr, List, [], ◌∷◌, All, length, get_or, take, drop}
+use Rattle.std.proofs.Common.{length-drop, sym, ap, subst, ◌∙◌, arith}
 use Rattle.std.proofs.lemmas.Bool.{cases_lt}
 use Rattle.std.proofs.lemmas.Bool.Decides.{nat_tests}
 use Rattle.std.proofs.lemmas.List.{drop_more, drop_all}
@@ -10,7 +12,7 @@ use Rattle.char_files.specs.declared.name.Anchor.{Anchor}
 use Rattle.char_files.specs.declared.name.Anchor.TheVariants.{At}
 use Rattle.operations.specs.Operation.{Operation, OpKind, insert, delete, change_looks, Inserts, InsertsBy}
 use Rattle.operations.specs.Spelling.{HasSpelling, IsKind}
-use Rattle.tree_order.specs.Taken.{Good, key_of}
+use Rattle.tree_order.specs.Good.{Good, key_of}
 use Rattle.tree_order.specs.Tree.{IsChar, IsInsertOf, IsPath, IsProperPrefix, Leads, parent_by}
 use Rattle.tree_order.specs.Order.{HasGreaterKey, TurnsAhead, Before}
 use Rattle.tree_order.proofs.Before.{trail_from_Before}
@@ -23,7 +25,8 @@ abbrev GoesAhead : List Operation → List CharName → List CharName → Type 0
 GoesAhead ops p q = IsProperPrefix p q ⊎ TurnsAhead ops p q
 
 -- behind a common beginning the rest decides
-Trail-common : (ops : List Operation) (n : ℕ) (p q : List CharName) → n ≤ length p → n ≤ length q → take n p ≡ take n q → Trail ops p q ↔ Trail ops (drop n p) (drop n q)
+Trail-common : (ops : List Operation) (n : ℕ) (p q : List CharName) → n ≤ length p → n ≤ length q
+    → take n p ≡ take n q → Trail ops p q ↔ Trail ops (drop n p) (drop n q)
 Trail-common ops zero p q in_p in_q same = (λ t. t, λ t. t)
 Trail-common ops (suc n) [] q in_p in_q same = absurd (omega arith)
 Trail-common ops (suc n) (c ∷ p) [] in_p in_q same = absurd (omega arith)
@@ -36,17 +39,28 @@ Trail-common ops (suc n) (c ∷ p) (d ∷ q) in_p in_q same =
     )
 
 Trail_iff : (ops : List Operation) (p q : List CharName) → Trail ops p q ↔ GoesAhead ops p q
-Trail_iff ops p q = (cases_Trail ops p q, λ h. elim h [ inl k ↦ Trail-from_prefix ops p q k | inr k ↦ Trail-from_turn ops p q k ])
+Trail_iff ops p q = (
+  cases_Trail ops p q,
+  λ h. elim h [
+    | inl k ↦ Trail-from_prefix ops p q k
+    | inr k ↦ Trail-from_turn ops p
+        q k
+  ],
+)
 
 -- where two paths differ first, the keys decide
-pub goes_ahead_at : (ops : List Operation) (p q : List CharName) (n : ℕ) (c d : CharName) → n < length p → n < length q → take n p ≡ take n q → c ≡ get_or p n c → d ≡ get_or q n d → c ≢ d → HasGreaterKey ops c d ↔ GoesAhead ops p q
+pub goes_ahead_at : (ops : List Operation) (p q : List CharName) (n : ℕ) (c d : CharName) → n < length p
+    → n < length q → take n p ≡ take n q → c ≡ get_or p n c → d ≡ get_or q n d → c ≢ d
+    → HasGreaterKey ops c d ↔ GoesAhead ops p q
 goes_ahead_at ops p q n c d in_p in_q same at_p at_q apart =
     let common = Trail-common ops n p q (omega arith) (omega arith) same in
     let rest_p : drop n p ≡ c ∷ drop (n + 1) p = drop_more p n c in_p ∙ rw (← at_p) in
     let rest_q : drop n q ≡ d ∷ drop (n + 1) q = drop_more q n d in_q ∙ rw (← at_q) in
     let all = Trail_iff ops p q in (
       λ more. all.0 (common.1 (rw (rest_p, rest_q) (inr (apart, more)))),
-      λ h. let t : Trail ops (c ∷ drop (n + 1) p) (d ∷ drop (n + 1) q) = rw (rest_p, rest_q) at (common.0 (all.1 h)) in elim t [ inl k ↦ absurd (apart k.0) | inr k ↦ k.1 ],
+      λ h. let t : Trail ops (c ∷ drop (n + 1) p) (d ∷ drop (n + 1) q) =
+          rw (rest_p, rest_q) at (common.0 (all.1 h)) in
+          elim t [ inl k ↦ absurd (apart k.0) | inr k ↦ k.1 ],
     )
 
 none_ahead : (ops : List Operation) (p : List CharName) → Trail ops p [] → ⊥
@@ -58,31 +72,39 @@ ahead_of_some ops [] some = absurd (omega arith)
 ahead_of_some ops (d ∷ q) some = tt
 
 -- where one of two paths ends first, or both do, that one goes ahead which is shorter
-pub goes_ahead_by_length : (ops : List Operation) (p q : List CharName) (n : ℕ) → n ≡ min (length p) (length q) → take n p ≡ take n q → (length p < length q) ↔ GoesAhead ops p q
+pub goes_ahead_by_length : (ops : List Operation) (p q : List CharName) (n : ℕ)
+    → n ≡ min (length p) (length q) → take n p ≡ take n q → (length p < length q) ↔ GoesAhead ops p q
 goes_ahead_by_length ops p q n at same =
     let common = Trail-common ops n p q (omega arith) (omega arith) same in
     let all = Trail_iff ops p q in (
-      λ less. let ended : drop n p ≡ [] = drop_all n p (omega arith) in all.0 (common.1 (rw ended (ahead_of_some ops (drop n q) (omega (arith, length-drop n q))))),
+      λ less. let ended : drop n p ≡ [] = drop_all n p (omega arith) in
+          all.0 (common.1 (rw ended (ahead_of_some ops (drop n q) (omega (arith, length-drop n q))))),
       λ h. elim (cases_lt (length p) (length q)) [
         | inl less ↦ less
-        | inr ge ↦ let ended : drop n q ≡ [] = drop_all n q (omega arith) in absurd (none_ahead ops (drop n p) (rw ended at (common.0 (all.1 h))))
+        | inr ge ↦ let ended : drop n q ≡ [] = drop_all n q (omega arith) in
+            absurd (none_ahead ops (drop n p) (rw ended at (common.0 (all.1 h))))
       ],
     )
 
 -- a character's key is that of its one Insert
-pub HasGreaterKey_iff : (ops : List Operation) → Good ops → (c d : CharName) (i j : Operation) → IsInsertOf ops c i → IsInsertOf ops d j → (is_below (key_of j) (key_of i) ≡ true) ↔ HasGreaterKey ops c d
+pub HasGreaterKey_iff : (ops : List Operation) → Good ops → (c d : CharName) (i j : Operation)
+    → IsInsertOf ops c i → IsInsertOf ops d j
+    → (is_below (key_of j) (key_of i) ≡ true) ↔ HasGreaterKey ops c d
 HasGreaterKey_iff ops good c d i j is is' = (
   λ more. (i, j, is, is', more),
   λ (i', j', p, q, more). rw (one_insert ops good c i i' is p, one_insert ops good d j j' is' q) more,
 )
 
-in_file_by : (site : ℕ) (kind : OpKind) (c : CharName) → IsKind site kind → InsertsBy site kind c → c.off < 2 ^ 24
+in_file_by : (site : ℕ) (kind : OpKind) (c : CharName) → IsKind site kind → InsertsBy site kind c
+    → c.off < 2 ^ 24
 in_file_by site (insert cause at looks bytes) c valid h = omega (arith, h.2, valid.in_file)
 in_file_by site (delete names) c valid h = absurd h
 in_file_by site (change_looks sel looks names) c valid h = absurd h
 
 -- what a character hangs on has an Insert of a smaller stamp, or stands before it in the same Insert
-pub climbs : (ops : List Operation) → Good ops → (c parent : CharName) (i j : Operation) → IsInsertOf ops c i → IsInsertOf ops parent j → At parent ≡ parent_by i.kind c → HasSpelling j → j.stamp * 2 ^ 24 + parent.off < i.stamp * 2 ^ 24 + c.off
+pub climbs : (ops : List Operation) → Good ops → (c parent : CharName) (i j : Operation)
+    → IsInsertOf ops c i → IsInsertOf ops parent j → At parent ≡ parent_by i.kind c → HasSpelling j
+    → j.stamp * 2 ^ 24 + parent.off < i.stamp * 2 ^ 24 + c.off
 climbs ops good c parent i j is up hung spelled =
     let small : parent.off < 2 ^ 24 = in_file_by j.site j.kind parent spelled.kind up.inserts in
     elim (hangs ops good c i is (At parent) hung) [
@@ -96,14 +118,17 @@ climbs ops good c parent i j is up hung spelled =
       ]
       | inr next ↦
           let same : parent ≡ before c = let at : At parent ≡ At (before c) = next.is in cc in
-          let one : j ≡ i = one_insert ops good parent j i up (subst (λ (d : CharName). IsInsertOf ops d i) (sym same) next.former) in
+          let one : j ≡ i =
+          one_insert ops good parent j i up (subst (λ (d : CharName). IsInsertOf ops d i) (sym same)
+          next.former) in
           let stamp : j.stamp ≡ i.stamp = ap (λ (o : Operation). o.stamp) one in
           let off : parent.off ≡ c.off - 1 = ap (λ (d : CharName). d.off) same in
           omega (arith, next.past)
     ]
 
 -- what a character hangs on is one too
-pub IsChar-parent : (ops : List Operation) → Good ops → (c parent : CharName) (i : Operation) → IsInsertOf ops c i → At parent ≡ parent_by i.kind c → IsChar ops parent
+pub IsChar-parent : (ops : List Operation) → Good ops → (c parent : CharName) (i : Operation)
+    → IsInsertOf ops c i → At parent ≡ parent_by i.kind c → IsChar ops parent
 IsChar-parent ops good c parent i is hung =
     elim (hangs ops good c i is (At parent) hung) [
       | inl first ↦ elim first.cause [
@@ -120,13 +145,17 @@ IsChar-parent ops good c parent i is hung =
 
 -- names that the test finds different
 pub names_differ : (c d : CharName) → (c.site == d.site && c.off == d.off) ≡ false → c ≢ d
-names_differ c d e same = subst (λ (x : CharName). (c.site == x.site && c.off == x.off) ≡ false → ⊥) same (λ h. grind (arith, nat_tests)) e
+names_differ c d e same = subst (λ (x : CharName). (c.site == x.site && c.off == x.off) ≡ false
+    → ⊥) same (λ h. grind (arith, nat_tests)) e
 
 -- a path has characters alone
-pub All-path : (ops : List Operation) (a b : Anchor) (path : List CharName) → Leads ops a path b → All (IsChar ops) path
+pub All-path : (ops : List Operation) (a b : Anchor) (path : List CharName) → Leads ops a path b
+    → All (IsChar ops) path
 All-path ops a b [] h = All-nil (IsChar ops)
 All-path ops a b (c ∷ path) h = All-cons (IsChar ops) c path (h.0.0, h.0.1) (All-path ops (At c) b path h.1)
 
 -- a character stands before another where its path goes ahead
-pub Before_iff : (ops : List Operation) → Good ops → (c d : CharName) (p q : List CharName) → IsPath ops c p → IsPath ops d q → Before ops c d ↔ GoesAhead ops p q
-Before_iff ops good c d p q up uq = (λ b. (Trail_iff ops p q).0 (trail_from_Before ops good c d p q up uq b), λ h. (p, q, up, uq, h))
+pub Before_iff : (ops : List Operation) → Good ops → (c d : CharName) (p q : List CharName) → IsPath ops c p
+    → IsPath ops d q → Before ops c d ↔ GoesAhead ops p q
+Before_iff ops good c d p q up uq =
+    (λ b. (Trail_iff ops p q).0 (trail_from_Before ops good c d p q up uq b), λ h. (p, q, up, uq, h))

@@ -2,7 +2,7 @@
 use Rattle.std.specs.Prelude.{◌≡◌, ℕ, ◌<◌, List, map, All, Any}
 use Rattle.char_files.specs.CharName.{CharName}
 use Rattle.operations.specs.Operation.{Operation, Mentions}
-use Rattle.tree_order.specs.Taken.{IsPredecessor, IsCauseOf, Begins, file_before}
+use Rattle.tree_order.specs.Good.{IsPredecessor, IsCauseOf, Begins, file_before}
 use Rattle.tree_order.specs.Tree.{IsChar}
 
 -- if a and b have one identity, they are one operation
@@ -25,9 +25,9 @@ MentionsCharacters ops op = (name : CharName) → Mentions op name → IsChar op
 abbrev pub BeginsAtEnd : List Operation → Operation → Type 0
 BeginsAtEnd ops op = Begins op.kind (file_before ops op.site op.seq)
 
--- own names that are mentioned stand below this place of the site's file
+-- own names that are mentioned stand below this end of the site's file
 abbrev pub OwnNamesBelow : Operation → ℕ → Type 0
-OwnNamesBelow op place = (name : CharName) → Mentions op name → name.site ≡ op.site → name.off < place
+OwnNamesBelow op end = (name : CharName) → Mentions op name → name.site ≡ op.site → name.off < end
 
 -- own names that are mentioned stand in the site's file before the operation
 abbrev pub OwnNamesAreEarlier : List Operation → Operation → Type 0

@@ -4,7 +4,7 @@ use Rattle.char_files.specs.CharName.{CharName}
 use Rattle.char_files.specs.declared.character.Char.{Char}
 use Rattle.char_files.specs.declared.name.Anchor.{Anchor}
 use Rattle.operations.specs.Operation.{Operation}
-use Rattle.tree_order.specs.Taken.{Good, key_of}
+use Rattle.tree_order.specs.Good.{Good, key_of}
 use Rattle.tree_order.specs.Tree.{IsChar, IsInsertOf, IsDescendant}
 use Rattle.tree_order.specs.Order.{Before, IsAheadIn, IsOrder}
 use Rattle.tree_order.specs.Shown.{IsShown, IsPlace}
@@ -32,16 +32,21 @@ pub record IsNextByte (ops : List Operation) (c d : CharName) : Type 0 where
   pub second : IsInsertOf ops d insert
   pub next : c.off + 1 ≡ d.off
 
--- what stands between two neighbouring bytes of one Insert are descendants of the former, and not of the latter
+-- what stands between two neighbouring bytes of one Insert are descendants of the former, not of the latter
 abbrev pub RunsStayTogether : List Operation → Type 0
 RunsStayTogether ops =
-    (order : List CharName) (c d x : CharName) → IsOrder ops order → IsNextByte ops c d → IsAheadIn order c x → IsAheadIn order x d
+    (order : List CharName) (c d x : CharName) → IsOrder ops order → IsNextByte ops c d
+    → IsAheadIn order c x → IsAheadIn order x d
     → IsDescendant ops c x × (IsDescendant ops d x → ⊥)
 
--- no two lists are what is shown, and no two numbers are the place of an anchor
+-- there is one list that is shown, and no other, and each anchor has one number as its place, and no other
 pub record ShowsOneText (ops : List Operation) : Type 0 where
-  pub shown : (a b : List Char) → IsShown ops a → IsShown ops b → a ≡ b
-  pub place : (anchor : Anchor) (m n : ℕ) → IsPlace ops anchor m → IsPlace ops anchor n → m ≡ n
+  pub shown : List Char
+  pub is : IsShown ops shown
+  pub only : (other : List Char) → IsShown ops other → other ≡ shown
+  pub place : Anchor → ℕ
+  pub is_place : (anchor : Anchor) → IsPlace ops anchor (place anchor)
+  pub only_place : (anchor : Anchor) (n : ℕ) → IsPlace ops anchor n → n ≡ place anchor
 
 -- the same operations, in whatever order and however often
 abbrev pub AreSameSet : List Operation → List Operation → Type 0

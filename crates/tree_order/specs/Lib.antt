@@ -1,9 +1,9 @@
 pub mod Attribute
+pub mod Good
 pub mod GoodEach
 pub mod Laws
 pub mod Looks
 pub mod Order
-pub mod Placed
 pub mod Shown
-pub mod Taken
+pub mod SortedPaths
 pub mod Tree

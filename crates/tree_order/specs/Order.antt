@@ -1,24 +1,28 @@
 -- The order of the characters of a set of operations.
-use Rattle.std.specs.Prelude.{◌≡◌, ◌≢◌, ℕ, ◌<◌, ◌⊎◌, ◌↔◌, true, List, ◌∷◌, ◌++◌, Some, Contains, AllPairs, slice_get}
+use Rattle.std.specs.Prelude.{◌≡◌, ◌≢◌, ℕ, ◌<◌, ◌⊎◌, ◌↔◌, true, List, ◌∷◌, ◌++◌, Some, Contains, AllPairs}
+use Rattle.std.specs.Prelude.{slice_get}
 use Rattle.looks.specs.Key.{is_below}
 use Rattle.char_files.specs.CharName.{CharName}
 use Rattle.operations.specs.Operation.{Operation}
-use Rattle.tree_order.specs.Taken.{key_of}
+use Rattle.tree_order.specs.Good.{key_of}
 use Rattle.tree_order.specs.Tree.{IsChar, IsInsertOf, IsPath, IsProperPrefix}
 
 -- the key of c is greater than that of d; a character's key is its Insert's
 abbrev pub HasGreaterKey : List Operation → CharName → CharName → Type 0
-HasGreaterKey ops c d = (i j : Operation) × IsInsertOf ops c i × IsInsertOf ops d j × (is_below (key_of j) (key_of i) ≡ true)
+HasGreaterKey ops c d =
+    (i j : Operation) × IsInsertOf ops c i × IsInsertOf ops d j × (is_below (key_of j) (key_of i) ≡ true)
 
--- at the first place where the two paths differ the key on p's side is greater
+-- where the two paths first differ, the key on p's side is greater
 abbrev pub TurnsAhead : List Operation → List CharName → List CharName → Type 0
 TurnsAhead ops p q =
-    (common : List CharName) × (c d : CharName) × (p' q' : List CharName) × (p ≡ common ++ c ∷ p') × (q ≡ common ++ d ∷ q')
+    (common : List CharName) × (c d : CharName) × (p' q' : List CharName)
+    × (p ≡ common ++ c ∷ p') × (q ≡ common ++ d ∷ q')
     × (c ≢ d) × HasGreaterKey ops c d
 
 -- c stands before d: its path is a proper prefix of d's, or turns ahead of it
 abbrev pub Before : List Operation → CharName → CharName → Type 0
-Before ops c d = (p q : List CharName) × IsPath ops c p × IsPath ops d q × (IsProperPrefix p q ⊎ TurnsAhead ops p q)
+Before ops c d =
+    (p q : List CharName) × IsPath ops c p × IsPath ops d q × (IsProperPrefix p q ⊎ TurnsAhead ops p q)
 
 -- c stands ahead of d in the list
 abbrev pub IsAheadIn : List CharName → CharName → CharName → Type 0

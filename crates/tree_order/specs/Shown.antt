@@ -1,25 +1,26 @@
 -- What a set of operations shows.
-use Rattle.std.specs.Prelude.{◌≡◌, ℕ, Bool, false, ◌==◌, ◌&&◌, not, List, [], ◌∷◌, All, filter, map, count_by, if◌then◌else◌}
+use Rattle.std.specs.Prelude.{◌≡◌, ℕ, Bool, false, ◌==◌, ◌&&◌, not, List, [], ◌∷◌, All, filter, map}
+use Rattle.std.specs.Prelude.{count_by, if◌then◌else◌}
 use Rattle.std.specs.List.{list_any}
 use Rattle.char_files.specs.CharName.{CharName}
 use Rattle.char_files.specs.declared.character.Char.{Char}
 use Rattle.char_files.specs.declared.name.Anchor.{Anchor}
 use Rattle.char_files.specs.declared.name.Anchor.TheVariants.{Root, At}
-use Rattle.operations.specs.NameSet.{holds}
+use Rattle.operations.specs.NameSet.{range_contains}
 use Rattle.operations.specs.Operation.{Operation, OpKind, insert, delete, change_looks}
 use Rattle.tree_order.specs.Tree.{HasByte}
 use Rattle.tree_order.specs.Order.{IsOrder}
 use Rattle.tree_order.specs.Looks.{HasLooks}
 
 -- whether a Delete names c
-abbrev pub deletes : OpKind → CharName → Bool
-deletes (insert cause at looks bytes) c = false
-deletes (delete names) c = list_any (λ r. holds r c) names
-deletes (change_looks sel looks names) c = false
+abbrev pub deletes_by : OpKind → CharName → Bool
+deletes_by (insert cause at looks bytes) c = false
+deletes_by (delete names) c = list_any (λ r. range_contains r c) names
+deletes_by (change_looks sel looks names) c = false
 
 -- whether c is visible: no Delete names it
 abbrev pub is_visible : List Operation → CharName → Bool
-is_visible ops c = not (list_any (λ op. deletes op.kind c) ops)
+is_visible ops c = not (list_any (λ op. deletes_by op.kind c) ops)
 
 -- the visible characters in their order, each with its byte and its looks
 pub record IsShown (ops : List Operation) (shown : List Char) : Type 0 where

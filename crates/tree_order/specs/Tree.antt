@@ -16,7 +16,8 @@ IsChar ops c = (i : Operation) × IsInsertOf ops c i
 
 -- what a character of an Insert hangs on: the first one on the cause, each other one on the one before
 abbrev pub parent_by : OpKind → CharName → Anchor
-parent_by (insert cause at looks bytes) c = if c.off == at then cause else At (record { site = c.site; off = c.off - 1 })
+parent_by (insert cause at looks bytes) c =
+    if c.off == at then cause else At (record { site = c.site; off = c.off - 1 })
 parent_by (delete names) c = Root
 parent_by (change_looks sel looks names) c = Root
 

@@ -1,6 +1,6 @@
 ghost use Rattle.std.specs.Prelude.{◌≡◌, ◌↔◌, true, IsTrue};
 ghost use Rattle.looks.specs.Key.{is_below};
-ghost use Rattle.tree_order.specs.Taken.{key_of};
+ghost use Rattle.tree_order.specs.Good.{key_of};
 ghost use Rattle.tree_order.specs.Tree.{IsChar};
 ghost use Rattle.tree_order.specs.Looks.{looks_by, ChangesBy, Sets, IsLastToSet, HasLooks};
 ghost use Rattle.tree_order.specs.Attribute.{selects};
@@ -48,7 +48,8 @@ fn sets(op: &Op, attribute: Attribute, c: Name) -> bool
 
 // Whether the operation sets this attribute of the character, and has a greater key than the other.
 fn sets_over(op: &Op, other: &Op, attribute: Attribute, c: Name) -> bool
-    ensures { IsTrue result ↔ (Sets op.now (selects attribute) c × (is_below (key_of other.now) (key_of op.now) ≡ true)) }
+    ensures { IsTrue result
+        ↔ (Sets op.now (selects attribute) c × (is_below (key_of other.now) (key_of op.now) ≡ true)) }
 {
     sets(op, attribute, c) && is_key_below(other, op)
 }
@@ -68,7 +69,7 @@ fn last_to_set(ops: &[Op], attribute: Attribute, c: Name) -> &Op
 }
 
 // The looks that the operation gives, all or some of them.
-fn looks_by(op: &Op) -> Looks
+fn given_looks(op: &Op) -> Looks
     ensures { result ≡ looks_by op.now.kind }
 {
     match op.kind() {
@@ -82,9 +83,9 @@ pub(crate) fn looks_of(ops: &[Op], c: Name) -> Looks
     requires { IsChar ops.now c }
     ensures { HasLooks ops.now c result }
 {
-    let font = looks_by(last_to_set(ops, Attribute::Font, c));
-    let colour = looks_by(last_to_set(ops, Attribute::Colour, c));
-    let offset = looks_by(last_to_set(ops, Attribute::Offset, c));
+    let font = given_looks(last_to_set(ops, Attribute::Font, c));
+    let colour = given_looks(last_to_set(ops, Attribute::Colour, c));
+    let offset = given_looks(last_to_set(ops, Attribute::Offset, c));
     offset.are_in_range();
     Looks {
         font: font.font.copy(),

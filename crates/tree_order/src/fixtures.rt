@@ -12,8 +12,8 @@ pub(crate) enum Does {
     Types(Option<(u16, u32)>, u32, &'static [u8]),
     // The character.
     Deletes((u16, u32)),
-    // What is selected: 1 for the font, 2 for the colour, 4 for the offset, or their sum; the colour; the character. The font
-    // is `Mono.Fnt`, the offset -3.
+    // What is selected: 1 for the font, 2 for the colour, 4 for the offset, or their sum; the colour; the
+    // character. The font is `Mono.Fnt`, the offset -3.
     Changes(u8, u8, (u16, u32)),
 }
 

@@ -1,7 +1,11 @@
-ghost use Rattle.std.specs.Prelude.{◌≡◌, ℕ, ◌+◌, ◌<◌, ◌≤◌, ◌↔◌, All, Any, IfOk, IfErr, IsTrue};
+ghost use Rattle.std.specs.Prelude.{◌≡◌, ℕ, ◌+◌, ◌<◌, ◌≤◌, ◌↔◌, All, Any, IfOk, IsTrue};
+ghost use Rattle.looks.specs.Refusal.{RefusedForMemoryAlone};
 ghost use Rattle.operations.specs.Operation.{appended_len};
-ghost use Rattle.tree_order.specs.GoodEach.{Agree, AgreesWithAll, FollowsOn, MentionsCharacters, BeginsAtEnd, OwnNamesBelow, OwnNamesAreEarlier, IsAboveCauses, file_starts};
-ghost use Rattle.tree_order.specs.Taken.{Good, IsPredecessor, IsCauseOf, Begins, appended, file_before};
+ghost use Rattle.operations.specs.declared.kind.TheConstants.{MAX_INSERT};
+ghost use Rattle.tree_order.specs.GoodEach.{Agree, AgreesWithAll, FollowsOn, MentionsCharacters};
+ghost use Rattle.tree_order.specs.GoodEach.{BeginsAtEnd, OwnNamesBelow, OwnNamesAreEarlier, IsAboveCauses};
+ghost use Rattle.tree_order.specs.GoodEach.{file_starts};
+ghost use Rattle.tree_order.specs.Good.{Good, IsPredecessor, IsCauseOf, Begins, appended_len_at, file_before};
 
 use crate::lookup::{has_char, inserts};
 use char_files::SiteNo;
@@ -68,9 +72,9 @@ fn mentions_are_held(ops: &[Op]) -> bool
 }
 
 // How many bytes the operation appends to its site's file.
-fn appended_len(op: &Op) -> u64
+fn appended_bytes(op: &Op) -> u64
     ensures value { result ≡ appended_len op.now.kind }
-    ensures few { result ≤ 4096 }
+    ensures few { result ≤ MAX_INSERT }
 {
     op.has_spelling();
     match op.kind() {
@@ -80,13 +84,13 @@ fn appended_len(op: &Op) -> u64
 }
 
 // How many bytes the site's operation of this seq appends to its file, 0 where there is none.
-fn appended(ops: &[Op], site: SiteNo, seq: u32) -> u64
-    ensures value { result ≡ appended ops.now site seq }
-    ensures few { result ≤ 4096 }
+fn appended_len_at(ops: &[Op], site: SiteNo, seq: u32) -> u64
+    ensures value { result ≡ appended_len_at ops.now site seq }
+    ensures few { result ≤ MAX_INSERT }
 {
     for op in ops {
         if op.site() == site && op.seq() == seq {
-            return appended_len(op);
+            return appended_bytes(op);
         }
     }
     0
@@ -98,7 +102,7 @@ fn file_before(ops: &[Op], site: SiteNo, seq: u32) -> u64
 {
     let mut len = 0;
     for earlier in 0..seq {
-        len += appended(ops, site, earlier);
+        len += appended_len_at(ops, site, earlier);
     }
     len
 }
@@ -106,7 +110,7 @@ fn file_before(ops: &[Op], site: SiteNo, seq: u32) -> u64
 // How long each operation's site's file is before it. Refused `OutOfMemory` alone.
 fn file_starts(alloc: Global, ops: &[Op]) -> Result<Vec<u64>, Refusal>
     ensures ok { IfOk result (λ starts. starts.items ≡ file_starts ops.now) }
-    ensures errors { IfErr result (λ e. e ≡ Refusal.OutOfMemory) }
+    ensures errors { RefusedForMemoryAlone result }
 {
     let starts = ops.iter().map(|op| file_before(ops, op.site(), op.seq()));
     Ok(starts.collect(alloc)?)
@@ -130,11 +134,11 @@ fn inserts_begin(ops: &[Op], starts: &[u64]) -> bool
     ops.iter().zip(starts).all(|(op, start)| begins(op, *start))
 }
 
-// Whether the names of its own site that the operation mentions stand below the place.
-fn own_names_below(op: &Op, place: u64) -> bool
-    ensures { IsTrue result ↔ OwnNamesBelow op.now place }
+// Whether the names of its own site that the operation mentions stand below this end of its file.
+fn own_names_below(op: &Op, end: u64) -> bool
+    ensures { IsTrue result ↔ OwnNamesBelow op.now end }
 {
-    named(op).all(|name| name.site() != op.site() || u64::from(name.off()) < place)
+    named(op).all(|name| name.site() != op.site() || u64::from(name.off()) < end)
 }
 
 // Whether own names that are mentioned stand in the site's file before the operation.
@@ -169,16 +173,16 @@ fn stamps_rise(ops: &[Op]) -> bool
     ops.iter().all(|op| is_above_causes(ops, op))
 }
 
-/// Whether the operations are a set that a replica can have taken in.
+/// Whether the operations are a set that a replica can have taken in (a causally closed one).
 ///
-/// That is so when no two differ under one identity; each one's predecessor is held; each name that is mentioned has its
-/// Insert; each Insert begins where its site's file ended before it; names of the operation's own site stand in that file
-/// before it; and each stamp is greater than those of the operation's causes. The list is read as a set: repeats and order
-/// don't matter, the empty list is good, and it isn't asked which text they are of. The time grows as the cube of their
-/// number. Refused `OutOfMemory` alone.
+/// That is so when no two differ under one identity; each one's predecessor is held; each name that is
+/// mentioned has its Insert; each Insert begins where its site's file ended before it; names of the
+/// operation's own site stand in that file before it; and each stamp is greater than those of the operation's
+/// causes. The list is read as a set: repeats and order don't matter, the empty list is good, and it isn't
+/// asked which text they are of. The time grows as the cube of their number. Refused `OutOfMemory` alone.
 pub fn is_good(alloc: Global, ops: &[Op]) -> Result<bool, Refusal>
-    ensures value { IfOk result (λ good. IsTrue good ↔ Good ops.now) }
-    ensures errors { IfErr result (λ e. e ≡ Refusal.OutOfMemory) }
+    ensures ok { IfOk result (λ good. IsTrue good ↔ Good ops.now) }
+    ensures errors { RefusedForMemoryAlone result }
 {
     if !identities_agree(ops) || !predecessors_are_held(ops) || !mentions_are_held(ops) {
         return Ok(false);

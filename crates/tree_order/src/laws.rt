@@ -1,7 +1,8 @@
 ghost use Rattle.std.specs.Prelude.{List};
 ghost use Rattle.operations.specs.Operation.{Operation};
-ghost use Rattle.tree_order.specs.Taken.{Good};
-ghost use Rattle.tree_order.specs.Laws.{KeysDiffer, IsStrictTotalOrder, HasOneOrder, RunsStayTogether, ShowsOneText, AreSameSet, SaysTheSame};
+ghost use Rattle.tree_order.specs.Good.{Good};
+ghost use Rattle.tree_order.specs.Laws.{KeysDiffer, IsStrictTotalOrder, HasOneOrder, RunsStayTogether};
+ghost use Rattle.tree_order.specs.Laws.{ShowsOneText, AreSameSet, SaysTheSame};
 
 /// A law: in a good set two operations have different keys.
 pub fn keys_differ()
@@ -18,13 +19,13 @@ pub fn there_is_one_order()
     ensures { (ops : List Operation) → Good ops → HasOneOrder ops }
 {}
 
-/// A law: between two neighbouring bytes of one Insert stand descendants of the former alone, so that concurrent text never
-/// splits a run.
+/// A law: between two neighbouring bytes of one Insert stand descendants of the former alone, so that no text
+/// splits a run but what hangs on a byte of the run's own.
 pub fn runs_stay_together()
     ensures { (ops : List Operation) → Good ops → RunsStayTogether ops }
 {}
 
-/// A law: a good set shows one text, in which each character has one place.
+/// A law: a good set shows a text, and only one, in which each anchor has a place, and only one.
 pub fn there_is_one_text()
     ensures { (ops : List Operation) → Good ops → ShowsOneText ops }
 {}

@@ -1,7 +1,7 @@
 ghost use Rattle.std.specs.Prelude.{◌≡◌, ◌↔◌, IsTrue, IfSome, IfNone};
 ghost use Rattle.looks.specs.Key.{is_below};
 ghost use Rattle.operations.specs.Operation.{Inserts};
-ghost use Rattle.tree_order.specs.Taken.{key_of};
+ghost use Rattle.tree_order.specs.Good.{key_of};
 ghost use Rattle.tree_order.specs.Tree.{IsChar, IsInsertOf, parent_by, byte_by};
 
 use char_files::{Anchor, Name};

@@ -1,5 +1,6 @@
-ghost use Rattle.std.specs.Prelude.{◌≡◌, ◌⊎◌, ◌↔◌, All, IfOk, IfErr, IsTrue};
-ghost use Rattle.tree_order.specs.Taken.{Good};
+ghost use Rattle.std.specs.Prelude.{◌≡◌, ◌⊎◌, ◌↔◌, All, IfOk, IsTrue};
+ghost use Rattle.looks.specs.Refusal.{RefusedForMemoryAlone};
+ghost use Rattle.tree_order.specs.Good.{Good};
 ghost use Rattle.tree_order.specs.Tree.{IsChar, IsPath, IsProperPrefix};
 ghost use Rattle.tree_order.specs.Order.{HasGreaterKey, TurnsAhead, Before};
 
@@ -21,7 +22,7 @@ pub(crate) fn path_of(alloc: Global, ops: &[Op], c: Name) -> Result<Path, Refusa
     requires good { Good ops.now }
     requires character { IsChar ops.now c }
     ensures path { IfOk result (λ path. (path.of ≡ c) × IsPath ops.now c path.names.items) }
-    ensures errors { IfErr result (λ e. e ≡ Refusal.OutOfMemory) }
+    ensures errors { RefusedForMemoryAlone result }
 {
     let mut names = Vec::new(alloc);
     let mut name = c;
@@ -79,8 +80,8 @@ pub fn slow_before(alloc: Global, ops: &[Op], c: Name, d: Name) -> Result<bool, 
     requires good { Good ops.now }
     requires first { IsChar ops.now c }
     requires second { IsChar ops.now d }
-    ensures value { IfOk result (λ before. IsTrue before ↔ Before ops.now c d) }
-    ensures errors { IfErr result (λ e. e ≡ Refusal.OutOfMemory) }
+    ensures ok { IfOk result (λ before. IsTrue before ↔ Before ops.now c d) }
+    ensures errors { RefusedForMemoryAlone result }
 {
     let first = path_of(alloc, ops, c)?;
     let second = path_of(alloc, ops, d)?;

@@ -1,13 +1,14 @@
-ghost use Rattle.std.specs.Prelude.{◌≡◌, IfOk, IfErr};
+ghost use Rattle.std.specs.Prelude.{◌≡◌, IfOk};
+ghost use Rattle.looks.specs.Refusal.{RefusedForMemoryAlone};
 ghost use Rattle.char_files.specs.declared.name.Anchor.TheVariants.{At};
-ghost use Rattle.tree_order.specs.Taken.{Good};
+ghost use Rattle.tree_order.specs.Good.{Good};
 ghost use Rattle.tree_order.specs.Tree.{IsChar, HasByte};
 ghost use Rattle.tree_order.specs.Looks.{HasLooks};
-ghost use Rattle.tree_order.specs.Shown.{deletes, is_visible, IsShown, IsPlace};
+ghost use Rattle.tree_order.specs.Shown.{deletes_by, is_visible, IsShown, IsPlace};
 
 use crate::attributes::looks_of;
 use crate::lookup::{byte_of, insert_of};
-use crate::placing::slow_order;
+use crate::sorting::slow_order;
 use char_files::{Char, Name};
 use looks::Refusal;
 use operations::{Kind, Op};
@@ -15,7 +16,7 @@ use std::alloc::Global;
 
 // Whether the operation is a Delete that names the character.
 fn deletes(op: &Op, c: Name) -> bool
-    ensures { result ≡ deletes op.now.kind c }
+    ensures { result ≡ deletes_by op.now.kind c }
 {
     match op.kind() {
         Kind::Delete { names } => names.contains(c),
@@ -50,11 +51,12 @@ fn char_of(ops: &[Op], name: Name) -> Char
     }
 }
 
-/// What the operations show: the visible characters in their order. Refused `OutOfMemory` alone.
+/// What the operations show: the visible characters in their order (a reference model for the tests of faster
+/// programs). Refused `OutOfMemory` alone.
 pub fn slow_shown(alloc: Global, ops: &[Op]) -> Result<Vec<Char>, Refusal>
     requires { Good ops.now }
-    ensures value { IfOk result (λ shown. IsShown ops.now shown.items) }
-    ensures errors { IfErr result (λ e. e ≡ Refusal.OutOfMemory) }
+    ensures ok { IfOk result (λ shown. IsShown ops.now shown.items) }
+    ensures errors { RefusedForMemoryAlone result }
 {
     let order = slow_order(alloc, ops)?;
     let mut shown = Vec::new(alloc);
@@ -70,8 +72,8 @@ pub fn slow_shown(alloc: Global, ops: &[Op]) -> Result<Vec<Char>, Refusal>
 pub fn slow_place(alloc: Global, ops: &[Op], c: Name) -> Result<u64, Refusal>
     requires good { Good ops.now }
     requires character { IsChar ops.now c }
-    ensures value { IfOk result (λ place. IsPlace ops.now (At c) place) }
-    ensures errors { IfErr result (λ e. e ≡ Refusal.OutOfMemory) }
+    ensures ok { IfOk result (λ place. IsPlace ops.now (At c) place) }
+    ensures errors { RefusedForMemoryAlone result }
 {
     let order = slow_order(alloc, ops)?;
     let mut place = 0;

@@ -1,5 +1,5 @@
 ghost use Rattle.std.specs.Prelude.{IfOk, IsTrue};
-ghost use Rattle.tree_order.specs.Taken.{Good};
+ghost use Rattle.tree_order.specs.Good.{Good};
 ghost use Rattle.tree_order.specs.Tree.{IsChar};
 
 use crate::fixtures::{Does, Told, looks, name, ops_of};
@@ -11,7 +11,8 @@ use std::alloc::Global;
 use std::process::Abort;
 use std::test::Fail;
 
-// Operations, with the order of their characters, the hidden ones among them, and what is shown, all of it in the same looks.
+// Operations, with the order of their characters, the hidden ones among them, and what is shown, all of it in
+// the same looks.
 #[derive(Clone, Copy)]
 struct Case {
     what: &'static str,
@@ -241,8 +242,8 @@ fn check_shown(rt: &impl Abort, alloc: Global, ops: &[Op], case: &Case) -> Resul
     Ok(())
 }
 
-// In whichever order the operations come, and however often, they show the same. Whichever allocation is refused, the call
-// says so, and is right when it is tried again.
+// In whichever order the operations come, and however often, they show the same. Whichever allocation is
+// refused, the call says so, and is right when it is tried again.
 #[test]
 fn operations_show_a_text(rt: HostRuntime) -> Result<(), Fail> {
     let out = name((9, 9)).ok_or("no name")?;

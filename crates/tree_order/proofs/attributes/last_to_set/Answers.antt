@@ -13,9 +13,13 @@ loop-op-preserved c =
     elim c.if-sets_over.branch [
       | then-sets_over w ↦
           let over = c.sets_over.ensures.0 w.if-sets_over.true in
-          let taken = last_taken ops n attribute c.args.c c.loop-op.last.now op c.loop-op-test.true c.op-item.is c.loop-op.invariant over.0 over.1 in
+          let taken =
+          last_taken ops n attribute c.args.c c.loop-op.last.now op c.loop-op-test.true c.op-item.is
+          c.loop-op.invariant over.0 over.1 in
           rw w.last-is taken
       | else-sets_over w ↦
-          let kept = last_kept ops n attribute c.args.c c.loop-op.last.now op c.loop-op-test.true c.op-item.is c.loop-op.invariant (iff_false c.sets_over.ensures w.if-sets_over.false) in
+          let kept =
+          last_kept ops n attribute c.args.c c.loop-op.last.now op c.loop-op-test.true c.op-item.is
+          c.loop-op.invariant (iff_false c.sets_over.ensures w.if-sets_over.false) in
           rw w.last-is kept
     ]

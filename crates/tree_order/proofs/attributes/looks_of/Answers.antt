@@ -6,7 +6,22 @@ use Rattle.tree_order.proofs.attributes.looks_of.Goals as goal
 
 pub returns : goal.returns
 returns c = record {
-  font = (c.last_to_set.result.now, c.last_to_set.ensures, c.copy.ensures ∙ ap (λ (l : Looks). l.font) c.looks_by-font.ensures);
-  colour = (c.last_to_set-2.result.now, c.last_to_set-2.ensures, ap (λ (l : Looks). l.colour) c.looks_by-colour.ensures);
-  offset = (c.last_to_set-3.result.now, c.last_to_set-3.ensures, to_z-of_z w8 _ c.are_in_range.ensures.offset ∙ ap (λ (l : Looks). l.offset) c.looks_by-offset.ensures);
+  font = (
+    c.last_to_set.result.now,
+    c.last_to_set.ensures,
+    c.copy.ensures
+        ∙ ap (λ (l : Looks). l.font) c.given_looks-font.ensures,
+  );
+  colour = (
+    c.last_to_set-2.result.now,
+    c.last_to_set-2.ensures,
+    ap (λ (l : Looks). l.colour)
+        c.given_looks-colour.ensures,
+  );
+  offset = (
+    c.last_to_set-3.result.now,
+    c.last_to_set-3.ensures,
+    to_z-of_z w8 _
+        c.are_in_range.ensures.offset ∙ ap (λ (l : Looks). l.offset) c.given_looks-offset.ensures,
+  );
 }

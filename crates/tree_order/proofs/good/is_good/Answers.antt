@@ -2,10 +2,14 @@ use Rattle.std.proofs.Common.{◌≡◌, false, sym, ◌∙◌}
 use Rattle.std.proofs.lemmas.Bool.{false≢true}
 use Rattle.tree_order.proofs.GoodParts.{parts, good_by}
 use Rattle.tree_order.proofs.good.is_good.Goals as goal
-use Rattle.tree_order.proofs.good.is_good.Goals.{then-not-identities_agree-via-then-not-identities_agree, then-not-identities_agree-via-else-not-identities_agree+then-not-predecessors_are_held, then-not-identities_agree-via-else-not-identities_agree+else-not-predecessors_are_held+then-not-mentions_are_held, then-inserts_begin, else-inserts_begin, then-own_names_are_earlier, else-own_names_are_earlier}
+use Rattle.tree_order.proofs.good.is_good.Goals.{then-not-identities_agree-via-then-not-identities_agree}
+use Rattle.tree_order.proofs.good.is_good.Goals.{then-not-identities_agree-via-else-not-identities_agree+then-not-predecessors_are_held}
+use Rattle.tree_order.proofs.good.is_good.Goals.{then-not-identities_agree-via-else-not-identities_agree+else-not-predecessors_are_held+then-not-mentions_are_held}
+use Rattle.tree_order.proofs.good.is_good.Goals.{then-inserts_begin, else-inserts_begin}
+use Rattle.tree_order.proofs.good.is_good.Goals.{then-own_names_are_earlier, else-own_names_are_earlier}
 
-pub returns-then-not-identities_agree-clause-value : goal.returns-then-not-identities_agree-clause-value
-returns-then-not-identities_agree-clause-value c = (
+pub returns-then-not-identities_agree-clause-ok : goal.returns-then-not-identities_agree-clause-ok
+returns-then-not-identities_agree-clause-ok c = (
   λ e. absurd (false≢true e),
   λ good.
       let p = parts c.args.ops.now good in
@@ -19,8 +23,8 @@ returns-then-not-identities_agree-clause-value c = (
       ],
 )
 
-pub returns-clause-value : goal.returns-clause-value
-returns-clause-value c =
+pub returns-clause-ok : goal.returns-clause-ok
+returns-clause-ok c =
     let ops = c.args.ops.now in
     let identities = c.identities_agree.ensures.0 c.if-not-identities_agree.false in
     let predecessors = c.predecessors_are_held.ensures.0 c.if-not-predecessors_are_held.false in
@@ -39,14 +43,20 @@ returns-clause-value c =
               }),
               λ good. w.result-is ∙ w.stamps_rise.ensures.1 (parts ops good).stamps,
             )
-            | else-own_names_are_earlier w ↦
-                (λ e. absurd (false≢true (sym w.if-own_names_are_earlier.false ∙ sym w.result-is ∙ e)), λ good. w.result-is ∙ v.value-is ∙ v.own_names_are_earlier.ensures.1 (parts ops good).own)
+            | else-own_names_are_earlier w ↦ (
+              λ e. absurd (false≢true (sym w.if-own_names_are_earlier.false ∙ sym w.result-is ∙ e)),
+              λ good. w.result-is ∙ v.value-is
+                  ∙ v.own_names_are_earlier.ensures.1 (parts ops good).own,
+            )
           ]
       | else-inserts_begin v ↦
           let out : c.if-inserts_begin.value ≡ false = v.value-is ∙ v.if-inserts_begin.false in
           elim c.if-own_names_are_earlier.branch [
             | then-own_names_are_earlier w ↦ absurd (false≢true (sym out ∙ w.if-own_names_are_earlier.true))
-            | else-own_names_are_earlier w ↦
-                (λ e. absurd (false≢true (sym out ∙ sym w.result-is ∙ e)), λ good. w.result-is ∙ v.value-is ∙ c.inserts_begin.ensures.1 (parts ops good).begins)
+            | else-own_names_are_earlier w ↦ (
+              λ e. absurd (false≢true (sym out ∙ sym w.result-is ∙ e)),
+              λ good. w.result-is ∙ v.value-is
+                  ∙ c.inserts_begin.ensures.1 (parts ops good).begins,
+            )
           ]
     ]

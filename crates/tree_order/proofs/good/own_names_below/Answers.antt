@@ -8,7 +8,9 @@ use Rattle.tree_order.proofs.good.own_names_below.Goals as goal
 
 pub returns : goal.returns
 returns c =
-    let P : CharName → Type 0 = λ name. name.site ≡ c.args.op.now.site → name.off < c.args.place in
-    let names = YieldsList-from_first (λ (name : CharName). name) (λ (rest : List CharName). rest) c.named.result refl in
+    let P : CharName → Type 0 = λ name. name.site ≡ c.args.op.now.site → name.off < c.args.end in
+    let names = YieldsList-from_first (λ (name : CharName). name) (λ (rest : List CharName). rest)
+    c.named.result refl in
     each_name P (Mentions c.args.op.now) c.named.result c.all.result c.named.ensures.all
-    (cases_from_all _ _ _ P (λ name. ¬ P name) c.all.ensures.ran names (λ x q k. search (rules, tests)) (λ x q k. search (rules, tests)))
+    (cases_from_all _ _ _ P (λ name. ¬ P name) c.all.ensures.ran names (λ x q k. search (rules, tests))
+    (λ x q k. search (rules, tests)))

@@ -8,4 +8,5 @@ pub returns : goal.returns
 returns c =
     let ops = c.args.ops.now in
     each (IsAboveCauses ops) ops c.all.result
-    (cases_from_all _ _ _ (IsAboveCauses ops) (λ op. ¬ IsAboveCauses ops op) c.all.ensures.ran (YieldsList-from_slice ops cc) (λ x q k. search (rules, tests)) (λ x q k. search (rules, tests)))
+    (cases_from_all _ _ _ (IsAboveCauses ops) (λ op. ¬ IsAboveCauses ops op) c.all.ensures.ran
+    (YieldsList-from_slice ops cc) (λ x q k. search (rules, tests)) (λ x q k. search (rules, tests)))

@@ -1,8 +1,8 @@
 use Rattle.std.proofs.Common.{◌≡◌, false, take}
 use Rattle.std.specs.List.{list_any}
-use Rattle.tree_order.specs.Shown.{deletes}
+use Rattle.tree_order.specs.Shown.{deletes_by}
 use Rattle.tree_order.proofs.showing.is_visible.Given as goal
 
--- none of the operations so far deletes it
+-- none of the operations so far deletes_by it
 abbrev pub invariant-loop-op : goal.invariant-loop-op
-invariant-loop-op l = list_any (λ op. deletes op.kind l.c) (take l.op-index l.ops) ≡ false
+invariant-loop-op l = list_any (λ op. deletes_by op.kind l.c) (take l.op-index l.ops) ≡ false

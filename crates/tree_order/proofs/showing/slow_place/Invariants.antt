@@ -7,5 +7,6 @@ use Rattle.tree_order.proofs.showing.slow_place.Given as goal
 abbrev pub invariant-loop-other : goal.invariant-loop-other
 invariant-loop-other l = record {
   few : l.place ≤ l.other-index;
-  counted : l.place + count_from (is_visible l.ops) l.c l.other-items l.other-index ≡ count_from (is_visible l.ops) l.c l.other-items 0;
+  counted : l.place + count_from (is_visible l.ops) l.c l.other-items l.other-index
+      ≡ count_from (is_visible l.ops) l.c l.other-items 0;
 }
