@@ -15,10 +15,3 @@ pub use lookup::has_char;
 pub use path_order::slow_before;
 pub use showing::{slow_place, slow_shown};
 pub use sorting::slow_order;
-
-#[cfg(test)]
-mod fixtures;
-#[cfg(test)]
-mod good_tests;
-#[cfg(test)]
-mod slow_tests;

@@ -1,19 +1,19 @@
-use crate::fixtures::{Does, Told, ops_of};
-use crate::is_good;
+use super::fixtures::{Does, Told, ops_of};
 use looks::Refusal;
 use operations::Op;
 use std::alloc::Global;
 use std::process::Abort;
 use std::test::Fail;
+use tree_order::is_good;
 
 // Three sites, one cause: sites 1 and 2 both type behind the `A` of `AC`.
-const M1: Told = (1, 1, 1, Does::Types(None, 0, b"AC"));
+const M1: Told = (1, 1, 1, Does::Insert(None, 0, b"AC"));
 
-const M2: Told = (1, 2, 2, Does::Types(Some((1, 0)), 2, b"B"));
+const M2: Told = (1, 2, 2, Does::Insert(Some((1, 0)), 2, b"B"));
 
-const M3: Told = (2, 1, 2, Does::Types(Some((1, 0)), 0, b"X"));
+const M3: Told = (2, 1, 2, Does::Insert(Some((1, 0)), 0, b"X"));
 
-const M4: Told = (2, 2, 3, Does::Types(Some((2, 0)), 1, b"Y"));
+const M4: Told = (2, 2, 3, Does::Insert(Some((2, 0)), 1, b"Y"));
 
 const GOOD: [(&str, &[Told]); 8] = [
     ("no operation", &[]),
@@ -26,18 +26,28 @@ const GOOD: [(&str, &[Told]); 8] = [
         "other sites delete and change what they have taken in",
         &[
             M1,
-            (2, 1, 2, Does::Deletes((1, 1))),
-            (3, 1, 3, Does::Changes(3, 3, (1, 1))),
-            (2, 2, 4, Does::Types(Some((1, 0)), 0, b"X")),
+            (2, 1, 2, Does::Delete(&[(1, 1, 1)])),
+            (
+                3,
+                1,
+                3,
+                Does::ChangeLooks(3, (b"Mono.Fnt", 3, 0), &[(1, 1, 1)]),
+            ),
+            (2, 2, 4, Does::Insert(Some((1, 0)), 0, b"X")),
         ],
     ),
     (
         "a site deletes and changes its own",
         &[
             M1,
-            (1, 2, 2, Does::Deletes((1, 0))),
-            (1, 3, 3, Does::Types(Some((1, 1)), 2, b"B")),
-            (1, 4, 4, Does::Changes(2, 5, (1, 2))),
+            (1, 2, 2, Does::Delete(&[(1, 0, 1)])),
+            (1, 3, 3, Does::Insert(Some((1, 1)), 2, b"B")),
+            (
+                1,
+                4,
+                4,
+                Does::ChangeLooks(2, (b"Oberon10.Scn.Fnt", 5, 0), &[(1, 2, 1)]),
+            ),
         ],
     ),
 ];
@@ -46,75 +56,96 @@ const GOOD: [(&str, &[Told]); 8] = [
 const BAD: [(&str, &[Told]); 17] = [
     (
         "another byte under one identity",
-        &[M1, (1, 1, 1, Does::Types(None, 0, b"AD"))],
+        &[M1, (1, 1, 1, Does::Insert(None, 0, b"AD"))],
     ),
     (
         "another stamp under one identity",
-        &[M1, (1, 1, 2, Does::Types(None, 0, b"AC"))],
+        &[M1, (1, 1, 2, Does::Insert(None, 0, b"AC"))],
     ),
     (
         "another kind under one identity",
         &[
             M1,
             M2,
-            (1, 3, 3, Does::Deletes((1, 0))),
-            (1, 3, 3, Does::Changes(2, 1, (1, 0))),
+            (1, 3, 3, Does::Delete(&[(1, 0, 1)])),
+            (
+                1,
+                3,
+                3,
+                Does::ChangeLooks(2, (b"Oberon10.Scn.Fnt", 1, 0), &[(1, 0, 1)]),
+            ),
         ],
     ),
-    ("no predecessor", &[(1, 2, 1, Does::Types(None, 0, b"A"))]),
+    ("no predecessor", &[(1, 2, 1, Does::Insert(None, 0, b"A"))]),
     (
         "a gap in the seqs",
-        &[M1, (1, 3, 2, Does::Types(None, 2, b"B"))],
+        &[M1, (1, 3, 2, Does::Insert(None, 2, b"B"))],
     ),
     (
         "no Insert of a cause",
-        &[M1, (2, 1, 2, Does::Types(Some((1, 2)), 0, b"X"))],
+        &[M1, (2, 1, 2, Does::Insert(Some((1, 2)), 0, b"X"))],
     ),
     (
         "no Insert of a name that is deleted",
-        &[M1, (1, 2, 2, Does::Deletes((2, 0)))],
+        &[M1, (1, 2, 2, Does::Delete(&[(2, 0, 1)]))],
     ),
     (
         "no Insert of a name that is changed",
-        &[M1, (1, 2, 2, Does::Changes(2, 5, (2, 0)))],
+        &[
+            M1,
+            (
+                1,
+                2,
+                2,
+                Does::ChangeLooks(2, (b"Oberon10.Scn.Fnt", 5, 0), &[(2, 0, 1)]),
+            ),
+        ],
     ),
     (
         "an Insert that begins too early",
-        &[M1, (1, 2, 2, Does::Types(None, 1, b"B"))],
+        &[M1, (1, 2, 2, Does::Insert(None, 1, b"B"))],
     ),
     (
         "an Insert that begins too late",
-        &[M1, (1, 2, 2, Does::Types(None, 3, b"B"))],
+        &[M1, (1, 2, 2, Does::Insert(None, 3, b"B"))],
     ),
     (
         "the predecessor's stamp",
-        &[M1, (1, 2, 1, Does::Types(None, 2, b"B"))],
+        &[M1, (1, 2, 1, Does::Insert(None, 2, b"B"))],
     ),
     (
         "the stamp of the cause's Insert",
-        &[M1, (2, 1, 1, Does::Types(Some((1, 0)), 0, b"X"))],
+        &[M1, (2, 1, 1, Does::Insert(Some((1, 0)), 0, b"X"))],
     ),
     (
         "the stamp of the Insert of what is deleted",
-        &[M1, (2, 1, 1, Does::Deletes((1, 1)))],
+        &[M1, (2, 1, 1, Does::Delete(&[(1, 1, 1)]))],
     ),
     (
         "a stamp below the Insert's of what is deleted",
         &[
-            (1, 1, 2, Does::Types(None, 0, b"A")),
-            (2, 1, 1, Does::Deletes((1, 0))),
+            (1, 1, 2, Does::Insert(None, 0, b"A")),
+            (2, 1, 1, Does::Delete(&[(1, 0, 1)])),
         ],
     ),
     (
         "the stamp of the Insert of what is changed",
-        &[M1, (2, 1, 1, Does::Changes(2, 5, (1, 1)))],
+        &[
+            M1,
+            (
+                2,
+                1,
+                1,
+                Does::ChangeLooks(2, (b"Oberon10.Scn.Fnt", 5, 0), &[(1, 1, 1)]),
+            ),
+        ],
     ),
     (
         "an own name that comes later",
         &[
             M1,
-            (1, 2, 4, Does::Deletes((1, 2))),
-            (1, 3, 3, Does::Types(None, 2, b"B")),
+            (1, 2, 4, Does::Delete(&[(1, 2, 1)])),
+            (1, 3, 3, Does::Insert(None, 2, b"B")),
         ],
     ),
     ("three sites, one cause, without the cause", &[M2, M3, M4]),

@@ -1,7 +1,7 @@
-use crate::fixtures::vec_of;
-use crate::messages::{CHANGE, DELETE, FIRST, SECOND};
-use crate::{Kind, Op, decode, encode};
+use super::fixtures::vec_of;
+use super::messages::{CHANGE, DELETE, FIRST, SECOND};
 use looks::Refusal;
+use operations::{Kind, Op, decode, encode};
 use std::alloc::{AllocError, Global};
 use std::test::Fail;
 
@@ -22,7 +22,7 @@ fn written(alloc: Global, op: &Op) -> Result<Vec<u8>, Refusal> {
     Ok(message)
 }
 
-// Messages with bytes at some places changed, as (place, byte), which spell no operation.
+// Messages with some bytes changed, as (index, byte), which spell no operation.
 const CHANGED: [(&str, &[u8], &[(usize, u8)]); 27] = [
     ("another tag", FIRST, &[(0, b'P')]),
     ("another version", FIRST, &[(2, 2)]),
@@ -34,8 +34,8 @@ const CHANGED: [(&str, &[u8], &[(usize, u8)]); 27] = [
     ("seq 0", FIRST, &[(11, 0)]),
     ("stamp 0", FIRST, &[(19, 0)]),
     ("stamp 2^48", FIRST, &[(13, 1), (19, 0)]),
-    ("place 1 of site 0", FIRST, &[(25, 1)]),
-    ("place 2^24 of site 1", FIRST, &[(21, 1), (22, 1)]),
+    ("offset 1 of site 0", FIRST, &[(25, 1)]),
+    ("offset 2^24 of site 1", FIRST, &[(21, 1), (22, 1)]),
     ("a font of no bytes", FIRST, &[(30, 0)]),
     ("a font of 32 bytes", FIRST, &[(30, 32)]),
     ("a font that begins with a digit", FIRST, &[(31, b'1')]),
@@ -65,8 +65,8 @@ const CHANGED: [(&str, &[u8], &[(usize, u8)]); 27] = [
 fn changed_messages_are_malformed(rt: HostRuntime) -> Result<(), Fail> {
     for (what, message, changes) in &CHANGED {
         let mut bytes = vec_of(rt.alloc(), message)?;
-        for (place, byte) in *changes {
-            *bytes.get_mut(*place).ok_or(*what)? = *byte;
+        for (index, byte) in *changes {
+            *bytes.get_mut(*index).ok_or(*what)? = *byte;
         }
         let answer = decode(rt.alloc(), &bytes).err();
         assert_eq!(rt; answer, Some(Refusal::Malformed), "{what}");
@@ -124,9 +124,9 @@ fn fronts_are_malformed(rt: HostRuntime) -> Result<(), Fail> {
 fn each_byte_counts(rt: HostRuntime) -> Result<(), Fail> {
     for message in [FIRST, DELETE, CHANGE] {
         let mut bytes = vec_of(rt.alloc(), message)?;
-        for (place, old) in message.iter().enumerate() {
+        for (index, old) in message.iter().enumerate() {
             for new in 0..=255 {
-                *bytes.get_mut(place).ok_or("no place")? = new;
+                *bytes.get_mut(index).ok_or("no index")? = new;
                 match read(rt.alloc(), &bytes) {
                     Ok(op) => {
                         let again = written(rt.alloc(), &op)?;
@@ -134,11 +134,11 @@ fn each_byte_counts(rt: HostRuntime) -> Result<(), Fail> {
                     }
                     Err(refusal) => {
                         assert_eq!(rt; refusal, Refusal::Malformed);
-                        assert!(rt; new != *old, "{place}");
+                        assert!(rt; new != *old, "{index}");
                     }
                 }
             }
-            *bytes.get_mut(place).ok_or("no place")? = *old;
+            *bytes.get_mut(index).ok_or("no index")? = *old;
         }
     }
     Ok(())

@@ -1,6 +1,6 @@
-use crate::NameSet;
-use crate::fixtures::{are_ranges, name};
+use super::fixtures::{are_ranges, name};
 use looks::Refusal;
+use operations::NameSet;
 use std::test::Fail;
 
 // Names as (site, off) that go into a set one by one, and the set's ranges as (site, at, len).
@@ -61,7 +61,7 @@ const NAMES: [Names; 11] = [
         out: (1, 4),
     },
     Names {
-        what: "two sites' neighbouring places",
+        what: "two sites' neighbouring offsets",
         names: &[(2, 4), (1, 5), (2, 6), (1, 3), (2, 5), (3, 7)],
         ranges: &[(1, 3, 1), (1, 5, 1), (2, 4, 3), (3, 7, 1)],
         out: (1, 4),
@@ -93,8 +93,8 @@ fn copied(set: &NameSet) -> Result<NameSet, Refusal> {
 fn names_go_into_a_set(rt: HostRuntime) -> Result<(), Fail> {
     for case in &NAMES {
         let mut set = NameSet::new(rt.alloc());
-        for place in case.names {
-            let name = name(*place).ok_or(case.what)?;
+        for parts in case.names {
+            let name = name(*parts).ok_or(case.what)?;
             let before = copied(&set)?;
             if let Err(refusal) = set.insert(name) {
                 assert_eq!(rt; refusal, Refusal::OutOfMemory);
@@ -105,8 +105,8 @@ fn names_go_into_a_set(rt: HostRuntime) -> Result<(), Fail> {
         assert!(rt; are_ranges(&set, case.ranges), "{}", case.what);
         let copy = copied(&set)?;
         assert_eq!(rt; copy.ranges(), set.ranges());
-        for place in case.names {
-            let name = name(*place).ok_or(case.what)?;
+        for parts in case.names {
+            let name = name(*parts).ok_or(case.what)?;
             assert!(rt; copy.contains(name), "{}", case.what);
         }
         let out = name(case.out).ok_or(case.what)?;
@@ -115,7 +115,7 @@ fn names_go_into_a_set(rt: HostRuntime) -> Result<(), Fail> {
     Ok(())
 }
 
-// The names of every second place make 1,024 ranges, and no more.
+// The names of every second offset make 1,024 ranges, and no more.
 #[test]
 fn a_set_of_1024_ranges(rt: HostRuntime) -> Result<(), Fail> {
     let mut set = NameSet::new(rt.alloc());
@@ -132,19 +132,19 @@ fn a_set_of_1024_ranges(rt: HostRuntime) -> Result<(), Fail> {
     for (index, range) in full.ranges().iter().enumerate() {
         assert_eq!(rt; (range.at() as usize, range.len()), (2 * index, 1));
     }
-    for place in [(1, 2048), (1, 2050), (2, 0)] {
-        let name = name(place).ok_or("no name")?;
+    for parts in [(1, 2048), (1, 2050), (2, 0)] {
+        let name = name(parts).ok_or("no name")?;
         assert_eq!(rt; set.insert(name), Err(Refusal::Scattered));
         assert_eq!(rt; set.ranges(), full.ranges());
         assert!(rt; !set.contains(name));
     }
-    for (place, len) in [
+    for (parts, len) in [
         ((1, 2046), 1024),
         ((1, 2047), 1024),
         ((1, 1), 1023),
         ((2, 0), 1024),
     ] {
-        let name = name(place).ok_or("no name")?;
+        let name = name(parts).ok_or("no name")?;
         set.insert(name)?;
         assert_eq!(rt; set.ranges().len(), len);
         assert!(rt; set.contains(name));

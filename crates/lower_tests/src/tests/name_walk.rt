@@ -1,9 +1,9 @@
 ghost use Rattle.std.specs.Prelude.{◌≡◌, IfOk};
-ghost use Rattle.operations.specs.Operation.{mentioned};
+ghost use Rattle.operations.specs.Operation.{mentioned_names};
 
-use crate::fixtures::{Does, Fields, INSERT, PLAIN, op_with};
-use crate::{Op, named};
+use super::fixtures::{Does, Fields, INSERT, PLAIN, op_with};
 use char_files::Name;
+use operations::{Op, named};
 use std::alloc::{AllocError, Global};
 use std::test::Fail;
 
@@ -11,20 +11,12 @@ use std::test::Fail;
 const MENTIONED: [(&str, Does, &[(u16, u32)]); 5] = [
     (
         "an Insert at the root",
-        Does::Insert {
-            cause: None,
-            at: 0,
-            bytes: b"Oberon",
-        },
+        Does::Insert(None, 0, b"Oberon"),
         &[],
     ),
     (
         "an Insert below the site's own character",
-        Does::Insert {
-            cause: Some((2, 0)),
-            at: 1,
-            bytes: b"Y",
-        },
+        Does::Insert(Some((2, 0)), 1, b"Y"),
         &[(2, 0)],
     ),
     (
@@ -45,22 +37,22 @@ const MENTIONED: [(&str, Does, &[(u16, u32)]); 5] = [
 ];
 
 fn walked(alloc: Global, op: &Op) -> Result<Vec<Name>, AllocError>
-    ensures { IfOk result (λ names. names.items ≡ mentioned op.now) }
+    ensures { IfOk result (λ names. names.items ≡ mentioned_names op.now) }
 {
     named(op).collect(alloc)
 }
 
 #[test]
 fn names_are_walked(rt: HostRuntime) -> Result<(), Fail> {
-    for (what, does, places) in MENTIONED {
+    for (what, does, wanted) in MENTIONED {
         let fields = Fields { does, ..INSERT };
         let op = op_with(rt.alloc(), fields)?.ok_or(what)?;
         let names = match walked(rt.alloc(), &op) {
             Ok(names) => names,
             Err(_) => walked(rt.alloc(), &op)?,
         };
-        assert_eq!(rt; names.len(), places.len(), "{what}");
-        for (name, (site, off)) in names.iter().zip(places) {
+        assert_eq!(rt; names.len(), wanted.len(), "{what}");
+        for (name, (site, off)) in names.iter().zip(wanted) {
             assert_eq!(rt; (name.site().get(), name.off()), (*site, *off), "{what}");
         }
     }

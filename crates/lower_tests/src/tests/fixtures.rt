@@ -1,70 +1,65 @@
 //! Operations that several tests share.
-use crate::{Kind, NameSet, Op};
 use char_files::{Anchor, Name, SiteNo, TextNo};
 use looks::{Colour, FontName, Looks, Refusal, Sel};
+use operations::{Kind, NameSet, Op};
 use std::alloc::{AllocError, Global};
+use std::test::Fail;
 
 // Ranges of names as (site, at, len).
-pub(crate) type Ranges = &'static [(u16, u32, u32)];
+pub(super) type Ranges = &'static [(u16, u32, u32)];
 
 // Looks as the font's name, the colour and the offset.
-pub(crate) type LooksParts = (&'static [u8], u8, i8);
+pub(super) type LooksParts = (&'static [u8], u8, i8);
 
-pub(crate) const PLAIN: LooksParts = (b"Oberon10.Scn.Fnt", 1, 0);
+pub(super) const PLAIN: LooksParts = (b"Oberon10.Scn.Fnt", 1, 0);
 
 // What an operation does. An Insert has default looks.
 #[derive(Clone, Copy)]
-pub(crate) enum Does {
-    Insert {
-        cause: Option<(u16, u32)>,
-        at: u32,
-        bytes: &'static [u8],
-    },
+pub(super) enum Does {
+    // The cause, if it isn't the root; the length of its site's file before it; the bytes.
+    Insert(Option<(u16, u32)>, u32, &'static [u8]),
     Delete(Ranges),
+    // What is selected: 1 for the font, 2 for the colour, 4 for the offset, or their sum.
     ChangeLooks(u8, LooksParts, Ranges),
 }
 
 // The fields of an operation on text 1.
 #[derive(Clone, Copy)]
-pub(crate) struct Fields {
-    pub(crate) site: u16,
-    pub(crate) seq: u32,
-    pub(crate) stamp: u64,
-    pub(crate) does: Does,
+pub(super) struct Fields {
+    pub(super) site: u16,
+    pub(super) seq: u32,
+    pub(super) stamp: u64,
+    pub(super) does: Does,
 }
 
 // An Insert below another site's character.
-pub(crate) const INSERT: Fields = Fields {
+pub(super) const INSERT: Fields = Fields {
     site: 2,
     seq: 2,
     stamp: 3,
-    does: Does::Insert {
-        cause: Some((1, 5)),
-        at: 4,
-        bytes: b"Y",
-    },
+    does: Does::Insert(Some((1, 5)), 4, b"Y"),
 };
 
-pub(crate) fn name((site, off): (u16, u32)) -> Option<Name> {
+pub(super) fn name((site, off): (u16, u32)) -> Option<Name> {
     Name::new(SiteNo::new(site)?, off)
 }
 
-pub(crate) fn anchor(cause: Option<(u16, u32)>) -> Option<Anchor> {
+pub(super) fn anchor(cause: Option<(u16, u32)>) -> Option<Anchor> {
     match cause {
         None => Some(Anchor::Root),
-        Some(place) => Some(Anchor::At(name(place)?)),
+        Some(parts) => Some(Anchor::At(name(parts)?)),
     }
 }
 
 // A vector of these bytes; an allocation that is refused once is tried again.
-pub(crate) fn vec_of(alloc: Global, bytes: &[u8]) -> Result<Vec<u8>, AllocError> {
+pub(super) fn vec_of(alloc: Global, bytes: &[u8]) -> Result<Vec<u8>, AllocError> {
     match Vec::from_slice(alloc, bytes) {
         Ok(vec) => Ok(vec),
         Err(_) => Vec::from_slice(alloc, bytes),
     }
 }
 
-pub(crate) fn looks_of((font, colour, offset): LooksParts) -> Option<Looks> {
+pub(super) fn looks_of((font, colour, offset): LooksParts) -> Option<Looks> {
     Some(Looks {
         font: FontName::new(font)?,
         colour: Colour::new(colour)?,
@@ -73,8 +68,8 @@ pub(crate) fn looks_of((font, colour, offset): LooksParts) -> Option<Looks> {
 }
 
 // Puts the name in; an allocation that is refused once is tried again.
-fn put_in(set: &mut NameSet, place: (u16, u32)) -> Result<(), Refusal> {
-    let Some(name) = name(place) else {
+fn put_in(set: &mut NameSet, parts: (u16, u32)) -> Result<(), Refusal> {
+    let Some(name) = name(parts) else {
         return Ok(());
     };
     if set.insert(name).is_err() {
@@ -83,11 +78,11 @@ fn put_in(set: &mut NameSet, place: (u16, u32)) -> Result<(), Refusal> {
     Ok(())
 }
 
-pub(crate) fn set_of(alloc: Global, ranges: Ranges) -> Result<NameSet, Refusal> {
+pub(super) fn set_of(alloc: Global, ranges: Ranges) -> Result<NameSet, Refusal> {
     let mut set = NameSet::new(alloc);
     for (site, at, len) in ranges {
-        for place in 0..*len {
-            put_in(&mut set, (*site, at.saturating_add(place)))?;
+        for index in 0..*len {
+            put_in(&mut set, (*site, at.saturating_add(index)))?;
         }
     }
     Ok(set)
@@ -95,7 +90,7 @@ pub(crate) fn set_of(alloc: Global, ranges: Ranges) -> Result<NameSet, Refusal> 
 
 fn kind_of(alloc: Global, does: Does) -> Result<Option<Kind>, Refusal> {
     Ok(match does {
-        Does::Insert { cause, at, bytes } => match anchor(cause) {
+        Does::Insert(cause, at, bytes) => match anchor(cause) {
             None => None,
             Some(cause) => Some(Kind::Insert {
                 cause,
@@ -119,7 +114,7 @@ fn kind_of(alloc: Global, does: Does) -> Result<Option<Kind>, Refusal> {
 }
 
 // The operation, or none where these fields have no spelling.
-pub(crate) fn op_with(alloc: Global, fields: Fields) -> Result<Option<Op>, Refusal> {
+pub(super) fn op_with(alloc: Global, fields: Fields) -> Result<Option<Op>, Refusal> {
     let kind = kind_of(alloc, fields.does)?;
     let (Some(text), Some(site), Some(kind)) = (TextNo::new(1), SiteNo::new(fields.site), kind)
     else {
@@ -132,7 +127,7 @@ fn are_looks(looks: &Looks, (font, colour, offset): LooksParts) -> bool {
     looks.font.as_bytes() == font && (looks.colour.number(), looks.offset) == (colour, offset)
 }
 
-pub(crate) fn are_ranges(set: &NameSet, ranges: &[(u16, u32, u32)]) -> bool {
+pub(super) fn are_ranges(set: &NameSet, ranges: &[(u16, u32, u32)]) -> bool {
     set.ranges().len() == ranges.len()
         && set.ranges().iter().zip(ranges).all(|(range, want)| (
             range.site().get(),
@@ -150,13 +145,9 @@ fn does_this(kind: &Kind, does: Does) -> bool {
                 looks,
                 bytes,
             },
-            Does::Insert {
-                cause: other,
-                at: place,
-                bytes: others,
-            },
+            Does::Insert(other, other_at, others),
         ) => {
-            (Some(*cause), *at) == (anchor(other), place)
+            (Some(*cause), *at) == (anchor(other), other_at)
                 && are_looks(looks, PLAIN)
                 && bytes.as_slice() == others
         }
@@ -169,8 +160,29 @@ fn does_this(kind: &Kind, does: Does) -> bool {
 }
 
 // Whether the operation's readers give these fields.
-pub(crate) fn has_these(op: &Op, fields: Fields) -> bool {
+pub(super) fn has_these(op: &Op, fields: Fields) -> bool {
     (op.text().get(), op.site().get()) == (1, fields.site)
         && (op.seq(), op.stamp()) == (fields.seq, fields.stamp)
         && does_this(op.kind(), fields.does)
+}
+
+// An operation on text 1: its site, its seq, its stamp.
+pub(super) type Told = (u16, u32, u64, Does);
+
+// The operations; an allocation that is refused once is tried again.
+pub(super) fn ops_of(alloc: Global, told: &[Told]) -> Result<Vec<Op>, Fail> {
+    let mut ops = match Vec::with_capacity(alloc, told.len()) {
+        Ok(ops) => ops,
+        Err(_) => Vec::with_capacity(alloc, told.len())?,
+    };
+    for (site, seq, stamp, does) in told {
+        let fields = Fields {
+            site: *site,
+            seq: *seq,
+            stamp: *stamp,
+            does: *does,
+        };
+        ops.push(op_with(alloc, fields)?.ok_or("no operation")?)?;
+    }
+    Ok(ops)
 }

@@ -2,14 +2,14 @@ ghost use Rattle.std.specs.Prelude.{IfOk, IsTrue};
 ghost use Rattle.tree_order.specs.Good.{Good};
 ghost use Rattle.tree_order.specs.Tree.{IsChar};
 
-use crate::fixtures::{Does, Told, looks, name, ops_of};
-use crate::{has_char, is_good, slow_before, slow_order, slow_place, slow_shown};
+use super::fixtures::{Does, Told, looks_of, name, ops_of};
 use char_files::{Char, Name};
 use looks::Refusal;
 use operations::Op;
 use std::alloc::Global;
 use std::process::Abort;
 use std::test::Fail;
+use tree_order::{has_char, is_good, slow_before, slow_order, slow_place, slow_shown};
 
 // Operations, with the order of their characters, the hidden ones among them, and what is shown, all of it in
 // the same looks.
@@ -41,10 +41,10 @@ const CASES: [Case; 7] = [
     Case {
         what: "three sites, one cause",
         ops: &[
-            (1, 1, 1, Does::Types(None, 0, b"AC")),
-            (1, 2, 2, Does::Types(Some((1, 0)), 2, b"B")),
-            (2, 1, 2, Does::Types(Some((1, 0)), 0, b"X")),
-            (2, 2, 3, Does::Types(Some((2, 0)), 1, b"Y")),
+            (1, 1, 1, Does::Insert(None, 0, b"AC")),
+            (1, 2, 2, Does::Insert(Some((1, 0)), 2, b"B")),
+            (2, 1, 2, Does::Insert(Some((1, 0)), 0, b"X")),
+            (2, 2, 3, Does::Insert(Some((2, 0)), 1, b"Y")),
         ],
         order: &[(1, 0), (2, 0), (2, 1), (1, 2), (1, 1)],
         shown: b"AXYBC",
@@ -53,9 +53,9 @@ const CASES: [Case; 7] = [
     Case {
         what: "equal stamps",
         ops: &[
-            (1, 1, 1, Does::Types(None, 0, b"AC")),
-            (1, 2, 2, Does::Types(Some((1, 0)), 2, b"B")),
-            (2, 1, 2, Does::Types(Some((1, 0)), 0, b"X")),
+            (1, 1, 1, Does::Insert(None, 0, b"AC")),
+            (1, 2, 2, Does::Insert(Some((1, 0)), 2, b"B")),
+            (2, 1, 2, Does::Insert(Some((1, 0)), 0, b"X")),
         ],
         order: &[(1, 0), (2, 0), (1, 2), (1, 1)],
         shown: b"AXBC",
@@ -64,8 +64,8 @@ const CASES: [Case; 7] = [
     Case {
         what: "concurrent at the start",
         ops: &[
-            (1, 1, 1, Does::Types(None, 0, b"one")),
-            (2, 1, 1, Does::Types(None, 0, b"two")),
+            (1, 1, 1, Does::Insert(None, 0, b"one")),
+            (2, 1, 1, Does::Insert(None, 0, b"two")),
         ],
         order: &[(2, 0), (2, 1), (2, 2), (1, 0), (1, 1), (1, 2)],
         shown: b"twoone",
@@ -74,9 +74,9 @@ const CASES: [Case; 7] = [
     Case {
         what: "typing behind a deleted character",
         ops: &[
-            (1, 1, 1, Does::Types(None, 0, b"abc")),
-            (1, 2, 2, Does::Deletes((1, 1))),
-            (2, 1, 2, Does::Types(Some((1, 1)), 0, b"X")),
+            (1, 1, 1, Does::Insert(None, 0, b"abc")),
+            (1, 2, 2, Does::Delete(&[(1, 1, 1)])),
+            (2, 1, 2, Does::Insert(Some((1, 1)), 0, b"X")),
         ],
         order: &[(1, 0), (1, 1), (2, 0), (1, 2)],
         hidden: &[(1, 1)],
@@ -86,9 +86,19 @@ const CASES: [Case; 7] = [
     Case {
         what: "looks by attribute",
         ops: &[
-            (1, 1, 1, Does::Types(None, 0, b"Q")),
-            (1, 2, 2, Does::Changes(3, 3, (1, 0))),
-            (2, 1, 2, Does::Changes(2, 5, (1, 0))),
+            (1, 1, 1, Does::Insert(None, 0, b"Q")),
+            (
+                1,
+                2,
+                2,
+                Does::ChangeLooks(3, (b"Mono.Fnt", 3, 0), &[(1, 0, 1)]),
+            ),
+            (
+                2,
+                1,
+                2,
+                Does::ChangeLooks(2, (b"Oberon10.Scn.Fnt", 5, 0), &[(1, 0, 1)]),
+            ),
         ],
         order: &[(1, 0)],
         shown: b"Q",
@@ -99,9 +109,19 @@ const CASES: [Case; 7] = [
     Case {
         what: "the offset by itself",
         ops: &[
-            (1, 1, 1, Does::Types(None, 0, b"Q")),
-            (1, 2, 2, Does::Changes(6, 5, (1, 0))),
-            (2, 1, 2, Does::Changes(3, 9, (1, 0))),
+            (1, 1, 1, Does::Insert(None, 0, b"Q")),
+            (
+                1,
+                2,
+                2,
+                Does::ChangeLooks(6, (b"Oberon10.Scn.Fnt", 5, -3), &[(1, 0, 1)]),
+            ),
+            (
+                2,
+                1,
+                2,
+                Does::ChangeLooks(3, (b"Mono.Fnt", 9, 0), &[(1, 0, 1)]),
+            ),
         ],
         order: &[(1, 0)],
         shown: b"Q",
@@ -206,11 +226,11 @@ fn check_order(rt: &impl Abort, alloc: Global, ops: &[Op], case: &Case) -> Resul
     let order = order_of(rt, alloc, ops)?;
     assert_eq!(rt; order.len(), case.order.len(), "{}", case.what);
     let mut shown: u64 = 0;
-    for (i, place) in case.order.iter().enumerate() {
-        let c = name(*place).ok_or("no name")?;
+    for (i, parts) in case.order.iter().enumerate() {
+        let c = name(*parts).ok_or("no name")?;
         assert!(rt; has_char(ops, c), "{}", case.what);
         assert_eq!(rt; order.get(i).copied(), Some(c), "{}", case.what);
-        if !case.hidden.contains(place) {
+        if !case.hidden.contains(parts) {
             shown = shown.saturating_add(1);
         }
         assert_eq!(rt; place_of(rt, alloc, ops, c)?, shown, "{}", case.what);
@@ -227,15 +247,15 @@ fn check_order(rt: &impl Abort, alloc: Global, ops: &[Op], case: &Case) -> Resul
 fn check_shown(rt: &impl Abort, alloc: Global, ops: &[Op], case: &Case) -> Result<(), Fail>
     requires { Good ops.now }
 {
-    let want = looks(case.font, case.colour, case.offset).ok_or("no looks")?;
+    let want = looks_of((case.font, case.colour, case.offset)).ok_or("no looks")?;
     let shown = shown_of(rt, alloc, ops)?;
     assert_eq!(rt; shown.len(), case.shown.len(), "{}", case.what);
     let visible = case
         .order
         .iter()
-        .filter(|place| !case.hidden.contains(place));
-    for ((place, byte), char) in visible.zip(case.shown).zip(&shown) {
-        assert_eq!(rt; Some(char.name), name(*place), "{}", case.what);
+        .filter(|parts| !case.hidden.contains(parts));
+    for ((parts, byte), char) in visible.zip(case.shown).zip(&shown) {
+        assert_eq!(rt; Some(char.name), name(*parts), "{}", case.what);
         assert_eq!(rt; char.byte, *byte, "{}", case.what);
         assert!(rt; char.looks == want, "{}", case.what);
     }

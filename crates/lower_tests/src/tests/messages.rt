@@ -1,40 +1,36 @@
 //! Operations and the messages that the format's description spells them as.
-use crate::fixtures::{Does, Fields};
+use super::fixtures::{Does, Fields};
 
-pub(crate) struct Message {
-    pub(crate) what: &'static str,
-    pub(crate) fields: Fields,
-    pub(crate) bytes: &'static [u8],
+pub(super) struct Message {
+    pub(super) what: &'static str,
+    pub(super) fields: Fields,
+    pub(super) bytes: &'static [u8],
 }
 
-pub(crate) const FIRST: &[u8] =
+pub(super) const FIRST: &[u8] =
     b"OT\x01\x01\x00\x01\x00\x01\x00\x00\x00\x01\x00\x00\x00\x00\x00\x00\x00\x01\
     \x00\x00\x00\x00\x00\x00\x00\x00\x00\x00\x10Oberon10.Scn.Fnt\x01\x00\x00\x06Oberon";
 
-pub(crate) const SECOND: &[u8] =
+pub(super) const SECOND: &[u8] =
     b"OT\x01\x01\x00\x01\x00\x02\x00\x00\x00\x02\x00\x00\x00\x00\x00\x00\x00\x02\
     \x00\x02\x00\x00\x00\x00\x00\x00\x00\x01\x10Oberon10.Scn.Fnt\x01\x00\x00\x01Y";
 
-pub(crate) const DELETE: &[u8] =
+pub(super) const DELETE: &[u8] =
     b"OT\x01\x02\x00\x01\x00\x02\x00\x00\x00\x01\x00\x00\x00\x00\x00\x00\x00\x02\
     \x00\x01\x00\x01\x00\x00\x00\x00\x00\x00\x00\x01";
 
-pub(crate) const CHANGE: &[u8] =
+pub(super) const CHANGE: &[u8] =
     b"OT\x01\x03\x00\x01\x00\x01\x00\x00\x00\x02\x00\x00\x00\x00\x00\x00\x00\x02\
     \x02\x07\x00\x01\x00\x01\x00\x00\x00\x00\x00\x00\x00\x01";
 
-pub(crate) const MESSAGES: [Message; 15] = [
+pub(super) const MESSAGES: [Message; 15] = [
     Message {
         what: "the first Insert of a text",
         fields: Fields {
             site: 1,
             seq: 1,
             stamp: 1,
-            does: Does::Insert {
-                cause: None,
-                at: 0,
-                bytes: b"Oberon",
-            },
+            does: Does::Insert(None, 0, b"Oberon"),
         },
         bytes: FIRST,
     },
@@ -44,11 +40,7 @@ pub(crate) const MESSAGES: [Message; 15] = [
             site: 1,
             seq: 1,
             stamp: 1,
-            does: Does::Insert {
-                cause: None,
-                at: 0,
-                bytes: b"Oberoo",
-            },
+            does: Does::Insert(None, 0, b"Oberoo"),
         },
         bytes: b"OT\x01\x01\x00\x01\x00\x01\x00\x00\x00\x01\x00\x00\x00\x00\x00\x00\x00\x01\
             \x00\x00\x00\x00\x00\x00\x00\x00\x00\x00\x10Oberon10.Scn.Fnt\x01\x00\x00\x06Oberoo",
@@ -59,11 +51,7 @@ pub(crate) const MESSAGES: [Message; 15] = [
             site: 2,
             seq: 1,
             stamp: 1,
-            does: Does::Insert {
-                cause: Some((1, 0)),
-                at: 0,
-                bytes: b"X",
-            },
+            does: Does::Insert(Some((1, 0)), 0, b"X"),
         },
         bytes: b"OT\x01\x01\x00\x01\x00\x02\x00\x00\x00\x01\x00\x00\x00\x00\x00\x00\x00\x01\
             \x00\x01\x00\x00\x00\x00\x00\x00\x00\x00\x10Oberon10.Scn.Fnt\x01\x00\x00\x01X",
@@ -74,11 +62,7 @@ pub(crate) const MESSAGES: [Message; 15] = [
             site: 2,
             seq: 2,
             stamp: 2,
-            does: Does::Insert {
-                cause: Some((2, 0)),
-                at: 1,
-                bytes: b"Y",
-            },
+            does: Does::Insert(Some((2, 0)), 1, b"Y"),
         },
         bytes: SECOND,
     },
@@ -108,11 +92,7 @@ pub(crate) const MESSAGES: [Message; 15] = [
             site: 2,
             seq: 1,
             stamp: 0xffffffffffff,
-            does: Does::Insert {
-                cause: None,
-                at: 0,
-                bytes: b"Z",
-            },
+            does: Does::Insert(None, 0, b"Z"),
         },
         bytes: b"OT\x01\x01\x00\x01\x00\x02\x00\x00\x00\x01\x00\x00\xff\xff\xff\xff\xff\xff\
             \x00\x00\x00\x00\x00\x00\x00\x00\x00\x00\x10Oberon10.Scn.Fnt\x01\x00\x00\x01Z",
@@ -123,11 +103,7 @@ pub(crate) const MESSAGES: [Message; 15] = [
             site: 2,
             seq: 1,
             stamp: 0xfffffffffffe,
-            does: Does::Insert {
-                cause: None,
-                at: 0,
-                bytes: b"Z",
-            },
+            does: Does::Insert(None, 0, b"Z"),
         },
         bytes: b"OT\x01\x01\x00\x01\x00\x02\x00\x00\x00\x01\x00\x00\xff\xff\xff\xff\xff\xfe\
             \x00\x00\x00\x00\x00\x00\x00\x00\x00\x00\x10Oberon10.Scn.Fnt\x01\x00\x00\x01Z",
@@ -138,11 +114,7 @@ pub(crate) const MESSAGES: [Message; 15] = [
             site: 1,
             seq: 3,
             stamp: 3,
-            does: Does::Insert {
-                cause: Some((1, 3)),
-                at: 4,
-                bytes: b"bc",
-            },
+            does: Does::Insert(Some((1, 3)), 4, b"bc"),
         },
         bytes: b"OT\x01\x01\x00\x01\x00\x01\x00\x00\x00\x03\x00\x00\x00\x00\x00\x00\x00\x03\
             \x00\x01\x00\x00\x00\x03\x00\x00\x00\x04\x10Oberon10.Scn.Fnt\x01\x00\x00\x02bc",
@@ -153,11 +125,7 @@ pub(crate) const MESSAGES: [Message; 15] = [
             site: 1,
             seq: 1,
             stamp: 1,
-            does: Does::Insert {
-                cause: None,
-                at: 0,
-                bytes: b"AC",
-            },
+            does: Does::Insert(None, 0, b"AC"),
         },
         bytes: b"OT\x01\x01\x00\x01\x00\x01\x00\x00\x00\x01\x00\x00\x00\x00\x00\x00\x00\x01\
             \x00\x00\x00\x00\x00\x00\x00\x00\x00\x00\x10Oberon10.Scn.Fnt\x01\x00\x00\x02AC",
@@ -168,11 +136,7 @@ pub(crate) const MESSAGES: [Message; 15] = [
             site: 1,
             seq: 2,
             stamp: 2,
-            does: Does::Insert {
-                cause: Some((1, 0)),
-                at: 2,
-                bytes: b"B",
-            },
+            does: Does::Insert(Some((1, 0)), 2, b"B"),
         },
         bytes: b"OT\x01\x01\x00\x01\x00\x01\x00\x00\x00\x02\x00\x00\x00\x00\x00\x00\x00\x02\
             \x00\x01\x00\x00\x00\x00\x00\x00\x00\x02\x10Oberon10.Scn.Fnt\x01\x00\x00\x01B",
@@ -183,11 +147,7 @@ pub(crate) const MESSAGES: [Message; 15] = [
             site: 2,
             seq: 1,
             stamp: 2,
-            does: Does::Insert {
-                cause: Some((1, 0)),
-                at: 0,
-                bytes: b"X",
-            },
+            does: Does::Insert(Some((1, 0)), 0, b"X"),
         },
         bytes: b"OT\x01\x01\x00\x01\x00\x02\x00\x00\x00\x01\x00\x00\x00\x00\x00\x00\x00\x02\
             \x00\x01\x00\x00\x00\x00\x00\x00\x00\x00\x10Oberon10.Scn.Fnt\x01\x00\x00\x01X",

@@ -1,7 +1,7 @@
-use crate::fixtures::{has_these, op_with, vec_of};
-use crate::messages::MESSAGES;
-use crate::{decode, encode};
+use super::fixtures::{has_these, op_with, vec_of};
+use super::messages::MESSAGES;
 use looks::Refusal;
+use operations::{decode, encode};
 use std::test::Fail;
 
 // Whichever allocation of `encode` is refused, the vector is as it was before.

@@ -1,4 +1,4 @@
-use crate::fixtures::{Does, Fields, INSERT, has_these, op_with};
+use super::fixtures::{Does, Fields, INSERT, has_these, op_with};
 use looks::Refusal;
 use std::test::Fail;
 
@@ -10,11 +10,7 @@ const KINDS: [(&str, Fields); 4] = [
             site: 1,
             seq: 1,
             stamp: 1,
-            does: Does::Insert {
-                cause: None,
-                at: 0,
-                bytes: b"Oberon",
-            },
+            does: Does::Insert(None, 0, b"Oberon"),
         },
     ),
     ("an Insert below a character", INSERT),

@@ -1,6 +1,6 @@
-use crate::fixtures::{looks_of, vec_of};
-use crate::{read_looks, write_looks};
+use super::fixtures::{looks_of, vec_of};
 use looks::Refusal;
+use operations::{read_looks, write_looks};
 use std::test::Fail;
 
 const PLAIN: &[u8] = b"\x10Oberon10.Scn.Fnt\x01\x00";

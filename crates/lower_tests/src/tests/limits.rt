@@ -1,10 +1,10 @@
-use crate::fixtures::{Does, Fields, INSERT, PLAIN, has_these, op_with};
+use super::fixtures::{Does, Fields, INSERT, PLAIN, has_these, op_with};
 use looks::Refusal;
 use std::alloc::Global;
 use std::test::Fail;
 
-// Site 2's Inserts with one field at its limit, and one past it: seq, stamp, cause, place in the file, how
-// many bytes; and whether there is such an operation.
+// Site 2's Inserts with one field at its limit, and one past it: seq, stamp, cause, length of the file,
+// how many bytes; and whether there is such an operation.
 const LIMITS: [(&str, u32, u64, Option<(u16, u32)>, u32, usize, bool); 14] = [
     ("the least of all", 1, 1, None, 0, 1, true),
     ("the greatest seq", 0xffff_ffff, 1, None, 0, 1, true),
@@ -48,7 +48,7 @@ fn fields_past_their_limits(rt: HostRuntime) -> Result<(), Fail> {
             site: 2,
             seq,
             stamp,
-            does: Does::Insert { cause, at, bytes },
+            does: Does::Insert(cause, at, bytes),
         };
         assert!(rt; is_as_wanted(rt.alloc(), fields, want)?, "{what}");
     }

@@ -1,4 +1,4 @@
-use crate::fixtures::{Does, Fields, INSERT, PLAIN, op_with};
+use super::fixtures::{Does, Fields, INSERT, PLAIN, op_with};
 use std::test::Fail;
 
 // Operations that differ, each from the first or the one before it in one field alone.
@@ -10,44 +10,28 @@ const DIFFERENT: [(&str, Fields); 13] = [
     (
         "another cause",
         Fields {
-            does: Does::Insert {
-                cause: None,
-                at: 4,
-                bytes: b"Y",
-            },
+            does: Does::Insert(None, 4, b"Y"),
             ..INSERT
         },
     ),
     (
-        "another place",
+        "another length of the file",
         Fields {
-            does: Does::Insert {
-                cause: Some((1, 5)),
-                at: 5,
-                bytes: b"Y",
-            },
+            does: Does::Insert(Some((1, 5)), 5, b"Y"),
             ..INSERT
         },
     ),
     (
         "another byte",
         Fields {
-            does: Does::Insert {
-                cause: Some((1, 5)),
-                at: 4,
-                bytes: b"y",
-            },
+            does: Does::Insert(Some((1, 5)), 4, b"y"),
             ..INSERT
         },
     ),
     (
         "one byte more",
         Fields {
-            does: Does::Insert {
-                cause: Some((1, 5)),
-                at: 4,
-                bytes: b"YY",
-            },
+            does: Does::Insert(Some((1, 5)), 4, b"YY"),
             ..INSERT
         },
     ),

@@ -1,0 +1,5 @@
+//! Tests of `operations` and of `tree_order`, in a crate of their own so that each of those is proved once.
+#![tactic(auto)]
+
+#[cfg(test)]
+mod tests;
