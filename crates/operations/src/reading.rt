@@ -1,6 +1,5 @@
-ghost use Rattle.std.specs.Prelude.{◌≡◌, ℕ, ◌<◌, ◌≤◌, ◌^◌, ◌++◌, ◌↔◌, ◌⊎◌, ◌&&◌, List, length, take, Some};
+ghost use Rattle.std.specs.Prelude.{◌≡◌, ℕ, ◌<◌, ◌≤◌, ◌++◌, ◌↔◌, ◌⊎◌, ◌&&◌, List, length, take, Some};
 ghost use Rattle.std.specs.Prelude.{IsNone, IfSome, IfOk, IfErr, IsErrOf};
-ghost use Rattle.std.specs.Int.{w64};
 ghost use Rattle.looks.specs.declared.looks.Looks.{Looks};
 ghost use Rattle.looks.specs.Looks.{IsLooks};
 ghost use Rattle.looks.specs.Refusal.{RefusedForMemoryAlone};
