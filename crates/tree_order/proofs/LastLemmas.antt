@@ -44,7 +44,8 @@ last_taken ops n selects c last op lt is so_far sets more = record {
   greatest =
       λ other h s. elim (Contains-push_cases (take n ops) op other (rw (take_one_more ops n op lt is) at h)) [
         | inl seen ↦ above_both (key_of last) (key_of op) (key_of other) more (so_far.greatest other seen s)
-        | inr e ↦ subst (λ (o : Operation). is_below (key_of op) (key_of o) ≡ false) e (irreflexive (key_of op))
+        | inr e ↦
+            subst (λ (o : Operation). is_below (key_of op) (key_of o) ≡ false) e (irreflexive (key_of op))
       ];
 }
 
