@@ -42,20 +42,20 @@ in_stretch site at (suc len) c (on, from, to) =
     ]
 
 -- what an operation of a site inserts
-abbrev inserted : ℕ → OpKind → List CharName
-inserted site (insert cause at looks bytes) = stretch site at (length bytes)
-inserted site (delete names) = []
-inserted site (change_looks sel looks names) = []
+abbrev inserted_names : ℕ → OpKind → List CharName
+inserted_names site (insert cause at looks bytes) = stretch site at (length bytes)
+inserted_names site (delete names) = []
+inserted_names site (change_looks sel looks names) = []
 
 -- that is what it says of itself
-inserted_by : (site : ℕ) (kind : OpKind) (c : CharName) → Contains (inserted site kind) c
+inserted_by : (site : ℕ) (kind : OpKind) (c : CharName) → Contains (inserted_names site kind) c
     → InsertsBy site kind c
 inserted_by site (insert cause at looks bytes) c h = stretch_in site at (length bytes) c h
 inserted_by site (delete names) c h = omega arith
 inserted_by site (change_looks sel looks names) c h = omega arith
 
 by_inserted : (site : ℕ) (kind : OpKind) (c : CharName) → InsertsBy site kind c
-    → Contains (inserted site kind) c
+    → Contains (inserted_names site kind) c
 by_inserted site (insert cause at looks bytes) c h = in_stretch site at (length bytes) c h
 by_inserted site (delete names) c h = absurd h
 by_inserted site (change_looks sel looks names) c h = absurd h
@@ -63,14 +63,14 @@ by_inserted site (change_looks sel looks names) c h = absurd h
 -- what the operations insert
 abbrev pub characters : List Operation → List CharName
 characters [] = []
-characters (op ∷ ops) = inserted op.site op.kind ++ characters ops
+characters (op ∷ ops) = inserted_names op.site op.kind ++ characters ops
 
 -- they are the characters
 pub IsChar-from_characters : (ops : List Operation) (c : CharName) → Contains (characters ops) c
     → IsChar ops c
 IsChar-from_characters [] c h = absurd (omega arith)
 IsChar-from_characters (op ∷ ops) c h =
-    elim (Contains-append_cases (inserted op.site op.kind) (characters ops) c h) [
+    elim (Contains-append_cases (inserted_names op.site op.kind) (characters ops) c h) [
       | inl k ↦ (op, record { held = Contains-head op ops; inserts = inserted_by op.site op.kind c k })
       | inr k ↦ let (i, is) = IsChar-from_characters ops c k in
           (i, record { held = Contains-tail op ops i is.held; inserts = is.inserts })
@@ -81,8 +81,8 @@ pub characters_from_IsChar : (ops : List Operation) (c : CharName) → IsChar op
 characters_from_IsChar [] c (i, is) = let held : Contains [] i = is.held in absurd (omega arith)
 characters_from_IsChar (op ∷ ops) c (i, is) =
     elim (Contains-cons_cases op ops i is.held) [
-      | inl e ↦ Contains-append_left (inserted op.site op.kind) (characters ops) c
+      | inl e ↦ Contains-append_left (inserted_names op.site op.kind) (characters ops) c
           (by_inserted op.site op.kind c (subst (λ (o : Operation). Inserts o c) e is.inserts))
-      | inr k ↦ Contains-append_right (inserted op.site op.kind) (characters ops) c
+      | inr k ↦ Contains-append_right (inserted_names op.site op.kind) (characters ops) c
           (characters_from_IsChar ops c (i, record { held = k; inserts = is.inserts }))
     ]

@@ -11,22 +11,22 @@ use Rattle.operations.specs.NameSet.{Range, IsIn, IsAmong, range_contains}
 use Rattle.tree_order.specs.Shown.{up_to}
 
 -- what the tests of a range and of a set tell
-pub in_told : (r : Range) (c : CharName) → (range_contains r c ≡ true) ↔ IsIn r c
-in_told r c = (λ e. grind (arith, nat_tests), λ h. grind (arith, nat_tests))
+pub range_contains_is : (r : Range) (c : CharName) → (range_contains r c ≡ true) ↔ IsIn r c
+range_contains_is r c = (λ e. grind (arith, nat_tests), λ h. grind (arith, nat_tests))
 
-pub among_told : (names : List Range) (c : CharName)
+pub among_is : (names : List Range) (c : CharName)
     → (list_any (λ r. range_contains r c) names ≡ true) ↔ IsAmong names c
-among_told names c = (
+among_is names c = (
   λ e. let (k, r, lt, at, h) = Any-from_list_any (λ r. range_contains r c) names e in
-      (k, r, lt, at, (in_told r c).0 h),
-  λ (k, r, lt, at, is). list_any-from_Any (λ r. range_contains r c) names (k, r, lt, at, (in_told r c).1 is),
+      (k, r, lt, at, (range_contains_is r c).0 h),
+  λ (k, r, lt, at, is). list_any-from_Any (λ r. range_contains r c) names (k, r, lt, at, (range_contains_is r c).1 is),
 )
 
 -- the test that decides whether a set has a name is the definition's
 pub list_any_among : (b : Bool) (names : List Range) (c : CharName) → ((b ≡ true) ↔ IsAmong names c)
     → b ≡ list_any (λ r. range_contains r c) names
 list_any_among b names c tells =
-    same_from_decides b (list_any (λ r. range_contains r c) names) tells (among_told names c)
+    same_from_decides b (list_any (λ r. range_contains r c) names) tells (among_is names c)
 
 -- one more name that passes the test
 pub filter_more_yes : (p : CharName → Bool) (order : List CharName) (n : ℕ) (name : CharName)

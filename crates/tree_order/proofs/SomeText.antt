@@ -20,12 +20,12 @@ use Rattle.tree_order.specs.Looks.{HasLooks, IsLastToSet, Sets, ChangesBy, looks
 use Rattle.tree_order.specs.Shown.{IsShown, is_visible}
 use Rattle.tree_order.proofs.Before.{has_order}
 use Rattle.tree_order.proofs.LastLemmas.{irreflexive}
-use Rattle.tree_order.proofs.ShownLemmas.{among_told, in_told}
+use Rattle.tree_order.proofs.ShownLemmas.{among_is, range_contains_is}
 use Rattle.tree_order.proofs.Sorted.{Contains-head, Contains-tail, Contains-cons_cases}
 
 -- what a test tells is so, or isn't
-told : (b : Bool) (P : Type 0) → ((b ≡ true) ↔ P) → P ⊎ ¬ P
-told b P tells =
+so_or_not : (b : Bool) (P : Type 0) → ((b ≡ true) ↔ P) → P ⊎ ¬ P
+so_or_not b P tells =
     elim (cases_Bool b) [
       | inl e ↦ inl (tells.0 e)
       | inr e ↦ inr
@@ -33,7 +33,7 @@ told b P tells =
     ]
 
 inserts_or_not : (site : ℕ) (kind : OpKind) (c : CharName) → InsertsBy site kind c ⊎ ¬ InsertsBy site kind c
-inserts_or_not site (insert cause at looks bytes) c = let t = in_told _ c in told _ _ t
+inserts_or_not site (insert cause at looks bytes) c = let t = range_contains_is _ c in so_or_not _ _ t
 inserts_or_not site (delete names) c = inr (λ h. h)
 inserts_or_not site (change_looks sel looks names) c = inr (λ h. h)
 
@@ -43,7 +43,7 @@ changes_or_not (insert cause at looks bytes) selects c = inr (λ h. h)
 changes_or_not (delete names) selects c = inr (λ h. h)
 changes_or_not (change_looks sel looks names) selects c =
     elim (cases_Bool (selects sel)) [
-      | inl e ↦ elim (told _ (IsAmong names c) (among_told names c)) [
+      | inl e ↦ elim (so_or_not _ (IsAmong names c) (among_is names c)) [
         | inl among ↦ inl (e, among)
         | inr out ↦ inr (λ h. out h.1)
       ]

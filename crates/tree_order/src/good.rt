@@ -152,7 +152,7 @@ fn own_names_are_earlier(ops: &[Op], starts: &[u64]) -> bool
 }
 
 // Whether `p` is a cause of the operation: its predecessor, or the Insert of a name that it mentions.
-fn is_cause(p: &Op, op: &Op) -> bool
+fn is_cause_of(p: &Op, op: &Op) -> bool
     ensures { IsTrue result ↔ IsCauseOf p.now op.now }
 {
     is_predecessor(p, op) || named(op).any(|name| inserts(p, name))
@@ -163,7 +163,7 @@ fn is_above_causes(ops: &[Op], op: &Op) -> bool
     ensures { IsTrue result ↔ IsAboveCauses ops.now op.now }
 {
     ops.iter()
-        .all(|p| p.stamp() < op.stamp() || !is_cause(p, op))
+        .all(|p| p.stamp() < op.stamp() || !is_cause_of(p, op))
 }
 
 // Whether each stamp is greater than those of the operation's causes.

@@ -1,4 +1,5 @@
 use super::fixtures::{Does, Fields, INSERT, PLAIN, op_with};
+use std::alloc::Global;
 use std::test::Fail;
 
 // Operations that differ, each from the first or the one before it in one field alone.
@@ -72,13 +73,18 @@ const DIFFERENT: [(&str, Fields); 13] = [
     ),
 ];
 
+fn are_same(alloc: Global, fields: Fields, others: Fields) -> Result<bool, Fail> {
+    let op = op_with(alloc, fields)?.ok_or("no operation")?;
+    let other = op_with(alloc, others)?.ok_or("no other operation")?;
+    Ok(op.is_same(&other))
+}
+
 #[test]
 fn operations_are_compared(rt: HostRuntime) -> Result<(), Fail> {
     for (i, (what, fields)) in DIFFERENT.iter().enumerate() {
-        let op = op_with(rt.alloc(), *fields)?.ok_or(*what)?;
-        for (j, (other_what, other_fields)) in DIFFERENT.iter().enumerate() {
-            let other = op_with(rt.alloc(), *other_fields)?.ok_or(*other_what)?;
-            assert_eq!(rt; op.is_same(&other), i == j, "{what} and {other_what}");
+        for (j, (other_what, others)) in DIFFERENT.iter().enumerate() {
+            let same = are_same(rt.alloc(), *fields, *others)?;
+            assert!(rt; same == (i == j), "{what} and {other_what}");
         }
     }
     Ok(())

@@ -6,7 +6,7 @@ use std::alloc::{AllocError, Global};
 use std::test::Fail;
 
 // The operation of a message; an allocation that is refused once is tried again.
-fn read(alloc: Global, message: &[u8]) -> Result<Op, Refusal> {
+fn op_in(alloc: Global, message: &[u8]) -> Result<Op, Refusal> {
     match decode(alloc, message) {
         Err(Refusal::OutOfMemory) => decode(alloc, message),
         answer => answer,
@@ -14,7 +14,7 @@ fn read(alloc: Global, message: &[u8]) -> Result<Op, Refusal> {
 }
 
 // The operation's message; an allocation that is refused once is tried again.
-fn written(alloc: Global, op: &Op) -> Result<Vec<u8>, Refusal> {
+fn bytes_of(alloc: Global, op: &Op) -> Result<Vec<u8>, Refusal> {
     let mut message = Vec::new(alloc);
     if encode(op, &mut message).is_err() {
         encode(op, &mut message)?;
@@ -127,9 +127,9 @@ fn each_byte_counts(rt: HostRuntime) -> Result<(), Fail> {
         for (index, old) in message.iter().enumerate() {
             for new in 0..=255 {
                 *bytes.get_mut(index).ok_or("no index")? = new;
-                match read(rt.alloc(), &bytes) {
+                match op_in(rt.alloc(), &bytes) {
                     Ok(op) => {
-                        let again = written(rt.alloc(), &op)?;
+                        let again = bytes_of(rt.alloc(), &op)?;
                         assert_eq!(rt; again.as_slice(), bytes.as_slice());
                     }
                     Err(refusal) => {
@@ -162,7 +162,7 @@ fn delete_of(alloc: Global, count: u16) -> Result<Vec<u8>, AllocError> {
 #[test]
 fn at_most_1024_ranges(rt: HostRuntime) -> Result<(), Fail> {
     let message = delete_of(rt.alloc(), 1024)?;
-    let op = read(rt.alloc(), &message)?;
+    let op = op_in(rt.alloc(), &message)?;
     let Kind::Delete { names } = op.kind() else {
         return Err("not a Delete".into());
     };

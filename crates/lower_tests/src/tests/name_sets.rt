@@ -1,6 +1,7 @@
 use super::fixtures::{are_ranges, name};
 use looks::Refusal;
 use operations::NameSet;
+use std::alloc::Global;
 use std::test::Fail;
 
 // Names as (site, off) that go into a set one by one, and the set's ranges as (site, at, len).
@@ -81,61 +82,75 @@ const NAMES: [Names; 11] = [
 ];
 
 // A copy; an allocation that is refused once is tried again.
-fn copied(set: &NameSet) -> Result<NameSet, Refusal> {
+fn copy_of(set: &NameSet) -> Result<NameSet, Refusal> {
     match set.copy() {
         Ok(set) => Ok(set),
         Err(_) => set.copy(),
     }
 }
 
-// Whichever allocation is refused, the set is as it was before.
+// Puts a name in. Whether the set is as it was before, where an allocation is refused.
+fn goes_in(set: &mut NameSet, parts: (u16, u32)) -> Result<bool, Fail> {
+    let name = name(parts).ok_or("no name")?;
+    let before = copy_of(set)?;
+    if let Err(refusal) = set.insert(name) {
+        let kept = refusal == Refusal::OutOfMemory && set.is_same(&before);
+        set.insert(name)?;
+        return Ok(kept);
+    }
+    Ok(true)
+}
+
+fn has(set: &NameSet, parts: (u16, u32)) -> bool {
+    match name(parts) {
+        Some(name) => set.contains(name),
+        None => false,
+    }
+}
+
 #[test]
 fn names_go_into_a_set(rt: HostRuntime) -> Result<(), Fail> {
     for case in &NAMES {
         let mut set = NameSet::new(rt.alloc());
         for parts in case.names {
-            let name = name(*parts).ok_or(case.what)?;
-            let before = copied(&set)?;
-            if let Err(refusal) = set.insert(name) {
-                assert_eq!(rt; refusal, Refusal::OutOfMemory);
-                assert_eq!(rt; set.ranges(), before.ranges());
-                set.insert(name)?;
-            }
+            assert!(rt; goes_in(&mut set, *parts)?, "{}", case.what);
         }
         assert!(rt; are_ranges(&set, case.ranges), "{}", case.what);
-        let copy = copied(&set)?;
-        assert_eq!(rt; copy.ranges(), set.ranges());
-        for parts in case.names {
-            let name = name(*parts).ok_or(case.what)?;
-            assert!(rt; copy.contains(name), "{}", case.what);
-        }
-        let out = name(case.out).ok_or(case.what)?;
-        assert!(rt; !copy.contains(out), "{}", case.what);
+        let copy = copy_of(&set)?;
+        assert!(rt; are_ranges(&copy, case.ranges), "{}", case.what);
+        let all = case.names.iter().all(|parts| has(&copy, *parts));
+        assert!(rt; all && !has(&copy, case.out), "{}", case.what);
     }
     Ok(())
 }
 
-// The names of every second offset make 1,024 ranges, and no more.
-#[test]
-fn a_set_of_1024_ranges(rt: HostRuntime) -> Result<(), Fail> {
-    let mut set = NameSet::new(rt.alloc());
+// The names of every second offset: 1,024 ranges.
+fn full_set(alloc: Global) -> Result<NameSet, Fail> {
+    let mut set = NameSet::new(alloc);
     for index in 0..1024 {
         let name = name((1, 2 * index)).ok_or("no name")?;
-        if let Err(refusal) = set.insert(name) {
-            assert_eq!(rt; refusal, Refusal::OutOfMemory);
-            assert_eq!(rt; set.ranges().len(), index as usize);
+        if set.insert(name).is_err() {
             set.insert(name)?;
         }
     }
-    let full = copied(&set)?;
-    assert_eq!(rt; full.ranges().len(), 1024);
-    for (index, range) in full.ranges().iter().enumerate() {
-        assert_eq!(rt; (range.at() as usize, range.len()), (2 * index, 1));
-    }
+    Ok(set)
+}
+
+// Whether the set has one range for each of its names, at every second offset.
+fn is_scattered(set: &NameSet) -> bool {
+    let mut ranges = set.ranges().iter().enumerate();
+    ranges.all(|(index, range)| (range.at() as usize, range.len()) == (2 * index, 1))
+}
+
+// A name that is refused leaves the set as it was; one that touches a range, or is there, goes in.
+#[test]
+fn a_set_of_1024_ranges(rt: HostRuntime) -> Result<(), Fail> {
+    let mut set = full_set(rt.alloc())?;
+    assert!(rt; set.ranges().len() == 1024 && is_scattered(&set));
     for parts in [(1, 2048), (1, 2050), (2, 0)] {
         let name = name(parts).ok_or("no name")?;
         assert_eq!(rt; set.insert(name), Err(Refusal::Scattered));
-        assert_eq!(rt; set.ranges(), full.ranges());
+        assert!(rt; set.ranges().len() == 1024 && is_scattered(&set));
         assert!(rt; !set.contains(name));
     }
     for (parts, len) in [
@@ -144,10 +159,8 @@ fn a_set_of_1024_ranges(rt: HostRuntime) -> Result<(), Fail> {
         ((1, 1), 1023),
         ((2, 0), 1024),
     ] {
-        let name = name(parts).ok_or("no name")?;
-        set.insert(name)?;
-        assert_eq!(rt; set.ranges().len(), len);
-        assert!(rt; set.contains(name));
+        assert!(rt; goes_in(&mut set, parts)?);
+        assert!(rt; set.ranges().len() == len && has(&set, parts));
     }
     Ok(())
 }

@@ -36,7 +36,7 @@ const MENTIONED: [(&str, Does, &[(u16, u32)]); 5] = [
     ),
 ];
 
-fn walked(alloc: Global, op: &Op) -> Result<Vec<Name>, AllocError>
+fn names_of(alloc: Global, op: &Op) -> Result<Vec<Name>, AllocError>
     ensures { IfOk result (λ names. names.items ≡ mentioned_names op.now) }
 {
     named(op).collect(alloc)
@@ -47,9 +47,9 @@ fn names_are_walked(rt: HostRuntime) -> Result<(), Fail> {
     for (what, does, wanted) in MENTIONED {
         let fields = Fields { does, ..INSERT };
         let op = op_with(rt.alloc(), fields)?.ok_or(what)?;
-        let names = match walked(rt.alloc(), &op) {
+        let names = match names_of(rt.alloc(), &op) {
             Ok(names) => names,
-            Err(_) => walked(rt.alloc(), &op)?,
+            Err(_) => names_of(rt.alloc(), &op)?,
         };
         assert_eq!(rt; names.len(), wanted.len(), "{what}");
         for (name, (site, off)) in names.iter().zip(wanted) {

@@ -142,7 +142,7 @@ enum Arrival {
 }
 
 // The operations in this order; an allocation that is refused once is tried again.
-fn arriving(alloc: Global, told: &[Told], arrival: Arrival) -> Result<Vec<Told>, Fail> {
+fn arrivals(alloc: Global, told: &[Told], arrival: Arrival) -> Result<Vec<Told>, Fail> {
     let mut all = match Vec::with_capacity(alloc, 2 * told.len()) {
         Ok(all) => all,
         Err(_) => Vec::with_capacity(alloc, 2 * told.len())?,
@@ -205,7 +205,7 @@ fn place_of(rt: &impl Abort, alloc: Global, ops: &[Op], c: Name) -> Result<u64, 
     }
 }
 
-fn before(rt: &impl Abort, alloc: Global, ops: &[Op], c: Name, d: Name) -> Result<bool, Fail>
+fn is_before(rt: &impl Abort, alloc: Global, ops: &[Op], c: Name, d: Name) -> Result<bool, Fail>
     requires good { Good ops.now }
     requires first { IsChar ops.now c }
     requires second { IsChar ops.now d }
@@ -217,6 +217,28 @@ fn before(rt: &impl Abort, alloc: Global, ops: &[Op], c: Name, d: Name) -> Resul
             Ok(slow_before(alloc, ops, c, d)?)
         }
     }
+}
+
+// Whether the case's character of this index stands before those behind it alone.
+fn stands_at(
+    rt: &impl Abort,
+    alloc: Global,
+    ops: &[Op],
+    case: &Case,
+    c: Name,
+    index: usize,
+) -> Result<bool, Fail>
+    requires good { Good ops.now }
+    requires character { IsChar ops.now c }
+{
+    for (j, other) in case.order.iter().enumerate() {
+        let d = name(*other).ok_or("no name")?;
+        assert!(rt; has_char(ops, d));
+        if is_before(rt, alloc, ops, c, d)? != (index < j) {
+            return Ok(false);
+        }
+    }
+    Ok(true)
 }
 
 // The order is the case's; each character has its place and stands before those behind it alone.
@@ -234,11 +256,7 @@ fn check_order(rt: &impl Abort, alloc: Global, ops: &[Op], case: &Case) -> Resul
             shown = shown.saturating_add(1);
         }
         assert_eq!(rt; place_of(rt, alloc, ops, c)?, shown, "{}", case.what);
-        for (j, other) in case.order.iter().enumerate() {
-            let d = name(*other).ok_or("no name")?;
-            assert!(rt; has_char(ops, d), "{}", case.what);
-            assert_eq!(rt; before(rt, alloc, ops, c, d)?, i < j, "{}", case.what);
-        }
+        assert!(rt; stands_at(rt, alloc, ops, case, c, i)?, "{}", case.what);
     }
     Ok(())
 }
@@ -262,19 +280,23 @@ fn check_shown(rt: &impl Abort, alloc: Global, ops: &[Op], case: &Case) -> Resul
     Ok(())
 }
 
+fn check_case(rt: &impl Abort, alloc: Global, case: &Case, arrival: Arrival) -> Result<(), Fail> {
+    let out = name((9, 9)).ok_or("no name")?;
+    let told = arrivals(alloc, case.ops, arrival)?;
+    let ops = ops_of(alloc, &told)?;
+    assert!(rt; !has_char(&ops, out), "{}", case.what);
+    assert!(rt; are_good(rt, alloc, &ops)?, "{}", case.what);
+    check_order(rt, alloc, &ops, case)?;
+    check_shown(rt, alloc, &ops, case)
+}
+
 // In whichever order the operations come, and however often, they show the same. Whichever allocation is
 // refused, the call says so, and is right when it is tried again.
 #[test]
 fn operations_show_a_text(rt: HostRuntime) -> Result<(), Fail> {
-    let out = name((9, 9)).ok_or("no name")?;
     for case in &CASES {
         for arrival in [Arrival::AsTold, Arrival::Backwards, Arrival::Twice] {
-            let told = arriving(rt.alloc(), case.ops, arrival)?;
-            let ops = ops_of(rt.alloc(), &told)?;
-            assert!(rt; are_good(&rt, rt.alloc(), &ops)?, "{}", case.what);
-            assert!(rt; !has_char(&ops, out), "{}", case.what);
-            check_order(&rt, rt.alloc(), &ops, case)?;
-            check_shown(&rt, rt.alloc(), &ops, case)?;
+            check_case(&rt, rt.alloc(), case, arrival)?;
         }
     }
     Ok(())
