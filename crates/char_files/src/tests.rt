@@ -44,7 +44,7 @@ fn names_end_with_the_file(rt: HostRuntime) -> Result<(), Fail> {
     Ok(())
 }
 
-const ITEMS: [(u8, i8); 6] = [
+const ITEMS: &[(u8, i8)] = &[
     (b'a', 0),
     (b'b', 0),
     (b'b', 1),
@@ -65,7 +65,7 @@ fn pushes_and_copies(rt: HostRuntime) -> Result<(), Fail> {
             buffer.push(*byte, looks_at(*offset))?;
         }
     }
-    assert!(rt; has(&buffer, &ITEMS));
+    assert!(rt; has(&buffer, ITEMS));
     assert_eq!(rt; buffer.runs().len(), 4);
     let copy = match buffer.copy() {
         Ok(copy) => copy,
@@ -74,6 +74,6 @@ fn pushes_and_copies(rt: HostRuntime) -> Result<(), Fail> {
             buffer.copy()?
         }
     };
-    assert!(rt; has(&buffer, &ITEMS) && has(&copy, &ITEMS));
+    assert!(rt; has(&buffer, ITEMS) && has(&copy, ITEMS));
     Ok(())
 }

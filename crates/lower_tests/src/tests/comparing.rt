@@ -3,7 +3,7 @@ use std::alloc::Global;
 use std::test::Fail;
 
 // Operations that differ, each from the first or the one before it in one field alone.
-const DIFFERENT: [(&str, Fields); 13] = [
+const DIFFERENT: &[(&str, Fields)] = &[
     ("an Insert", INSERT),
     ("another site", Fields { site: 3, ..INSERT }),
     ("another seq", Fields { seq: 3, ..INSERT }),

@@ -3,7 +3,7 @@ use looks::Refusal;
 use std::test::Fail;
 
 // An operation of each kind.
-const KINDS: [(&str, Fields); 4] = [
+const KINDS: &[(&str, Fields)] = &[
     (
         "an Insert at the root",
         Fields {
@@ -37,7 +37,7 @@ const KINDS: [(&str, Fields); 4] = [
 #[test]
 fn operations_are_copied(rt: HostRuntime) -> Result<(), Fail> {
     for (what, fields) in KINDS {
-        let op = op_with(rt.alloc(), fields)?.ok_or(what)?;
+        let op = op_with(rt.alloc(), *fields)?.ok_or(*what)?;
         let copy = match op.copy() {
             Ok(copy) => copy,
             Err(refusal) => {
@@ -45,8 +45,8 @@ fn operations_are_copied(rt: HostRuntime) -> Result<(), Fail> {
                 op.copy()?
             }
         };
-        assert!(rt; has_these(&copy, fields), "{what}");
-        assert!(rt; has_these(&op, fields), "{what}");
+        assert!(rt; has_these(&copy, *fields), "{what}");
+        assert!(rt; has_these(&op, *fields), "{what}");
     }
     Ok(())
 }

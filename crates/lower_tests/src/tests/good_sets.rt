@@ -15,7 +15,7 @@ const M3: Told = (2, 1, 2, Does::Insert(Some((1, 0)), 0, b"X"));
 
 const M4: Told = (2, 2, 3, Does::Insert(Some((2, 0)), 1, b"Y"));
 
-const GOOD: [(&str, &[Told]); 8] = [
+const GOOD: &[(&str, &[Told])] = &[
     ("no operation", &[]),
     ("one Insert", &[M1]),
     ("three sites, one cause", &[M1, M2, M3, M4]),
@@ -53,7 +53,7 @@ const GOOD: [(&str, &[Told]); 8] = [
 ];
 
 // Each breaks one rule alone, but for the last two: under a name that comes later no stamps are right either.
-const BAD: [(&str, &[Told]); 17] = [
+const BAD: &[(&str, &[Told])] = &[
     (
         "another byte under one identity",
         &[M1, (1, 1, 1, Does::Insert(None, 0, b"AD"))],

@@ -5,7 +5,7 @@ use std::test::Fail;
 
 // Site 2's Inserts with one field at its limit, and one past it: seq, stamp, cause, length of the file,
 // how many bytes; and whether there is such an operation.
-const LIMITS: [(&str, u32, u64, Option<(u16, u32)>, u32, usize, bool); 14] = [
+const LIMITS: &[(&str, u32, u64, Option<(u16, u32)>, u32, usize, bool)] = &[
     ("the least of all", 1, 1, None, 0, 1, true),
     ("the greatest seq", 0xffff_ffff, 1, None, 0, 1, true),
     ("seq 0", 0, 1, None, 0, 1, false),
@@ -43,14 +43,14 @@ fn is_as_wanted(alloc: Global, fields: Fields, want: bool) -> Result<bool, Refus
 #[test]
 fn fields_past_their_limits(rt: HostRuntime) -> Result<(), Fail> {
     for (what, seq, stamp, cause, at, len, want) in LIMITS {
-        let bytes = LETTERS.get(..len).ok_or(what)?;
+        let bytes = LETTERS.get(..*len).ok_or(*what)?;
         let fields = Fields {
             site: 2,
-            seq,
-            stamp,
-            does: Does::Insert(cause, at, bytes),
+            seq: *seq,
+            stamp: *stamp,
+            does: Does::Insert(*cause, *at, bytes),
         };
-        assert!(rt; is_as_wanted(rt.alloc(), fields, want)?, "{what}");
+        assert!(rt; is_as_wanted(rt.alloc(), fields, *want)?, "{what}");
     }
     Ok(())
 }
@@ -60,7 +60,7 @@ const SYNTAX: &[u8] = b"Syntax12.Scn.Fnt";
 const OBERON: &[u8] = b"Oberon10.Scn.Fnt";
 
 // What site 2 does, and whether there is such an operation.
-const NAMED: [(&str, Does, bool); 14] = [
+const NAMED: &[(&str, Does, bool)] = &[
     ("a Delete of nothing", Does::Delete(&[]), false),
     ("a Delete of one name", Does::Delete(&[(1, 0, 1)]), true),
     (
@@ -128,8 +128,11 @@ const NAMED: [(&str, Does, bool); 14] = [
 #[test]
 fn names_and_unselected_looks(rt: HostRuntime) -> Result<(), Fail> {
     for (what, does, want) in NAMED {
-        let fields = Fields { does, ..INSERT };
-        assert!(rt; is_as_wanted(rt.alloc(), fields, want)?, "{what}");
+        let fields = Fields {
+            does: *does,
+            ..INSERT
+        };
+        assert!(rt; is_as_wanted(rt.alloc(), fields, *want)?, "{what}");
     }
     Ok(())
 }

@@ -23,7 +23,7 @@ fn bytes_of(alloc: Global, op: &Op) -> Result<Vec<u8>, Refusal> {
 }
 
 // Messages with some bytes changed, as (index, byte), which spell no operation.
-const CHANGED: [(&str, &[u8], &[(usize, u8)]); 27] = [
+const CHANGED: &[(&str, &[u8], &[(usize, u8)])] = &[
     ("another tag", FIRST, &[(0, b'P')]),
     ("another version", FIRST, &[(2, 2)]),
     ("kind 0", FIRST, &[(3, 0)]),
@@ -63,7 +63,7 @@ const CHANGED: [(&str, &[u8], &[(usize, u8)]); 27] = [
 
 #[test]
 fn changed_messages_are_malformed(rt: HostRuntime) -> Result<(), Fail> {
-    for (what, message, changes) in &CHANGED {
+    for (what, message, changes) in CHANGED {
         let mut bytes = vec_of(rt.alloc(), message)?;
         for (index, byte) in *changes {
             *bytes.get_mut(*index).ok_or(*what)? = *byte;
@@ -75,7 +75,7 @@ fn changed_messages_are_malformed(rt: HostRuntime) -> Result<(), Fail> {
 }
 
 // Whole messages that spell no operation.
-const MALFORMED: [(&str, &[u8]); 4] = [
+const MALFORMED: &[(&str, &[u8])] = &[
     (
         "a byte behind the end",
         b"OT\x01\x01\x00\x01\x00\x01\x00\x00\x00\x01\x00\x00\x00\x00\x00\x00\x00\x01\
@@ -100,7 +100,7 @@ const MALFORMED: [(&str, &[u8]); 4] = [
 
 #[test]
 fn other_bytes_are_malformed(rt: HostRuntime) {
-    for (what, message) in &MALFORMED {
+    for (what, message) in MALFORMED {
         let answer = decode(rt.alloc(), message).err();
         assert_eq!(rt; answer, Some(Refusal::Malformed), "{what}");
     }

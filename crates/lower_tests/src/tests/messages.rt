@@ -23,7 +23,7 @@ pub(super) const CHANGE: &[u8] =
     b"OT\x01\x03\x00\x01\x00\x01\x00\x00\x00\x02\x00\x00\x00\x00\x00\x00\x00\x02\
     \x02\x07\x00\x01\x00\x01\x00\x00\x00\x00\x00\x00\x00\x01";
 
-pub(super) const MESSAGES: [Message; 15] = [
+pub(super) const MESSAGES: &[Message] = &[
     Message {
         what: "the first Insert of a text",
         fields: Fields {

@@ -12,7 +12,7 @@ struct Names {
     out: (u16, u32),
 }
 
-const NAMES: [Names; 11] = [
+const NAMES: &[Names] = &[
     Names {
         what: "no name",
         names: &[],
@@ -110,7 +110,7 @@ fn has(set: &NameSet, parts: (u16, u32)) -> bool {
 
 #[test]
 fn names_go_into_a_set(rt: HostRuntime) -> Result<(), Fail> {
-    for case in &NAMES {
+    for case in NAMES {
         let mut set = NameSet::new(rt.alloc());
         for parts in case.names {
             assert!(rt; goes_in(&mut set, *parts)?, "{}", case.what);

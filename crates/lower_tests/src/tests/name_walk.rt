@@ -8,7 +8,7 @@ use std::alloc::{AllocError, Global};
 use std::test::Fail;
 
 // What site 2 does, and the names (site, off) that it mentions.
-const MENTIONED: [(&str, Does, &[(u16, u32)]); 5] = [
+const MENTIONED: &[(&str, Does, &[(u16, u32)])] = &[
     (
         "an Insert at the root",
         Does::Insert(None, 0, b"Oberon"),
@@ -45,14 +45,17 @@ fn names_of(alloc: Global, op: &Op) -> Result<Vec<Name>, AllocError>
 #[test]
 fn names_are_walked(rt: HostRuntime) -> Result<(), Fail> {
     for (what, does, wanted) in MENTIONED {
-        let fields = Fields { does, ..INSERT };
-        let op = op_with(rt.alloc(), fields)?.ok_or(what)?;
+        let fields = Fields {
+            does: *does,
+            ..INSERT
+        };
+        let op = op_with(rt.alloc(), fields)?.ok_or(*what)?;
         let names = match names_of(rt.alloc(), &op) {
             Ok(names) => names,
             Err(_) => names_of(rt.alloc(), &op)?,
         };
         assert_eq!(rt; names.len(), wanted.len(), "{what}");
-        for (name, (site, off)) in names.iter().zip(wanted) {
+        for (name, (site, off)) in names.iter().zip(*wanted) {
             assert_eq!(rt; (name.site().get(), name.off()), (*site, *off), "{what}");
         }
     }

@@ -36,7 +36,7 @@ const PLAIN: Case = Case {
     offset: 0,
 };
 
-const CASES: [Case; 7] = [
+const CASES: &[Case] = &[
     PLAIN,
     Case {
         what: "three sites, one cause",
@@ -294,7 +294,7 @@ fn check_case(rt: &impl Abort, alloc: Global, case: &Case, arrival: Arrival) -> 
 // refused, the call says so, and is right when it is tried again.
 #[test]
 fn operations_show_a_text(rt: HostRuntime) -> Result<(), Fail> {
-    for case in &CASES {
+    for case in CASES {
         for arrival in [Arrival::AsTold, Arrival::Backwards, Arrival::Twice] {
             check_case(&rt, rt.alloc(), case, arrival)?;
         }

@@ -7,7 +7,7 @@ const PLAIN: &[u8] = b"\x10Oberon10.Scn.Fnt\x01\x00";
 
 // Bytes, and the font, the colour and the offset of the looks that they begin with, and how many bytes these
 // are.
-const LOOKS: [(&str, &[u8], Option<(&'static [u8], u8, i8, usize)>); 9] = [
+const LOOKS: &[(&str, &[u8], Option<(&'static [u8], u8, i8, usize)>)] = &[
     (
         "default looks",
         PLAIN,
@@ -51,7 +51,7 @@ const LOOKS: [(&str, &[u8], Option<(&'static [u8], u8, i8, usize)>); 9] = [
 // Whichever allocation of `write_looks` is refused, the vector is as it was before.
 #[test]
 fn looks_are_spelled(rt: HostRuntime) -> Result<(), Fail> {
-    for (what, spelling, parts) in &LOOKS {
+    for (what, spelling, parts) in LOOKS {
         let Some((font, colour, offset, len)) = *parts else {
             continue;
         };
@@ -71,7 +71,7 @@ fn looks_are_spelled(rt: HostRuntime) -> Result<(), Fail> {
 
 #[test]
 fn looks_are_read(rt: HostRuntime) -> Result<(), Fail> {
-    for (what, bytes, want) in &LOOKS {
+    for (what, bytes, want) in LOOKS {
         let found = read_looks(bytes);
         match (&found, want) {
             (Some((looks, len)), Some((font, colour, offset, want_len))) => {

@@ -30,7 +30,7 @@ fn is_read_so(alloc: Global, bytes: &[u8], op: &Op, fields: Fields) -> Result<bo
 
 #[test]
 fn messages_are_written_and_read(rt: HostRuntime) -> Result<(), Fail> {
-    for case in &MESSAGES {
+    for case in MESSAGES {
         let op = op_with(rt.alloc(), case.fields)?.ok_or(case.what)?;
         let written = is_written_so(rt.alloc(), &op, case.bytes)?;
         let read = is_read_so(rt.alloc(), case.bytes, &op, case.fields)?;
