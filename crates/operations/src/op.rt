@@ -96,8 +96,8 @@ impl Op {
         self.site
     }
 
-    /// Its number among its site's operations on this text, 1 or more; a site counts from 1 without gaps. Site
-    /// and number are its identity (a dot).
+    /// Its number among its site's operations on this text, 1 or more; a site counts from 1 without gaps.
+    /// Site and number are its identity (a dot).
     pub fn seq(&self) -> u32
         ensures { result ≡ self.now.seq }
     {

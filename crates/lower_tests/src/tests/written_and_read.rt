@@ -5,8 +5,8 @@ use operations::{Op, decode, encode};
 use std::alloc::Global;
 use std::test::Fail;
 
-// Whether the operation's message is these bytes. Where the allocation of `encode` is refused, the vector has to be as it
-// was before.
+// Whether the operation's message is these bytes. Where the allocation of `encode` is refused, the vector has
+// to be as it was before.
 fn is_written_so(alloc: Global, op: &Op, bytes: &[u8]) -> Result<bool, Fail> {
     let mut message = vec_of(alloc, b"before")?;
     if let Err(refusal) = encode(op, &mut message) {
