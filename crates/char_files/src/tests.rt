@@ -38,7 +38,7 @@ fn numbers_of_sites_and_texts(rt: HostRuntime) {
 fn names_end_with_the_file(rt: HostRuntime) -> Result<(), Fail> {
     let site = SiteNo::new(7).ok_or("7 is a site")?;
     assert_eq!(rt; Name::new(site, 0x0100_0000), None);
-    let last = Name::new(site, 0x00ff_ffff).ok_or("the last place of a file")?;
+    let last = Name::new(site, 0x00ff_ffff).ok_or("the last offset of a file")?;
     assert_eq!(rt; (last.site(), last.off()), (site, 0x00ff_ffff));
     assert_ne!(rt; Anchor::At(last), Anchor::Root);
     Ok(())

@@ -1,4 +1,4 @@
 pub mod DeskState
 pub mod Machine
 pub mod Printing
-pub mod Script
+pub mod TextStep

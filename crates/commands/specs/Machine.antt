@@ -1,40 +1,131 @@
--- The machine of events: what a run may answer.
-use Rattle.std.specs.Prelude.{◌≡◌, ℕ, ◌-◌, ◌⊎◌, List, [], ◌++◌, length, map, Result, Some, slice_get, slice_set}
+-- The machine of events: what the run's sites may reply to an event, and the state after it.
+use Rattle.std.specs.Prelude.{◌≡◌, ◌≢◌, ℕ, ◌<◌, ◌⊎◌, List, [], ◌∷◌, ◌++◌, map, Result, Ok, Err, Some, IfOk}
+use Rattle.std.specs.Prelude.{MatchBool, IsTrue, length, slice_get, slice_set}
 use Rattle.std.specs.List.{range_with_len}
-use Rattle.looks.specs.declared.refusal.Refusal.TheVariants.{BadEvent, OutOfMemory}
+use Rattle.looks.specs.declared.refusal.Refusal.{Refusal}
+use Rattle.looks.specs.declared.refusal.Refusal.TheVariants.{BadEvent, OutOfMemory, OutOfRange}
+use Rattle.texts.specs.Edit.{Edit, Edits, Shows, Stand, is_in_text, plan, count_standing}
 use Rattle.texts.specs.TextState.{TextState}
 use Rattle.texts.specs.declared.edit_refusal.EditRefusal.{EditRefusal}
-use Rattle.commands.specs.DeskState.{DeskState, TypesIn, new_desk}
-use Rattle.commands.specs.Printing.{text_answer, refused, send_lines, edit_end}
+use Rattle.texts.specs.declared.edit_refusal.EditRefusal.TheVariants.{Whole, Partial}
+use Rattle.commands.specs.DeskState.{DeskState, InText, IsTextOf, new_desk}
+use Rattle.commands.specs.Printing.{text_lines}
 
--- the sites' desks, and the messages that were sent so far, over all sites
+-- The number of the first site, which the others follow; the sites' desks; the messages that were sent so
+-- far, over all sites.
 pub record State : Type 0 where
+  pub first : ℕ
   pub desks : List DeskState
   pub sent : List (List ℕ)
 
--- What a line of a script asks, of the desk at this place among the run's sites: to type bytes at a position of a text, or to
--- print a text. Every other line asks nothing that there is.
+-- What may be asked of a text without changing it.
+pub data Query : Type 0 where
+  print_text : Query
+
+-- What may happen, by classes. A desk is told by its index among the run's. An edit is a site's own, of one
+-- of its texts; a query prints a part of the state; what else a line asks is nothing that there is.
 pub data Event : Type 0 where
-  type_in : (desk text pos : ℕ) (bytes : List ℕ) → Event
-  print_text : (desk text : ℕ) → Event
+  edit : (desk text : ℕ) (e : Edit) → Event
+  query : (desk text : ℕ) (q : Query) → Event
   unknown : Event
 
+-- What is replied: the messages that an edit of which all operations stand sent; a query's lines; why nothing
+-- was done; or the messages of an edit's first operations, how many stand, and why the next one doesn't.
+pub data Reply : Type 0 where
+  sends : (messages : List (List ℕ)) → Reply
+  prints : (lines : List ℕ) → Reply
+  refuses : (why : Refusal) → Reply
+  stops : (messages : List (List ℕ)) (done : ℕ) (why : Refusal) → Reply
+
+-- the reply to an edit that answered so, with these messages
+abbrev pub edit_reply : Result ℕ EditRefusal → List (List ℕ) → Reply
+edit_reply (Ok sent) messages = sends messages
+edit_reply (Err (Whole why)) messages = refuses why
+edit_reply (Err (Partial done why)) messages = stops messages done why
+
+-- the messages that a reply tells
+abbrev pub messages_of : Reply → List (List ℕ)
+messages_of (sends messages) = messages
+messages_of (prints lines) = []
+messages_of (refuses why) = []
+messages_of (stops messages done why) = messages
+
 -- as a run of count sites begins
-abbrev pub new_state : ℕ → ℕ → State
-new_state first count = record { desks = map (λ site. new_desk site) (range_with_len first count); sent = [] }
+abbrev pub new_state : (first count : ℕ) → State
+new_state first count =
+    record { first = first; desks = map (λ site. new_desk site) (range_with_len first count); sent = [] }
 
--- the state with this desk
-abbrev pub with_desk : State → ℕ → DeskState → List (List ℕ) → State
-with_desk s i d messages = record { desks = slice_set s.desks i d; sent = s.sent ++ messages }
+-- t is the text of this number on the desk at this index
+abbrev pub IsTextAt : State → (desk text : ℕ) → TextState → Type 0
+IsTextAt s i text t = (d : DeskState) × (slice_get s.desks i ≡ Some d) × IsTextOf d text t
 
--- the machine may answer the event so, and go on to new
-abbrev pub Step : State → Event → List ℕ → State → Type 0
-Step s (type_in i text pos bytes) answer new =
-    (d : DeskState) × (typed : DeskState) × (messages : List (List ℕ)) × (result : Result ℕ EditRefusal)
-    × (slice_get s.desks i ≡ Some d) × TypesIn d text pos bytes result typed s.sent (s.sent ++ messages)
-    × (new ≡ with_desk s i typed messages) × (answer ≡ send_lines (length s.sent) messages ++ edit_end result)
-Step s (print_text i text) answer new =
-    (new ≡ s)
-    × (((d : DeskState) × (t : TextState) × (slice_get s.desks i ≡ Some d) × (slice_get d.texts (text - 1) ≡ Some t) × (answer ≡ text_answer t))
-    ⊎ (answer ≡ refused OutOfMemory))
-Step s unknown answer new = (new ≡ s) × (answer ≡ refused BadEvent)
+-- The lift from a desk to the run: the desk at this index does so, and sends these messages; all other desks
+-- stay.
+abbrev pub InDesk : (DeskState → DeskState → Type 0) → State → ℕ → List (List ℕ) → State → Type 0
+InDesk Does s i messages new =
+    (d d' : DeskState) × (slice_get s.desks i ≡ Some d) × Does d d'
+    × (new ≡ record s { desks = slice_set s.desks i d'; sent = s.sent ++ messages })
+
+-- An edit of a text, where memory is there: one whose positions lie outside the text is refused for that
+-- alone, and any other does what its operations do, and where all was done shows what it is to show.
+abbrev pub EditsText : Edit → Reply → TextState → TextState → Type 0
+EditsText e r t new =
+    MatchBool (is_in_text t e)
+    ((result : Result ℕ EditRefusal) × (messages : List (List ℕ)) × Edits t (plan t e) result new messages
+    × Shows t e result new × (r ≡ edit_reply result messages))
+    ((r ≡ refuses OutOfRange) × (new ≡ t))
+
+-- what a query prints of a text
+abbrev pub lines_of : Query → TextState → List ℕ
+lines_of print_text t = text_lines t
+
+-- What an event does where memory is there: its reply, and the state after it.
+abbrev pub Does : State → Event → Reply → State → Type 0
+Does s (edit i text e) r new = InDesk (λ d d'. InText (EditsText e r) d text d') s i (messages_of r) new
+Does s (query i text q) r new =
+    (new ≡ s) × ((t : TextState) × IsTextAt s i text t × (r ≡ prints (lines_of q t)))
+Does s unknown r new = (new ≡ s) × (r ≡ refuses BadEvent)
+
+-- whether an event asks for memory: an edit that makes an operation does, and a query
+abbrev pub AsksForMemory : State → Event → Type 0
+AsksForMemory s (edit i text e) =
+    (t : TextState) × IsTextAt s i text t × IsTrue (is_in_text t e) × (plan t e ≢ [])
+AsksForMemory s (query i text q) = Unit {0}
+AsksForMemory s unknown = ⊥
+
+-- the first done operations of an event stand, one at least and not all that would stand, and these messages
+-- tell them
+abbrev pub StandsInPart : State → Event → ℕ → List (List ℕ) → State → Type 0
+StandsInPart s (edit i text e) done messages new =
+    InDesk (λ d d'. InText (λ t t'. IsTrue (is_in_text t e) × (0 < done) × (done < count_standing t (plan t e))
+    × Stand t (plan t e) done t' messages) d text d') s i messages new
+StandsInPart s (query i text q) done messages new = ⊥
+StandsInPart s unknown done messages new = ⊥
+
+-- What an event does where memory was refused, in the shapes that all events share: nothing was done; or its
+-- first operations stand.
+abbrev pub Short : State → Event → Reply → State → Type 0
+Short s e (refuses why) new = (why ≡ OutOfMemory) × AsksForMemory s e × (new ≡ s)
+Short s e (stops messages done why) new = (why ≡ OutOfMemory) × StandsInPart s e done messages new
+Short s e (sends messages) new = ⊥
+Short s e (prints lines) new = ⊥
+
+-- the machine may reply so to the event, and go on to new
+abbrev pub Replies : State → Event → Reply → State → Type 0
+Replies s e r new = Does s e r new ⊎ Short s e r new
+
+-- a run of one desk alone
+abbrev pub alone : DeskState → List (List ℕ) → State
+alone d sent = record { first = d.site; desks = d ∷ []; sent = sent }
+
+-- One call of a desk is one step of the machine: this edit of one of its texts answered so, with the count of
+-- its messages where all was done, and they were put behind those that were sent.
+abbrev pub EditsDesk : DeskState → ℕ → Edit → Result ℕ EditRefusal → DeskState → (sent sent' : List (List ℕ))
+    → Type 0
+EditsDesk d text e result new sent sent' =
+    (messages : List (List ℕ)) × IfOk result (λ count. count ≡ length messages)
+    × Replies (alone d sent) (edit 0 text e) (edit_reply result messages) (alone new sent')
+
+-- the same of a query: these are its lines
+abbrev pub QueriesDesk : DeskState → ℕ → Query → List ℕ → Type 0
+QueriesDesk d text q lines = (t : TextState) × IsTextOf d text t × (lines ≡ lines_of q t)

@@ -1,18 +1,20 @@
-ghost use Rattle.std.specs.Prelude.{◌≡◌, ◌-◌, ◌≤◌, map, length, slice_get, Some, IfOk, IfErr};
+ghost use Rattle.std.specs.Prelude.{◌≡◌, ◌≤◌, map, length, IfOk};
 ghost use Rattle.looks.specs.Looks.{plain_looks};
-ghost use Rattle.texts.specs.TextState.{TextState};
-ghost use Rattle.commands.specs.DeskState.{new_desk, TypesIn, TypesInto};
-ghost use Rattle.commands.specs.Printing.{text_answer};
+ghost use Rattle.looks.specs.Refusal.{RefusedForMemoryAlone};
+ghost use Rattle.texts.specs.Edit.{insert_run};
+ghost use Rattle.commands.specs.DeskState.{new_desk};
+ghost use Rattle.commands.specs.Machine.{EditsDesk, QueriesDesk, print_text};
+ghost use Rattle.commands.specs.Printing.{text_lines};
+ghost use Rattle.commands.specs.TextStep.{EditsTextSending};
 
+use crate::MAX_TEXT;
 use crate::printing::put_printed;
 use char_files::{Buffer, SiteNo, TextNo};
 use looks::{Looks, Refusal};
+use operations::MAX_INSERT;
 use std::alloc::Global;
 use std::marker::Model;
 use texts::{EditRefusal, Outbox, Replica};
-
-/// The greatest number of a text on a desk; the least is 1.
-pub const MAX_TEXT: u16 = 16;
 
 /// One site's texts, 1 to 16, each empty until it is first changed. This project's own.
 #[derive(Debug, Drop)]
@@ -24,19 +26,20 @@ pub struct Desk {
 impl Model for Desk {
     ghost use Rattle.std.specs.Prelude.{◌≡◌, length};
     ghost use Rattle.commands.specs.DeskState.{DeskState};
+    ghost use Rattle.commands.specs.declared.TheConstants.{MAX_TEXT};
 
     ghost Value = { DeskState };
 
     ghost view = { λ d. record { site = d.site; texts = d.texts.items } };
 
-    ghost invariant = { λ d. length d.texts.items ≡ 16 };
+    ghost invariant = { λ d. length d.texts.items ≡ MAX_TEXT };
 }
 
 // These bytes in default looks.
 fn plain_buffer(alloc: Global, bytes: &[u8]) -> Result<Buffer, Refusal>
-    requires { length bytes.now ≤ 4096 }
+    requires { length bytes.now ≤ MAX_INSERT }
     ensures ok { IfOk result (λ buffer. buffer ≡ map (λ b. (b, plain_looks)) bytes.now) }
-    ensures errors { IfErr result (λ e. e ≡ Refusal.OutOfMemory) }
+    ensures errors { RefusedForMemoryAlone result }
 {
     let mut buffer = Buffer::new(alloc);
     for byte in bytes {
@@ -49,8 +52,9 @@ impl Desk {
     /// A site's desk as it begins. Refused `OutOfMemory` alone.
     pub fn new(alloc: Global, site: SiteNo) -> Result<Desk, Refusal>
         ensures ok { IfOk result (λ desk. desk ≡ new_desk site) }
-        ensures errors { IfErr result (λ e. e ≡ Refusal.OutOfMemory) }
+        ensures errors { RefusedForMemoryAlone result }
     {
+        // All sixteen at once: an empty replica takes no memory, and no event has to make its text first.
         let mut texts = Vec::new(alloc);
         for number in 1..MAX_TEXT + 1 {
             texts.push(Replica::new(alloc, TextNo::new(number).unwrap(), site)?)?;
@@ -60,9 +64,9 @@ impl Desk {
 
     /// Types bytes of default looks, 4,096 at most, at a position of a text.
     ///
-    /// Answers how many messages it added to the Outbox. Refused `OutOfRange` behind the text's end, else as the replica
-    /// refuses the insertion; typing nothing is refused for its position alone. Want of memory may come ahead of the
-    /// replica's other refusals.
+    /// Answers how many messages it added to the Outbox. Refused `OutOfRange` behind the text's end, else as
+    /// the replica refuses the insertion; typing nothing is refused for its position alone. Want of memory
+    /// may come ahead of the replica's other refusals.
     pub fn type_in(
         &mut self,
         text: TextNo,
@@ -70,22 +74,23 @@ impl Desk {
         bytes: &[u8],
         outbox: &mut Outbox,
     ) -> Result<u32, EditRefusal>
-        requires on_desk { text ≤ 16 }
-        requires short { length bytes.now ≤ 4096 }
-        ensures { TypesIn self.old text pos bytes.now result self.new outbox.old outbox.new }
+        requires on_desk { text ≤ MAX_TEXT }
+        requires short { length bytes.now ≤ MAX_INSERT }
+        ensures { EditsDesk self.old text (insert_run pos plain_looks bytes.now) result
+            self.new outbox.old outbox.new }
     {
         let alloc = *self.texts.allocator();
         let replica = &mut self.texts[text.get() as usize - 1];
         type_into(alloc, replica, pos, bytes, outbox)
     }
 
-    /// The answer line that prints a text: its length and its characters. Refused `OutOfMemory` alone.
+    /// The line that prints a text: its length and its characters. Refused `OutOfMemory` alone.
     pub fn text(&self, text: TextNo) -> Result<Vec<u8>, Refusal>
-        requires { text ≤ 16 }
-        ensures ok { IfOk result (λ answer. (t : TextState) × (slice_get self.now.texts (text - 1) ≡ Some t) × (answer.items ≡ text_answer t)) }
-        ensures errors { IfErr result (λ e. e ≡ Refusal.OutOfMemory) }
+        requires { text ≤ MAX_TEXT }
+        ensures ok { IfOk result (λ lines. QueriesDesk self.now text print_text lines.items) }
+        ensures errors { RefusedForMemoryAlone result }
     {
-        text_answer(
+        text_lines(
             *self.texts.allocator(),
             &self.texts[text.get() as usize - 1],
         )
@@ -100,8 +105,9 @@ fn type_into(
     bytes: &[u8],
     outbox: &mut Outbox,
 ) -> Result<u32, EditRefusal>
-    requires { length bytes.now ≤ 4096 }
-    ensures { TypesInto replica.old pos bytes.now result replica.new outbox.old outbox.new }
+    requires { length bytes.now ≤ MAX_INSERT }
+    ensures { EditsTextSending replica.old (insert_run pos plain_looks bytes.now) result replica.new
+        outbox.old outbox.new }
 {
     if replica.shown_len() < pos {
         return Err(EditRefusal::Whole(Refusal::OutOfRange));
@@ -115,20 +121,20 @@ fn type_into(
     }
 }
 
-// The answer line that prints a replica's text.
-fn text_answer(alloc: Global, replica: &Replica) -> Result<Vec<u8>, Refusal>
-    ensures ok { IfOk result (λ answer. answer.items ≡ text_answer replica.now) }
-    ensures errors { IfErr result (λ e. e ≡ Refusal.OutOfMemory) }
+// The line that prints a replica's text.
+fn text_lines(alloc: Global, replica: &Replica) -> Result<Vec<u8>, Refusal>
+    ensures ok { IfOk result (λ lines. lines.items ≡ text_lines replica.now) }
+    ensures errors { RefusedForMemoryAlone result }
 {
-    let mut answer = Vec::from_slice(alloc, b"text ")?;
+    let mut lines = Vec::from_slice(alloc, b"text ")?;
     let len = replica.shown_len();
-    answer.extend_from_slice(itoa::Buffer::new().format(len).as_bytes())?;
+    lines.extend_from_slice(itoa::Buffer::new().format(len).as_bytes())?;
     if len != 0 {
-        answer.push(b' ')?;
+        lines.push(b' ')?;
     }
     for pos in 0..len {
-        put_printed(&mut answer, replica.attributes(pos).0)?;
+        put_printed(&mut lines, replica.attributes(pos).0)?;
     }
-    answer.push(b'\n')?;
-    Ok(answer)
+    lines.push(b'\n')?;
+    Ok(lines)
 }

@@ -4,7 +4,10 @@
 mod desk;
 mod printing;
 
-pub use desk::{Desk, MAX_TEXT};
+pub use desk::Desk;
+
+/// The greatest number of a text on a desk; the least is 1. This project's own.
+pub const MAX_TEXT: u16 = 16;
 
 #[cfg(test)]
 mod tests;

@@ -9,6 +9,8 @@ use crate::op::Op;
 use char_files::{Anchor, Name};
 use std::marker::Model;
 
+// The function is `named`; a type `Named` beside it would differ in case alone, which the toolchain refuses.
+
 /// The names that an operation mentions, one after the other, without memory. This project's own.
 #[derive(Drop)]
 pub struct NameWalk<'a> {

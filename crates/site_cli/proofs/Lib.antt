@@ -1,6 +1,6 @@
-pub mod Printed
-pub mod Spelled
-pub mod Stepping
+pub mod Printing
+pub mod Replying
+pub mod Spelling
 pub mod Traces
 pub mod Words
-pub mod Written
+pub mod WriteLemmas

@@ -1,3 +1,9 @@
-pub mod Seen
+pub mod Ends
 pub mod Trace
-pub mod Written
+pub mod Lines
+pub mod Script
+pub mod Answers
+pub mod Writing
+pub mod EventView
+pub mod Parts
+pub mod Wires

@@ -1,32 +1,45 @@
 ghost use Rattle.std.specs.Prelude.{◌≡◌, ℕ, ◌<◌, ◌≤◌, length, option_map, IfSome};
 ghost use Rattle.std.specs.Str.{all_ascii_digits};
-ghost use Rattle.hex.specs.Hex.{hex_digit_value};
-ghost use Rattle.commands.specs.Script.{cut_word, number_in, desk_in, text_in, cut_escaped, cut_byte, typed_in, type_event, text_event, event_in};
-ghost use Rattle.site_cli.specs.Seen.{event_of, IsInRun};
+ghost use Rattle.site_cli.specs.EventView.{edit_of, event_of, query_of, event_or_unknown, IsInRun, IsShort};
+ghost use Rattle.site_cli.specs.Script.{cut_word, number_in, desk_in, text_in, typed_in, type_edit};
+ghost use Rattle.site_cli.specs.Script.{edit_in, query_in, edit_event, query_event, verb_event, event_in};
 
-use arrayvec::ArrayVec;
+use crate::escaped::Escaped;
 use char_files::TextNo;
 use commands::MAX_TEXT;
+use operations::MAX_INSERT;
 
-/// The most bytes that a line may type.
-pub const MAX_TYPED: usize = 4096;
-
-/// What a line of a script asks.
+/// What a line of a script asks; it borrows its bytes from the line.
+///
+/// A desk is told by its index among the run's.
 #[derive(Debug, Drop)]
-pub enum Event {
-    /// To type bytes of default looks at a position of a text.
-    TypeIn {
-        /// The place of the desk among the run's, from 0.
+pub enum Event<'a> {
+    /// An edit of a desk's text.
+    Edits {
         desk: usize,
         text: TextNo,
-        pos: u64,
-        bytes: ArrayVec<u8, MAX_TYPED>,
+        edit: Edit<'a>,
     },
-    /// To print a text.
-    PrintText {
+    /// A print of a desk's text.
+    Queries {
         desk: usize,
         text: TextNo,
+        query: Query,
     },
+}
+
+/// What an edit asks of a text.
+#[derive(Debug, Drop)]
+pub enum Edit<'a> {
+    /// To type bytes of default looks at a position.
+    TypeIn { pos: u64, bytes: Escaped<'a> },
+}
+
+/// What is to be printed of a text.
+#[derive(Clone, Copy, Debug)]
+pub enum Query {
+    /// Its length and its characters.
+    Text,
 }
 
 // The word up to the first blank, and what stands behind that blank.
@@ -55,20 +68,19 @@ fn number_in(word: &[u8]) -> Option<u32>
     text.parse().ok()
 }
 
-// The place among the run's sites of the site with this number.
+// The index among the run's sites of the site with this number.
 fn desk_in(first: u16, count: usize, word: &[u8]) -> Option<usize>
-    requires { count ≤ 8 }
-    ensures place { result ≡ desk_in first count word.now }
+    ensures index { result ≡ desk_in first count word.now }
     ensures in_run { IfSome result (λ desk. desk < count) }
 {
     let desk = number_in(word)?.checked_sub(u32::from(first))? as usize;
     (desk < count).then_some(desk)
 }
 
-// A text of a desk, 1 to 16.
+// A text of a desk, 1 to `MAX_TEXT`.
 fn text_in(word: &[u8]) -> Option<TextNo>
     ensures value { result ≡ text_in word.now }
-    ensures on_desk { IfSome result (λ text. text ≤ 16) }
+    ensures on_desk { IfSome result (λ text. text ≤ MAX_TEXT) }
 {
     let number = number_in(word)?;
     if u32::from(MAX_TEXT) < number {
@@ -77,90 +89,93 @@ fn text_in(word: &[u8]) -> Option<TextNo>
     TextNo::new(number as u16)
 }
 
-// The value of a hex digit of either case.
-fn hex_digit(byte: u8) -> Option<u8>
-    ensures value { result ≡ hex_digit_value byte }
-    ensures small { IfSome result (λ digit. digit < 16) }
+// The bytes to type, as many as one Insert has at most.
+fn typed_in(raw: &[u8]) -> Option<Escaped<'_>>
+    ensures value { result ≡ typed_in raw.now }
+    ensures short { IfSome result (λ bytes. length bytes ≤ MAX_INSERT) }
 {
-    Some(char::from(byte).to_digit(16)? as u8)
-}
-
-// The byte of the two hex digits in front, and what stands behind them.
-fn cut_escaped(raw: &[u8]) -> Option<(u8, &[u8])>
-    ensures value { option_map (λ cut. (cut.0, cut.1.now)) result ≡ cut_escaped raw.now }
-    ensures shorter { IfSome result (λ cut. length cut.1.now ≤ length raw.now) }
-{
-    let [high, low, rest @ ..] = raw else {
+    let bytes = Escaped::new(raw)?;
+    if MAX_INSERT < bytes.len() {
         return None;
-    };
-    Some((16 * hex_digit(*high)? + hex_digit(*low)?, rest))
-}
-
-// The byte that `first` spells with what stands behind it, and what is left behind that.
-fn cut_byte(first: u8, behind: &[u8]) -> Option<(u8, &[u8])>
-    ensures value { option_map (λ cut. (cut.0, cut.1.now)) result ≡ cut_byte first behind.now }
-    ensures shorter { IfSome result (λ cut. length cut.1.now ≤ length behind.now) }
-{
-    if first == b'\\' {
-        cut_escaped(behind)
-    } else {
-        Some((first, behind))
-    }
-}
-
-// The bytes that `raw` spells, 4,096 at most: a backslash and two hex digits of either case stand for one byte.
-fn bytes_in(raw: &[u8]) -> Option<ArrayVec<u8, MAX_TYPED>>
-    ensures { option_map (λ bytes. bytes.items) result ≡ typed_in raw.now }
-{
-    let mut bytes = ArrayVec::new();
-    let mut rest = raw;
-    while let Some((first, behind)) = rest.split_first() {
-        let (byte, left) = cut_byte(*first, behind)?;
-        bytes.try_push(byte).ok()?;
-        rest = left;
     }
     Some(bytes)
 }
 
-// What `type` goes on with: a text, a position and the bytes.
-fn type_event(desk: usize, rest: &[u8]) -> Option<Event>
-    ensures event { option_map event_of result ≡ type_event desk rest.now }
-    ensures in_run { IfSome result (λ event. (count : ℕ) → desk < count → IsInRun count event) }
+// What `type` goes on with behind its text: a position and the bytes.
+fn type_edit(rest: &[u8]) -> Option<Edit<'_>>
+    ensures edit { option_map edit_of result ≡ type_edit rest.now }
+    ensures short { IfSome result IsShort }
 {
-    let (text, rest) = cut_word(rest)?;
     let (pos, raw) = cut_word(rest)?;
-    Some(Event::TypeIn {
-        desk,
-        text: text_in(text)?,
+    Some(Edit::TypeIn {
         pos: u64::from(number_in(pos)?),
-        bytes: bytes_in(raw)?,
+        bytes: typed_in(raw)?,
     })
 }
 
-// What `text` goes on with: a text.
-fn text_event(desk: usize, rest: &[u8]) -> Option<Event>
-    ensures event { option_map event_of result ≡ text_event desk rest.now }
-    ensures in_run { IfSome result (λ event. (count : ℕ) → desk < count → IsInRun count event) }
+// The edit that a verb asks for with what stands behind the text: a row for each verb.
+fn edit_in<'a>(verb: &[u8], rest: &'a [u8]) -> Option<Edit<'a>>
+    ensures edit { option_map edit_of result ≡ edit_in verb.now rest.now }
+    ensures short { IfSome result IsShort }
 {
-    let text = text_in(rest)?;
-    Some(Event::PrintText { desk, text })
+    if verb == b"type".as_slice() {
+        type_edit(rest)
+    } else {
+        None
+    }
 }
 
-/// The event that a line of a script spells, where `count` sites run from `first` on, or `None` where it spells none.
-#[tactic(auto, unfolding(commands::specs::Script::event_in))]
-pub fn event_in(first: u16, count: usize, line: &[u8]) -> Option<Event>
-    requires { count ≤ 8 }
-    ensures event { option_map event_of result ≡ event_in first count line.now }
+// What a verb prints of a text: a row for each verb.
+fn query_in(verb: &[u8]) -> Option<Query>
+    ensures { option_map query_of result ≡ query_in verb.now }
+{
+    if verb == b"text".as_slice() {
+        Some(Query::Text)
+    } else {
+        None
+    }
+}
+
+// An edit's line goes on with its text, and then with what the verb asks.
+fn edit_event<'a>(verb: &[u8], desk: usize, rest: &'a [u8]) -> Option<Event<'a>>
+    ensures event { option_map event_of result ≡ edit_event verb.now desk rest.now }
+    ensures in_run { IfSome result (λ event. (count : ℕ) → desk < count → IsInRun count event) }
+{
+    let (text, rest) = cut_word(rest)?;
+    Some(Event::Edits {
+        desk,
+        text: text_in(text)?,
+        edit: edit_in(verb, rest)?,
+    })
+}
+
+// A query's line goes on with its text.
+fn query_event<'a>(verb: &[u8], desk: usize, rest: &'a [u8]) -> Option<Event<'a>>
+    ensures event { option_map event_of result ≡ query_event verb.now desk rest.now }
+    ensures in_run { IfSome result (λ event. (count : ℕ) → desk < count → IsInRun count event) }
+{
+    Some(Event::Queries {
+        desk,
+        query: query_in(verb)?,
+        text: text_in(rest)?,
+    })
+}
+
+// What a verb goes on with.
+fn verb_event<'a>(verb: &[u8], desk: usize, rest: &'a [u8]) -> Option<Event<'a>>
+    ensures event { option_map event_of result ≡ verb_event verb.now desk rest.now }
+    ensures in_run { IfSome result (λ event. (count : ℕ) → desk < count → IsInRun count event) }
+{
+    edit_event(verb, desk, rest).or_else(|| query_event(verb, desk, rest))
+}
+
+/// The event that a line spells, where `count` sites run from `first` on, or `None` where it spells none.
+#[tactic(auto, unfolding(crate::specs::Script::spelled_event))]
+pub fn event_in<'a>(first: u16, count: usize, line: &'a [u8]) -> Option<Event<'a>>
+    ensures event { event_or_unknown result ≡ event_in first count line.now }
     ensures in_run { IfSome result (λ event. IsInRun count event) }
 {
     let (site, rest) = cut_word(line)?;
     let (verb, rest) = cut_word(rest)?;
-    let desk = desk_in(first, count, site)?;
-    if verb == b"type".as_slice() {
-        type_event(desk, rest)
-    } else if verb == b"text".as_slice() {
-        text_event(desk, rest)
-    } else {
-        None
-    }
+    verb_event(verb, desk_in(first, count, site)?, rest)
 }

@@ -1,4 +1,22 @@
 ghost use Rattle.std.specs.Prelude.{◌≡◌, ◌<◌, ◌≤◌};
+ghost use Rattle.site_cli.specs.declared.settings.TheConstants.{MAX_FIRST, MAX_SITES, MIN_WIDTH, MAX_WIDTH};
+ghost use Rattle.site_cli.specs.declared.settings.TheConstants.{MIN_HEIGHT, MAX_HEIGHT};
+
+/// The most sites of a run. These limits are this project's own.
+pub const MAX_SITES: u16 = 8;
+
+/// The greatest number of a run's first site; the others follow it.
+pub const MAX_FIRST: u16 = u16::MAX - (MAX_SITES - 1);
+
+/// The fewest and the most columns of a screen.
+pub const MIN_WIDTH: u16 = 20;
+
+pub const MAX_WIDTH: u16 = 200;
+
+/// The fewest and the most rows of a screen.
+pub const MIN_HEIGHT: u16 = 8;
+
+pub const MAX_HEIGHT: u16 = 100;
 
 /// What a run is told beside its script. This project's own.
 #[derive(Clone, Copy, Debug, PartialEq, Eq)]
@@ -11,10 +29,10 @@ pub struct Settings {
     pub width: u16,
     /// The rows of each site's screen, 8 to 100.
     pub height: u16,
-    ghost first_in_range: { (0 < first) × (first ≤ 65528) },
-    ghost count_in_range: { (0 < count) × (count ≤ 8) },
-    ghost width_in_range: { (20 ≤ width) × (width ≤ 200) },
-    ghost height_in_range: { (8 ≤ height) × (height ≤ 100) },
+    ghost first_in_range: { (0 < first) × (first ≤ MAX_FIRST) },
+    ghost count_in_range: { (0 < count) × (count ≤ MAX_SITES) },
+    ghost width_in_range: { (MIN_WIDTH ≤ width) × (width ≤ MAX_WIDTH) },
+    ghost height_in_range: { (MIN_HEIGHT ≤ height) × (height ≤ MAX_HEIGHT) },
 }
 
 impl Default for Settings {

@@ -1,35 +1,49 @@
-ghost use Rattle.std.specs.Prelude.{◌≡◌, ◌+◌, ◌≤◌, ◌<◌, List, ℕ, length, slice_get, Some, IfOk, IfErr};
-ghost use Rattle.commands.specs.Machine.{State, Step, new_state, type_in, print_text, unknown};
-ghost use Rattle.site_cli.specs.Seen.{event_of, IsInRun};
-ghost use Rattle.site_cli.specs.Trace.{Answers, is_silent};
-ghost use Rattle.site_cli.specs.Written.{Writes};
+ghost use Rattle.std.specs.Prelude.{◌≡◌, ◌≤◌, ◌<◌, List, ℕ, length, IfOk};
+ghost use Rattle.looks.specs.Refusal.{RefusedForMemoryAlone};
+ghost use Rattle.looks.specs.Looks.{plain_looks};
+ghost use Rattle.texts.specs.Edit.{insert_run};
+ghost use Rattle.texts.specs.TextState.{TextState};
+ghost use Rattle.commands.specs.Machine.{IsTextAt, Replies, edit, edit_reply, lines_of, new_state};
+ghost use Rattle.site_cli.specs.EventView.{edit_of, event_of, query_of, IsInRun, IsShort};
+ghost use Rattle.site_cli.specs.Trace.{Answers, Step, is_silent};
+ghost use Rattle.site_cli.specs.Writing.{Puts};
 
-use crate::answers::{put, put_edit_end, put_refused, put_sends};
-use crate::event::{Event, event_in};
+use crate::answers::{put, put_edit, put_refused};
+use crate::escaped::Escaped;
+use crate::event::{Edit, Event, Query, event_in};
+use crate::lines::MAX_LINE;
+use crate::output::Output;
+use crate::settings::{MAX_FIRST, MAX_SITES};
 use char_files::{SiteNo, TextNo};
-use commands::Desk;
+use commands::{Desk, MAX_TEXT};
 use looks::Refusal;
+use operations::MAX_INSERT;
 use std::alloc::Global;
 use std::io::Write;
 use std::marker::Model;
-use texts::Outbox;
+use texts::{EditRefusal, Outbox};
 
 /// The desks of a run's sites, and the messages that they sent.
 #[derive(Debug, Drop)]
 pub struct Sites {
+    first: u16,
     desks: Vec<Desk>,
     outbox: Outbox,
+    // Where the bytes of an event are decoded: there is room for those of any line.
+    bytes: Vec<u8>,
 }
 
 impl Model for Sites {
-    ghost use Rattle.std.specs.Prelude.{◌≤◌, length};
+    ghost use Rattle.std.specs.Prelude.{◌≤◌, length, vec_capacity};
     ghost use Rattle.commands.specs.Machine.{State};
+    ghost use Rattle.site_cli.specs.declared.lines.TheConstants.{MAX_LINE};
+    ghost use Rattle.site_cli.specs.declared.settings.TheConstants.{MAX_SITES};
 
     ghost Value = { State };
 
-    ghost view = { λ s. record { desks = s.desks.items; sent = s.outbox } };
+    ghost view = { λ s. record { first = s.first; desks = s.desks.items; sent = s.outbox } };
 
-    ghost invariant = { λ s. length s.desks.items ≤ 8 };
+    ghost invariant = { λ s. (length s.desks.items ≤ MAX_SITES) × (MAX_LINE ≤ vec_capacity s.bytes) };
 }
 
 // Whether a line is answered by nothing.
@@ -43,91 +57,101 @@ impl Sites {
     /// The sites as a run begins. Refused `OutOfMemory` alone.
     pub fn new(alloc: Global, first: u16, count: u16) -> Result<Sites, Refusal>
         requires some { 0 < first }
-        requires few { count ≤ 8 }
-        requires in_range { first ≤ 65528 }
+        requires few { count ≤ MAX_SITES }
+        requires in_range { first ≤ MAX_FIRST }
         ensures ok { IfOk result (λ sites. sites ≡ new_state first count) }
-        ensures errors { IfErr result (λ e. e ≡ Refusal.OutOfMemory) }
+        ensures errors { RefusedForMemoryAlone result }
     {
+        let bytes = Vec::with_capacity(alloc, MAX_LINE)?;
         let mut desks = Vec::new(alloc);
         for i in 0..count {
             desks.push(Desk::new(alloc, SiteNo::new(first + i).unwrap())?)?;
         }
         Ok(Sites {
+            first,
             desks,
             outbox: Outbox::new(alloc),
+            bytes,
         })
     }
 
-    // Types into a desk's text, and writes the answer.
-    fn type_in<W: Write>(
-        &mut self,
-        writer: &mut W,
-        desk: usize,
-        text: TextNo,
-        pos: u64,
-        bytes: &[u8],
-    ) -> Result<(), Refusal>
-        requires in_run { desk < length self.old.desks }
-        requires on_desk { text ≤ 16 }
-        requires short { length bytes.now ≤ 4096 }
-        ensures answers { (answer : List ℕ) × Writes result (W.contents writer.old) (W.contents writer.new) answer
-            × Step self.old (type_in desk text pos bytes.now) answer self.new }
-        ensures count { length self.new.desks ≡ length self.old.desks }
-    {
-        let sent = self.outbox.len();
-        let outcome = self.desks[desk].type_in(text, pos, bytes, &mut self.outbox);
-        put_sends(writer, &self.outbox, sent)?;
-        put_edit_end(writer, outcome)
-    }
-
-    // Writes the line that prints a desk's text.
-    fn print_text<W: Write>(&self, writer: &mut W, desk: usize, text: TextNo) -> Result<(), Refusal>
-        requires in_run { desk < length self.now.desks }
-        requires on_desk { text ≤ 16 }
-        ensures { (answer : List ℕ) × Writes result (W.contents writer.old) (W.contents writer.new) answer
-            × Step self.now (print_text desk text) answer self.now }
-    {
-        match self.desks[desk].text(text) {
-            Ok(answer) => put(writer, &answer),
-            Err(why) => put_refused(writer, why),
-        }
-    }
-
     /// Answers a line of the script. Refused `WriteFault` where the writer fails.
-    pub fn answer<W: Write>(
-        &mut self,
-        writer: &mut W,
-        first: u16,
-        line: &[u8],
-    ) -> Result<(), Refusal>
-        ensures answers { (answer : List ℕ) × Writes result (W.contents writer.old) (W.contents writer.new) answer
-            × Answers first (length self.old.desks) self.old line.now answer self.new }
-        ensures count { length self.new.desks ≡ length self.old.desks }
+    pub fn answer<W: Write>(&mut self, output: &mut Output<W>, line: &[u8]) -> Result<(), Refusal>
+        ensures { (answer : List ℕ) × Puts result output.old output.new answer
+            × Answers self.old line.now answer self.new }
     {
         if is_silent(line) {
             return Ok(());
         }
-        match event_in(first, self.desks.len(), line) {
-            Some(event) => self.step(writer, event),
-            None => put_refused(writer, Refusal::BadEvent),
+        match event_in(self.first, self.desks.len(), line) {
+            Some(event) => self.step(output, event),
+            None => put_refused(output, Refusal::BadEvent),
         }
     }
 
     // Answers an event.
-    fn step<W: Write>(&mut self, writer: &mut W, event: Event) -> Result<(), Refusal>
+    fn step<W: Write>(&mut self, output: &mut Output<W>, event: Event) -> Result<(), Refusal>
         requires { IsInRun (length self.old.desks) event }
-        ensures answers { (answer : List ℕ) × Writes result (W.contents writer.old) (W.contents writer.new) answer
-            × Step self.old (event_of event) answer self.new }
-        ensures count { length self.new.desks ≡ length self.old.desks }
+        ensures { (answer : List ℕ) × Puts result output.old output.new answer
+            × Step self.old (event_of event.entry) answer self.new }
     {
         match event {
-            Event::TypeIn {
-                desk,
-                text,
-                pos,
-                bytes,
-            } => self.type_in(writer, desk, text, pos, bytes.as_slice()),
-            Event::PrintText { desk, text } => self.print_text(writer, desk, text),
+            // The edit stands, and its message is in the Outbox, before the first byte of the answer goes
+            // out: the step is taken also where the writer fails.
+            Event::Edits { desk, text, edit } => {
+                let sent = self.outbox.len();
+                let outcome = self.edit(desk, text, &edit);
+                put_edit(output, &self.outbox, sent, outcome)
+            }
+            Event::Queries { desk, text, query } => match self.query(desk, text, query) {
+                Ok(lines) => put(output, &lines),
+                Err(why) => put_refused(output, why),
+            },
+        }
+    }
+
+    // Makes an edit of a desk's text.
+    fn edit(&mut self, desk: usize, text: TextNo, asked: &Edit) -> Result<u32, EditRefusal>
+        requires in_run { desk < length self.old.desks }
+        requires on_desk { text ≤ MAX_TEXT }
+        requires short { IsShort asked.now }
+        ensures { (messages : List (List ℕ))
+            × Replies self.old (edit desk text (edit_of asked.now)) (edit_reply result messages) self.new }
+    {
+        match asked {
+            Edit::TypeIn { pos, bytes } => self.type_in(desk, text, *pos, bytes),
+        }
+    }
+
+    // Types bytes of default looks.
+    fn type_in(
+        &mut self,
+        desk: usize,
+        text: TextNo,
+        pos: u64,
+        bytes: &Escaped,
+    ) -> Result<u32, EditRefusal>
+        requires in_run { desk < length self.old.desks }
+        requires on_desk { text ≤ MAX_TEXT }
+        requires short { length bytes.now ≤ MAX_INSERT }
+        ensures { (messages : List (List ℕ)) × Replies self.old
+            (edit desk text (insert_run pos plain_looks bytes.now)) (edit_reply result messages) self.new }
+    {
+        self.bytes.clear();
+        bytes.decode(&mut self.bytes);
+        self.desks[desk].type_in(text, pos, &self.bytes, &mut self.outbox)
+    }
+
+    // The lines that a query prints of a desk's text.
+    fn query(&self, desk: usize, text: TextNo, query: Query) -> Result<Vec<u8>, Refusal>
+        requires in_run { desk < length self.now.desks }
+        requires on_desk { text ≤ MAX_TEXT }
+        ensures ok { IfOk result (λ lines.
+            (t : TextState) × IsTextAt self.now desk text t × (lines.items ≡ lines_of (query_of query) t)) }
+        ensures errors { RefusedForMemoryAlone result }
+    {
+        match query {
+            Query::Text => self.desks[desk].text(text),
         }
     }
 }

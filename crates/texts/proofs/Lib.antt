@@ -1,4 +1,7 @@
-pub mod Inserted
+pub mod FrontLemmas
+pub mod Inserting
+pub mod Names
+pub mod OneEdit
 pub mod OneRun
 pub mod Refusals
-pub mod TakenLemmas
+pub mod Visible

@@ -4,7 +4,7 @@ use Rattle.std.specs.Prelude.{map}
 use Rattle.std.proofs.lemmas.List.{length-map}
 use Rattle.looks.specs.declared.looks.Looks.{Looks}
 use Rattle.char_files.specs.Stretch.{Item, Stretch, items_of, items_of_run, AreRuns}
-use Rattle.texts.specs.Edits.{looks_of, bytes_of}
+use Rattle.texts.specs.Edit.{looks_of, bytes_of}
 
 -- each character has these looks
 AllLooks : Looks → List Item → Type 0

@@ -1,3 +1,5 @@
-pub mod Edits
-pub mod Taken
+pub mod Counts
+pub mod Edit
+pub mod Fronts
+pub mod Order
 pub mod TextState

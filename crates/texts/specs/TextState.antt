@@ -1,28 +1,50 @@
 -- What contracts see of a replica.
-use Rattle.std.specs.Prelude.{◌≡◌, ℕ, ◌^◌, ◌<◌, ◌≤◌, List, All}
-use Rattle.char_files.specs.CharName.{CharName}
+use Rattle.std.specs.Prelude.{ℕ, List, [], filter}
 use Rattle.char_files.specs.Stretch.{Item}
-use Rattle.operations.specs.Operation.{Operation}
-use Rattle.texts.specs.Taken.{front_of, greatest_stamp, file_len_of}
 use Rattle.char_files.specs.declared.character.Char.{Char}
+use Rattle.operations.specs.NameSet.{Range}
+use Rattle.operations.specs.Operation.{Operation}
+use Rattle.tree_order.specs.Shown.{is_visible}
 
--- The text and the site; the operations taken in, in the order of taking; all characters in order, deleted ones too; those
--- that are shown; the operations that wait, in order of arrival; the stretch that was deleted last.
+-- what happened to the characters shown from beg to end
+pub data ChangeKind : Type 0 where
+  insert : ChangeKind
+  delete : ChangeKind
+  replace : ChangeKind
+
+-- one change of the list shown, for those who draw it
+pub record Change : Type 0 where
+  pub kind : ChangeKind
+  pub beg : ℕ
+  pub end : ℕ
+
+-- The text and the site; the operations taken in, in the order of taking; all characters in order, deleted
+-- ones too, each with its byte and the looks that hold; the operations that wait, in order of arrival; the
+-- stretch that was deleted last, and the set of its names; the changes noted since they were last asked for.
+-- No call makes anything wait, deletes, or notes a change yet: these parts are empty.
 pub record TextState : Type 0 where
   pub text : ℕ
   pub site : ℕ
-  pub taken : List Operation
-  pub order : List CharName
-  pub shown : List Char
-  pub waiting : List Operation
-  pub recalled : List Item
+  pub operations : List Operation
+  pub order : List Char
+  pub waiting_room : List Operation
+  pub last_stretch : List Item
+  pub last_set : List Range
+  pub changes : List Change
 
--- The caches tell the words of the operations taken in, which are below their limits. Each character is the site's own, as
--- long as nothing comes from elsewhere, and stands in its file.
-pub record IsReplica (site : ℕ) (ops : List Operation) (shown : List Char) (stamp front file_len : ℕ) : Type 0 where
-  pub stamp_is : stamp ≡ greatest_stamp ops
-  pub front_is : front ≡ front_of ops site
-  pub file_len_is : file_len ≡ file_len_of ops site
-  pub stamp_fits : stamp < 2 ^ 48
-  pub file_fits : file_len ≤ 2 ^ 24
-  pub own : All (λ c. (c.name.site ≡ site) × (c.name.off < file_len)) shown
+-- a text that nothing has changed
+abbrev pub empty_text : (text site : ℕ) → TextState
+empty_text text site = record {
+  text = text;
+  site = site;
+  operations = [];
+  order = [];
+  waiting_room = [];
+  last_stretch = [];
+  last_set = [];
+  changes = [];
+}
+
+-- what is shown: the visible ones of all characters, in their order
+abbrev pub shown_of : TextState → List Char
+shown_of t = filter (λ c. is_visible t.operations c.name) t.order

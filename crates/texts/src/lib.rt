@@ -2,13 +2,17 @@
 #![tactic(auto)]
 
 mod edit_refusal;
+mod order;
 mod outbox;
 mod replica;
-mod shown;
+mod site_counts;
 
 pub use edit_refusal::EditRefusal;
 pub use outbox::Outbox;
 pub use replica::Replica;
+
+/// The greatest number of an operation among its site's in one text. This project's own.
+pub const MAX_SEQ: u32 = u32::MAX;
 
 #[cfg(test)]
 mod tests;

@@ -1,4 +1,5 @@
-ghost use Rattle.std.specs.Prelude.{◌≡◌, ◌<◌, [], ◌∷◌, ◌++◌, length, slice_get, is_ok, if◌then◌else◌, IsTrue, ◌↔◌};
+ghost use Rattle.std.specs.Prelude.{◌≡◌, ◌<◌, [], ◌∷◌, ◌++◌, length, slice_get, is_ok, if◌then◌else◌, IsTrue};
+ghost use Rattle.std.specs.Prelude.{◌↔◌};
 
 use std::alloc::{AllocError, Global};
 use std::marker::Model;

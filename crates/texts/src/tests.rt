@@ -1,5 +1,5 @@
 ghost use Rattle.std.specs.Prelude.{IfOk};
-ghost use Rattle.texts.specs.Edits.{IsOneInsert};
+ghost use Rattle.texts.specs.Edit.{IsOneInsert};
 
 use super::*;
 use char_files::{Buffer, SiteNo, TextNo};
@@ -23,6 +23,7 @@ fn begins_empty(rt: HostRuntime) -> Result<(), Fail> {
     assert_eq!(rt; replica.shown_len(), 0);
     let outbox = Outbox::new(rt.alloc());
     assert!(rt; outbox.is_empty() && outbox.len() == 0);
+    assert_eq!(rt; MAX_SEQ, 4_294_967_295);
     Ok(())
 }
 

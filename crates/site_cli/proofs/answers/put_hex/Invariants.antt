@@ -4,4 +4,4 @@ use Rattle.hex.specs.Hex.{encode_lower}
 use Rattle.site_cli.proofs.answers.put_hex.Given as goal
 
 abbrev pub invariant-loop-byte : goal.invariant-loop-byte
-invariant-loop-byte g l = Appends (g.W.Write.contents l.fn.writer) (g.W.Write.contents l.writer) (encode_lower (take l.byte-index l.bytes))
+invariant-loop-byte g l = Appends l.fn.output.contents l.output.contents (encode_lower (take l.byte-index l.bytes))

@@ -1,15 +1,16 @@
 use Rattle.std.proofs.Common.{◌≤◌, ◌-◌, length}
 use Rattle.std.specs.Prelude.{vec_capacity}
 use Rattle.std.specs.Io.KnownBytes.{Consumes}
-use Rattle.site_cli.specs.Trace.{IsRaw}
+use Rattle.site_cli.specs.Lines.{IsRaw}
+use Rattle.site_cli.specs.declared.lines.TheConstants.{MAX_LINE}
 use Rattle.site_cli.proofs.lines.take_line.Given as goal
 
 abbrev pub invariant-loop-line : goal.invariant-loop-line
 invariant-loop-line g l = record {
-  consumed : Consumes (g.R.Read.remaining l.fn.reader) (g.R.Read.remaining l.reader) l.line.items;
+  consumed : Consumes l.fn.input.left l.input.left l.line.items;
   raw : IsRaw l.line.items;
-  room : 32768 ≤ vec_capacity l.line;
+  room : MAX_LINE ≤ vec_capacity l.line;
 }
 
 abbrev pub decreases-loop-line : goal.decreases-loop-line
-decreases-loop-line g l = 32768 - length l.line.items
+decreases-loop-line g l = MAX_LINE - length l.line.items

@@ -13,4 +13,4 @@ loop-i-preserved c =
     c.in_ok-push.ensures.items ∙ ap (λ (x : DeskState). c.loop-i.desks.items ++ x ∷ []) desk_is ∙ ap (λ (xs : List DeskState). xs ++ new_desk (c.args.first + c.loop-i.i) ∷ []) c.loop-i.invariant ∙ sym more
 
 pub invariant_of-result : goal.invariant_of-result
-invariant_of-result c = rw c.loop-i.invariant (simp (length-map, length-range_with_len) (omega arith))
+invariant_of-result c = (rw c.loop-i.invariant (simp (length-map, length-range_with_len) (omega arith)), omega (arith, c.in_ok-bytes.ensures.capacity))

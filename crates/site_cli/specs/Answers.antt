@@ -1,0 +1,36 @@
+-- How replies are printed: the answer lines.
+use Rattle.std.specs.Prelude.{ℕ, ◌+◌, List, [], ◌∷◌, ◌++◌, codes}
+use Rattle.std.specs.Fmt.{decimal}
+use Rattle.hex.specs.Hex.{encode_lower}
+use Rattle.looks.specs.declared.refusal.Refusal.{Refusal}
+use Rattle.looks.specs.Refusal.{number_of}
+use Rattle.commands.specs.Machine.{Reply, sends, prints, refuses, stops}
+use Rattle.commands.specs.Printing.{line}
+
+-- the k-th message of the run goes out
+unfoldable pub send_line : ℕ → List ℕ → List ℕ
+send_line k message = line (codes "send m" ++ decimal k ++ 32 ∷ encode_lower message)
+
+-- a line for each message, numbered on from those that were sent before
+abbrev pub send_lines : ℕ → List (List ℕ) → List ℕ
+send_lines k [] = []
+send_lines k (message ∷ messages) = send_line (k + 1) message ++ send_lines (k + 1) messages
+
+-- all of an edit was done
+abbrev pub ok_line : List ℕ
+ok_line = line (codes "ok")
+
+-- nothing was done
+abbrev pub refused_line : Refusal → List ℕ
+refused_line why = line (codes "refused " ++ decimal (number_of why))
+
+-- an edit's first operations stand
+abbrev pub partial_line : ℕ → Refusal → List ℕ
+partial_line done why = line (codes "partial " ++ decimal done ++ 32 ∷ decimal (number_of why))
+
+-- the lines of a reply, where k messages were sent before
+abbrev pub reply_lines : ℕ → Reply → List ℕ
+reply_lines k (sends messages) = send_lines k messages ++ ok_line
+reply_lines k (prints lines) = lines
+reply_lines k (refuses why) = refused_line why
+reply_lines k (stops messages done why) = send_lines k messages ++ partial_line done why

@@ -1,0 +1,53 @@
+-- What an operation of the site itself, the latest of all, does to the list of all characters.
+use Rattle.std.specs.Prelude.{ℕ, ◌+◌, List, [], ◌∷◌, ◌++◌, length, take, drop, map, if◌then◌else◌}
+use Rattle.std.specs.List.{list_any}
+use Rattle.looks.specs.Sel.{Selection}
+use Rattle.looks.specs.declared.looks.Looks.{Looks}
+use Rattle.char_files.specs.declared.character.Char.{Char}
+use Rattle.char_files.specs.declared.name.Anchor.{Anchor}
+use Rattle.char_files.specs.declared.name.Anchor.TheVariants.{Root, At}
+use Rattle.operations.specs.NameSet.{Range, range_contains}
+use Rattle.operations.specs.Operation.{Operation, OpKind, insert, delete, change_looks}
+use Rattle.tree_order.specs.Shown.{up_to}
+
+-- the first n, the run, the rest
+abbrev pub put : {X : Type 0} → List X → ℕ → List X → List X
+put xs n run = take n xs ++ run ++ drop n xs
+
+-- how many characters of the list are the anchor or stand ahead of it; the root stands ahead of all
+abbrev pub count_to : List Char → Anchor → ℕ
+count_to order Root = 0
+count_to order (At name) = length (up_to name (map (λ c. c.name) order))
+
+-- the characters of an Insert, behind at bytes of the site's file
+abbrev pub chars_of : (site at : ℕ) (looks : Looks) (bytes : List ℕ) → List Char
+chars_of site at looks [] = []
+chars_of site at looks (b ∷ bs) =
+    record { name = record { site = site; off = at }; byte = b; looks = looks }
+    ∷ chars_of site (at + 1) looks bs
+
+-- the old looks, with those that are selected replaced
+abbrev pub with_selected : Selection → Looks → Looks → Looks
+with_selected sel looks old = record {
+  font = if sel.font then looks.font else old.font;
+  colour = if sel.colour then looks.colour else old.colour;
+  offset = if sel.offset then looks.offset else old.offset;
+}
+
+-- the character, in new looks where the set has its name
+abbrev pub with_looks : Selection → Looks → List Range → Char → Char
+with_looks sel looks names c =
+    if list_any (λ r. range_contains r c.name) names
+    then record c { looks = with_selected sel looks c.looks } else c
+
+-- an Insert's run stands directly behind its cause; a Delete hides, and moves nothing; a ChangeLooks gives
+-- looks to those that it names
+abbrev pub order_by : OpKind → ℕ → List Char → List Char
+order_by (insert cause at looks bytes) site order =
+    put order (count_to order cause) (chars_of site at looks bytes)
+order_by (delete names) site order = order
+order_by (change_looks sel looks names) site order = map (with_looks sel looks names) order
+
+-- all characters in order, after one more operation of the site itself
+abbrev pub order_after : List Char → Operation → List Char
+order_after order op = order_by op.kind op.site order
