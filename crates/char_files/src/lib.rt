@@ -18,6 +18,3 @@ pub use text_no::TextNo;
 /// The most bytes that a site's file of one text may have, and the most characters of a stretch: 2^24. This
 /// project's own.
 pub const MAX_FILE: u64 = 1 << 24;
-
-#[cfg(test)]
-mod tests;

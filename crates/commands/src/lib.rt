@@ -8,6 +8,3 @@ pub use desk::Desk;
 
 /// The greatest number of a text on a desk; the least is 1. This project's own.
 pub const MAX_TEXT: u16 = 16;
-
-#[cfg(test)]
-mod tests;

@@ -16,6 +16,3 @@ pub use looks::Looks;
 pub use refusal::Refusal;
 pub use register::Register;
 pub use sel::Sel;
-
-#[cfg(test)]
-mod tests;

@@ -1,4 +1,4 @@
-//! Tests of `operations` and of `tree_order`, in a crate of their own so that each of those is proved once.
+//! Tests of the crates up to `tree_order`, in a crate of their own so that each of those is proved once.
 #![tactic(auto)]
 
 #[cfg(test)]

@@ -1,21 +1,9 @@
-//! Runs a script of events for one to eight sites: reads it from standard input, and writes the answers to
+//! Runs a script of events for the sites 1 and 2: reads it from standard input, and writes the answers to
 //! standard output.
 #![tactic(auto)]
 
-mod answers;
-mod escaped;
-mod event;
-mod input;
-mod lines;
-mod output;
-mod run;
-mod settings;
-mod sites;
-
-use input::Input;
-use output::Output;
-use run::{run, status_of};
-use settings::Settings;
+use script_io::{Input, Output};
+use script_runs::{Settings, run, status_of};
 use std::io;
 use std::io::BufWriter;
 use std::process::ExitCode;
@@ -28,6 +16,3 @@ fn main(rt: HostRuntime) -> io::Result<ExitCode> {
     };
     Ok(ExitCode::from(status_of(&ended)))
 }
-
-#[cfg(test)]
-mod tests;

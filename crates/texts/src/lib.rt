@@ -13,6 +13,3 @@ pub use replica::Replica;
 
 /// The greatest number of an operation among its site's in one text. This project's own.
 pub const MAX_SEQ: u32 = u32::MAX;
-
-#[cfg(test)]
-mod tests;

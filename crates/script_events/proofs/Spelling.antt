@@ -1,0 +1,115 @@
+-- The bytes that a line spells, one more at a time.
+use Rattle.std.proofs.Common.{◌≡◌, ℕ, ◌+◌, ◌≤◌, List, [], ◌∷◌, ◌++◌, length, Bool, true, false, ◌==◌, cond, Option, Some, None, option_map, refl, sym, ap, ◌∙◌, arith, append_assoc, length-append, zero-add, add-zero}
+use Rattle.std.specs.Prelude.{IsSome, option_and_then, unwrap_or}
+use Rattle.std.proofs.lemmas.List.{append-nil}
+use Rattle.std.proofs.lemmas.Option.{same_Some}
+use Rattle.script_events.specs.Script.{byte_of_digits, cut_escaped, cut_byte, bytes_in}
+
+and_then-if : {A B : Type 0} (f : A → Option B) (t : Bool) (x y : Option A) → option_and_then f (cond t x y) ≡ cond t (option_and_then f x) (option_and_then f y)
+and_then-if f true x y = refl
+and_then-if f false x y = refl
+
+and_then-map : {A B C : Type 0} (f : B → Option C) (g : A → B) (o : Option A) → option_and_then f (option_map g o) ≡ option_and_then (λ a. f (g a)) o
+and_then-map f g (Some a) = refl
+and_then-map f g None = refl
+
+-- the bytes, and before them the one that was cut
+abbrev onto : ℕ × List ℕ → Option (List ℕ)
+onto cut = option_map (λ bytes. cut.0 ∷ bytes) (bytes_in cut.1)
+
+bytes_in-step : (b : ℕ) (behind : List ℕ) → bytes_in (b ∷ behind) ≡ option_and_then onto (cut_byte b behind)
+unfolding bytes_in
+bytes_in-step b [] = sym (and_then-if onto (b == 92) (cut_escaped []) (Some (b, [])))
+bytes_in-step b (c ∷ []) = sym (and_then-if onto (b == 92) (cut_escaped (c ∷ [])) (Some (b, c ∷ [])))
+bytes_in-step b (c ∷ d ∷ raw) =
+    let plain = option_map (λ (bytes : List ℕ). b ∷ bytes) (bytes_in (c ∷ d ∷ raw)) in
+    ap (λ (o : Option (List ℕ)). cond (b == 92) o plain) (sym (and_then-map onto (λ byte. (byte, raw)) (byte_of_digits c d)))
+    ∙ sym (and_then-if onto (b == 92) (cut_escaped (c ∷ d ∷ raw)) (Some (b, c ∷ d ∷ raw)))
+
+-- a byte is cut, and the rest spells the others
+pub bytes_in-cut : (rest : List ℕ) (b : ℕ) (behind : List ℕ) (byte : ℕ) (left : List ℕ) → rest ≡ b ∷ behind → Some (byte, left) ≡ cut_byte b behind → bytes_in rest ≡ option_map (λ bytes. byte ∷ bytes) (bytes_in left)
+bytes_in-cut rest b behind byte left rest_is cut_is =
+    ap bytes_in rest_is ∙ bytes_in-step b behind ∙ ap (option_and_then onto) (sym cut_is)
+
+-- where no byte can be cut, none are spelled
+pub bytes_in-wrong : (rest : List ℕ) (b : ℕ) (behind : List ℕ) → rest ≡ b ∷ behind → None ≡ cut_byte b behind → bytes_in rest ≡ None
+bytes_in-wrong rest b behind rest_is cut_is =
+    ap bytes_in rest_is ∙ bytes_in-step b behind ∙ ap (option_and_then onto) (sym cut_is)
+
+pub bytes_in-end : (rest : List ℕ) → length rest ≡ 0 → bytes_in rest ≡ Some []
+unfolding bytes_in
+bytes_in-end [] none = refl
+bytes_in-end (b ∷ rest) none = absurd (omega arith)
+
+-- so many bytes were cut off raw, and what is left spells the others
+pub record IsCounted (raw rest : List ℕ) (len : ℕ) : Type 0 where
+  pub same : option_map (λ bytes. len + length bytes) (bytes_in rest) ≡ option_map length (bytes_in raw)
+  pub within : len + length rest ≤ length raw
+
+none_counted : (o : Option (List ℕ)) → option_map (λ bytes. 0 + length bytes) o ≡ option_map length o
+none_counted None = refl
+none_counted (Some bytes) = ap Some (zero-add (length bytes))
+
+one_counted : (len byte : ℕ) (o : Option (List ℕ)) → option_map (λ bytes. len + length bytes) (option_map (λ bytes. byte ∷ bytes) o) ≡ option_map (λ bytes. len + 1 + length bytes) o
+one_counted len byte None = refl
+one_counted len byte (Some bytes) = ap Some (omega arith)
+
+pub IsCounted-none : (raw : List ℕ) → IsCounted raw raw 0
+IsCounted-none raw = record { same = none_counted (bytes_in raw); within = omega arith }
+
+pub IsCounted-more : {raw rest : List ℕ} {len : ℕ} (b : ℕ) (behind : List ℕ) (byte : ℕ) (left : List ℕ) → IsCounted raw rest len → rest ≡ b ∷ behind → Some (byte, left) ≡ cut_byte b behind → length left ≤ length behind → IsCounted raw left (len + 1)
+IsCounted-more {raw} {rest} {len} b behind byte left i rest_is cut_is less = record {
+  same = sym (one_counted len byte (bytes_in left)) ∙ ap (option_map (λ (bytes : List ℕ). len + length bytes)) (sym (bytes_in-cut rest b behind byte left rest_is cut_is)) ∙ i.same;
+  within = omega (arith, ap length rest_is);
+}
+
+none_spelled : (o : Option (List ℕ)) → None ≡ option_map length o → o ≡ None
+none_spelled None e = refl
+none_spelled (Some bytes) e = absurd cc
+
+-- where no byte can be cut, raw spells none
+pub IsCounted-wrong : {raw rest : List ℕ} {len : ℕ} (b : ℕ) (behind : List ℕ) → IsCounted raw rest len → rest ≡ b ∷ behind → None ≡ cut_byte b behind → bytes_in raw ≡ None
+IsCounted-wrong {raw} {rest} {len} b behind i rest_is cut_is =
+    none_spelled (bytes_in raw) (ap (option_map (λ (bytes : List ℕ). len + length bytes)) (sym (bytes_in-wrong rest b behind rest_is cut_is)) ∙ i.same)
+
+pub IsCounted-all : {raw rest : List ℕ} {len : ℕ} → IsCounted raw rest len → length rest ≡ 0 → option_map length (bytes_in raw) ≡ Some len
+IsCounted-all {raw} {rest} {len} i none =
+    sym i.same ∙ ap (option_map (λ (bytes : List ℕ). len + length bytes)) (bytes_in-end rest none) ∙ ap Some (add-zero len)
+
+pub bytes_in-some : {len : ℕ} (o : Option (List ℕ)) → option_map length o ≡ Some len → Some (unwrap_or o []) ≡ o
+bytes_in-some None e = absurd cc
+bytes_in-some (Some bytes) e = refl
+
+-- what is left spells what is still to come behind those in front
+pub record IsDecoded (whole front rest : List ℕ) : Type 0 where
+  pub same : option_map (λ bytes. front ++ bytes) (bytes_in rest) ≡ Some whole
+
+pub IsDecoded-none : {len : ℕ} (front raw bytes : List ℕ) → option_map length (bytes_in raw) ≡ Some len → unwrap_or (bytes_in raw) [] ≡ bytes → IsDecoded (front ++ bytes) front raw
+IsDecoded-none front raw bytes valid view =
+    record { same = ap (option_map (λ (bytes : List ℕ). front ++ bytes)) (sym (bytes_in-some (bytes_in raw) valid)) ∙ ap (λ (bytes : List ℕ). Some (front ++ bytes)) view }
+
+-- where bytes are left, one can be cut
+pub IsDecoded-cuts : {A : Type 0} {whole front rest : List ℕ} (b : ℕ) (behind : List ℕ) (f : A → ℕ × List ℕ) (cut : Option A) → IsDecoded whole front rest → rest ≡ b ∷ behind → option_map f cut ≡ cut_byte b behind → IsSome cut
+IsDecoded-cuts b behind f (Some cut) d rest_is cut_is = refl
+IsDecoded-cuts {whole = whole} {front = front} {rest = rest} b behind f None d rest_is cut_is =
+    let wrong : None ≡ Some whole = ap (option_map (λ (bytes : List ℕ). front ++ bytes)) (sym (bytes_in-wrong rest b behind rest_is cut_is)) ∙ d.same in
+    absurd cc
+
+front-push : (front : List ℕ) (byte : ℕ) (o : Option (List ℕ)) → option_map (λ bytes. front ++ bytes) (option_map (λ bytes. byte ∷ bytes) o) ≡ option_map (λ bytes. front ++ byte ∷ [] ++ bytes) o
+front-push front byte None = refl
+front-push front byte (Some bytes) = ap Some (sym (append_assoc front (byte ∷ []) bytes))
+
+pub IsDecoded-more : {whole front rest : List ℕ} (b : ℕ) (behind : List ℕ) (byte : ℕ) (left : List ℕ) → IsDecoded whole front rest → rest ≡ b ∷ behind → Some (byte, left) ≡ cut_byte b behind → IsDecoded whole (front ++ byte ∷ []) left
+IsDecoded-more {whole} {front} {rest} b behind byte left d rest_is cut_is =
+    record { same = sym (front-push front byte (bytes_in left)) ∙ ap (option_map (λ (bytes : List ℕ). front ++ bytes)) (sym (bytes_in-cut rest b behind byte left rest_is cut_is)) ∙ d.same }
+
+within : (front whole : List ℕ) (o : Option (List ℕ)) → option_map (λ bytes. front ++ bytes) o ≡ Some whole → length front ≤ length whole
+within front whole None e = absurd cc
+within front whole (Some bytes) e = omega (arith, length-append front bytes, ap length (same_Some (front ++ bytes) whole e))
+
+pub IsDecoded-within : {whole front rest : List ℕ} → IsDecoded whole front rest → length front ≤ length whole
+IsDecoded-within {whole} {front} {rest} d = within front whole (bytes_in rest) d.same
+
+pub IsDecoded-all : {whole front rest : List ℕ} → IsDecoded whole front rest → length rest ≡ 0 → front ≡ whole
+IsDecoded-all {whole} {front} {rest} d none =
+    same_Some front whole (ap Some (sym (append-nil front)) ∙ ap (option_map (λ (bytes : List ℕ). front ++ bytes)) (sym (bytes_in-end rest none)) ∙ d.same)

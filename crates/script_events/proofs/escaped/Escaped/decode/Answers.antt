@@ -1,0 +1,25 @@
+use Rattle.std.proofs.Common.{◌∷◌, [], length-append, ◌∙◌, refl, arith}
+use Rattle.script_events.proofs.Spelling.{IsDecoded-none, IsDecoded-cuts, IsDecoded-more, IsDecoded-within, IsDecoded-all}
+use Rattle.script_events.proofs.escaped.Escaped.decode.Goals as goal
+
+pub loop-first-init : goal.loop-first-init
+loop-first-init c = (IsDecoded-none c.args.out.now.items c.self.inside.raw.now c.args.self.now c.self.invariant c.self.view_is, refl)
+
+pub unwrap-byte-requires : goal.unwrap-byte-requires
+unwrap-byte-requires c =
+    IsDecoded-cuts c.in-Some.first.now c.in-Some.behind.now _ c.cut_byte.result c.loop-first.invariant.0 c.in-Some.ensures.cases.0 c.cut_byte.ensures.value
+
+pub push_reserved-requires : goal.push_reserved-requires
+push_reserved-requires c =
+    let cut_is = rw c.unwrap-byte.ensures at c.cut_byte.ensures.value in
+    let more = IsDecoded-more c.in-Some.first.now c.in-Some.behind.now _ _ c.loop-first.invariant.0 c.in-Some.ensures.cases.0 cut_is in
+    omega (arith, IsDecoded-within more, length-append c.loop-first.out.items (c.unwrap-byte.result.0 ∷ []), length-append c.args.out.now.items c.args.self.now)
+
+pub loop-first-preserved : goal.loop-first-preserved
+loop-first-preserved c =
+    let cut_is = rw c.unwrap-byte.ensures at c.cut_byte.ensures.value in
+    let more = IsDecoded-more c.in-Some.first.now c.in-Some.behind.now _ _ c.loop-first.invariant.0 c.in-Some.ensures.cases.0 cut_is in
+    rw c.push_reserved.ensures.items (more, c.push_reserved.ensures.capacity ∙ c.loop-first.invariant.1)
+
+pub returns-clause-bytes : goal.returns-clause-bytes
+returns-clause-bytes c = IsDecoded-all c.loop-first.invariant.0 c.in_default.ensures.cases

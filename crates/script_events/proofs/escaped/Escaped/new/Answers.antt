@@ -1,0 +1,24 @@
+use Rattle.std.proofs.Common.{sym, ◌∙◌, arith, ap, length}
+use Rattle.script_events.proofs.Spelling.{IsCounted-none, IsCounted-more, IsCounted-wrong, IsCounted-all, bytes_in-some}
+use Rattle.script_events.specs.Script.{bytes_in}
+use Rattle.script_events.proofs.escaped.Escaped.new.Goals as goal
+
+pub returns-in_err-rest : goal.returns-in_err-rest
+returns-in_err-rest c =
+    c.from_residual.ensures ∙ sym (IsCounted-wrong c.in-Some.first.now c.in-Some.behind.now c.loop-first.invariant c.in-Some.ensures.cases.0 c.in_err-rest.ensures.value)
+
+pub overflow_add-len : goal.overflow_add-len
+overflow_add-len c = omega (arith, ap length c.in-Some.ensures.cases.0)
+
+pub loop-first-init : goal.loop-first-init
+loop-first-init c = IsCounted-none c.args.raw.now
+
+pub loop-first-preserved : goal.loop-first-preserved
+loop-first-preserved c =
+    IsCounted-more c.in-Some.first.now c.in-Some.behind.now _ _ c.loop-first.invariant c.in-Some.ensures.cases.0 c.in_ok-rest.ensures.value c.in_ok-rest.ensures.shorter
+
+pub invariant_of-result : goal.invariant_of-result
+invariant_of-result c = IsCounted-all c.loop-first.invariant c.in_default.ensures.cases
+
+pub returns : goal.returns
+returns c = bytes_in-some (bytes_in c.args.raw.now) (IsCounted-all c.loop-first.invariant c.in_default.ensures.cases)

@@ -1,0 +1,95 @@
+ghost use Rattle.std.specs.Prelude.{◌≡◌, ◌+◌, ◌<◌, ◌≤◌, ◌++◌, length, option_map, IfSome};
+ghost use Rattle.std.specs.Prelude.{vec_capacity, vec_len};
+ghost use Rattle.hex.specs.Hex.{hex_digit_value};
+ghost use Rattle.script_events.specs.Script.{bytes_in, cut_byte, cut_escaped};
+
+use std::marker::Model;
+
+/// Bytes as a line of a script spells them: a backslash and two hex digits of either case stand for one byte,
+/// and each other byte for itself.
+///
+/// They are checked when they are parsed, and decoded when they are used. This project's own.
+#[derive(Debug, Drop)]
+pub struct Escaped<'a> {
+    raw: &'a [u8],
+    // How many bytes are spelled.
+    len: usize,
+}
+
+impl<'a> Model for Escaped<'a> {
+    ghost use Rattle.std.specs.Prelude.{◌≡◌, ℕ, List, [], Some, length, option_map, unwrap_or};
+    ghost use Rattle.script_events.specs.Script.{bytes_in};
+
+    ghost Value = { List ℕ };
+
+    ghost view = { λ e. unwrap_or (bytes_in e.raw.now) [] };
+
+    ghost invariant = { λ e. option_map length (bytes_in e.raw.now) ≡ Some e.len };
+}
+
+impl<'a> Escaped<'a> {
+    /// The bytes that `raw` spells, or `None` where a backslash stands without its two digits.
+    pub fn new(raw: &'a [u8]) -> Option<Escaped<'a>>
+        ensures { result ≡ bytes_in raw.now }
+    {
+        let mut len = 0;
+        let mut rest = raw;
+        while let Some((first, behind)) = rest.split_first() {
+            rest = cut_byte(*first, behind)?.1;
+            len += 1;
+        }
+        Some(Escaped { raw, len })
+    }
+
+    /// How many bytes there are.
+    pub fn len(&self) -> usize
+        ensures { result ≡ length self.now }
+    {
+        self.len
+    }
+
+    /// Puts the bytes behind those that `out` has, which has the room.
+    pub fn decode(&self, out: &mut Vec<u8>)
+        requires { vec_len out.old + length self.now ≤ vec_capacity out.old }
+        ensures bytes { out.new.items ≡ out.old.items ++ self.now }
+        ensures room { vec_capacity out.new ≡ vec_capacity out.old }
+    {
+        let mut rest = self.raw;
+        while let Some((first, behind)) = rest.split_first() {
+            let (byte, left) = cut_byte(*first, behind).unwrap();
+            out.push_reserved(byte);
+            rest = left;
+        }
+    }
+}
+
+// The byte that `first` spells with what stands behind it, and what is left behind that.
+fn cut_byte(first: u8, behind: &[u8]) -> Option<(u8, &[u8])>
+    ensures value { option_map (λ cut. (cut.0, cut.1.now)) result ≡ cut_byte first behind.now }
+    ensures shorter { IfSome result (λ cut. length cut.1.now ≤ length behind.now) }
+{
+    if first == b'\\' {
+        cut_escaped(behind)
+    } else {
+        Some((first, behind))
+    }
+}
+
+// The byte of the two hex digits in front, and what stands behind them.
+fn cut_escaped(raw: &[u8]) -> Option<(u8, &[u8])>
+    ensures value { option_map (λ cut. (cut.0, cut.1.now)) result ≡ cut_escaped raw.now }
+    ensures shorter { IfSome result (λ cut. length cut.1.now ≤ length raw.now) }
+{
+    let [high, low, rest @ ..] = raw else {
+        return None;
+    };
+    Some((16 * hex_digit(*high)? + hex_digit(*low)?, rest))
+}
+
+// The value of a hex digit of either case.
+fn hex_digit(byte: u8) -> Option<u8>
+    ensures value { result ≡ hex_digit_value byte }
+    ensures small { IfSome result (λ digit. digit < 16) }
+{
+    Some(char::from(byte).to_digit(16)? as u8)
+}

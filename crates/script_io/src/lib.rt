@@ -1,0 +1,10 @@
+//! The reader and the writer of a run: lines come in, bytes go out, and faults are told.
+#![tactic(auto)]
+
+mod input;
+mod lines;
+mod output;
+
+pub use input::Input;
+pub use lines::{MAX_LINE, NextLine, take_line};
+pub use output::Output;

@@ -1,0 +1,4 @@
+pub mod Printing
+pub mod Replying
+pub mod Traces
+pub mod WriteLemmas

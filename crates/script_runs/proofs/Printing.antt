@@ -1,0 +1,98 @@
+-- Answers that are printed part by part.
+use Rattle.std.proofs.Common.{◌≡◌, ℕ, ◌+◌, ◌-◌, ◌/◌, ◌%◌, ◌<◌, ◌≤◌, List, [], ◌∷◌, ◌++◌, length, take, drop, get_or, Result, Err, Option, refl, sym, ap, subst, ◌∙◌, append_assoc, append-nil, add-one, drop-cons, take-append-drop, arith}
+use Rattle.std.specs.Prelude.{slice_get, Bool, Some, IsErrAnd}
+use Rattle.std.specs.Io.KnownBytes.{Appends}
+use Rattle.std.proofs.KnownBytes.{Appends-trans}
+use Rattle.std.proofs.lemmas.List.{take_more, get_or-drop, length-drop, length-take}
+use Rattle.std.proofs.lemmas.Option.{get_or_from_slice_get, slice_get_within}
+use Rattle.hex.specs.Hex.{encode_with, encode_lower, lower_digits}
+use Rattle.looks.specs.declared.refusal.Refusal.{Refusal}
+use Rattle.script_runs.specs.Answers.{send_line, send_lines}
+use Rattle.script_runs.specs.Writing.{Writes}
+use Rattle.script_runs.proofs.WriteLemmas.{writes_after, writes_stopped}
+
+-- a list at an index: what is ahead of it, the element there, and what is behind it
+split_at : {A : Type 0} (xs : List A) (i : ℕ) (d : A) → i < length xs → xs ≡ take i xs ++ (get_or xs i d ∷ drop (i + 1) xs)
+split_at xs i d lt = rw add-one (sym (take-append-drop i xs) ∙ ap (λ (ys : List _). take i xs ++ ys) (drop-cons xs i d lt))
+
+pub encode_lower-nil : encode_lower [] ≡ []
+unfolding encode_with
+encode_lower-nil = refl
+
+pub encode_lower-append : (xs ys : List ℕ) → encode_lower (xs ++ ys) ≡ encode_lower xs ++ encode_lower ys
+unfolding encode_with
+encode_lower-append [] ys = refl
+encode_lower-append (x ∷ xs) ys = ap (λ (r : List ℕ). get_or lower_digits (x / 16) 0 ∷ get_or lower_digits (x % 16) 0 ∷ r) (encode_lower-append xs ys)
+
+-- the hex of one byte more
+pub hex_more : (a b c : Option (List ℕ)) (bytes : List ℕ) (i d : ℕ) → i < length bytes → Appends a b (encode_lower (take i bytes)) → Appends b c (encode_lower (get_or bytes i d ∷ [])) → Appends a c (encode_lower (take (i + 1) bytes))
+hex_more a b c bytes i d lt p q =
+    let more = ap encode_lower (take_more bytes i d lt) ∙ encode_lower-append (take i bytes) (get_or bytes i d ∷ []) in
+    subst (Appends a c) (sym more) (Appends-trans a b c (encode_lower (take i bytes)) (encode_lower (get_or bytes i d ∷ [])) p q)
+
+-- a fault in the hex of a byte
+pub hex_stopped : (result : Result (Unit {0}) Refusal) (failed : Bool) (why : Refusal) (old mid new : Option (List ℕ)) (bytes : List ℕ) (i d : ℕ) → i < length bytes → Appends old mid (encode_lower (take i bytes))
+    → IsErrAnd result (λ e. e ≡ why) → Writes (Err why) failed mid new (encode_lower (get_or bytes i d ∷ [])) → Writes result failed old new (encode_lower bytes)
+hex_stopped result failed why old mid new bytes i d lt p e w =
+    let byte = get_or bytes i d ∷ [] in
+    let behind = drop (i + 1) bytes in
+    let whole = ap encode_lower (split_at bytes i d lt) ∙ encode_lower-append (take i bytes) (byte ++ behind) ∙ ap (λ (r : List ℕ). encode_lower (take i bytes) ++ r) (encode_lower-append byte behind) in
+    subst (Writes result failed old new) (sym whole) (writes_after result failed old mid new (encode_lower (take i bytes)) (encode_lower byte ++ encode_lower behind) p (writes_stopped result failed why mid new (encode_lower byte) (encode_lower behind) e w))
+
+send_lines-append : (k : ℕ) (xs ys : List (List ℕ)) → send_lines k (xs ++ ys) ≡ send_lines k xs ++ send_lines (k + length xs) ys
+send_lines-append k [] ys =
+    let same : k ≡ k + 0 = omega arith in
+    ap (λ (j : ℕ). send_lines j ys) same
+send_lines-append k (x ∷ xs) ys =
+    let place : k + 1 + length xs ≡ k + length (x ∷ xs) = omega arith in
+    ap (λ (lines : List ℕ). send_line (k + 1) x ++ lines) (send_lines-append (k + 1) xs ys ∙ ap (λ (j : ℕ). send_lines (k + 1) xs ++ send_lines j ys) place)
+    ∙ sym (append_assoc (send_line (k + 1) x) (send_lines (k + 1) xs) (send_lines (k + length (x ∷ xs)) ys))
+
+-- the lines up to an index, the line there, and the lines behind it
+send_lines-split : (from index : ℕ) (m : List ℕ) (ahead behind : List (List ℕ)) → from + length ahead ≡ index → send_lines from (ahead ++ (m ∷ behind)) ≡ send_lines from ahead ++ (send_line (index + 1) m ++ send_lines (index + 1) behind)
+send_lines-split from index m ahead behind e =
+    send_lines-append from ahead (m ∷ behind) ∙ ap (λ (j : ℕ). send_lines from ahead ++ send_lines j (m ∷ behind)) e
+
+-- a message among those that were sent after the first `from`
+record IsSentAfter (sent : List (List ℕ)) (from index : ℕ) (m : List ℕ) : Type 0 where
+  within : index - from < length (drop from sent)
+  read : get_or (drop from sent) (index - from) m ≡ m
+  number : from + length (take (index - from) (drop from sent)) ≡ index
+
+sent_after : (sent : List (List ℕ)) (from index : ℕ) (m : List ℕ) → from ≤ index → slice_get sent index ≡ Some m → IsSentAfter sent from index m
+sent_after sent from index m le is =
+    let rest = drop from sent in
+    let place : from + (index - from) ≡ index = omega arith in
+    let in_sent = slice_get_within sent index m is in
+    let long : index - from < length rest = omega (arith, length-drop from sent, in_sent, place) in
+    record {
+      within = long;
+      read = get_or-drop from sent (index - from) m ∙ ap (λ (i : ℕ). get_or sent i m) place ∙ get_or_from_slice_get sent index m m is;
+      number = omega (arith, length-take (index - from) rest, long, place);
+    }
+
+-- the line of one message more
+pub sends_more : (a b c : Option (List ℕ)) (sent : List (List ℕ)) (from index : ℕ) (m : List ℕ) → from ≤ index → slice_get sent index ≡ Some m
+    → Appends a b (send_lines from (take (index - from) (drop from sent))) → Appends b c (send_line (index + 1) m) → Appends a c (send_lines from (take (index + 1 - from) (drop from sent)))
+sends_more a b c sent from index m le is p q =
+    let rest = drop from sent in
+    let ahead = take (index - from) rest in
+    let at = sent_after sent from index m le is in
+    let one_more : index + 1 - from ≡ index - from + 1 = omega arith in
+    let more : take (index + 1 - from) rest ≡ ahead ++ m ∷ [] = ap (λ (i : ℕ). take i rest) one_more ∙ take_more rest (index - from) m at.within ∙ ap (λ (x : List ℕ). ahead ++ x ∷ []) at.read in
+    let lines = ap (send_lines from) more ∙ send_lines-split from index m ahead [] at.number ∙ ap (λ (l : List ℕ). send_lines from ahead ++ l) (append-nil (send_line (index + 1) m)) in
+    subst (Appends a c) (sym lines) (Appends-trans a b c (send_lines from ahead) (send_line (index + 1) m) p q)
+
+-- a fault in the line of a message
+pub sends_stopped : (result : Result (Unit {0}) Refusal) (failed : Bool) (why : Refusal) (old mid new : Option (List ℕ)) (sent : List (List ℕ)) (from index : ℕ) (m : List ℕ) → from ≤ index → slice_get sent index ≡ Some m
+    → Appends old mid (send_lines from (take (index - from) (drop from sent))) → IsErrAnd result (λ e. e ≡ why) → Writes (Err why) failed mid new (send_line (index + 1) m) → Writes result failed old new (send_lines from (drop from sent))
+sends_stopped result failed why old mid new sent from index m le is p e w =
+    let rest = drop from sent in
+    let ahead = take (index - from) rest in
+    let behind = drop (index - from + 1) rest in
+    let at = sent_after sent from index m le is in
+    let split : rest ≡ ahead ++ (m ∷ behind) = split_at rest (index - from) m at.within ∙ ap (λ (x : List ℕ). ahead ++ (x ∷ behind)) at.read in
+    let lines = ap (send_lines from) split ∙ send_lines-split from index m ahead behind at.number in
+    let line = send_line (index + 1) m in
+    let later = send_lines (index + 1) behind in
+    subst (Writes result failed old new) (sym lines) (writes_after result failed old mid new (send_lines from ahead) (line ++ later) p (writes_stopped result failed why mid new line later e w))

@@ -1,0 +1,157 @@
+use Rattle.std.proofs.Common.{◌≢◌, ◌+◌, Ok, arith, rules}
+use Rattle.script_runs.specs.Ends.{Ends}
+use Rattle.script_runs.proofs.WriteLemmas.{failed_at_err}
+use Rattle.script_runs.proofs.Traces.{IsSoFar, IfSome-weaker, begins_known, so_far_out, goes_on_by, ends_by_last, ends_by_end, ends_by_fault, ends_by_limit, ends_by_line, ends_by_put_out}
+use Rattle.script_io.specs.declared.lines.NextLine.TheVariants.{End}
+use Rattle.script_runs.proofs.running.run_lines.Goals as goal
+use Rattle.script_runs.proofs.running.run_lines.Goals.{in_default-via-in-Ok+in_default, in_default-via-in_default}
+
+pub loop-init : goal.loop-init
+loop-init g c = record {
+  so_far = begins_known c.args.sites.now c.args.input.now.left c.args.output.now.contents;
+  room = c.requires;
+}
+
+pub returns-in-Ok-Last-clause-answers : goal.returns-in-Ok-Last-clause-answers
+returns-in-Ok-Last-clause-answers g c =
+    let start = c.args.sites.now in
+    let failed = c.take_line.new.input.failed in
+    let cut = c.answer_last.new.output.failed in
+    let left = c.loop.input.left in
+    let left' = c.take_line.new.input.left in
+    let old = c.args.output.now.contents in
+    let mid = c.put_out.new.output.contents in
+    let new = c.answer_last.new.output.contents in
+    let s = c.loop.sites in
+    let s' = c.answer_last.new.sites in
+    let r = c.answer_last.result in
+    let taken = rw c.in-Ok-Last.field-0-is at c.in-Ok-Last.ensures.taken in
+    let written = rw c.deref-in-Ok-Last.ensures.value at c.answer_last.ensures.answers in
+    IfSome-weaker c.args.input.now.left (λ script. IsSoFar start script left old mid c.loop.counter s) (λ script. Ends start script r failed left' old new)
+    (λ script f. ends_by_last start script failed cut left left' old mid new c.loop.counter s s' f r c.take_line.new.line.items (omega arith) taken written) (so_far_out start c.args.input.now.left left old c.loop.output.contents mid c.loop.counter s c.loop.invariant.so_far c.put_out.ensures.kept)
+
+pub returns-in-Ok-End-clause-answers : goal.returns-in-Ok-End-clause-answers
+returns-in-Ok-End-clause-answers g c =
+    let start = c.args.sites.now in
+    let failed = c.take_line.new.input.failed in
+    let cut = c.flush.new.self.failed in
+    let left = c.loop.input.left in
+    let left' = c.take_line.new.input.left in
+    let old = c.args.output.now.contents in
+    let mid = c.put_out.new.output.contents in
+    let new = c.flush.new.self.contents in
+    let s = c.loop.sites in
+    let r = c.flush.result in
+    let taken = rw c.in-Ok-End.field-0-is at c.in-Ok-End.ensures.taken in
+    IfSome-weaker c.args.input.now.left (λ script. IsSoFar start script left old mid c.loop.counter s) (λ script. Ends start script r failed left' old new)
+    (λ script f. ends_by_end start script failed cut left left' old mid new c.loop.counter s s f r c.take_line.new.line.items (omega arith) taken c.flush.ensures.kept c.flush.ensures.errors (failed_at_err r c.put_out.new.output.failed cut c.flush.ensures.failed)) (so_far_out start c.args.input.now.left left old c.loop.output.contents mid c.loop.counter s c.loop.invariant.so_far c.put_out.ensures.kept)
+
+pub returns-in-Err-clause-answers : goal.returns-in-Err-clause-answers
+returns-in-Err-clause-answers g c =
+    let start = c.args.sites.now in
+    let failed = c.take_line.new.input.failed in
+    let cut = c.break_off.new.output.failed in
+    let left = c.loop.input.left in
+    let left' = c.take_line.new.input.left in
+    let old = c.args.output.now.contents in
+    let mid = c.put_out.new.output.contents in
+    let new = c.break_off.new.output.contents in
+    let s = c.loop.sites in
+    let r = c.break_off.result in
+    IfSome-weaker c.args.input.now.left (λ script. IsSoFar start script left old mid c.loop.counter s) (λ script. Ends start script r failed left' old new)
+    (λ script f. ends_by_fault start script failed cut left left' old mid new c.loop.counter s s f r c.take_line.new.line.items c.in-Err.field-0 (omega arith) c.in-Err.ensures.taken c.break_off.ensures.ends) (so_far_out start c.args.input.now.left left old c.loop.output.contents mid c.loop.counter s c.loop.invariant.so_far c.put_out.ensures.kept)
+
+pub returns-in_err-put_out-clause-answers : goal.returns-in_err-put_out-clause-answers
+returns-in_err-put_out-clause-answers g c =
+    let start = c.args.sites.now in
+    let left = c.loop.input.left in
+    let old = c.args.output.now.contents in
+    let mid = c.loop.output.contents in
+    let new = c.put_out.new.output.contents in
+    let s = c.loop.sites in
+    let r = c.from_residual.result in
+    IfSome-weaker c.args.input.now.left (λ script. IsSoFar start script left old mid c.loop.counter s) (λ script. Ends start script r c.loop.input.failed left old new)
+    (λ script f. ends_by_put_out start script c.loop.input.failed left old mid new c.loop.counter s r c.in_err-put_out.field-0.0 f (omega arith) c.from_residual.ensures.1 c.in_err-put_out.ensures.errors c.put_out.ensures.kept) c.loop.invariant.so_far
+
+pub returns-in_err-answer-in-Ok-Line-clause-answers : goal.returns-in_err-answer-in-Ok-Line-clause-answers
+returns-in_err-answer-in-Ok-Line-clause-answers g c =
+    let start = c.args.sites.now in
+    let failed = c.take_line.new.input.failed in
+    let cut = c.answer.new.output.failed in
+    let left = c.loop.input.left in
+    let left' = c.take_line.new.input.left in
+    let old = c.args.output.now.contents in
+    let mid = c.put_out.new.output.contents in
+    let new = c.answer.new.output.contents in
+    let s = c.loop.sites in
+    let s' = c.answer.new.self in
+    let r = c.from_residual-in_err-answer-in-Ok-Line.result in
+    let taken = rw c.in-Ok-Line.field-0-is at c.in-Ok-Line.ensures.taken in
+    let written = rw c.deref.ensures.value at c.in_err-answer-in-Ok-Line.ensures in
+    IfSome-weaker c.args.input.now.left (λ script. IsSoFar start script left old mid c.loop.counter s) (λ script. Ends start script r failed left' old new)
+    (λ script f. ends_by_line start script failed cut left left' old mid new c.loop.counter s s' f r c.in_err-answer-in-Ok-Line.field-0.0 c.take_line.new.line.items (omega arith) taken c.from_residual-in_err-answer-in-Ok-Line.ensures.1 written) (so_far_out start c.args.input.now.left left old c.loop.output.contents mid c.loop.counter s c.loop.invariant.so_far c.put_out.ensures.kept)
+
+pub loop-preserved : goal.loop-preserved
+loop-preserved g c =
+    let start = c.args.sites.now in
+    let failed = c.take_line.new.input.failed in
+    let cut = c.answer.new.output.failed in
+    let left = c.loop.input.left in
+    let left' = c.take_line.new.input.left in
+    let old = c.args.output.now.contents in
+    let mid = c.put_out.new.output.contents in
+    let new = c.answer.new.output.contents in
+    let s = c.loop.sites in
+    let s' = c.answer.new.self in
+    let n = c.loop.counter in
+    let taken = rw c.in-Ok-Line.field-0-is at c.in-Ok-Line.ensures.taken in
+    let written = rw c.deref.ensures.value at c.in_ok-answer-in-Ok-Line.ensures in
+    record {
+      so_far = IfSome-weaker c.args.input.now.left (λ script. IsSoFar start script left old mid n s) (λ script. IsSoFar start script left' old new (n + 1) s')
+          (λ script f. goes_on_by start script failed cut left left' old mid new n s s' f c.take_line.new.line.items taken written) (so_far_out start c.args.input.now.left left old c.loop.output.contents mid n s c.loop.invariant.so_far c.put_out.ensures.kept);
+      room = c.take_line.ensures.room;
+    }
+
+pub returns-in_err-put_out-2-clause-answers : goal.returns-in_err-put_out-2-clause-answers
+returns-in_err-put_out-2-clause-answers g c =
+    let start = c.args.sites.now in
+    let left = c.loop.input.left in
+    let old = c.args.output.now.contents in
+    let mid = c.loop.output.contents in
+    let new = c.put_out-2.new.output.contents in
+    let s = c.loop.sites in
+    let r = c.from_residual-in_err-put_out-2.result in
+    IfSome-weaker c.args.input.now.left (λ script. IsSoFar start script left old mid c.loop.counter s) (λ script. Ends start script r c.loop.input.failed left old new)
+    (λ script f. ends_by_put_out start script c.loop.input.failed left old mid new c.loop.counter s r c.in_err-put_out-2.field-0.0 f (omega arith) c.from_residual-in_err-put_out-2.ensures.1 c.in_err-put_out-2.ensures.errors c.put_out-2.ensures.kept) c.loop.invariant.so_far
+
+pub returns-in-Ok-End-take_line-clause-answers : goal.returns-in-Ok-End-take_line-clause-answers
+returns-in-Ok-End-take_line-clause-answers g c =
+    let start = c.args.sites.now in
+    let failed = c.take_line-2.new.input.failed in
+    let cut = c.flush-in-Ok-End-take_line.new.self.failed in
+    let left = c.loop.input.left in
+    let left' = c.take_line-2.new.input.left in
+    let old = c.args.output.now.contents in
+    let mid = c.put_out-2.new.output.contents in
+    let new = c.flush-in-Ok-End-take_line.new.self.contents in
+    let s = c.loop.sites in
+    let r = c.flush-in-Ok-End-take_line.result in
+    let taken = rw c.in-Ok-End-take_line.field-0-is at c.in-Ok-End-take_line.ensures.taken in
+    IfSome-weaker c.args.input.now.left (λ script. IsSoFar start script left old mid c.loop.counter s) (λ script. Ends start script r failed left' old new)
+    (λ script f. ends_by_end start script failed cut left left' old mid new c.loop.counter s s f r c.take_line-2.new.line.items (omega arith) taken c.flush-in-Ok-End-take_line.ensures.kept c.flush-in-Ok-End-take_line.ensures.errors (failed_at_err r c.put_out-2.new.output.failed cut c.flush-in-Ok-End-take_line.ensures.failed)) (so_far_out start c.args.input.now.left left old c.loop.output.contents mid c.loop.counter s c.loop.invariant.so_far c.put_out-2.ensures.kept)
+
+pub returns-in_default-clause-answers : goal.returns-in_default-clause-answers
+returns-in_default-clause-answers g c =
+    let start = c.args.sites.now in
+    let failed = c.take_line-2.new.input.failed in
+    let cut = c.break_off-in_default.new.output.failed in
+    let left = c.loop.input.left in
+    let left' = c.take_line-2.new.input.left in
+    let old = c.args.output.now.contents in
+    let mid = c.put_out-2.new.output.contents in
+    let new = c.break_off-in_default.new.output.contents in
+    let s = c.loop.sites in
+    let r = c.break_off-in_default.result in
+    let some : c.take_line-2.result ≢ Ok End = elim c.in_default.branch [ in_default-via-in-Ok+in_default w ↦ (search rules) | in_default-via-in_default w ↦ (search rules) ] in
+    IfSome-weaker c.args.input.now.left (λ script. IsSoFar start script left old mid c.loop.counter s) (λ script. Ends start script r failed left' old new)
+    (λ script f. ends_by_limit start script failed cut left left' old mid new c.loop.counter s s f r c.take_line-2.result c.take_line-2.new.line.items (omega arith) some c.take_line-2.ensures.taken c.break_off-in_default.ensures.ends) (so_far_out start c.args.input.now.left left old c.loop.output.contents mid c.loop.counter s c.loop.invariant.so_far c.put_out-2.ensures.kept)

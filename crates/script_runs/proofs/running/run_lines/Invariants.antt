@@ -1,0 +1,11 @@
+use Rattle.std.proofs.Common.{◌≤◌}
+use Rattle.std.specs.Prelude.{IfSome, vec_capacity}
+use Rattle.script_io.specs.declared.lines.TheConstants.{MAX_LINE}
+use Rattle.script_runs.proofs.Traces.{IsSoFar}
+use Rattle.script_runs.proofs.running.run_lines.Given as goal
+
+abbrev pub invariant-loop : goal.invariant-loop
+invariant-loop g l = record {
+  so_far : IfSome l.fn.input.left (λ script. IsSoFar l.fn.sites script l.input.left l.fn.output.contents l.output.contents l.counter l.sites);
+  room : MAX_LINE ≤ vec_capacity l.line;
+}

@@ -1,0 +1,65 @@
+-- How a run ends: the theorem over whole scripts is `Ends`; what it speaks of stands ahead of it, as
+-- definitions must.
+use Rattle.std.specs.Prelude.{◌≡◌, ◌≢◌, ℕ, ◌<◌, ◌≤◌, ◌⊎◌, List, [], ◌∷◌, ◌++◌, Bool, Option, Some, Result, Ok}
+use Rattle.std.specs.Prelude.{Err}
+use Rattle.std.specs.Io.KnownBytes.{Appends, Consumes, Keeps}
+use Rattle.looks.specs.declared.refusal.Refusal.{Refusal}
+use Rattle.looks.specs.declared.refusal.Refusal.TheVariants.{ReadFault, WriteFault, OutOfMemory}
+use Rattle.commands.specs.Machine.{State}
+use Rattle.script_runs.specs.Answers.{refused_line}
+use Rattle.script_io.specs.Lines.{BreaksLine, IsRaw}
+use Rattle.script_runs.specs.Trace.{Answers, Trace}
+use Rattle.script_runs.specs.Writing.{AppendsPrefix}
+use Rattle.script_runs.specs.declared.running.TheConstants.{MAX_LINES}
+
+-- the answers to a whole script: to its lines, not too many, the last of which may lack its newline
+abbrev pub IsAnswered : State → List ℕ → List ℕ → Type 0
+IsAnswered start script answers =
+    ((n : ℕ) × (s : State) × (n ≤ MAX_LINES) × Trace start n script answers s)
+    ⊎ ((n : ℕ) × (front before raw answer : List ℕ) × (s new : State)
+    × (n < MAX_LINES) × Trace start n front before s × IsRaw raw × (raw ≢ [])
+    × Answers s raw answer new × (script ≡ front ++ raw) × (answers ≡ before ++ answer))
+
+-- Why a run breaks off behind n lines, where this part of the script was taken behind them: the reader failed
+-- in a line, or the line is too long; or n is as many lines as there may be, and a line or the last line's
+-- bytes stand behind them.
+abbrev pub Breaks : (failed : Bool) → ℕ → List ℕ → Type 0
+Breaks failed n part =
+    BreaksLine failed part
+    ⊎ ((n ≡ MAX_LINES)
+    × ((raw : List ℕ) × IsRaw raw × ((part ≡ raw ++ 10 ∷ []) ⊎ ((part ≡ raw) × (raw ≢ [])))))
+
+-- the answers of a run that broke off, the reader having this left: to the lines that were ended before, not
+-- too many, then the refusal
+abbrev pub IsBrokenOff : State → List ℕ → (failed : Bool) → Option (List ℕ) → List ℕ → Type 0
+IsBrokenOff start script failed left answers =
+    (n : ℕ) × (front part before : List ℕ) × (s : State)
+    × (n ≤ MAX_LINES) × Trace start n front before s × Breaks failed n part
+    × Consumes (Some script) left (front ++ part) × (answers ≡ before ++ refused_line ReadFault)
+
+-- the answers that a run was giving where the writer failed, the reader having this left: those to the lines
+-- that were taken, each ended by its newline; or to the whole script; or those of a run that broke off
+abbrev pub AreDue : State → List ℕ → (failed : Bool) → Option (List ℕ) → List ℕ → Type 0
+AreDue start script failed left answers =
+    ((n : ℕ) × (front : List ℕ) × (s : State)
+    × (n ≤ MAX_LINES) × Trace start n front answers s × Consumes (Some script) left front)
+    ⊎ ((IsAnswered start script answers × Consumes (Some script) left script)
+    ⊎ IsBrokenOff start script failed left answers)
+
+-- How a run over the script ends that began so; whether a read failed and what the reader then has left; and
+-- what was written. Refused memory is told before the first byte is read. Where the writer fails, a prefix of
+-- the answers that were due was written.
+abbrev pub Ends : State → List ℕ → Result (Unit {0}) Refusal → (failed : Bool)
+    → (left old new : Option (List ℕ)) → Type 0
+Ends start script (Ok done) failed left old new =
+    (answers : List ℕ) × Appends old new answers × IsAnswered start script answers
+Ends start script (Err ReadFault) failed left old new =
+    (answers : List ℕ) × Appends old new answers × IsBrokenOff start script failed left answers
+Ends start script (Err OutOfMemory) failed left old new = Keeps (Some script) left × Keeps old new
+Ends start script (Err WriteFault) failed left old new =
+    (answers : List ℕ) × AppendsPrefix old new answers × AreDue start script failed left answers
+Ends start script (Err why) failed left old new = ⊥
+
+-- what a run may end with, where it does not end well
+abbrev pub IsEnd : Refusal → Type 0
+IsEnd why = (why ≡ OutOfMemory) ⊎ ((why ≡ ReadFault) ⊎ (why ≡ WriteFault))

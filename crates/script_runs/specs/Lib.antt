@@ -1,0 +1,5 @@
+pub mod Ends
+pub mod Trace
+pub mod Answers
+pub mod Writing
+pub mod Parts

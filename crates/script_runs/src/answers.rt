@@ -1,0 +1,116 @@
+ghost use Rattle.std.specs.Prelude.{◌∷◌, [], ◌++◌, drop};
+ghost use Rattle.std.specs.Fmt.{decimal};
+ghost use Rattle.hex.specs.Hex.{encode_lower};
+ghost use Rattle.commands.specs.Machine.{edit_reply};
+ghost use Rattle.script_runs.specs.Answers.{refused_line, partial_line, reply_lines, send_line, send_lines};
+ghost use Rattle.script_runs.specs.Writing.{Puts};
+
+use looks::Refusal;
+use script_io::Output;
+use std::io::Write;
+use texts::{EditRefusal, Outbox};
+
+/// Writes the bytes. Refused `WriteFault` where the writer fails, is interrupted or takes nothing.
+pub fn put<W: Write>(output: &mut Output<W>, bytes: &[u8]) -> Result<(), Refusal>
+    ensures { Puts result output.old output.new bytes.now }
+{
+    let mut rest = bytes;
+    while !rest.is_empty() {
+        let count = output.write(rest)?;
+        rest = &rest[count..];
+    }
+    Ok(())
+}
+
+fn put_number<W: Write>(output: &mut Output<W>, number: u64) -> Result<(), Refusal>
+    ensures { Puts result output.old output.new (decimal number) }
+{
+    put(output, itoa::Buffer::new().format(number).as_bytes())
+}
+
+// Some bytes, and a number behind them.
+#[tactic(auto, using(crate::proofs::WriteLemmas::writes_after, crate::proofs::WriteLemmas::writes_stopped))]
+fn put_numbered<W: Write>(output: &mut Output<W>, front: &[u8], number: u64) -> Result<(), Refusal>
+    ensures { Puts result output.old output.new (front.now ++ decimal number) }
+{
+    put(output, front)?;
+    put_number(output, number)
+}
+
+// From an array, so that no answer needs a growth after its edit stands.
+fn put_hex_byte<W: Write>(output: &mut Output<W>, byte: u8) -> Result<(), Refusal>
+    ensures { Puts result output.old output.new (encode_lower (byte ∷ [])) }
+{
+    let mut digits = [0; 2];
+    let _ = hex::encode_to_slice([byte].as_slice(), &mut digits);
+    put(output, &digits)
+}
+
+fn put_hex<W: Write>(output: &mut Output<W>, bytes: &[u8]) -> Result<(), Refusal>
+    ensures { Puts result output.old output.new (encode_lower bytes.now) }
+{
+    for byte in bytes {
+        put_hex_byte(output, *byte)?;
+    }
+    Ok(())
+}
+
+/// Writes the answer that refuses an event.
+pub fn put_refused<W: Write>(output: &mut Output<W>, why: Refusal) -> Result<(), Refusal>
+    ensures { Puts result output.old output.new (refused_line why) }
+{
+    put_numbered(output, b"refused ", u64::from(why.number()))?;
+    put(output, b"\n")
+}
+
+// The line of one message, the run's k-th.
+fn put_send<W: Write>(output: &mut Output<W>, k: u64, message: &[u8]) -> Result<(), Refusal>
+    ensures { Puts result output.old output.new (send_line k message.now) }
+{
+    put_numbered(output, b"send m", k)?;
+    put(output, b" ")?;
+    put_hex(output, message)?;
+    put(output, b"\n")
+}
+
+// The lines of the messages that were sent after the first `from`.
+fn put_sends<W: Write>(output: &mut Output<W>, outbox: &Outbox, from: usize) -> Result<(), Refusal>
+    ensures { Puts result output.old output.new (send_lines from (drop from outbox.now)) }
+{
+    for index in from..outbox.len() {
+        put_send(output, index as u64 + 1, outbox.message(index))?;
+    }
+    Ok(())
+}
+
+// The last line of an edit of which the first messages stand.
+fn put_partial<W: Write>(output: &mut Output<W>, done: u32, why: Refusal) -> Result<(), Refusal>
+    ensures { Puts result output.old output.new (partial_line done why) }
+{
+    put_numbered(output, b"partial ", u64::from(done))?;
+    put_numbered(output, b" ", u64::from(why.number()))?;
+    put(output, b"\n")
+}
+
+/// Writes the lines of an edit's reply, where the outbox had `from` messages before the edit.
+pub fn put_edit<W: Write>(
+    output: &mut Output<W>,
+    outbox: &Outbox,
+    from: usize,
+    outcome: Result<u32, EditRefusal>,
+) -> Result<(), Refusal>
+    ensures { Puts result output.old output.new
+        (reply_lines from (edit_reply outcome (drop from outbox.now))) }
+{
+    match outcome {
+        Ok(_) => {
+            put_sends(output, outbox, from)?;
+            put(output, b"ok\n")
+        }
+        Err(EditRefusal::Whole(why)) => put_refused(output, why),
+        Err(EditRefusal::Partial { done, why }) => {
+            put_sends(output, outbox, from)?;
+            put_partial(output, done, why)
+        }
+    }
+}

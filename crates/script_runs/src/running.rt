@@ -1,0 +1,129 @@
+ghost use Rattle.std.specs.Prelude.{◌≡◌, ◌≤◌, ◌⊎◌, ℕ, List, Contains, IsTrue, OnErr, OnOk, vec_capacity, is_ok};
+ghost use Rattle.std.specs.Prelude.{if◌then◌else◌, Err, IfSome, IfErr};
+ghost use Rattle.std.specs.Io.KnownBytes.{Keeps};
+ghost use Rattle.commands.specs.Machine.{new_state};
+ghost use Rattle.script_runs.specs.Ends.{Ends, IsEnd};
+ghost use Rattle.script_runs.specs.Parts.{BreaksOff};
+ghost use Rattle.script_runs.specs.Trace.{Answers};
+ghost use Rattle.script_runs.specs.Writing.{Puts};
+
+use crate::answers::put_refused;
+use crate::settings::Settings;
+use crate::sites::Sites;
+use looks::Refusal;
+use script_io::{Input, MAX_LINE, NextLine, Output, take_line};
+use std::alloc::Global;
+use std::io::{Read, Write};
+
+/// The most lines of a script. This project's own.
+pub const MAX_LINES: usize = 1 << 20;
+
+// What was written is put out before the reader is asked for bytes that the input doesn't hold. A script that is
+// at hand isn't flushed line by line.
+fn put_out<R: Read + Drop, W: Write>(
+    input: &Input<R>,
+    output: &mut Output<W>,
+) -> Result<(), Refusal>
+    ensures kept { Keeps output.old.contents output.new.contents }
+    ensures errors { IfErr result (λ e. e ≡ Refusal.WriteFault) }
+    ensures failed { OnErr result (IsTrue output.new.failed) }
+    ensures out { OnOk result (Contains input.now.held 10 ⊎ IsTrue output.new.flushed) }
+    ensures at_hand { Contains input.now.held 10 → output.new ≡ output.old }
+{
+    if input.holds_line() {
+        Ok(())
+    } else {
+        output.flush()
+    }
+}
+
+// Answers the last line, and puts the answer out.
+fn answer_last<W: Write>(
+    sites: &mut Sites,
+    output: &mut Output<W>,
+    line: &[u8],
+) -> Result<(), Refusal>
+    ensures answers { (answer : List ℕ) × Puts result output.old output.new answer
+        × Answers sites.old line.now answer sites.new }
+    ensures flushed { OnOk result (IsTrue output.new.flushed) }
+{
+    sites.answer(output, line)?;
+    output.flush()
+}
+
+// The end where the reader failed or a limit was passed: the refusal goes out.
+fn break_off<W: Write>(output: &mut Output<W>) -> Result<(), Refusal>
+    ensures ends { BreaksOff output.new.failed output.old.contents output.new.contents result }
+    ensures flushed { result ≡ Err Refusal.ReadFault → IsTrue output.new.flushed }
+{
+    put_refused(output, Refusal::ReadFault)?;
+    output.flush()?;
+    Err(Refusal::ReadFault)
+}
+
+// Answers line by line, to the end of the script.
+fn run_lines<R: Read + Drop, W: Write>(
+    input: &mut Input<R>,
+    output: &mut Output<W>,
+    line: &mut Vec<u8>,
+    sites: &mut Sites,
+) -> Result<(), Refusal>
+    requires { MAX_LINE ≤ vec_capacity line.old }
+    ensures answers { IfSome input.old.left (λ script.
+        Ends sites.old script result input.new.failed
+        input.new.left output.old.contents output.new.contents) }
+    ensures errors { IfErr result IsEnd }
+    ensures write_fault { result ≡ Err Refusal.WriteFault → IsTrue output.new.failed }
+    ensures flushed { OnOk result (IsTrue output.new.flushed) }
+    ensures told { result ≡ Err Refusal.ReadFault → IsTrue output.new.flushed }
+{
+    for _ in 0..MAX_LINES {
+        put_out(input, output)?;
+        match take_line(input, output, line) {
+            Ok(NextLine::Line) => sites.answer(output, line)?,
+            Ok(NextLine::Last) => return answer_last(sites, output, line),
+            Ok(NextLine::End) => return output.flush(),
+            Err(_) => return break_off(output),
+        }
+    }
+    // Behind the last line that is read nothing may follow.
+    put_out(input, output)?;
+    match take_line(input, output, line) {
+        Ok(NextLine::End) => output.flush(),
+        _ => break_off(output),
+    }
+}
+
+/// Runs the script that the input gives, and writes the answers.
+///
+/// Ends with `OutOfMemory` where the first memory is refused, with nothing written; with `ReadFault`, after
+/// the line `refused 21`, where the reader fails or the script passes a limit: 2^20 lines of at most 32,768
+/// bytes; and with `WriteFault` where the writer fails, with a prefix of the answers written.
+pub fn run<R: Read + Drop, W: Write>(
+    alloc: Global,
+    input: &mut Input<R>,
+    output: &mut Output<W>,
+    settings: Settings,
+) -> Result<(), Refusal>
+    ensures answers { IfSome input.old.left (λ script.
+        Ends (new_state settings.first settings.count) script result input.new.failed
+        input.new.left output.old.contents output.new.contents) }
+    ensures errors { IfErr result IsEnd }
+    ensures write_fault { result ≡ Err Refusal.WriteFault → IsTrue output.new.failed }
+    ensures flushed { OnOk result (IsTrue output.new.flushed) }
+    ensures told { result ≡ Err Refusal.ReadFault → IsTrue output.new.flushed }
+{
+    let mut line = Vec::with_capacity(alloc, MAX_LINE)?;
+    let mut sites = Sites::new(alloc, settings.first, settings.count)?;
+    run_lines(input, output, &mut line, &mut sites)
+}
+
+/// The exit status of the program: 0 where the run ended well, else 1.
+pub fn status_of(ended: &Result<(), Refusal>) -> u8
+    ensures { result ≡ (if is_ok ended.now then 0 else 1) }
+{
+    match ended {
+        Ok(()) => 0,
+        Err(_) => 1,
+    }
+}

@@ -1,0 +1,155 @@
+ghost use Rattle.std.specs.Prelude.{◌≡◌, ◌≤◌, ◌<◌, List, ℕ, length, IfOk};
+ghost use Rattle.looks.specs.Refusal.{RefusedForMemoryAlone};
+ghost use Rattle.looks.specs.Looks.{plain_looks};
+ghost use Rattle.texts.specs.Edit.{insert_run};
+ghost use Rattle.texts.specs.TextState.{TextState};
+ghost use Rattle.commands.specs.Machine.{IsTextAt, Replies, edit, edit_reply, lines_of, new_state};
+ghost use Rattle.script_events.specs.EventView.{edit_of, event_of, query_of, IsInRun, IsShort};
+ghost use Rattle.script_runs.specs.Trace.{Answers, Step, is_silent};
+ghost use Rattle.script_runs.specs.Writing.{Puts};
+
+use crate::answers::{put, put_edit, put_refused};
+use crate::settings::{MAX_FIRST, MAX_SITES};
+use char_files::{SiteNo, TextNo};
+use commands::{Desk, MAX_TEXT};
+use looks::Refusal;
+use operations::MAX_INSERT;
+use script_events::{Edit, Escaped, Event, Query, event_in};
+use script_io::{MAX_LINE, Output};
+use std::alloc::Global;
+use std::io::Write;
+use std::marker::Model;
+use texts::{EditRefusal, Outbox};
+
+/// The desks of a run's sites, and the messages that they sent.
+#[derive(Debug, Drop)]
+pub struct Sites {
+    first: u16,
+    desks: Vec<Desk>,
+    outbox: Outbox,
+    // Where the bytes of an event are decoded: there is room for those of any line.
+    bytes: Vec<u8>,
+}
+
+impl Model for Sites {
+    ghost use Rattle.std.specs.Prelude.{◌≤◌, length, vec_capacity};
+    ghost use Rattle.commands.specs.Machine.{State};
+    ghost use Rattle.script_io.specs.declared.lines.TheConstants.{MAX_LINE};
+    ghost use Rattle.script_runs.specs.declared.settings.TheConstants.{MAX_SITES};
+
+    ghost Value = { State };
+
+    ghost view = { λ s. record { first = s.first; desks = s.desks.items; sent = s.outbox } };
+
+    ghost invariant = { λ s. (length s.desks.items ≤ MAX_SITES) × (MAX_LINE ≤ vec_capacity s.bytes) };
+}
+
+// Whether a line is answered by nothing.
+fn is_silent(line: &[u8]) -> bool
+    ensures { result ≡ is_silent line.now }
+{
+    matches!(line, [] | [b'#', ..])
+}
+
+impl Sites {
+    /// The sites as a run begins. Refused `OutOfMemory` alone.
+    pub fn new(alloc: Global, first: u16, count: u16) -> Result<Sites, Refusal>
+        requires some { 0 < first }
+        requires few { count ≤ MAX_SITES }
+        requires in_range { first ≤ MAX_FIRST }
+        ensures ok { IfOk result (λ sites. sites ≡ new_state first count) }
+        ensures errors { RefusedForMemoryAlone result }
+    {
+        let bytes = Vec::with_capacity(alloc, MAX_LINE)?;
+        let mut desks = Vec::new(alloc);
+        for i in 0..count {
+            desks.push(Desk::new(alloc, SiteNo::new(first + i).unwrap())?)?;
+        }
+        Ok(Sites {
+            first,
+            desks,
+            outbox: Outbox::new(alloc),
+            bytes,
+        })
+    }
+
+    /// Answers a line of the script. Refused `WriteFault` where the writer fails.
+    pub fn answer<W: Write>(&mut self, output: &mut Output<W>, line: &[u8]) -> Result<(), Refusal>
+        ensures { (answer : List ℕ) × Puts result output.old output.new answer
+            × Answers self.old line.now answer self.new }
+    {
+        if is_silent(line) {
+            return Ok(());
+        }
+        match event_in(self.first, self.desks.len(), line) {
+            Some(event) => self.step(output, event),
+            None => put_refused(output, Refusal::BadEvent),
+        }
+    }
+
+    // Answers an event.
+    fn step<W: Write>(&mut self, output: &mut Output<W>, event: Event) -> Result<(), Refusal>
+        requires { IsInRun (length self.old.desks) event }
+        ensures { (answer : List ℕ) × Puts result output.old output.new answer
+            × Step self.old (event_of event.entry) answer self.new }
+    {
+        match event {
+            // The edit stands, and its message is in the Outbox, before the first byte of the answer goes
+            // out: the step is taken also where the writer fails.
+            Event::Edits { desk, text, edit } => {
+                let sent = self.outbox.len();
+                let outcome = self.edit(desk, text, &edit);
+                put_edit(output, &self.outbox, sent, outcome)
+            }
+            Event::Queries { desk, text, query } => match self.query(desk, text, query) {
+                Ok(lines) => put(output, &lines),
+                Err(why) => put_refused(output, why),
+            },
+        }
+    }
+
+    // Makes an edit of a desk's text.
+    fn edit(&mut self, desk: usize, text: TextNo, asked: &Edit) -> Result<u32, EditRefusal>
+        requires in_run { desk < length self.old.desks }
+        requires on_desk { text ≤ MAX_TEXT }
+        requires short { IsShort asked.now }
+        ensures { (messages : List (List ℕ))
+            × Replies self.old (edit desk text (edit_of asked.now)) (edit_reply result messages) self.new }
+    {
+        match asked {
+            Edit::TypeIn { pos, bytes } => self.type_in(desk, text, *pos, bytes),
+        }
+    }
+
+    // Types bytes of default looks.
+    fn type_in(
+        &mut self,
+        desk: usize,
+        text: TextNo,
+        pos: u64,
+        bytes: &Escaped,
+    ) -> Result<u32, EditRefusal>
+        requires in_run { desk < length self.old.desks }
+        requires on_desk { text ≤ MAX_TEXT }
+        requires short { length bytes.now ≤ MAX_INSERT }
+        ensures { (messages : List (List ℕ)) × Replies self.old
+            (edit desk text (insert_run pos plain_looks bytes.now)) (edit_reply result messages) self.new }
+    {
+        self.bytes.clear();
+        bytes.decode(&mut self.bytes);
+        self.desks[desk].type_in(text, pos, &self.bytes, &mut self.outbox)
+    }
+
+    // The lines that a query prints of a desk's text.
+    fn query(&self, desk: usize, text: TextNo, query: Query) -> Result<Vec<u8>, Refusal>
+        requires in_run { desk < length self.now.desks }
+        requires on_desk { text ≤ MAX_TEXT }
+        ensures ok { IfOk result (λ lines.
+            (t : TextState) × IsTextAt self.now desk text t × (lines.items ≡ lines_of (query_of query) t)) }
+        ensures errors { RefusedForMemoryAlone result }
+    {
+        match query {
+            Query::Text => self.desks[desk].text(text),
+        }
+    }
+}

@@ -1,6 +1,0 @@
-pub mod Printing
-pub mod Replying
-pub mod Spelling
-pub mod Traces
-pub mod Words
-pub mod WriteLemmas

@@ -1,7 +1,0 @@
-use Rattle.std.proofs.Common.{◌-◌, take, drop}
-use Rattle.std.specs.Io.KnownBytes.{Appends}
-use Rattle.site_cli.specs.Answers.{send_lines}
-use Rattle.site_cli.proofs.answers.put_sends.Given as goal
-
-abbrev pub invariant-loop-index : goal.invariant-loop-index
-invariant-loop-index g l = Appends l.fn.output.contents l.output.contents (send_lines l.from (take (l.index - l.from) (drop l.from l.outbox)))

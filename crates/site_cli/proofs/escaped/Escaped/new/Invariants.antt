@@ -1,9 +1,0 @@
-use Rattle.std.proofs.Common.{length}
-use Rattle.site_cli.proofs.Spelling.{IsCounted}
-use Rattle.site_cli.proofs.escaped.Escaped.new.Given as goal
-
-abbrev pub invariant-loop-first : goal.invariant-loop-first
-invariant-loop-first l = IsCounted l.raw l.rest l.len
-
-abbrev pub decreases-loop-first : goal.decreases-loop-first
-decreases-loop-first l = length l.rest

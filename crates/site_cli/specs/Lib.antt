@@ -1,9 +1,0 @@
-pub mod Ends
-pub mod Trace
-pub mod Lines
-pub mod Script
-pub mod Answers
-pub mod Writing
-pub mod EventView
-pub mod Parts
-pub mod Wires
