@@ -11,6 +11,7 @@ mod messages;
 mod name_sets;
 mod name_walk;
 mod names_and_buffers;
+mod registers;
 mod shown;
 mod spelled_looks;
 mod written_and_read;

@@ -5,7 +5,7 @@ use Rattle.std.proofs.Common.{Err, refl, sym, ap, subst, ◌∙◌, append_assoc
 use Rattle.std.specs.Prelude.{IfOk, IsErrOf}
 use Rattle.std.specs.Int.{w16, w32, w64}
 use Rattle.std.proofs.lemmas.Bool.{and_parts, and_from, ltb-true, lt-ltb, leb-true, le-leb, eqb-true}
-use Rattle.std.proofs.lemmas.Bool.{eqb-false, ne_eqb}
+use Rattle.std.proofs.lemmas.Bool.{eqb-false, ne_eqb, eq-eqb}
 use Rattle.std.proofs.lemmas.List.{append-nil, nil_from_length}
 use Rattle.looks.specs.declared.refusal.Refusal.{Refusal}
 use Rattle.looks.specs.declared.refusal.Refusal.TheVariants.{Malformed}
@@ -18,13 +18,15 @@ use Rattle.char_files.specs.declared.TheConstants.{MAX_FILE}
 use Rattle.operations.specs.declared.kind.TheConstants.{MAX_INSERT}
 use Rattle.operations.specs.declared.op.TheConstants.{MAX_STAMP}
 use Rattle.operations.specs.NameSet.{Range, IsNamed}
-use Rattle.operations.specs.Operation.{OpKind, insert, delete, change_looks, Operation}
+use Rattle.operations.specs.Operation.{OpKind, insert, delete, restore, change_looks, Operation}
 use Rattle.operations.specs.Reading.{Makes, anchor_of, anchor_at, fits_in_file, is_cause, insert_at}
-use Rattle.operations.specs.Reading.{delete_at, change_at, kind_at, tag_at, stamp_at, Header, header_at}
+use Rattle.operations.specs.Reading.{delete_at, restore_at, change_at, kind_at, tag_at, stamp_at, Header}
+use Rattle.operations.specs.Reading.{header_at}
 use Rattle.operations.specs.Reading.{operation_of, operation_at, message_of, SpellsNone}
 use Rattle.operations.specs.Spelling.{number_spelling, name_spelling, anchor_spelling, looks_spelling}
 use Rattle.operations.specs.Spelling.{selected_spelling, set_spelling, kind_byte, kind_spelling}
-use Rattle.operations.specs.Spelling.{tag_spelling, header_spelling, spelling, IsInsert, IsChange, IsKind}
+use Rattle.operations.specs.Spelling.{version_byte, tag_spelling, header_spelling, spelling, IsInsert}
+use Rattle.operations.specs.Spelling.{IsChange, IsKind}
 use Rattle.operations.specs.Spelling.{HasSpelling}
 use Rattle.operations.proofs.Fields.{is_cause_is}
 use Rattle.operations.proofs.Readers.{IsBytes, Took, Reads, step, bind_some, some_is, passed, front_bytes}
@@ -232,6 +234,24 @@ delete_again : (names : List Range) (rest : List ℕ) → IsNamed names
 unfolding delete_at
 delete_again names rest is = rw (set_reads.again names rest is) refl
 
+restore_takes : (site : ℕ) (bytes : List ℕ) (kind : OpKind) (rest : List ℕ) → IsBytes bytes → restore_at bytes
+    ≡ Some (kind, rest) → Took kind_spelling (IsOfKind 4 site) bytes kind rest
+unfolding restore_at
+restore_takes site bytes kind rest fits e =
+    let s = step _ _ _ set_reads _ bytes (kind, rest) fits e in
+    subst (λ (p : OpKind × List ℕ). Took kind_spelling (IsOfKind 4 site) bytes p.0 p.1)
+    (some_is _ _ s.goes_on)
+    (record {
+      parts = s.took.parts;
+      rest_fits = s.took.rest_fits;
+      in_range = record { number_is = refl; is = s.took.in_range };
+    })
+
+restore_again : (names : List Range) (rest : List ℕ) → IsNamed names
+    → restore_at (kind_spelling (restore names) ++ rest) ≡ Some (restore names, rest)
+unfolding restore_at
+restore_again names rest is = rw (set_reads.again names rest is) refl
+
 change_split : (sel : Selection) (looks : Looks) (names : List Range) (rest : List ℕ)
     → kind_spelling (change_looks sel looks names) ++ rest ≡ sel_spelling sel
     ++ (selected_spelling sel looks ++ (set_spelling names ++ rest))
@@ -280,15 +300,24 @@ kind_takes : (number site : ℕ) (bytes : List ℕ) (kind : OpKind) (rest : List
 unfolding kind_at
 kind_takes number site bytes kind rest fits e = one (eqb number 1) refl e
   where
-    three : (b : Bool) → eqb number 3 ≡ b → cond b (change_at bytes) None ≡ Some (kind, rest)
+    four : (b : Bool) → eqb number 4 ≡ b → cond b (restore_at bytes) None ≡ Some (kind, rest)
+        → Took kind_spelling (IsOfKind number site) bytes kind rest
+    four true is h =
+        subst (λ (n : ℕ). Took kind_spelling (IsOfKind n site) bytes kind rest) (sym (eqb-true number 4 is))
+        (restore_takes site bytes kind rest fits h)
+    four false is h = absurd cc
+
+    three : (b : Bool) → eqb number 3 ≡ b
+        → cond b (change_at bytes) (cond (eqb number 4) (restore_at bytes) None) ≡ Some (kind, rest)
         → Took kind_spelling (IsOfKind number site) bytes kind rest
     three true is h =
         subst (λ (n : ℕ). Took kind_spelling (IsOfKind n site) bytes kind rest) (sym (eqb-true number 3 is))
         (change_takes site bytes kind rest fits h)
-    three false is h = absurd cc
+    three false is h = four (eqb number 4) refl h
 
     two : (b : Bool) → eqb number 2 ≡ b
-        → cond b (delete_at bytes) (cond (eqb number 3) (change_at bytes) None) ≡ Some (kind, rest)
+        → cond b (delete_at bytes) (cond (eqb number 3) (change_at bytes)
+        (cond (eqb number 4) (restore_at bytes) None)) ≡ Some (kind, rest)
         → Took kind_spelling (IsOfKind number site) bytes kind rest
     two true is h =
         subst (λ (n : ℕ). Took kind_spelling (IsOfKind n site) bytes kind rest) (sym (eqb-true number 2 is))
@@ -297,7 +326,8 @@ kind_takes number site bytes kind rest fits e = one (eqb number 1) refl e
 
     one : (b : Bool) → eqb number 1 ≡ b
         → cond b (insert_at site bytes) (cond (eqb number 2) (delete_at bytes)
-        (cond (eqb number 3) (change_at bytes) None)) ≡ Some (kind, rest)
+        (cond (eqb number 3) (change_at bytes) (cond (eqb number 4) (restore_at bytes) None)))
+        ≡ Some (kind, rest)
         → Took kind_spelling (IsOfKind number site) bytes kind rest
     one true is h =
         subst (λ (n : ℕ). Took kind_spelling (IsOfKind n site) bytes kind rest) (sym (eqb-true number 1 is))
@@ -309,6 +339,7 @@ kind_again : (site : ℕ) (kind : OpKind) (rest : List ℕ) → IsKind site kind
 unfolding kind_at
 kind_again site (insert cause at looks bytes) rest is = insert_again site cause at looks bytes rest is
 kind_again site (delete names) rest is = delete_again names rest is
+kind_again site (restore names) rest is = restore_again names rest is
 kind_again site (change_looks sel looks names) rest is = change_again sel looks names rest is
 
 kind_reads : (number site : ℕ) → Reads (kind_at number site) kind_spelling (IsOfKind number site)
@@ -331,12 +362,12 @@ tag_takes (o ∷ []) kind rest fits e = absurd cc
 tag_takes (o ∷ t ∷ []) kind rest fits e = absurd cc
 tag_takes (o ∷ t ∷ version ∷ []) kind rest fits e = absurd cc
 tag_takes (o ∷ t ∷ version ∷ k ∷ bytes) kind rest fits e =
-    let g = passed (eqb o 79 && eqb t 84 && eqb version 1) (k, bytes) (kind, rest) e in
-    let last = and_parts (eqb o 79 && eqb t 84) (eqb version 1) g.0 in
+    let g = passed (eqb o 79 && eqb t 84 && eqb version (version_byte k)) (k, bytes) (kind, rest) e in
+    let last = and_parts (eqb o 79 && eqb t 84) (eqb version (version_byte k)) g.0 in
     let front = and_parts (eqb o 79) (eqb t 84) last.0 in
     let o-is : o ≡ 79 = eqb-true _ _ front.0 in
     let t-is : t ≡ 84 = eqb-true _ _ front.1 in
-    let version-is : version ≡ 1 = eqb-true _ _ last.1 in
+    let version-is : version ≡ version_byte k = eqb-true _ _ last.1 in
     subst (λ (p : ℕ × List ℕ). Took tag_spelling IsAny (o ∷ t ∷ version ∷ k ∷ bytes) p.0 p.1) g.1
     (record {
       parts = rw (o-is, t-is, version-is) refl;
@@ -347,7 +378,10 @@ tag_takes (o ∷ t ∷ version ∷ k ∷ bytes) kind rest fits e =
 
 tag_reads : Reads tag_at tag_spelling IsAny
 unfolding tag_spelling
-tag_reads = record { takes = tag_takes; again = λ kind rest h. refl }
+tag_reads = record {
+  takes = tag_takes;
+  again = λ kind rest h. rw (eq-eqb (version_byte kind) (version_byte kind) refl) refl;
+}
 
 abbrev IsStamp : ℕ → Type 0
 IsStamp stamp = (0 < stamp) × (stamp ≤ MAX_STAMP)

@@ -3,7 +3,7 @@ use Rattle.operations.specs.declared.reading.Header.{Header as HeaderRead}
 use Rattle.operations.specs.declared.reading.Parts.{Parts}
 use Rattle.operations.specs.declared.reading.Parts.TheVariants as parts
 use Rattle.operations.specs.NameSet.{IsNamed}
-use Rattle.operations.specs.Operation.{OpKind, insert, delete, change_looks}
+use Rattle.operations.specs.Operation.{OpKind, insert, delete, restore, change_looks}
 use Rattle.operations.specs.Reading.{Header}
 
 -- a header
@@ -14,10 +14,12 @@ view_header h = record { kind = h.kind; text = h.text; site = h.site; seq = h.se
 abbrev pub view_parts : Parts → OpKind
 view_parts (parts.Insert cause at looks bytes) = insert cause at looks bytes.now
 view_parts (parts.Delete names) = delete names.items
+view_parts (parts.Restore names) = restore names.items
 view_parts (parts.ChangeLooks sel looks names) = change_looks sel looks names.items
 
 -- what is named is what a message may name
 abbrev pub NamesFew : OpKind → Type 0
 NamesFew (insert cause at looks bytes) = Unit {0}
 NamesFew (delete names) = IsNamed names
+NamesFew (restore names) = IsNamed names
 NamesFew (change_looks sel looks names) = IsNamed names

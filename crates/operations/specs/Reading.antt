@@ -22,8 +22,8 @@ use Rattle.operations.specs.declared.kind.TheConstants.{MAX_INSERT}
 use Rattle.operations.specs.declared.name_set.TheConstants.{MAX_RANGES}
 use Rattle.operations.specs.declared.op.TheConstants.{MAX_STAMP}
 use Rattle.operations.specs.NameSet.{Range, is_ahead}
-use Rattle.operations.specs.Operation.{OpKind, insert, delete, change_looks, Operation}
-use Rattle.operations.specs.Spelling.{HasSpelling, spelling}
+use Rattle.operations.specs.Operation.{OpKind, insert, delete, restore, change_looks, Operation}
+use Rattle.operations.specs.Spelling.{HasSpelling, version_byte, spelling}
 
 infixl 10 ◌>>=◌
 -- the next step, where this one found a value
@@ -202,6 +202,12 @@ delete_at bytes = do
   names ← set_at bytes
   Some (delete names.0, names.1)
 
+-- what a Restore has to itself
+unfoldable pub restore_at : List ℕ → Option (OpKind × List ℕ)
+restore_at bytes = do
+  names ← set_at bytes
+  Some (restore names.0, names.1)
+
 -- what a ChangeLooks has to itself
 unfoldable pub change_at : List ℕ → Option (OpKind × List ℕ)
 change_at bytes = do
@@ -215,12 +221,13 @@ unfoldable pub kind_at : (kind site : ℕ) → List ℕ → Option (OpKind × Li
 kind_at kind site bytes =
     if kind == 1 then insert_at site bytes
     else (if kind == 2 then delete_at bytes
-    else (if kind == 3 then change_at bytes else None))
+    else (if kind == 3 then change_at bytes
+    else (if kind == 4 then restore_at bytes else None)))
 
--- the letters OT, the version 1, and the number of the kind
+-- the letters OT, the version of the kind, and its number
 abbrev pub tag_at : List ℕ → Option (ℕ × List ℕ)
 tag_at (o ∷ t ∷ version ∷ kind ∷ rest) =
-    if o == 79 && t == 84 && version == 1 then Some (kind, rest) else None
+    if o == 79 && t == 84 && version == version_byte kind then Some (kind, rest) else None
 tag_at bytes = None
 
 -- a stamp, 1 to 2^48 - 1

@@ -1,6 +1,6 @@
 -- The one spelling of an operation, field by field, and which operations have one.
 use Rattle.std.specs.Prelude.{◌≡◌, ℕ, ℤ, ◌+◌, ◌^◌, ◌<◌, ◌≤◌, List, [], ◌∷◌, ◌++◌, length, if◌then◌else◌}
-use Rattle.std.specs.Prelude.{All, false}
+use Rattle.std.specs.Prelude.{◌==◌, All, false}
 use Rattle.std.specs.Int.{Width, w8, w16, w32, w64, to_be_bytes, cast_unsigned}
 use Rattle.std.specs.List.{flat_map}
 use Rattle.looks.specs.declared.looks.Looks.{Looks}
@@ -13,7 +13,7 @@ use Rattle.char_files.specs.declared.name.Anchor.TheVariants.{Root, At}
 use Rattle.operations.specs.declared.kind.TheConstants.{MAX_INSERT}
 use Rattle.operations.specs.declared.op.TheConstants.{MAX_STAMP}
 use Rattle.operations.specs.NameSet.{Range, IsNamed}
-use Rattle.operations.specs.Operation.{OpKind, insert, delete, change_looks, Operation}
+use Rattle.operations.specs.Operation.{OpKind, insert, delete, restore, change_looks, Operation}
 
 -- a number in as many bytes as its width has, the highest first
 unfoldable pub number_spelling : Width → ℕ → List ℕ
@@ -58,6 +58,7 @@ set_spelling names = number_spelling w16 (length names) ++ flat_map range_spelli
 abbrev pub kind_byte : OpKind → ℕ
 kind_byte (insert cause at looks bytes) = 1
 kind_byte (delete names) = 2
+kind_byte (restore names) = 4
 kind_byte (change_looks sel looks names) = 3
 
 -- what the kinds have each to themselves
@@ -66,11 +67,16 @@ kind_spelling (insert cause at looks bytes) =
     anchor_spelling cause ++ number_spelling w32 at ++ looks_spelling looks
     ++ number_spelling w16 (length bytes) ++ bytes
 kind_spelling (delete names) = set_spelling names
+kind_spelling (restore names) = set_spelling names
 kind_spelling (change_looks sel looks names) = bits_of sel ∷ selected_spelling sel looks ++ set_spelling names
 
--- the letters OT, the version 1, and the number of the kind
+-- the version of the messages of this kind: a Restore came with version 2
+abbrev pub version_byte : ℕ → ℕ
+version_byte kind = if kind == 4 then 2 else 1
+
+-- the letters OT, the version of the kind, and its number
 unfoldable pub tag_spelling : ℕ → List ℕ
-tag_spelling kind = 79 ∷ 84 ∷ 1 ∷ kind ∷ []
+tag_spelling kind = 79 ∷ 84 ∷ version_byte kind ∷ kind ∷ []
 
 -- what all messages begin with: the tag, the text, the identity, the stamp
 abbrev pub header_spelling : (kind text site seq stamp : ℕ) → List ℕ
@@ -114,6 +120,7 @@ pub record IsChange (sel : Selection) (looks : Looks) (names : List Range) : Typ
 abbrev pub IsKind : ℕ → OpKind → Type 0
 IsKind site (insert cause at looks bytes) = IsInsert site cause at looks bytes
 IsKind site (delete names) = IsNamed names
+IsKind site (restore names) = IsNamed names
 IsKind site (change_looks sel looks names) = IsChange sel looks names
 
 -- the operations that have a spelling

@@ -1,6 +1,7 @@
 ghost use Rattle.std.specs.Prelude.{◌≡◌, ◌+◌, ◌<◌, ◌≤◌, ◌↔◌, IsTrue, IfOk};
 ghost use Rattle.looks.specs.Refusal.{RefusedForMemoryAlone};
 ghost use Rattle.operations.specs.Spelling.{IsKind, IsInsert, IsCause, IsChange, IsPlainElsewhere, kind_byte};
+ghost use Rattle.operations.specs.Spelling.{version_byte};
 ghost use Rattle.operations.specs.NameSet.{IsNamed};
 ghost use Rattle.operations.specs.Seen.{kind_of};
 
@@ -14,6 +15,14 @@ pub(crate) const INSERT: u8 = 1;
 pub(crate) const DELETE: u8 = 2;
 
 pub(crate) const CHANGE_LOOKS: u8 = 3;
+
+pub(crate) const RESTORE: u8 = 4;
+
+// The version of the messages.
+const VERSION: u8 = 1;
+
+// The version of a Restore's message, which a reader of version 1 refuses.
+const RESTORE_VERSION: u8 = 2;
 
 /// The most bytes that one Insert may have. This project's own.
 pub const MAX_INSERT: usize = 4096;
@@ -36,6 +45,11 @@ pub enum Kind {
         /// One name at least.
         names: NameSet,
     },
+    /// Shows characters again that a Delete of smaller key hides.
+    Restore {
+        /// One name at least.
+        names: NameSet,
+    },
     /// Sets some attributes of characters' looks (Project Oberon, chapter 5, ChangeLooks).
     ChangeLooks {
         sel: Sel,
@@ -44,6 +58,17 @@ pub enum Kind {
         /// One name at least.
         names: NameSet,
     },
+}
+
+// The version of a message of the kind of this number.
+pub(crate) fn version_of(kind: u8) -> u8
+    ensures { result ≡ version_byte kind }
+{
+    if kind == RESTORE {
+        RESTORE_VERSION
+    } else {
+        VERSION
+    }
 }
 
 // Whether an Insert of this site, whose file has `at` bytes, may have this cause.
@@ -112,7 +137,7 @@ impl Kind {
                 looks,
                 bytes,
             } => is_insert(site, *cause, *at, looks, bytes),
-            Kind::Delete { names } => is_named(names),
+            Kind::Delete { names } | Kind::Restore { names } => is_named(names),
             Kind::ChangeLooks { sel, looks, names } => is_change(*sel, looks, names),
         }
     }
@@ -135,6 +160,9 @@ impl Kind {
                 bytes: Vec::from_slice(*bytes.allocator(), bytes)?,
             },
             Kind::Delete { names } => Kind::Delete {
+                names: names.copy()?,
+            },
+            Kind::Restore { names } => Kind::Restore {
                 names: names.copy()?,
             },
             Kind::ChangeLooks { sel, looks, names } => Kind::ChangeLooks {
@@ -169,7 +197,8 @@ impl Kind {
                     && *looks == *other_looks
                     && bytes.as_slice() == other_bytes.as_slice()
             }
-            (Kind::Delete { names }, Kind::Delete { names: other_names }) => {
+            (Kind::Delete { names }, Kind::Delete { names: other_names })
+            | (Kind::Restore { names }, Kind::Restore { names: other_names }) => {
                 names.is_same(other_names)
             }
             (
@@ -191,6 +220,7 @@ impl Kind {
         match self {
             Kind::Insert { .. } => INSERT,
             Kind::Delete { .. } => DELETE,
+            Kind::Restore { .. } => RESTORE,
             Kind::ChangeLooks { .. } => CHANGE_LOOKS,
         }
     }

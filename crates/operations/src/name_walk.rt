@@ -68,9 +68,10 @@ pub fn named(op: &Op) -> NameWalk<'_>
             },
             ranges: &[],
         },
-        Kind::Delete { names } | Kind::ChangeLooks { names, .. } => NameWalk {
-            range: None,
-            ranges: names.ranges(),
-        },
+        Kind::Delete { names } | Kind::Restore { names } | Kind::ChangeLooks { names, .. } =>
+            NameWalk {
+                range: None,
+                ranges: names.ranges(),
+            },
     }
 }

@@ -6,8 +6,8 @@ ghost use Rattle.looks.specs.Refusal.{RefusedForMemoryAlone};
 ghost use Rattle.operations.specs.Operation.{Operation};
 ghost use Rattle.operations.specs.Spelling.{HasSpelling, looks_spelling, spelling};
 ghost use Rattle.operations.specs.Reading.{Finds, Makes, looks_len_at, fits_in_file, is_cause, insert_at};
-ghost use Rattle.operations.specs.Reading.{delete_at, change_at, kind_at, tag_at, stamp_at, header_at};
-ghost use Rattle.operations.specs.Reading.{operation_of, operation_at, message_of, SpellsNone};
+ghost use Rattle.operations.specs.Reading.{delete_at, restore_at, change_at, kind_at, tag_at, stamp_at};
+ghost use Rattle.operations.specs.Reading.{header_at, operation_of, operation_at, message_of, SpellsNone};
 ghost use Rattle.operations.specs.Reading.{NoneBeginsAnother, NoneIsShared};
 ghost use Rattle.operations.specs.Parts.{view_header, view_parts, NamesFew};
 ghost use Rattle.operations.specs.Seen.{kind_of};
@@ -15,10 +15,11 @@ ghost use Rattle.operations.specs.Seen.{kind_of};
 mod fields;
 mod sets;
 
-use crate::kind::{CHANGE_LOOKS, DELETE, INSERT, Kind, fits_in_file, is_cause};
+use crate::kind::{
+    CHANGE_LOOKS, DELETE, INSERT, Kind, RESTORE, fits_in_file, is_cause, version_of,
+};
 use crate::name_set::NameSet;
 use crate::op::{MAX_STAMP, Op};
-use crate::writing::VERSION;
 use char_files::{Anchor, SiteNo, TextNo};
 use fields::{
     anchor_at, looks_at, positive_u32_at, positive_u64_at, sel_at, selected_at, site_at,
@@ -48,6 +49,9 @@ enum Parts<'a> {
         bytes: &'a [u8],
     },
     Delete {
+        names: Ranges,
+    },
+    Restore {
         names: Ranges,
     },
     ChangeLooks {
@@ -97,6 +101,14 @@ fn delete_at(bytes: &[u8]) -> Option<(Parts<'_>, &[u8])>
     Some((Parts::Delete { names }, rest))
 }
 
+#[tactic(auto, unfolding(crate::specs::Reading::restore_at))]
+fn restore_at(bytes: &[u8]) -> Option<(Parts<'_>, &[u8])>
+    ensures { Finds (λ x. (view_parts x.0, x.1.now)) result (restore_at bytes.now) }
+{
+    let (names, rest) = set_at(bytes)?;
+    Some((Parts::Restore { names }, rest))
+}
+
 #[tactic(auto, unfolding(crate::specs::Reading::change_at))]
 fn change_at(bytes: &[u8]) -> Option<(Parts<'_>, &[u8])>
     ensures { Finds (λ x. (view_parts x.0, x.1.now)) result (change_at bytes.now) }
@@ -121,16 +133,19 @@ fn parts_at(kind: u8, site: SiteNo, bytes: &[u8]) -> Option<(Parts<'_>, &[u8])>
         INSERT => insert_at(site, bytes),
         DELETE => delete_at(bytes),
         CHANGE_LOOKS => change_at(bytes),
+        RESTORE => restore_at(bytes),
         _ => None,
     }
 }
 
-// The number of the kind, behind what tells a message of this version.
+// The number of the kind, behind what tells a message and the kind's version.
 fn tag_at(bytes: &[u8]) -> Option<(u8, &[u8])>
     ensures { Finds (λ x. (x.0, x.1.now)) result (tag_at bytes.now) }
 {
     match bytes {
-        [b'O', b'T', VERSION, kind, rest @ ..] => Some((*kind, rest)),
+        [b'O', b'T', version, kind, rest @ ..] if *version == version_of(*kind) => {
+            Some((*kind, rest))
+        }
         _ => None,
     }
 }
@@ -205,6 +220,9 @@ fn kind_from(alloc: Global, parts: Parts<'_>) -> Result<Kind, Refusal>
             bytes: Vec::from_slice(alloc, bytes)?,
         },
         Parts::Delete { names } => Kind::Delete {
+            names: NameSet::of_ranges(alloc, names.as_slice())?,
+        },
+        Parts::Restore { names } => Kind::Restore {
             names: NameSet::of_ranges(alloc, names.as_slice())?,
         },
         Parts::ChangeLooks { sel, looks, names } => Kind::ChangeLooks {

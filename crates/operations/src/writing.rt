@@ -9,16 +9,13 @@ ghost use Rattle.operations.specs.Spelling.{header_spelling, spelling};
 ghost use Rattle.operations.specs.Seen.{Appends};
 ghost use Rattle.operations.specs.Operation.{insert, change_looks};
 
-use crate::kind::{Kind, MAX_INSERT};
+use crate::kind::{Kind, MAX_INSERT, version_of};
 use crate::name_set::{NameRange, NameSet};
 use crate::op::Op;
 use byteorder::{BigEndian, ByteOrder};
 use char_files::Anchor;
 use looks::{FontName, Looks, Refusal, Sel};
 use std::alloc::AllocError;
-
-// The version of the messages.
-pub(crate) const VERSION: u8 = 1;
 
 #[tactic(auto, unfolding(crate::specs::Spelling::number_spelling))]
 fn put_u16(out: &mut Vec<u8>, number: u16) -> Result<(), AllocError>
@@ -161,7 +158,7 @@ fn put_kind(out: &mut Vec<u8>, op: &Op) -> Result<(), AllocError>
             looks,
             bytes,
         } => put_insert(out, *cause, *at, looks, bytes),
-        Kind::Delete { names } => put_names(out, names),
+        Kind::Delete { names } | Kind::Restore { names } => put_names(out, names),
         Kind::ChangeLooks { sel, looks, names } => put_change(out, *sel, looks, names),
     }
 }
@@ -170,7 +167,7 @@ fn put_kind(out: &mut Vec<u8>, op: &Op) -> Result<(), AllocError>
 fn put_tag(out: &mut Vec<u8>, kind: u8) -> Result<(), AllocError>
     ensures { Appends result out.old.items out.new.items (tag_spelling kind) }
 {
-    out.extend_from_slice(&[b'O', b'T', VERSION, kind])
+    out.extend_from_slice(&[b'O', b'T', version_of(kind), kind])
 }
 
 // What every message begins with.

@@ -3,7 +3,7 @@ use Rattle.std.specs.Prelude.{◌≡◌, ℕ, ◌<◌, ◌≤◌, List, Bool, tr
 use Rattle.char_files.specs.CharName.{CharName}
 use Rattle.char_files.specs.declared.TheConstants.{MAX_FILE}
 use Rattle.char_files.specs.declared.character.Char.{Char}
-use Rattle.operations.specs.Operation.{Operation, OpKind, insert, delete, change_looks}
+use Rattle.operations.specs.Operation.{Operation, OpKind, insert, delete, restore, change_looks}
 use Rattle.operations.specs.declared.op.TheConstants.{MAX_STAMP}
 use Rattle.texts.specs.Fronts.{front_of, greatest_stamp, file_len_of}
 use Rattle.texts.specs.declared.site_counts.SiteCounts.{SiteCounts}
@@ -18,6 +18,7 @@ pub record AreCountsOf (site : ℕ) (ops : List Operation) (counts : SiteCounts)
 abbrev pub is_insert : OpKind → Bool
 is_insert (insert cause at looks bytes) = true
 is_insert (delete names) = false
+is_insert (restore names) = false
 is_insert (change_looks sel looks names) = false
 
 -- whether the character has this name

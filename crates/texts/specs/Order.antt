@@ -7,7 +7,7 @@ use Rattle.char_files.specs.declared.character.Char.{Char}
 use Rattle.char_files.specs.declared.name.Anchor.{Anchor}
 use Rattle.char_files.specs.declared.name.Anchor.TheVariants.{Root, At}
 use Rattle.operations.specs.NameSet.{Range, range_contains}
-use Rattle.operations.specs.Operation.{Operation, OpKind, insert, delete, change_looks}
+use Rattle.operations.specs.Operation.{Operation, OpKind, insert, delete, restore, change_looks}
 use Rattle.tree_order.specs.Shown.{up_to}
 
 -- the first n, the run, the rest
@@ -40,12 +40,13 @@ with_looks sel looks names c =
     if list_any (λ r. range_contains r c.name) names
     then record c { looks = with_selected sel looks c.looks } else c
 
--- an Insert's run stands directly behind its cause; a Delete hides, and moves nothing; a ChangeLooks gives
--- looks to those that it names
+-- an Insert's run stands directly behind its cause; a Delete hides, a Restore shows again, and neither moves
+-- anything; a ChangeLooks gives looks to those that it names
 abbrev pub order_by : OpKind → ℕ → List Char → List Char
 order_by (insert cause at looks bytes) site order =
     put order (count_to order cause) (chars_of site at looks bytes)
 order_by (delete names) site order = order
+order_by (restore names) site order = order
 order_by (change_looks sel looks names) site order = map (with_looks sel looks names) order
 
 -- all characters in order, after one more operation of the site itself

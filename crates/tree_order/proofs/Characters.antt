@@ -6,7 +6,8 @@ use Rattle.std.proofs.lemmas.List.Elements.{Contains-append_left, Contains-appen
 use Rattle.std.proofs.lemmas.List.Elements.{Contains-append_cases}
 use Rattle.char_files.specs.CharName.{CharName}
 use Rattle.operations.specs.NameSet.{IsIn}
-use Rattle.operations.specs.Operation.{Operation, OpKind, insert, delete, change_looks, Inserts, InsertsBy}
+use Rattle.operations.specs.Operation.{Operation, OpKind, insert, delete, restore, change_looks, Inserts}
+use Rattle.operations.specs.Operation.{InsertsBy}
 use Rattle.tree_order.specs.Tree.{IsChar}
 use Rattle.tree_order.proofs.Files.{same_name}
 use Rattle.tree_order.proofs.Sorted.{Contains-head, Contains-tail, Contains-cons_cases}
@@ -45,6 +46,7 @@ in_stretch site at (suc len) c (on, from, to) =
 abbrev inserted_names : ℕ → OpKind → List CharName
 inserted_names site (insert cause at looks bytes) = stretch site at (length bytes)
 inserted_names site (delete names) = []
+inserted_names site (restore names) = []
 inserted_names site (change_looks sel looks names) = []
 
 -- that is what it says of itself
@@ -52,12 +54,14 @@ inserted_by : (site : ℕ) (kind : OpKind) (c : CharName) → Contains (inserted
     → InsertsBy site kind c
 inserted_by site (insert cause at looks bytes) c h = stretch_in site at (length bytes) c h
 inserted_by site (delete names) c h = omega arith
+inserted_by site (restore names) c h = omega arith
 inserted_by site (change_looks sel looks names) c h = omega arith
 
 by_inserted : (site : ℕ) (kind : OpKind) (c : CharName) → InsertsBy site kind c
     → Contains (inserted_names site kind) c
 by_inserted site (insert cause at looks bytes) c h = in_stretch site at (length bytes) c h
 by_inserted site (delete names) c h = absurd h
+by_inserted site (restore names) c h = absurd h
 by_inserted site (change_looks sel looks names) c h = absurd h
 
 -- what the operations insert

@@ -8,7 +8,7 @@ use Rattle.looks.specs.declared.looks.Looks.{Looks}
 use Rattle.char_files.specs.CharName.{CharName}
 use Rattle.char_files.specs.declared.name.Anchor.{Anchor}
 use Rattle.char_files.specs.declared.name.Anchor.TheVariants.{Root, At}
-use Rattle.operations.specs.Operation.{Operation, OpKind, insert, delete, change_looks, appended_len}
+use Rattle.operations.specs.Operation.{Operation, OpKind, insert, delete, restore, change_looks, appended_len}
 use Rattle.operations.specs.Operation.{InsertsBy, MentionsBy, Mentions}
 use Rattle.tree_order.specs.Good.{Good, Begins, appended_len_at, file_before}
 use Rattle.tree_order.specs.Tree.{IsInsertOf, parent_by}
@@ -75,6 +75,7 @@ parts_by i c (insert cause at looks bytes) is h = record {
   below = h.2;
 }
 parts_by i c (delete names) is h = absurd h
+parts_by i c (restore names) is h = absurd h
 parts_by i c (change_looks sel looks names) is h = absurd h
 
 -- the character stands in the stretch of the site's file that the operation appends

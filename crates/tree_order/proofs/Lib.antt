@@ -4,8 +4,11 @@ pub mod Each
 pub mod Files
 pub mod GoodParts
 pub mod LastLemmas
+pub mod Offers
 pub mod OneText
 pub mod Paths
+pub mod RegisterLists
+pub mod RegistersTell
 pub mod Runs
 pub mod SameSet
 pub mod ShownLemmas
@@ -15,3 +18,4 @@ pub mod SortedPathsLemmas
 pub mod Trails
 pub mod Tree
 pub mod Turns
+pub mod Visibility

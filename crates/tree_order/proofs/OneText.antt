@@ -12,7 +12,8 @@ use Rattle.operations.specs.Operation.{Operation}
 use Rattle.tree_order.specs.Good.{Good}
 use Rattle.tree_order.specs.Tree.{HasByte, byte_by}
 use Rattle.tree_order.specs.Order.{IsOrder}
-use Rattle.tree_order.specs.Looks.{HasLooks, IsLastToSet, looks_by}
+use Rattle.tree_order.specs.Last.{IsLast}
+use Rattle.tree_order.specs.Looks.{HasLooks, IsLastToSet, Sets, looks_by}
 use Rattle.tree_order.specs.Shown.{IsShown, IsPlace, is_visible, place}
 use Rattle.tree_order.specs.Laws.{ShowsOneText}
 use Rattle.tree_order.proofs.Before.{has_order}
@@ -47,7 +48,7 @@ HasOwnLooks ops s = HasLooks ops s.name s.looks
 
 module _ (ops : List Operation) (good : Good ops) where
   -- two orders are one list
-  one_order : (order other : List CharName) → IsOrder ops order → IsOrder ops other → order ≡ other
+  pub one_order : (order other : List CharName) → IsOrder ops order → IsOrder ops other → order ≡ other
   one_order order other is is' =
       (has_order ops good).only order is ∙ sym ((has_order ops good).only other is')
 
@@ -56,10 +57,9 @@ module _ (ops : List Operation) (good : Good ops) where
   one_byte c m n (i, p, e) (j, q, f) =
       e ∙ ap (λ (o : Operation). byte_by o.kind c) (one_insert ops good c i j p q) ∙ sym f
 
-  -- one operation is the last to set an attribute: of two each has the greatest key
-  one_last : (selects : Selection → Bool) (c : CharName) (a b : Operation) → IsLastToSet ops selects c a
-      → IsLastToSet ops selects c b → a ≡ b
-  one_last selects c a b p q =
+  -- one operation is the last to set something: of two each has the greatest key
+  pub one_last : (Sets : Operation → Type 0) (a b : Operation) → IsLast Sets ops a → IsLast Sets ops b → a ≡ b
+  one_last Sets a b p q =
       elim (keys_order a b) [
         | inl same ↦ same_operation ops good a b p.held q.held same.0 same.1
         | inr differ ↦ elim differ [
@@ -73,10 +73,10 @@ module _ (ops : List Operation) (good : Good ops) where
       → (op : Operation) × IsLastToSet ops selects c op × (v ≡ value (looks_by op.kind))
       → (op : Operation) × IsLastToSet ops selects c op × (w ≡ value (looks_by op.kind)) → v ≡ w
   one_value value selects c v w (a, p, e) (b, q, f) =
-      e ∙ ap (λ (o : Operation). value (looks_by o.kind)) (one_last selects c a b p q) ∙ sym f
+      e ∙ ap (λ (o : Operation). value (looks_by o.kind)) (one_last (λ o. Sets o selects c) a b p q) ∙ sym f
 
   -- a character has one looks
-  one_looks : (c : CharName) (l m : Looks) → HasLooks ops c l → HasLooks ops c m → l ≡ m
+  pub one_looks : (c : CharName) (l m : Looks) → HasLooks ops c l → HasLooks ops c m → l ≡ m
   one_looks c l m p q =
       let font : l.font ≡ m.font =
       one_value (λ (k : Looks). k.font) (λ s. s.font) c l.font m.font p.font q.font in

@@ -3,7 +3,7 @@ use Rattle.std.proofs.Common.{◌≡◌, ℕ, ◌+◌, ◌-◌, inl, inr, false,
 use Rattle.std.proofs.Common.{arith}
 use Rattle.char_files.specs.CharName.{CharName}
 use Rattle.char_files.specs.declared.name.Anchor.TheVariants.{Root, At}
-use Rattle.operations.specs.Operation.{Operation, OpKind, insert, delete, change_looks, InsertsBy}
+use Rattle.operations.specs.Operation.{Operation, OpKind, insert, delete, restore, change_looks, InsertsBy}
 use Rattle.tree_order.specs.Good.{Good}
 use Rattle.tree_order.specs.Tree.{IsParent, IsPath, IsDescendant, parent_by}
 use Rattle.tree_order.specs.Order.{Before}
@@ -23,6 +23,7 @@ next_hangs site (insert cause at looks bytes) c d h k next =
     same_name c (record { site = d.site; off = d.off - 1 }) (omega arith) (omega arith) in
     rw later (ap At same)
 next_hangs site (delete names) c d h k next = absurd h
+next_hangs site (restore names) c d h k next = absurd h
 next_hangs site (change_looks sel looks names) c d h k next = absurd h
 
 -- what stands between a character and one that hangs on it is a descendant of the former

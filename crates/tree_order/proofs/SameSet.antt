@@ -7,6 +7,7 @@ use Rattle.std.proofs.lemmas.Bool.{and_parts, cases_Bool, cond-false, eqb-true}
 use Rattle.std.proofs.lemmas.Bool.Decides.{same_from_decides}
 use Rattle.std.proofs.lemmas.List.Elements.{filter_agree}
 use Rattle.std.proofs.lemmas.List.Folds.{Any-from_list_any, list_any_at}
+use Rattle.looks.specs.Key.{is_below}
 use Rattle.looks.specs.Sel.{Selection}
 use Rattle.looks.specs.declared.looks.Looks.{Looks}
 use Rattle.char_files.specs.CharName.{CharName}
@@ -14,36 +15,37 @@ use Rattle.char_files.specs.declared.character.Char.{Char}
 use Rattle.char_files.specs.declared.name.Anchor.{Anchor}
 use Rattle.char_files.specs.declared.name.Anchor.TheVariants.{At}
 use Rattle.operations.specs.Operation.{Operation, appended_len}
-use Rattle.tree_order.specs.Good.{Good, Begins, appended_len_at, file_before}
+use Rattle.tree_order.specs.Good.{Good, Begins, key_of, appended_len_at, file_before}
 use Rattle.tree_order.specs.Tree.{IsChar, IsInsertOf, IsParent, IsProperPrefix, Leads, HasByte}
 use Rattle.tree_order.specs.Order.{Before, HasGreaterKey, TurnsAhead, IsOrder}
 use Rattle.tree_order.specs.Looks.{IsLastToSet, HasLooks}
-use Rattle.tree_order.specs.Shown.{IsShown, deletes_by, is_visible}
+use Rattle.tree_order.specs.Shown.{IsShown, deletes_by, restores_by, hides, is_visible}
 use Rattle.tree_order.specs.Laws.{AreSameSet, SaysTheSame}
 use Rattle.tree_order.proofs.Files.{appended_by}
+use Rattle.tree_order.proofs.ShownLemmas.{any_agree}
 use Rattle.tree_order.proofs.Sorted.{Contains-head, Contains-tail}
 
 -- each operation of one list is in the other
-abbrev Within : List Operation → List Operation → Type 0
+abbrev pub Within : List Operation → List Operation → Type 0
 Within a b = (op : Operation) → Contains a op → Contains b op
 
 -- what holds by operations that are held holds in a list that has more of them
-insert_of : (a b : List Operation) → Within a b → (c : CharName) (i : Operation) → IsInsertOf a c i
+pub insert_of : (a b : List Operation) → Within a b → (c : CharName) (i : Operation) → IsInsertOf a c i
     → IsInsertOf b c i
 insert_of a b to c i is = record { held = to i is.held; inserts = is.inserts }
 
-char : (a b : List Operation) → Within a b → (c : CharName) → IsChar a c → IsChar b c
+pub char : (a b : List Operation) → Within a b → (c : CharName) → IsChar a c → IsChar b c
 char a b to c (i, is) = (i, insert_of a b to c i is)
 
-parent : (a b : List Operation) → Within a b → (c : CharName) (x : Anchor) → IsParent a c x → IsParent b c x
+pub parent : (a b : List Operation) → Within a b → (c : CharName) (x : Anchor) → IsParent a c x → IsParent b c x
 parent a b to c x (i, is, e) = (i, insert_of a b to c i is, e)
 
-leads : (a b : List Operation) → Within a b → (x y : Anchor) (path : List CharName) → Leads a x path y
+pub leads : (a b : List Operation) → Within a b → (x y : Anchor) (path : List CharName) → Leads a x path y
     → Leads b x path y
 leads a b to x y [] e = e
 leads a b to x y (c ∷ path) (hung, rest) = (parent a b to c x hung, leads a b to (At c) y path rest)
 
-greater_key : (a b : List Operation) → Within a b → (c d : CharName) → HasGreaterKey a c d
+pub greater_key : (a b : List Operation) → Within a b → (c d : CharName) → HasGreaterKey a c d
     → HasGreaterKey b c d
 greater_key a b to c d (i, j, p, q, more) = (i, j, insert_of a b to c i p, insert_of a b to d j q, more)
 
@@ -53,7 +55,7 @@ ahead a b to p q (inl prefix) = inl prefix
 ahead a b to p q (inr (common, c, d, p', q', e, f, apart, more)) =
     inr (common, c, d, p', q', e, f, apart, greater_key a b to c d more)
 
-before : (a b : List Operation) → Within a b → (c d : CharName) → Before a c d → Before b c d
+pub before : (a b : List Operation) → Within a b → (c d : CharName) → Before a c d → Before b c d
 before a b to c d (p, q, up, uq, turn) =
     (p, q, leads a b to _ (At c) p up, leads a b to _ (At d) q uq, ahead a b to p q turn)
 
@@ -98,9 +100,11 @@ passed a b to p e =
 
 visible : (a b : List Operation) → Within a b → Within b a → (c : CharName) → is_visible a c ≡ is_visible b c
 visible a b to back c =
-    let p : Operation → Bool = λ op. deletes_by op.kind c in
-    ap not (same_from_decides (list_any p a) (list_any p b) (passed a b to p, passed b a back p)
-    (λ e. e, λ e. e))
+    let same : (p : Operation → Bool) → list_any p a ≡ list_any p b = λ p.
+    same_from_decides (list_any p a) (list_any p b) (passed a b to p, passed b a back p) (λ e. e, λ e. e) in
+    ap not (same (hides a c) ∙ any_agree (hides a c) (hides b c) (λ op.
+    ap (λ (x : Bool). deletes_by op.kind c && not x)
+    (same (λ r. restores_by r.kind c && is_below (key_of op) (key_of r)))) b)
 
 shown : (a b : List Operation) → Within a b → Within b a → (chars : List Char) → IsShown a chars
     → IsShown b chars

@@ -13,9 +13,10 @@ use Rattle.looks.specs.declared.looks.Looks.{Looks}
 use Rattle.char_files.specs.CharName.{CharName}
 use Rattle.char_files.specs.declared.character.Char.{Char}
 use Rattle.operations.specs.NameSet.{IsAmong}
-use Rattle.operations.specs.Operation.{Operation, OpKind, insert, delete, change_looks, InsertsBy}
+use Rattle.operations.specs.Operation.{Operation, OpKind, insert, delete, restore, change_looks, InsertsBy}
 use Rattle.tree_order.specs.Good.{Good, key_of}
 use Rattle.tree_order.specs.Tree.{IsChar, HasByte, byte_by}
+use Rattle.tree_order.specs.Last.{IsLast}
 use Rattle.tree_order.specs.Looks.{HasLooks, IsLastToSet, Sets, ChangesBy, looks_by}
 use Rattle.tree_order.specs.Shown.{IsShown, is_visible}
 use Rattle.tree_order.proofs.Before.{has_order}
@@ -24,7 +25,7 @@ use Rattle.tree_order.proofs.ShownLemmas.{among_is, range_contains_is}
 use Rattle.tree_order.proofs.Sorted.{Contains-head, Contains-tail, Contains-cons_cases}
 
 -- what a test tells is so, or isn't
-so_or_not : (b : Bool) (P : Type 0) → ((b ≡ true) ↔ P) → P ⊎ ¬ P
+pub so_or_not : (b : Bool) (P : Type 0) → ((b ≡ true) ↔ P) → P ⊎ ¬ P
 so_or_not b P tells =
     elim (cases_Bool b) [
       | inl e ↦ inl (tells.0 e)
@@ -32,15 +33,18 @@ so_or_not b P tells =
           (λ h. absurd (false≢true (sym e ∙ tells.1 h)))
     ]
 
-inserts_or_not : (site : ℕ) (kind : OpKind) (c : CharName) → InsertsBy site kind c ⊎ ¬ InsertsBy site kind c
+pub inserts_or_not : (site : ℕ) (kind : OpKind) (c : CharName)
+    → InsertsBy site kind c ⊎ ¬ InsertsBy site kind c
 inserts_or_not site (insert cause at looks bytes) c = let t = range_contains_is _ c in so_or_not _ _ t
 inserts_or_not site (delete names) c = inr (λ h. h)
+inserts_or_not site (restore names) c = inr (λ h. h)
 inserts_or_not site (change_looks sel looks names) c = inr (λ h. h)
 
 changes_or_not : (kind : OpKind) (selects : Selection → Bool) (c : CharName)
     → ChangesBy kind selects c ⊎ ¬ ChangesBy kind selects c
 changes_or_not (insert cause at looks bytes) selects c = inr (λ h. h)
 changes_or_not (delete names) selects c = inr (λ h. h)
+changes_or_not (restore names) selects c = inr (λ h. h)
 changes_or_not (change_looks sel looks names) selects c =
     elim (cases_Bool (selects sel)) [
       | inl e ↦ elim (so_or_not _ (IsAmong names c) (among_is names c)) [
@@ -72,84 +76,88 @@ above_lesser a b c e f = grind (arith, nat_tests)
 above_through : (a b c : Key) → is_below c a ≡ false → is_below a b ≡ false → is_below c b ≡ false
 above_through a b c e f = grind (arith, nat_tests)
 
--- of an operation and those of a list that set the attribute, this one has the greatest key
-record IsBest (ops xs : List Operation) (selects : Selection → Bool) (c : CharName) (op best : Operation) :
-    Type 0 where
+-- of an operation and those of a list that set it, this one has the greatest key
+record IsBest (Sets : Operation → Type 0) (ops xs : List Operation) (op best : Operation) : Type 0 where
   held : Contains ops best
-  sets : Sets best selects c
+  sets : Sets best
   above : is_below (key_of best) (key_of op) ≡ false
-  greatest : (other : Operation) → Contains xs other → Sets other selects c
+  greatest : (other : Operation) → Contains xs other → Sets other
       → is_below (key_of best) (key_of other) ≡ false
 
-best_of : (ops : List Operation) (selects : Selection → Bool) (c : CharName) (xs : List Operation)
-    (op : Operation)
-    → ((other : Operation) → Contains xs other → Contains ops other) → Contains ops op → Sets op selects c
-    → (best : Operation) × IsBest ops xs selects c op best
-best_of ops selects c [] op within held sets = (
-  op,
-  record {
-    held = held;
-    sets = sets;
-    above = irreflexive (key_of op);
-    greatest =
-        λ other h s. absurd (omega arith);
-  },
-)
-best_of ops selects c (x ∷ xs) op within held sets =
-    let behind : (other : Operation) → Contains xs other → Contains ops other =
-    λ other h. within other (Contains-tail x xs other h) in
-    elim (sets_or_not x selects c) [
-      | inl sets_x ↦ elim (cases_Bool (is_below (key_of op) (key_of x))) [
-        | inl more ↦
-            let (best, is) = best_of ops selects c xs x behind (within x (Contains-head x xs)) sets_x in (
-              best,
-              record {
-                held = is.held;
-                sets = is.sets;
-                above = above_lesser (key_of op) (key_of x) (key_of best) more is.above;
-                greatest = λ other h s. elim (Contains-cons_cases x xs other h) [
-                  | inl e ↦ subst (λ (o : Operation). is_below (key_of best) (key_of o) ≡ false) (sym e)
-                      is.above
-                  | inr k ↦ is.greatest other k s
-                ];
-              },
-            )
-        | inr not_more ↦
-            let (best, is) = best_of ops selects c xs op behind held sets in (
+module _ (Sets : Operation → Type 0) (sets_or_not : (op : Operation) → Sets op ⊎ ¬ Sets op)
+    (ops : List Operation) where
+  best_of : (xs : List Operation) (op : Operation)
+      → ((other : Operation) → Contains xs other → Contains ops other) → Contains ops op → Sets op
+      → (best : Operation) × IsBest Sets ops xs op best
+  best_of [] op within held sets = (
+    op,
+    record {
+      held = held;
+      sets = sets;
+      above = irreflexive (key_of op);
+      greatest = λ other h s. absurd (omega arith);
+    },
+  )
+  best_of (x ∷ xs) op within held sets =
+      let behind : (other : Operation) → Contains xs other → Contains ops other =
+      λ other h. within other (Contains-tail x xs other h) in
+      elim (sets_or_not x) [
+        | inl sets_x ↦ elim (cases_Bool (is_below (key_of op) (key_of x))) [
+          | inl more ↦
+              let (best, is) = best_of xs x behind (within x (Contains-head x xs)) sets_x in (
+                best,
+                record {
+                  held = is.held;
+                  sets = is.sets;
+                  above = above_lesser (key_of op) (key_of x) (key_of best) more is.above;
+                  greatest = λ other h s. elim (Contains-cons_cases x xs other h) [
+                    | inl e ↦ subst (λ (o : Operation). is_below (key_of best) (key_of o) ≡ false) (sym e)
+                        is.above
+                    | inr k ↦ is.greatest other k s
+                  ];
+                },
+              )
+          | inr not_more ↦
+              let (best, is) = best_of xs op behind held sets in (
+                best,
+                record {
+                  held = is.held;
+                  sets = is.sets;
+                  above = is.above;
+                  greatest = λ other h s. elim (Contains-cons_cases x xs other h) [
+                    | inl e ↦ subst (λ (o : Operation). is_below (key_of best) (key_of o) ≡ false) (sym e)
+                        (above_through (key_of op) (key_of x) (key_of best) is.above not_more)
+                    | inr k ↦ is.greatest other k s
+                  ];
+                },
+              )
+        ]
+        | inr out ↦
+            let (best, is) = best_of xs op behind held sets in (
               best,
               record {
                 held = is.held;
                 sets = is.sets;
                 above = is.above;
                 greatest = λ other h s. elim (Contains-cons_cases x xs other h) [
-                  | inl e ↦ subst (λ (o : Operation). is_below (key_of best) (key_of o) ≡ false) (sym e)
-                      (above_through (key_of op) (key_of x) (key_of best) is.above not_more)
+                  | inl e ↦ absurd (out (subst Sets e s))
                   | inr k ↦ is.greatest other k s
                 ];
               },
             )
       ]
-      | inr out ↦
-          let (best, is) = best_of ops selects c xs op behind held sets in (
-            best,
-            record {
-              held = is.held;
-              sets = is.sets;
-              above = is.above;
-              greatest = λ other h s. elim (Contains-cons_cases x xs other h) [
-                | inl e ↦ absurd (out (subst (λ (o : Operation). Sets o selects c) e s))
-                | inr k ↦ is.greatest other k s
-              ];
-            },
-          )
-    ]
+
+  -- where one of the operations sets it, one of them is the last to set it
+  pub last_of : (op : Operation) → Contains ops op → Sets op → (last : Operation) × IsLast Sets ops last
+  last_of op held sets =
+      let (best, h) = best_of ops op (λ other held. held) held sets in
+      (best, record { held = h.held; sets = h.sets; greatest = h.greatest })
 
 -- one of the operations is the last to set an attribute of a character
-has_last : (ops : List Operation) (selects : Selection → Bool) (c : CharName) → IsChar ops c
+pub has_last : (ops : List Operation) (selects : Selection → Bool) (c : CharName) → IsChar ops c
     → (op : Operation) × IsLastToSet ops selects c op
 has_last ops selects c (i, is) =
-    let (best, h) = best_of ops selects c ops i (λ other held. held) is.held (inl is.inserts) in
-    (best, record { held = h.held; sets = h.sets; greatest = h.greatest })
+    last_of (λ op. Sets op selects c) (λ op. sets_or_not op selects c) ops i is.held (inl is.inserts)
 
 -- a character has looks
 has_looks : (ops : List Operation) (c : CharName) → IsChar ops c → (looks : Looks) × HasLooks ops c looks

@@ -10,7 +10,8 @@ use Rattle.looks.specs.Key.{is_below}
 use Rattle.char_files.specs.CharName.{CharName}
 use Rattle.char_files.specs.declared.name.Anchor.{Anchor}
 use Rattle.char_files.specs.declared.name.Anchor.TheVariants.{At}
-use Rattle.operations.specs.Operation.{Operation, OpKind, insert, delete, change_looks, Inserts, InsertsBy}
+use Rattle.operations.specs.Operation.{Operation, OpKind, insert, delete, restore, change_looks, Inserts}
+use Rattle.operations.specs.Operation.{InsertsBy}
 use Rattle.operations.specs.Spelling.{HasSpelling, IsKind}
 use Rattle.tree_order.specs.Good.{Good, key_of}
 use Rattle.tree_order.specs.Tree.{IsChar, IsInsertOf, IsPath, IsProperPrefix, Leads, parent_by}
@@ -99,6 +100,7 @@ in_file_by : (site : ℕ) (kind : OpKind) (c : CharName) → IsKind site kind �
     → c.off < 2 ^ 24
 in_file_by site (insert cause at looks bytes) c valid h = omega (arith, h.2, valid.in_file)
 in_file_by site (delete names) c valid h = absurd h
+in_file_by site (restore names) c valid h = absurd h
 in_file_by site (change_looks sel looks names) c valid h = absurd h
 
 -- what a character hangs on has an Insert of a smaller stamp, or stands before it in the same Insert

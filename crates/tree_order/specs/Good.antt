@@ -3,7 +3,7 @@ use Rattle.std.specs.Prelude.{◌≡◌, ℕ, zero, suc, ◌+◌, ◌<◌, ◌�
 use Rattle.std.specs.Prelude.{Contains}
 use Rattle.looks.specs.declared.key.Key.{Key}
 use Rattle.char_files.specs.CharName.{CharName}
-use Rattle.operations.specs.Operation.{Operation, OpKind, insert, delete, change_looks, appended_len}
+use Rattle.operations.specs.Operation.{Operation, OpKind, insert, delete, restore, change_looks, appended_len}
 use Rattle.operations.specs.Operation.{Inserts, Mentions}
 
 -- the key of an operation
@@ -33,6 +33,7 @@ IsCauseOf p op = IsPredecessor p op ⊎ ((name : CharName) × Mentions op name �
 abbrev pub Begins : OpKind → ℕ → Type 0
 Begins (insert cause at looks bytes) len = at ≡ len
 Begins (delete names) len = Unit {0}
+Begins (restore names) len = Unit {0}
 Begins (change_looks sel looks names) len = Unit {0}
 
 -- what a replica can have taken in

@@ -1,5 +1,5 @@
 -- The laws of the order and of what is shown, over any list of operations that is good.
-use Rattle.std.specs.Prelude.{◌≡◌, ℕ, ◌+◌, ◌⊎◌, ◌↔◌, List, Contains}
+use Rattle.std.specs.Prelude.{◌≡◌, ℕ, ◌+◌, ◌⊎◌, ◌↔◌, true, not, List, Contains}
 use Rattle.char_files.specs.CharName.{CharName}
 use Rattle.char_files.specs.declared.character.Char.{Char}
 use Rattle.char_files.specs.declared.name.Anchor.{Anchor}
@@ -7,7 +7,7 @@ use Rattle.operations.specs.Operation.{Operation}
 use Rattle.tree_order.specs.Good.{Good, key_of}
 use Rattle.tree_order.specs.Tree.{IsChar, IsInsertOf, IsDescendant}
 use Rattle.tree_order.specs.Order.{Before, IsAheadIn, IsOrder}
-use Rattle.tree_order.specs.Shown.{IsShown, IsPlace}
+use Rattle.tree_order.specs.Shown.{is_visible, SwitchesBy, IsLastToSwitch, is_delete, IsShown, IsPlace}
 
 -- two operations have different keys
 abbrev pub KeysDiffer : List Operation → Type 0
@@ -47,6 +47,11 @@ pub record ShowsOneText (ops : List Operation) : Type 0 where
   pub place : Anchor → ℕ
   pub is_place : (anchor : Anchor) → IsPlace ops anchor (place anchor)
   pub only_place : (anchor : Anchor) (n : ℕ) → IsPlace ops anchor n → n ≡ place anchor
+
+-- of the Deletes and Restores that name c the one of the greatest key decides whether c is visible
+pub record TheLastSwitchDecides (ops : List Operation) (c : CharName) : Type 0 where
+  pub none : ((op : Operation) → Contains ops op → SwitchesBy op.kind c → ⊥) → is_visible ops c ≡ true
+  pub last : (op : Operation) → IsLastToSwitch ops c op → is_visible ops c ≡ not (is_delete op.kind)
 
 -- the same operations, in whatever order and however often
 abbrev pub AreSameSet : List Operation → List Operation → Type 0

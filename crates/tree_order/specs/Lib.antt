@@ -1,9 +1,12 @@
 pub mod Attribute
 pub mod Good
 pub mod GoodEach
+pub mod Last
 pub mod Laws
 pub mod Looks
 pub mod Order
+pub mod RegisterLaws
+pub mod Registers
 pub mod Shown
 pub mod SortedPaths
 pub mod Tree

@@ -1,13 +1,16 @@
 -- What a set of operations shows.
-use Rattle.std.specs.Prelude.{◌≡◌, ℕ, Bool, false, ◌==◌, ◌&&◌, not, List, [], ◌∷◌, All, filter, map}
+use Rattle.std.specs.Prelude.{◌≡◌, ℕ, Bool, true, false, ◌==◌, ◌&&◌, not, List, [], ◌∷◌, All, filter, map}
 use Rattle.std.specs.Prelude.{count_by, if◌then◌else◌}
 use Rattle.std.specs.List.{list_any}
+use Rattle.looks.specs.Key.{is_below}
 use Rattle.char_files.specs.CharName.{CharName}
 use Rattle.char_files.specs.declared.character.Char.{Char}
 use Rattle.char_files.specs.declared.name.Anchor.{Anchor}
 use Rattle.char_files.specs.declared.name.Anchor.TheVariants.{Root, At}
-use Rattle.operations.specs.NameSet.{range_contains}
-use Rattle.operations.specs.Operation.{Operation, OpKind, insert, delete, change_looks}
+use Rattle.operations.specs.NameSet.{IsAmong, range_contains}
+use Rattle.operations.specs.Operation.{Operation, OpKind, insert, delete, restore, change_looks}
+use Rattle.tree_order.specs.Good.{key_of}
+use Rattle.tree_order.specs.Last.{IsLast}
 use Rattle.tree_order.specs.Tree.{HasByte}
 use Rattle.tree_order.specs.Order.{IsOrder}
 use Rattle.tree_order.specs.Looks.{HasLooks}
@@ -16,11 +19,42 @@ use Rattle.tree_order.specs.Looks.{HasLooks}
 abbrev pub deletes_by : OpKind → CharName → Bool
 deletes_by (insert cause at looks bytes) c = false
 deletes_by (delete names) c = list_any (λ r. range_contains r c) names
+deletes_by (restore names) c = false
 deletes_by (change_looks sel looks names) c = false
 
--- whether c is visible: no Delete names it
+-- whether a Restore names c
+abbrev pub restores_by : OpKind → CharName → Bool
+restores_by (insert cause at looks bytes) c = false
+restores_by (delete names) c = false
+restores_by (restore names) c = list_any (λ r. range_contains r c) names
+restores_by (change_looks sel looks names) c = false
+
+-- whether the operation hides c: a Delete that names c does, unless a Restore of a greater key names c too
+abbrev pub hides : List Operation → CharName → Operation → Bool
+hides ops c op =
+    deletes_by op.kind c && not (list_any (λ r. restores_by r.kind c && is_below (key_of op) (key_of r)) ops)
+
+-- whether c is visible: no operation hides it
 abbrev pub is_visible : List Operation → CharName → Bool
-is_visible ops c = not (list_any (λ op. deletes_by op.kind c) ops)
+is_visible ops c = not (list_any (hides ops c) ops)
+
+-- a Delete or a Restore names c
+abbrev pub SwitchesBy : OpKind → CharName → Type 0
+SwitchesBy (insert cause at looks bytes) c = ⊥
+SwitchesBy (delete names) c = IsAmong names c
+SwitchesBy (restore names) c = IsAmong names c
+SwitchesBy (change_looks sel looks names) c = ⊥
+
+-- of all Deletes and Restores that name c this one has the greatest key
+abbrev pub IsLastToSwitch : List Operation → CharName → Operation → Type 0
+IsLastToSwitch ops c op = IsLast (λ o. SwitchesBy o.kind c) ops op
+
+-- whether it is a Delete
+abbrev pub is_delete : OpKind → Bool
+is_delete (insert cause at looks bytes) = false
+is_delete (delete names) = true
+is_delete (restore names) = false
+is_delete (change_looks sel looks names) = false
 
 -- the visible characters in their order, each with its byte and its looks
 pub record IsShown (ops : List Operation) (shown : List Char) : Type 0 where

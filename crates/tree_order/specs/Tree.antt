@@ -3,7 +3,7 @@ use Rattle.std.specs.Prelude.{◌≡◌, ℕ, ◌-◌, ◌==◌, List, [], ◌�
 use Rattle.char_files.specs.CharName.{CharName}
 use Rattle.char_files.specs.declared.name.Anchor.{Anchor}
 use Rattle.char_files.specs.declared.name.Anchor.TheVariants.{Root, At}
-use Rattle.operations.specs.Operation.{Operation, OpKind, insert, delete, change_looks, Inserts}
+use Rattle.operations.specs.Operation.{Operation, OpKind, insert, delete, restore, change_looks, Inserts}
 
 -- i is the Insert of c, and is held
 pub record IsInsertOf (ops : List Operation) (c : CharName) (i : Operation) : Type 0 where
@@ -19,12 +19,14 @@ abbrev pub parent_by : OpKind → CharName → Anchor
 parent_by (insert cause at looks bytes) c =
     if c.off == at then cause else At (record { site = c.site; off = c.off - 1 })
 parent_by (delete names) c = Root
+parent_by (restore names) c = Root
 parent_by (change_looks sel looks names) c = Root
 
 -- the byte of a character of an Insert
 abbrev pub byte_by : OpKind → CharName → ℕ
 byte_by (insert cause at looks bytes) c = slice_index bytes (c.off - at)
 byte_by (delete names) c = 0
+byte_by (restore names) c = 0
 byte_by (change_looks sel looks names) c = 0
 
 -- c is a character that hangs on the anchor

@@ -35,7 +35,7 @@ fn changes(op: &Op, attribute: Attribute, c: Name) -> bool
 {
     match op.kind() {
         Kind::ChangeLooks { sel, names, .. } => selects(*sel, attribute) && names.contains(c),
-        Kind::Insert { .. } | Kind::Delete { .. } => false,
+        Kind::Insert { .. } | Kind::Delete { .. } | Kind::Restore { .. } => false,
     }
 }
 
@@ -74,7 +74,7 @@ fn given_looks(op: &Op) -> Looks
 {
     match op.kind() {
         Kind::Insert { looks, .. } | Kind::ChangeLooks { looks, .. } => looks.copy(),
-        Kind::Delete { .. } => Looks::plain(),
+        Kind::Delete { .. } | Kind::Restore { .. } => Looks::plain(),
     }
 }
 

@@ -79,7 +79,7 @@ fn appended_bytes(op: &Op) -> u64
     op.has_spelling();
     match op.kind() {
         Kind::Insert { bytes, .. } => bytes.len() as u64,
-        Kind::Delete { .. } | Kind::ChangeLooks { .. } => 0,
+        Kind::Delete { .. } | Kind::Restore { .. } | Kind::ChangeLooks { .. } => 0,
     }
 }
 
@@ -122,7 +122,7 @@ fn begins(op: &Op, len: u64) -> bool
 {
     match op.kind() {
         Kind::Insert { at, .. } => u64::from(*at) == len,
-        Kind::Delete { .. } | Kind::ChangeLooks { .. } => true,
+        Kind::Delete { .. } | Kind::Restore { .. } | Kind::ChangeLooks { .. } => true,
     }
 }
 

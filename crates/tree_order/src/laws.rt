@@ -1,8 +1,11 @@
 ghost use Rattle.std.specs.Prelude.{List};
+ghost use Rattle.char_files.specs.CharName.{CharName};
 ghost use Rattle.operations.specs.Operation.{Operation};
 ghost use Rattle.tree_order.specs.Good.{Good};
 ghost use Rattle.tree_order.specs.Laws.{KeysDiffer, IsStrictTotalOrder, HasOneOrder, RunsStayTogether};
-ghost use Rattle.tree_order.specs.Laws.{ShowsOneText, AreSameSet, SaysTheSame};
+ghost use Rattle.tree_order.specs.Laws.{TheLastSwitchDecides, ShowsOneText, AreSameSet, SaysTheSame};
+
+pub mod registers;
 
 /// A law: in a good set two operations have different keys.
 pub fn keys_differ()
@@ -23,6 +26,12 @@ pub fn there_is_one_order()
 /// splits a run but what hangs on a byte of the run's own.
 pub fn runs_stay_together()
     ensures { (ops : List Operation) → Good ops → RunsStayTogether ops }
+{}
+
+/// A law: in a good set a character is visible when no Delete or Restore names it, or when the one of the
+/// greatest key among these is a Restore.
+pub fn the_last_switch_decides()
+    ensures { (ops : List Operation) → Good ops → (c : CharName) → TheLastSwitchDecides ops c }
 {}
 
 /// A law: a good set shows a text, and only one, in which each anchor has a place, and only one.

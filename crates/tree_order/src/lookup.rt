@@ -17,7 +17,7 @@ pub(crate) fn inserts(op: &Op, c: Name) -> bool
             let end = u64::from(*at) + bytes.len() as u64;
             c.site().get() == op.site().get() && *at <= c.off() && u64::from(c.off()) < end
         }
-        Kind::Delete { .. } | Kind::ChangeLooks { .. } => false,
+        Kind::Delete { .. } | Kind::Restore { .. } | Kind::ChangeLooks { .. } => false,
     }
 }
 
@@ -49,7 +49,7 @@ pub(crate) fn parent_of(op: &Op, c: Name) -> Anchor
                 Anchor::At(Name::new(c.site(), c.off() - 1).unwrap())
             }
         }
-        Kind::Delete { .. } | Kind::ChangeLooks { .. } => Anchor::Root,
+        Kind::Delete { .. } | Kind::Restore { .. } | Kind::ChangeLooks { .. } => Anchor::Root,
     }
 }
 
@@ -60,7 +60,7 @@ pub(crate) fn byte_of(op: &Op, c: Name) -> u8
 {
     match op.kind() {
         Kind::Insert { at, bytes, .. } => bytes[(c.off() - *at) as usize],
-        Kind::Delete { .. } | Kind::ChangeLooks { .. } => 0,
+        Kind::Delete { .. } | Kind::Restore { .. } | Kind::ChangeLooks { .. } => 0,
     }
 }
 

@@ -1,39 +1,80 @@
-ghost use Rattle.std.specs.Prelude.{◌≡◌, IfOk};
+ghost use Rattle.std.specs.Prelude.{◌≡◌, ◌↔◌, true, Contains, IsTrue, IfSome, IfNone, IfOk};
+ghost use Rattle.looks.specs.Key.{is_below};
 ghost use Rattle.looks.specs.Refusal.{RefusedForMemoryAlone};
 ghost use Rattle.char_files.specs.declared.name.Anchor.TheVariants.{At};
-ghost use Rattle.tree_order.specs.Good.{Good};
+ghost use Rattle.operations.specs.Operation.{Operation};
+ghost use Rattle.tree_order.specs.Good.{Good, key_of};
 ghost use Rattle.tree_order.specs.Tree.{IsChar, HasByte};
 ghost use Rattle.tree_order.specs.Looks.{HasLooks};
-ghost use Rattle.tree_order.specs.Shown.{deletes_by, is_visible, IsShown, IsPlace};
+ghost use Rattle.tree_order.specs.Shown.{is_visible, SwitchesBy, IsLastToSwitch, is_delete, IsShown, IsPlace};
 
 use crate::attributes::looks_of;
-use crate::lookup::{byte_of, insert_of};
+use crate::lookup::{byte_of, insert_of, is_key_below};
 use crate::sorting::slow_order;
 use char_files::{Char, Name};
 use looks::Refusal;
 use operations::{Kind, Op};
 use std::alloc::Global;
 
-// Whether the operation is a Delete that names the character.
-fn deletes(op: &Op, c: Name) -> bool
-    ensures { result ≡ deletes_by op.now.kind c }
+// Whether the operation is a Delete or a Restore that names the character.
+fn switches(op: &Op, c: Name) -> bool
+    ensures { IsTrue result ↔ SwitchesBy op.now.kind c }
 {
     match op.kind() {
-        Kind::Delete { names } => names.contains(c),
+        Kind::Delete { names } | Kind::Restore { names } => names.contains(c),
         Kind::Insert { .. } | Kind::ChangeLooks { .. } => false,
     }
 }
 
-// Whether no Delete names the character.
-fn is_visible(ops: &[Op], c: Name) -> bool
-    ensures { result ≡ is_visible ops.now c }
+// Whether the operation's key is greater than that of the other one, if there is one.
+fn is_above(op: &Op, other: Option<&Op>) -> bool
+    ensures { IsTrue result
+        ↔ IfSome other.entry (λ o. is_below (key_of o.now) (key_of op.now) ≡ true) }
 {
+    match other {
+        None => true,
+        Some(other) => is_key_below(other, op),
+    }
+}
+
+// Whether the operation is a Delete or a Restore that names the character, and has a greater key than the
+// other one, if there is one.
+fn switches_over(op: &Op, other: Option<&Op>, c: Name) -> bool
+    ensures { IsTrue result ↔ (SwitchesBy op.now.kind c
+        × IfSome other.entry (λ o. is_below (key_of o.now) (key_of op.now) ≡ true)) }
+{
+    switches(op, c) && is_above(op, other)
+}
+
+// Of the Deletes and Restores that name the character the one with the greatest key, if there is one.
+fn last_to_switch(ops: &[Op], c: Name) -> Option<&Op>
+    ensures some { IfSome result (λ op. IsLastToSwitch ops.now c op.now) }
+    ensures none { IfNone result ((op : Operation) → Contains ops.now op → ¬ SwitchesBy op.kind c) }
+{
+    let mut last = None;
     for op in ops {
-        if deletes(op, c) {
-            return false;
+        if switches_over(op, last, c) {
+            last = Some(op);
         }
     }
-    true
+    last
+}
+
+fn is_delete(op: &Op) -> bool
+    ensures { result ≡ is_delete op.now.kind }
+{
+    matches!(op.kind(), Kind::Delete { .. })
+}
+
+// Whether no operation hides the character.
+fn is_visible(ops: &[Op], c: Name) -> bool
+    requires { Good ops.now }
+    ensures { result ≡ is_visible ops.now c }
+{
+    match last_to_switch(ops, c) {
+        None => true,
+        Some(last) => !is_delete(last),
+    }
 }
 
 // The character with its byte and its looks.

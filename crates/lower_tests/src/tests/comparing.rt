@@ -51,6 +51,20 @@ const DIFFERENT: &[(&str, Fields)] = &[
         },
     ),
     (
+        "a Restore of the same names",
+        Fields {
+            does: Does::Restore(&[(1, 0, 2)]),
+            ..INSERT
+        },
+    ),
+    (
+        "a Restore of other names",
+        Fields {
+            does: Does::Restore(&[(1, 1, 1)]),
+            ..INSERT
+        },
+    ),
+    (
         "a change of the colour",
         Fields {
             does: Does::ChangeLooks(2, PLAIN, &[(1, 0, 2)]),

@@ -24,6 +24,15 @@ const KINDS: &[(&str, Fields)] = &[
         },
     ),
     (
+        "a Restore",
+        Fields {
+            site: 3,
+            seq: 5,
+            stamp: 6,
+            does: Does::Restore(&[(1, 3, 2), (2, 0, 1)]),
+        },
+    ),
+    (
         "a ChangeLooks",
         Fields {
             site: 4,

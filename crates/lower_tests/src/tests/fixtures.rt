@@ -19,6 +19,7 @@ pub(super) enum Does {
     // The cause, if it isn't the root; the length of its site's file before it; the bytes.
     Insert(Option<(u16, u32)>, u32, &'static [u8]),
     Delete(Ranges),
+    Restore(Ranges),
     // What is selected: 1 for the font, 2 for the colour, 4 for the offset, or their sum.
     ChangeLooks(u8, LooksParts, Ranges),
 }
@@ -102,6 +103,9 @@ fn kind_of(alloc: Global, does: Does) -> Result<Option<Kind>, Refusal> {
         Does::Delete(ranges) => Some(Kind::Delete {
             names: set_of(alloc, ranges)?,
         }),
+        Does::Restore(ranges) => Some(Kind::Restore {
+            names: set_of(alloc, ranges)?,
+        }),
         Does::ChangeLooks(bits, looks, ranges) => match (Sel::new(bits), looks_of(looks)) {
             (Some(sel), Some(looks)) => Some(Kind::ChangeLooks {
                 sel,
@@ -151,7 +155,8 @@ fn does_this(kind: &Kind, does: Does) -> bool {
                 && are_looks(looks, PLAIN)
                 && bytes.as_slice() == others
         }
-        (Kind::Delete { names }, Does::Delete(ranges)) => are_ranges(names, ranges),
+        (Kind::Delete { names }, Does::Delete(ranges))
+        | (Kind::Restore { names }, Does::Restore(ranges)) => are_ranges(names, ranges),
         (Kind::ChangeLooks { sel, looks, names }, Does::ChangeLooks(bits, parts, ranges)) => {
             sel.bits() == bits && are_looks(looks, parts) && are_ranges(names, ranges)
         }

@@ -37,6 +37,10 @@ const GOOD: &[(&str, &[Told])] = &[
         ],
     ),
     (
+        "another site restores what it has taken in, which none deleted",
+        &[M1, (2, 1, 2, Does::Restore(&[(1, 1, 1)]))],
+    ),
+    (
         "a site deletes and changes its own",
         &[
             M1,
@@ -90,6 +94,10 @@ const BAD: &[(&str, &[Told])] = &[
         &[M1, (1, 2, 2, Does::Delete(&[(2, 0, 1)]))],
     ),
     (
+        "no Insert of a name that is restored",
+        &[M1, (1, 2, 2, Does::Restore(&[(2, 0, 1)]))],
+    ),
+    (
         "no Insert of a name that is changed",
         &[
             M1,
@@ -120,6 +128,10 @@ const BAD: &[(&str, &[Told])] = &[
     (
         "the stamp of the Insert of what is deleted",
         &[M1, (2, 1, 1, Does::Delete(&[(1, 1, 1)]))],
+    ),
+    (
+        "the stamp of the Insert of what is restored",
+        &[M1, (2, 1, 1, Does::Restore(&[(1, 1, 1)]))],
     ),
     (
         "a stamp below the Insert's of what is deleted",

@@ -68,6 +68,8 @@ const NAMED: &[(&str, Does, bool)] = &[
         Does::Delete(&[(1, 3, 2), (2, 0, 1)]),
         true,
     ),
+    ("a Restore of nothing", Does::Restore(&[]), false),
+    ("a Restore of one name", Does::Restore(&[(1, 0, 1)]), true),
     (
         "a change of nothing's looks",
         Does::ChangeLooks(2, (OBERON, 7, 0), &[]),

@@ -1,5 +1,5 @@
 use super::fixtures::vec_of;
-use super::messages::{CHANGE, DELETE, FIRST, SECOND};
+use super::messages::{CHANGE, DELETE, FIRST, RESTORE, SECOND};
 use looks::Refusal;
 use operations::{Kind, Op, decode, encode};
 use std::alloc::{AllocError, Global};
@@ -59,6 +59,17 @@ const CHANGED: &[(&str, &[u8], &[(usize, u8)])] = &[
     ),
     ("nothing selected", CHANGE, &[(20, 0)]),
     ("selection 8", CHANGE, &[(20, 8)]),
+    ("a Delete of version 2", DELETE, &[(2, 2)]),
+    ("a ChangeLooks of version 2", CHANGE, &[(2, 2)]),
+    (
+        "an Insert of kind 4 and version 2",
+        FIRST,
+        &[(2, 2), (3, 4)],
+    ),
+    ("a Restore of version 1", RESTORE, &[(2, 1)]),
+    ("a Restore of version 3", RESTORE, &[(2, 3)]),
+    ("a Restore of no ranges", RESTORE, &[(21, 0)]),
+    ("a Restore of names of site 0", RESTORE, &[(23, 0)]),
 ];
 
 #[test]
@@ -96,6 +107,10 @@ const MALFORMED: &[(&str, &[u8])] = &[
         b"OT\x01\x02\x00\x01\x00\x02\x00\x00\x00\x01\x00\x00\x00\x00\x00\x00\x00\x02\x00\x02\
             \x00\x02\x00\x00\x00\x00\x00\x00\x00\x01\x00\x01\x00\x00\x00\x04\x00\x00\x00\x01",
     ),
+    (
+        "a Restore of nothing",
+        b"OT\x02\x04\x00\x01\x00\x01\x00\x00\x00\x03\x00\x00\x00\x00\x00\x00\x00\x03\x00\x00",
+    ),
 ];
 
 #[test]
@@ -109,7 +124,7 @@ fn other_bytes_are_malformed(rt: HostRuntime) {
 // No front of a message is one.
 #[test]
 fn fronts_are_malformed(rt: HostRuntime) -> Result<(), Fail> {
-    for message in [FIRST, DELETE, CHANGE] {
+    for message in [FIRST, DELETE, RESTORE, CHANGE] {
         for len in 0..message.len() {
             let front = message.get(..len).ok_or("no front")?;
             let answer = decode(rt.alloc(), front).err();
@@ -122,7 +137,7 @@ fn fronts_are_malformed(rt: HostRuntime) -> Result<(), Fail> {
 // With any byte changed the bytes spell no operation, or the one that is read.
 #[test]
 fn each_byte_counts(rt: HostRuntime) -> Result<(), Fail> {
-    for message in [FIRST, DELETE, CHANGE] {
+    for message in [FIRST, DELETE, RESTORE, CHANGE] {
         let mut bytes = vec_of(rt.alloc(), message)?;
         for (index, old) in message.iter().enumerate() {
             for new in 0..=255 {

@@ -23,6 +23,10 @@ pub(super) const CHANGE: &[u8] =
     b"OT\x01\x03\x00\x01\x00\x01\x00\x00\x00\x02\x00\x00\x00\x00\x00\x00\x00\x02\
     \x02\x07\x00\x01\x00\x01\x00\x00\x00\x00\x00\x00\x00\x01";
 
+pub(super) const RESTORE: &[u8] =
+    b"OT\x02\x04\x00\x01\x00\x01\x00\x00\x00\x03\x00\x00\x00\x00\x00\x00\x00\x03\
+    \x00\x01\x00\x01\x00\x00\x00\x01\x00\x00\x00\x01";
+
 pub(super) const MESSAGES: &[Message] = &[
     Message {
         what: "the first Insert of a text",
@@ -75,6 +79,16 @@ pub(super) const MESSAGES: &[Message] = &[
             does: Does::Delete(&[(1, 0, 1)]),
         },
         bytes: DELETE,
+    },
+    Message {
+        what: "a Restore of one character",
+        fields: Fields {
+            site: 1,
+            seq: 3,
+            stamp: 3,
+            does: Does::Restore(&[(1, 1, 1)]),
+        },
+        bytes: RESTORE,
     },
     Message {
         what: "a change of one character's colour",

@@ -30,6 +30,11 @@ const MENTIONED: &[(&str, Does, &[(u16, u32)])] = &[
         &[(1, 3), (1, 4), (2, 0)],
     ),
     (
+        "a Restore of two ranges",
+        Does::Restore(&[(1, 2, 2), (2, 3, 1)]),
+        &[(1, 2), (1, 3), (2, 3)],
+    ),
+    (
         "a change of the looks of two ranges",
         Does::ChangeLooks(7, PLAIN, &[(1, 0, 1), (1, 2, 2)]),
         &[(1, 0), (1, 2), (1, 3)],

@@ -84,6 +84,45 @@ const CASES: &[Case] = &[
         ..PLAIN
     },
     Case {
+        what: "a restored character",
+        ops: &[
+            (1, 1, 1, Does::Insert(None, 0, b"abc")),
+            (1, 2, 2, Does::Delete(&[(1, 1, 1)])),
+            (1, 3, 3, Does::Restore(&[(1, 1, 1)])),
+        ],
+        order: &[(1, 0), (1, 1), (1, 2)],
+        shown: b"abc",
+        ..PLAIN
+    },
+    Case {
+        what: "a Restore against a Delete of greater key",
+        ops: &[
+            (1, 1, 1, Does::Insert(None, 0, b"abc")),
+            (1, 2, 2, Does::Delete(&[(1, 1, 1)])),
+            (2, 1, 2, Does::Insert(Some((1, 2)), 0, b"x")),
+            (2, 2, 3, Does::Delete(&[(1, 1, 1)])),
+            (1, 3, 3, Does::Restore(&[(1, 1, 1)])),
+        ],
+        order: &[(1, 0), (1, 1), (1, 2), (2, 0)],
+        hidden: &[(1, 1)],
+        shown: b"acx",
+        ..PLAIN
+    },
+    Case {
+        what: "another Restore, above both Deletes",
+        ops: &[
+            (1, 1, 1, Does::Insert(None, 0, b"abc")),
+            (1, 2, 2, Does::Delete(&[(1, 1, 1)])),
+            (2, 1, 2, Does::Insert(Some((1, 2)), 0, b"x")),
+            (2, 2, 3, Does::Delete(&[(1, 1, 1)])),
+            (1, 3, 3, Does::Restore(&[(1, 1, 1)])),
+            (1, 4, 4, Does::Restore(&[(1, 1, 1)])),
+        ],
+        order: &[(1, 0), (1, 1), (1, 2), (2, 0)],
+        shown: b"abcx",
+        ..PLAIN
+    },
+    Case {
         what: "looks by attribute",
         ops: &[
             (1, 1, 1, Does::Insert(None, 0, b"Q")),
@@ -156,7 +195,7 @@ fn arrivals(alloc: Global, told: &[Told], arrival: Arrival) -> Result<Vec<Told>,
     Ok(all)
 }
 
-fn are_good(rt: &impl Abort, alloc: Global, ops: &[Op]) -> Result<bool, Fail>
+pub(super) fn are_good(rt: &impl Abort, alloc: Global, ops: &[Op]) -> Result<bool, Fail>
     ensures { IfOk result (λ good. IsTrue good → Good ops.now) }
 {
     match is_good(alloc, ops) {
@@ -168,7 +207,7 @@ fn are_good(rt: &impl Abort, alloc: Global, ops: &[Op]) -> Result<bool, Fail>
     }
 }
 
-fn order_of(rt: &impl Abort, alloc: Global, ops: &[Op]) -> Result<Vec<Name>, Fail>
+pub(super) fn order_of(rt: &impl Abort, alloc: Global, ops: &[Op]) -> Result<Vec<Name>, Fail>
     requires { Good ops.now }
 {
     match slow_order(alloc, ops) {
@@ -180,7 +219,7 @@ fn order_of(rt: &impl Abort, alloc: Global, ops: &[Op]) -> Result<Vec<Name>, Fai
     }
 }
 
-fn shown_of(rt: &impl Abort, alloc: Global, ops: &[Op]) -> Result<Vec<Char>, Fail>
+pub(super) fn shown_of(rt: &impl Abort, alloc: Global, ops: &[Op]) -> Result<Vec<Char>, Fail>
     requires { Good ops.now }
 {
     match slow_shown(alloc, ops) {

@@ -1,5 +1,5 @@
 use Rattle.std.proofs.Common.{◌≡◌, ◌↔◌, inl, inr, ap, ◌∙◌, sym, Contains, subst}
-use Rattle.operations.specs.Operation.{OpKind, delete, change_looks, MentionsBy}
+use Rattle.operations.specs.Operation.{OpKind, delete, restore, change_looks, MentionsBy}
 use Rattle.operations.specs.NameSet.{names_in}
 use Rattle.operations.specs.Seen.{kind_of}
 use Rattle.operations.proofs.NamesOf.{Contains-names_in, AllPairs-names_in}
@@ -15,7 +15,10 @@ returns-in-Delete-clause-all c = λ name.
       | inl e ↦
           let is : delete names ≡ c.args.op.now.kind = sym (ap kind_of e) ∙ c.kind.ensures in
           subst (λ (k : OpKind). Contains (names_in ranges) name ↔ MentionsBy k name) is there
-      | inr e ↦
+      | inr (inl e) ↦
+          let is : restore names ≡ c.args.op.now.kind = sym (ap kind_of e) ∙ c.kind.ensures in
+          subst (λ (k : OpKind). Contains (names_in ranges) name ↔ MentionsBy k name) is there
+      | inr (inr e) ↦
           let is : change_looks e.0 e.1 names ≡ c.args.op.now.kind = sym (ap kind_of e.2) ∙ c.kind.ensures in
           subst (λ (k : OpKind). Contains (names_in ranges) name ↔ MentionsBy k name) is there
     ]
