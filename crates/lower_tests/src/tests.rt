@@ -4,6 +4,7 @@ mod comparing;
 mod copies;
 mod fixtures;
 mod good_sets;
+mod laws;
 mod limits;
 mod looks_and_keys;
 mod malformed;

@@ -27,7 +27,7 @@ next_hangs site (restore names) c d h k next = absurd h
 next_hangs site (change_looks sel looks names) c d h k next = absurd h
 
 -- what stands between a character and one that hangs on it is a descendant of the former
-between : (ops : List Operation) → Good ops → (c d x : CharName) → IsParent ops d (At c) → Before ops c x
+pub between : (ops : List Operation) → Good ops → (c d x : CharName) → IsParent ops d (At c) → Before ops c x
     → Before ops x d → IsDescendant ops c x
 between ops good c d x on b b' =
     let p = b.0 in

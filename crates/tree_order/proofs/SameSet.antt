@@ -37,7 +37,8 @@ insert_of a b to c i is = record { held = to i is.held; inserts = is.inserts }
 pub char : (a b : List Operation) → Within a b → (c : CharName) → IsChar a c → IsChar b c
 char a b to c (i, is) = (i, insert_of a b to c i is)
 
-pub parent : (a b : List Operation) → Within a b → (c : CharName) (x : Anchor) → IsParent a c x → IsParent b c x
+pub parent : (a b : List Operation) → Within a b → (c : CharName) (x : Anchor) → IsParent a c x
+    → IsParent b c x
 parent a b to c x (i, is, e) = (i, insert_of a b to c i is, e)
 
 pub leads : (a b : List Operation) → Within a b → (x y : Anchor) (path : List CharName) → Leads a x path y

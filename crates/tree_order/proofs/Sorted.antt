@@ -1,10 +1,12 @@
 -- Lists in which each element stands before the later ones.
 use Rattle.std.proofs.Common.{◌≡◌, ◌⊎◌, ◌↔◌, ℕ, zero, suc, ◌+◌, ◌-◌, ◌<◌, ◌≤◌, inl, inr, List, [], ◌∷◌}
-use Rattle.std.proofs.Common.{length, get_or, refl, sym, subst, ◌∙◌, All, AllPairs, Contains, insert, arith}
+use Rattle.std.proofs.Common.{◌++◌, length, get_or, refl, sym, subst, ◌∙◌, All, AllPairs, Contains, insert}
+use Rattle.std.proofs.Common.{arith}
 use Rattle.std.proofs.lemmas.Bool.{cases_lt, cases_order}
 use Rattle.std.proofs.lemmas.List.Edits.{length-insert, get_or-insert_below, get_or-insert_at}
 use Rattle.std.proofs.lemmas.List.Edits.{get_or-insert_above}
-use Rattle.std.proofs.lemmas.List.Elements.{All-contains, Contains-get_or}
+use Rattle.std.proofs.lemmas.List.Elements.{All-contains, Contains-append_cases, Contains-append_left}
+use Rattle.std.proofs.lemmas.List.Elements.{Contains-append_right, Contains-get_or}
 use Rattle.std.proofs.lemmas.List.Kept.{AllPairs-cons}
 use Rattle.std.proofs.lemmas.List.Sorted.{IsPermutation-insert, IsPermutation-sym, Contains-permutation}
 
@@ -38,20 +40,44 @@ Contains-insert xs i y x = (
 
 module _ {X : Type 0} (R : X → X → Type 0) where
   -- a sorted list without its head, and its head
-  AllPairs-head : (x : X) (xs : List X) → AllPairs R (x ∷ xs) → All (R x) xs
+  pub AllPairs-head : (x : X) (xs : List X) → AllPairs R (x ∷ xs) → All (R x) xs
   AllPairs-head x xs up k d lt = up 0 (suc k) d (omega arith) (omega arith)
 
-  AllPairs-tail : (x : X) (xs : List X) → AllPairs R (x ∷ xs) → AllPairs R xs
+  pub AllPairs-tail : (x : X) (xs : List X) → AllPairs R (x ∷ xs) → AllPairs R xs
   AllPairs-tail x xs up i j d lt within = up (suc i) (suc j) d (omega arith) (omega arith)
 
   -- the head stands before each other member
-  before_members : (x : X) (xs : List X) → AllPairs R (x ∷ xs) → (y : X) → Contains xs y → R x y
+  pub before_members : (x : X) (xs : List X) → AllPairs R (x ∷ xs) → (y : X) → Contains xs y → R x y
   before_members x xs up y h = All-contains (R x) xs y (AllPairs-head x xs up) h
 
-  cons_sorted : (x : X) (xs : List X) → ((y : X) → Contains xs y → R x y) → AllPairs R xs
+  pub cons_sorted : (x : X) (xs : List X) → ((y : X) → Contains xs y → R x y) → AllPairs R xs
       → AllPairs R (x ∷ xs)
   cons_sorted x xs before up =
       AllPairs-cons R x xs (λ k d lt. before (get_or xs k d) (Contains-get_or xs k d lt)) up
+
+  -- each member of the front of a sorted list stands before each one behind it
+  pub AllPairs-across : (xs ys : List X) → AllPairs R (xs ++ ys) → (x y : X) → Contains xs x → Contains ys y
+      → R x y
+  AllPairs-across [] ys up x y h k = absurd (omega arith)
+  AllPairs-across (z ∷ xs) ys up x y h k =
+      elim (Contains-cons_cases z xs x h) [
+        | inl e ↦ rw e (before_members z (xs ++ ys) up y (Contains-append_right xs ys y k))
+        | inr later ↦ AllPairs-across xs ys (AllPairs-tail z (xs ++ ys) up) x y later k
+      ]
+
+  -- one more element, between what stands before it and what it stands before
+  pub AllPairs-between : (xs ys : List X) (d : X) → AllPairs R (xs ++ ys)
+      → ((x : X) → Contains xs x → R x d) → ((y : X) → Contains ys y → R d y) → AllPairs R (xs ++ d ∷ ys)
+  AllPairs-between [] ys d up below above = cons_sorted d ys above up
+  AllPairs-between (x ∷ xs) ys d up below above =
+      cons_sorted x (xs ++ d ∷ ys) (λ y h. elim (Contains-append_cases xs (d ∷ ys) y h) [
+        | inl k ↦ before_members x (xs ++ ys) up y (Contains-append_left xs ys y k)
+        | inr k ↦ elim (Contains-cons_cases d ys y k) [
+          | inl e ↦ rw e (below x (Contains-head x xs))
+          | inr m ↦ before_members x (xs ++ ys) up y (Contains-append_right xs ys y m)
+        ]
+      ]) (AllPairs-between xs ys d (AllPairs-tail x (xs ++ ys) up)
+      (λ y h. below y (Contains-tail x xs y h)) above)
 
   -- y put at i, between what stands before it and what it stands before
   pub AllPairs-insert : (xs : List X) (i : ℕ) (y : X) → i ≤ length xs → AllPairs R xs

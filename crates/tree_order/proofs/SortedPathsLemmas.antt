@@ -137,7 +137,7 @@ gains_as old new These Those same gains c = (
 )
 
 -- the characters with one more operation
-IsChar-push : (ops : List Operation) (op : Operation) (c : CharName)
+pub IsChar-push : (ops : List Operation) (op : Operation) (c : CharName)
     → IsChar (ops ++ op ∷ []) c ↔ (IsChar ops c ⊎ Inserts op c)
 IsChar-push ops op c = (
   λ (i, is). elim (Contains-push_cases ops op i is.held) [

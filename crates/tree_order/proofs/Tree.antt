@@ -20,7 +20,7 @@ use Rattle.tree_order.proofs.Files.{file_before_grows}
 use Rattle.tree_order.proofs.Paths.{Leads-append, Leads-end, LastStep, last_step}
 
 -- of two operations of a site the later has the greater stamp
-stamps_rise : (ops : List Operation) → Good ops → (n : ℕ) (a b : Operation) → Contains ops a
+pub stamps_rise : (ops : List Operation) → Good ops → (n : ℕ) (a b : Operation) → Contains ops a
     → Contains ops b → a.site ≡ b.site → a.seq < b.seq → b.seq ≤ n → a.stamp < b.stamp
 stamps_rise ops good zero a b ha hb site lt le = absurd (omega arith)
 stamps_rise ops good (suc n) a b ha hb site lt le =

@@ -1,12 +1,15 @@
 pub mod Attribute
 pub mod Good
 pub mod GoodEach
+pub mod Insertion
+pub mod KeptInsertion
 pub mod Last
 pub mod Laws
 pub mod Looks
 pub mod Order
 pub mod RegisterLaws
 pub mod Registers
+pub mod Sequential
 pub mod Shown
 pub mod SortedPaths
 pub mod Tree

@@ -5,7 +5,9 @@ ghost use Rattle.tree_order.specs.Good.{Good};
 ghost use Rattle.tree_order.specs.Laws.{KeysDiffer, IsStrictTotalOrder, HasOneOrder, RunsStayTogether};
 ghost use Rattle.tree_order.specs.Laws.{TheLastSwitchDecides, ShowsOneText, AreSameSet, SaysTheSame};
 
+pub mod insertion;
 pub mod registers;
+pub mod sequential;
 
 /// A law: in a good set two operations have different keys.
 pub fn keys_differ()

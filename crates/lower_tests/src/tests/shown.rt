@@ -231,7 +231,7 @@ pub(super) fn shown_of(rt: &impl Abort, alloc: Global, ops: &[Op]) -> Result<Vec
     }
 }
 
-fn place_of(rt: &impl Abort, alloc: Global, ops: &[Op], c: Name) -> Result<u64, Fail>
+pub(super) fn place_of(rt: &impl Abort, alloc: Global, ops: &[Op], c: Name) -> Result<u64, Fail>
     requires good { Good ops.now }
     requires character { IsChar ops.now c }
 {
