@@ -13,6 +13,7 @@ mod name_sets;
 mod name_walk;
 mod names_and_buffers;
 mod registers;
+mod set_laws;
 mod shown;
 mod spelled_looks;
 mod written_and_read;

@@ -14,18 +14,18 @@ use tree_order::{has_char, is_good, slow_before, slow_order, slow_place, slow_sh
 // Operations, with the order of their characters, the hidden ones among them, and what is shown, all of it in
 // the same looks.
 #[derive(Clone, Copy)]
-struct Case {
-    what: &'static str,
-    ops: &'static [Told],
-    order: &'static [(u16, u32)],
-    hidden: &'static [(u16, u32)],
-    shown: &'static [u8],
-    font: &'static [u8],
-    colour: u8,
-    offset: i8,
+pub(super) struct Case {
+    pub(super) what: &'static str,
+    pub(super) ops: &'static [Told],
+    pub(super) order: &'static [(u16, u32)],
+    pub(super) hidden: &'static [(u16, u32)],
+    pub(super) shown: &'static [u8],
+    pub(super) font: &'static [u8],
+    pub(super) colour: u8,
+    pub(super) offset: i8,
 }
 
-const PLAIN: Case = Case {
+pub(super) const PLAIN: Case = Case {
     what: "no operation",
     ops: &[],
     order: &[],
@@ -319,10 +319,15 @@ fn check_shown(rt: &impl Abort, alloc: Global, ops: &[Op], case: &Case) -> Resul
     Ok(())
 }
 
-fn check_case(rt: &impl Abort, alloc: Global, case: &Case, arrival: Arrival) -> Result<(), Fail> {
+// These operations are good, and have the case's order and text.
+pub(super) fn check_told(
+    rt: &impl Abort,
+    alloc: Global,
+    told: &[Told],
+    case: &Case,
+) -> Result<(), Fail> {
     let out = name((9, 9)).ok_or("no name")?;
-    let told = arrivals(alloc, case.ops, arrival)?;
-    let ops = ops_of(alloc, &told)?;
+    let ops = ops_of(alloc, told)?;
     assert!(rt; !has_char(&ops, out), "{}", case.what);
     assert!(rt; are_good(rt, alloc, &ops)?, "{}", case.what);
     check_order(rt, alloc, &ops, case)?;
@@ -335,7 +340,8 @@ fn check_case(rt: &impl Abort, alloc: Global, case: &Case, arrival: Arrival) -> 
 fn operations_show_a_text(rt: HostRuntime) -> Result<(), Fail> {
     for case in CASES {
         for arrival in [Arrival::AsTold, Arrival::Backwards, Arrival::Twice] {
-            check_case(&rt, rt.alloc(), case, arrival)?;
+            let told = arrivals(rt.alloc(), case.ops, arrival)?;
+            check_told(&rt, rt.alloc(), &told, case)?;
         }
     }
     Ok(())

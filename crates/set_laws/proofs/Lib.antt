@@ -1,0 +1,13 @@
+pub mod Closing
+pub mod Counting
+pub mod Covered
+pub mod Files
+pub mod Freed
+pub mod Fronts
+pub mod GoodPasts
+pub mod Lengths
+pub mod OneMore
+pub mod Picking
+pub mod Refusals
+pub mod SameSets
+pub mod Verdicts

@@ -1,0 +1,5 @@
+pub mod Closure
+pub mod Fronts
+pub mod Growing
+pub mod Sets
+pub mod Verdict

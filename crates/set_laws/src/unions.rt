@@ -1,0 +1,42 @@
+ghost use Rattle.std.specs.Prelude.{List, ◌++◌};
+ghost use Rattle.operations.specs.Operation.{Operation};
+ghost use Rattle.tree_order.specs.Good.{Good};
+ghost use Rattle.tree_order.specs.Laws.{AreSameSet};
+ghost use Rattle.set_laws.specs.Sets.{AreIdentified, UnionIsGood, UnionsAreSets, UnionsShowSets};
+ghost use Rattle.set_laws.specs.Sets.{HaveEqualFronts, AreHeldToTheFront, HasToTheFront};
+
+use tree_order::laws::only_the_set_counts;
+
+/// A law: the union of two good sets is good, if no identity has two operations in it.
+pub fn union_is_good()
+    ensures { (a b : List Operation) → UnionIsGood a b }
+{}
+
+/// A law: union is commutative, associative and idempotent, for lists that are read as sets.
+pub fn unions_are_sets()
+    ensures { (a b c : List Operation) → UnionsAreSets a b c }
+{}
+
+/// A law: what a union says is as little changed by order, grouping and repeats.
+pub fn unions_show_sets()
+    ensures { (a b c : List Operation) → UnionsShowSets a b c }
+{
+    only_the_set_counts();
+}
+
+/// A law: good sets with equal fronts are equal, if no identity has two operations in both together.
+pub fn equal_fronts_tell_equal_sets()
+    ensures { (a b : List Operation) → Good a → Good b → AreIdentified (a ++ b) → HaveEqualFronts a b
+        → AreSameSet a b }
+{}
+
+/// A law: a good set holds the identities of each site up to its front, and no others.
+pub fn front_is_held()
+    ensures { (ops : List Operation) → Good ops → AreIdentified ops → AreHeldToTheFront ops }
+{}
+
+/// A law: of the operations of another list, a good set has those up to its fronts, and no others. So what a
+/// merge has to take are those past the fronts.
+pub fn front_tells_what_is_held()
+    ensures { (a b : List Operation) → Good a → AreIdentified (a ++ b) → HasToTheFront a b }
+{}
