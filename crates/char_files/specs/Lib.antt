@@ -1,2 +1,3 @@
+pub mod CharFiles
 pub mod CharName
 pub mod Stretch

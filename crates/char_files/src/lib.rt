@@ -1,7 +1,10 @@
-//! The lasting names of characters, a character as it is shown, and characters outside any text.
+//! The lasting names of characters, sites' files of bytes, a character as it is shown, and characters outside
+//! any text.
 #![tactic(auto)]
 
 mod buffer;
+mod char_file;
+mod char_files;
 mod character;
 mod name;
 mod run;
@@ -9,6 +12,8 @@ mod site_no;
 mod text_no;
 
 pub use buffer::Buffer;
+pub use char_file::CharFile;
+pub use char_files::CharFiles;
 pub use character::Char;
 pub use name::{Anchor, Name};
 pub use run::Run;

@@ -1,4 +1,4 @@
-use char_files::{Anchor, Buffer, Name, SiteNo, TextNo};
+use char_files::{Anchor, Buffer, CharFile, CharFiles, Name, SiteNo, TextNo};
 use looks::{Looks, Refusal};
 use std::test::Fail;
 
@@ -75,5 +75,58 @@ fn pushes_and_copies(rt: HostRuntime) -> Result<(), Fail> {
         }
     };
     assert!(rt; has(&buffer, ITEMS) && has(&copy, ITEMS));
+    Ok(())
+}
+
+// A file of the greatest length, made of pieces of 4,096 bytes; one byte more is refused, and so is its
+// reservation.
+#[test]
+fn a_file_ends(rt: HostRuntime) -> Result<(), Fail> {
+    let block = [b'o'; 4096];
+    let mut file = CharFile::new(rt.alloc());
+    for i in 0..4096 {
+        assert_eq!(rt; file.append(&block)?, i * 4096);
+    }
+    assert_eq!(rt; file.len(), 0x0100_0000);
+    assert_eq!(rt; file.append(b"n"), Err(Refusal::FileSpent));
+    assert_eq!(rt; file.reserve(1), Err(Refusal::FileSpent));
+    assert_eq!(rt; file.append(b""), Ok(0x0100_0000));
+    Ok(())
+}
+
+// Two sites append in turn. Whichever allocation is refused, no file changes, and the next try goes on from
+// there.
+#[test]
+fn files_of_two_sites(rt: HostRuntime) -> Result<(), Fail> {
+    let one = SiteNo::new(1).ok_or("1 is a site")?;
+    let two = SiteNo::new(2).ok_or("2 is a site")?;
+    let mut files = CharFiles::new(rt.alloc());
+    assert_eq!(rt; files.len(one), 0);
+    for (site, bytes, off) in [
+        (one, &b"ab"[..], 0),
+        (two, &b"xyz"[..], 0),
+        (one, &b"c"[..], 2),
+    ] {
+        let before = (files.len(one), files.len(two));
+        if files.reserve(site, bytes.len()).is_err() {
+            assert_eq!(rt; (files.len(one), files.len(two)), before);
+            files.reserve(site, bytes.len())?;
+        }
+        assert_eq!(rt; files.append(site, bytes)?, off);
+    }
+    assert_eq!(rt; (files.len(one), files.len(two)), (3, 3));
+    for (site, bytes) in [(one, b"abc"), (two, b"xyz")] {
+        for (off, want) in (0..3).zip(bytes) {
+            let name = Name::new(site, off).ok_or("below 2^24")?;
+            if off < files.len(site) {
+                assert_eq!(rt; files.byte(name), *want);
+            }
+        }
+    }
+    let appended = match files.append(two, b"!") {
+        Ok(off) => off,
+        Err(_) => files.append(two, b"!")?,
+    };
+    assert_eq!(rt; (appended, files.len(two)), (3, 4));
     Ok(())
 }
