@@ -1,3 +1,4 @@
 pub mod CharFiles
 pub mod CharName
+pub mod Plain
 pub mod Stretch

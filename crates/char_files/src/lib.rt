@@ -9,6 +9,7 @@ mod character;
 mod name;
 mod run;
 mod site_no;
+mod source;
 mod text_no;
 
 pub use buffer::Buffer;
@@ -18,6 +19,7 @@ pub use character::Char;
 pub use name::{Anchor, Name};
 pub use run::Run;
 pub use site_no::SiteNo;
+pub use source::{Plain, Source};
 pub use text_no::TextNo;
 
 /// The most bytes that a site's file of one text may have, and the most characters of a stretch: 2^24. This

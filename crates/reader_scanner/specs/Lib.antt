@@ -1,0 +1,4 @@
+pub mod Class
+pub mod Lexeme
+pub mod Place
+pub mod Tokens

@@ -1,0 +1,14 @@
+//! What Oberon's programs do with texts: reading, scanning and writing (Project Oberon, chapter 5).
+#![tactic(auto)]
+
+mod laws;
+mod reader;
+mod scanner;
+mod token;
+mod writer;
+
+pub use laws::one_token;
+pub use reader::Reader;
+pub use scanner::Scanner;
+pub use token::{Class, MAX_INT, MAX_TOKEN, Token, TokenText, TokenValue};
+pub use writer::Writer;
