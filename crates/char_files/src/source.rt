@@ -5,9 +5,9 @@ use crate::buffer::Buffer;
 use crate::run::Run;
 use looks::Looks;
 
-/// Characters with their looks, read by position. No call takes memory. This project's own, for the
-/// readers of
-/// Project Oberon, chapter 5.
+/// Characters with their looks, read by position. No call takes memory.
+///
+/// This project's own, for the readers of Project Oberon, chapter 5.
 pub trait Source {
     ghost use Rattle.std.specs.Prelude.{List};
     ghost use Rattle.char_files.specs.Stretch.{Item};

@@ -1,0 +1,10 @@
+pub mod Changes
+pub mod Cut
+pub mod CutList
+pub mod Cutting
+pub mod Entered
+pub mod Found
+pub mod Gap
+pub mod Names
+pub mod Order
+pub mod Tables

@@ -1,0 +1,21 @@
+use Rattle.std.proofs.Common.{◌≡◌, ℕ, List, refl, sym, ap, subst, ◌∙◌}
+use Rattle.char_files.specs.CharName.{CharName}
+use Rattle.piece_list.specs.declared.piece.Piece.{Piece}
+use Rattle.piece_list.specs.Held.{PiecesSeen, IsPlaceOf}
+use Rattle.piece_list.specs.Spelled.{spelled}
+use Rattle.piece_list.proofs.CutList.{cut_spells}
+use Rattle.piece_list.proofs.list.PieceList.split.Goals as goal
+
+pub returns-clause-spells : goal.returns-clause-spells
+returns-clause-spells c =
+    cut_spells c.reserve.new.self.items c.cut-rest.new.pieces.items c.args.place.piece c.args.place.within
+    c.cut-rest.result c.cut-rest.ensures.cut
+    ∙ ap spelled (c.reserve.ensures.unchanged.0 ∙ ap (λ (v : PiecesSeen). v.items) c.self.view_is)
+
+pub returns-clause-place : goal.returns-clause-place
+returns-clause-place c =
+    let same : c.reserve.new.self.items ≡ c.args.self.now.items =
+    c.reserve.ensures.unchanged.0 ∙ ap (λ (v : PiecesSeen). v.items) c.self.view_is in
+    let at : List (ℕ × Piece) → CharName → Type 0 =
+    λ (l : List (ℕ × Piece)) (d : CharName). IsPlaceOf l c.args.place d in
+    (refl, λ d is. c.cut-rest.ensures.place d (subst (λ (l : List (ℕ × Piece)). at l d) (sym same) is))

@@ -1,0 +1,39 @@
+-- What a contract sees of a list of pieces, and what its tables keep.
+use Rattle.std.specs.Prelude.{◌≡◌, ℕ, ◌+◌, ◌<◌, List, ◌∷◌, ◌++◌, Some, All}
+use Rattle.char_files.specs.CharName.{CharName}
+use Rattle.operations.specs.NameSet.{IsIn}
+use Rattle.piece_raw.specs.Ring.{IsMember, HasTag}
+use Rattle.piece_list.specs.declared.piece.Piece.{Piece}
+use Rattle.piece_list.specs.declared.place.Place.{Place}
+use Rattle.piece_list.specs.Pieces.{range_of, front_of, rest_of}
+use Rattle.piece_list.specs.Spelled.{ArePieces}
+use Rattle.piece_list.specs.Tables.{Tables, tag_at}
+
+-- the pieces in order, each under its number, and how many comparisons the last `locate` made
+pub record PiecesSeen : Type 0 where
+  pub items : List (ℕ × Piece)
+  pub steps : ℕ
+
+-- the piece of this number holds the character of this name, behind so many others
+abbrev pub IsPlaceOf : List (ℕ × Piece) → Place → CharName → Type 0
+IsPlaceOf items place c = (p : Piece) × IsMember items place.piece p × (place.within < p.len)
+    × (c.site ≡ p.site) × (c.off ≡ p.off + place.within)
+
+-- each piece's names are entered under its number, and each entry is the number of a piece
+pub record AreEntered (items : List (ℕ × Piece)) (tables : Tables) : Type 0 where
+  pub pieces : ArePieces items
+  pub entered : All (λ m. (c : CharName) → IsIn (range_of m.1) c → tag_at tables c ≡ Some m.0) items
+  pub held : (c : CharName) (tag : ℕ) → tag_at tables c ≡ Some tag → HasTag items tag
+
+-- there is a piece of this number, with more characters than so many
+abbrev pub HasPlace : List (ℕ × Piece) → Place → Type 0
+HasPlace items place = (p : Piece) × IsMember items place.piece p × (place.within < p.len)
+
+-- new is old with the piece of this number cut behind its first n characters; the rest has the other number
+pub record IsCut (tag n rest : ℕ) (old new : List (ℕ × Piece)) : Type 0 where
+  pub ahead : List (ℕ × Piece)
+  pub behind : List (ℕ × Piece)
+  pub piece : Piece
+  pub whole : old ≡ ahead ++ (tag, piece) ∷ behind
+  pub within : n < piece.len
+  pub parts : new ≡ ahead ++ (tag, front_of n piece) ∷ (rest, rest_of n piece) ∷ behind

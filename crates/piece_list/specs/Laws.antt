@@ -1,0 +1,83 @@
+-- What lists of numbered pieces spell, before and after one is cut, put in, or changed.
+use Rattle.std.specs.Prelude.{◌≡◌, ℕ, ◌+◌, ◌≤◌, true, false, List, [], ◌∷◌, ◌++◌, length, map, All}
+use Rattle.looks.specs.Key.{is_below}
+use Rattle.looks.specs.declared.key.Key.{Key}
+use Rattle.char_files.specs.CharName.{CharName}
+use Rattle.char_files.specs.declared.name.Anchor.{Anchor}
+use Rattle.char_files.specs.declared.name.Anchor.TheVariants.{Root, At}
+use Rattle.operations.specs.NameSet.{Range, IsIn}
+use Rattle.operations.specs.Operation.{Operation, insert}
+use Rattle.tree_order.specs.Good.{key_of}
+use Rattle.tree_order.specs.Insertion.{IsOneMore, IsInsertAt}
+use Rattle.tree_order.specs.KeptInsertion.{kept_run}
+use Rattle.tree_order.specs.Registers.{Kept, AreKept, if_named}
+use Rattle.piece_list.specs.declared.piece.Piece.{Piece}
+use Rattle.piece_list.specs.declared.run.Run.{Run}
+use Rattle.piece_list.specs.Pieces.{range_of, char_of, chars_of, piece_of, front_of, rest_of}
+use Rattle.piece_list.specs.Placed.{IsPlaced}
+use Rattle.piece_list.specs.Spelled.{spelled, ArePieces}
+
+-- a piece cut in two, the rest under any number, spells the same
+abbrev pub CutSpellsTheSame : Type 0
+CutSpellsTheSame =
+    (ahead behind : List (ℕ × Piece)) (tag rest n : ℕ) (p : Piece) → n ≤ p.len
+    → spelled (ahead ++ (tag, front_of n p) ∷ (rest, rest_of n p) ∷ behind) ≡ spelled (ahead ++
+    (tag, p) ∷ behind)
+
+-- the pieces end with the cause; there are none ahead of the root
+abbrev pub EndAt : List (ℕ × Piece) → Anchor → Type 0
+EndAt ahead Root = ahead ≡ []
+EndAt ahead (At c) = (front : List (ℕ × Piece)) × (tag : ℕ) × (p : Piece)
+    × (ahead ≡ front ++ (tag, p) ∷ []) × (c.site ≡ p.site) × (c.off + 1 ≡ p.off + p.len)
+
+-- there are no pieces, or the first one's key isn't greater
+abbrev pub BeginNotAbove : Key → List (ℕ × Piece) → Type 0
+BeginNotAbove key [] = Unit {0}
+BeginNotAbove key (m ∷ behind) = is_below key m.1.key ≡ false
+
+-- behind the cause whole pieces of greater key are skipped, and no further one is of greater key
+pub record IsPieceGap (key : Key) (cause : Anchor) (ahead skipped behind : List (ℕ × Piece)) : Type 0 where
+  pub at_cause : EndAt ahead cause
+  pub greater : All (λ m. is_below key m.1.key ≡ true) skipped
+  pub stops : BeginNotAbove key behind
+
+-- a piece put into this gap stands, character by character, where the insertion law puts its run
+abbrev pub PieceGoesIntoGap : Type 0
+PieceGoesIntoGap =
+    (ahead skipped behind : List (ℕ × Piece)) (cause : Anchor) (tag : ℕ) (p : Piece)
+    → ArePieces (ahead ++ skipped ++ behind) → IsPieceGap p.key cause ahead skipped behind
+    → IsPlaced p.key cause (chars_of p) (spelled (ahead ++ skipped ++ behind))
+    (spelled (ahead ++ skipped ++ (tag, p) ∷ behind))
+
+-- a run that is put there makes all characters of the larger set in order, each with its registers
+abbrev pub PlacedIsKept : Type 0
+PlacedIsKept =
+    (ops : List Operation) (i : Operation) (cause : Anchor) (old new : List Kept)
+    → IsOneMore ops i → IsInsertAt i cause → AreKept ops old
+    → IsPlaced (key_of i) cause (kept_run i) old new → AreKept (ops ++ i ∷ []) new
+
+-- the run is what an Insert inserts, under its key
+abbrev pub IsRunOf : Operation → Run → Type 0
+IsRunOf i r = (cause : Anchor) × (bytes : List ℕ) × (i.kind ≡ insert cause r.off r.looks bytes)
+    × (r.site ≡ i.site) × (r.len ≡ length bytes) × (r.key ≡ key_of i)
+
+-- the piece of this run has these characters
+abbrev pub PieceIsFirstKept : Type 0
+PieceIsFirstKept = (i : Operation) (r : Run) → IsRunOf i r → chars_of (piece_of r) ≡ kept_run i
+
+-- none of the pieces has one of these names
+abbrev pub Avoid : Range → List (ℕ × Piece) → Type 0
+Avoid r items = All (λ m. (c : CharName) → IsIn (range_of m.1) c → IsIn r c → ⊥) items
+
+-- a change of a piece is this one, character by character
+abbrev pub ChangesEach : (Piece → Piece) → (Kept → Kept) → Type 0
+ChangesEach change each = (p : Piece)
+    → (range_of (change p) ≡ range_of p) × ((c : CharName) → char_of (change p) c ≡ each (char_of p c))
+
+-- a piece that is changed changes the characters of its names, and no others
+abbrev pub ChangeIsOfItsNames : Type 0
+ChangeIsOfItsNames =
+    (change : Piece → Piece) (each : Kept → Kept) (ahead behind : List (ℕ × Piece)) (tag : ℕ) (p : Piece)
+    → ChangesEach change each → Avoid (range_of p) ahead → Avoid (range_of p) behind
+    → spelled (ahead ++ (tag, change p) ∷ behind)
+    ≡ map (if_named (range_of p ∷ []) each) (spelled (ahead ++ (tag, p) ∷ behind))

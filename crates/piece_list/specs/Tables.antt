@@ -1,0 +1,21 @@
+-- The tables that say which piece holds a name.
+use Rattle.std.specs.Prelude.{ℕ, nat_eq, List, [], Option, None, slice_index_or}
+use Rattle.std.specs.Option.{option_map_or}
+use Rattle.std.specs.Map.{lookup}
+use Rattle.char_files.specs.CharName.{CharName}
+
+-- the number of the piece that holds the byte at an offset, if one does
+abbrev pub tag_in : List (Option ℕ) → ℕ → Option ℕ
+tag_in tags off = slice_index_or tags off None
+
+-- tables by their sites' numbers
+abbrev pub Tables : Type 0
+Tables = List (ℕ × List (Option ℕ))
+
+-- a site's table; an empty one where there is none
+abbrev pub table_of : Tables → ℕ → List (Option ℕ)
+table_of tables site = option_map_or (λ t. t) (lookup (nat_eq site) tables) []
+
+-- the number of the piece that holds this name, if one does
+abbrev pub tag_at : Tables → CharName → Option ℕ
+tag_at tables c = tag_in (table_of tables c.site) c.off

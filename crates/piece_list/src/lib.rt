@@ -1,0 +1,16 @@
+//! A text as a list of pieces, the neighbouring characters of a site's file that were changed alike.
+#![tactic(auto)]
+
+pub mod laws;
+mod list;
+mod piece;
+mod place;
+mod run;
+mod tags;
+#[cfg(test)]
+mod tests;
+
+pub use list::PieceList;
+pub use piece::{MAX_PIECE, Piece};
+pub use place::Place;
+pub use run::Run;

@@ -1,0 +1,148 @@
+ghost use Rattle.std.specs.Prelude.{◌≡◌, ℕ, ◌+◌, ◌<◌, ◌≤◌, ◌↔◌, [], min, IfOk, OnOk, OnErr, IfSome, IsSome};
+ghost use Rattle.looks.specs.Refusal.{RefusedForMemoryAlone};
+ghost use Rattle.piece_raw.specs.Ring.{AreTags, HasTag};
+ghost use Rattle.char_files.specs.CharName.{CharName};
+ghost use Rattle.piece_list.specs.Held.{IsPlaceOf, HasPlace, IsCut, AreEntered};
+ghost use Rattle.piece_list.specs.Spelled.{spelled, HasName};
+
+use crate::piece::Piece;
+use crate::place::Place;
+use crate::tags::TagTables;
+use char_files::Name;
+use looks::Refusal;
+use piece_raw::Ring;
+use std::alloc::Global;
+use std::marker::Model;
+
+/// All characters of a text in order, hidden ones too, as a list of pieces (Project Oberon, chapter 5).
+///
+/// A piece is found by the name of one of its characters at once; that is this project's own.
+#[derive(Drop)]
+pub struct PieceList {
+    pieces: Ring<Piece>,
+    tags: TagTables,
+    steps: u64,
+}
+
+impl Model for PieceList {
+    ghost use Rattle.piece_list.specs.Held.{PiecesSeen, AreEntered};
+
+    ghost Value = { PiecesSeen };
+
+    ghost view = { λ l. record { items = l.pieces.items; steps = l.steps } };
+
+    ghost invariant = { λ l. AreEntered l.pieces.items l.tags };
+}
+
+// A law of rings: no number is used twice. A proof gets it by calling this, at no cost.
+fn numbers_differ(pieces: &Ring<Piece>)
+    ensures { AreTags pieces.now.items }
+{
+    let _ = pieces.first();
+}
+
+// Cuts the piece of this number behind its first `n` characters. The rest gets the number that is answered.
+fn cut(pieces: &mut Ring<Piece>, tags: &mut TagTables, tag: u64, n: u32) -> u64
+    requires entered { AreEntered pieces.old.items tags.old }
+    requires some { 0 < n }
+    requires place { HasPlace pieces.old.items (record { piece = tag; within = n }) }
+    requires room { 0 < pieces.old.room }
+    ensures cut { IsCut tag n result pieces.old.items pieces.new.items }
+    ensures place { (c : CharName) → IsPlaceOf pieces.old.items (record { piece = tag; within = n }) c
+        → IsPlaceOf pieces.new.items (record { piece = result; within = 0 }) c }
+    ensures entered { AreEntered pieces.new.items tags.new }
+    ensures room { pieces.old.room ≤ pieces.new.room + 1 }
+{
+    numbers_differ(pieces);
+    pieces.seek(tag);
+    let rest = pieces.value_mut().split_off(n);
+    let (site, off, len) = (rest.site, rest.off, rest.len);
+    match pieces.push_after(rest) {
+        Ok(number) => {
+            tags.fill(site, off, len, number);
+            number
+        }
+        Err(_) => unreachable!(),
+    }
+}
+
+impl PieceList {
+    /// No characters. Refused `OutOfMemory` alone.
+    pub fn new(alloc: Global) -> Result<PieceList, Refusal>
+        ensures ok { IfOk result (λ list. list ≡ record { items = []; steps = 0 }) }
+        ensures errors { RefusedForMemoryAlone result }
+    {
+        Ok(PieceList {
+            pieces: Ring::new(alloc)?,
+            tags: TagTables::new(alloc),
+            steps: 0,
+        })
+    }
+
+    // Where in this piece the name stands, if it does: one comparison, which is counted.
+    fn compare(&mut self, tag: u64, name: Name) -> Option<Place>
+        requires { HasTag self.old.items tag }
+        ensures found { IfSome result (λ place. (place.piece ≡ tag) × IsPlaceOf self.old.items place name) }
+        ensures held { (place : Place) → IsPlaceOf self.old.items place name → place.piece ≡ tag
+            → IsSome result }
+        ensures items { self.new.items ≡ self.old.items }
+        ensures steps { self.new.steps ≡ min (self.old.steps + 1) u64.MAX }
+    {
+        self.steps = self.steps.saturating_add(1);
+        numbers_differ(&self.pieces);
+        let piece = self.pieces.value_at(tag);
+        if !piece.holds(name) {
+            return None;
+        }
+        Some(Place {
+            piece: tag,
+            within: name.off() - piece.off,
+        })
+    }
+
+    /// Where the character of this name stands; `None` for a name that isn't here.
+    ///
+    /// It reads one entry of a table, and compares the name with one piece at most.
+    pub fn locate(&mut self, name: Name) -> Option<Place>
+        ensures place { IfSome result (λ place. IsPlaceOf self.old.items place name) }
+        ensures here { IsSome result ↔ HasName (spelled self.old.items) name }
+        ensures items { self.new.items ≡ self.old.items }
+        ensures steps { self.new.steps ≤ 1 }
+        ensures counted { IsSome result → self.new.steps ≡ 1 }
+    {
+        self.steps = 0;
+        let tag = self.tags.get(name)?;
+        self.compare(tag, name)
+    }
+
+    /// Cuts a piece in two ahead of this place, and answers the place of the same character afterwards. The
+    /// piece keeps its number and what stands ahead. Nothing changes at a piece's first character.
+    ///
+    /// Refused `OutOfMemory` alone.
+    pub fn split(&mut self, place: Place) -> Result<Place, Refusal>
+        requires { HasPlace self.old.items place }
+        ensures first { place.within ≡ 0 → (result ≡ Ok place) × (self.new ≡ self.old) }
+        ensures spells { spelled self.new.items ≡ spelled self.old.items }
+        ensures place { IfOk result (λ rest. (rest.within ≡ 0)
+            × ((c : CharName) → IsPlaceOf self.old.items place c → IsPlaceOf self.new.items rest c)) }
+        ensures errors { RefusedForMemoryAlone result }
+        ensures err { OnErr result (self.new ≡ self.old) }
+    {
+        if place.within == 0 {
+            return Ok(place);
+        }
+        self.pieces.reserve(1)?;
+        let rest = cut(&mut self.pieces, &mut self.tags, place.piece, place.within);
+        Ok(Place {
+            piece: rest,
+            within: 0,
+        })
+    }
+
+    /// How many times the last `locate` compared a name with a piece.
+    pub fn steps(&self) -> u64
+        ensures { result ≡ self.now.steps }
+    {
+        self.steps
+    }
+}

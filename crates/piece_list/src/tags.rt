@@ -1,0 +1,129 @@
+ghost use Rattle.std.specs.Prelude.{◌≡◌, ◌≢◌, ℕ, ◌+◌, ◌<◌, ◌≤◌, [], Some as Just, length, OnOk};
+ghost use Rattle.looks.specs.Refusal.{RefusedForMemoryAlone};
+ghost use Rattle.piece_list.specs.Tables.{tag_in, table_of, tag_at};
+
+use char_files::{Name, SiteNo};
+use indexmap::IndexMap;
+use looks::Refusal;
+use std::alloc::Global;
+use std::marker::Model;
+
+// Beside each byte of a site's file, the number of the piece that holds it.
+#[derive(Drop)]
+struct SiteTags {
+    tags: Vec<Option<u64>>,
+}
+
+impl Model for SiteTags {
+    ghost use Rattle.std.specs.Prelude.{ℕ, List, Option};
+
+    ghost Value = { List (Option ℕ) };
+
+    ghost view = { λ t. t.tags.items };
+}
+
+impl SiteTags {
+    fn get(&self, off: u32) -> Option<u64>
+        ensures { result ≡ tag_in self.now off }
+    {
+        match self.tags.get(off as usize) {
+            Some(tag) => *tag,
+            None => None,
+        }
+    }
+
+    // Makes the table so long, at least. What it says stays, also where memory is refused.
+    #[tactic(auto, using(crate::proofs::Tables::pushed_none))]
+    fn grow(&mut self, len: u32) -> Result<(), Refusal>
+        ensures ok { OnOk result (len ≤ length self.new) }
+        ensures errors { RefusedForMemoryAlone result }
+        ensures same { (off : ℕ) → tag_in self.new off ≡ tag_in self.old off }
+    {
+        for _ in self.tags.len()..len as usize {
+            self.tags.push(None)?;
+        }
+        Ok(())
+    }
+
+    // Enters a piece.
+    fn fill(&mut self, off: u32, len: u32, tag: u64)
+        requires { off + len ≤ length self.old }
+        ensures inside { (at : ℕ) → off ≤ at → at < off + len → tag_in self.new at ≡ Just tag }
+        ensures ahead { (at : ℕ) → at < off → tag_in self.new at ≡ tag_in self.old at }
+        ensures behind { (at : ℕ) → off + len ≤ at → tag_in self.new at ≡ tag_in self.old at }
+    {
+        for at in off as usize..off as usize + len as usize {
+            self.tags[at] = Some(tag);
+        }
+    }
+}
+
+/// Which piece holds a name: a table for each site. What the tables say doesn't depend on how long they are.
+#[derive(Drop)]
+pub(crate) struct TagTables {
+    sites: IndexMap<u16, SiteTags>,
+    alloc: Global,
+}
+
+impl Model for TagTables {
+    ghost use Rattle.piece_list.specs.Tables.{Tables};
+
+    ghost Value = { Tables };
+
+    ghost view = { λ t. t.sites.entries };
+}
+
+impl TagTables {
+    pub fn new(alloc: Global) -> TagTables
+        ensures { result ≡ [] }
+    {
+        TagTables {
+            sites: IndexMap::new(alloc),
+            alloc,
+        }
+    }
+
+    /// The number of the piece that holds the name. It reads one entry.
+    pub fn get(&self, name: Name) -> Option<u64>
+        ensures { result ≡ tag_at self.now name }
+    {
+        match self.sites.get(&name.site().get()) {
+            Some(tags) => tags.get(name.off()),
+            None => None,
+        }
+    }
+
+    /// Makes a site's table so long, at least. What the tables say stays, also where memory is refused.
+    pub fn reserve(&mut self, site: SiteNo, len: u32) -> Result<(), Refusal>
+        ensures ok { OnOk result (len ≤ length (table_of self.new site)) }
+        ensures errors { RefusedForMemoryAlone result }
+        ensures same { (other off : ℕ) → tag_in (table_of self.new other) off
+            ≡ tag_in (table_of self.old other) off }
+    {
+        if let Some(tags) = self.sites.get_mut(&site.get()) {
+            return tags.grow(len);
+        }
+        let mut tags = SiteTags {
+            tags: Vec::new(self.alloc),
+        };
+        tags.grow(len)?;
+        self.sites.insert(site.get(), tags)?;
+        Ok(())
+    }
+
+    /// Enters a piece's names, for which the table is long enough.
+    pub fn fill(&mut self, site: SiteNo, off: u32, len: u32, tag: u64)
+        requires { off + len ≤ length (table_of self.old site) }
+        ensures inside { (at : ℕ) → off ≤ at → at < off + len → tag_in (table_of self.new site) at
+            ≡ Just tag }
+        ensures ahead { (at : ℕ) → at < off → tag_in (table_of self.new site) at
+            ≡ tag_in (table_of self.old site) at }
+        ensures behind { (at : ℕ) → off + len ≤ at
+            → tag_in (table_of self.new site) at ≡ tag_in (table_of self.old site) at }
+        ensures others { (other : ℕ) → other ≢ site → table_of self.new other ≡ table_of self.old other }
+    {
+        if let Some(tags) = self.sites.get_mut(&site.get()) {
+            tags.fill(off, len, tag);
+        }
+    }
+}
