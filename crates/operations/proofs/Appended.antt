@@ -1,6 +1,8 @@
 -- Bytes that are appended one part after the other.
 use Rattle.std.proofs.Common.{◌≡◌, ℕ, List, ◌++◌, length, take, Result, Ok, Err, ◌≤◌, refl, sym, ap, ◌∙◌}
-use Rattle.std.proofs.Common.{append_assoc, length-append, arith}
+use Rattle.std.proofs.Common.{append_assoc, length-append, arith, ◌↔◌, true, false}
+use Rattle.std.specs.Prelude.{IsOk, OnOk}
+use Rattle.looks.specs.declared.refusal.Refusal.{Refusal}
 use Rattle.std.specs.declared.alloc.AllocError.{AllocError}
 use Rattle.std.proofs.lemmas.List.{take-take, take_at}
 use Rattle.operations.specs.Seen.{Appends}
@@ -26,3 +28,12 @@ pub Appends-refused : (result : Result (Unit {0}) AllocError) (old mid new x byt
     → mid ≡ old ++ x → (e : AllocError) → result ≡ Err e → take (length mid) new ≡ mid
     → Appends result old new bytes
 Appends-refused result old mid new x bytes f e is h = rw is (kept old mid new x f h)
+
+-- all of it was appended, or what was is taken back
+pub all_of_it : (put : Result (Unit {0}) AllocError) (told : Result (Unit {0}) Refusal)
+    (old mid new bytes : List ℕ) → Appends put old mid bytes → IsOk told ↔ IsOk put → OnOk told (new ≡ mid)
+    → OnOk told (new ≡ old ++ bytes)
+all_of_it (Ok done) (Ok well) old mid new bytes a iff k = k ∙ a
+all_of_it (Err refused) (Ok well) old mid new bytes a iff k =
+    let no : false ≡ true = iff.0 refl in absurd cc
+all_of_it put (Err why) old mid new bytes a iff k = tt

@@ -101,6 +101,16 @@ looks_reads = record {
       ) refl;
 }
 
+pub looks_are_told : (a b : Looks) (x y : List ℕ) → IsLooks a → IsLooks b
+    → looks_spelling a ++ x ≡ looks_spelling b ++ y → (a ≡ b) × (x ≡ y)
+looks_are_told a b x y a_is b_is e =
+    let same : ◌≡◌ {A = Option (Looks × List ℕ)} (Some (a, x)) (Some (b, y)) =
+    sym (looks_reads.again a x a_is) ∙ ap looks_at e ∙ looks_reads.again b y b_is in
+    let both : ◌≡◌ {A = Looks × List ℕ} (a, x) (b, y) = some_is _ _ same in (
+      ap (λ (p : Looks × List ℕ). p.0) both,
+      ap (λ (p : Looks × List ℕ). p.1) both,
+    )
+
 pub looks_shorter : (bytes : List ℕ) (l : Looks) (rest : List ℕ) → IsBytes bytes
     → looks_at bytes ≡ Some (l, rest) → length rest ≤ length bytes
 looks_shorter bytes l rest fits e = let t = looks_reads.takes bytes l rest fits e in

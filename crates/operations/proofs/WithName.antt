@@ -393,6 +393,18 @@ length-with_first r (s ∷ ranges) =
     cond_both (touches r s) _ _ (λ xs. length xs ≤ length (s ∷ ranges) + 1) (λ e. omega arith)
     (λ e. omega arith)
 
+-- one more range at most
+pub length-with_range_at : (ranges : List Range) (at : ℕ) (r : Range) → at ≤ length ranges
+    → length (with_range_at ranges at r) ≤ length ranges + 1
+length-with_range_at ranges at r le =
+    omega (
+      arith,
+      length-append (take at ranges) (with_first r (drop at ranges)),
+      length-with_first r (drop at ranges),
+      length-drop at ranges,
+      length-take-le at ranges le,
+    )
+
 pub length-with_other_at : (ranges : List Range) (at : ℕ) (r : Range) → at < length ranges
     → length (with_other_at ranges at r) ≤ length ranges
 length-with_other_at ranges at r lt =

@@ -13,7 +13,7 @@ use Rattle.looks.specs.declared.colour.TheConstants.{MAX_COLOUR}
 use Rattle.looks.specs.declared.font_name.TheConstants.{MAX_FONT_NAME}
 use Rattle.looks.specs.declared.looks.Looks.{Looks}
 use Rattle.looks.specs.FontName.{is_font_byte}
-use Rattle.looks.specs.Looks.{plain_looks}
+use Rattle.looks.specs.Looks.{IsLooks, plain_looks}
 use Rattle.looks.specs.Sel.{Selection}
 use Rattle.char_files.specs.declared.name.Anchor.{Anchor}
 use Rattle.char_files.specs.declared.name.Anchor.TheVariants.{Root, At}
@@ -23,7 +23,7 @@ use Rattle.operations.specs.declared.name_set.TheConstants.{MAX_RANGES}
 use Rattle.operations.specs.declared.op.TheConstants.{MAX_STAMP}
 use Rattle.operations.specs.NameSet.{Range, is_ahead}
 use Rattle.operations.specs.Operation.{OpKind, insert, delete, restore, change_looks, Operation}
-use Rattle.operations.specs.Spelling.{HasSpelling, version_byte, spelling}
+use Rattle.operations.specs.Spelling.{HasSpelling, version_byte, looks_spelling, spelling}
 
 infixl 10 ◌>>=◌
 -- the next step, where this one found a value
@@ -280,6 +280,13 @@ abbrev pub NoneBeginsAnother : Type 0
 NoneBeginsAnother =
     (a b : Operation) (rest : List ℕ) → HasSpelling a → HasSpelling b → spelling b ≡ spelling a ++ rest
     → rest ≡ []
+
+-- no two looks share a spelling, and no looks' spelling begins another's: what looks are spelled at the front of
+-- bytes, and what follows them, is told by the bytes
+abbrev pub LooksAreTold : Type 0
+LooksAreTold =
+    (a b : Looks) (x y : List ℕ) → IsLooks a → IsLooks b → looks_spelling a ++ x ≡ looks_spelling b ++ y
+    → (a ≡ b) × (x ≡ y)
 
 -- no two operations share a spelling
 abbrev pub NoneIsShared : Type 0

@@ -8,7 +8,7 @@ ghost use Rattle.operations.specs.Spelling.{HasSpelling, looks_spelling, spellin
 ghost use Rattle.operations.specs.Reading.{Finds, Makes, looks_len_at, fits_in_file, is_cause, insert_at};
 ghost use Rattle.operations.specs.Reading.{delete_at, restore_at, change_at, kind_at, tag_at, stamp_at};
 ghost use Rattle.operations.specs.Reading.{header_at, operation_of, operation_at, message_of, SpellsNone};
-ghost use Rattle.operations.specs.Reading.{NoneBeginsAnother, NoneIsShared};
+ghost use Rattle.operations.specs.Reading.{NoneBeginsAnother, LooksAreTold, NoneIsShared};
 ghost use Rattle.operations.specs.Parts.{view_header, view_parts, NamesFew};
 ghost use Rattle.operations.specs.Seen.{kind_of};
 
@@ -294,9 +294,10 @@ pub fn read_looks(bytes: &[u8]) -> Option<(Looks, usize)>
     looks_len_at(bytes)
 }
 
-/// A law: no two operations share a spelling, and no spelling begins another one. A proof gets it by calling
-/// this, at no cost.
+/// A law: no two operations share a spelling, and no spelling begins another one; and the same of looks. A
+/// proof gets it by calling this, at no cost.
 pub fn one_spelling()
     ensures prefix { NoneBeginsAnother }
     ensures one { NoneIsShared }
+    ensures looks { LooksAreTold }
 {}

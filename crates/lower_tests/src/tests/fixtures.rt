@@ -45,6 +45,15 @@ pub(super) fn name((site, off): (u16, u32)) -> Option<Name> {
     Name::new(SiteNo::new(site)?, off)
 }
 
+// Whether the names are these.
+pub(super) fn are_these(names: &[Name], want: &[(u16, u32)]) -> bool {
+    names.len() == want.len()
+        && names
+            .iter()
+            .zip(want)
+            .all(|(c, parts)| Some(*c) == name(*parts))
+}
+
 pub(super) fn anchor(cause: Option<(u16, u32)>) -> Option<Anchor> {
     match cause {
         None => Some(Anchor::Root),
@@ -127,7 +136,7 @@ pub(super) fn op_with(alloc: Global, fields: Fields) -> Result<Option<Op>, Refus
     Ok(Op::new(text, site, fields.seq, fields.stamp, kind))
 }
 
-fn are_looks(looks: &Looks, (font, colour, offset): LooksParts) -> bool {
+pub(super) fn are_looks(looks: &Looks, (font, colour, offset): LooksParts) -> bool {
     looks.font.as_bytes() == font && (looks.colour.number(), looks.offset) == (colour, offset)
 }
 

@@ -1,6 +1,6 @@
 //! The laws of one operation more, on small sets: what they make of the smaller set's order and text is what
 //! the slow calls compute for the larger one. Rules that look right make something else.
-use super::fixtures::{Does, Told, name, ops_of};
+use super::fixtures::{Does, Told, are_these, ops_of};
 use super::shown::{are_good, order_of, place_of, shown_of};
 use char_files::{Anchor, Char, Name};
 use looks::Key;
@@ -186,14 +186,6 @@ fn with_run(alloc: Global, order: &[Name], index: usize, run: &[Name]) -> Result
     Ok(all)
 }
 
-fn are_these(names: &[Name], want: &[(u16, u32)]) -> bool {
-    names.len() == want.len()
-        && names
-            .iter()
-            .zip(want)
-            .all(|(c, parts)| Some(*c) == name(*parts))
-}
-
 fn names_of(alloc: Global, shown: &[Char]) -> Result<Vec<Name>, Fail> {
     Ok(shown.iter().map(|c| c.name).collect(alloc)?)
 }
@@ -211,6 +203,55 @@ fn count_shown(names: &[Name], shown: &[Name]) -> usize {
     names.iter().filter(|c| shown.contains(c)).count()
 }
 
+// The operations with the Insert behind them.
+fn larger_of(alloc: Global, case: &OneMore) -> Result<Vec<Op>, Fail> {
+    ops_of(alloc, &with_last(alloc, case.ops, case.insert)?)
+}
+
+// The order of these operations, which have to be good.
+fn good_order(rt: &impl Abort, alloc: Global, ops: &[Op]) -> Result<Vec<Name>, Fail> {
+    assert!(rt; are_good(rt, alloc, ops)?);
+    order_of(rt, alloc, ops)
+}
+
+// What these operations show, which have to be good.
+fn good_shown(rt: &impl Abort, alloc: Global, ops: &[Op]) -> Result<Vec<Char>, Fail> {
+    assert!(rt; are_good(rt, alloc, ops)?);
+    shown_of(rt, alloc, ops)
+}
+
+// The place of the anchor among what these operations show, which have to be good.
+fn good_place(rt: &impl Abort, alloc: Global, ops: &[Op], anchor: Anchor) -> Result<u64, Fail> {
+    let Anchor::At(c) = anchor else {
+        return Ok(0);
+    };
+    assert!(rt; are_good(rt, alloc, ops)? && has_char(ops, c));
+    place_of(rt, alloc, ops, c)
+}
+
+// Whether what is shown has these names.
+fn show_these(rt: &impl Abort, alloc: Global, ops: &[Op], want: &[Name]) -> Result<bool, Fail> {
+    let shown = good_shown(rt, alloc, ops)?;
+    Ok(names_of(alloc, &shown)?.as_slice() == want)
+}
+
+// Whether what is shown has these bytes.
+fn show_bytes(rt: &impl Abort, alloc: Global, ops: &[Op], want: &[u8]) -> Result<bool, Fail> {
+    let shown = good_shown(rt, alloc, ops)?;
+    Ok(shown.iter().map(|c| c.byte).eq(want.iter().copied()))
+}
+
+// The names that are shown with the run put in, as many ahead of it as those ahead of the index.
+fn shown_with_run(
+    alloc: Global,
+    shown: &[Char],
+    ahead: &[Name],
+    run: &[Name],
+) -> Result<Vec<Name>, Fail> {
+    let names = names_of(alloc, shown)?;
+    with_run(alloc, &names, count_shown(ahead, &names), run)
+}
+
 // The order, and what is shown, gain the run where the rule puts it.
 fn check_one_more(
     rt: &impl Abort,
@@ -219,25 +260,21 @@ fn check_one_more(
     skips: Skips,
 ) -> Result<(), Fail> {
     let ops = ops_of(alloc, case.ops)?;
-    let larger = ops_of(alloc, &with_last(alloc, case.ops, case.insert)?)?;
+    let larger = larger_of(alloc, case)?;
     let insert = larger.last().ok_or("no operation")?;
-    assert!(rt; are_good(rt, alloc, &ops)?, "{}", case.what);
-    assert!(rt; are_good(rt, alloc, &larger)?, "{}", case.what);
-
-    let order = order_of(rt, alloc, &ops)?;
+    let order = good_order(rt, alloc, &ops)?;
     let index = index_for(&ops, &order, insert, skips)?;
     let run = run_of(alloc, insert)?;
     let with = with_run(alloc, &order, index, &run)?;
-    assert!(rt; are_these(&with, case.order), "{}", case.what);
-    assert!(rt; order_of(rt, alloc, &larger)? == with, "{}", case.what);
+    let is_order = are_these(&with, case.order) && good_order(rt, alloc, &larger)? == with;
+    assert!(rt; is_order, "{}", case.what);
 
-    let shown = names_of(alloc, &shown_of(rt, alloc, &ops)?)?;
-    let ahead = count_shown(order.get(..index).ok_or("no index")?, &shown);
-    let want = with_run(alloc, &shown, ahead, &run)?;
-    let is = shown_of(rt, alloc, &larger)?;
-    assert!(rt; names_of(alloc, &is)? == want, "{}", case.what);
+    let shown = good_shown(rt, alloc, &ops)?;
+    let ahead = order.get(..index).ok_or("no index")?;
+    let want = shown_with_run(alloc, &shown, ahead, &run)?;
+    let is_shown = show_these(rt, alloc, &larger, &want)?;
     assert!(rt;
-        is.iter().map(|c| c.byte).eq(case.shown.iter().copied()),
+        is_shown && show_bytes(rt, alloc, &larger, case.shown)?,
         "{}",
         case.what
     );
@@ -262,23 +299,12 @@ fn the_order_gains_a_run(rt: HostRuntime) -> Result<(), Fail> {
 // The run of the latest Insert is shown at the place of its cause.
 fn check_latest(rt: &impl Abort, alloc: Global, case: &OneMore) -> Result<(), Fail> {
     let ops = ops_of(alloc, case.ops)?;
-    let larger = ops_of(alloc, &with_last(alloc, case.ops, case.insert)?)?;
+    let larger = larger_of(alloc, case)?;
     let insert = larger.last().ok_or("no operation")?;
-    assert!(rt; are_good(rt, alloc, &ops)?, "{}", case.what);
-
-    let place = match cause_of(insert) {
-        Anchor::Root => 0,
-        Anchor::At(c) => {
-            assert!(rt; has_char(&ops, c), "{}", case.what);
-            place_of(rt, alloc, &ops, c)? as usize
-        }
-    };
-    let shown = names_of(alloc, &shown_of(rt, alloc, &ops)?)?;
-    let run = run_of(alloc, insert)?;
-    let want = with_run(alloc, &shown, place, &run)?;
-    assert!(rt; are_good(rt, alloc, &larger)?, "{}", case.what);
-    let is = shown_of(rt, alloc, &larger)?;
-    assert!(rt; names_of(alloc, &is)? == want, "{}", case.what);
+    let place = good_place(rt, alloc, &ops, cause_of(insert))? as usize;
+    let shown = names_of(alloc, &good_shown(rt, alloc, &ops)?)?;
+    let want = with_run(alloc, &shown, place, &run_of(alloc, insert)?)?;
+    assert!(rt; show_these(rt, alloc, &larger, &want)?, "{}", case.what);
     Ok(())
 }
 
@@ -291,25 +317,32 @@ fn the_latest_goes_directly_behind_its_cause(rt: HostRuntime) -> Result<(), Fail
     Ok(())
 }
 
+// The run of the latest Insert, typed at this position, is shown there.
+fn check_typed(
+    rt: &impl Abort,
+    alloc: Global,
+    case: &OneMore,
+    position: usize,
+) -> Result<(), Fail> {
+    let ops = ops_of(alloc, case.ops)?;
+    let larger = larger_of(alloc, case)?;
+    let insert = larger.last().ok_or("no operation")?;
+    let shown = names_of(alloc, &good_shown(rt, alloc, &ops)?)?;
+    let typed = index_behind(&shown, cause_of(insert))? == position;
+    let want = with_run(alloc, &shown, position, &run_of(alloc, insert)?)?;
+    assert!(rt;
+        typed && show_these(rt, alloc, &larger, &want)?,
+        "{}",
+        case.what
+    );
+    Ok(())
+}
+
 // Typed behind the first characters shown, the run of the latest Insert is shown behind them.
 #[test]
 fn the_latest_is_a_plain_edit(rt: HostRuntime) -> Result<(), Fail> {
     for (case, position) in [(LATEST_AT_THE_START, 0), (TYPED, 1)] {
-        let ops = ops_of(rt.alloc(), case.ops)?;
-        let larger = ops_of(rt.alloc(), &with_last(rt.alloc(), case.ops, case.insert)?)?;
-        let insert = larger.last().ok_or("no operation")?;
-        assert!(&rt; are_good(&rt, rt.alloc(), &ops)?, "{}", case.what);
-        assert!(&rt; are_good(&rt, rt.alloc(), &larger)?, "{}", case.what);
-        let shown = names_of(rt.alloc(), &shown_of(&rt, rt.alloc(), &ops)?)?;
-        assert_eq!(&rt;
-            index_behind(&shown, cause_of(insert))?,
-            position,
-            "{}",
-            case.what
-        );
-        let want = with_run(rt.alloc(), &shown, position, &run_of(rt.alloc(), insert)?)?;
-        let is = shown_of(&rt, rt.alloc(), &larger)?;
-        assert!(&rt; names_of(rt.alloc(), &is)? == want, "{}", case.what);
+        check_typed(&rt, rt.alloc(), &case, position)?;
     }
     Ok(())
 }
@@ -335,6 +368,12 @@ const ONE_WRITER: &[(Told, &[(u16, u32)])] = &[
     ),
 ];
 
+// The order with what the operation inserts directly behind its cause.
+fn with_own(alloc: Global, order: &[Name], op: &Op) -> Result<Vec<Name>, Fail> {
+    let index = index_behind(order, cause_of(op))?;
+    with_run(alloc, order, index, &run_of(alloc, op)?)
+}
+
 #[test]
 fn one_writer_goes_behind_causes(rt: HostRuntime) -> Result<(), Fail> {
     let mut told = Vec::new(rt.alloc());
@@ -342,14 +381,9 @@ fn one_writer_goes_behind_causes(rt: HostRuntime) -> Result<(), Fail> {
     for (one, want) in ONE_WRITER {
         told.push(*one)?;
         let ops = ops_of(rt.alloc(), &told)?;
-        let last = ops.last().ok_or("no operation")?;
-        let run = run_of(rt.alloc(), last)?;
-        if let Kind::Insert { cause, .. } = last.kind() {
-            let index = index_behind(&order, *cause)?;
-            order = with_run(rt.alloc(), &order, index, &run)?;
-        }
-        assert!(&rt; are_good(&rt, rt.alloc(), &ops)?);
-        assert!(&rt; order_of(&rt, rt.alloc(), &ops)? == order && are_these(&order, want));
+        order = with_own(rt.alloc(), &order, ops.last().ok_or("no operation")?)?;
+        let is = good_order(&rt, rt.alloc(), &ops)?;
+        assert!(&rt; is == order && are_these(&order, want));
     }
     Ok(())
 }
@@ -362,19 +396,16 @@ fn order_by(
     skips: Skips,
 ) -> Result<Vec<Name>, Fail> {
     let ops = ops_of(alloc, case.ops)?;
-    let larger = ops_of(alloc, &with_last(alloc, case.ops, case.insert)?)?;
+    let larger = larger_of(alloc, case)?;
     let insert = larger.last().ok_or("no operation")?;
-    assert!(rt; are_good(rt, alloc, &ops)?);
-    let order = order_of(rt, alloc, &ops)?;
+    let order = good_order(rt, alloc, &ops)?;
     let index = index_for(&ops, &order, insert, skips)?;
     with_run(alloc, &order, index, &run_of(alloc, insert)?)
 }
 
 // The order of the larger set.
 fn larger_order(rt: &impl Abort, alloc: Global, case: &OneMore) -> Result<Vec<Name>, Fail> {
-    let larger = ops_of(alloc, &with_last(alloc, case.ops, case.insert)?)?;
-    assert!(rt; are_good(rt, alloc, &larger)?);
-    order_of(rt, alloc, &larger)
+    good_order(rt, alloc, &larger_of(alloc, case)?)
 }
 
 // It makes ABXYC.

@@ -108,6 +108,14 @@ fn has(set: &NameSet, parts: (u16, u32)) -> bool {
     }
 }
 
+// Whether the set, and a copy of it, have the case's ranges and names.
+fn is_as_wanted(set: &NameSet, case: &Names) -> Result<bool, Refusal> {
+    let copy = copy_of(set)?;
+    let all = case.names.iter().all(|parts| has(&copy, *parts));
+    let ranges = are_ranges(set, case.ranges) && are_ranges(&copy, case.ranges);
+    Ok(ranges && all && !has(&copy, case.out))
+}
+
 #[test]
 fn names_go_into_a_set(rt: HostRuntime) -> Result<(), Fail> {
     for case in NAMES {
@@ -115,11 +123,7 @@ fn names_go_into_a_set(rt: HostRuntime) -> Result<(), Fail> {
         for parts in case.names {
             assert!(rt; goes_in(&mut set, *parts)?, "{}", case.what);
         }
-        assert!(rt; are_ranges(&set, case.ranges), "{}", case.what);
-        let copy = copy_of(&set)?;
-        assert!(rt; are_ranges(&copy, case.ranges), "{}", case.what);
-        let all = case.names.iter().all(|parts| has(&copy, *parts));
-        assert!(rt; all && !has(&copy, case.out), "{}", case.what);
+        assert!(rt; is_as_wanted(&set, case)?, "{}", case.what);
     }
     Ok(())
 }
@@ -136,10 +140,18 @@ fn full_set(alloc: Global) -> Result<NameSet, Fail> {
     Ok(set)
 }
 
-// Whether the set has one range for each of its names, at every second offset.
-fn is_scattered(set: &NameSet) -> bool {
+// Whether the set has one range for each of its names, at every second offset of site 1.
+pub(super) fn is_scattered(set: &NameSet) -> bool {
     let mut ranges = set.ranges().iter().enumerate();
-    ranges.all(|(index, range)| (range.at() as usize, range.len()) == (2 * index, 1))
+    ranges.all(|(index, range)| (range.site().get(), range.at() as usize, range.len())
+        == (1, 2 * index, 1))
+}
+
+// Whether the name is refused, and the set has 1,024 ranges as before.
+fn is_refused(set: &mut NameSet, parts: (u16, u32)) -> Result<bool, Fail> {
+    let name = name(parts).ok_or("no name")?;
+    let refused = set.insert(name) == Err(Refusal::Scattered) && !set.contains(name);
+    Ok(refused && set.ranges().len() == 1024 && is_scattered(set))
 }
 
 // A name that is refused leaves the set as it was; one that touches a range, or is there, goes in.
@@ -148,10 +160,7 @@ fn a_set_of_1024_ranges(rt: HostRuntime) -> Result<(), Fail> {
     let mut set = full_set(rt.alloc())?;
     assert!(rt; set.ranges().len() == 1024 && is_scattered(&set));
     for parts in [(1, 2048), (1, 2050), (2, 0)] {
-        let name = name(parts).ok_or("no name")?;
-        assert_eq!(rt; set.insert(name), Err(Refusal::Scattered));
-        assert!(rt; set.ranges().len() == 1024 && is_scattered(&set));
-        assert!(rt; !set.contains(name));
+        assert!(rt; is_refused(&mut set, parts)?);
     }
     for (parts, len) in [
         ((1, 2046), 1024),

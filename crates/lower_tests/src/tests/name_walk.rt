@@ -1,7 +1,7 @@
 ghost use Rattle.std.specs.Prelude.{◌≡◌, IfOk};
 ghost use Rattle.operations.specs.Operation.{mentioned_names};
 
-use super::fixtures::{Does, Fields, INSERT, PLAIN, op_with};
+use super::fixtures::{Does, Fields, INSERT, PLAIN, are_these, op_with};
 use char_files::Name;
 use operations::{Op, named};
 use std::alloc::{AllocError, Global};
@@ -47,6 +47,15 @@ fn names_of(alloc: Global, op: &Op) -> Result<Vec<Name>, AllocError>
     named(op).collect(alloc)
 }
 
+// Whether the walk gives these names; an allocation that is refused once is tried again.
+fn are_walked(alloc: Global, op: &Op, wanted: &[(u16, u32)]) -> Result<bool, AllocError> {
+    let names = match names_of(alloc, op) {
+        Ok(names) => names,
+        Err(_) => names_of(alloc, op)?,
+    };
+    Ok(are_these(&names, wanted))
+}
+
 #[test]
 fn names_are_walked(rt: HostRuntime) -> Result<(), Fail> {
     for (what, does, wanted) in MENTIONED {
@@ -55,14 +64,7 @@ fn names_are_walked(rt: HostRuntime) -> Result<(), Fail> {
             ..INSERT
         };
         let op = op_with(rt.alloc(), fields)?.ok_or(*what)?;
-        let names = match names_of(rt.alloc(), &op) {
-            Ok(names) => names,
-            Err(_) => names_of(rt.alloc(), &op)?,
-        };
-        assert_eq!(rt; names.len(), wanted.len(), "{what}");
-        for (name, (site, off)) in names.iter().zip(*wanted) {
-            assert_eq!(rt; (name.site().get(), name.off()), (*site, *off), "{what}");
-        }
+        assert!(rt; are_walked(rt.alloc(), &op, wanted)?, "{what}");
     }
     Ok(())
 }

@@ -53,27 +53,38 @@ const ITEMS: &[(u8, i8)] = &[
     (b'a', 0),
 ];
 
+// Pushes a character. Whether the buffer has these as before, where an allocation is refused.
+fn goes_in(
+    buffer: &mut Buffer,
+    before: &[(u8, i8)],
+    (byte, offset): (u8, i8),
+) -> Result<bool, Refusal> {
+    if let Err(refusal) = buffer.push(byte, looks_at(offset)) {
+        let kept = refusal == Refusal::OutOfMemory && has(buffer, before);
+        buffer.push(byte, looks_at(offset))?;
+        return Ok(kept);
+    }
+    Ok(true)
+}
+
+// A copy; an allocation that is refused once is tried again.
+fn copy_of(buffer: &Buffer) -> Result<Buffer, Refusal> {
+    match buffer.copy() {
+        Err(Refusal::OutOfMemory) => buffer.copy(),
+        answer => answer,
+    }
+}
+
 // Whichever allocation is refused, the buffer is as it was before, and the next try goes on from there.
 #[test]
 fn pushes_and_copies(rt: HostRuntime) -> Result<(), Fail> {
     let mut buffer = Buffer::new(rt.alloc());
     assert!(rt; buffer.is_empty() && has(&buffer, &[]));
-    for (i, (byte, offset)) in ITEMS.iter().enumerate() {
-        if let Err(refusal) = buffer.push(*byte, looks_at(*offset)) {
-            assert_eq!(rt; refusal, Refusal::OutOfMemory);
-            assert!(rt; has(&buffer, &ITEMS[..i]));
-            buffer.push(*byte, looks_at(*offset))?;
-        }
+    for (i, item) in ITEMS.iter().enumerate() {
+        assert!(rt; goes_in(&mut buffer, &ITEMS[..i], *item)?);
     }
-    assert!(rt; has(&buffer, ITEMS));
-    assert_eq!(rt; buffer.runs().len(), 4);
-    let copy = match buffer.copy() {
-        Ok(copy) => copy,
-        Err(refusal) => {
-            assert_eq!(rt; refusal, Refusal::OutOfMemory);
-            buffer.copy()?
-        }
-    };
+    assert!(rt; has(&buffer, ITEMS) && buffer.runs().len() == 4);
+    let copy = copy_of(&buffer)?;
     assert!(rt; has(&buffer, ITEMS) && has(&copy, ITEMS));
     Ok(())
 }
@@ -94,6 +105,30 @@ fn a_file_ends(rt: HostRuntime) -> Result<(), Fail> {
     Ok(())
 }
 
+// Whether there is room then for so many bytes more.
+fn reserves(files: &mut CharFiles, site: SiteNo, more: usize) -> bool {
+    files.reserve(site, more).is_ok()
+}
+
+// Makes room for so many bytes more, which is asked for again where it is refused. Whether no file changes then.
+fn makes_room(files: &mut CharFiles, one: SiteNo, two: SiteNo, site: SiteNo, more: usize) -> bool {
+    let (first, second) = (files.len(one), files.len(two));
+    let reserved = reserves(files, site, more);
+    let kept = files.len(one) == first && files.len(two) == second;
+    kept && (reserved || reserves(files, site, more))
+}
+
+// Whether the site's file begins with these bytes.
+fn begins_with(files: &CharFiles, site: SiteNo, bytes: &[u8; 3]) -> Result<bool, Fail> {
+    for (off, want) in (0..3).zip(bytes) {
+        let name = Name::new(site, off).ok_or("below 2^24")?;
+        if files.len(site) <= off || files.byte(name) != *want {
+            return Ok(false);
+        }
+    }
+    Ok(true)
+}
+
 // Two sites append in turn. Whichever allocation is refused, no file changes, and the next try goes on from
 // there.
 #[test]
@@ -107,22 +142,11 @@ fn files_of_two_sites(rt: HostRuntime) -> Result<(), Fail> {
         (two, &b"xyz"[..], 0),
         (one, &b"c"[..], 2),
     ] {
-        let before = (files.len(one), files.len(two));
-        if files.reserve(site, bytes.len()).is_err() {
-            assert_eq!(rt; (files.len(one), files.len(two)), before);
-            files.reserve(site, bytes.len())?;
-        }
+        assert!(rt; makes_room(&mut files, one, two, site, bytes.len()));
         assert_eq!(rt; files.append(site, bytes)?, off);
     }
     assert_eq!(rt; (files.len(one), files.len(two)), (3, 3));
-    for (site, bytes) in [(one, b"abc"), (two, b"xyz")] {
-        for (off, want) in (0..3).zip(bytes) {
-            let name = Name::new(site, off).ok_or("below 2^24")?;
-            if off < files.len(site) {
-                assert_eq!(rt; files.byte(name), *want);
-            }
-        }
-    }
+    assert!(rt; begins_with(&files, one, b"abc")? && begins_with(&files, two, b"xyz")?);
     let appended = match files.append(two, b"!") {
         Ok(off) => off,
         Err(_) => files.append(two, b"!")?,

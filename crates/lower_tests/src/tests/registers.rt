@@ -2,9 +2,9 @@
 //! with one operation more, whose values they were offered, is what the slow calls compute of the two sets.
 ghost use Rattle.tree_order.specs.Good.{Good};
 
-use super::fixtures::{Does, LooksParts, Ranges, Told, looks_of, name, ops_of};
+use super::fixtures::{Does, LooksParts, Ranges, Told, are_looks, name, ops_of};
 use super::shown::{are_good, order_of, shown_of};
-use char_files::Char;
+use char_files::{Char, Name};
 use looks::{Key, Register};
 use operations::Op;
 use std::alloc::Global;
@@ -254,19 +254,35 @@ fn offered(alloc: Global, before: &[Kept], more: Told) -> Result<Vec<Kept>, Fail
     Ok(after)
 }
 
-// The character is shown with this byte and these looks.
-fn check_char(
-    rt: &impl Abort,
-    what: &str,
-    kept: &Kept,
-    byte: u8,
-    shown: &Char,
-) -> Result<(), Fail> {
+// Whether the character is shown with this byte and these looks.
+fn is_shown_so(kept: &Kept, byte: u8, shown: &Char) -> bool {
     let looks = (kept.font.value, kept.colour.value, kept.offset.value);
-    assert_eq!(rt; Some(shown.name), name(kept.name), "{what}");
-    assert_eq!(rt; (shown.byte, kept.byte), (byte, byte), "{what}");
-    assert!(rt; Some(&shown.looks) == looks_of(looks).as_ref(), "{what}");
-    Ok(())
+    Some(shown.name) == name(kept.name)
+        && (shown.byte, kept.byte) == (byte, byte)
+        && are_looks(&shown.looks, looks)
+}
+
+// Whether these are the names of all characters.
+fn are_all(order: &[Name], kept: &[Kept]) -> bool {
+    order.len() == kept.len()
+        && order
+            .iter()
+            .zip(kept)
+            .all(|(c, kept)| Some(*c) == name(kept.name))
+}
+
+// Whether those are shown, with these bytes, that aren't hidden.
+fn are_shown(shown: &[Char], kept: &[Kept], bytes: &[u8]) -> bool {
+    let mut rest = shown.iter().zip(bytes);
+    for kept in kept.iter().filter(|kept| !kept.hidden.value) {
+        let Some((c, byte)) = rest.next() else {
+            return false;
+        };
+        if !is_shown_so(kept, *byte, c) {
+            return false;
+        }
+    }
+    shown.len() == bytes.len() && rest.next().is_none()
 }
 
 // The operations have these characters in this order, and show those that aren't hidden.
@@ -281,17 +297,11 @@ fn check_kept(
     requires { Good ops.now }
 {
     let order = order_of(rt, alloc, ops)?;
-    assert_eq!(rt; order.len(), kept.len(), "{what}");
-    for (kept, c) in kept.iter().zip(&order) {
-        assert_eq!(rt; Some(*c), name(kept.name), "{what}");
-    }
     let shown = shown_of(rt, alloc, ops)?;
-    assert_eq!(rt; shown.len(), bytes.len(), "{what}");
-    let visible = || kept.iter().filter(|kept| !kept.hidden.value);
-    assert_eq!(rt; visible().count(), bytes.len(), "{what}");
-    for ((kept, byte), char) in visible().zip(bytes).zip(&shown) {
-        check_char(rt, what, kept, *byte, char)?;
-    }
+    assert!(rt;
+        are_all(&order, kept) && are_shown(&shown, kept, bytes),
+        "{what}"
+    );
     Ok(())
 }
 

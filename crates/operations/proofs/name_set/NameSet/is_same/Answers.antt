@@ -1,4 +1,4 @@
-use Rattle.std.proofs.Common.{rules, ◌↔◌, true, ◌≡◌}
+use Rattle.std.proofs.Common.{rules, ◌↔◌, true, ◌≡◌, sym, ◌∙◌}
 use Rattle.std.proofs.lemmas.Slice.Eq.{slice_eq-Decides}
 use Rattle.operations.specs.NameSet.{Range}
 use Rattle.operations.proofs.name_set.NameSet.is_same.Goals as goal
@@ -9,4 +9,4 @@ returns c =
     slice_eq-Decides {A = Range} (λ a b. search rules) _ _ _ c.eq.ensures in
     let left = c.ranges-2.ensures.value in
     let right = c.ranges-3.ensures.value in
-    (λ e. let h = same.0 e in cc, λ e. same.1 cc)
+    (λ e. sym left ∙ same.0 e ∙ right, λ e. same.1 (left ∙ e ∙ sym right))
