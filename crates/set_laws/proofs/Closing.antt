@@ -21,7 +21,7 @@ use Rattle.set_laws.proofs.Verdicts.{held_or_not, some_verdict, same_verdict}
 nothing_within : (ops : List Operation) → IsPartOf [] ops
 nothing_within ops op held = absurd (Contains-none op held)
 
-nothing_is_good : Good []
+pub nothing_is_good : Good []
 nothing_is_good = record {
   identities = λ a b held. absurd (Contains-none a held);
   predecessors = λ op held. absurd (Contains-none op held);
@@ -29,6 +29,12 @@ nothing_is_good = record {
   begins = λ op held. absurd (Contains-none op held);
   own = λ op name held. absurd (Contains-none op held);
   stamps = λ op p held. absurd (Contains-none op held);
+}
+
+pub nothing_is_identified : AreIdentified []
+nothing_is_identified = record {
+  counted = λ op held. absurd (Contains-none op held);
+  unique = λ a b held. absurd (Contains-none a held);
 }
 
 -- an operation is new and ready, or not

@@ -6,6 +6,12 @@ ghost use Rattle.set_laws.specs.Verdict.{ready, HasVerdict, IsNew};
 ghost use Rattle.set_laws.specs.Closure.{IsFreedBy, IsClosure, HasOneClosure, IsGreatestGoodPart};
 ghost use Rattle.set_laws.specs.Closure.{GrowsByWhatIsFreed, NoneIsReady, IsKept, AllWait};
 
+/// A law: no operations are a good set.
+pub fn nothing_is_good()
+    ensures good { Good [] }
+    ensures identified { AreIdentified [] }
+{}
+
 /// A law: a set in which no identity has two operations has a closure, and only one.
 pub fn there_is_one_closure()
     ensures { (all : List Operation) → AreIdentified all → HasOneClosure all }

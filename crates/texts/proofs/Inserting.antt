@@ -1,8 +1,7 @@
 -- The characters of an Insert, and where they stand.
-use Rattle.std.proofs.Common.{◌≡◌, ℕ, zero, suc, ◌+◌, ◌-◌, ◌^◌, ◌<◌, ◌≤◌, List, [], ◌∷◌, ◌++◌, length, take, drop, refl, ap, ◌∙◌, inl, inr, false, true, eqb, arith}
+use Rattle.std.proofs.Common.{◌≡◌, ℕ, sym, zero, suc, ◌+◌, ◌-◌, ◌^◌, ◌<◌, ◌≤◌, List, [], ◌∷◌, ◌++◌, length, take, drop, refl, ap, ◌∙◌, inl, inr, false, true, eqb, eq-eqb, subst, arith}
 use Rattle.std.specs.Prelude.{All}
 use Rattle.std.proofs.lemmas.List.Elements.{All-nil, All-cons, All-append, All-push, All-take, All-drop, All-weaker}
-use Rattle.std.proofs.lemmas.List.Sums.{sum_by_push}
 use Rattle.std.proofs.lemmas.Bool.Decides.{eqb_tells}
 use Rattle.std.proofs.lemmas.Option.{slice_get_cases}
 use Rattle.looks.specs.declared.looks.Looks.{Looks}
@@ -12,13 +11,17 @@ use Rattle.char_files.specs.declared.name.Anchor.{Anchor}
 use Rattle.operations.specs.Operation.{Operation, insert, appended_len}
 use Rattle.operations.specs.Spelling.{IsCause}
 use Rattle.operations.specs.declared.op.TheConstants.{MAX_STAMP}
-use Rattle.texts.specs.Fronts.{of_site}
+use Rattle.set_laws.specs.Fronts.{front_of, file_len, greatest_stamp}
+use Rattle.set_laws.specs.Growing.{AreCountedOn}
+use Rattle.set_laws.specs.Sets.{AreHeldToTheFront}
+use Rattle.set_laws.specs.Verdict.{FollowsOn, IsNew}
 use Rattle.texts.specs.Counts.{IsReplica, is_insert}
+use Rattle.texts.specs.Text.{IsText}
+use Rattle.texts.specs.TextState.{TextState, shown_of, state_of}
 use Rattle.texts.specs.declared.site_counts.SiteCounts.{SiteCounts}
-use Rattle.texts.proofs.FrontLemmas.{greatest-push, of_own}
-use Rattle.texts.proofs.Names.{IsOwn, IsOnceEach-put}
-use Rattle.texts.specs.Edit.{anchor_before}
-use Rattle.texts.specs.Order.{chars_of, put}
+use Rattle.texts.proofs.Names.{IsOwn, IsOnceEach, IsOnceEach-put, count_to-anchor_before}
+use Rattle.texts.specs.Edit.{anchor_before, own_insert, with_operation}
+use Rattle.texts.specs.Order.{chars_of, count_to, put}
 
 All-chars_of : (site at end : ℕ) (looks : Looks) (bytes : List ℕ) → at + length bytes ≤ end → All (IsOwn site end) (chars_of site at looks bytes)
 All-chars_of site at end looks [] fits = All-nil (IsOwn site end)
@@ -44,26 +47,68 @@ IsCause-before site at shown (suc k) some few fits in_text own =
       | inr w ↦ absurd (omega arith)
     ]
 
+-- a site's next operation is new, and follows on
+pub next_is_new : (ops : List Operation) (op : Operation) → AreHeldToTheFront ops → op.seq ≡ front_of ops op.site + 1 → IsNew ops op
+next_is_new ops op held next = record {
+  counted = omega (arith, next);
+  unheld = λ h. absurd (omega (arith, next, ((held op.site op.seq).0 h).1));
+}
+
+pub next_follows_on : (ops : List Operation) (op : Operation) → AreHeldToTheFront ops → op.seq ≡ front_of ops op.site + 1 → FollowsOn ops op
+next_follows_on ops op held next some =
+    let (p, is, site, seq) = (held op.site (front_of ops op.site)).1 (omega (arith, next, some), omega arith) in
+    (p, is, (site, omega (arith, seq, next)))
+
+-- an own Insert in the words of a replica's fields
+pub record IsOwnInsert (site : ℕ) (ops : List Operation) (cause : Anchor) (at : ℕ) (looks : Looks) (bytes : List ℕ) (op : Operation) : Type 0 where
+  pub site_is : op.site ≡ site
+  pub seq_is : op.seq ≡ front_of ops site + 1
+  pub stamp_is : op.stamp ≡ greatest_stamp ops + 1
+  pub kind_is : op.kind ≡ insert cause at looks bytes
+
+module _ (text site : ℕ) (ops : List Operation) (order : List Char) (pos at : ℕ) (looks : Looks) (bytes : List ℕ) (len : at ≡ file_len ops site) (all : shown_of (state_of text site ops order) ≡ order) where
+  pub is_own_insert : (t : TextState) → state_of text site ops order ≡ t → IsOwnInsert site ops (anchor_before order pos) at looks bytes (own_insert t pos looks bytes)
+  is_own_insert t e = subst (λ (u : TextState). IsOwnInsert site ops (anchor_before order pos) at looks bytes (own_insert u pos looks bytes)) e (record {
+    site_is = refl;
+    seq_is = refl;
+    stamp_is = refl;
+    kind_is = ap (λ (shown : List Char). insert (anchor_before shown pos) (file_len ops site) looks bytes) all ∙ ap (λ (n : ℕ). insert (anchor_before order pos) n looks bytes) (sym len);
+  })
+
+  -- it stands where it was typed
+  pub with_own_insert : (t : TextState) → state_of text site ops order ≡ t → IsOnceEach order → pos ≤ length order
+      → with_operation t (own_insert t pos looks bytes) ≡ state_of text site (ops ++ own_insert t pos looks bytes ∷ []) (put order pos (chars_of site at looks bytes))
+  with_own_insert t e once in_text =
+      let s : TextState = state_of text site ops order in
+      let order_is : ℕ → ℕ → List Char = λ n l. put order n (chars_of site l looks bytes) in
+      let count = ap (λ (shown : List Char). count_to order (anchor_before shown pos)) all ∙ count_to-anchor_before order pos once in_text in
+      let same : order_is (count_to order (anchor_before (shown_of s) pos)) (file_len ops site) ≡ order_is pos at =
+      ap (λ (n : ℕ). order_is n (file_len ops site)) count ∙ ap (order_is pos) (sym len) in
+      subst (λ (u : TextState). with_operation u (own_insert u pos looks bytes) ≡ state_of text site (ops ++ own_insert u pos looks bytes ∷ []) (put order pos (chars_of site at looks bytes))) e
+      (ap (λ (chars : List Char). state_of text site (ops ++ own_insert s pos looks bytes ∷ []) chars) same)
+
 -- what holds of a replica's fields still holds with one more Insert of its own
-pub IsReplica-inserted : (site : ℕ) (ops : List Operation) (order : List Char) (stamp : ℕ) (own : SiteCounts) (op : Operation) (cause : Anchor) (n : ℕ) (looks : Looks) (bytes : List ℕ)
-    → IsReplica site ops order stamp own → op.site ≡ site → op.seq ≡ own.front + 1 → op.stamp ≡ stamp + 1 → op.kind ≡ insert cause own.file_len looks bytes
+pub IsReplica-inserted : (text site : ℕ) (ops : List Operation) (order : List Char) (stamp : ℕ) (own : SiteCounts) (op : Operation) (cause : Anchor) (n : ℕ) (looks : Looks) (bytes : List ℕ)
+    → IsReplica text site ops order stamp own → AreCountedOn ops op
+    → op.site ≡ site → op.seq ≡ own.front + 1 → op.stamp ≡ stamp + 1 → op.kind ≡ insert cause own.file_len looks bytes
     → stamp + 1 ≤ MAX_STAMP → own.file_len + length bytes ≤ MAX_FILE
-    → IsReplica site (ops ++ op ∷ []) (put order n (chars_of site own.file_len looks bytes)) (stamp + 1) (record { front = own.front + 1; file_len = own.file_len + length bytes })
-IsReplica-inserted site ops order stamp own op cause n looks bytes r same_site seq_is stamp_is kind_is stamp_fits file_fits =
-    let stamps = greatest-push (λ o. o.stamp) ops op in
-    let fronts = greatest-push (of_site site (λ o. o.seq)) ops op in
-    let own_seq = of_own site (λ o. o.seq) op same_site in
-    let files = sum_by_push (of_site site (λ o. appended_len o.kind)) ops op in
-    let own_len : of_site site (λ o. appended_len o.kind) op ≡ length bytes = of_own site (λ o. appended_len o.kind) op same_site ∙ ap appended_len kind_is in
+    → IsText (state_of text site (ops ++ op ∷ []) (put order n (chars_of site own.file_len looks bytes)))
+    → IsReplica text site (ops ++ op ∷ []) (put order n (chars_of site own.file_len looks bytes)) (stamp + 1) (record { front = own.front + 1; file_len = own.file_len + length bytes })
+IsReplica-inserted text site ops order stamp own op cause n looks bytes r counted same_site seq_is stamp_is kind_is stamp_fits file_fits is_text =
+    let here = eq-eqb op.site site same_site in
+    let front : front_of (ops ++ op ∷ []) site ≡ op.seq = rw here at (counted.front site) in
+    let file : file_len (ops ++ op ∷ []) site ≡ file_len ops site + appended_len op.kind = rw here at (counted.file site) in
+    let appended : appended_len op.kind ≡ length bytes = ap appended_len kind_is in
     record {
-      stamp_is = omega (arith, r.stamp_is, stamps, stamp_is);
+      stamp_is = omega (arith, r.stamp_is, counted.stamp, stamp_is);
       stamp_fits = stamp_fits;
       counts = record {
-        front = omega (arith, r.counts.front, fronts, own_seq, seq_is);
-        file_len = omega (arith, r.counts.file_len, files, own_len);
+        front = omega (arith, front, seq_is);
+        file_len = omega (arith, r.counts.file_len, file, appended);
         file_fits = file_fits;
       };
       inserts = All-push (λ o. is_insert o.kind ≡ true) ops op r.inserts (ap is_insert kind_is);
       own_names = All-put site own.file_len looks bytes order n r.own_names;
       once = IsOnceEach-put site own.file_len looks bytes order n r.own_names r.once;
+      is_text = is_text;
     }

@@ -1,7 +1,11 @@
-pub mod FrontLemmas
+pub mod Causes
+pub mod Chars
 pub mod Inserting
 pub mod Names
+pub mod Nothing
 pub mod OneEdit
 pub mod OneRun
+pub mod OwnInsert
 pub mod Refusals
+pub mod RunChars
 pub mod Visible

@@ -16,7 +16,7 @@ use Rattle.operations.specs.Operation.{Operation, insert, appended_len}
 use Rattle.operations.specs.Spelling.{spelling}
 use Rattle.operations.specs.declared.kind.TheConstants.{MAX_INSERT}
 use Rattle.operations.specs.declared.op.TheConstants.{MAX_STAMP}
-use Rattle.texts.specs.Fronts.{front_of, greatest_stamp, file_len_of}
+use Rattle.set_laws.specs.Fronts.{front_of, greatest_stamp, file_len}
 use Rattle.texts.specs.Order.{chars_of, order_after, put}
 use Rattle.texts.specs.TextState.{TextState, shown_of}
 use Rattle.texts.specs.declared.TheConstants.{MAX_SEQ}
@@ -44,7 +44,7 @@ own_insert t pos looks bytes = record {
   site = t.site;
   seq = front_of t.operations t.site + 1;
   stamp = greatest_stamp t.operations + 1;
-  kind = insert (anchor_before (shown_of t) pos) (file_len_of t.operations t.site) looks bytes;
+  kind = insert (anchor_before (shown_of t) pos) (file_len t.operations t.site) looks bytes;
 }
 
 -- the operations that an edit makes: none where it is empty
@@ -67,7 +67,7 @@ abbrev pub refusal_for : TextState → ℕ → Option Refusal
 refusal_for t appended =
     if front_of t.operations t.site == MAX_SEQ then Some SeqSpent
     else (if greatest_stamp t.operations == MAX_STAMP then Some StampsSpent
-    else (if nat_lt MAX_FILE (file_len_of t.operations t.site + appended) then Some FileSpent else None))
+    else (if nat_lt MAX_FILE (file_len t.operations t.site + appended) then Some FileSpent else None))
 
 -- the first operation's refusal, else what stops the later ones
 abbrev pub refusal_or : Option Refusal → Option (ℕ × Refusal) → Option (ℕ × Refusal)
@@ -113,7 +113,7 @@ EditsShort t ops (Err (Partial done why)) new messages =
 -- all others as they did.
 abbrev pub shown_after : TextState → Edit → List Char
 shown_after t (insert_run pos looks bytes) =
-    put (shown_of t) pos (chars_of t.site (file_len_of t.operations t.site) looks bytes)
+    put (shown_of t) pos (chars_of t.site (file_len t.operations t.site) looks bytes)
 
 -- an edit that was done wholly shows what it is to show
 abbrev pub Shows : TextState → Edit → Result ℕ EditRefusal → TextState → Type 0

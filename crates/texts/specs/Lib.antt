@@ -1,5 +1,6 @@
 pub mod Counts
 pub mod Edit
-pub mod Fronts
+pub mod Laws
 pub mod Order
+pub mod Text
 pub mod TextState

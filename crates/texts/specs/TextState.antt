@@ -1,5 +1,5 @@
 -- What contracts see of a replica.
-use Rattle.std.specs.Prelude.{ℕ, List, [], filter}
+use Rattle.std.specs.Prelude.{ℕ, List, [], filter, map}
 use Rattle.char_files.specs.Stretch.{Item}
 use Rattle.char_files.specs.declared.character.Char.{Char}
 use Rattle.operations.specs.NameSet.{Range}
@@ -32,19 +32,27 @@ pub record TextState : Type 0 where
   pub last_set : List Range
   pub changes : List Change
 
--- a text that nothing has changed
-abbrev pub empty_text : (text site : ℕ) → TextState
-empty_text text site = record {
+-- a text of these operations and characters, in which nothing waits, was deleted, or was noted
+abbrev pub state_of : (text site : ℕ) → List Operation → List Char → TextState
+state_of text site operations order = record {
   text = text;
   site = site;
-  operations = [];
-  order = [];
+  operations = operations;
+  order = order;
   waiting_room = [];
   last_stretch = [];
   last_set = [];
   changes = [];
 }
 
+-- a text that nothing has changed
+abbrev pub empty_text : (text site : ℕ) → TextState
+empty_text text site = state_of text site [] []
+
 -- what is shown: the visible ones of all characters, in their order
 abbrev pub shown_of : TextState → List Char
 shown_of t = filter (λ c. is_visible t.operations c.name) t.order
+
+-- what is shown, as characters outside any text
+abbrev pub shown_items : TextState → List Item
+shown_items t = map (λ c. (c.byte, c.looks)) (shown_of t)

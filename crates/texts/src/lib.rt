@@ -2,10 +2,12 @@
 #![tactic(auto)]
 
 mod edit_refusal;
+pub mod laws;
 mod order;
 mod outbox;
 mod replica;
 mod site_counts;
+mod source;
 
 pub use edit_refusal::EditRefusal;
 pub use outbox::Outbox;

@@ -4,18 +4,24 @@ ghost use Rattle.looks.specs.Refusal.{RefusedForMemoryAlone};
 ghost use Rattle.operations.specs.Spelling.{spelling};
 ghost use Rattle.texts.specs.Edit.{EditsSending, IsOneInsert, insert_run, insertion, own_insert, refusal_for};
 ghost use Rattle.texts.specs.Edit.{shown_after, with_operation};
+ghost use Rattle.texts.specs.Text.{IsText};
 ghost use Rattle.texts.specs.TextState.{empty_text, shown_of};
 
 use crate::MAX_SEQ;
 use crate::edit_refusal::EditRefusal;
+use crate::laws::an_own_insert_is_plain;
 use crate::order::{anchor_before, chars_of, put};
 use crate::outbox::Outbox;
 use crate::site_counts::SiteCounts;
 use char_files::{Buffer, Char, MAX_FILE, SiteNo, TextNo};
 use looks::{Looks, Refusal};
 use operations::{Kind, MAX_INSERT, MAX_STAMP, Op, encode};
+use set_laws::closures::nothing_is_good;
+use set_laws::growing::counts_go_on;
+use set_laws::unions::front_is_held;
 use std::alloc::{AllocError, Global};
 use std::marker::Model;
+use tree_order::laws::sequential::one_writer_goes_behind_causes;
 
 /// One site's copy of a text. This project's own.
 #[derive(Debug, Drop)]
@@ -30,24 +36,14 @@ pub struct Replica {
 }
 
 impl Model for Replica {
-    ghost use Rattle.std.specs.Prelude.{[]};
     ghost use Rattle.texts.specs.Counts.{IsReplica};
-    ghost use Rattle.texts.specs.TextState.{TextState};
+    ghost use Rattle.texts.specs.TextState.{TextState, state_of};
 
     ghost Value = { TextState };
 
-    ghost view = { λ r. record {
-      text = r.text;
-      site = r.site;
-      operations = r.operations.items;
-      order = r.order.items;
-      waiting_room = [];
-      last_stretch = [];
-      last_set = [];
-      changes = [];
-    } };
+    ghost view = { λ r. state_of r.text r.site r.operations.items r.order.items };
 
-    ghost invariant = { λ r. IsReplica r.site r.operations.items r.order.items r.stamp r.own };
+    ghost invariant = { λ r. IsReplica r.text r.site r.operations.items r.order.items r.stamp r.own };
 }
 
 impl Replica {
@@ -56,6 +52,8 @@ impl Replica {
         ensures ok { IfOk result (λ r. r ≡ empty_text text site) }
         ensures errors { RefusedForMemoryAlone result }
     {
+        nothing_is_good();
+        one_writer_goes_behind_causes();
         Ok(Replica {
             text,
             site,
@@ -78,6 +76,14 @@ impl Replica {
         ensures { result ≡ self.now.site }
     {
         self.site
+    }
+
+    /// A law: the operations taken in are good, and all characters are theirs, in the order that is defined.
+    /// A proof gets it by calling this, at no cost.
+    pub fn is_text(&self)
+        ensures { IsText self.now }
+    {
+        let _ = &self.operations;
     }
 
     /// How many characters are shown.
@@ -185,6 +191,9 @@ impl Replica {
         ensures memory { IfNone (refusal_for self.old (length bytes.now)) (RefusedForMemoryAlone result) }
         ensures err { OnErr result ((self.new ≡ self.old) × (outbox.new ≡ outbox.old)) }
     {
+        an_own_insert_is_plain();
+        front_is_held();
+        counts_go_on();
         if let Some(why) = self.refusal_for(bytes.len()) {
             return Err(why);
         }

@@ -10,14 +10,15 @@ use Rattle.char_files.specs.declared.character.Char.{Char}
 use Rattle.char_files.specs.declared.name.Anchor.{Anchor}
 use Rattle.operations.specs.Operation.{Operation}
 use Rattle.tree_order.specs.Good.{Good}
-use Rattle.tree_order.specs.Tree.{HasByte, byte_by}
+use Rattle.tree_order.specs.OneEach.{HasOneEach}
+use Rattle.tree_order.specs.Tree.{IsChar, HasByte, byte_by}
 use Rattle.tree_order.specs.Order.{IsOrder}
 use Rattle.tree_order.specs.Last.{IsLast}
 use Rattle.tree_order.specs.Looks.{HasLooks, IsLastToSet, Sets, looks_by}
 use Rattle.tree_order.specs.Shown.{IsShown, IsPlace, is_visible, place}
 use Rattle.tree_order.specs.Laws.{ShowsOneText}
 use Rattle.tree_order.proofs.Before.{has_order}
-use Rattle.tree_order.proofs.SomeText.{has_shown}
+use Rattle.tree_order.proofs.SomeText.{has_chars, has_shown}
 use Rattle.tree_order.proofs.Tree.{keys_order, one_insert, same_operation}
 
 -- looks are their font, their colour and their offset
@@ -112,6 +113,17 @@ module _ (ops : List Operation) (good : Good ops) where
       one_list xs ys rest (All-tail (HasOwnByte ops) x xs p) (All-tail (HasOwnByte ops) y ys p')
       (All-tail (HasOwnLooks ops) x xs q) (All-tail (HasOwnLooks ops) y ys q') in
       cc
+
+  -- so names tell the list
+  pub one_each : (names : List CharName) → All (IsChar ops) names → HasOneEach ops names
+  one_each names are = let some = has_chars ops names are in record {
+    chars = some.chars;
+    named = some.named;
+    bytes = some.bytes;
+    looks = some.looks;
+    only = λ other named bytes looks. one_list other some.chars (named ∙ sym some.named) bytes some.bytes looks
+        some.looks;
+  }
 
   one_shown : (a b : List Char) → IsShown ops a → IsShown ops b → a ≡ b
   one_shown a b s t =

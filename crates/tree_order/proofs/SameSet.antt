@@ -205,4 +205,10 @@ pub says_the_same : (a b : List Operation) → AreSameSet a b → Good a → Say
 says_the_same a b same was =
     let to : Within a b = λ op. (same op).0 in
     let back : Within b a = λ op. (same op).1 in
-    record { good = good a b to back was; order = order a b to back; shown = shown a b to back }
+    record {
+      good = good a b to back was;
+      order = order a b to back;
+      shown = shown a b to back;
+      bytes = byte a b to;
+      looks = looks a b to back;
+    }

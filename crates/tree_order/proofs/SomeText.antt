@@ -174,13 +174,13 @@ has_looks ops c is =
     (looks, record { font = (f, font, refl); colour = (g, colour, refl); offset = (h, offset, refl) })
 
 -- characters of these names, each with its byte and its looks
-record HasChars (ops : List Operation) (names : List CharName) : Type 0 where
-  chars : List Char
-  named : map (λ s. s.name) chars ≡ names
-  bytes : All (λ s. HasByte ops s.name s.byte) chars
-  looks : All (λ s. HasLooks ops s.name s.looks) chars
+pub record HasChars (ops : List Operation) (names : List CharName) : Type 0 where
+  pub chars : List Char
+  pub named : map (λ s. s.name) chars ≡ names
+  pub bytes : All (λ s. HasByte ops s.name s.byte) chars
+  pub looks : All (λ s. HasLooks ops s.name s.looks) chars
 
-has_chars : (ops : List Operation) (names : List CharName) → All (IsChar ops) names → HasChars ops names
+pub has_chars : (ops : List Operation) (names : List CharName) → All (IsChar ops) names → HasChars ops names
 has_chars ops [] all = record { chars = []; named = refl; bytes = All-nil _; looks = All-nil _ }
 has_chars ops (c ∷ names) all =
     let is : IsChar ops c = all 0 c (omega arith) in

@@ -1,11 +1,13 @@
 -- The laws of the order and of what is shown, over any list of operations that is good.
 use Rattle.std.specs.Prelude.{◌≡◌, ℕ, ◌+◌, ◌⊎◌, ◌↔◌, true, not, List, Contains}
+use Rattle.looks.specs.declared.looks.Looks.{Looks}
 use Rattle.char_files.specs.CharName.{CharName}
 use Rattle.char_files.specs.declared.character.Char.{Char}
 use Rattle.char_files.specs.declared.name.Anchor.{Anchor}
 use Rattle.operations.specs.Operation.{Operation}
 use Rattle.tree_order.specs.Good.{Good, key_of}
-use Rattle.tree_order.specs.Tree.{IsChar, IsInsertOf, IsDescendant}
+use Rattle.tree_order.specs.Tree.{IsChar, IsInsertOf, IsDescendant, HasByte}
+use Rattle.tree_order.specs.Looks.{HasLooks}
 use Rattle.tree_order.specs.Order.{Before, IsAheadIn, IsOrder}
 use Rattle.tree_order.specs.Shown.{is_visible, SwitchesBy, IsLastToSwitch, is_delete, IsShown, IsPlace}
 
@@ -62,3 +64,5 @@ pub record SaysTheSame (a b : List Operation) : Type 0 where
   pub good : Good b
   pub order : (order : List CharName) → IsOrder a order → IsOrder b order
   pub shown : (shown : List Char) → IsShown a shown → IsShown b shown
+  pub bytes : (c : CharName) (byte : ℕ) → HasByte a c byte → HasByte b c byte
+  pub looks : (c : CharName) (looks : Looks) → HasLooks a c looks → HasLooks b c looks

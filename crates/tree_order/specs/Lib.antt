@@ -6,6 +6,7 @@ pub mod KeptInsertion
 pub mod Last
 pub mod Laws
 pub mod Looks
+pub mod OneEach
 pub mod Order
 pub mod RegisterLaws
 pub mod Registers

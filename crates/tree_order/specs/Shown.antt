@@ -64,6 +64,12 @@ pub record IsShown (ops : List Operation) (shown : List Char) : Type 0 where
   pub bytes : All (λ s. HasByte ops s.name s.byte) shown
   pub looks : All (λ s. HasLooks ops s.name s.looks) shown
 
+-- all characters of the operations in their order, hidden ones too, each with its byte and the looks that hold
+pub record AreChars (ops : List Operation) (chars : List Char) : Type 0 where
+  pub order : IsOrder ops (map (λ c. c.name) chars)
+  pub bytes : All (λ c. HasByte ops c.name c.byte) chars
+  pub looks : All (λ c. HasLooks ops c.name c.looks) chars
+
 -- the list up to c, and with it
 abbrev pub up_to : CharName → List CharName → List CharName
 up_to c [] = []

@@ -1,0 +1,116 @@
+-- All characters of a good set, hidden ones too, each with its byte and the looks that hold.
+use Rattle.std.proofs.Common.{◌≡◌, Bool, true, false, cond, List, [], ◌∷◌, ◌++◌, map, refl, sym, ap, subst, ◌∙◌}
+use Rattle.std.specs.Prelude.{All}
+use Rattle.std.specs.List.{filter}
+use Rattle.std.proofs.lemmas.List.Elements.{All-filter, All-push, Contains-get_or}
+use Rattle.char_files.specs.CharName.{CharName}
+use Rattle.char_files.specs.declared.character.Char.{Char}
+use Rattle.operations.specs.Operation.{Operation}
+use Rattle.tree_order.specs.Good.{Good}
+use Rattle.tree_order.specs.Laws.{AreSameSet, HasOneOrder, SaysTheSame, ShowsOneText}
+use Rattle.tree_order.specs.Looks.{HasLooks}
+use Rattle.tree_order.specs.OneEach.{HasOneEach}
+use Rattle.tree_order.specs.Order.{IsOrder}
+use Rattle.tree_order.specs.Shown.{AreChars, is_visible}
+use Rattle.tree_order.specs.Tree.{HasByte, IsChar}
+use Rattle.set_laws.specs.Sets.{AreIdentified, HaveEqualFronts}
+use Rattle.texts.specs.Laws.{ShowsTheDefinition, OperationsTellTheText, FrontsTellTheText, HasOneTextWith}
+use Rattle.texts.specs.Text.{IsText}
+use Rattle.texts.specs.TextState.{TextState, shown_of}
+
+-- the names of those that pass are the names that pass
+one_passes : (b : Bool) (c : Char) (xs : List Char) (names : List CharName) → map (λ s. s.name) xs ≡ names
+    → map (λ s. s.name) (cond b (c ∷ xs) xs) ≡ cond b (c.name ∷ names) names
+one_passes true c xs names e = ap (λ (ns : List CharName). c.name ∷ ns) e
+one_passes false c xs names e = e
+
+names_of_passed : (p : CharName → Bool) (chars : List Char)
+    → map (λ s. s.name) (filter (λ c. p c.name) chars) ≡ filter p (map (λ c. c.name) chars)
+names_of_passed p [] = refl
+names_of_passed p (c ∷ chars) =
+    one_passes (p c.name) c (filter (λ (x : Char). p x.name) chars)
+    (filter p (map (λ (x : Char). x.name) chars))
+    (names_of_passed p chars)
+
+pub shows_the_definition : ShowsTheDefinition
+shows_the_definition t is = record {
+  order = map (λ c. c.name) t.order;
+  in_order = is.chars.order;
+  visible = names_of_passed (is_visible t.operations) t.order;
+  bytes = All-filter (λ c. is_visible t.operations c.name) (λ c. HasByte t.operations c.name c.byte) t.order
+      is.chars.bytes;
+  looks = All-filter (λ c. is_visible t.operations c.name) (λ c. HasLooks t.operations c.name c.looks) t.order
+      is.chars.looks;
+}
+
+-- the laws that a good set has one order, and that names tell characters
+pub record TellChars : Type 0 where
+  pub order : (ops : List Operation) → Good ops → HasOneOrder ops
+  pub each : (ops : List Operation) → Good ops → (names : List CharName) → All (IsChar ops) names
+      → HasOneEach ops names
+
+module _ (laws : TellChars) (ops : List Operation) (good : Good ops) where
+  names : HasOneOrder ops
+  names = laws.order ops good
+
+  each : HasOneEach ops names.order
+  each = laws.each ops good names.order (λ k d lt. (names.is.each _).0 (Contains-get_or names.order k d lt))
+
+  -- there is a list of all characters, and no other
+  pub has_chars : (chars : List Char) × AreChars ops chars
+  has_chars =
+      let order = subst (IsOrder ops) (sym each.named) names.is in
+      (each.chars, record { order = order; bytes = each.bytes; looks = each.looks })
+
+  is_each : (chars : List Char) → AreChars ops chars → chars ≡ each.chars
+  is_each chars are = each.only chars (names.only (map (λ c. c.name) chars) are.order) are.bytes are.looks
+
+  pub one_chars : (a b : List Char) → AreChars ops a → AreChars ops b → a ≡ b
+  one_chars a b p q = is_each a p ∙ sym (is_each b q)
+
+-- one operation more, of which the set with it is good, leaves one text
+pub one_text_with : TellChars → (t : TextState) (op : Operation) → IsText t → Good (t.operations ++ op ∷ [])
+    → AreIdentified (t.operations ++ op ∷ []) → op.text ≡ t.text → HasOneTextWith t op
+one_text_with laws t op is good known own =
+    let with_one : List Operation = t.operations ++ op ∷ [] in
+    let (chars, are) = has_chars laws with_one good in
+    record {
+      new = record t { operations = with_one; order = chars };
+      is = record {
+        good = good;
+        identified = known;
+        of_text = All-push (λ (o : Operation). o.text ≡ t.text) t.operations op is.of_text own;
+        chars = are;
+      };
+      grown = refl;
+      only = λ other is' e.
+          let are' : AreChars with_one other.order = subst (λ (ops : List Operation). AreChars ops other.order)
+          (ap (λ (u : TextState). u.operations) e) is'.chars in
+          let same : other.order ≡ chars = one_chars laws with_one good other.order chars are' are in
+          e ∙ ap (λ (order : List Char). record t { operations = with_one; order = order }) same;
+    }
+
+-- what the same operations tell is one text
+pub operations_tell : TellChars → ((a b : List Operation) → AreSameSet a b → Good a → SaysTheSame a b)
+    → ((ops : List Operation) → Good ops → ShowsOneText ops) → OperationsTellTheText
+operations_tell laws law one_text t u is is' same =
+    let says = law t.operations u.operations same is.good in
+    let moved : AreChars u.operations t.order = record {
+      order = says.order (map (λ c. c.name) t.order) is.chars.order;
+      bytes = λ k d lt. says.bytes _ _ (is.chars.bytes k d lt);
+      looks = λ k d lt. says.looks _ _ (is.chars.looks k d lt);
+    } in
+    let text = one_text u.operations is'.good in
+    record {
+      order = one_chars laws u.operations is'.good t.order u.order moved is'.chars;
+      shown =
+          text.only (shown_of t) (says.shown (shown_of t) (shows_the_definition t is))
+          ∙ sym (text.only (shown_of u) (shows_the_definition u is'));
+    }
+
+-- and equal fronts tell the operations
+pub fronts_tell : OperationsTellTheText
+    → ((a b : List Operation) → Good a → Good b → AreIdentified (a ++ b) → HaveEqualFronts a b → AreSameSet a b)
+    → FrontsTellTheText
+fronts_tell told equal t u is is' known fronts =
+    told t u is is' (equal t.operations u.operations is.good is'.good known fronts)

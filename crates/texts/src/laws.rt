@@ -1,0 +1,65 @@
+//! Laws of what replicas show, over what contracts see of them.
+
+ghost use Rattle.std.specs.Prelude.{◌≡◌, [], ◌∷◌, ◌++◌};
+ghost use Rattle.operations.specs.Operation.{Operation};
+ghost use Rattle.tree_order.specs.Good.{Good};
+ghost use Rattle.set_laws.specs.Sets.{AreIdentified};
+ghost use Rattle.texts.specs.Laws.{ShowsTheDefinition, OperationsTellTheText, FrontsTellTheText};
+ghost use Rattle.texts.specs.Laws.{OwnInsertIsPlain, HasOneTextWith};
+ghost use Rattle.texts.specs.Text.{IsText};
+ghost use Rattle.texts.specs.TextState.{TextState};
+
+use set_laws::growing::{counts_tell_what_is_here, good_sets_grow_by_verdict, own_next_is_ready};
+use set_laws::unions::{equal_fronts_tell_equal_sets, front_is_held};
+use tree_order::laws::registers::{registers_are_offered, registers_tell_what_is_shown};
+use tree_order::laws::sequential::{the_latest_goes_behind_its_cause, the_latest_is_a_plain_edit};
+use tree_order::laws::{
+    only_the_set_counts, there_is_one_character_each, there_is_one_order, there_is_one_text,
+};
+
+/// A law: what a text shows is what the definition gives from the operations that it took in.
+pub fn a_text_shows_the_definition()
+    ensures { ShowsTheDefinition }
+{}
+
+/// A law: two texts that have taken in the same operations, in whatever order, are alike.
+pub fn the_operations_tell_the_text()
+    ensures { OperationsTellTheText }
+{
+    there_is_one_order();
+    there_is_one_character_each();
+    there_is_one_text();
+    only_the_set_counts();
+}
+
+/// A law: two texts of equal fronts are alike, if no identity is used twice.
+pub fn the_fronts_tell_the_text()
+    ensures { FrontsTellTheText }
+{
+    equal_fronts_tell_equal_sets();
+    the_operations_tell_the_text();
+}
+
+/// A law: an own Insert is an edit of a plain list: its run stands where it was typed, and all else as it did.
+pub fn an_own_insert_is_plain()
+    ensures { OwnInsertIsPlain }
+{
+    front_is_held();
+    counts_tell_what_is_here();
+    own_next_is_ready();
+    good_sets_grow_by_verdict();
+    the_latest_goes_behind_its_cause();
+    the_latest_is_a_plain_edit();
+    registers_are_offered();
+    registers_tell_what_is_shown();
+    there_is_one_text();
+}
+
+/// A law: one operation more, of this text, of which the set with it is good, leaves one text and no other.
+pub fn there_is_one_text_with_it()
+    ensures { (t : TextState) (op : Operation) → IsText t → Good (t.operations ++ op ∷ [])
+        → AreIdentified (t.operations ++ op ∷ []) → op.text ≡ t.text → HasOneTextWith t op }
+{
+    there_is_one_order();
+    there_is_one_character_each();
+}
