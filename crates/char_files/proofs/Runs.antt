@@ -1,5 +1,5 @@
--- Runs that get one more character at their end.
-use Rattle.std.proofs.Common.{◌≡◌, ◌≢◌, ℕ, ◌+◌, ◌-◌, ◌<◌, cond, List, [], ◌∷◌, ◌++◌, length, get_or, set}
+-- Runs that get more characters at their end.
+use Rattle.std.proofs.Common.{◌≡◌, ◌≢◌, ℕ, ◌+◌, ◌-◌, ◌<◌, cond, List, [], ◌∷◌, ◌++◌, length, get_or, set, map, refl}
 use Rattle.std.proofs.Common.{take, Result, Ok, Err, Some, subst, sym, ap, ◌∙◌, suc, append_assoc, arith}
 use Rattle.std.specs.Prelude.{OnOk, is_ok, slice_get, IsSomeAnd}
 use Rattle.std.specs.declared.alloc.AllocError.{AllocError}
@@ -24,32 +24,32 @@ set-last xs n y len =
     let whole : take (n + 1) (set xs n y) ≡ set xs n y = rw len' (take-length (set xs n y)) in
     sym whole ∙ take_more_set xs n y (omega arith)
 
--- a run with one more byte
-abbrev pub with_byte : Stretch → ℕ → Stretch
-with_byte r b = record r { bytes = r.bytes ++ b ∷ [] }
+-- a run with more bytes
+abbrev pub with_bytes : Stretch → List ℕ → Stretch
+with_bytes r bs = record r { bytes = r.bytes ++ bs }
 
-append_some : (bs : List ℕ) (b : ℕ) → bs ++ b ∷ [] ≢ []
-append_some [] b = λ e. cc
-append_some (x ∷ bs) b = λ e. cc
+pub append_some : (xs ys : List ℕ) → xs ≢ [] → xs ++ ys ≢ []
+append_some [] ys some = absurd (some refl)
+append_some (x ∷ xs) ys some = λ e. cc
 
-AreRuns-longer : (front : List Stretch) (r : Stretch) (b : ℕ) → AreRuns (front ++ r ∷ [])
-    → AreRuns (front ++ with_byte r b ∷ [])
-AreRuns-longer [] r b h = append_some r.bytes b
-AreRuns-longer (x ∷ []) r b h = (h.0, h.1, append_some r.bytes b)
-AreRuns-longer (x ∷ y ∷ ys) r b h = (h.0, h.1, AreRuns-longer (y ∷ ys) r b h.2)
+AreRuns-longer : (front : List Stretch) (r : Stretch) (bs : List ℕ) → AreRuns (front ++ r ∷ [])
+    → AreRuns (front ++ with_bytes r bs ∷ [])
+AreRuns-longer [] r bs h = append_some r.bytes bs h
+AreRuns-longer (x ∷ []) r bs h = (h.0, h.1, append_some r.bytes bs h.2)
+AreRuns-longer (x ∷ y ∷ ys) r bs h = (h.0, h.1, AreRuns-longer (y ∷ ys) r bs h.2)
 
-items_of-longer : (front : List Stretch) (r : Stretch) (b : ℕ) → items_of (front ++ with_byte r b ∷ [])
-    ≡ items_of (front ++ r ∷ []) ++ (b, r.looks) ∷ []
-items_of-longer front r b = simp (flat_map-append, append-nil, map-append, append_assoc)
+items_of-longer : (front : List Stretch) (r : Stretch) (bs : List ℕ) → items_of (front ++ with_bytes r bs ∷ [])
+    ≡ items_of (front ++ r ∷ []) ++ map (λ b. (b, r.looks)) bs
+items_of-longer front r bs = simp (flat_map-append, append-nil, map-append, append_assoc)
 
 -- a run of other looks may follow
-pub AreRuns-push : (runs : List Stretch) (looks : Looks) (b : ℕ) → AreRuns runs → ¬ EndsIn runs looks
-    → AreRuns (runs ++ record { looks = looks; bytes = b ∷ [] } ∷ [])
-AreRuns-push [] looks b h apart = λ e. cc
-AreRuns-push (x ∷ []) looks b h apart = (h, apart, λ e. cc)
-AreRuns-push (x ∷ y ∷ ys) looks b h apart =
+pub AreRuns-push : (runs : List Stretch) (looks : Looks) (bs : List ℕ) → AreRuns runs → ¬ EndsIn runs looks
+    → bs ≢ [] → AreRuns (runs ++ record { looks = looks; bytes = bs } ∷ [])
+AreRuns-push [] looks bs h apart some = some
+AreRuns-push (x ∷ []) looks bs h apart some = (h, apart, some)
+AreRuns-push (x ∷ y ∷ ys) looks bs h apart some =
     let k : length (x ∷ y ∷ ys) - 1 ≡ suc (length (y ∷ ys) - 1) = omega arith in
-    (h.0, h.1, AreRuns-push (y ∷ ys) looks b h.2 (λ e. apart (rw k e)))
+    (h.0, h.1, AreRuns-push (y ∷ ys) looks bs h.2 (λ e. apart (rw k e)) some)
 
 some_runs : (runs : List Stretch) (looks : Looks) → EndsIn runs looks → 0 < length runs
 some_runs [] looks ends = elim ends [ ]
@@ -57,7 +57,7 @@ some_runs (r ∷ runs) looks ends = omega arith
 
 -- what a push to the last run leaves, where that run has these looks
 module _ (runs : List Stretch) (n : ℕ) (looks : Looks) (ends : EndsIn runs looks) (at_end : n ≡ length runs)
-    (old new : Stretch) (b : ℕ) (is : old ≡ get_or runs (n - 1) old) where
+    (old new : Stretch) (bs : List ℕ) (is : old ≡ get_or runs (n - 1) old) where
   some : 0 < length runs
   some = some_runs runs looks ends
 
@@ -76,19 +76,19 @@ module _ (runs : List Stretch) (n : ℕ) (looks : Looks) (ends : EndsIn runs loo
       rw read at ends_at
 
   pub items_of-push_to_last : (result : Result (Unit {0}) AllocError)
-      → new ≡ cond (is_ok result) (with_byte old b) old
-      → OnOk result (items_of (set runs (n - 1) new) ≡ items_of runs ++ (b, looks) ∷ [])
+      → new ≡ cond (is_ok result) (with_bytes old bs) old
+      → OnOk result (items_of (set runs (n - 1) new) ≡ items_of runs ++ map (λ b. (b, looks)) bs)
   items_of-push_to_last (Ok u) e =
       ap items_of (replaced new ∙ ap (λ (r : Stretch). take (n - 1) runs ++ r ∷ []) e)
-      ∙ items_of-longer (take (n - 1) runs) old b
-      ∙ ap (λ (rs : List Stretch). items_of rs ++ (b, old.looks) ∷ []) (sym parts)
-      ∙ ap (λ (l : Looks). items_of runs ++ (b, l) ∷ []) old_looks
+      ∙ items_of-longer (take (n - 1) runs) old bs
+      ∙ ap (λ (rs : List Stretch). items_of rs ++ map (λ b. (b, old.looks)) bs) (sym parts)
+      ∙ ap (λ (l : Looks). items_of runs ++ map (λ b. (b, l)) bs) old_looks
   items_of-push_to_last (Err u) e = tt
 
   pub AreRuns-push_to_last : (result : Result (Unit {0}) AllocError)
-      → new ≡ cond (is_ok result) (with_byte old b) old → AreRuns runs → AreRuns (set runs (n - 1) new)
+      → new ≡ cond (is_ok result) (with_bytes old bs) old → AreRuns runs → AreRuns (set runs (n - 1) new)
   AreRuns-push_to_last (Ok u) e h =
-      let longer = AreRuns-longer (take (n - 1) runs) old b (subst AreRuns parts h) in
+      let longer = AreRuns-longer (take (n - 1) runs) old bs (subst AreRuns parts h) in
       subst AreRuns (sym (replaced new ∙ ap (λ (r : Stretch). take (n - 1) runs ++ r ∷ []) e)) longer
   AreRuns-push_to_last (Err u) e h =
       subst AreRuns (sym (replaced new ∙ ap (λ (r : Stretch). take (n - 1) runs ++ r ∷ []) e ∙ sym parts)) h

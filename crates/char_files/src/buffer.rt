@@ -1,4 +1,4 @@
-ghost use Rattle.std.specs.Prelude.{◌≡◌, ◌≤◌, [], ◌∷◌, ◌++◌, ◌↔◌, ◌⊎◌, length};
+ghost use Rattle.std.specs.Prelude.{◌≡◌, ◌<◌, ◌≤◌, ◌+◌, [], ◌∷◌, ◌++◌, ◌↔◌, ◌⊎◌, length, map};
 ghost use Rattle.std.specs.Prelude.{IfOk, IfErr, OnOk, OnErr, IsTrue, IsErrOf};
 ghost use Rattle.looks.specs.Refusal.{RefusedForMemoryAlone};
 ghost use Rattle.char_files.specs.Stretch.{items_of, AreRuns, EndsIn};
@@ -39,17 +39,21 @@ fn ends_in(runs: &[Run], looks: &Looks) -> bool
     }
 }
 
-// Puts a character at the end. An `Err` changes nothing.
-fn push_item(runs: &mut Vec<Run>, byte: u8, looks: Looks) -> Result<(), AllocError>
-    ensures ok { OnOk result (items_of runs.new.items ≡ items_of runs.old.items ++ (byte, looks) ∷ []) }
+// Puts the bytes at the end, all of them or none.
+fn push_bytes(runs: &mut Vec<Run>, bytes: &[u8], looks: &Looks) -> Result<(), AllocError>
+    ensures ok { OnOk result
+        (items_of runs.new.items ≡ items_of runs.old.items ++ map (λ b. (b, looks.now)) bytes.now) }
     ensures maximal { AreRuns runs.old.items → AreRuns runs.new.items }
     ensures err { OnErr result (runs.new.items ≡ runs.old.items) }
 {
-    if ends_in(runs, &looks) {
-        let last = runs.len() - 1;
-        return runs[last].push(byte);
+    if bytes.is_empty() {
+        return Ok(());
     }
-    let run = Run::new(*runs.allocator(), looks, byte)?;
+    if ends_in(runs, looks) {
+        let last = runs.len() - 1;
+        return runs[last].push_all(bytes);
+    }
+    let run = Run::new(*runs.allocator(), looks.copy(), bytes)?;
     runs.push(run)?;
     Ok(())
 }
@@ -97,11 +101,26 @@ impl Buffer {
         ensures errors { IfErr result (λ e. (e ≡ Refusal.FileSpent) ⊎ (e ≡ Refusal.OutOfMemory)) }
         ensures err { OnErr result (self.new ≡ self.old) }
     {
-        if self.len == MAX_FILE {
+        // There are at most 2^24 characters.
+        let _ = &self.len;
+        self.push_all(&[byte], &looks)
+    }
+
+    /// Puts bytes of one set of looks at the end, all of them or none.
+    ///
+    /// Refused `FileSpent` where they pass 2^24 characters, else `OutOfMemory` where memory is.
+    pub fn push_all(&mut self, bytes: &[u8], looks: &Looks) -> Result<(), Refusal>
+        ensures ok { OnOk result (self.new ≡ self.old ++ map (λ b. (b, looks.now)) bytes.now) }
+        ensures full { IsErrOf result Refusal.FileSpent
+            ↔ (MAX_FILE < length self.old + length bytes.now) }
+        ensures errors { IfErr result (λ e. (e ≡ Refusal.FileSpent) ⊎ (e ≡ Refusal.OutOfMemory)) }
+        ensures err { OnErr result (self.new ≡ self.old) }
+    {
+        if MAX_FILE - self.len < bytes.len() as u64 {
             return Err(Refusal::FileSpent);
         }
-        push_item(&mut self.runs, byte, looks)?;
-        self.len += 1;
+        push_bytes(&mut self.runs, bytes, looks)?;
+        self.len += bytes.len() as u64;
         Ok(())
     }
 

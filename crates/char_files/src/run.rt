@@ -1,4 +1,4 @@
-ghost use Rattle.std.specs.Prelude.{◌≡◌, ◌≢◌, [], ◌∷◌, ◌++◌, is_ok, if◌then◌else◌, IfOk};
+ghost use Rattle.std.specs.Prelude.{◌≡◌, ◌≢◌, [], ◌++◌, is_ok, if◌then◌else◌, IfOk};
 
 use looks::Looks;
 use std::alloc::{AllocError, Global};
@@ -23,22 +23,23 @@ impl Model for Run {
 }
 
 impl Run {
-    // One character.
-    pub(crate) fn new(alloc: Global, looks: Looks, byte: u8) -> Result<Run, AllocError>
-        ensures { IfOk result (λ run. run ≡ record { looks = looks; bytes = byte ∷ [] }) }
+    // Characters of these looks.
+    pub(crate) fn new(alloc: Global, looks: Looks, bytes: &[u8]) -> Result<Run, AllocError>
+        requires { bytes.now ≢ [] }
+        ensures { IfOk result (λ run. run ≡ record { looks = looks; bytes = bytes.now }) }
     {
         Ok(Run {
             looks,
-            bytes: Vec::from_slice(alloc, &[byte])?,
+            bytes: Vec::from_slice(alloc, bytes)?,
         })
     }
 
-    // One more character of these looks.
-    pub(crate) fn push(&mut self, byte: u8) -> Result<(), AllocError>
+    // More characters of these looks.
+    pub(crate) fn push_all(&mut self, bytes: &[u8]) -> Result<(), AllocError>
         ensures { self.new
-            ≡ (if is_ok result then record self.old { bytes = self.old.bytes ++ byte ∷ [] } else self.old) }
+            ≡ (if is_ok result then record self.old { bytes = self.old.bytes ++ bytes.now } else self.old) }
     {
-        self.bytes.push(byte)?;
+        self.bytes.extend_from_slice(bytes)?;
         Ok(())
     }
 

@@ -4,4 +4,3 @@ pub mod Numbers
 pub mod OneToken
 pub mod Scanning
 pub mod Stretches
-pub mod Written

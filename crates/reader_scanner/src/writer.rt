@@ -24,18 +24,6 @@ impl Model for Writer {
     ghost view = { λ w. record { written = w.buffer; looks = w.looks } };
 }
 
-// Puts bytes in these looks at the end. After an `Err` some of them may stand there.
-fn push_all(buffer: &mut Buffer, bytes: &[u8], looks: &Looks) -> Result<(), Refusal>
-    ensures ok { OnOk result (buffer.new ≡ buffer.old ++ in_looks looks.now bytes.now) }
-    ensures full { IsErrOf result Refusal.FileSpent → MAX_FILE < length buffer.old + length bytes.now }
-    ensures errors { IfErr result (λ e. (e ≡ Refusal.FileSpent) ⊎ (e ≡ Refusal.OutOfMemory)) }
-{
-    for byte in bytes {
-        buffer.push(*byte, looks.copy())?;
-    }
-    Ok(())
-}
-
 // The number in decimal digits, with blanks on the left up to this width.
 fn filled(number: i32, width: u8) -> ArrayVec<u8, 255>
     ensures { result.items ≡ filled_decimal number width }
@@ -99,14 +87,7 @@ impl Writer {
         ensures errors { IfErr result (λ e. (e ≡ Refusal.FileSpent) ⊎ (e ≡ Refusal.OutOfMemory)) }
         ensures err { OnErr result (self.new ≡ self.old) }
     {
-        if MAX_FILE - self.buffer.len() < bytes.len() as u64 {
-            return Err(Refusal::FileSpent);
-        }
-        // A buffer doesn't give back what it took, so a copy takes the bytes.
-        let mut longer = self.buffer.copy()?;
-        push_all(&mut longer, bytes, &self.looks)?;
-        self.buffer = longer;
-        Ok(())
+        self.buffer.push_all(bytes, &self.looks)
     }
 
     /// Writes a number in decimal digits, with blanks on the left up to this width. Refused as `write_string`

@@ -1,4 +1,4 @@
-//! Tests of reading, scanning and writing, in a crate of their own so that each of those is proved once.
+//! Tests of reading, scanning, writing and files, in a crate of their own so that each of those is proved once.
 #![tactic(auto)]
 
 #[cfg(test)]

@@ -1,3 +1,5 @@
+mod files;
 mod reading;
+mod replicas;
 mod tokens;
 mod writing;

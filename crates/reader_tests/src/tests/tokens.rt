@@ -57,6 +57,17 @@ const ROWS: &[(&[u8], &[Want])] = &[
     (b" \t\r", &[(Class::Inval, 3, 3, b"", 0)]),
     (b"", &[(Class::Inval, 0, 0, b"", 0)]),
     (b"\"\"", &[(Class::String, 0, 2, b"", 0)]),
+    (
+        b"\"abcdefghijklmnopqrstuvwxyzABCDE\"",
+        &[(Class::String, 0, 33, b"abcdefghijklmnopqrstuvwxyzABCDE", 0)],
+    ),
+    (
+        b"\"abcdefghijklmnopqrstuvwxyzABCDEF\" x",
+        &[
+            (Class::Inval, 0, 34, b"", 0),
+            (Class::Name, 35, 36, b"x", 0),
+        ],
+    ),
     (b"\n", &[(Class::Char, 0, 1, b"\n", 0)]),
 ];
 

@@ -1,4 +1,4 @@
-use char_files::{Buffer, Source};
+use char_files::Buffer;
 use looks::{Colour, FontName, Looks, Refusal};
 use reader_scanner::{Reader, Writer};
 use std::test::Fail;
@@ -38,25 +38,76 @@ fn numbers_are_written(rt: HostRuntime) {
     }
 }
 
+// Whichever allocation is refused, the writer is as it was before, and the next try goes on from there.
 #[test]
 fn a_writer_has_looks(rt: HostRuntime) -> Result<(), Fail> {
     let font = FontName::new(b"Oberon12.Scn.Fnt").ok_or("a font")?;
     let colour = Colour::new(2).ok_or("a colour")?;
-    let looks = Looks {
-        font: font.copy(),
-        colour,
-        offset: -3,
-    };
     let mut writer = Writer::new(rt.alloc());
-    writer.write(b'a').expect(&rt, "memory");
-    writer.set_font(font);
+    if writer.write(b'a').is_err() {
+        writer.write(b'a')?;
+    }
+    writer.set_font(font.copy());
     writer.set_colour(colour);
     writer.set_offset(-3);
-    writer.write_string(b"bc").expect(&rt, "memory");
-    writer.write_ln().expect(&rt, "memory");
+    if writer.write_string(b"bc").is_err() {
+        writer.write_string(b"bc")?;
+    }
+    if writer.write_int(-42, 6).is_err() {
+        writer.write_int(-42, 6)?;
+    }
+    if writer.write_ln().is_err() {
+        writer.write_ln()?;
+    }
     let buffer = writer.into_buffer();
-    assert!(rt; is_written(&buffer, b"abc\r"));
-    assert_eq!(rt; Source::at(&buffer, 0).1, Looks::plain());
-    assert_eq!(rt; Source::at(&buffer, 3), (b'\r', looks));
+    let mut reader = Reader::open(&buffer, 0);
+    assert_eq!(rt; reader.read(), Some((b'a', Looks::plain())));
+    for byte in b"bc   -42\r" {
+        let looks = Looks {
+            font: font.copy(),
+            colour,
+            offset: -3,
+        };
+        assert_eq!(rt; reader.read(), Some((*byte, looks)));
+    }
+    assert_eq!(rt; reader.read(), None);
+    Ok(())
+}
+
+// Writes the bytes so many times; where memory is refused, once more.
+fn write_times(writer: &mut Writer, bytes: &[u8], times: u32) -> Result<(), Refusal> {
+    for _ in 0..times {
+        if writer.write_string(bytes).is_err() {
+            writer.write_string(bytes)?;
+        }
+    }
+    Ok(())
+}
+
+// 2^24 characters can be written and no more. What doesn't fit isn't begun.
+#[test]
+fn the_longest_buffer(rt: HostRuntime) -> Result<(), Fail> {
+    let mut writer = Writer::new(rt.alloc());
+    write_times(&mut writer, &[b'o'; 4091], 1)?;
+    write_times(&mut writer, &[b'o'; 4096], 4095)?;
+    assert_eq!(rt; writer.write_int(-42, 6), Err(Refusal::FileSpent));
+    if writer.write_int(-42, 5).is_err() {
+        writer.write_int(-42, 5)?;
+    }
+    assert_eq!(rt; writer.write(b'n'), Err(Refusal::FileSpent));
+    assert_eq!(rt; writer.write_ln(), Err(Refusal::FileSpent));
+    assert_eq!(rt; writer.write_string(b""), Ok(()));
+    let mut buffer = writer.into_buffer();
+    assert_eq!(rt; buffer.push(b'n', Looks::plain()), Err(Refusal::FileSpent));
+    assert_eq!(rt;
+        buffer.push_all(b"n", &Looks::plain()),
+        Err(Refusal::FileSpent)
+    );
+    assert_eq!(rt; buffer.len(), 0x0100_0000);
+    let mut reader = Reader::open(&buffer, 0x00ff_fffb);
+    for byte in b"  -42" {
+        assert_eq!(rt; reader.read(), Some((*byte, Looks::plain())));
+    }
+    assert_eq!(rt; reader.read(), None);
     Ok(())
 }

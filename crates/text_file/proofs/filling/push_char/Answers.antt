@@ -1,0 +1,7 @@
+use Rattle.std.proofs.Common.{arith}
+use Rattle.text_file.proofs.Filled.{memory_alone}
+use Rattle.text_file.proofs.filling.push_char.Goals as goal
+
+pub returns-clause-errors : goal.returns-clause-errors
+returns-clause-errors c =
+    memory_alone c.push.result _ c.push.ensures.errors c.push.ensures.full (λ full. omega (arith, full, c.requires))

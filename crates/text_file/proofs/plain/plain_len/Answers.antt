@@ -1,0 +1,12 @@
+use Rattle.std.proofs.Common.{ap, length, arith}
+use Rattle.text_file.proofs.PlainFiles.{plain_few, plain_none}
+use Rattle.text_file.proofs.plain.plain_len.Goals as goal
+
+pub overflow_add-len : goal.overflow_add-len
+overflow_add-len c = omega (arith, ap length c.in-Some.ensures.value, plain_few c.args.bytes.now)
+
+pub loop-behind-preserved : goal.loop-behind-preserved
+loop-behind-preserved c = omega (arith, ap length c.in-Some.ensures.value)
+
+pub returns : goal.returns
+returns c = omega (arith, plain_none c.loop-behind.rest.now c.in_default.ensures.value)

@@ -1,0 +1,110 @@
+-- Text files: which bytes stand for which characters with their looks.
+use Rattle.std.specs.Prelude.{◌≡◌, ◌≢◌, ℕ, ◌≤◌, ◌⊎◌, Bool, ◌==◌, ◌&&◌, if◌then◌else◌, List, [], ◌∷◌, ◌++◌}
+use Rattle.std.specs.Prelude.{length, map, take, codes, bytes_eq}
+use Rattle.std.specs.Int.{w32}
+use Rattle.std.specs.List.{flat_map, AllByRecursion}
+use Rattle.std.specs.Ordering.{int_eq}
+use Rattle.looks.specs.declared.looks.Looks.{Looks}
+use Rattle.looks.specs.Looks.{IsLooks}
+use Rattle.char_files.specs.Plain.{plain_items}
+use Rattle.char_files.specs.Stretch.{Stretch, Item, items_of, AreRuns}
+use Rattle.operations.specs.Spelling.{number_spelling, looks_spelling}
+use Rattle.text_file.specs.declared.TheConstants.{MAX_TEXT}
+
+-- what a formatted file begins with
+abbrev pub tag : List ℕ
+tag = codes "OTF1"
+
+-- whether looks are the same in font, colour and offset
+abbrev pub same_looks : Looks → Looks → Bool
+same_looks a b = bytes_eq a.font b.font && a.colour == b.colour && int_eq a.offset b.offset
+
+-- a character as a run by itself
+abbrev pub alone : Item → Stretch
+alone c = record { looks = c.1; bytes = c.0 ∷ [] }
+
+-- a run with one more character in front
+abbrev pub grown : ℕ → Stretch → Stretch
+grown b r = record { looks = r.looks; bytes = b ∷ r.bytes }
+
+-- a character in front of runs: it joins the first one where that has its looks, else it is a run by itself
+abbrev pub joined : Item → List Stretch → List Stretch
+joined c [] = alone c ∷ []
+joined c (r ∷ runs) = if same_looks c.1 r.looks then grown c.0 r ∷ runs else alone c ∷ r ∷ runs
+
+-- the longest stretches of equal looks, in order
+abbrev pub maximal_runs : List Item → List Stretch
+maximal_runs [] = []
+maximal_runs (c ∷ items) = joined c (maximal_runs items)
+
+-- a run: its looks, and how many characters it has
+abbrev pub run_spelling : Stretch → List ℕ
+run_spelling r = looks_spelling r.looks ++ number_spelling w32 (length r.bytes)
+
+-- the formatted file: the tag, how many runs there are, the runs, how many characters there are, the characters
+unfoldable pub formatted : List Item → List ℕ
+formatted items =
+    tag ++ number_spelling w32 (length (maximal_runs items)) ++ flat_map run_spelling (maximal_runs items)
+    ++ number_spelling w32 (length items) ++ map (λ c. c.0) items
+
+-- a text that has a file: at most 2^20 characters, each in looks that there are
+pub record IsText (items : List Item) : Type 0 where
+  pub few : length items ≤ MAX_TEXT
+  pub looks : AllByRecursion (λ c. IsLooks c.1) items
+
+-- a line end of another system, 0AH, becomes 0DH
+abbrev pub as_line_end : ℕ → ℕ
+as_line_end b = if b == 10 then 13 else b
+
+-- the bytes behind a 0DH, to which a 0AH that follows it belongs
+abbrev pub without_newline : List ℕ → List ℕ
+without_newline [] = []
+without_newline (b ∷ rest) = if b == 10 then rest else b ∷ rest
+
+-- the characters of a plain file: 0DH and 0AH together become one 0DH, a lone 0AH becomes 0DH, all other bytes
+-- stay
+unfoldable pub plain_bytes : List ℕ → List ℕ
+plain_bytes [] = []
+plain_bytes (a ∷ []) = as_line_end a ∷ []
+plain_bytes (a ∷ b ∷ rest) =
+    if a == 13 && b == 10 then 13 ∷ plain_bytes rest else as_line_end a ∷ plain_bytes (b ∷ rest)
+
+-- the formatted file of these characters
+pub record IsFormatted (items : List Item) (file : List ℕ) : Type 0 where
+  pub text : IsText items
+  pub spelled : file ≡ formatted items
+
+-- a plain file, which doesn't begin with the tag, of these characters, in the default looks
+pub record IsPlain (items : List Item) (file : List ℕ) : Type 0 where
+  pub untagged : take 4 file ≢ tag
+  pub few : length (plain_bytes file) ≤ MAX_TEXT
+  pub spelled : items ≡ plain_items (plain_bytes file)
+
+-- a file of these characters
+abbrev pub IsFileOf : List Item → List ℕ → Type 0
+IsFileOf items file = IsFormatted items file ⊎ IsPlain items file
+
+-- no text has this file
+abbrev pub IsNoFile : List ℕ → Type 0
+IsNoFile file = (items : List Item) → IsFileOf items file → ⊥
+
+-- a file is of one text at most
+abbrev pub OneText : Type 0
+OneText = (a b : List Item) (file : List ℕ) → IsFileOf a file → IsFileOf b file → a ≡ b
+
+-- no two texts share a formatted file
+abbrev pub NoneIsShared : Type 0
+NoneIsShared = (a b : List Item) → IsText a → IsText b → formatted a ≡ formatted b → a ≡ b
+
+-- no formatted file begins another one
+abbrev pub NoneBeginsAnother : Type 0
+NoneBeginsAnother =
+    (a b : List Item) (rest : List ℕ) → IsText a → IsText b → formatted b ≡ formatted a ++ rest → rest ≡ []
+
+-- the runs of a formatted file can't be joined, and their characters are the text's
+abbrev pub RunsAreMaximal : Type 0
+RunsAreMaximal = (items : List Item) → AreRuns (maximal_runs items) × (items_of (maximal_runs items) ≡ items)
+
+-- and they are the only such runs
+abbrev pub NoOtherRuns : Type 0
+NoOtherRuns = (runs : List Stretch) → AreRuns runs → maximal_runs (items_of runs) ≡ runs

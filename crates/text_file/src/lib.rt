@@ -1,0 +1,15 @@
+//! Texts as files: formatted ones, which keep looks, and plain ones, which are bytes.
+#![tactic(auto)]
+
+mod filling;
+mod laws;
+mod loading;
+mod plain;
+mod storing;
+
+pub use laws::{one_text, runs_are_maximal};
+pub use loading::load;
+pub use storing::store;
+
+/// The most characters that a file's text may have: 2^20. This project's own.
+pub const MAX_TEXT: u64 = 1 << 20;
