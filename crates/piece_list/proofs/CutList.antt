@@ -1,7 +1,7 @@
 -- A list of pieces with its tables, before and after a piece was cut.
 use Rattle.std.proofs.Common.{◌≡◌, ℕ, ◌+◌, ◌-◌, ◌<◌, ◌≤◌, ◌==◌, inl, inr, List, [], ◌∷◌, ◌++◌, Option}
 use Rattle.std.proofs.Common.{Some, None, length}
-use Rattle.std.proofs.Common.{get_or, map, refl, sym, ap, subst, ◌∙◌, arith, append_assoc}
+use Rattle.std.proofs.Common.{get_or, refl, sym, ap, subst, ◌∙◌, arith, append_assoc}
 use Rattle.std.specs.List.{AllByRecursion, IsDistinct}
 use Rattle.std.proofs.lemmas.Bool.{cases_lt}
 use Rattle.std.proofs.lemmas.List.{map-append, length-append, get_or_past}
@@ -14,7 +14,7 @@ use Rattle.piece_list.specs.declared.place.Place.{Place}
 use Rattle.piece_list.specs.Pieces.{range_of, front_of, rest_of, IsPiece}
 use Rattle.piece_list.specs.Held.{AreEntered, HasPlace, IsPlaceOf, IsCut}
 use Rattle.piece_list.specs.Spelled.{spelled, ArePieces}
-use Rattle.piece_list.specs.Tables.{Tables, tag_in, table_of, tag_at}
+use Rattle.piece_list.specs.Tables.{Tables, table_of, tag_at}
 use Rattle.piece_list.proofs.Cut.{cut_spells_the_same}
 use Rattle.piece_list.proofs.Cutting.{written, pushed}
 use Rattle.piece_list.proofs.Entered.{entered_after}

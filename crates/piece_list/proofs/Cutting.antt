@@ -1,7 +1,7 @@
 -- A piece of a list is cut in two: the ring's steps, and the tables after them.
-use Rattle.std.proofs.Common.{◌≡◌, ◌≢◌, ℕ, ◌+◌, ◌-◌, ◌<◌, ◌≤◌, ◌==◌, Bool, true, false, cond, inl, inr}
+use Rattle.std.proofs.Common.{◌≡◌, ◌≢◌, ℕ, ◌+◌, ◌<◌, ◌==◌, Bool, false, cond, inl, inr}
 use Rattle.std.proofs.Common.{List, [], ◌∷◌, ◌++◌}
-use Rattle.std.proofs.Common.{Option, Some, length, get_or, take, drop, map, All, refl, sym, ap, subst}
+use Rattle.std.proofs.Common.{Some, length, get_or, take, drop, map, All, refl, sym, ap}
 use Rattle.std.proofs.Common.{◌∙◌, arith, append_assoc}
 use Rattle.std.proofs.Common.{ne_eqb, eq-eqb}
 use Rattle.std.proofs.lemmas.Bool.{cases_lt}
@@ -71,7 +71,7 @@ one_index items are i j d li lj same =
     ]
 
 -- the list that ends with a number
-ends_with : (xs : Items) (tag : ℕ) → last_tag xs ≡ Some tag
+pub ends_with : (xs : Items) (tag : ℕ) → last_tag xs ≡ Some tag
     → (f : Items) × (q : Piece) × (xs ≡ f ++ (tag, q) ∷ [])
 ends_with [] tag e = absurd cc
 ends_with (m ∷ []) tag e =

@@ -1,5 +1,5 @@
 -- The tables after a piece was cut.
-use Rattle.std.proofs.Common.{◌≡◌, ◌≢◌, ℕ, ◌+◌, ◌-◌, ◌<◌, ◌≤◌, ◌⊎◌, Bool, true, false, cond, inl, inr}
+use Rattle.std.proofs.Common.{◌≡◌, ◌≢◌, ℕ, ◌+◌, ◌<◌, ◌≤◌, ◌⊎◌, Bool, true, false, inl, inr}
 use Rattle.std.proofs.Common.{List, [], ◌∷◌}
 use Rattle.std.proofs.Common.{◌++◌, Option, Some, All, get_or, refl, sym, ap, subst, ◌∙◌, arith}
 use Rattle.std.proofs.lemmas.Bool.{cases_eq, cases_lt}
@@ -19,7 +19,7 @@ abbrev Items : Type 0
 Items = List (ℕ × Piece)
 
 -- one of the members has this number
-abbrev Held : Items → ℕ → Type 0
+abbrev pub Held : Items → ℕ → Type 0
 Held [] tag = ⊥
 Held (m ∷ items) tag = (m.0 ≡ tag) ⊎ Held items tag
 
@@ -27,10 +27,10 @@ held_there : (xs ys : Items) (tag : ℕ) (p : Piece) → Held (xs ++ (tag, p) �
 held_there [] ys tag p = inl refl
 held_there (m ∷ xs) ys tag p = inr (held_there xs ys tag p)
 
-held : (items : Items) (tag : ℕ) → HasTag items tag → Held items tag
+pub held : (items : Items) (tag : ℕ) → HasTag items tag → Held items tag
 held items tag (p, (xs, ys, is)) = subst (λ (l : Items). Held l tag) (sym is) (held_there xs ys tag p)
 
-has_tag : (items : Items) (tag : ℕ) → Held items tag → HasTag items tag
+pub has_tag : (items : Items) (tag : ℕ) → Held items tag → HasTag items tag
 has_tag [] tag h = absurd h
 has_tag (m ∷ items) tag (inl e) = (m.1, ([], items, ap (λ (k : ℕ). (k, m.1) ∷ items) e))
 has_tag (m ∷ items) tag (inr h) =
@@ -142,8 +142,8 @@ module _ (xs ys : Items) (tag u n : ℕ) (p : Piece) (old new : Tables)
           pieces = All-append Is xs ((tag, front_of n p) ∷ (u, rest_of n p) ∷ ys)
               (all_left Is xs ((tag, p) ∷ ys) are.pieces)
               (All-cons Is (tag, front_of n p) ((u, rest_of n p) ∷ ys)
-              (some, omega (arith, whole.1), omega (arith, whole.2))
-              (All-cons Is (u, rest_of n p) ys (omega arith, omega (arith, whole.1), omega (arith, whole.2))
+              (some, omega (arith, whole.1), omega (arith, whole.2), whole.3)
+              (All-cons Is (u, rest_of n p) ys (omega arith, omega (arith, whole.1), omega (arith, whole.2), whole.3)
               (All-tail Is (tag, p) ys here)));
           entered = All-append (Entered new) xs ((tag, front_of n p) ∷ (u, rest_of n p) ∷ ys)
               (all_stay xs (ahead_others xs ys tag p tags) (all_left (Entered old) xs

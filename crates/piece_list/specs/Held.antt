@@ -9,7 +9,7 @@ use Rattle.piece_list.specs.Pieces.{range_of, front_of, rest_of}
 use Rattle.piece_list.specs.Spelled.{ArePieces}
 use Rattle.piece_list.specs.Tables.{Tables, tag_at}
 
--- the pieces in order, each under its number, and how many comparisons the last `locate` made
+-- the pieces in order, each under its number, and how many steps the last `locate` or `place` took
 pub record PiecesSeen : Type 0 where
   pub items : List (ℕ × Piece)
   pub steps : ℕ

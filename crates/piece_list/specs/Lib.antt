@@ -1,6 +1,10 @@
+pub mod Along
+pub mod Changing
 pub mod Held
 pub mod Laws
 pub mod Pieces
 pub mod Placed
+pub mod Placing
+pub mod Shown
 pub mod Spelled
 pub mod Tables

@@ -1,5 +1,5 @@
 -- What a piece says of its characters.
-use Rattle.std.specs.Prelude.{ℕ, ◌+◌, ◌-◌, ◌<◌, ◌≤◌, Bool, false, List, map}
+use Rattle.std.specs.Prelude.{ℕ, ◌+◌, ◌-◌, ◌^◌, ◌<◌, ◌≤◌, Bool, false, List, map}
 use Rattle.looks.specs.Sel.{Selection}
 use Rattle.looks.specs.declared.key.Key.{Key}
 use Rattle.looks.specs.declared.looks.Looks.{Looks}
@@ -30,9 +30,9 @@ char_of p c = record {
 abbrev pub chars_of : Piece → List Kept
 chars_of p = map (char_of p) (names_of (range_of p))
 
--- one character at least and 4,096 at most, all of them within a site's file
+-- one character at least and 4,096 at most, all of them within the file of a site, whose number has 16 bits
 abbrev pub IsPiece : Piece → Type 0
-IsPiece p = (0 < p.len) × (p.len ≤ MAX_PIECE) × (p.off + p.len ≤ MAX_FILE)
+IsPiece p = (0 < p.len) × (p.len ≤ MAX_PIECE) × (p.off + p.len ≤ MAX_FILE) × (p.site < 2 ^ 16)
 
 -- the first n of its characters
 abbrev pub front_of : ℕ → Piece → Piece

@@ -10,7 +10,7 @@ mod tags;
 #[cfg(test)]
 mod tests;
 
-pub use list::PieceList;
+pub use list::{PieceList, Walk};
 pub use piece::{MAX_PIECE, Piece};
 pub use place::Place;
 pub use run::Run;

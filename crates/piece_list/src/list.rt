@@ -1,9 +1,16 @@
-ghost use Rattle.std.specs.Prelude.{◌≡◌, ℕ, ◌+◌, ◌<◌, ◌≤◌, ◌↔◌, [], min, IfOk, OnOk, OnErr, IfSome, IsSome};
+ghost use Rattle.std.specs.Prelude.{◌≡◌, ◌≢◌, ℕ, ◌+◌, ◌<◌, ◌≤◌, ◌⊎◌, ◌↔◌, [], length, min, IfOk, OnOk, OnErr};
+ghost use Rattle.std.specs.Prelude.{IfSome, IsSome};
 ghost use Rattle.looks.specs.Refusal.{RefusedForMemoryAlone};
 ghost use Rattle.piece_raw.specs.Ring.{AreTags, HasTag};
 ghost use Rattle.char_files.specs.CharName.{CharName};
 ghost use Rattle.piece_list.specs.Held.{IsPlaceOf, HasPlace, IsCut, AreEntered};
 ghost use Rattle.piece_list.specs.Spelled.{spelled, HasName};
+ghost use Rattle.piece_list.specs.Tables.{table_of};
+
+mod changing;
+mod members;
+mod placing;
+mod walking;
 
 use crate::piece::Piece;
 use crate::place::Place;
@@ -13,6 +20,7 @@ use looks::Refusal;
 use piece_raw::Ring;
 use std::alloc::Global;
 use std::marker::Model;
+pub use walking::Walk;
 
 /// All characters of a text in order, hidden ones too, as a list of pieces (Project Oberon, chapter 5).
 ///
@@ -21,17 +29,22 @@ use std::marker::Model;
 pub struct PieceList {
     pieces: Ring<Piece>,
     tags: TagTables,
+    // How many characters are shown.
+    shown: u64,
     steps: u64,
 }
 
 impl Model for PieceList {
+    ghost use Rattle.std.specs.Prelude.{◌≡◌, length};
     ghost use Rattle.piece_list.specs.Held.{PiecesSeen, AreEntered};
+    ghost use Rattle.piece_list.specs.Spelled.{spelled, shown_chars};
 
     ghost Value = { PiecesSeen };
 
     ghost view = { λ l. record { items = l.pieces.items; steps = l.steps } };
 
-    ghost invariant = { λ l. AreEntered l.pieces.items l.tags };
+    ghost invariant = { λ l. AreEntered l.pieces.items l.tags
+        × (l.shown ≡ length (shown_chars (spelled l.pieces.items))) };
 }
 
 // A law of rings: no number is used twice. A proof gets it by calling this, at no cost.
@@ -51,7 +64,10 @@ fn cut(pieces: &mut Ring<Piece>, tags: &mut TagTables, tag: u64, n: u32) -> u64
     ensures place { (c : CharName) → IsPlaceOf pieces.old.items (record { piece = tag; within = n }) c
         → IsPlaceOf pieces.new.items (record { piece = result; within = 0 }) c }
     ensures entered { AreEntered pieces.new.items tags.new }
+    ensures others { (other : Place) (c : CharName) → IsPlaceOf pieces.old.items other c
+        → (other.piece ≢ tag) ⊎ (other.within < n) → IsPlaceOf pieces.new.items other c }
     ensures room { pieces.old.room ≤ pieces.new.room + 1 }
+    ensures long { (site : ℕ) → length (table_of tags.new site) ≡ length (table_of tags.old site) }
 {
     numbers_differ(pieces);
     pieces.seek(tag);
@@ -75,6 +91,7 @@ impl PieceList {
         Ok(PieceList {
             pieces: Ring::new(alloc)?,
             tags: TagTables::new(alloc),
+            shown: 0,
             steps: 0,
         })
     }
@@ -116,7 +133,8 @@ impl PieceList {
     }
 
     /// Cuts a piece in two ahead of this place, and answers the place of the same character afterwards. The
-    /// piece keeps its number and what stands ahead. Nothing changes at a piece's first character.
+    /// piece keeps its number and what stands ahead, and every other piece stays. Nothing changes at a piece's
+    /// first character.
     ///
     /// Refused `OutOfMemory` alone.
     pub fn split(&mut self, place: Place) -> Result<Place, Refusal>
@@ -125,6 +143,11 @@ impl PieceList {
         ensures spells { spelled self.new.items ≡ spelled self.old.items }
         ensures place { IfOk result (λ rest. (rest.within ≡ 0)
             × ((c : CharName) → IsPlaceOf self.old.items place c → IsPlaceOf self.new.items rest c)) }
+        ensures others { (other : Place) (c : CharName) → IsPlaceOf self.old.items other c
+            → (other.piece ≢ place.piece) ⊎ (other.within < place.within) → IsPlaceOf self.new.items other c }
+        ensures cut { 0 < place.within → IfOk result
+            (λ rest. IsCut place.piece place.within rest.piece self.old.items self.new.items) }
+        ensures steps { self.new.steps ≡ self.old.steps }
         ensures errors { RefusedForMemoryAlone result }
         ensures err { OnErr result (self.new ≡ self.old) }
     {
@@ -139,7 +162,7 @@ impl PieceList {
         })
     }
 
-    /// How many times the last `locate` compared a name with a piece.
+    /// How many times the last `locate` or `place` compared a name with a piece, or looked at a piece's key.
     pub fn steps(&self) -> u64
         ensures { result ≡ self.now.steps }
     {

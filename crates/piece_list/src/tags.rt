@@ -51,6 +51,7 @@ impl SiteTags {
         ensures inside { (at : ℕ) → off ≤ at → at < off + len → tag_in self.new at ≡ Just tag }
         ensures ahead { (at : ℕ) → at < off → tag_in self.new at ≡ tag_in self.old at }
         ensures behind { (at : ℕ) → off + len ≤ at → tag_in self.new at ≡ tag_in self.old at }
+        ensures long { length self.new ≡ length self.old }
     {
         for at in off as usize..off as usize + len as usize {
             self.tags[at] = Some(tag);
@@ -121,6 +122,7 @@ impl TagTables {
         ensures behind { (at : ℕ) → off + len ≤ at
             → tag_in (table_of self.new site) at ≡ tag_in (table_of self.old site) at }
         ensures others { (other : ℕ) → other ≢ site → table_of self.new other ≡ table_of self.old other }
+        ensures long { length (table_of self.new site) ≡ length (table_of self.old site) }
     {
         if let Some(tags) = self.sites.get_mut(&site.get()) {
             tags.fill(off, len, tag);

@@ -1,12 +1,12 @@
-use Rattle.std.proofs.Common.{ℕ, List, ◌<◌, Some}
-use Rattle.piece_raw.specs.Ring.{AreTags, IsMember, IsPushed, with_value}
+use Rattle.std.proofs.Common.{ℕ, List, Some}
+use Rattle.piece_raw.specs.Ring.{IsMember, IsPushed, with_value}
 use Rattle.piece_list.specs.declared.piece.Piece.{Piece}
 use Rattle.piece_list.specs.Pieces.{range_of, front_of, rest_of}
-use Rattle.piece_list.specs.Held.{IsCut}
 use Rattle.piece_list.proofs.CutList.{at_cursor, put_behind, is_piece, is_within, rest_fits, cut_made}
 use Rattle.piece_list.proofs.CutList.{cut_place}
 use Rattle.piece_list.proofs.CutList.{cut_entered}
 use Rattle.piece_list.proofs.Entered.{filled_inside, filled_outside}
+use Rattle.piece_list.proofs.Placing.{cut_others, same_lengths}
 use Rattle.piece_list.proofs.list.cut.Goals as goal
 
 pub split_off-rest-requires-clause-piece : goal.split_off-rest-requires-clause-piece
@@ -80,3 +80,13 @@ returns-clause-entered c =
     c.fill.ensures.ahead c.fill.ensures.behind c.fill.ensures.others)
     (filled_outside (range_of rest) c.in-Ok.number c.args.tags.now c.fill.new.self c.fill.ensures.inside
     c.fill.ensures.ahead c.fill.ensures.behind c.fill.ensures.others)
+
+pub returns-clause-others : goal.returns-clause-others
+returns-clause-others c =
+    cut_others c.args.pieces.now.items c.push_after.new.self.items c.args.tag c.args.n c.in-Ok.number
+    c.numbers_differ.ensures (returns-clause-cut c)
+
+pub returns-clause-long : goal.returns-clause-long
+returns-clause-long c =
+    same_lengths c.args.tags.now c.fill.new.self c.split_off-rest.result.site c.fill.ensures.long
+    c.fill.ensures.others

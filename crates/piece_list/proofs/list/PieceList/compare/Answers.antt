@@ -1,4 +1,4 @@
-use Rattle.std.proofs.Common.{◌≡◌, ℕ, List, ap, sym, subst, arith}
+use Rattle.std.proofs.Common.{ℕ, List, ap, sym, subst, arith}
 use Rattle.operations.specs.NameSet.{IsIn}
 use Rattle.piece_list.specs.declared.piece.Piece.{Piece}
 use Rattle.piece_list.specs.Pieces.{range_of}

@@ -16,7 +16,7 @@ returns-in_err-tag-clause-here c =
           subst (λ (l : List (ℕ × Piece)). HasName (spelled l) c.args.name) (sym seen) has in
           let (place, is) = name_has_place items c.args.name there in
           let entry : tag_at c.self.inside.tags c.args.name ≡ Some place.piece =
-          entry_of items c.self.inside.tags c.self.invariant place c.args.name is in
+          entry_of items c.self.inside.tags c.self.invariant.0 place c.args.name is in
           absurd (none_is_not place.piece (c.in_err-tag.ensures ∙ entry)),
     )
 
@@ -31,7 +31,7 @@ returns-clause-here c =
           subst (λ (l : List (ℕ × Piece)). HasName (spelled l) c.args.name) (sym seen) has in
           let (place, is) = name_has_place items c.args.name there in
           let entry : tag_at c.self.inside.tags c.args.name ≡ Some place.piece =
-          entry_of items c.self.inside.tags c.self.invariant place c.args.name is in
+          entry_of items c.self.inside.tags c.self.invariant.0 place c.args.name is in
           let same : place.piece ≡ c.in_ok-tag.tag =
           some_is place.piece c.in_ok-tag.tag (sym entry ∙ sym c.in_ok-tag.ensures) in
           c.compare.ensures.held place is same,

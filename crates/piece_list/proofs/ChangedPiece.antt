@@ -1,0 +1,183 @@
+-- A list of pieces before and after one of them was changed.
+use Rattle.std.proofs.Common.{◌≡◌, ◌≢◌, ℕ, ◌+◌, ◌-◌, ◌<◌, ◌≤◌, ◌==◌, cond, List, [], ◌∷◌, ◌++◌, Some}
+use Rattle.std.proofs.Common.{map, All, refl, sym, ap, subst, ◌∙◌, arith}
+use Rattle.std.proofs.lemmas.List.{map-append}
+use Rattle.std.proofs.lemmas.List.Elements.{All-append, All-head, All-tail, All-cons}
+use Rattle.char_files.specs.CharName.{CharName}
+use Rattle.char_files.specs.declared.TheConstants.{MAX_FILE}
+use Rattle.operations.specs.NameSet.{Range, IsIn}
+use Rattle.piece_raw.specs.Ring.{Ring, ring, AreTags, IsMember, HasTag, IsAtCursor, with_value}
+use Rattle.piece_raw.specs.Ring.{with_value_at}
+use Rattle.tree_order.specs.Registers.{Kept, if_named}
+use Rattle.piece_list.specs.declared.list.changing.Change.{Change}
+use Rattle.piece_list.specs.declared.list.changing.Change.TheVariants.{Switch, Relook}
+use Rattle.piece_list.specs.declared.piece.Piece.{Piece}
+use Rattle.piece_list.specs.Changing.{IsEdge, changed_piece, changed_char}
+use Rattle.piece_list.specs.Held.{AreEntered}
+use Rattle.piece_list.specs.Laws.{Avoid, ChangesEach}
+use Rattle.piece_list.specs.Pieces.{range_of, IsPiece}
+use Rattle.piece_list.specs.Spelled.{spelled, HasName}
+use Rattle.piece_list.specs.Tables.{Tables, tag_at}
+use Rattle.piece_list.proofs.Changes.{of_its_names}
+use Rattle.piece_list.proofs.Cutting.{ahead_others, behind_others, written}
+use Rattle.piece_list.proofs.CutList.{at_cursor, is_piece}
+use Rattle.piece_list.proofs.Edges.{entered_holds, begins_there}
+use Rattle.piece_list.proofs.Found.{some_is}
+use Rattle.piece_list.proofs.Gap.{all_left, all_right}
+
+abbrev Items : Type 0
+Items = List (ℕ × Piece)
+
+abbrev Entered : Tables → ℕ × Piece → Type 0
+Entered tables m = (c : CharName) → IsIn (range_of m.1) c → tag_at tables c ≡ Some m.0
+
+-- a change of a piece is one of its characters
+pub changes_each : (change : Change) → ChangesEach (changed_piece change) (changed_char change)
+changes_each (Switch hidden key) p = (refl, λ c. refl)
+changes_each (Relook sel looks key) p = (refl, λ c. refl)
+
+-- and keeps their names
+pub keeps_name : (change : Change) (k : Kept) → (changed_char change k).name ≡ k.name
+keeps_name (Switch hidden key) k = refl
+keeps_name (Relook sel looks key) k = refl
+
+-- the ring's write
+pub put_at_cursor : (r : Ring Piece) (items : Items) (tag room : ℕ) (w : Piece)
+    → r ≡ ring items (Some tag) room → with_value_at r.cursor w r.items ≡ with_value tag w items
+put_at_cursor r items tag room w e = ap (λ (s : Ring Piece). with_value_at s.cursor w s.items) e
+
+-- what the answer of the step says of the names
+pub same_names : (p w : Piece) (name : CharName) → range_of w ≡ range_of p → IsIn (range_of p) name
+    → p.off ≡ name.off
+    → range_of p ≡ record { site = name.site; at = name.off; len = w.off + w.len - name.off }
+same_names p w name same (site, from, to) off =
+    let range : ℕ → ℕ → ℕ → Range = λ (s a l : ℕ). record { site = s; at = a; len = l } in
+    let at : w.off ≡ p.off = ap (λ (r : Range). r.at) same in
+    let len : w.len ≡ p.len = ap (λ (r : Range). r.len) same in
+    let all : p.len ≡ w.off + w.len - name.off = omega arith in
+    ap (λ (s : ℕ). range s p.off p.len) (sym site) ∙ ap (λ (a : ℕ). range name.site a p.len) off
+    ∙ ap (range name.site name.off) all
+
+-- pieces of other numbers have none of the names
+avoids : (tables : Tables) (tag : ℕ) (p : Piece) (zs : Items) → Entered tables (tag, p)
+    → All (Entered tables) zs → All (λ m. m.0 ≢ tag) zs → Avoid (range_of p) zs
+avoids tables tag p zs own entered others = λ i d lt c is held.
+    others i d lt (some_is _ _ (sym (entered i d lt c is) ∙ own c held))
+
+-- a piece of the same names in the place of another
+module _ (tag : ℕ) (p w : Piece) (same : range_of w ≡ range_of p) where
+  edges_stay : (xs ys : Items) (site off : ℕ) → IsEdge site off (xs ++ (tag, p) ∷ ys)
+      → IsEdge site off (xs ++ (tag, w) ∷ ys)
+  edges_stay xs ys site off edge =
+      let R : Range → Type 0 = λ (r : Range). r.site ≡ site → r.at < off → r.at + r.len ≤ off in
+      let E : ℕ × Piece → Type 0 = λ (m : ℕ × Piece). R (range_of m.1) in
+      let here : All E ((tag, p) ∷ ys) = all_right E xs ((tag, p) ∷ ys) edge in
+      let own : R (range_of p) = All-head E (tag, p) ys here in
+      All-append E xs ((tag, w) ∷ ys) (all_left E xs ((tag, p) ∷ ys) edge)
+      (All-cons E (tag, w) ys (subst R (sym same) own) (All-tail E (tag, p) ys here))
+
+  pieces_stay : (xs ys : Items) → All (λ m. IsPiece m.1) (xs ++ (tag, p) ∷ ys)
+      → All (λ m. IsPiece m.1) (xs ++ (tag, w) ∷ ys)
+  pieces_stay xs ys all =
+      let Is : ℕ × Piece → Type 0 = λ (m : ℕ × Piece). IsPiece m.1 in
+      let here : All Is ((tag, p) ∷ ys) = all_right Is xs ((tag, p) ∷ ys) all in
+      let own : IsPiece p = All-head Is (tag, p) ys here in
+      let P : Range → Type 0 =
+      λ (r : Range). IsPiece (record p { site = r.site; off = r.at; len = r.len }) in
+      let is : IsPiece w = subst P (sym same) own in
+      All-append Is xs ((tag, w) ∷ ys) (all_left Is xs ((tag, p) ∷ ys) all)
+      (All-cons Is (tag, w) ys is (All-tail Is (tag, p) ys here))
+
+  entered_stay : (tables : Tables) (xs ys : Items) → All (Entered tables) (xs ++ (tag, p) ∷ ys)
+      → All (Entered tables) (xs ++ (tag, w) ∷ ys)
+  entered_stay tables xs ys all =
+      let here : All (Entered tables) ((tag, p) ∷ ys) =
+      all_right (Entered tables) xs ((tag, p) ∷ ys) all in
+      let own : Entered tables (tag, p) = All-head (Entered tables) (tag, p) ys here in
+      let is : Entered tables (tag, w) = λ c held. own c (subst (λ (r : Range). IsIn r c) same held) in
+      All-append (Entered tables) xs ((tag, w) ∷ ys) (all_left (Entered tables) xs ((tag, p) ∷ ys) all)
+      (All-cons (Entered tables) (tag, w) ys is (All-tail (Entered tables) (tag, p) ys here))
+
+-- the numbers stay
+has_tag : (items : Items) (tag s : ℕ) (w : Piece) → HasTag items s → HasTag (with_value tag w items) s
+has_tag items tag s w (v, (xs, ys, is)) =
+    let put : ℕ × Piece → ℕ × Piece = λ (m : ℕ × Piece). (m.0, cond (m.0 == tag) w m.1) in
+    (cond (s == tag) w v, (map put xs, map put ys, ap (map put) is ∙ map-append put xs ((s, v) ∷ ys)))
+
+module _ (change : Change) (old : Items) (tables : Tables) (tag : ℕ) (p w : Piece) (tags : AreTags old)
+    (are : AreEntered old tables) (member : IsMember old tag p) (is_w : w ≡ changed_piece change p)
+  where
+    abbrev new : Items
+    new = with_value tag w old
+
+    same_range : range_of w ≡ range_of p
+    same_range = ap range_of is_w ∙ (changes_each change p).0
+
+    -- the change of one piece
+    parts : (xs ys : Items) → old ≡ xs ++ (tag, p) ∷ ys → new ≡ xs ++ (tag, w) ∷ ys
+    parts xs ys is =
+        ap (with_value tag w) is ∙ written xs ys tag p w (subst AreTags is tags)
+
+    pub edges_after : (site off : ℕ) → IsEdge site off old → IsEdge site off new
+    edges_after site off edge =
+        let (xs, ys, is) = member in
+        subst (IsEdge site off) (sym (parts xs ys is))
+        (edges_stay tag p w same_range xs ys site off (subst (IsEdge site off) is edge))
+
+    pub entered_after : AreEntered new tables
+    entered_after =
+        let (xs, ys, is) = member in
+        let whole : AreEntered (xs ++ (tag, p) ∷ ys) tables =
+        subst (λ (l : Items). AreEntered l tables) is are in
+        let back : xs ++ (tag, w) ∷ ys ≡ new = sym (parts xs ys is) in
+        record {
+          pieces = subst (All (λ m. IsPiece m.1)) back (pieces_stay tag p w same_range xs ys whole.pieces);
+          entered = subst (All (Entered tables)) back
+              (entered_stay tag p w same_range tables xs ys whole.entered);
+          held = λ c s e. has_tag old tag s w (are.held c s e);
+        }
+
+    pub changed_there : spelled new ≡ map (if_named (range_of p ∷ []) (changed_char change)) (spelled old)
+    changed_there =
+        let (xs, ys, is) = member in
+        let here : AreTags (xs ++ (tag, p) ∷ ys) = subst AreTags is tags in
+        let all : All (Entered tables) (xs ++ (tag, p) ∷ ys) =
+        subst (All (Entered tables)) is are.entered in
+        let behind : All (Entered tables) ((tag, p) ∷ ys) =
+        all_right (Entered tables) xs ((tag, p) ∷ ys) all in
+        let own : Entered tables (tag, p) = All-head (Entered tables) (tag, p) ys behind in
+        ap spelled (parts xs ys is)
+        ∙ ap (λ (q : Piece). spelled (xs ++ (tag, q) ∷ ys)) is_w
+        ∙ of_its_names (changed_piece change) (changed_char change) xs ys tag p (changes_each change)
+        (avoids tables tag p xs own (all_left (Entered tables) xs ((tag, p) ∷ ys) all)
+        (ahead_others xs ys tag p here))
+        (avoids tables tag p ys own (All-tail (Entered tables) (tag, p) ys behind)
+        (behind_others xs ys tag p here))
+        ∙ sym (ap (λ (l : Items). map (if_named (range_of p ∷ []) (changed_char change)) (spelled l)) is)
+
+-- the piece that a step changes, before it and after it
+pub record IsTurn (items : Items) (tag : ℕ) (p w : Piece) (name : CharName) : Type 0 where
+  pub member : IsMember items tag p
+  pub held : IsIn (range_of p) name
+  pub off : p.off ≡ name.off
+  pub same : range_of w ≡ range_of p
+  pub end : w.off + w.len ≡ p.off + p.len
+  pub fits : p.off + p.len ≤ MAX_FILE
+
+pub turn : (change : Change) (r : Ring Piece) (items : Items) (tables : Tables) (tag room : ℕ) (p w : Piece)
+    (name : CharName) → AreTags items → AreEntered items tables → HasName (spelled items) name
+    → IsEdge name.site name.off items → r ≡ ring items (Some tag) room → IsAtCursor r p
+    → Some tag ≡ tag_at tables name → w ≡ changed_piece change p → IsTurn items tag p w name
+turn change r items tables tag room p w name tags are here begins is_ring at entry is_w =
+    let member : IsMember items tag p = at_cursor r items tag room p is_ring at in
+    let held : IsIn (range_of p) name =
+    entered_holds items tables tags are name here tag p member (sym entry) in
+    let same : range_of w ≡ range_of p = ap range_of is_w ∙ (changes_each change p).0 in
+    record {
+      member = member;
+      held = held;
+      off = begins_there items name begins tag p member held;
+      same = same;
+      end = ap (λ (r : Range). r.at + r.len) same;
+      fits = (is_piece items tag p are.pieces member).2;
+    }

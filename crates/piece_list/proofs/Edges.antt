@@ -1,0 +1,152 @@
+-- Offsets of a site's file across which no piece reaches.
+use Rattle.std.proofs.Common.{◌≡◌, ℕ, zero, suc, ◌+◌, ◌-◌, ◌<◌, ◌≤◌, inl, inr, List, [], ◌∷◌, ◌++◌}
+use Rattle.std.proofs.Common.{Some, length, get_or, All, refl, sym, ap, subst, ◌∙◌, arith}
+use Rattle.std.proofs.lemmas.Bool.{cases_lt}
+use Rattle.std.proofs.lemmas.List.Elements.{All-append, All-head, All-tail, All-cons}
+use Rattle.char_files.specs.CharName.{CharName}
+use Rattle.operations.specs.NameSet.{IsIn}
+use Rattle.piece_raw.specs.Ring.{AreTags, IsMember}
+use Rattle.piece_list.specs.declared.piece.Piece.{Piece}
+use Rattle.piece_list.specs.declared.place.Place.{Place}
+use Rattle.piece_list.specs.Changing.{IsEdge}
+use Rattle.piece_list.specs.Held.{AreEntered, IsPlaceOf, IsCut}
+use Rattle.piece_list.specs.Pieces.{range_of, front_of, rest_of}
+use Rattle.piece_list.specs.Spelled.{spelled, HasName}
+use Rattle.piece_list.specs.Tables.{Tables, tag_at}
+use Rattle.piece_list.proofs.CutList.{is_piece}
+use Rattle.piece_list.proofs.Found.{member_at, one_value, entry_of, some_is, name_has_place}
+use Rattle.piece_list.proofs.Gap.{all_left, all_right}
+
+abbrev Items : Type 0
+Items = List (ℕ × Piece)
+
+-- what stands at an index is a member
+member_of : (items : Items) (k : ℕ) (d : ℕ × Piece) → k < length items
+    → IsMember items (get_or items k d).0 (get_or items k d).1
+member_of [] k d lt = absurd (omega arith)
+member_of (m ∷ items) zero d lt = ([], items, refl)
+member_of (m ∷ items) (suc k) d lt =
+    let (xs, ys, is) = member_of items k d (omega arith) in
+    (m ∷ xs, ys, ap (λ (l : Items). m ∷ l) is)
+
+-- the piece that holds a name is the one that is entered for it
+holder : (items : Items) (tables : Tables) → AreTags items → AreEntered items tables → (tag : ℕ) (p : Piece)
+    (c : CharName) → IsMember items tag p → tag_at tables c ≡ Some tag → (k : ℕ) (d : ℕ × Piece)
+    → k < length items → IsIn (range_of (get_or items k d).1) c → (get_or items k d).1 ≡ p
+holder items tables tags are tag p c is entry k d lt held =
+    let m : ℕ × Piece = get_or items k d in
+    let here : tag_at tables c ≡ Some m.0 = are.entered k d lt c held in
+    let same : m.0 ≡ tag = some_is m.0 tag (sym here ∙ entry) in
+    one_value items tags tag m.1 p (subst (λ (t : ℕ). IsMember items t m.1) same (member_of items k d lt)) is
+
+-- the piece that is entered for a name that is spelled holds it
+pub entered_holds : (items : Items) (tables : Tables) → AreTags items → AreEntered items tables
+    → (c : CharName) → HasName (spelled items) c → (tag : ℕ) (p : Piece) → IsMember items tag p
+    → tag_at tables c ≡ Some tag → IsIn (range_of p) c
+entered_holds items tables tags are c here tag p is entry =
+    let (place, there) = name_has_place items c here in
+    let at : tag_at tables c ≡ Some place.piece = entry_of items tables are place c there in
+    let same : place.piece ≡ tag = some_is place.piece tag (sym at ∙ entry) in
+    let (q, held, within, site, off) = there in
+    let e : q ≡ p =
+    one_value items tags tag q p (subst (λ (t : ℕ). IsMember items t q) same held) is in
+    subst (λ (r : Piece). IsIn (range_of r) c) e (site, omega arith, omega arith)
+
+-- a name that is spelled is entered
+pub is_entered : (items : Items) (tables : Tables) → AreEntered items tables → (c : CharName)
+    → HasName (spelled items) c → (tag : ℕ) × (tag_at tables c ≡ Some tag)
+is_entered items tables are c here =
+    let (place, there) = name_has_place items c here in
+    (place.piece, entry_of items tables are place c there)
+
+-- there is an edge where the piece that is entered doesn't begin earlier
+pub edge_there : (items : Items) (tables : Tables) → AreTags items → AreEntered items tables → (tag : ℕ)
+    (p : Piece) (c : CharName) → IsMember items tag p → tag_at tables c ≡ Some tag
+    → (IsIn (range_of p) c → c.off ≤ p.off) → IsEdge c.site c.off items
+edge_there items tables tags are tag p c is entry begins = λ k d lt site from.
+    let m : ℕ × Piece = get_or items k d in
+    elim (cases_lt c.off (m.1.off + m.1.len)) [
+      | inl to ↦
+          let held : IsIn (range_of m.1) c = (sym site, omega arith, to) in
+          let e : m.1 ≡ p = holder items tables tags are tag p c is entry k d lt held in
+          let off : m.1.off ≡ p.off = ap (λ (r : Piece). r.off) e in
+          let le : c.off ≤ p.off = begins (subst (λ (r : Piece). IsIn (range_of r) c) e held) in
+          absurd (omega arith)
+      | inr past ↦ past
+    ]
+
+-- there is one behind each piece
+pub edge_behind : (items : Items) (tables : Tables) → AreTags items → AreEntered items tables → (tag : ℕ)
+    (p : Piece) → IsMember items tag p → IsEdge p.site (p.off + p.len) items
+edge_behind items tables tags are tag p is = λ k d lt site from.
+    let m : ℕ × Piece = get_or items k d in
+    let some : 0 < p.len = (is_piece items tag p are.pieces is).0 in
+    let last : CharName = record { site = p.site; off = p.off + (p.len - 1) } in
+    let place : Place = record { piece = tag; within = p.len - 1 } in
+    let entry : tag_at tables last ≡ Some tag =
+    entry_of items tables are place last (p, is, omega arith, refl, refl) in
+    elim (cases_lt (p.off + p.len) (m.1.off + m.1.len)) [
+      | inl to ↦
+          let held : IsIn (range_of m.1) last = (sym site, omega arith, omega arith) in
+          let e : m.1 ≡ p = holder items tables tags are tag p last is entry k d lt held in
+          let off : m.1.off ≡ p.off = ap (λ (r : Piece). r.off) e in
+          let len : m.1.len ≡ p.len = ap (λ (r : Piece). r.len) e in
+          absurd (omega arith)
+      | inr past ↦ past
+    ]
+
+-- what an edge says of a member
+pub edge_of : (items : Items) (site off : ℕ) → IsEdge site off items → (tag : ℕ) (p : Piece)
+    → IsMember items tag p → p.site ≡ site → p.off < off → p.off + p.len ≤ off
+edge_of items site off edge tag p is =
+    let m : ℕ × Piece = (tag, p) in
+    let (k, lt, at) = member_at items tag p is in
+    subst (λ (n : ℕ × Piece). n.1.site ≡ site → n.1.off < off → n.1.off + n.1.len ≤ off) (at m) (edge k m lt)
+
+-- a piece that holds a name at an edge begins with it
+pub begins_there : (items : Items) (c : CharName) → IsEdge c.site c.off items → (tag : ℕ) (p : Piece)
+    → IsMember items tag p → IsIn (range_of p) c → p.off ≡ c.off
+begins_there items c edge tag p is (site, from, to) =
+    elim (cases_lt p.off c.off) [
+      | inl lt ↦
+          let past : p.off + p.len ≤ c.off = edge_of items c.site c.off edge tag p is (sym site) lt in
+          absurd (omega arith)
+      | inr ge ↦ omega arith
+    ]
+
+-- a cut leaves the edges
+pub edges_after_cut : (old new : Items) (tag n u : ℕ) → IsCut tag n u old new → (site off : ℕ)
+    → IsEdge site off old → IsEdge site off new
+edges_after_cut old new tag n u cut site off edge =
+    let E : ℕ × Piece → Type 0 =
+    λ (m : ℕ × Piece). m.1.site ≡ site → m.1.off < off → m.1.off + m.1.len ≤ off in
+    let p : Piece = cut.piece in
+    let front : ℕ × Piece = (tag, front_of n p) in
+    let rest : ℕ × Piece = (u, rest_of n p) in
+    let within : n < p.len = cut.within in
+    let whole : All E (cut.ahead ++ (tag, p) ∷ cut.behind) = subst (All E) cut.whole edge in
+    let here : All E ((tag, p) ∷ cut.behind) = all_right E cut.ahead ((tag, p) ∷ cut.behind) whole in
+    let own : E (tag, p) = All-head E (tag, p) cut.behind here in
+    let is_front : E front = λ s from. let past : p.off + p.len ≤ off = own s from in omega arith in
+    let is_rest : E rest = λ s from. let past : p.off + p.len ≤ off = own s (omega arith) in omega arith in
+    subst (All E) (sym cut.parts)
+    (All-append E cut.ahead (front ∷ rest ∷ cut.behind) (all_left E cut.ahead ((tag, p) ∷ cut.behind) whole)
+    (All-cons E front (rest ∷ cut.behind) is_front
+    (All-cons E rest cut.behind is_rest (All-tail E (tag, p) cut.behind here))))
+
+-- and makes one
+pub edge_after_cut : (old new : Items) (after : Tables) → AreTags new → AreEntered new after → (tag u : ℕ)
+    (p : Piece) (name : CharName) (site off : ℕ) → name ≡ record { site = site; off = off }
+    → IsMember old tag p → IsIn (range_of p) name
+    → ((c : CharName) → IsPlaceOf old (record { piece = tag; within = off - p.off }) c
+    → IsPlaceOf new (record { piece = u; within = 0 }) c)
+    → IsEdge site off new
+edge_after_cut old new after tags are tag u p name site off is_name is held moved =
+    let c : CharName = record { site = site; off = off } in
+    let (own, from, to) = subst (IsIn (range_of p)) is_name held in
+    let place : IsPlaceOf new (record { piece = u; within = 0 }) c =
+    moved c (p, is, omega arith, own, omega arith) in
+    let entry : tag_at after c ≡ Some u =
+    entry_of new after are (record { piece = u; within = 0 }) c place in
+    let (q, there, some, at_site, at_off) = place in
+    edge_there new after tags are u q c there entry (λ _. omega arith)

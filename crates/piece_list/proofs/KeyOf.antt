@@ -1,0 +1,76 @@
+-- The key of a character is that of the piece that holds its name.
+use Rattle.std.proofs.Common.{◌≡◌, ℕ, ◌+◌, ◌-◌, ◌<◌, inl, inr, List, [], ◌∷◌, Some}
+use Rattle.std.proofs.Common.{Contains, refl, sym, ap, subst, ◌∙◌, arith}
+use Rattle.std.proofs.lemmas.List.Elements.{Contains-append_cases}
+use Rattle.char_files.specs.CharName.{CharName}
+use Rattle.operations.specs.NameSet.{IsIn}
+use Rattle.piece_raw.specs.Ring.{IsMember, AreTags}
+use Rattle.tree_order.specs.Registers.{Kept}
+use Rattle.piece_list.specs.declared.piece.Piece.{Piece}
+use Rattle.piece_list.specs.declared.place.Place.{Place}
+use Rattle.piece_list.specs.Pieces.{range_of, char_of, chars_of}
+use Rattle.piece_list.specs.Held.{IsPlaceOf, AreEntered}
+use Rattle.piece_list.specs.Spelled.{spelled}
+use Rattle.piece_list.specs.Tables.{Tables, tag_at}
+use Rattle.piece_list.proofs.Found.{one_value, entry_of, some_is}
+use Rattle.piece_list.proofs.Shown.{char_at, count_chars}
+
+abbrev Items : Type 0
+Items = List (ℕ × Piece)
+
+-- the place of a name that a piece holds
+pub place_of : (items : Items) (tag : ℕ) (p : Piece) (c : CharName) → IsMember items tag p
+    → IsIn (range_of p) c → (place : Place) × IsPlaceOf items place c
+place_of items tag p c is (site, from, to) =
+    (record { piece = tag; within = c.off - p.off }, (p, is, omega arith, site, omega arith))
+
+-- a character is one of a piece, and has its key
+pub record IsOfPiece (items : Items) (k : Kept) : Type 0 where
+  pub tag : ℕ
+  pub piece : Piece
+  pub member : IsMember items tag piece
+  pub name : IsIn (range_of piece) k.name
+  pub key : k.key ≡ piece.key
+
+of_piece : (p : Piece) (k : Kept) → Contains (chars_of p) k → IsIn (range_of p) k.name × (k.key ≡ p.key)
+of_piece p k (i, lt, e) =
+    let few : i < p.len = omega (arith, count_chars p) in
+    let c : CharName = record { site = p.site; off = p.off + i } in
+    let is : char_of p c ≡ k = sym (char_at p i k few) ∙ e in
+    let name : c ≡ k.name = ap (λ (o : Kept). o.name) is in
+    (subst (IsIn (range_of p)) name (refl, omega arith, omega arith), sym (ap (λ (o : Kept). o.key) is))
+
+pub is_of_piece : (items : Items) (k : Kept) → Contains (spelled items) k → IsOfPiece items k
+is_of_piece [] k (i, lt, e) = absurd (omega arith)
+is_of_piece (m ∷ items) k has =
+    elim (Contains-append_cases (chars_of m.1) (spelled items) k has) [
+      | inl here ↦
+          let own : IsIn (range_of m.1) k.name × (k.key ≡ m.1.key) = of_piece m.1 k here in
+          record { tag = m.0; piece = m.1; member = ([], items, refl); name = own.0; key = own.1 }
+      | inr later ↦
+          let there : IsOfPiece items k = is_of_piece items k later in
+          let (xs, ys, is) = there.member in
+          record {
+            tag = there.tag;
+            piece = there.piece;
+            member = (m ∷ xs, ys, ap (λ (l : Items). m ∷ l) is);
+            name = there.name;
+            key = there.key;
+          }
+    ]
+
+pub key_of_place : (items : Items) (tables : Tables) → AreTags items → AreEntered items tables
+    → (place : Place) (c : CharName) (p : Piece) → IsPlaceOf items place c → IsMember items place.piece p
+    → (k : Kept) → Contains (spelled items) k → k.name ≡ c → k.key ≡ p.key
+key_of_place items tables are entered place c p at held k has same =
+    let of : IsOfPiece items k = is_of_piece items k has in
+    let (site, from, to) = subst (IsIn (range_of of.piece)) same of.name in
+    let other : Place = record { piece = of.tag; within = c.off - of.piece.off } in
+    let mine : tag_at tables c ≡ Some place.piece = entry_of items tables entered place c at in
+    let theirs : tag_at tables c ≡ Some of.tag =
+    entry_of items tables entered other c (of.piece, of.member, omega arith, site, omega arith) in
+    let one : of.tag ≡ place.piece = some_is of.tag place.piece (sym theirs ∙ mine) in
+    let piece : of.piece ≡ p =
+    one_value items are place.piece of.piece p (subst (λ (t : ℕ). IsMember items t of.piece) one of.member)
+    held in
+    of.key ∙ ap (λ (q : Piece). q.key) piece

@@ -1,0 +1,489 @@
+-- A piece is put into its gap: the walk to it, the cut ahead of it, and the tables afterwards.
+use Rattle.std.proofs.Common.{◌≡◌, ◌≢◌, ℕ, ◌+◌, ◌-◌, ◌^◌, ◌<◌, ◌≤◌, ◌⊎◌, min, Bool, true, false, inl, inr, List, [], ◌∷◌}
+use Rattle.std.proofs.Common.{◌++◌, Option, Some, None, length, All, Contains, refl, sym, ap, subst, ◌∙◌, arith}
+use Rattle.std.proofs.Common.{append_assoc}
+use Rattle.std.proofs.lemmas.Bool.{cases_eq}
+use Rattle.std.proofs.lemmas.List.{append-nil, length-append, map-append}
+use Rattle.std.proofs.lemmas.List.Elements.{All-append, All-cons, All-nil, Contains-append_left}
+use Rattle.std.proofs.lemmas.List.Elements.{Contains-append_right}
+use Rattle.std.specs.Prelude.{IfSome, IsSome}
+use Rattle.looks.specs.Key.{is_below}
+use Rattle.looks.specs.declared.key.Key.{Key}
+use Rattle.char_files.specs.CharName.{CharName}
+use Rattle.char_files.specs.declared.name.Anchor.{Anchor}
+use Rattle.char_files.specs.declared.name.Anchor.TheVariants.{Root, At}
+use Rattle.operations.specs.NameSet.{Range, IsIn, range_contains, names_of}
+use Rattle.tree_order.specs.Registers.{Kept}
+use Rattle.piece_raw.specs.Ring.{Ring, ring, AreTags, HasTag, IsMember, IsPushed, last_tag}
+use Rattle.piece_list.specs.declared.piece.Piece.{Piece}
+use Rattle.piece_list.specs.declared.place.Place.{Place}
+use Rattle.piece_list.specs.Pieces.{range_of, chars_of, front_of, rest_of, IsPiece}
+use Rattle.piece_list.specs.Held.{AreEntered, HasPlace, IsPlaceOf, IsCut}
+use Rattle.piece_list.specs.Laws.{Avoid, BeginNotAbove}
+use Rattle.piece_list.specs.Placed.{IsPlaced}
+use Rattle.piece_list.specs.Placing.{HasAnchor, compared, IsAnchorPlace, IsParted, HasPart, IsPartedAt, IsCutAt, IsCutThere}
+use Rattle.piece_list.specs.Placing.{IsCounted, IsNext, IsSkip, IsPutInGap, last_look}
+use Rattle.piece_list.specs.Spelled.{spelled, names_of_kept, HasName, ArePieces}
+use Rattle.piece_list.specs.Tables.{Tables, tag_in, table_of, tag_at}
+use Rattle.piece_list.proofs.Changes.{contained, is_contained}
+use Rattle.piece_list.proofs.Cut.{cut_spells_the_same}
+use Rattle.piece_list.proofs.Entered.{Held, held, has_tag}
+use Rattle.piece_list.proofs.Found.{one_value, some_is}
+use Rattle.piece_list.proofs.Gap.{all_left, all_right, into_gap, name_only, names_of_chars}
+use Rattle.piece_list.proofs.Names.{names_have}
+use Rattle.piece_list.proofs.Parts.{one_part, last_tag-push, count_part, count_behind}
+
+abbrev Items : Type 0
+Items = List (ℕ × Piece)
+
+-- counts
+
+pub counted_none : (from n : ℕ) → n ≡ 0 → IsCounted from n from
+counted_none from n e = (omega arith, omega arith)
+
+pub counted_one : (from n steps : ℕ) → n ≡ 1 → steps ≡ min (from + 1) (2 ^ 64 - 1) → IsCounted from n steps
+counted_one from n steps e is = (omega arith, omega arith)
+
+counted_more : (from n steps m more : ℕ) → IsCounted from n steps → IsCounted steps m more
+    → IsCounted from (n + m) more
+counted_more from n steps m more a b = (omega arith, omega arith)
+
+-- the walk
+
+-- so far whole pieces of greater key are skipped, and a key is looked at for each
+pub record IsWalked (key : Key) (ahead behind : Items) (last : Option ℕ) (from steps : ℕ) : Type 0 where
+  pub skipped : Items
+  pub rest : Items
+  pub whole : behind ≡ skipped ++ rest
+  pub greater : All (λ m. is_below key m.1.key ≡ true) skipped
+  pub part : (items : Items) → items ≡ ahead ++ behind → IsParted items last (ahead ++ skipped) rest
+  pub counts : IsCounted from (length skipped) steps
+
+abbrev pub Walked : Items → Key → Option ℕ → Option ℕ → ℕ → ℕ → Type 0
+Walked items key first last from steps =
+    (ahead behind : Items) → IsParted items first ahead behind → IsWalked key ahead behind last from steps
+
+pub walk_begins : (items : Items) (key : Key) (first : Option ℕ) (from : ℕ)
+    → Walked items key first first from from
+walk_begins items key first from ahead behind (is, last) = record {
+  skipped = [];
+  rest = behind;
+  whole = refl;
+  greater = All-nil (λ (m : ℕ × Piece). is_below key m.1.key ≡ true);
+  part = λ all e. (
+    e ∙ ap (λ (l : Items). l ++ behind) (sym (append-nil ahead)),
+    subst (λ (l : Items). last_tag l ≡ first) (sym (append-nil ahead)) last,
+  );
+  counts = counted_none from 0 refl;
+}
+
+pub walk_part : (items : Items) (key : Key) (first last : Option ℕ) (from steps : ℕ) → HasPart items first
+    → Walked items key first last from steps → HasPart items last
+walk_part items key first last from steps (ahead, behind, parted) walked =
+    let w : IsWalked key ahead behind last from steps = walked ahead behind parted in
+    (ahead ++ w.skipped, w.rest, w.part items parted.0)
+
+pub walk_goes_on : (items : Items) (key : Key) (first last : Option ℕ) (next from steps more : ℕ)
+    → Walked items key first last from steps → IsNext items key last next
+    → ((ahead behind : Items) → IsParted items last ahead behind → IsCounted steps (last_look behind) more)
+    → Walked items key first (Some next) from more
+walk_goes_on items key first last next from steps more walked is_next looks ahead behind parted =
+    let P : ℕ × Piece → Type 0 = λ (m : ℕ × Piece). is_below key m.1.key ≡ true in
+    let w : IsWalked key ahead behind last from steps = walked ahead behind parted in
+    let (p, rest, is, above) = is_next (ahead ++ w.skipped) w.rest (w.part items parted.0) in
+    let m : ℕ × Piece = (next, p) in
+    let joined : w.skipped ++ m ∷ rest ≡ (w.skipped ++ m ∷ []) ++ rest =
+    sym (append_assoc w.skipped (m ∷ []) rest) in
+    let whole : behind ≡ (w.skipped ++ m ∷ []) ++ rest =
+    w.whole ∙ ap (λ (l : Items). w.skipped ++ l) is ∙ joined in
+    let regroup : ahead ++ (w.skipped ++ m ∷ []) ≡ (ahead ++ w.skipped) ++ m ∷ [] =
+    sym (append_assoc ahead w.skipped (m ∷ [])) in
+    record {
+      skipped = w.skipped ++ m ∷ [];
+      rest = rest;
+      whole = whole;
+      greater = All-append P w.skipped (m ∷ []) w.greater (All-cons P m [] above (All-nil P));
+      part = λ all e. (
+        e ∙ ap (λ (l : Items). ahead ++ l) whole ∙ sym (append_assoc ahead (w.skipped ++ m ∷ []) rest),
+        ap last_tag regroup ∙ last_tag-push (ahead ++ w.skipped) m,
+      );
+      counts = subst (λ (n : ℕ). IsCounted from n more) (sym (length-append w.skipped (m ∷ [])))
+          (counted_more from (length w.skipped) steps 1 more w.counts
+          (subst (λ (n : ℕ). IsCounted steps n more) (ap last_look is)
+          (looks (ahead ++ w.skipped) w.rest (w.part items parted.0))));
+    }
+
+pub walk_shrinks : (items : Items) (key : Key) (last : Option ℕ) (next : ℕ) → AreTags items
+    → HasPart items last → IsNext items key last next → count_behind (Some next) items < count_behind last items
+walk_shrinks items key last next are (ahead, behind, parted) is_next =
+    let (p, rest, is, above) = is_next ahead behind parted in
+    let m : ℕ × Piece = (next, p) in
+    let whole : items ≡ (ahead ++ m ∷ []) ++ rest =
+    parted.0 ∙ ap (λ (l : Items). ahead ++ l) is ∙ sym (append_assoc ahead (m ∷ []) rest) in
+    omega (
+      arith,
+      count_part items are last ahead behind parted,
+      count_part items are (Some next) (ahead ++ m ∷ []) rest (whole, last_tag-push ahead m),
+      ap length is,
+    )
+
+pub walk_ends : (items : Items) (key : Key) (first last : Option ℕ) (from steps more : ℕ)
+    → Walked items key first last from steps
+    → ((ahead behind : Items) → IsParted items last ahead behind → BeginNotAbove key behind)
+    → ((ahead behind : Items) → IsParted items last ahead behind → IsCounted steps (last_look behind) more)
+    → (ahead behind : Items) → IsParted items first ahead behind → IsSkip key ahead behind last from more
+walk_ends items key first last from steps more walked stops looks ahead behind parted =
+    let w : IsWalked key ahead behind last from steps = walked ahead behind parted in record {
+      skipped = w.skipped;
+      rest = w.rest;
+      whole = w.whole;
+      greater = w.greater;
+      stops = stops (ahead ++ w.skipped) w.rest (w.part items parted.0);
+      last_is = (w.part items parted.0).1;
+      counts = counted_more from (length w.skipped) steps (last_look w.rest) more w.counts
+          (looks (ahead ++ w.skipped) w.rest (w.part items parted.0));
+    }
+
+-- the cut behind the cause
+
+-- the pieces that end with this one are parted behind its last character
+parted_at : (old xs ys : Items) (tag : ℕ) (p : Piece) (c : CharName) → c.site ≡ p.site
+    → c.off + 1 ≡ p.off + p.len → IsCutThere old (xs ++ (tag, p) ∷ []) ys
+    → IsPartedAt old (xs ++ (tag, p) ∷ ys) (Some tag) (At c)
+parted_at old xs ys tag p c site off there = (
+  xs ++ (tag, p) ∷ [],
+  ys,
+  (sym (append_assoc xs ((tag, p) ∷ []) ys), last_tag-push xs (tag, p)),
+  (xs, tag, p, refl, site, off),
+  there,
+)
+
+pub parted_root : (items : Items) (cause : Anchor) → IsAnchorPlace items cause None
+    → IsPartedAt items items None cause
+parted_root items Root is = ([], items, (refl, refl), refl, inl refl)
+parted_root items (At c) (place, none, is) = absurd cc
+
+-- the cause is the last of its piece
+pub parted_there : (items : Items) → AreTags items → (place : Place) (v : Piece)
+    → IsMember items place.piece v → v.len ≤ place.within + 1 → (cause : Anchor)
+    → IsAnchorPlace items cause (Some place) → IsPartedAt items items (Some place.piece) cause
+parted_there items are place v member le Root is = absurd cc
+parted_there items are place v member le (At c) (at, same, (q, (xs, ys, is), within, site, off)) =
+    let here : at ≡ place = sym (some_is place at same) in
+    let tag : at.piece ≡ place.piece = ap (λ (s : Place). s.piece) here in
+    let index : at.within ≡ place.within = ap (λ (s : Place). s.within) here in
+    let whole : items ≡ xs ++ (place.piece, q) ∷ ys = is ∙ ap (λ (t : ℕ). xs ++ (t, q) ∷ ys) tag in
+    let value : q ≡ v = one_value items are place.piece q v (xs, ys, whole) member in
+    let len : q.len ≡ v.len = ap (λ (p : Piece). p.len) value in
+    let last : c.off + 1 ≡ q.off + q.len = omega (arith, off, within, le, len, index) in
+    let joined : items ≡ (xs ++ (place.piece, q) ∷ []) ++ ys =
+    whole ∙ sym (append_assoc xs ((place.piece, q) ∷ []) ys) in
+    subst (λ (l : Items). IsPartedAt items l (Some place.piece) (At c)) (sym whole)
+    (parted_at items xs ys place.piece q c site last (inl joined))
+
+-- the piece is cut behind the cause
+pub parted_cut : (old new : Items) → AreTags old → (place : Place) (u : ℕ)
+    → IsCut place.piece (place.within + 1) u old new → (cause : Anchor)
+    → IsAnchorPlace old cause (Some place) → IsPartedAt old new (Some place.piece) cause
+parted_cut old new are place u cut Root is = absurd cc
+parted_cut old new are place u cut (At c) (at, same, (q, member, within, site, off)) =
+    let here : at ≡ place = sym (some_is place at same) in
+    let tag : at.piece ≡ place.piece = ap (λ (s : Place). s.piece) here in
+    let index : at.within ≡ place.within = ap (λ (s : Place). s.within) here in
+    let p : Piece = cut.piece in
+    let n : ℕ = place.within + 1 in
+    let held' : IsMember old place.piece q = subst (λ (t : ℕ). IsMember old t q) tag member in
+    let value : q ≡ p = one_value old are place.piece q p held' (cut.ahead, cut.behind, cut.whole) in
+    let site' : c.site ≡ p.site = site ∙ ap (λ (r : Piece). r.site) value in
+    let first : q.off ≡ p.off = ap (λ (r : Piece). r.off) value in
+    let last : c.off + 1 ≡ p.off + n = omega (arith, off, first, index) in
+    let there : IsCutAt old (cut.ahead ++ (place.piece, front_of n p) ∷ []) ((u, rest_of n p) ∷ cut.behind) =
+    record {
+      front = cut.ahead;
+      rest = cut.behind;
+      tag = place.piece;
+      other = u;
+      n = n;
+      piece = p;
+      within = cut.within;
+      whole = cut.whole;
+      ends = refl;
+      begins = refl;
+    } in
+    subst (λ (l : Items). IsPartedAt old l (Some place.piece) (At c)) (sym cut.parts)
+    (parted_at old cut.ahead ((u, rest_of n p) ∷ cut.behind) place.piece (front_of n p) c site' last
+    (inr there))
+
+cut_there_spells : (old ahead behind : Items) → IsCutThere old ahead behind
+    → spelled (ahead ++ behind) ≡ spelled old
+cut_there_spells old ahead behind (inl same) = ap spelled (sym same)
+cut_there_spells old ahead behind (inr cut) =
+    let p : Piece = cut.piece in
+    let front : Items = (cut.tag, front_of cut.n p) ∷ [] in
+    let rest : Items = (cut.other, rest_of cut.n p) ∷ cut.rest in
+    let le : cut.n ≤ p.len = omega (arith, cut.within) in
+    ap (λ (l : Items). spelled (l ++ behind)) cut.ends
+    ∙ ap (λ (l : Items). spelled ((cut.front ++ front) ++ l)) cut.begins
+    ∙ ap spelled (append_assoc cut.front front rest)
+    ∙ cut_spells_the_same cut.front cut.rest cut.tag cut.other cut.n p le ∙ sym (ap spelled cut.whole)
+
+pub parted_spells : (old items : Items) (last : Option ℕ) (cause : Anchor) → IsPartedAt old items last cause
+    → spelled items ≡ spelled old
+parted_spells old items last cause (ahead, behind, parted, at, there) =
+    ap spelled parted.0 ∙ cut_there_spells old ahead behind there
+
+-- a place in another piece, or ahead of the cut, stays
+abbrev Among : Items → ℕ → Piece → Type 0
+Among [] t p = ⊥
+Among (m ∷ ms) t p = (m ≡ (t, p)) ⊎ Among ms t p
+
+among_there : (xs ys : Items) (t : ℕ) (p : Piece) → Among (xs ++ (t, p) ∷ ys) t p
+among_there [] ys t p = inl refl
+among_there (m ∷ xs) ys t p = inr (among_there xs ys t p)
+
+member : (items : Items) (t : ℕ) (p : Piece) → Among items t p → IsMember items t p
+member [] t p h = absurd h
+member (m ∷ ms) t p (inl e) = ([], ms, ap (λ (n : ℕ × Piece). n ∷ ms) e)
+member (m ∷ ms) t p (inr h) =
+    let (xs, ys, is) = member ms t p h in
+    (m ∷ xs, ys, ap (λ (l : Items). m ∷ l) is)
+
+among_stays : (xs ys : Items) (tag u t : ℕ) (v a b p : Piece) → t ≢ tag → Among (xs ++ (tag, v) ∷ ys) t p
+    → Among (xs ++ (tag, a) ∷ (u, b) ∷ ys) t p
+among_stays [] ys tag u t v a b p differs (inl e) =
+    absurd (differs (sym (ap (λ (m : ℕ × Piece). m.0) e)))
+among_stays [] ys tag u t v a b p differs (inr h) = inr (inr h)
+among_stays (m ∷ xs) ys tag u t v a b p differs (inl e) = inl e
+among_stays (m ∷ xs) ys tag u t v a b p differs (inr h) = inr (among_stays xs ys tag u t v a b p differs h)
+
+pub cut_others : (old new : Items) (tag n u : ℕ) → AreTags old → IsCut tag n u old new → (other : Place)
+    (c : CharName) → IsPlaceOf old other c → (other.piece ≢ tag) ⊎ (other.within < n) → IsPlaceOf new other c
+cut_others old new tag n u are cut other c (p, (xs, ys, is), within, site, off) ahead =
+    let v : Piece = cut.piece in
+    let t : ℕ = other.piece in
+    let here : IsMember old t p = (xs, ys, is) in
+    let there : Among (cut.ahead ++ (tag, v) ∷ cut.behind) t p =
+    subst (λ (l : Items). Among l t p) (sym is ∙ cut.whole) (among_there xs ys t p) in
+    let moved : t ≢ tag → IsPlaceOf new other c = λ (differs : t ≢ tag). (
+      p,
+      subst (λ (l : Items). IsMember l t p) (sym cut.parts)
+          (member (cut.ahead ++ (tag, front_of n v) ∷ (u, rest_of n v) ∷ cut.behind) t p
+          (among_stays cut.ahead cut.behind tag u t v (front_of n v) (rest_of n v) p differs there)),
+      within,
+      site,
+      off,
+    ) in
+    elim ahead [
+      | inl differs ↦ moved differs
+      | inr lt ↦ elim (cases_eq t tag) [
+        | inr differs ↦ moved differs
+        | inl same ↦
+            let value : p ≡ v = one_value old are t p v here
+            (cut.ahead, cut.behind, cut.whole ∙ ap (λ (k : ℕ). cut.ahead ++ (k, v) ∷ cut.behind) (sym same)) in
+            let site' : c.site ≡ v.site = site ∙ ap (λ (r : Piece). r.site) value in
+            let first : p.off ≡ v.off = ap (λ (r : Piece). r.off) value in (
+              front_of n v,
+              (
+                cut.ahead,
+                (u, rest_of n v) ∷ cut.behind,
+                cut.parts ∙ ap (λ (k : ℕ). cut.ahead ++ (k, front_of n v) ∷ (u, rest_of n v) ∷ cut.behind) (sym same),
+              ),
+              lt,
+              site',
+              omega (arith, off, first),
+            )
+      ]
+    ]
+
+-- the tables
+
+-- tables that say the same, and that are as long
+pub same_tables : (items : Items) (old new : Tables)
+    → ((site off : ℕ) → tag_in (table_of new site) off ≡ tag_in (table_of old site) off)
+    → AreEntered items old → AreEntered items new
+same_tables items old new same are = record {
+  pieces = are.pieces;
+  entered = λ i d lt c is. same c.site c.off ∙ are.entered i d lt c is;
+  held = λ c tag e. are.held c tag (sym (same c.site c.off) ∙ e);
+}
+
+pub same_lengths : (old new : Tables) (own : ℕ) → length (table_of new own) ≡ length (table_of old own)
+    → ((site : ℕ) → site ≢ own → table_of new site ≡ table_of old site)
+    → (site : ℕ) → length (table_of new site) ≡ length (table_of old site)
+same_lengths old new own len others site =
+    elim (cases_eq site own) [
+      | inl same ↦
+          ap (λ (s : ℕ). length (table_of new s)) same ∙ len ∙ ap (λ (s : ℕ). length (table_of old s)) (sym same)
+      | inr differs ↦ ap length (others site differs)
+    ]
+
+-- no piece has a name that isn't spelled
+avoids : (r : Range) (items : Items) → ((c : CharName) → IsIn r c → HasName (spelled items) c → ⊥)
+    → Avoid r items
+avoids r [] new = All-nil (λ (m : ℕ × Piece). (c : CharName) → IsIn (range_of m.1) c → IsIn r c → ⊥)
+avoids r (m ∷ ms) new =
+    let P : ℕ × Piece → Type 0 = λ (n : ℕ × Piece). (c : CharName) → IsIn (range_of n.1) c → IsIn r c → ⊥ in
+    let own : List CharName = names_of (range_of m.1) in
+    let rest : List CharName = names_of_kept (spelled ms) in
+    let names : own ++ rest ≡ names_of_kept (spelled (m ∷ ms)) =
+    sym (map-append name_only (chars_of m.1) (spelled ms)
+    ∙ ap (λ (cs : List CharName). cs ++ rest) (names_of_chars m.1 own)) in
+    let here : P m = λ c has is. new c is (subst (λ (cs : List CharName). Contains cs c) names
+    (Contains-append_left own rest c (names_have (range_of m.1) c has))) in
+    let later : (c : CharName) → IsIn r c → HasName (spelled ms) c → ⊥ =
+    λ c is has. new c is (subst (λ (cs : List CharName). Contains cs c) names
+    (Contains-append_right own rest c has)) in
+    All-cons P m ms here (avoids r ms later)
+
+still_held : (xs ys : Items) (u s : ℕ) (v : Piece) → Held (xs ++ ys) s → Held (xs ++ (u, v) ∷ ys) s
+still_held [] ys u s v h = inr h
+still_held (m ∷ xs) ys u s v (inl e) = inl e
+still_held (m ∷ xs) ys u s v (inr h) = inr (still_held xs ys u s v h)
+
+held_there : (xs ys : Items) (u : ℕ) (v : Piece) → Held (xs ++ (u, v) ∷ ys) u
+held_there [] ys u v = inl refl
+held_there (m ∷ xs) ys u v = inr (held_there xs ys u v)
+
+module _ (xs ys : Items) (u : ℕ) (v : Piece) (old new : Tables) (are : AreEntered (xs ++ ys) old)
+    (is_piece : IsPiece v)
+    (fresh : (c : CharName) → IsIn (range_of v) c → HasName (spelled (xs ++ ys)) c → ⊥)
+    (inside : (c : CharName) → IsIn (range_of v) c → tag_at new c ≡ Some u)
+    (outside : (c : CharName) → (IsIn (range_of v) c → ⊥) → tag_at new c ≡ tag_at old c) where
+  abbrev Entered : Tables → ℕ × Piece → Type 0
+  Entered tables m = (c : CharName) → IsIn (range_of m.1) c → tag_at tables c ≡ Some m.0
+
+  stay : All (Entered new) (xs ++ ys)
+  stay = λ i d lt c is.
+      outside c (λ has. avoids (range_of v) (xs ++ ys) fresh i d lt c is has) ∙ are.entered i d lt c is
+
+  known : (c : CharName) (s : ℕ) → tag_at new c ≡ Some s → HasTag (xs ++ (u, v) ∷ ys) s
+  known c s e = go (range_contains (range_of v) c) refl
+    where
+      go : (b : Bool) → range_contains (range_of v) c ≡ b → HasTag (xs ++ (u, v) ∷ ys) s
+      go true is =
+          let at : tag_at new c ≡ Some u = inside c (is_contained (range_of v) c is) in
+          let same : u ≡ s = cc in
+          subst (HasTag (xs ++ (u, v) ∷ ys)) same
+          (has_tag (xs ++ (u, v) ∷ ys) u (held_there xs ys u v))
+      go false out =
+          let at : tag_at new c ≡ tag_at old c = outside c (λ has.
+          let yes : range_contains (range_of v) c ≡ true = contained (range_of v) c has in
+          absurd cc) in
+          has_tag (xs ++ (u, v) ∷ ys) s
+          (still_held xs ys u s v (held (xs ++ ys) s (are.held c s (sym at ∙ e))))
+
+  pub entered_with : AreEntered (xs ++ (u, v) ∷ ys) new
+  entered_with =
+      let Is : ℕ × Piece → Type 0 = λ (m : ℕ × Piece). IsPiece m.1 in
+      record {
+        pieces = All-append Is xs ((u, v) ∷ ys) (all_left Is xs ys are.pieces)
+            (All-cons Is (u, v) ys is_piece (all_right Is xs ys are.pieces));
+        entered = All-append (Entered new) xs ((u, v) ∷ ys) (all_left (Entered new) xs ys stay)
+            (All-cons (Entered new) (u, v) ys inside (all_right (Entered new) xs ys stay));
+        held = known;
+      }
+
+pub pushed_entered : (old new : Items) (last : Option ℕ) (u : ℕ) (v : Piece) (before after : Tables)
+    → IsPushed old last u v new → AreEntered old before → IsPiece v
+    → ((c : CharName) → IsIn (range_of v) c → HasName (spelled old) c → ⊥)
+    → ((c : CharName) → IsIn (range_of v) c → tag_at after c ≡ Some u)
+    → ((c : CharName) → (IsIn (range_of v) c → ⊥) → tag_at after c ≡ tag_at before c)
+    → AreEntered new after
+pushed_entered old new last u v before after (xs, ys, is, at, new_is) are piece fresh inside outside =
+    subst (λ (l : Items). AreEntered l after) (sym new_is)
+    (entered_with xs ys u v before after (subst (λ (l : Items). AreEntered l before) is are) piece
+    (subst (λ (l : Items). (c : CharName) → IsIn (range_of v) c → HasName (spelled l) c → ⊥) is fresh)
+    inside outside)
+
+-- where the cursor stands
+pub stood : (r : Ring Piece) (items new : Items) (last : Option ℕ) (room u : ℕ) (v : Piece)
+    → r ≡ ring items last room → IsPushed r.items r.cursor u v new → IsPushed items last u v new
+stood r items new last room u v e put = subst (λ (s : Ring Piece). IsPushed s.items s.cursor u v new) e put
+
+-- the piece stands behind the number, whichever way the pieces are parted there
+pub pushed_part : (old new : Items) → AreTags old → (last : Option ℕ) (u : ℕ) (v : Piece)
+    → IsPushed old last u v new → (ahead behind : Items) → IsParted old last ahead behind
+    → (tag : ℕ) × (new ≡ ahead ++ (tag, v) ∷ behind)
+pushed_part old new are last u v (xs, ys, is, at, new_is) ahead behind parted =
+    let (front, back) = one_part old are last xs ys ahead behind (is, at) parted in
+    (u, new_is ∙ ap (λ (l : Items). l ++ (u, v) ∷ ys) front ∙ ap (λ (l : Items). ahead ++ (u, v) ∷ l) back)
+
+-- the anchor
+
+pub found_root : (items : Items) (cause : Anchor) → cause ≡ Root → IsAnchorPlace items cause None
+found_root items cause e = subst (λ (a : Anchor). IsAnchorPlace items a None) (sym e) refl
+
+pub found_char : (items : Items) (cause : Anchor) (c : CharName) (r : Option Place) → cause ≡ At c
+    → IfSome r (λ place. IsPlaceOf items place c) → IsSome r → IsAnchorPlace items cause r
+found_char items cause c None e found some = absurd cc
+found_char items cause c (Some place) e found some =
+    subst (λ (a : Anchor). IsAnchorPlace items a (Some place)) (sym e) (place, refl, found)
+
+pub has_char : (chars : List Kept) (cause : Anchor) (c : CharName) → cause ≡ At c → HasAnchor chars cause
+    → HasName chars c
+has_char chars cause c e here = subst (HasAnchor chars) e here
+
+-- the anchor's place is one
+pub anchor_has_place : (items : Items) (cause : Anchor) (r : Option Place) → IsAnchorPlace items cause r
+    → IfSome r (λ at. HasPlace items at)
+anchor_has_place items Root r none = subst (λ (o : Option Place). IfSome o (λ at. HasPlace items at)) (sym none) tt
+anchor_has_place items (At c) r (at, some, (p, member, within, site, off)) =
+    subst (λ (o : Option Place). IfSome o (λ at. HasPlace items at)) (sym some) (p, member, within)
+
+-- the whole
+
+pub skip_part : (old items : Items) (key : Key) (end last : Option ℕ) (from steps : ℕ) (cause : Anchor)
+    → IsPartedAt old items end cause
+    → ((ahead behind : Items) → IsParted items end ahead behind → IsSkip key ahead behind last from steps)
+    → HasPart items last
+skip_part old items key end last from steps cause (ahead, behind, parted, at, there) skips =
+    let s : IsSkip key ahead behind last from steps = skips ahead behind parted in (
+      ahead ++ s.skipped,
+      s.rest,
+      (
+        parted.0 ∙ ap (λ (l : Items). ahead ++ l) s.whole ∙ sym (append_assoc ahead s.skipped s.rest),
+        s.last_is,
+      ),
+    )
+
+pub put_in_gap : (old items new : Items) (cause : Anchor) (p : Piece) (end last : Option ℕ) (steps : ℕ)
+    → IsPartedAt old items end cause
+    → ((ahead behind : Items) → IsParted items end ahead behind
+    → IsSkip p.key ahead behind last (compared cause) steps)
+    → ((ahead behind : Items) → IsParted items last ahead behind
+    → (tag : ℕ) × (new ≡ ahead ++ (tag, p) ∷ behind))
+    → IsPutInGap cause p old new steps
+put_in_gap old items new cause p end last steps (ahead, behind, parted, at, there) skips put =
+    let s : IsSkip p.key ahead behind last (compared cause) steps = skips ahead behind parted in
+    let whole : items ≡ (ahead ++ s.skipped) ++ s.rest =
+    parted.0 ∙ ap (λ (l : Items). ahead ++ l) s.whole ∙ sym (append_assoc ahead s.skipped s.rest) in
+    let (tag, is) = put (ahead ++ s.skipped) s.rest (whole, s.last_is) in
+    record {
+      ahead = ahead;
+      skipped = s.skipped;
+      behind = s.rest;
+      tag = tag;
+      gap = record { at_cause = at; greater = s.greater; stops = s.stops };
+      cut = subst (IsCutThere old ahead) s.whole there;
+      spells = ap spelled (sym whole) ∙ ap spelled parted.0 ∙ cut_there_spells old ahead behind there;
+      put = is;
+      counts = s.counts;
+    }
+
+pub placed_in_gap : (old new : Items) (cause : Anchor) (p : Piece) (steps : ℕ) → ArePieces new
+    → IsPutInGap cause p old new steps
+    → IsPlaced p.key cause (chars_of p) (spelled old) (spelled new)
+placed_in_gap old new cause p steps pieces g =
+    let Is : ℕ × Piece → Type 0 = λ (m : ℕ × Piece). IsPiece m.1 in
+    let front : Items = g.ahead ++ g.skipped in
+    let here : ArePieces (front ++ (g.tag, p) ∷ g.behind) = subst ArePieces g.put pieces in
+    let others : ArePieces (front ++ g.behind) =
+    All-append Is front g.behind (all_left Is front ((g.tag, p) ∷ g.behind) here)
+    (all_right Is (front ++ (g.tag, p) ∷ []) g.behind
+    (subst ArePieces (sym (append_assoc front ((g.tag, p) ∷ []) g.behind)) here)) in
+    let law : IsPlaced p.key cause (chars_of p) (spelled (front ++ g.behind))
+    (spelled (front ++ (g.tag, p) ∷ g.behind)) =
+    into_gap g.ahead g.skipped g.behind cause g.tag p others g.gap in
+    subst (λ (l : Items). IsPlaced p.key cause (chars_of p) (spelled old) (spelled l)) (sym g.put)
+    (subst (λ (ks : List Kept). IsPlaced p.key cause (chars_of p) ks
+    (spelled (front ++ (g.tag, p) ∷ g.behind))) g.spells law)

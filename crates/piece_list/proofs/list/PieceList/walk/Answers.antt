@@ -1,0 +1,21 @@
+use Rattle.std.proofs.Common.{◌≡◌, ℕ, List, ◌<◌, All, sym, ap, subst, ◌∙◌}
+use Rattle.std.specs.List.{flat_map}
+use Rattle.piece_list.specs.declared.piece.Piece.{Piece}
+use Rattle.piece_list.specs.declared.run.Run.{Run}
+use Rattle.piece_list.specs.Held.{PiecesSeen}
+use Rattle.piece_list.specs.Shown.{appearances_in, shown_runs}
+use Rattle.piece_list.proofs.Shown.{runs_tell, runs_have_some}
+use Rattle.piece_list.proofs.list.PieceList.walk.Goals as goal
+
+pub returns-clause-shown : goal.returns-clause-shown
+returns-clause-shown c =
+    let items : List (ℕ × Piece) = c.self.inside.pieces.items in
+    let seen : items ≡ c.args.self.now.items = ap (λ (v : PiecesSeen). v.items) c.self.view_is in
+    ap (λ (l : List (ℕ × Piece)). flat_map appearances_in (shown_runs l)) (c.of.ensures.all ∙ seen)
+    ∙ runs_tell c.args.self.now.items
+
+pub returns-clause-some : goal.returns-clause-some
+returns-clause-some c =
+    let items : List (ℕ × Piece) = c.self.inside.pieces.items in
+    subst (λ (l : List (ℕ × Piece)). All (λ (run : Run). 0 < run.len) (shown_runs l)) (sym c.of.ensures.all)
+    (runs_have_some items c.self.invariant.0.pieces)

@@ -1,0 +1,74 @@
+use Rattle.std.proofs.Common.{◌≡◌, ℕ, ◌+◌, ◌-◌, ◌<◌, [], ◌∷◌, List, map, refl, sym, ap, subst, ◌∙◌, arith}
+use Rattle.char_files.specs.CharName.{CharName}
+use Rattle.operations.specs.NameSet.{IsIn}
+use Rattle.tree_order.specs.Registers.{Kept, if_named}
+use Rattle.piece_list.specs.declared.piece.Piece.{Piece}
+use Rattle.piece_list.specs.Changing.{changed_char, IsEdge}
+use Rattle.piece_list.specs.Spelled.{spelled}
+use Rattle.piece_list.proofs.ChangedNames.{range, no_range, name_here, range_grows}
+use Rattle.piece_list.proofs.ChangedPiece.{keeps_name}
+use Rattle.piece_list.proofs.list.changing.change_range.Goals as goal
+
+pub loop-at-init : goal.loop-at-init
+loop-at-init c =
+    let each : Kept → Kept = changed_char c.args.change.now in
+    let site : ℕ = c.args.range.site in
+    let from : ℕ = c.args.range.at in
+    let old : List Kept = spelled c.args.pieces.now.items in
+    let end : from + c.args.range.len ≡ c.at.result + c.len.result =
+    omega (arith, c.at.ensures, c.len.ensures.value) in
+    let none : c.at-at.result - from ≡ 0 = omega (arith, c.at-at.ensures) in
+    record {
+      behind = sym end;
+      low = omega (arith, c.at-at.ensures);
+      high = omega (arith, c.at-at.ensures, c.at.ensures);
+      begins = subst (λ (o : ℕ). IsEdge site o c.args.pieces.now.items) (sym c.at-at.ensures)
+          c.requires.begins;
+      ends = subst (λ (o : ℕ). IsEdge site o c.args.pieces.now.items) end c.requires.ends;
+      entered = c.requires.entered;
+      counted = c.requires.counted;
+      changed = sym (ap (λ (n : ℕ). map (if_named (range site from n ∷ []) each) old) none
+          ∙ no_range each (keeps_name c.args.change.now) site from old);
+      room = refl;
+    }
+
+pub change_piece-at-requires-clause-here : goal.change_piece-at-requires-clause-here
+change_piece-at-requires-clause-here c =
+    let name : CharName = c.in-Some.name in
+    let site : name.site ≡ c.args.range.site =
+    ap (λ (d : CharName). d.site) c.in-Some.ensures.value ∙ c.site.ensures in
+    let off : name.off ≡ c.loop-at.at = ap (λ (d : CharName). d.off) c.in-Some.ensures.value in
+    let held : IsIn c.args.range name =
+    (site, omega (arith, c.loop-at.invariant.low), omega (arith, c.loop-at.invariant.behind, c.loop-at-test.true)) in
+    name_here (changed_char c.args.change.now) (keeps_name c.args.change.now)
+    (range c.args.range.site c.args.range.at (c.loop-at.at - c.args.range.at) ∷ []) c.args.range name
+    (spelled c.args.pieces.now.items) (spelled c.loop-at.pieces.items) c.requires.here
+    c.loop-at.invariant.changed held
+
+pub loop-at-preserved : goal.loop-at-preserved
+loop-at-preserved c =
+    let name : CharName = c.in-Some.name in
+    let named : ℕ → CharName = λ (s : ℕ). record { site = s; off = c.loop-at.at } in
+    let end : ℕ = c.at.result + c.len.result in
+    let to : ℕ = c.change_piece-at.result in
+    let is : name ≡ named c.args.range.site = c.in-Some.ensures.value ∙ ap named c.site.ensures in
+    let site : name.site ≡ c.args.range.site = ap (λ (d : CharName). d.site) is in
+    let off : name.off ≡ c.loop-at.at = ap (λ (d : CharName). d.off) is in
+    let on : name.off < to = c.change_piece-at.ensures.some in
+    let within : name.off < end = omega (arith, c.loop-at-test.true) in
+    let new : List (ℕ × Piece) = c.change_piece-at.new.pieces.items in
+    record {
+      behind = c.loop-at.invariant.behind;
+      low = omega (arith, c.loop-at.invariant.low);
+      high = c.change_piece-at.ensures.within end within
+          (subst (λ (s : ℕ). IsEdge s end c.loop-at.pieces.items) (sym site) c.loop-at.invariant.ends);
+      begins = subst (λ (s : ℕ). IsEdge s to new) site c.change_piece-at.ensures.ends;
+      ends = c.change_piece-at.ensures.edges c.args.range.site end c.loop-at.invariant.ends;
+      entered = c.change_piece-at.ensures.entered;
+      counted = c.change_piece-at.ensures.counted;
+      changed = range_grows (changed_char c.args.change.now) (keeps_name c.args.change.now)
+          c.args.range.site c.args.range.at c.loop-at.at to name (spelled c.args.pieces.now.items)
+          (spelled c.loop-at.pieces.items) (spelled new) is c.loop-at.invariant.low
+          (omega arith) c.loop-at.invariant.changed c.change_piece-at.ensures.changed;
+      room = c.change_piece-at.ensures.room ∙ c.loop-at.invariant.room;
+    }

@@ -1,0 +1,26 @@
+use Rattle.std.proofs.Common.{◌-◌, ◌≡◌, ◌+◌, ◌≤◌, [], ◌∷◌, map}
+use Rattle.tree_order.specs.Registers.{if_named}
+use Rattle.piece_list.specs.Changing.{changed_char, IsEdge}
+use Rattle.piece_list.specs.Held.{AreEntered}
+use Rattle.piece_list.specs.Spelled.{spelled}
+use Rattle.piece_list.proofs.ChangedNames.{range}
+use Rattle.piece_list.proofs.Walked.{shown_in}
+use Rattle.piece_list.proofs.list.changing.change_range.Given as goal
+
+abbrev pub invariant-loop-at : goal.invariant-loop-at
+invariant-loop-at l = record {
+  behind : l.end ≡ l.range.at + l.range.len;
+  low : l.range.at ≤ l.at;
+  high : l.at ≤ l.end;
+  begins : IsEdge l.range.site l.at l.pieces.items;
+  ends : IsEdge l.range.site l.end l.pieces.items;
+  entered : AreEntered l.pieces.items l.tags;
+  counted : l.shown ≡ shown_in l.pieces.items;
+  changed : spelled l.pieces.items
+      ≡ map (if_named (range l.range.site l.range.at (l.at - l.range.at) ∷ []) (changed_char l.change))
+      (spelled l.initial.pieces.items);
+  room : l.pieces.room ≡ l.initial.pieces.room;
+}
+
+abbrev pub decreases-loop-at : goal.decreases-loop-at
+decreases-loop-at l = l.end - l.at

@@ -1,0 +1,63 @@
+use Rattle.std.proofs.Common.{ℕ, [], ◌∷◌, List, map, take, refl, sym, ap, subst, ◌∙◌, arith}
+use Rattle.operations.specs.NameSet.{Range}
+use Rattle.tree_order.specs.Registers.{Kept, if_named}
+use Rattle.piece_list.specs.declared.piece.Piece.{Piece}
+use Rattle.piece_list.specs.Changing.{changed_char, IsEdge}
+use Rattle.piece_list.specs.Spelled.{spelled}
+use Rattle.piece_list.proofs.ChangedNames.{unchanged, one_more, range_here}
+use Rattle.piece_list.proofs.ChangedPiece.{keeps_name}
+use Rattle.piece_list.proofs.Counts.{same_count}
+use Rattle.piece_list.proofs.list.changing.change_ranges.Goals as goal
+
+pub loop-range-init : goal.loop-range-init
+loop-range-init c = record {
+  entered = c.requires.entered;
+  counted = c.requires.counted;
+  room = omega (arith, c.requires.room);
+  changed = sym (unchanged (changed_char c.args.change.now) (keeps_name c.args.change.now) [] (λ d. refl)
+      (spelled c.args.pieces.now.items));
+}
+
+pub change_range-requires-clause-here : goal.change_range-requires-clause-here
+change_range-requires-clause-here c =
+    range_here (changed_char c.args.change.now) (keeps_name c.args.change.now)
+    (take c.loop-range.range-index c.args.ranges.now) c.args.ranges.now c.loop-range.range-index
+    c.range-item.result (spelled c.args.pieces.now.items)
+    (spelled c.cut_at-in-loop-range.new.pieces.items) c.loop-range-test.true c.range-item.is c.requires.here
+    (c.cut_at-in-loop-range.ensures.spells ∙ c.cut_at.ensures.spells ∙ c.loop-range.invariant.changed)
+
+pub change_range-requires-clause-begins : goal.change_range-requires-clause-begins
+change_range-requires-clause-begins c =
+    let r : Range = c.range-item.result in
+    let cut : List (ℕ × Piece) = c.cut_at.new.pieces.items in
+    c.cut_at-in-loop-range.ensures.edges r.site r.at
+    (subst (λ (s : ℕ). IsEdge s r.at cut) c.site.ensures
+    (subst (λ (o : ℕ). IsEdge c.site.result o cut) c.at.ensures c.cut_at.ensures.edge))
+
+pub loop-range-preserved : goal.loop-range-preserved
+loop-range-preserved c =
+    let each : Kept → Kept = changed_char c.args.change.now in
+    let r : Range = c.range-item.result in
+    record {
+      entered = c.change_range.ensures.entered;
+      counted = c.change_range.ensures.counted;
+      room = omega (
+        arith,
+        c.change_range.ensures.room,
+        c.cut_at-in-loop-range.ensures.room,
+        c.cut_at.ensures.room,
+        c.loop-range.invariant.room,
+      );
+      changed = c.change_range.ensures.changed
+          ∙ ap (map (if_named (r ∷ []) each)) (c.cut_at-in-loop-range.ensures.spells
+          ∙ c.cut_at.ensures.spells ∙ c.loop-range.invariant.changed)
+          ∙ one_more each (keeps_name c.args.change.now) c.args.ranges.now c.loop-range.range-index r
+          c.requires.set c.loop-range-test.true c.range-item.is (spelled c.args.pieces.now.items);
+    }
+
+pub change_range-requires-clause-counted : goal.change_range-requires-clause-counted
+change_range-requires-clause-counted c =
+    c.loop-range.invariant.counted
+    ∙ sym (same_count c.loop-range.pieces.items c.cut_at.new.pieces.items c.cut_at.ensures.spells)
+    ∙ sym (same_count c.cut_at.new.pieces.items c.cut_at-in-loop-range.new.pieces.items
+    c.cut_at-in-loop-range.ensures.spells)

@@ -1,0 +1,21 @@
+use Rattle.std.proofs.Common.{arith}
+use Rattle.piece_list.specs.Pieces.{IsPiece}
+use Rattle.piece_list.proofs.CutList.{is_piece}
+use Rattle.piece_list.proofs.Placing.{parted_there, parted_cut}
+use Rattle.piece_list.proofs.list.placing.cut_behind.Goals as goal
+
+pub overflow_add-n : goal.overflow_add-n
+overflow_add-n c =
+    let (p, member, within) = c.requires.place in
+    let is : IsPiece p = is_piece c.args.pieces.now.items c.args.place.piece p c.requires.entered.pieces member in
+    omega (arith, is.1, within)
+
+pub returns-then-n-len-clause-parted : goal.returns-then-n-len-clause-parted
+returns-then-n-len-clause-parted c =
+    parted_cut c.args.pieces.now.items c.cut.new.pieces.items c.numbers_differ.ensures c.args.place
+    c.cut.result c.cut.ensures.cut
+
+pub returns-else-n-len-clause-parted : goal.returns-else-n-len-clause-parted
+returns-else-n-len-clause-parted c =
+    parted_there c.args.pieces.now.items c.numbers_differ.ensures c.args.place c.value_at.result.now
+    c.value_at.ensures c.if-n-len.false

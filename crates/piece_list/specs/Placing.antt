@@ -1,0 +1,100 @@
+-- How a run's piece is put into the list.
+use Rattle.std.specs.Prelude.{◌≡◌, ℕ, ◌+◌, ◌-◌, ◌^◌, ◌<◌, ◌≤◌, ◌⊎◌, min, true, List, [], ◌∷◌, ◌++◌, length, All}
+use Rattle.std.specs.Prelude.{Option, Some, None}
+use Rattle.looks.specs.Key.{is_below}
+use Rattle.looks.specs.declared.key.Key.{Key}
+use Rattle.char_files.specs.declared.name.Anchor.{Anchor}
+use Rattle.char_files.specs.declared.name.Anchor.TheVariants.{Root, At}
+use Rattle.piece_raw.specs.Ring.{last_tag}
+use Rattle.tree_order.specs.Registers.{Kept}
+use Rattle.piece_list.specs.declared.piece.Piece.{Piece}
+use Rattle.piece_list.specs.declared.place.Place.{Place}
+use Rattle.piece_list.specs.Held.{IsPlaceOf}
+use Rattle.piece_list.specs.Pieces.{front_of, rest_of}
+use Rattle.piece_list.specs.Laws.{EndAt, BeginNotAbove, IsPieceGap}
+use Rattle.piece_list.specs.Spelled.{spelled, HasName}
+
+-- the anchor is the root, or one of the characters has its name
+abbrev pub HasAnchor : List Kept → Anchor → Type 0
+HasAnchor chars Root = Unit {0}
+HasAnchor chars (At c) = HasName chars c
+
+-- how many comparisons find the anchor: none for the root, one for a character
+abbrev pub compared : Anchor → ℕ
+compared Root = 0
+compared (At c) = 1
+
+-- this is where the anchor's character stands; none for the root
+abbrev pub IsAnchorPlace : List (ℕ × Piece) → Anchor → Option Place → Type 0
+IsAnchorPlace items Root place = place ≡ None
+IsAnchorPlace items (At c) place = (at : Place) × (place ≡ Some at) × IsPlaceOf items at c
+
+-- the pieces are those ahead, of which the last has this number (none where there are none), and those behind
+abbrev pub IsParted : List (ℕ × Piece) → Option ℕ → List (ℕ × Piece) → List (ℕ × Piece) → Type 0
+IsParted items last ahead behind = (items ≡ ahead ++ behind) × (last_tag ahead ≡ last)
+
+-- the pieces can be parted behind this number
+abbrev pub HasPart : List (ℕ × Piece) → Option ℕ → Type 0
+HasPart items last = (ahead : List (ℕ × Piece)) × (behind : List (ℕ × Piece)) × IsParted items last ahead behind
+
+-- one piece of old is cut in two: its first n characters are the last of those ahead, and the others the
+-- first of those behind
+pub record IsCutAt (old ahead behind : List (ℕ × Piece)) : Type 0 where
+  pub front : List (ℕ × Piece)
+  pub rest : List (ℕ × Piece)
+  pub tag : ℕ
+  pub other : ℕ
+  pub n : ℕ
+  pub piece : Piece
+  pub within : n < piece.len
+  pub whole : old ≡ front ++ (tag, piece) ∷ rest
+  pub ends : ahead ≡ front ++ (tag, front_of n piece) ∷ []
+  pub begins : behind ≡ (other, rest_of n piece) ∷ rest
+
+-- old's pieces are those ahead and those behind, or are once one piece is cut there
+abbrev pub IsCutThere : List (ℕ × Piece) → List (ℕ × Piece) → List (ℕ × Piece) → Type 0
+IsCutThere old ahead behind = (old ≡ ahead ++ behind) ⊎ IsCutAt old ahead behind
+
+-- the pieces are parted behind this number, directly behind the anchor; for this one of old's was cut there at
+-- most
+abbrev pub IsPartedAt : List (ℕ × Piece) → List (ℕ × Piece) → Option ℕ → Anchor → Type 0
+IsPartedAt old items last cause = (ahead : List (ℕ × Piece)) × (behind : List (ℕ × Piece))
+    × IsParted items last ahead behind × EndAt ahead cause × IsCutThere old ahead behind
+
+-- the piece of this number follows directly, and its key is greater
+abbrev pub IsNext : List (ℕ × Piece) → Key → Option ℕ → ℕ → Type 0
+IsNext items key last next = (ahead behind : List (ℕ × Piece)) → IsParted items last ahead behind
+    → (p : Piece) × (rest : List (ℕ × Piece)) × (behind ≡ (next, p) ∷ rest) × (is_below key p.key ≡ true)
+
+-- a count went on by n from one number to another, as far as a u64 reaches
+abbrev pub IsCounted : (from n steps : ℕ) → Type 0
+IsCounted from n steps = (steps ≤ from + n) × (min (from + n) (2 ^ 64 - 1) ≤ steps)
+
+-- to see that the first of the pieces isn't skipped takes one look at its key; where there is none, no look
+abbrev pub last_look : List (ℕ × Piece) → ℕ
+last_look [] = 0
+last_look (m ∷ rest) = 1
+
+-- behind those ahead, of the pieces that follow, whole pieces of greater key are skipped, and no further one
+-- is of greater key; the last piece then has this number, and each look at a key was counted
+pub record IsSkip (key : Key) (ahead behind : List (ℕ × Piece)) (last : Option ℕ) (from steps : ℕ) : Type 0 where
+  pub skipped : List (ℕ × Piece)
+  pub rest : List (ℕ × Piece)
+  pub whole : behind ≡ skipped ++ rest
+  pub greater : All (λ m. is_below key m.1.key ≡ true) skipped
+  pub stops : BeginNotAbove key rest
+  pub last_is : last_tag (ahead ++ skipped) ≡ last
+  pub counts : IsCounted from (length skipped + last_look rest) steps
+
+-- new is old, cut behind the anchor where that is needed, with this piece in its gap; the steps are the comparisons that find the
+-- anchor, and one look at the key of each piece skipped and of the next one
+pub record IsPutInGap (cause : Anchor) (p : Piece) (old new : List (ℕ × Piece)) (steps : ℕ) : Type 0 where
+  pub ahead : List (ℕ × Piece)
+  pub skipped : List (ℕ × Piece)
+  pub behind : List (ℕ × Piece)
+  pub tag : ℕ
+  pub gap : IsPieceGap p.key cause ahead skipped behind
+  pub cut : IsCutThere old ahead (skipped ++ behind)
+  pub spells : spelled (ahead ++ skipped ++ behind) ≡ spelled old
+  pub put : new ≡ ahead ++ skipped ++ (tag, p) ∷ behind
+  pub counts : IsCounted (compared cause) (length skipped + last_look behind) steps

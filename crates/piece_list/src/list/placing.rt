@@ -1,0 +1,204 @@
+// How a run's piece goes into the list: behind its cause and the pieces of greater key that follow.
+ghost use Rattle.std.specs.Prelude.{◌≡◌, ℕ, ◌+◌, ◌<◌, ◌≤◌, List, ◌∷◌, ◌++◌, length, min, IfSome, OnOk, OnErr};
+ghost use Rattle.std.specs.Prelude.{if◌then◌else◌, Some as Just, None as Nothing};
+ghost use Rattle.looks.specs.Refusal.{RefusedForMemoryAlone};
+ghost use Rattle.looks.specs.Key.{is_below};
+ghost use Rattle.char_files.specs.CharName.{CharName};
+ghost use Rattle.operations.specs.NameSet.{IsIn};
+ghost use Rattle.piece_raw.specs.Ring.{ring, IsMember, HasTag, Follows};
+ghost use Rattle.piece_list.specs.Pieces.{range_of, chars_of, IsPiece, piece_of};
+ghost use Rattle.piece_list.specs.Held.{HasPlace, AreEntered};
+ghost use Rattle.piece_list.specs.Laws.{BeginNotAbove};
+ghost use Rattle.piece_list.specs.Placed.{IsPlaced};
+ghost use Rattle.piece_list.specs.Placing.{HasAnchor, compared, IsAnchorPlace, IsParted, HasPart, IsPartedAt};
+ghost use Rattle.piece_list.specs.Placing.{IsCounted, IsNext, IsSkip, IsPutInGap, last_look};
+ghost use Rattle.piece_list.specs.Spelled.{spelled, shown_chars, HasName};
+ghost use Rattle.piece_list.specs.Tables.{table_of};
+
+#[cfg(test)]
+pub(in crate::list) mod tests;
+
+use crate::list::{PieceList, cut, numbers_differ};
+use crate::piece::Piece;
+use crate::place::Place;
+use crate::run::Run;
+use crate::tags::TagTables;
+use char_files::Anchor;
+use looks::{Key, Refusal};
+use piece_raw::Ring;
+
+// Whether this piece's key is greater: one look, which is counted.
+fn is_above(pieces: &Ring<Piece>, steps: &mut u64, tag: u64, key: Key) -> bool
+    requires { HasTag pieces.now.items tag }
+    ensures key { (p : Piece) × IsMember pieces.now.items tag p × (result ≡ is_below key p.key) }
+    ensures steps { steps.new ≡ min (steps.old + 1) u64.MAX }
+{
+    *steps = steps.saturating_add(1);
+    key < pieces.value_at(tag).key
+}
+
+// The piece directly behind this one; the first one for `None`.
+fn following(pieces: &Ring<Piece>, last: Option<u64>) -> Option<u64>
+    requires { HasPart pieces.now.items last }
+    ensures follows { Follows pieces.now.items last result }
+    ensures there { IfSome result (HasTag pieces.now.items) }
+{
+    match last {
+        Some(tag) => pieces.after(tag),
+        None => pieces.first(),
+    }
+}
+
+// The same, if its key is greater.
+fn next_above(pieces: &Ring<Piece>, steps: &mut u64, last: Option<u64>, key: Key) -> Option<u64>
+    requires { HasPart pieces.now.items last }
+    ensures above { IfSome result (λ next. IsNext pieces.now.items key last next) }
+    ensures stops { result ≡ Nothing → (ahead behind : List (ℕ × Piece))
+        → IsParted pieces.now.items last ahead behind → BeginNotAbove key behind }
+    ensures steps { (ahead behind : List (ℕ × Piece)) → IsParted pieces.now.items last ahead behind
+        → IsCounted steps.old (last_look behind) steps.new }
+{
+    numbers_differ(pieces);
+    let next = following(pieces, last)?;
+    if is_above(pieces, steps, next, key) {
+        Some(next)
+    } else {
+        None
+    }
+}
+
+// Walks past the pieces of greater key that follow this one, and answers the last of them: the piece itself
+// where there are none.
+fn skip(pieces: &Ring<Piece>, steps: &mut u64, from: Option<u64>, key: Key) -> Option<u64>
+    requires { HasPart pieces.now.items from }
+    ensures { (ahead behind : List (ℕ × Piece)) → IsParted pieces.now.items from ahead behind
+        → IsSkip key ahead behind result steps.old steps.new }
+{
+    numbers_differ(pieces);
+    let mut last = from;
+    while let Some(next) = next_above(pieces, steps, last, key) {
+        last = Some(next);
+    }
+    last
+}
+
+// Makes the character of this place the last of its piece, which keeps its number.
+fn cut_behind(pieces: &mut Ring<Piece>, tags: &mut TagTables, place: Place)
+    requires entered { AreEntered pieces.old.items tags.old }
+    requires place { HasPlace pieces.old.items place }
+    requires room { 0 < pieces.old.room }
+    ensures parted { (cause : Anchor) → IsAnchorPlace pieces.old.items cause (Just place)
+        → IsPartedAt pieces.old.items pieces.new.items (Just place.piece) cause }
+    ensures entered { AreEntered pieces.new.items tags.new }
+    ensures room { pieces.old.room ≤ pieces.new.room + 1 }
+    ensures long { (site : ℕ) → length (table_of tags.new site) ≡ length (table_of tags.old site) }
+{
+    numbers_differ(pieces);
+    let len = pieces.value_at(place.piece).len;
+    let n = place.within + 1;
+    if n < len {
+        cut(pieces, tags, place.piece, n);
+    }
+}
+
+// The same for an anchor's place, and answers the piece's number; `None` for the root.
+fn end_at(pieces: &mut Ring<Piece>, tags: &mut TagTables, place: Option<Place>) -> Option<u64>
+    requires entered { AreEntered pieces.old.items tags.old }
+    requires place { IfSome place (λ at. HasPlace pieces.old.items at) }
+    requires room { 0 < pieces.old.room }
+    ensures parted { (cause : Anchor) → IsAnchorPlace pieces.old.items cause place
+        → IsPartedAt pieces.old.items pieces.new.items result cause }
+    ensures entered { AreEntered pieces.new.items tags.new }
+    ensures room { pieces.old.room ≤ pieces.new.room + 1 }
+    ensures long { (site : ℕ) → length (table_of tags.new site) ≡ length (table_of tags.old site) }
+{
+    match place {
+        Some(at) => {
+            cut_behind(pieces, tags, at);
+            Some(at.piece)
+        }
+        None => None,
+    }
+}
+
+// Stands on the piece of this number, ahead of the first one for `None`.
+fn stand_on(pieces: &mut Ring<Piece>, last: Option<u64>)
+    requires { HasPart pieces.old.items last }
+    ensures { pieces.new ≡ ring pieces.old.items last pieces.old.room }
+{
+    match last {
+        Some(tag) => pieces.seek(tag),
+        None => pieces.to_trailer(),
+    }
+}
+
+// Puts a piece directly behind the one of this number, at the front for `None`, and enters its names.
+fn put(pieces: &mut Ring<Piece>, tags: &mut TagTables, last: Option<u64>, piece: Piece)
+    requires entered { AreEntered pieces.old.items tags.old }
+    requires part { HasPart pieces.old.items last }
+    requires piece { IsPiece piece }
+    requires new { (c : CharName) → IsIn (range_of piece) c → ¬ HasName (spelled pieces.old.items) c }
+    requires fits { piece.off + piece.len ≤ length (table_of tags.old piece.site) }
+    requires room { 0 < pieces.old.room }
+    ensures put { (ahead behind : List (ℕ × Piece)) → IsParted pieces.old.items last ahead behind
+        → (tag : ℕ) × (pieces.new.items ≡ ahead ++ (tag, piece) ∷ behind) }
+    ensures entered { AreEntered pieces.new.items tags.new }
+    ensures count { length (shown_chars (spelled pieces.new.items))
+        ≡ length (shown_chars (spelled pieces.old.items)) + (if piece.hidden.value then 0 else piece.len) }
+{
+    numbers_differ(pieces);
+    stand_on(pieces, last);
+    let (site, off, len) = (piece.site, piece.off, piece.len);
+    match pieces.push_after(piece) {
+        Ok(number) => tags.fill(site, off, len, number),
+        Err(_) => unreachable!(),
+    }
+}
+
+impl PieceList {
+    // Where the anchor stands; `None` for the root.
+    fn find(&mut self, cause: Anchor) -> Option<Place>
+        requires { HasAnchor (spelled self.old.items) cause }
+        ensures place { IsAnchorPlace self.old.items cause result }
+        ensures seen { self.new ≡ record { items = self.old.items; steps = compared cause } }
+    {
+        match cause {
+            Anchor::Root => {
+                self.steps = 0;
+                None
+            }
+            Anchor::At(name) => self.locate(name),
+        }
+    }
+
+    /// Puts a run, as one piece, directly behind its cause and the longest stretch of characters of greater
+    /// key that follows the cause. Where the cause isn't the last of its piece, the piece is cut behind it.
+    ///
+    /// The run has 1 to 4,096 characters within its site's file, none of them in the list, and the cause is
+    /// the root or in the list. `steps` counts one comparison that finds the cause, none for the root, and a
+    /// look at the key of each piece that is skipped and of the next one. Refused `OutOfMemory` alone; then no
+    /// piece has changed, and `steps` counts the comparison. This project's own.
+    pub fn place(&mut self, run: Run, cause: Anchor) -> Result<(), Refusal>
+        requires run { IsPiece (piece_of run) }
+        requires here { HasAnchor (spelled self.old.items) cause }
+        requires new { (c : CharName) → IsIn (range_of (piece_of run)) c → ¬ HasName (spelled self.old.items) c }
+        ensures placed { OnOk result (IsPlaced run.key cause (chars_of (piece_of run))
+            (spelled self.old.items) (spelled self.new.items)) }
+        ensures steps { OnOk result
+            (IsPutInGap cause (piece_of run) self.old.items self.new.items self.new.steps) }
+        ensures errors { RefusedForMemoryAlone result }
+        ensures err { OnErr result
+            (self.new ≡ record { items = self.old.items; steps = compared cause }) }
+    {
+        let found = self.find(cause);
+        self.pieces.reserve(2)?;
+        self.tags.reserve(run.site, run.off + run.len)?;
+        let end = end_at(&mut self.pieces, &mut self.tags, found);
+        let last = skip(&self.pieces, &mut self.steps, end, run.key);
+        let len = u64::from(run.len);
+        put(&mut self.pieces, &mut self.tags, last, Piece::of_run(run));
+        numbers_differ(&self.pieces);
+        self.shown += len;
+        Ok(())
+    }
+}

@@ -1,0 +1,166 @@
+//! What is shown, and where.
+
+ghost use Rattle.std.specs.Prelude.{◌≡◌, ◌<◌, ◌↔◌, if◌then◌else◌, length, map, All, Contains};
+ghost use Rattle.std.specs.Prelude.{IsSome, IfSome, slice_get};
+ghost use Rattle.std.specs.Iterator.{YieldsFirst, item_count};
+ghost use Rattle.std.specs.List.{flat_map};
+ghost use Rattle.tree_order.specs.Registers.{Kept};
+ghost use Rattle.piece_list.specs.Held.{IsPlaceOf};
+ghost use Rattle.piece_list.specs.Shown.{AreShownTo, appearance_of, appearances_in, run_of, shown_runs};
+ghost use Rattle.piece_list.specs.Spelled.{spelled, shown_chars, HasName};
+
+use super::members::Members;
+use super::{PieceList, numbers_differ};
+use crate::piece::Piece;
+use crate::place::Place;
+use crate::run::Run;
+use char_files::Name;
+use looks::{Key, Looks};
+use std::marker::Model;
+
+// The run of all characters of a piece.
+fn run(piece: &Piece) -> Run
+    ensures { result ≡ run_of piece.now }
+{
+    Run {
+        site: piece.site,
+        off: piece.off,
+        len: piece.len,
+        key: piece.key,
+        looks: Looks {
+            font: piece.font.value.copy(),
+            colour: piece.colour.value,
+            offset: piece.offset.value,
+        },
+    }
+}
+
+// How many of a piece's first `n` characters are shown: all of them, or none.
+pub(crate) fn shown_of(piece: &Piece, n: u32) -> u64
+    ensures { result ≡ (if piece.now.hidden.value then 0 else n) }
+{
+    if piece.hidden.value { 0 } else { u64::from(n) }
+}
+
+/// The stretches of a text that are shown, one after the other, without memory: seen as the list of the runs
+/// that are left. This project's own.
+#[derive(Drop)]
+pub struct Walk<'a> {
+    members: Members<'a>,
+}
+
+impl<'a> Model for Walk<'a> {
+    ghost use Rattle.std.specs.Prelude.{List};
+    ghost use Rattle.piece_list.specs.declared.run.Run.{Run as Seen};
+    ghost use Rattle.piece_list.specs.Shown.{shown_runs};
+
+    ghost Value = { List Seen };
+
+    ghost view = { λ w. shown_runs w.members };
+}
+
+impl<'a> Iterator for Walk<'a> {
+    type Item = Run;
+
+    ghost next_gives = { YieldsFirst (λ runs. runs) };
+
+    ghost remaining = { item_count (λ runs. runs) };
+
+    fn next(&mut self) -> Option<Run> {
+        while let Some((_, piece)) = self.members.next() {
+            if !piece.hidden.value {
+                return Some(run(piece));
+            }
+        }
+        None
+    }
+}
+
+impl PieceList {
+    // Where the character of this name stands. It reads one entry of a table, and compares the name with one
+    // piece at most.
+    fn place_of(&self, name: Name) -> Option<Place>
+        ensures place { IfSome result (λ place. IsPlaceOf self.now.items place name) }
+        ensures here { IsSome result ↔ HasName (spelled self.now.items) name }
+    {
+        let tag = self.tags.get(name)?;
+        numbers_differ(&self.pieces);
+        let piece = self.pieces.value_at(tag);
+        if !piece.holds(name) {
+            return None;
+        }
+        Some(Place {
+            piece: tag,
+            within: name.off() - piece.off,
+        })
+    }
+
+    /// The key of the character of this name, that of its Insert; `None` for a name that isn't here.
+    ///
+    /// It reads one entry of a table.
+    pub fn key_of(&self, name: Name) -> Option<Key>
+        ensures here { IsSome result ↔ HasName (spelled self.now.items) name }
+        ensures key { IfSome result (λ key. (k : Kept) → Contains (spelled self.now.items) k → k.name ≡ name
+            → k.key ≡ key) }
+    {
+        let place = self.place_of(name)?;
+        numbers_differ(&self.pieces);
+        Some(self.pieces.value_at(place.piece).key)
+    }
+
+    /// How many characters are shown.
+    pub fn shown_len(&self) -> u64
+        ensures { result ≡ length (shown_chars (spelled self.now.items)) }
+    {
+        self.shown
+    }
+
+    /// How many shown characters stand at or ahead of the character of this name, which may be hidden; `None`
+    /// for a name that isn't here.
+    pub fn shown_to(&self, name: Name) -> Option<u64>
+        ensures here { IsSome result ↔ HasName (spelled self.now.items) name }
+        ensures count { IfSome result (AreShownTo (spelled self.now.items) name) }
+    {
+        let place = self.place_of(name)?;
+        let mut shown = 0;
+        for (tag, piece) in Members::of(&self.pieces) {
+            if tag == place.piece {
+                return Some(shown + shown_of(piece, place.within + 1));
+            }
+            shown += shown_of(piece, piece.len);
+        }
+        unreachable!()
+    }
+
+    /// The place of the character that is shown at this position, from 0.
+    pub fn locate_pos(&self, pos: u64) -> Place
+        requires { pos < length (shown_chars (spelled self.now.items)) }
+        ensures { IfSome (slice_get (shown_chars (spelled self.now.items)) pos)
+            (λ k. IsPlaceOf self.now.items result k.name) }
+    {
+        let mut left = pos;
+        for (tag, piece) in Members::of(&self.pieces) {
+            let len = shown_of(piece, piece.len);
+            if left < len {
+                return Place {
+                    piece: tag,
+                    within: left as u32,
+                };
+            }
+            left -= len;
+        }
+        unreachable!()
+    }
+
+    /// Walks the stretches that are shown, in order: each a run that isn't empty.
+    pub fn walk(&self) -> Walk<'_>
+        ensures runs { result ≡ shown_runs self.now.items }
+        ensures shown { flat_map appearances_in result
+            ≡ map appearance_of (shown_chars (spelled self.now.items)) }
+        ensures some { All (λ run. 0 < run.len) result }
+    {
+        Walk {
+            members: Members::of(&self.pieces),
+        }
+    }
+}
