@@ -1,0 +1,83 @@
+use super::told::{Does, Told, log_of, name, op_of, site};
+use std::process::Abort;
+use std::test::Fail;
+
+// Three sites, one cause: sites 1 and 2 both type behind the `A` of `AC`; then site 1 deletes a character,
+// which makes no file longer.
+const TOLD: &[Told] = &[
+    (1, 1, 1, Does::Insert(None, 0, b"AC")),
+    (2, 1, 2, Does::Insert(Some((1, 0)), 0, b"X")),
+    (2, 2, 3, Does::Insert(Some((2, 0)), 1, b"Yz")),
+    (1, 2, 2, Does::Insert(Some((1, 0)), 2, b"B")),
+    (1, 3, 4, Does::Delete(&[(1, 1)])),
+];
+
+#[test]
+fn an_empty_log_knows_no_site(rt: HostRuntime) -> Result<(), Fail> {
+    let log = log_of(rt.alloc(), &[])?;
+    assert_eq!(rt; (log.len(), log.stamp()), (0, 0));
+    assert!(rt; log.ops().is_empty());
+    assert!(rt; log.get(site(1)?, 1).is_none());
+    assert_eq!(rt; (log.front(site(1)?), log.file_len(site(1)?)), (0, 0));
+    assert_eq!(rt; log.site_stamp(site(1)?), 0);
+    Ok(())
+}
+
+#[test]
+fn a_log_counts_by_site(rt: HostRuntime) -> Result<(), Fail> {
+    let log = log_of(rt.alloc(), TOLD)?;
+    assert_eq!(rt; (log.len(), log.stamp()), (5, 4));
+    for (number, front, len, stamp) in [(1, 3, 3, 4), (2, 2, 3, 3), (3, 0, 0, 0)] {
+        let site = site(number)?;
+        assert_eq!(rt; (log.front(site), log.file_len(site)), (front, len));
+        assert_eq!(rt; log.site_stamp(site), stamp);
+    }
+    Ok(())
+}
+
+#[test]
+fn a_log_finds_each_operation(rt: HostRuntime) -> Result<(), Fail> {
+    let log = log_of(rt.alloc(), TOLD)?;
+    for fields in TOLD {
+        let want = op_of(rt.alloc(), *fields)?;
+        let found = log.get(site(fields.0)?, fields.1).ok_or("held")?;
+        assert!(rt; found.is_same(&want));
+    }
+    for (number, seq) in [(1, 0), (1, 4), (2, 0), (2, 3), (3, 1)] {
+        assert!(rt; log.get(site(number)?, seq).is_none());
+    }
+    Ok(())
+}
+
+#[test]
+fn a_log_tells_the_stamp_of_each_name(rt: HostRuntime) -> Result<(), Fail> {
+    let log = log_of(rt.alloc(), TOLD)?;
+    let stamps = [
+        ((1, 0), 1),
+        ((1, 1), 1),
+        ((1, 2), 2),
+        ((2, 0), 2),
+        ((2, 1), 3),
+        ((2, 2), 3),
+    ];
+    for (parts, stamp) in stamps {
+        let name = name(parts)?;
+        let here = name.off() < log.file_len(name.site());
+        assert!(rt; here);
+        assert_eq!(rt; log.name_stamp(name), stamp);
+    }
+    Ok(())
+}
+
+#[test]
+fn the_sites_of_a_log_ascend(rt: HostRuntime) -> Result<(), Fail> {
+    let starts = [
+        (3, 1, 1, Does::Insert(None, 0, b"c")),
+        (1, 1, 1, Does::Insert(None, 0, b"a")),
+        (3, 2, 2, Does::Insert(None, 1, b"c")),
+    ];
+    let sites = log_of(rt.alloc(), &starts)?.sites()?;
+    assert_eq!(rt; sites.len(), 2);
+    assert_eq!(rt; (sites[0].get(), sites[1].get()), (1, 3));
+    Ok(())
+}

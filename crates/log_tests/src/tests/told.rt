@@ -1,0 +1,94 @@
+//! Operations by their fields, and logs of them.
+ghost use Rattle.std.specs.Prelude.{◌↔◌, IsTrue};
+ghost use Rattle.tree_order.specs.Good.{Begins};
+
+use char_files::{Anchor, Name, SiteNo, TextNo};
+use looks::Looks;
+use op_log::Log;
+use operations::{Kind, NameSet, Op};
+use std::alloc::Global;
+use std::test::Fail;
+
+// What an operation does.
+#[derive(Clone, Copy)]
+pub(super) enum Does {
+    // The cause, if it isn't the root; the length of its site's file before it; the bytes.
+    Insert(Option<(u16, u32)>, u32, &'static [u8]),
+    // The names that it hides.
+    Delete(&'static [(u16, u32)]),
+}
+
+// An operation on text 1: its site, its seq, its stamp, what it does.
+pub(super) type Told = (u16, u32, u64, Does);
+
+pub(super) fn site(number: u16) -> Result<SiteNo, Fail> {
+    Ok(SiteNo::new(number).ok_or("a site")?)
+}
+
+pub(super) fn name((number, off): (u16, u32)) -> Result<Name, Fail> {
+    Ok(Name::new(site(number)?, off).ok_or("a name")?)
+}
+
+fn anchor(cause: Option<(u16, u32)>) -> Result<Anchor, Fail> {
+    Ok(match cause {
+        None => Anchor::Root,
+        Some(parts) => Anchor::At(name(parts)?),
+    })
+}
+
+fn set_of(alloc: Global, names: &[(u16, u32)]) -> Result<NameSet, Fail> {
+    let mut set = NameSet::new(alloc);
+    for parts in names {
+        set.insert(name(*parts)?)?;
+    }
+    Ok(set)
+}
+
+fn kind_of(alloc: Global, does: Does) -> Result<Kind, Fail> {
+    Ok(match does {
+        Does::Insert(cause, at, bytes) => Kind::Insert {
+            cause: anchor(cause)?,
+            at,
+            looks: Looks::plain(),
+            bytes: Vec::from_slice(alloc, bytes)?,
+        },
+        Does::Delete(names) => Kind::Delete {
+            names: set_of(alloc, names)?,
+        },
+    })
+}
+
+pub(super) fn op_of(alloc: Global, (number, seq, stamp, does): Told) -> Result<Op, Fail> {
+    let text = TextNo::new(1).ok_or("a text")?;
+    let kind = kind_of(alloc, does)?;
+    Ok(Op::new(text, site(number)?, seq, stamp, kind).ok_or("an operation")?)
+}
+
+// Whether the operation begins where its site's file is so long.
+fn begins(op: &Op, len: u32) -> bool
+    ensures { IsTrue result ↔ Begins op.now.kind len }
+{
+    match op.kind() {
+        Kind::Insert { at, .. } => *at == len,
+        Kind::Delete { .. } | Kind::Restore { .. } | Kind::ChangeLooks { .. } => true,
+    }
+}
+
+// Takes the operation in, if it is its site's next.
+fn take(log: &mut Log, op: Op) -> Result<(), Fail> {
+    let next = u64::from(log.front(op.site())) + 1;
+    if u64::from(op.seq()) != next || !begins(&op, log.file_len(op.site())) {
+        return Err("not the next operation".into());
+    }
+    log.reserve(op.site())?;
+    log.push(op);
+    Ok(())
+}
+
+pub(super) fn log_of(alloc: Global, told: &[Told]) -> Result<Log, Fail> {
+    let mut log = Log::new(alloc);
+    for fields in told {
+        take(&mut log, op_of(alloc, *fields)?)?;
+    }
+    Ok(log)
+}

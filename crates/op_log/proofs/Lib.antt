@@ -1,0 +1,7 @@
+pub mod Files
+pub mod Finding
+pub mod Lists
+pub mod Logged
+pub mod Pushed
+pub mod Rooms
+pub mod Sites

@@ -1,0 +1,128 @@
+-- The sites that have operations, by the first operation of each.
+use Rattle.std.proofs.Common.{◌≡◌, ℕ, zero, suc, ◌<◌, ◌↔◌, ◌⊎◌, true, inl, inr, false, eqb, List, [], ◌∷◌, map}
+use Rattle.std.proofs.Common.{AllPairs, Contains, IsPermutation, get_or, refl, sym, ap, subst, ◌∙◌, eq-eqb, arith}
+use Rattle.std.specs.List.{IsDistinct}
+use Rattle.std.specs.List.Sorted.{IsNonDecreasing}
+use Rattle.std.proofs.lemmas.Bool.{cases_Bool, cases_eq, cond-true, cond-false, eqb-true, ne_eqb, both_ways}
+use Rattle.std.proofs.lemmas.List.Elements.{Contains-get_or, recursion_from_All}
+use Rattle.std.proofs.lemmas.List.Kept.{AllPairs-from_increasing}
+use Rattle.std.proofs.lemmas.List.Sorted.{Contains-permutation, IsPermutation-sym}
+use Rattle.std.proofs.lemmas.Map.Keys.{IsDistinct-cons, IsDistinct-IsPermutation, IsStrictlyIncreasing-from_distinct}
+use Rattle.operations.specs.Operation.{Operation}
+use Rattle.set_laws.specs.Fronts.{front_of}
+use Rattle.set_laws.specs.Sets.{AreHeldToTheFront}
+use Rattle.op_log.specs.Logged.{first_sites}
+use Rattle.op_log.proofs.Files.{head_in, tail_in, cons_cases, up_to_front}
+
+-- each operation has an identity of its own
+abbrev pub AreOnce : List Operation → Type 0
+AreOnce ops = AllPairs (λ (a b : Operation). a.site ≡ b.site → a.seq ≡ b.seq → ⊥) ops
+
+with_first : (o : Operation) (ops : List Operation) → eqb o.seq 1 ≡ true
+    → first_sites (o ∷ ops) ≡ o.site ∷ first_sites ops
+with_first o ops e = ap (map (λ (x : Operation). x.site)) (cond-true _ _ _ e)
+
+without_other : (o : Operation) (ops : List Operation) → eqb o.seq 1 ≡ false
+    → first_sites (o ∷ ops) ≡ first_sites ops
+without_other o ops e = ap (map (λ (x : Operation). x.site)) (cond-false _ _ _ e)
+
+site_first : (s : ℕ) (sites : List ℕ) → Contains (s ∷ sites) s
+site_first s sites = (0, omega arith, refl)
+
+site_behind : (s : ℕ) (sites : List ℕ) (x : ℕ) → Contains sites x → Contains (s ∷ sites) x
+site_behind s sites x (k, lt, is) = (suc k, omega arith, is)
+
+site_cases : (s : ℕ) (sites : List ℕ) (x : ℕ) → Contains (s ∷ sites) x → (s ≡ x) ⊎ Contains sites x
+site_cases s sites x (zero, lt, is) = inl is
+site_cases s sites x (suc k, lt, is) = inr (k, omega arith, is)
+
+-- such a site has a first operation
+told_by_first : (ops : List Operation) (site : ℕ) → Contains (first_sites ops) site
+    → (op : Operation) × Contains ops op × (op.site ≡ site) × (op.seq ≡ 1)
+told_by_first [] site (k, lt, is) = absurd (omega arith)
+told_by_first (o ∷ ops) site h =
+    elim (cases_Bool (eqb o.seq 1)) [
+      | inl e ↦
+          elim (site_cases o.site (first_sites ops) site
+          (subst (λ (xs : List ℕ). Contains xs site) (with_first o ops e) h)) [
+            | inl is ↦ (o, head_in o ops, is, eqb-true _ _ e)
+            | inr behind ↦ let (op, held, on, at) = told_by_first ops site behind in
+                (op, tail_in o ops op held, on, at)
+          ]
+      | inr e ↦
+          let (op, held, on, at) =
+          told_by_first ops site (subst (λ (xs : List ℕ). Contains xs site) (without_other o ops e) h) in
+          (op, tail_in o ops op held, on, at)
+    ]
+
+-- and a first operation's site is one of them
+first_told : (ops : List Operation) (op : Operation) → Contains ops op → op.seq ≡ 1
+    → Contains (first_sites ops) op.site
+first_told [] op (k, lt, is) at = absurd (omega arith)
+first_told (o ∷ ops) op held at =
+    elim (cases_Bool (eqb o.seq 1)) [
+      | inl e ↦
+          subst (λ (xs : List ℕ). Contains xs op.site) (sym (with_first o ops e))
+          (elim (cons_cases o ops op held) [
+            | inl is ↦
+                subst (Contains (o.site ∷ first_sites ops)) (ap (λ (x : Operation). x.site) is)
+                (site_first o.site (first_sites ops))
+            | inr behind ↦ site_behind o.site (first_sites ops) op.site (first_told ops op behind at)
+          ])
+      | inr e ↦
+          subst (λ (xs : List ℕ). Contains xs op.site) (sym (without_other o ops e))
+          (elim (cons_cases o ops op held) [
+            | inl is ↦
+                absurd (both_ways _ e (eq-eqb _ _ (ap (λ (x : Operation). x.seq) is ∙ at)))
+            | inr behind ↦ first_told ops op behind at
+          ])
+    ]
+
+-- it is the site of no operation behind
+apart : (o : Operation) (ops : List Operation) → AreOnce (o ∷ ops) → o.seq ≡ 1 → (site : ℕ)
+    → Contains (first_sites ops) site → eqb o.site site ≡ false
+apart o ops once at site h =
+    ne_eqb o.site site (λ on.
+    let (op, held, there, first) = told_by_first ops site h in
+    let (j, lt, is) = held in
+    once 0 (suc j) op (omega arith) (omega arith) (on ∙ sym there ∙ ap (λ (x : Operation). x.site) (sym is))
+    (at ∙ sym first ∙ ap (λ (x : Operation). x.seq) (sym is)))
+
+-- each site stands there once
+distinct : (ops : List Operation) → AreOnce ops → IsDistinct eqb (first_sites ops)
+unfolding IsDistinct
+distinct [] once = tt
+distinct (o ∷ ops) once =
+    let rest : AreOnce ops = λ i j d less lt. once (suc i) (suc j) d (omega arith) (omega arith) in
+    elim (cases_Bool (eqb o.seq 1)) [
+      | inr e ↦ subst (IsDistinct eqb) (sym (without_other o ops e)) (distinct ops rest)
+      | inl e ↦ subst (IsDistinct eqb) (sym (with_first o ops e))
+          (IsDistinct-cons eqb o.site (first_sites ops) (recursion_from_All (λ (s : ℕ). eqb o.site s ≡ false)
+          (first_sites ops) (λ k d lt. apart o ops once (eqb-true _ _ e) (get_or (first_sites ops) k d)
+          (Contains-get_or (first_sites ops) k d lt))) (distinct ops rest))
+    ]
+
+eqb_flips : (x y : ℕ) → eqb x y ≡ eqb y x
+eqb_flips x y =
+    elim (cases_eq x y) [
+      | inl is ↦ eq-eqb x y is ∙ sym (eq-eqb y x (sym is))
+      | inr apart ↦ ne_eqb x y apart ∙ sym (ne_eqb y x (λ is. apart (sym is)))
+    ]
+
+module _ (ops : List Operation) (sites : List ℕ) (perm : IsPermutation (first_sites ops) sites) where
+  -- sorted, they rise
+  pub sites_rise : AreOnce ops → IsNonDecreasing sites → AllPairs (λ (a b : ℕ). a < b) sites
+  sites_rise once sorted =
+      AllPairs-from_increasing sites (IsStrictlyIncreasing-from_distinct sites sorted
+      (IsDistinct-IsPermutation eqb eqb_flips (first_sites ops) sites perm (distinct ops once)))
+
+  -- and are those that have a front above 0
+  pub sites_told : AreHeldToTheFront ops → (site : ℕ) → Contains sites site ↔ (0 < front_of ops site)
+  sites_told held site = (
+    λ h. let (op, here, on, at) = told_by_first ops site
+        (Contains-permutation sites (first_sites ops) site (IsPermutation-sym (first_sites ops) sites perm) h) in
+        let le = up_to_front ops op site here on in omega arith,
+    λ some. let (op, here, on, at) = (held site 1).1 (omega arith, omega arith) in
+        Contains-permutation (first_sites ops) sites site perm
+        (subst (Contains (first_sites ops)) on (first_told ops op here at)),
+  )

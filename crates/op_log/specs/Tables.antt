@@ -1,0 +1,39 @@
+-- The tables that say where a site's operations stand.
+use Rattle.std.specs.Prelude.{◌≡◌, ℕ, ◌-◌, ◌<◌, ◌≤◌, nat_eq, List, [], length, map, slice_get, Some}
+use Rattle.std.specs.Option.{option_map_or}
+use Rattle.std.specs.Map.{lookup}
+use Rattle.op_log.specs.declared.site_log.Entry.{Entry}
+
+-- what is known of a site: its operations by their numbers, its greatest stamp, and how many operations more
+-- take no memory
+pub record SiteSeen : Type 0 where
+  pub entries : List Entry
+  pub stamp : ℕ
+  pub room : ℕ
+
+-- how long the site's file is behind the last entry
+abbrev pub end_of : List Entry → ℕ
+end_of entries = option_map_or (λ e. e.end) (slice_get entries (length entries - 1)) 0
+
+-- the first entry whose operation ends its site's file behind the offset
+pub record IsFirstPast (entries : List Entry) (off : ℕ) (e : Entry) : Type 0 where
+  pub at : ℕ
+  pub there : slice_get entries at ≡ Some e
+  pub past : off < e.end
+  pub ahead : (k : ℕ) (d : Entry) → k < at → slice_get entries k ≡ Some d → d.end ≤ off
+
+-- tables by their sites' numbers
+abbrev pub Tables : Type 0
+Tables = List (ℕ × SiteSeen)
+
+-- nothing is known of a site
+abbrev pub unknown : SiteSeen
+unknown = record { entries = []; stamp = 0; room = 0 }
+
+-- a site's table; an empty one where there is none
+abbrev pub table_of : Tables → ℕ → SiteSeen
+table_of tables site = option_map_or (λ t. t) (lookup (nat_eq site) tables) unknown
+
+-- how many operations more of each site take no memory
+abbrev pub rooms_of : Tables → List (ℕ × ℕ)
+rooms_of tables = map (λ t. (t.0, t.1.room)) tables

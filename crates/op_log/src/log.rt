@@ -1,0 +1,206 @@
+ghost use Rattle.std.specs.Prelude.{◌≡◌, ℕ, ◌+◌, ◌<◌, ◌≤◌, ◌↔◌, [], ◌∷◌, ◌++◌, length, IfSome, IsSome, OnOk};
+ghost use Rattle.std.specs.Prelude.{◌≢◌, AllPairs, Contains, IfOk};
+ghost use Rattle.looks.specs.Refusal.{RefusedForMemoryAlone};
+ghost use Rattle.operations.specs.Operation.{Operation, appended_len};
+ghost use Rattle.tree_order.specs.Good.{Begins};
+ghost use Rattle.tree_order.specs.Tree.{IsInsertOf};
+ghost use Rattle.set_laws.specs.Fronts.{front_of, file_len, greatest_stamp, greatest_stamp_of};
+ghost use Rattle.set_laws.specs.Fronts.{IsHeld, IsHere};
+ghost use Rattle.set_laws.specs.Sets.{AreIdentified, AreHeldToTheFront};
+ghost use Rattle.op_log.specs.Seen.{HasRoom};
+ghost use Rattle.op_log.specs.Logged.{first_sites};
+
+use crate::site_log::Entry;
+use crate::site_tables::SiteTables;
+use char_files::{MAX_FILE, Name, SiteNo};
+use looks::Refusal;
+use operations::{Kind, MAX_INSERT, MAX_STAMP, Op};
+use std::alloc::Global;
+use std::marker::Model;
+
+/// The operations that a replica has taken in, each found by its identity at once. This project's own.
+///
+/// Of each site they are those from 1 up to its front, each once.
+#[derive(Drop)]
+pub struct Log {
+    // In the order of their taking.
+    ops: Vec<Op>,
+    sites: SiteTables,
+    // The greatest stamp.
+    stamp: u64,
+}
+
+impl Model for Log {
+    ghost use Rattle.std.specs.Prelude.{◌-◌, vec_len, vec_capacity};
+    ghost use Rattle.op_log.specs.Seen.{LogSeen};
+    ghost use Rattle.op_log.specs.Tables.{rooms_of};
+    ghost use Rattle.op_log.specs.Logged.{AreLogged};
+
+    ghost Value = { LogSeen };
+
+    ghost view = { λ l. record {
+      ops = l.ops.items;
+      room = vec_capacity l.ops - vec_len l.ops;
+      rooms = rooms_of l.sites;
+    } };
+
+    ghost invariant = { λ l. AreLogged l.ops.items l.sites l.stamp };
+}
+
+// How many bytes an operation appends to its site's file.
+fn appended_bytes(op: &Op) -> u32
+    ensures value { result ≡ appended_len op.now.kind }
+    ensures few { result ≤ MAX_INSERT }
+{
+    op.has_spelling();
+    match op.kind() {
+        Kind::Insert { bytes, .. } => bytes.len() as u32,
+        Kind::Delete { .. } | Kind::Restore { .. } | Kind::ChangeLooks { .. } => 0,
+    }
+}
+
+// The sites of the operations that are the first of theirs. Refused `OutOfMemory` alone.
+fn first_sites(alloc: Global, ops: &[Op]) -> Result<Vec<SiteNo>, Refusal>
+    ensures ok { IfOk result (λ sites. sites.items ≡ first_sites ops.now) }
+    ensures errors { RefusedForMemoryAlone result }
+{
+    let firsts = ops.iter().filter(|op| op.seq() == 1);
+    Ok(firsts.map(|op| op.site()).collect(alloc)?)
+}
+
+impl Log {
+    /// No operations.
+    pub fn new(alloc: Global) -> Log
+        ensures { result.ops ≡ [] }
+    {
+        Log {
+            ops: Vec::new(alloc),
+            sites: SiteTables::new(alloc),
+            stamp: 0,
+        }
+    }
+
+    /// How many operations there are.
+    pub fn len(&self) -> u64
+        ensures { result ≡ length self.now.ops }
+    {
+        self.ops.len() as u64
+    }
+
+    /// The operations in the order of their taking.
+    pub fn ops(&self) -> &[Op]
+        ensures { result.now ≡ self.now.ops }
+    {
+        self.ops.as_slice()
+    }
+
+    /// The operation of this identity, if it is held. It reads one entry of a table.
+    pub fn get(&self, site: SiteNo, seq: u32) -> Option<&Op>
+        ensures here { IsSome result ↔ IsHeld self.now.ops site seq }
+        ensures value { IfSome result (λ op.
+            Contains self.now.ops op.now × (op.now.site ≡ site) × (op.now.seq ≡ seq)) }
+    {
+        match self.sites.index(site, seq) {
+            Some(index) => Some(&self.ops[index]),
+            None => None,
+        }
+    }
+
+    /// The front of a site: the greatest seq of its operations, 0 for none.
+    pub fn front(&self, site: SiteNo) -> u32
+        ensures { result ≡ front_of self.now.ops site }
+    {
+        self.sites.front(site)
+    }
+
+    /// How long a site's file is by what its Inserts append, at most 2^24.
+    pub fn file_len(&self, site: SiteNo) -> u32
+        ensures value { result ≡ file_len self.now.ops site }
+        ensures bound { result ≤ MAX_FILE }
+    {
+        self.sites.file_len(site)
+    }
+
+    /// The greatest stamp of a site's operations, 0 for none.
+    pub fn site_stamp(&self, site: SiteNo) -> u64
+        ensures value { result ≡ greatest_stamp_of self.now.ops site }
+        ensures bound { result ≤ MAX_STAMP }
+    {
+        self.sites.stamp(site)
+    }
+
+    /// The greatest stamp of all operations, 0 for none.
+    pub fn stamp(&self) -> u64
+        ensures value { result ≡ greatest_stamp self.now.ops }
+        ensures bound { result ≤ MAX_STAMP }
+    {
+        self.stamp
+    }
+
+    /// The stamp of the Insert of a name that is here. The time grows as the logarithm of how many
+    /// operations the name's site has.
+    pub fn name_stamp(&self, name: Name) -> u64
+        requires { IsHere self.now.ops name }
+        ensures found { (i : Operation) × IsInsertOf self.now.ops name i × (result ≡ i.stamp) }
+        ensures only { (i : Operation) → IsInsertOf self.now.ops name i → result ≡ i.stamp }
+    {
+        let entry = self.sites.find(name);
+        self.ops[entry.index].stamp()
+    }
+
+    /// The sites that have operations, ascending. The time grows with the number of operations. Refused
+    /// `OutOfMemory` alone.
+    pub fn sites(&self) -> Result<Vec<SiteNo>, Refusal>
+        ensures all { IfOk result (λ sites. (site : ℕ) →
+            Contains sites.items site ↔ (0 < front_of self.now.ops site)) }
+        ensures rising { IfOk result (λ sites. AllPairs (λ a b. a < b) sites.items) }
+        ensures errors { RefusedForMemoryAlone result }
+    {
+        let mut sites = first_sites(*self.ops.allocator(), &self.ops)?;
+        sites.sort_unstable_by_key(|site| site.get());
+        Ok(sites)
+    }
+
+    /// A law: of each site the operations are those from 1 up to its front, each once. A proof gets it by
+    /// calling this, at no cost.
+    pub fn are_held_to_the_front(&self)
+        ensures held { AreHeldToTheFront self.now.ops }
+        ensures identified { AreIdentified self.now.ops }
+        ensures once { AllPairs (λ a b. a ≢ b) self.now.ops }
+    {
+        let _ = &self.ops;
+    }
+
+    /// Makes room for one operation more of this site: the next push of one takes no memory.
+    ///
+    /// Refused `OutOfMemory` alone. The operations stay in either case.
+    pub fn reserve(&mut self, site: SiteNo) -> Result<(), Refusal>
+        ensures ok { OnOk result (HasRoom self.new site) }
+        ensures errors { RefusedForMemoryAlone result }
+        ensures ops { self.new.ops ≡ self.old.ops }
+    {
+        self.ops.reserve(1)?;
+        self.sites.reserve(site)
+    }
+
+    /// Takes in its site's next operation, for which there is room. An Insert begins where its site's file
+    /// ends.
+    pub fn push(&mut self, op: Op)
+        requires reserved { HasRoom self.old op.site }
+        requires next { op.seq ≡ front_of self.old.ops op.site + 1 }
+        requires begins { Begins op.kind (file_len self.old.ops op.site) }
+        ensures { self.new.ops ≡ self.old.ops ++ op ∷ [] }
+    {
+        op.has_spelling();
+        let (site, stamp) = (op.site(), op.stamp());
+        let entry = Entry {
+            index: self.ops.len(),
+            end: self.sites.file_len(site) + appended_bytes(&op),
+        };
+        if self.ops.push(op).is_err() {
+            unreachable!();
+        }
+        self.sites.push(site, entry, stamp);
+        self.stamp = stamp.max(self.stamp);
+    }
+}

@@ -1,0 +1,133 @@
+ghost use Rattle.std.specs.Prelude.{◌≡◌, ◌+◌, ◌-◌, ◌<◌, ◌≤◌, ◌^◌, [], ◌∷◌, ◌++◌, length, max, slice_get, OnOk};
+ghost use Rattle.std.specs.Prelude.{None as Nothing};
+ghost use Rattle.std.specs.Option.{option_map};
+ghost use Rattle.std.specs.List.Sorted.{IsNonDecreasingBy};
+ghost use Rattle.looks.specs.Refusal.{RefusedForMemoryAlone};
+ghost use Rattle.op_log.specs.Tables.{end_of, IsFirstPast};
+
+use char_files::MAX_FILE;
+use looks::Refusal;
+use operations::MAX_STAMP;
+use std::alloc::Global;
+use std::marker::Model;
+
+// Where an operation stands in the list of all, and where its site's file ends behind it.
+#[derive(Clone, Copy)]
+pub(crate) struct Entry {
+    pub(crate) index: usize,
+    pub(crate) end: u32,
+}
+
+// What is known of a site: its operations by their numbers, from 1 on, and its greatest stamp.
+#[derive(Drop)]
+pub(crate) struct SiteLog {
+    entries: Vec<Entry>,
+    stamp: u64,
+}
+
+impl Model for SiteLog {
+    ghost use Rattle.std.specs.Prelude.{◌<◌, ◌≤◌, ◌-◌, ◌^◌, vec_len, vec_capacity};
+    ghost use Rattle.char_files.specs.declared.TheConstants.{MAX_FILE};
+    ghost use Rattle.operations.specs.declared.op.TheConstants.{MAX_STAMP};
+    ghost use Rattle.op_log.specs.Tables.{SiteSeen, end_of};
+
+    ghost Value = { SiteSeen };
+
+    ghost view = { λ l. record {
+      entries = l.entries.items;
+      stamp = l.stamp;
+      room = vec_capacity l.entries - vec_len l.entries;
+    } };
+
+    ghost invariant = { λ l. (vec_len l.entries < 2 ^ 32) × (end_of l.entries.items ≤ MAX_FILE)
+        × (l.stamp ≤ MAX_STAMP) };
+}
+
+impl SiteLog {
+    // Nothing is known.
+    pub(crate) fn new(alloc: Global) -> SiteLog
+        ensures entries { result.entries ≡ [] }
+        ensures stamp { result.stamp ≡ 0 }
+    {
+        SiteLog {
+            entries: Vec::new(alloc),
+            stamp: 0,
+        }
+    }
+
+    // The number of the site's last operation.
+    pub(crate) fn front(&self) -> u32
+        ensures { result ≡ length self.now.entries }
+    {
+        self.entries.len() as u32
+    }
+
+    // How long the site's file is.
+    pub(crate) fn file_len(&self) -> u32
+        ensures value { result ≡ end_of self.now.entries }
+        ensures bound { result ≤ MAX_FILE }
+    {
+        match self.entries.last() {
+            Some(entry) => entry.end,
+            None => 0,
+        }
+    }
+
+    // The site's greatest stamp.
+    pub(crate) fn stamp(&self) -> u64
+        ensures value { result ≡ self.now.stamp }
+        ensures bound { result ≤ MAX_STAMP }
+    {
+        self.stamp
+    }
+
+    // Where the operation of this number stands in the list of all.
+    pub(crate) fn index(&self, seq: u32) -> Option<usize>
+        ensures none { seq ≡ 0 → result ≡ Nothing }
+        ensures value { 0 < seq → result ≡ option_map (λ e. e.index) (slice_get self.now.entries (seq - 1)) }
+    {
+        if seq == 0 {
+            return None;
+        }
+        match self.entries.get(seq as usize - 1) {
+            Some(entry) => Some(entry.index),
+            None => None,
+        }
+    }
+
+    // The first operation behind which the site's file is longer than this.
+    pub(crate) fn find(&self, off: u32) -> Entry
+        requires rising { IsNonDecreasingBy (λ e. e.end) self.now.entries }
+        requires within { off < end_of self.now.entries }
+        ensures { IsFirstPast self.now.entries off result }
+    {
+        let at = self.entries.partition_point(|entry| entry.end <= off);
+        self.entries[at]
+    }
+
+    // Makes room for one operation more. Refused `OutOfMemory` alone.
+    pub(crate) fn reserve(&mut self) -> Result<(), Refusal>
+        ensures ok { OnOk result (0 < self.new.room) }
+        ensures errors { RefusedForMemoryAlone result }
+        ensures entries { self.new.entries ≡ self.old.entries }
+        ensures stamp { self.new.stamp ≡ self.old.stamp }
+    {
+        self.entries.reserve(1)?;
+        Ok(())
+    }
+
+    // Enters the next operation.
+    pub(crate) fn push(&mut self, entry: Entry, stamp: u64)
+        requires room { 0 < self.old.room }
+        requires few { length self.old.entries + 1 < 2 ^ 32 }
+        requires end { entry.end ≤ MAX_FILE }
+        requires stamp { stamp ≤ MAX_STAMP }
+        ensures entries { self.new.entries ≡ self.old.entries ++ entry ∷ [] }
+        ensures stamp { self.new.stamp ≡ max stamp self.old.stamp }
+    {
+        if self.entries.push(entry).is_err() {
+            unreachable!();
+        }
+        self.stamp = stamp.max(self.stamp);
+    }
+}

@@ -1,0 +1,131 @@
+ghost use Rattle.std.specs.Prelude.{◌≡◌, ◌≢◌, ℕ, ◌+◌, ◌-◌, ◌<◌, ◌≤◌, ◌^◌, [], ◌∷◌, ◌++◌, length, max, slice_get};
+ghost use Rattle.std.specs.Prelude.{OnOk, None as Nothing};
+ghost use Rattle.std.specs.Option.{option_map};
+ghost use Rattle.std.specs.List.Sorted.{IsNonDecreasingBy};
+ghost use Rattle.looks.specs.Refusal.{RefusedForMemoryAlone};
+ghost use Rattle.op_log.specs.Tables.{end_of, table_of, IsFirstPast};
+
+use crate::site_log::{Entry, SiteLog};
+use char_files::{MAX_FILE, Name, SiteNo};
+use indexmap::IndexMap;
+use looks::Refusal;
+use operations::MAX_STAMP;
+use std::alloc::Global;
+use std::marker::Model;
+
+// A table for each site.
+#[derive(Drop)]
+pub(crate) struct SiteTables {
+    // By the sites' numbers.
+    sites: IndexMap<u16, SiteLog>,
+    alloc: Global,
+}
+
+impl Model for SiteTables {
+    ghost use Rattle.op_log.specs.Tables.{Tables};
+
+    ghost Value = { Tables };
+
+    ghost view = { λ t. t.sites.entries };
+}
+
+impl SiteTables {
+    // No site is known.
+    pub(crate) fn new(alloc: Global) -> SiteTables
+        ensures { result ≡ [] }
+    {
+        SiteTables {
+            sites: IndexMap::new(alloc),
+            alloc,
+        }
+    }
+
+    // The number of the site's last operation; 0 where there is none.
+    pub(crate) fn front(&self, site: SiteNo) -> u32
+        ensures { result ≡ length (table_of self.now site).entries }
+    {
+        match self.sites.get(&site.get()) {
+            Some(table) => table.front(),
+            None => 0,
+        }
+    }
+
+    // How long the site's file is.
+    pub(crate) fn file_len(&self, site: SiteNo) -> u32
+        ensures value { result ≡ end_of (table_of self.now site).entries }
+        ensures bound { result ≤ MAX_FILE }
+    {
+        match self.sites.get(&site.get()) {
+            Some(table) => table.file_len(),
+            None => 0,
+        }
+    }
+
+    // The site's greatest stamp; 0 where there is none.
+    pub(crate) fn stamp(&self, site: SiteNo) -> u64
+        ensures value { result ≡ (table_of self.now site).stamp }
+        ensures bound { result ≤ MAX_STAMP }
+    {
+        match self.sites.get(&site.get()) {
+            Some(table) => table.stamp(),
+            None => 0,
+        }
+    }
+
+    // Where the site's operation of this number stands in the list of all.
+    pub(crate) fn index(&self, site: SiteNo, seq: u32) -> Option<usize>
+        ensures none { seq ≡ 0 → result ≡ Nothing }
+        ensures value { 0 < seq → result
+            ≡ option_map (λ e. e.index) (slice_get (table_of self.now site).entries (seq - 1)) }
+    {
+        match self.sites.get(&site.get()) {
+            Some(table) => table.index(seq),
+            None => None,
+        }
+    }
+
+    // The first operation of the name's site behind which that one's file has the name.
+    pub(crate) fn find(&self, name: Name) -> Entry
+        requires rising { IsNonDecreasingBy (λ e. e.end) (table_of self.now name.site).entries }
+        requires within { name.off < end_of (table_of self.now name.site).entries }
+        ensures { IsFirstPast (table_of self.now name.site).entries name.off result }
+    {
+        match self.sites.get(&name.site().get()) {
+            Some(table) => table.find(name.off()),
+            None => unreachable!(),
+        }
+    }
+
+    // Makes room for one operation more of this site. Refused `OutOfMemory` alone. What is known stays in
+    // either case.
+    pub(crate) fn reserve(&mut self, site: SiteNo) -> Result<(), Refusal>
+        ensures ok { OnOk result (0 < (table_of self.new site).room) }
+        ensures errors { RefusedForMemoryAlone result }
+        ensures entries { (other : ℕ) → (table_of self.new other).entries ≡ (table_of self.old other).entries }
+        ensures stamps { (other : ℕ) → (table_of self.new other).stamp ≡ (table_of self.old other).stamp }
+    {
+        if let Some(table) = self.sites.get_mut(&site.get()) {
+            return table.reserve();
+        }
+        let mut table = SiteLog::new(self.alloc);
+        table.reserve()?;
+        self.sites.insert(site.get(), table)?;
+        Ok(())
+    }
+
+    // Enters the site's next operation, for which there is room.
+    pub(crate) fn push(&mut self, site: SiteNo, entry: Entry, stamp: u64)
+        requires room { 0 < (table_of self.old site).room }
+        requires few { length (table_of self.old site).entries + 1 < 2 ^ 32 }
+        requires end { entry.end ≤ MAX_FILE }
+        requires stamp { stamp ≤ MAX_STAMP }
+        ensures entries { (table_of self.new site).entries ≡ (table_of self.old site).entries ++ entry ∷ [] }
+        ensures stamp { (table_of self.new site).stamp ≡ max stamp (table_of self.old site).stamp }
+        ensures others { (other : ℕ) → other ≢ site → table_of self.new other ≡ table_of self.old other }
+    {
+        match self.sites.get_mut(&site.get()) {
+            Some(table) => table.push(entry, stamp),
+            None => unreachable!(),
+        }
+    }
+}

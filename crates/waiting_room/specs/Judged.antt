@@ -1,0 +1,36 @@
+-- What the parts of a verdict ask, and the verdict that the code gives.
+use Rattle.std.specs.Prelude.{◌≡◌, ℕ, ◌<◌, List, Contains}
+use Rattle.char_files.specs.CharName.{CharName}
+use Rattle.operations.specs.Operation.{Operation, Mentions}
+use Rattle.tree_order.specs.Good.{IsPredecessor}
+use Rattle.tree_order.specs.Tree.{IsInsertOf}
+use Rattle.set_laws.specs.Fronts.{IsHere}
+use Rattle.set_laws.specs.Verdict as defined
+use Rattle.waiting_room.specs.declared.judging.Verdict.{Verdict}
+use Rattle.waiting_room.specs.declared.judging.Verdict.TheVariants.{Wait, BadOffset, BadStamp, Ready}
+
+-- a verdict of the code, as the definition has it
+abbrev pub verdict_of : Verdict → defined.Verdict
+verdict_of Wait = defined.wait
+verdict_of BadOffset = defined.bad_offset
+verdict_of BadStamp = defined.bad_stamp
+verdict_of Ready = defined.ready
+
+-- own names that are mentioned stand below this end of the site's file
+abbrev pub HasOwnNamesBelow : Operation → ℕ → Type 0
+HasOwnNamesBelow op end =
+    (name : CharName) → Mentions op name → name.site ≡ op.site → name.off < end
+
+-- the name is here, and an Insert of it has a lower stamp
+abbrev pub HasLowerInsert : List Operation → ℕ → CharName → Type 0
+HasLowerInsert ops stamp name =
+    IsHere ops name × ((i : Operation) × IsInsertOf ops name i × (i.stamp < stamp))
+
+-- so it is with each name that is mentioned
+abbrev pub IsAboveInserts : List Operation → Operation → Type 0
+IsAboveInserts ops op = (name : CharName) → Mentions op name → HasLowerInsert ops op.stamp name
+
+-- the operation is its site's first, or a predecessor of lower stamp is held
+abbrev pub IsAbovePredecessor : List Operation → Operation → Type 0
+IsAbovePredecessor ops op =
+    1 < op.seq → (p : Operation) × Contains ops p × IsPredecessor p op × (p.stamp < op.stamp)

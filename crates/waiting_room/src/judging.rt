@@ -1,0 +1,137 @@
+ghost use Rattle.std.specs.Prelude.{◌≡◌, ℕ, ◌<◌, ◌↔◌, IsTrue};
+ghost use Rattle.char_files.specs.CharName.{CharName};
+ghost use Rattle.operations.specs.Operation.{Operation, Mentions};
+ghost use Rattle.tree_order.specs.Good.{Begins};
+ghost use Rattle.set_laws.specs.Fronts.{IsHere};
+ghost use Rattle.set_laws.specs.Verdict.{IsNew, FollowsOn, IsPlaced, HasForeignNames, IsAboveCauses, HasVerdict};
+ghost use Rattle.waiting_room.specs.Judged.{verdict_of, HasOwnNamesBelow, HasLowerInsert, IsAboveInserts};
+ghost use Rattle.waiting_room.specs.Judged.{IsAbovePredecessor};
+
+use crate::held::Held;
+use char_files::Name;
+use operations::{Kind, Op, named};
+use set_laws::growing::{counts_tell_what_is_here, one_stamp_a_name_is_enough};
+
+/// What becomes of an operation that is handed in. This project's own.
+#[derive(Clone, Copy, Debug, PartialEq, Eq)]
+pub enum Verdict {
+    /// It waits for its predecessor, or for the Insert of another site's name.
+    Wait,
+    /// It is refused: its offset isn't the end of its site's file, or it names an own character behind that
+    /// end (refusal 4).
+    BadOffset,
+    /// It is refused: its stamp isn't above each cause's (refusal 5).
+    BadStamp,
+    /// It may be taken in.
+    Ready,
+}
+
+// Whether the operation's predecessor is held, if it needs one.
+fn follows_on<H: Held>(op: &Op, held: &H) -> bool
+    requires { IsNew (H.ops held.now) op.now }
+    ensures { IsTrue result ↔ FollowsOn (H.ops held.now) op.now }
+{
+    held.are_good();
+    counts_tell_what_is_here();
+    op.seq() - 1 <= held.front(op.site())
+}
+
+// Whether an Insert says this length of its site's file; the other kinds say none.
+fn begins(op: &Op, len: u32) -> bool
+    ensures { IsTrue result ↔ Begins op.now.kind len }
+{
+    match op.kind() {
+        Kind::Insert { at, .. } => *at == len,
+        Kind::Delete { .. } | Kind::Restore { .. } | Kind::ChangeLooks { .. } => true,
+    }
+}
+
+// Whether the names of its own site that the operation mentions stand below this end of its file.
+fn has_own_names_below(op: &Op, len: u32) -> bool
+    ensures { IsTrue result ↔ HasOwnNamesBelow op.now len }
+{
+    named(op).all(|name| name.site() != op.site() || name.off() < len)
+}
+
+// Whether what the operation says of its own site's file is so.
+fn is_placed<H: Held>(op: &Op, held: &H) -> bool
+    ensures { IsTrue result ↔ IsPlaced (H.ops held.now) op.now }
+{
+    let len = held.file_len(op.site());
+    begins(op, len) && has_own_names_below(op, len)
+}
+
+// Whether the name's Insert is held.
+fn is_here<H: Held>(name: Name, held: &H) -> bool
+    ensures { IsTrue result ↔ IsHere (H.ops held.now) name }
+{
+    name.off() < held.file_len(name.site())
+}
+
+// Whether the names of other sites that the operation mentions are here.
+fn has_foreign_names<H: Held>(op: &Op, held: &H) -> bool
+    ensures { IsTrue result ↔ HasForeignNames (H.ops held.now) op.now }
+{
+    named(op).all(|name| name.site() == op.site() || is_here(name, held))
+}
+
+// Whether the name is here, and its Insert's stamp is lower.
+fn has_lower_insert<H: Held>(name: Name, stamp: u64, held: &H) -> bool
+    ensures { IsTrue result ↔ HasLowerInsert (H.ops held.now) stamp name }
+{
+    is_here(name, held) && held.name_stamp(name) < stamp
+}
+
+// Whether the names that the operation mentions are here, and their Inserts' stamps are lower.
+fn is_above_inserts<H: Held>(op: &Op, held: &H) -> bool
+    ensures { IsTrue result ↔ IsAboveInserts (H.ops held.now) op.now }
+{
+    let stamp = op.stamp();
+    named(op).all(|name| has_lower_insert(name, stamp, held))
+}
+
+// Whether the stamp of the operation's predecessor is lower, if it has one.
+fn is_above_predecessor<H: Held>(op: &Op, held: &H) -> bool
+    requires new { IsNew (H.ops held.now) op.now }
+    requires follows { FollowsOn (H.ops held.now) op.now }
+    ensures { IsTrue result ↔ IsAbovePredecessor (H.ops held.now) op.now }
+{
+    op.seq() == 1 || held.op_stamp(op.site(), op.seq() - 1) < op.stamp()
+}
+
+// Whether the operation's stamp is above those of its causes.
+fn is_above_causes<H: Held>(op: &Op, held: &H) -> bool
+    requires new { IsNew (H.ops held.now) op.now }
+    requires follows { FollowsOn (H.ops held.now) op.now }
+    requires here { (name : CharName) → Mentions op.now name → IsHere (H.ops held.now) name }
+    ensures { IsTrue result ↔ IsAboveCauses (H.ops held.now) op.now }
+{
+    held.are_good();
+    counts_tell_what_is_here();
+    one_stamp_a_name_is_enough();
+    is_above_predecessor(op, held) && is_above_inserts(op, held)
+}
+
+/// The verdict on an operation whose identity isn't held.
+///
+/// It is asked in this order: whether its predecessor is held, else it waits; whether it begins at the end of
+/// its site's file, and its own names stand below that, else it is refused; whether the Inserts of other
+/// sites' names are held, else it waits; whether its stamp is above its causes', else it is refused.
+pub fn judge<H: Held>(op: &Op, held: &H) -> Verdict
+    requires { IsNew (H.ops held.now) op.now }
+    ensures { HasVerdict (H.ops held.now) op.now (verdict_of result) }
+{
+    if !follows_on(op, held) {
+        return Verdict::Wait;
+    }
+    if !is_placed(op, held) {
+        return Verdict::BadOffset;
+    }
+    if !has_foreign_names(op, held) {
+        return Verdict::Wait;
+    }
+    if !is_above_causes(op, held) {
+        return Verdict::BadStamp;
+    }
+    Verdict::Ready
+}
