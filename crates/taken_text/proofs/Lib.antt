@@ -1,0 +1,5 @@
+pub mod Bytes
+pub mod Nothing
+pub mod Ready
+pub mod Spelling
+pub mod Taking

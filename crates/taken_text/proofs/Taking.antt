@@ -1,0 +1,99 @@
+-- What an operation that is new and ready makes of what was taken in.
+use Rattle.std.proofs.Common.{◌≡◌, ℕ, List, [], ◌∷◌, ◌++◌, length, map, refl, sym, ap, subst, ◌∙◌, arith}
+use Rattle.std.specs.Prelude.{Result, Ok, Err, OnOk}
+use Rattle.looks.specs.declared.looks.Looks.{Looks}
+use Rattle.char_files.specs.CharFiles.{Files, bytes_of, OthersStay}
+use Rattle.char_files.specs.CharName.{CharName}
+use Rattle.char_files.specs.declared.name.Anchor.{Anchor}
+use Rattle.char_files.specs.declared.name.Anchor.TheVariants.{Root, At}
+use Rattle.operations.specs.NameSet.{Range, IsIn, IsAmong}
+use Rattle.operations.specs.Operation.{Operation, OpKind, insert, appended_len, InsertsBy, MentionsBy}
+use Rattle.tree_order.specs.Good.{Good, Begins, key_of}
+use Rattle.tree_order.specs.Insertion.{HasCauseBy}
+use Rattle.tree_order.specs.RegisterLaws.{InsertsNone, KeptAfter}
+use Rattle.tree_order.specs.Registers.{Kept, AreKept, kept_by, kept_after}
+use Rattle.set_laws.specs.Fronts.{file_len}
+use Rattle.set_laws.specs.Growing.{AreToldByCounts}
+use Rattle.set_laws.specs.Verdict.{HasVerdict, IsNew, ready}
+use Rattle.piece_list.specs.Laws.{IsRunOf, PieceIsFirstKept, PlacedIsKept}
+use Rattle.piece_list.specs.Pieces.{chars_of, piece_of}
+use Rattle.piece_list.specs.Placed.{IsPlaced}
+use Rattle.piece_list.specs.Placing.{HasAnchor}
+use Rattle.piece_list.specs.Spelled.{HasName, spelled}
+use Rattle.piece_list.specs.declared.piece.Piece.{Piece}
+use Rattle.piece_list.specs.declared.run.Run.{Run}
+use Rattle.taken_text.specs.Lower.{Lower}
+use Rattle.taken_text.specs.Taken.{IsTaken}
+use Rattle.taken_text.proofs.Bytes.{hold_more, hold_no_more}
+use Rattle.taken_text.proofs.Ready.{begins, behind_not_kept, counted, larger_good, larger_identified, mentioned_kept, one_more}
+
+-- what follows where there is a value
+pub on_ok : {X E : Type 0} (r : Result X E) (P Q : Type 0) → (P → Q) → OnOk r P → OnOk r Q
+on_ok (Ok x) P Q f h = f h
+on_ok (Err e) P Q f h = tt
+
+module _ (lower : Lower) (ops : List Operation) (op : Operation) (items : List (ℕ × Piece)) (files : Files) (taken : IsTaken ops items files) (new : IsNew ops op) (is : HasVerdict ops op ready) where
+  told : AreToldByCounts ops op
+  told = lower.told ops op taken.good taken.identified new
+
+  -- an Insert
+  module _ (cause : Anchor) (at : ℕ) (looks : Looks) (bytes : List ℕ) (kind : op.kind ≡ insert cause at looks bytes) where
+    -- begins at its site's file's end
+    at_end : at ≡ file_len ops op.site
+    at_end = subst (λ (k : OpKind). Begins k (file_len ops op.site)) kind (begins lower ops op taken.good taken.identified new is)
+
+    -- its cause is among the characters
+    pub cause_here : HasAnchor (spelled items) cause
+    cause_here = go cause kind
+      where
+        go : (a : Anchor) → op.kind ≡ insert a at looks bytes → HasAnchor (spelled items) a
+        go Root e = tt
+        go (At c) e = mentioned_kept lower ops op taken.good taken.identified new is (spelled items) taken.kept c (subst (λ (k : OpKind). MentionsBy k c) (sym e) refl)
+
+    -- its own aren't
+    pub names_new : (c : CharName) → IsIn (record { site = op.site; at = at; len = length bytes }) c → HasName (spelled items) c → ⊥
+    names_new c h =
+        let len : file_len ops c.site ≡ at = ap (file_len ops) h.0 ∙ sym at_end in
+        behind_not_kept lower ops op taken.good taken.identified new is (spelled items) taken.kept c (omega (arith, len, h.1))
+
+    -- its run put in its place, and its bytes behind its site's
+    pub taken_with_run : PieceIsFirstKept → PlacedIsKept → (run : Run) → IsRunOf op run → (items' : List (ℕ × Piece)) (files' : Files)
+        → IsPlaced run.key cause (chars_of (piece_of run)) (spelled items) (spelled items') → bytes_of files' op.site ≡ bytes_of files op.site ++ bytes → OthersStay files op.site files'
+        → IsTaken (ops ++ op ∷ []) items' files'
+    taken_with_run first placed run of items' files' put own others =
+        let chars = first op run of in
+        let (cause', bytes', kind', site', len', key') = of in
+        let there : IsPlaced (key_of op) cause (chars_of (piece_of run)) (spelled items) (spelled items') = subst (λ key. IsPlaced key cause (chars_of (piece_of run)) (spelled items) (spelled items')) key' put in
+        record {
+          good = larger_good lower ops op taken.good taken.identified new is;
+          identified = larger_identified lower ops op taken.good taken.identified new is;
+          kept = placed ops op cause (spelled items) (spelled items') (one_more lower ops op taken.good taken.identified new is) (subst (λ (k : OpKind). HasCauseBy k cause) (sym kind) refl) taken.kept
+              (subst (λ (cs : List Kept). IsPlaced (key_of op) cause cs (spelled items) (spelled items')) chars there);
+          bytes = hold_more ops op files (λ c h. (told.here c).0 h) (λ c h. (told.here c).1 h) (counted lower ops op taken.good taken.identified new is) taken.bytes cause looks bytes files'
+              (kind ∙ ap (λ (n : ℕ). insert cause n looks bytes) at_end) own others;
+        }
+
+  -- one that inserts nothing changes registers
+  taken_with_change : ((ops : List Operation) (op : Operation) → Good (ops ++ op ∷ []) → InsertsNone op → KeptAfter ops op)
+      → InsertsNone op → appended_len op.kind ≡ 0 → (items' : List (ℕ × Piece)) → spelled items' ≡ map (kept_after op) (spelled items) → IsTaken (ops ++ op ∷ []) items' files
+  taken_with_change law none appended items' changed =
+      let larger = larger_good lower ops op taken.good taken.identified new is in
+      record {
+        good = larger;
+        identified = larger_identified lower ops op taken.good taken.identified new is;
+        kept = subst (AreKept (ops ++ op ∷ [])) (sym changed) (law ops op larger none (spelled items) taken.kept);
+        bytes = hold_no_more ops op files (λ c h. (told.here c).0 h) (λ c h. (told.here c).1 h) (counted lower ops op taken.good taken.identified new is) taken.bytes none appended;
+      }
+
+  module _ (names : List Range) (of : List Range → OpKind) (kind : op.kind ≡ of names) where
+    -- the names that a Delete, a Restore or a ChangeLooks mentions are among the characters
+    pub names_here : ((c : CharName) → IsAmong names c → MentionsBy (of names) c) → (c : CharName) → IsAmong names c → HasName (spelled items) c
+    names_here mentions c h = mentioned_kept lower ops op taken.good taken.identified new is (spelled items) taken.kept c (subst (λ (k : OpKind). MentionsBy k c) (sym kind) (mentions c h))
+
+    -- and each such kind changes the registers of these
+    pub taken_with : ((ops : List Operation) (op : Operation) → Good (ops ++ op ∷ []) → InsertsNone op → KeptAfter ops op)
+        → ((c : CharName) → InsertsBy op.site (of names) c → ⊥) → appended_len (of names) ≡ 0
+        → (items' : List (ℕ × Piece)) → spelled items' ≡ map (kept_by (of names) (key_of op)) (spelled items) → IsTaken (ops ++ op ∷ []) items' files
+    taken_with law none appended items' changed =
+        taken_with_change law (λ c h. none c (subst (λ (k : OpKind). InsertsBy op.site k c) kind h)) (ap appended_len kind ∙ appended) items'
+        (changed ∙ ap (λ (k : OpKind). map (kept_by k (key_of op)) (spelled items)) (sym kind))

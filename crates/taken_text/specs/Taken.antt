@@ -1,0 +1,50 @@
+-- The operations that were taken in, and the characters that they make.
+use Rattle.std.specs.Prelude.{◌≡◌, ℕ, List, map, length, slice_index}
+use Rattle.char_files.specs.CharFiles.{Files, bytes_of}
+use Rattle.char_files.specs.CharName.{CharName}
+use Rattle.char_files.specs.declared.character.Char.{Char}
+use Rattle.operations.specs.Operation.{Operation}
+use Rattle.tree_order.specs.Good.{Good}
+use Rattle.tree_order.specs.Registers.{Kept, AreKept, kept_looks}
+use Rattle.tree_order.specs.Shown.{AreChars}
+use Rattle.tree_order.specs.Tree.{HasByte}
+use Rattle.set_laws.specs.Fronts.{file_len}
+use Rattle.set_laws.specs.Sets.{AreIdentified}
+use Rattle.piece_list.specs.Spelled.{spelled}
+use Rattle.piece_list.specs.declared.piece.Piece.{Piece}
+
+-- the operations in the order of taking, and all characters in order, deleted ones too
+pub record TakenSeen : Type 0 where
+  pub operations : List Operation
+  pub chars : List Char
+
+-- the operations are good, seqs count from 1, and the characters are theirs
+pub record IsDefined (t : TakenSeen) : Type 0 where
+  pub good : Good t.operations
+  pub identified : AreIdentified t.operations
+  pub chars : AreChars t.operations t.chars
+
+-- a character as it is kept, with its byte
+abbrev pub char_in : Files → Kept → Char
+char_in files k = record {
+  name = k.name;
+  byte = slice_index (bytes_of files k.name.site) k.name.off;
+  looks = kept_looks k;
+}
+
+-- what a log, pieces and files are seen as together
+abbrev pub seen_in : List Operation → List (ℕ × Piece) → Files → TakenSeen
+seen_in ops items files = record { operations = ops; chars = map (char_in files) (spelled items) }
+
+-- the files have the bytes of all Inserts, and no others
+pub record HoldBytes (ops : List Operation) (files : Files) : Type 0 where
+  pub lengths : (site : ℕ) → length (bytes_of files site) ≡ file_len ops site
+  pub bytes : (c : CharName) (byte : ℕ) → HasByte ops c byte
+      → byte ≡ slice_index (bytes_of files c.site) c.off
+
+-- the operations are good, the pieces spell their characters in order, and the files have the bytes
+pub record IsTaken (ops : List Operation) (items : List (ℕ × Piece)) (files : Files) : Type 0 where
+  pub good : Good ops
+  pub identified : AreIdentified ops
+  pub kept : AreKept ops (spelled items)
+  pub bytes : HoldBytes ops files

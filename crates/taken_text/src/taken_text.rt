@@ -1,0 +1,174 @@
+ghost use Rattle.std.specs.Prelude.{◌≡◌, [], ◌∷◌, ◌++◌, IfOk, OnOk, OnErr};
+ghost use Rattle.looks.specs.Refusal.{RefusedForMemoryAlone};
+ghost use Rattle.char_files.specs.CharFiles.{SameBytes};
+ghost use Rattle.operations.specs.Operation.{insert};
+ghost use Rattle.tree_order.specs.Good.{key_of as key_by};
+ghost use Rattle.set_laws.specs.Verdict.{HasVerdict, IsNew, ready};
+ghost use Rattle.taken_text.specs.Lower.{Lower};
+ghost use Rattle.taken_text.specs.Taken.{IsDefined, IsTaken};
+
+use char_files::{Anchor, CharFiles};
+use looks::{Key, Looks, Refusal};
+use op_log::Log;
+use operations::{Kind, Op};
+use piece_list::laws::{a_piece_of_a_run_is_kept, a_placed_run_is_kept};
+use piece_list::{PieceList, Run};
+use set_laws::closures::nothing_is_good;
+use set_laws::growing::{counts_go_on, counts_tell_what_is_here, good_sets_grow_by_verdict};
+use set_laws::unions::front_is_held;
+use std::alloc::Global;
+use std::marker::Model;
+use tree_order::laws::registers::{a_kept_list_is_offered, registers_tell_what_is_shown};
+use tree_order::laws::sequential::one_writer_goes_behind_causes;
+
+/// The operations that a replica has taken in, found by their identities at once, and the characters that they
+/// make: a list of pieces over append-only files. This project's own.
+#[derive(Drop)]
+pub struct TakenText {
+    log: Log,
+    pieces: PieceList,
+    files: CharFiles,
+}
+
+impl Model for TakenText {
+    ghost use Rattle.taken_text.specs.Taken.{TakenSeen, IsTaken, seen_in};
+
+    ghost Value = { TakenSeen };
+
+    ghost view = { λ t. seen_in t.log.ops t.pieces.items t.files };
+
+    ghost invariant = { λ t. IsTaken t.log.ops t.pieces.items t.files };
+}
+
+// The laws of sets that taking in rests on. A proof gets them by calling this.
+fn the_laws_of_sets()
+    ensures { Lower }
+{
+    good_sets_grow_by_verdict();
+    counts_tell_what_is_here();
+    front_is_held();
+    counts_go_on();
+}
+
+// An operation's key.
+fn key_of(op: &Op) -> Key
+    ensures { result ≡ key_by op.now }
+{
+    Key {
+        stamp: op.stamp(),
+        site: op.site().get(),
+    }
+}
+
+// Takes in an Insert: its bytes go to the end of its site's file, and its run among the pieces.
+fn insert_run(
+    log: &Log,
+    pieces: &mut PieceList,
+    files: &mut CharFiles,
+    op: &Op,
+    cause: Anchor,
+    at: u32,
+    looks: &Looks,
+    bytes: &[u8],
+) -> Result<(), Refusal>
+    requires taken { IsTaken log.now.ops pieces.old.items files.old }
+    requires new { IsNew log.now.ops op.now }
+    requires ready { HasVerdict log.now.ops op.now ready }
+    requires insert { op.now.kind ≡ insert cause at looks.now bytes.now }
+    ensures ok { OnOk result (IsTaken (log.now.ops ++ op.now ∷ []) pieces.new.items files.new) }
+    ensures errors { RefusedForMemoryAlone result }
+    ensures err { OnErr result ((pieces.new.items ≡ pieces.old.items) × SameBytes files.old files.new) }
+{
+    the_laws_of_sets();
+    a_piece_of_a_run_is_kept();
+    a_placed_run_is_kept();
+    op.has_spelling();
+    let run = Run {
+        site: op.site(),
+        off: at,
+        len: bytes.len() as u32,
+        key: key_of(op),
+        looks: looks.copy(),
+    };
+    files.reserve(op.site(), bytes.len())?;
+    pieces.place(run, cause)?;
+    match files.append(op.site(), bytes) {
+        Ok(_) => Ok(()),
+        Err(_) => unreachable!(),
+    }
+}
+
+// Takes in an operation: each kind changes pieces, and an Insert its site's file besides.
+fn apply(log: &Log, pieces: &mut PieceList, files: &mut CharFiles, op: &Op) -> Result<(), Refusal>
+    requires taken { IsTaken log.now.ops pieces.old.items files.old }
+    requires new { IsNew log.now.ops op.now }
+    requires ready { HasVerdict log.now.ops op.now ready }
+    ensures ok { OnOk result (IsTaken (log.now.ops ++ op.now ∷ []) pieces.new.items files.new) }
+    ensures errors { RefusedForMemoryAlone result }
+    ensures err { OnErr result ((pieces.new.items ≡ pieces.old.items) × SameBytes files.old files.new) }
+{
+    the_laws_of_sets();
+    a_kept_list_is_offered();
+    let key = key_of(op);
+    match op.kind() {
+        Kind::Insert {
+            cause,
+            at,
+            looks,
+            bytes,
+        } => insert_run(log, pieces, files, op, *cause, *at, looks, bytes),
+        Kind::Delete { names } => pieces.hide(names, key),
+        Kind::Restore { names } => pieces.reveal(names, key),
+        Kind::ChangeLooks { sel, looks, names } => pieces.relook(names, *sel, looks, key),
+    }
+}
+
+impl TakenText {
+    /// Nothing taken in, and no characters. Refused `OutOfMemory` alone.
+    pub fn new(alloc: Global) -> Result<TakenText, Refusal>
+        ensures ok { IfOk result (λ t. t ≡ record { operations = []; chars = [] }) }
+        ensures errors { RefusedForMemoryAlone result }
+    {
+        nothing_is_good();
+        one_writer_goes_behind_causes();
+        Ok(TakenText {
+            log: Log::new(alloc),
+            pieces: PieceList::new(alloc)?,
+            files: CharFiles::new(alloc),
+        })
+    }
+
+    /// A law: the operations are good, and the characters are those that the definition gives. A proof gets it
+    /// by calling this, at no cost.
+    pub fn is_defined(&self)
+        ensures { IsDefined self.now }
+    {
+        registers_tell_what_is_shown();
+        let _ = &self.log;
+    }
+
+    /// The operations taken in.
+    pub fn log(&self) -> &Log
+        ensures { result.now.ops ≡ self.now.operations }
+    {
+        &self.log
+    }
+
+    /// Takes in an operation that is ready: it stands behind those that were taken in, and the characters are
+    /// then those that the definition gives of them all (`is_defined`).
+    ///
+    /// Refused `OutOfMemory` alone.
+    pub fn add(&mut self, op: Op) -> Result<(), Refusal>
+        requires new { IsNew self.old.operations op }
+        requires ready { HasVerdict self.old.operations op ready }
+        ensures ok { OnOk result (self.new.operations ≡ self.old.operations ++ op ∷ []) }
+        ensures errors { RefusedForMemoryAlone result }
+        ensures err { OnErr result (self.new ≡ self.old) }
+    {
+        the_laws_of_sets();
+        self.log.reserve(op.site())?;
+        apply(&self.log, &mut self.pieces, &mut self.files, &op)?;
+        self.log.push(op);
+        Ok(())
+    }
+}
