@@ -1,17 +1,45 @@
-//! Runs a script of events for the sites 1 and 2: reads it from standard input, and writes the answers to
-//! standard output.
+//! Runs a script of events for the sites that the command line names: reads it from standard input, and writes
+//! the answers to standard output.
 #![tactic(auto)]
 
+use command_line::{error_status, read_settings};
 use script_io::{Input, Output};
-use script_runs::{Settings, run, status_of};
-use std::io;
+use script_runs::{run, status_of};
+use std::alloc::Global;
 use std::io::BufWriter;
 use std::process::ExitCode;
+use std::{env, io};
+
+// The status where the words can't be had: that of a wrong command line.
+const NO_WORDS: u8 = 2;
+
+fn gathered(alloc: Global, words: env::Args) -> io::Result<Vec<String>> {
+    Ok(words.collect(alloc)?)
+}
 
 fn main(rt: HostRuntime) -> io::Result<ExitCode> {
-    let mut output = Output::new(BufWriter::new(rt.alloc(), io::writer(&rt))?);
-    let ended = match Input::new(rt.alloc(), rt.reader()) {
-        Ok(mut input) => run(rt.alloc(), &mut input, &mut output, Settings::default()),
+    let alloc = rt.alloc();
+    let words = match env::args(&rt) {
+        Ok(words) => gathered(alloc, words),
+        Err(why) => Err(why),
+    };
+    let words = match words {
+        Ok(words) => words,
+        Err(why) => {
+            eprintln!(rt; "error: {why}")?;
+            return Ok(ExitCode::from(NO_WORDS));
+        }
+    };
+    let settings = match read_settings(alloc, words.as_slice()) {
+        Ok(settings) => settings,
+        Err(error) => {
+            error.print(&rt)?;
+            return Ok(ExitCode::from(error_status(&error)));
+        }
+    };
+    let mut output = Output::new(BufWriter::new(alloc, io::writer(&rt))?);
+    let ended = match Input::new(alloc, rt.reader()) {
+        Ok(mut input) => run(alloc, &mut input, &mut output, settings),
         Err(why) => Err(why),
     };
     Ok(ExitCode::from(status_of(&ended)))
