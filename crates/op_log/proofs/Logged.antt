@@ -1,24 +1,25 @@
 -- What the tables of a log tell.
-use Rattle.std.proofs.Common.{◌≡◌, ℕ, zero, suc, ◌+◌, ◌-◌, ◌<◌, ◌≤◌, ◌↔◌, inl, inr, List, [], length}
+use Rattle.std.proofs.Common.{◌≡◌, ℕ, zero, suc, ◌-◌, ◌<◌, ◌≤◌, ◌↔◌, inl, inr, List, [], length}
 use Rattle.std.proofs.Common.{Option, Some, None, option_map, Contains, slice_get, get_or, refl, sym, ap, subst, ◌∙◌, arith}
 use Rattle.std.proofs.lemmas.Bool.{cases_lt}
-use Rattle.std.proofs.lemmas.Option.{slice_get-get_or, slice_get_past, slice_get_within, none-some}
+use Rattle.std.proofs.lemmas.Option.{slice_get-get_or, slice_get_past, slice_get_within, get_or_from_slice_get, none-some}
 use Rattle.std.specs.Option.{option_map_or}
 use Rattle.std.specs.List.Sorted.{IsNonDecreasingBy}
 use Rattle.char_files.specs.CharName.{CharName}
-use Rattle.operations.specs.Operation.{Operation, OpKind, insert, delete, restore, change_looks, InsertsBy}
-use Rattle.operations.specs.Operation.{appended_len}
-use Rattle.tree_order.specs.Good.{Begins, file_before}
+use Rattle.operations.specs.Operation.{Operation}
+use Rattle.tree_order.specs.Good.{file_before}
 use Rattle.tree_order.specs.Tree.{IsInsertOf}
 use Rattle.set_laws.specs.Fronts.{front_of, file_len, IsHeld}
 use Rattle.set_laws.specs.Sets.{AreIdentified, AreHeldToTheFront}
+use Rattle.set_laws.proofs.Covered.{from_span, one_insert}
+use Rattle.set_laws.proofs.Lengths.{appended_by, file_grows}
 use Rattle.op_log.specs.declared.site_log.Entry.{Entry}
 use Rattle.op_log.specs.Tables.{SiteSeen, Tables, table_of, end_of, IsFirstPast}
 use Rattle.op_log.specs.Logged.{IsEntryOf, IsTableOf, AreLogged}
 use Rattle.op_log.proofs.Lists.{Contains-slice_get, slice_get-some}
-use Rattle.op_log.proofs.Files.{up_to_front, own_appended, file_grows, one_stretch, starts_empty}
+use Rattle.op_log.proofs.Files.{within_front, starts_empty}
 
-module _ (ops : List Operation) (known : AreIdentified ops) (site : ℕ) (t : SiteSeen)
+module _ {ops : List Operation} (known : AreIdentified ops) {site : ℕ} {t : SiteSeen}
     (table : IsTableOf ops site t) where
   -- an entry ends where the site's file does behind its operation
   ends_at : (k : ℕ) (e : Entry) → slice_get t.entries k ≡ Some e
@@ -26,7 +27,7 @@ module _ (ops : List Operation) (known : AreIdentified ops) (site : ℕ) (t : Si
   ends_at k e is = (table.entries k e is).ends
 
   -- up to the front each seq is held
-  pub held_up_to : (seq : ℕ) → 0 < seq → seq ≤ front_of ops site → IsHeld ops site seq
+  held_up_to : (seq : ℕ) → 0 < seq → seq ≤ front_of ops site → IsHeld ops site seq
   held_up_to zero some le = absurd (omega arith)
   held_up_to (suc k) some le =
       let front = table.front in
@@ -34,17 +35,17 @@ module _ (ops : List Operation) (known : AreIdentified ops) (site : ℕ) (t : Si
       let entry = table.entries k e is in
       (entry.op, Contains-slice_get ops e.index entry.op entry.there, entry.on, entry.at)
 
-  pub held_to_front : (seq : ℕ) → IsHeld ops site seq ↔ (0 < seq) × (seq ≤ front_of ops site)
+  held_to_front : (seq : ℕ) → IsHeld ops site seq ↔ (0 < seq) × (seq ≤ front_of ops site)
   held_to_front seq = (
     λ h. let (op, held, on, at) = h in
         let counted = known.counted op held in
-        let le = up_to_front ops op site held on in
+        let le = within_front ops op site held on in
         (omega arith, omega arith),
     λ h. held_up_to seq h.0 h.1,
   )
 
   -- the last entry tells how long the file is
-  pub ends_as_file : end_of t.entries ≡ file_len ops site
+  ends_as_file : end_of t.entries ≡ file_len ops site
   ends_as_file = by_length (length t.entries) refl
     where
       by_length : (n : ℕ) → length t.entries ≡ n → end_of t.entries ≡ file_len ops site
@@ -66,7 +67,7 @@ module _ (ops : List Operation) (known : AreIdentified ops) (site : ℕ) (t : Si
           ∙ ap (λ (n : ℕ). file_before ops site (suc n)) at
 
   -- the ends rise
-  pub ends_rise : IsNonDecreasingBy (λ (e : Entry). e.end) t.entries
+  ends_rise : IsNonDecreasingBy (λ (e : Entry). e.end) t.entries
   ends_rise i j d le lt =
       let first = ends_at i (get_or t.entries i d) (slice_get-get_or t.entries i d (omega arith)) in
       let last = ends_at j (get_or t.entries j d) (slice_get-get_or t.entries j d lt) in
@@ -74,7 +75,7 @@ module _ (ops : List Operation) (known : AreIdentified ops) (site : ℕ) (t : Si
       omega (arith, first, last, grows)
 
   -- behind the entries ahead of the first one past an offset, the file is no longer than that
-  pub ahead_ends : (off : ℕ) (e : Entry) (first : IsFirstPast t.entries off e)
+  ahead_ends : (off : ℕ) (e : Entry) (first : IsFirstPast t.entries off e)
       → file_before ops site (suc first.at) ≤ off
   ahead_ends off e first = by_place first.at refl
     where
@@ -86,25 +87,6 @@ module _ (ops : List Operation) (known : AreIdentified ops) (site : ℕ) (t : Si
           let le : d.end ≤ off = first.ahead k d (omega arith) at in
           let ends = ends_at k d at in
           omega arith
-
--- an operation whose stretch of its file has the offset is the Insert of its name
-stretch_inserts : (kind : OpKind) (site begin off : ℕ) → Begins kind begin → begin ≤ off
-    → off < begin + appended_len kind → InsertsBy site kind (record { site = site; off = off })
-stretch_inserts (insert cause at looks bytes) site begin off begins from to =
-    (refl, omega arith, omega arith)
-stretch_inserts (delete names) site begin off begins from to = absurd (omega arith)
-stretch_inserts (restore names) site begin off begins from to = absurd (omega arith)
-stretch_inserts (change_looks sel looks names) site begin off begins from to = absurd (omega arith)
-
--- and the other way round
-insert_stretch : (kind : OpKind) (site begin : ℕ) (name : CharName) → Begins kind begin
-    → InsertsBy site kind name
-    → (name.site ≡ site) × (begin ≤ name.off) × (name.off < begin + appended_len kind)
-insert_stretch (insert cause at looks bytes) site begin name begins (on, from, to) =
-    (on, omega arith, omega arith)
-insert_stretch (delete names) site begin name begins none = absurd none
-insert_stretch (restore names) site begin name begins none = absurd none
-insert_stretch (change_looks sel looks names) site begin name begins none = absurd none
 
 -- no operations need no tables
 pub logged_none : (ops : List Operation) (tables : Tables) → ops ≡ [] → tables ≡ [] → AreLogged ops tables 0
@@ -150,52 +132,64 @@ Tells ops site seq (Some index) =
     (op : Operation) × (slice_get ops index ≡ Some op) × (op.site ≡ site) × (op.seq ≡ seq)
 Tells ops site seq None = IsHeld ops site seq → ⊥
 
-module _ (ops : List Operation) (tables : Tables) (stamp : ℕ) (logged : AreLogged ops tables stamp) where
-  pub index_tells : (site seq : ℕ) (found : Option ℕ) → (seq ≡ 0 → found ≡ None)
+module _ {ops : List Operation} {tables : Tables} {stamp : ℕ} (logged : AreLogged ops tables stamp) where
+  -- what was answered by a table tells where the operation stands
+  pub index_tells : (site seq : ℕ) {found told : Option ℕ} → found ≡ told → (seq ≡ 0 → found ≡ None)
       → (0 < seq
       → found ≡ option_map (λ (e : Entry). e.index) (slice_get (table_of tables site).entries (seq - 1)))
-      → Tells ops site seq found
-  index_tells site zero found none some =
-      subst (Tells ops site 0) (sym (none refl)) (λ h. let counted = logged.known.counted h.0 h.1 in
+      → Tells ops site seq told
+  index_tells site zero is none some =
+      subst (Tells ops site 0) (sym (none refl) ∙ is) (λ h. let counted = logged.known.counted h.0 h.1 in
       let at = h.3 in omega arith)
-  index_tells site (suc k) found none some =
+  index_tells site (suc k) {found} {told} is none some =
       let t = table_of tables site in
       let table = logged.by_site site in
       let front = table.front in
       let index : suc k - 1 ≡ k = omega arith in
-      let is : found ≡ option_map (λ (e : Entry). e.index) (slice_get t.entries k) =
-      some (omega arith) ∙ ap (λ (i : ℕ). option_map (λ (e : Entry). e.index) (slice_get t.entries i)) index in
+      let by_entry : told ≡ option_map (λ (e : Entry). e.index) (slice_get t.entries k) =
+      sym is ∙ some (omega arith)
+      ∙ ap (λ (i : ℕ). option_map (λ (e : Entry). e.index) (slice_get t.entries i)) index in
       elim (cases_lt k (length t.entries)) [
         | inl within ↦
             let (e, there) = slice_get-some t.entries k within in
             let entry = table.entries k e there in
             subst (Tells ops site (suc k))
-            (sym (is ∙ ap (λ (o : Option Entry). option_map (λ (d : Entry). d.index) o) there))
+            (sym (by_entry ∙ ap (λ (o : Option Entry). option_map (λ (d : Entry). d.index) o) there))
             (entry.op, entry.there, entry.on, entry.at)
         | inr past ↦
             subst (Tells ops site (suc k))
-            (sym (is ∙ ap (λ (o : Option Entry). option_map (λ (d : Entry). d.index) o)
+            (sym (by_entry ∙ ap (λ (o : Option Entry). option_map (λ (d : Entry). d.index) o)
             (slice_get_past t.entries k past)))
             (λ h. let (op, held, on, at) = h in
-            let le = up_to_front ops op site held on in omega arith)
+            let le = within_front ops op site held on in omega arith)
       ]
 
   pub are_held_to_the_front : AreHeldToTheFront ops
-  are_held_to_the_front site seq =
-      held_to_front ops logged.known site (table_of tables site) (logged.by_site site) seq
+  are_held_to_the_front site seq = held_to_front logged.known (logged.by_site site) seq
 
-  module _ (name : CharName) (e : Entry)
+  -- how long a site's file is
+  pub file_told : (site : ℕ) → end_of (table_of tables site).entries ≡ file_len ops site
+  file_told site = ends_as_file logged.known (logged.by_site site)
+
+  pub table_rises : (site : ℕ) → IsNonDecreasingBy (λ (e : Entry). e.end) (table_of tables site).entries
+  table_rises site = ends_rise logged.known (logged.by_site site)
+
+  module _ (name : CharName) {e : Entry}
       (first : IsFirstPast (table_of tables name.site).entries name.off e) where
+    -- the entry that was found tells where an operation of the name's site stands
     pub entry : IsEntryOf ops name.site (suc first.at) e
     entry = (logged.by_site name.site).entries first.at e first.there
+
+    -- what is read at its index is that operation
+    pub read_entry : (op : Operation) → op ≡ get_or ops e.index op → op ≡ entry.op
+    read_entry op is = is ∙ get_or_from_slice_get ops e.index entry.op op entry.there
 
     held : Contains ops entry.op
     held = Contains-slice_get ops e.index entry.op entry.there
 
     from : file_before ops entry.op.site entry.op.seq ≤ name.off
     from =
-        let le = ahead_ends ops logged.known name.site (table_of tables name.site)
-        (logged.by_site name.site) name.off e first in
+        let le = ahead_ends logged.known (logged.by_site name.site) name.off e first in
         subst (λ (s : ℕ). file_before ops s entry.op.seq ≤ name.off) (sym entry.on)
         (subst (λ (n : ℕ). file_before ops name.site n ≤ name.off) (sym entry.at) le)
 
@@ -211,29 +205,14 @@ module _ (ops : List Operation) (tables : Tables) (stamp : ℕ) (logged : AreLog
     found_inserts = record {
       held = held;
       inserts =
-          let len = own_appended ops logged.known entry.op held in
+          let len = appended_by ops logged.known entry.op held in
           let end = to in
-          subst (λ (s : ℕ). InsertsBy entry.op.site entry.op.kind (record { site = s; off = name.off }))
-          entry.on
-          (stretch_inserts entry.op.kind entry.op.site (file_before ops entry.op.site entry.op.seq) name.off
-          (logged.begins entry.op held) from (omega arith));
+          from_span entry.op.site (file_before ops entry.op.site entry.op.seq) entry.op.kind name
+          (logged.begins entry.op held) (record { on = sym entry.on; from = from; below = omega arith });
     }
 
     -- and there is no other
     pub found_only : (i : Operation) → IsInsertOf ops name i → i ≡ entry.op
     found_only i is =
-        let (on, low, high) =
-        insert_stretch i.kind i.site (file_before ops i.site i.seq) name (logged.begins i is.held)
-        is.inserts in
-        let len = own_appended ops logged.known i is.held in
-        let same : entry.op.site ≡ i.site = entry.on ∙ on in
-        let from' : file_before ops i.site entry.op.seq ≤ name.off =
-        subst (λ (s : ℕ). file_before ops s entry.op.seq ≤ name.off) same from in
-        let to' : name.off < file_before ops i.site (suc entry.op.seq) =
-        subst (λ (s : ℕ). name.off < file_before ops s (suc entry.op.seq)) same to in
-        let high' : name.off < file_before ops i.site (suc i.seq) = omega arith in
-        logged.known.unique i entry.op is.held held (sym same)
-        (one_stretch ops i.site i.seq entry.op.seq name.off low high' from' to')
-
-    pub entry_there : slice_get ops e.index ≡ Some entry.op
-    entry_there = entry.there
+        one_insert ops logged.known logged.begins name i entry.op is.held held is.inserts
+        found_inserts.inserts

@@ -1,5 +1,5 @@
 -- The tables of a log with one operation more, the next of its site.
-use Rattle.std.proofs.Common.{◌≡◌, ◌≢◌, ℕ, suc, ◌+◌, ◌<◌, ◌≤◌, inl, inr, max, eqb, List, [], ◌∷◌, ◌++◌}
+use Rattle.std.proofs.Common.{◌≡◌, ◌≢◌, ℕ, suc, ◌+◌, ◌≤◌, inl, inr, max, eqb, List, [], ◌∷◌, ◌++◌}
 use Rattle.std.proofs.Common.{length, Some, false, Contains, slice_get, refl, sym, ap, subst, ◌∙◌, eq-eqb, arith}
 use Rattle.std.proofs.Common.{length-append, get_or}
 use Rattle.std.proofs.lemmas.Bool.{cases_Bool, cond-false, eqb-true, both_ways}
@@ -13,23 +13,31 @@ use Rattle.operations.specs.declared.op.TheConstants.{MAX_STAMP}
 use Rattle.tree_order.specs.Good.{Begins, file_before}
 use Rattle.set_laws.specs.Fronts.{greatest, of_site, front_of, file_len, greatest_stamp_of}
 use Rattle.set_laws.specs.Sets.{AreIdentified}
+use Rattle.set_laws.proofs.Lengths.{appended_by}
+use Rattle.set_laws.proofs.OneMore.{with_one, with_one_identified}
 use Rattle.op_log.specs.declared.site_log.Entry.{Entry}
-use Rattle.op_log.specs.Tables.{SiteSeen, Tables, table_of}
+use Rattle.op_log.specs.Tables.{SiteSeen, Tables, end_of, table_of}
 use Rattle.op_log.specs.Logged.{IsEntryOf, IsTableOf, AreLogged}
 use Rattle.op_log.proofs.Lists.{slice_get-append_left, slice_get-push, slice_get-push_cases}
-use Rattle.op_log.proofs.Files.{up_to_front, greatest-push, of_own, own_appended, same_before}
-
--- the operations with one more
-abbrev pub with_one : List Operation → Operation → List Operation
-with_one ops op = ops ++ op ∷ []
+use Rattle.op_log.proofs.Logged.{file_told}
+use Rattle.op_log.proofs.Files.{within_front, greatest-push, of_own, same_before}
 
 -- what an operation appends to the end of its site's file stays within it
-pub fits_at_end : (site len : ℕ) (kind : OpKind) → IsKind site kind → Begins kind len → len ≤ MAX_FILE
+fits_at_end : (site len : ℕ) (kind : OpKind) → IsKind site kind → Begins kind len → len ≤ MAX_FILE
     → len + appended_len kind ≤ MAX_FILE
 fits_at_end site len (insert cause at looks bytes) is begins low = let within = is.in_file in omega arith
 fits_at_end site len (delete names) is begins low = omega arith
 fits_at_end site len (restore names) is begins low = omega arith
 fits_at_end site len (change_looks sel looks names) is begins low = omega arith
+
+-- so where a table tells how long the file is
+pub fits_by_table : {ops : List Operation} {tables : Tables} {stamp : ℕ} → AreLogged ops tables stamp
+    → (op : Operation) (site len : ℕ) → site ≡ op.site → len ≡ end_of (table_of tables site).entries
+    → IsKind op.site op.kind → Begins op.kind (file_len ops op.site) → len ≤ MAX_FILE
+    → len + appended_len op.kind ≤ MAX_FILE
+fits_by_table {ops} logged op site len on told is begin low =
+    let file : len ≡ file_len ops op.site = told ∙ file_told logged site ∙ ap (file_len ops) on in
+    fits_at_end op.site len op.kind is (subst (Begins op.kind) (sym file) begin) low
 
 -- what another site's operation adds to a site's greatest number
 same_greatest : (f : Operation → ℕ) (ops : List Operation) (op : Operation) (site : ℕ)
@@ -52,27 +60,11 @@ module _ (ops : List Operation) (op : Operation) (next : op.seq ≡ front_of ops
     (known : AreIdentified ops) where
   -- its identity is held by no other
   unheld : (x : Operation) → Contains ops x → x.site ≡ op.site → x.seq ≡ op.seq → ⊥
-  unheld x held on at = let le = up_to_front ops x op.site held on in omega arith
+  unheld x held on at = let le = within_front ops x op.site held on in omega arith
 
   identified : AreIdentified (with_one ops op)
-  identified = record {
-    counted = λ x held. elim (Contains-push_cases ops op x held) [
-      | inl here ↦ known.counted x here
-      | inr is ↦ subst (λ (o : Operation). 0 < o.seq) is (omega arith)
-    ];
-    unique = λ x y held other on at. elim (Contains-push_cases ops op x held) [
-      | inl here ↦ elim (Contains-push_cases ops op y other) [
-        | inl there ↦ known.unique x y here there on at
-        | inr is ↦ absurd (unheld x here (on ∙ ap (λ (o : Operation). o.site) (sym is))
-            (at ∙ ap (λ (o : Operation). o.seq) (sym is)))
-      ]
-      | inr is ↦ elim (Contains-push_cases ops op y other) [
-        | inl there ↦ absurd (unheld y there (sym on ∙ ap (λ (o : Operation). o.site) (sym is))
-            (sym at ∙ ap (λ (o : Operation). o.seq) (sym is)))
-        | inr is' ↦ sym is ∙ is'
-      ]
-    ];
-  }
+  identified = with_one_identified ops op known
+      (record { counted = omega arith; unheld = λ h. unheld h.0 h.1 h.2 h.3 })
 
   -- its site's file is as long before it as all of it was
   at_end : file_before (with_one ops op) op.site op.seq ≡ file_len ops op.site
@@ -88,7 +80,7 @@ module _ (ops : List Operation) (op : Operation) (next : op.seq ≡ front_of ops
       elim (Contains-push_cases ops op x held) [
         | inl here ↦
             let same = same_before ops op x.site x.seq
-            (λ on. let le = up_to_front ops x op.site here (sym on) in omega arith) in
+            (λ on. let le = within_front ops x op.site here (sym on) in omega arith) in
             subst (Begins x.kind) (sym same) (begins x here)
         | inr is ↦
             subst (λ (o : Operation). Begins o.kind (file_before (with_one ops op) o.site o.seq)) is
@@ -130,7 +122,7 @@ module _ (ops : List Operation) (op : Operation) (next : op.seq ≡ front_of ops
         end : new.end ≡ file_before (with_one ops op) op.site (suc op.seq)
         end =
             let begin = at_end in
-            let len = own_appended (with_one ops op) identified op (Contains-push ops op) in
+            let len = appended_by (with_one ops op) identified op (Contains-push ops op) in
             omega arith
 
     -- its own site's table gains the entry
@@ -169,17 +161,17 @@ module _ (ops : List Operation) (op : Operation) (next : op.seq ≡ front_of ops
             stamp ∙ ap (λ (n : ℕ). max op.stamp n) old ∙ sym (own_greatest (λ o. o.stamp) ops op)
 
 -- the tables of a log in which an operation was entered are those of the operations with that one
-pub pushed : (ops : List Operation) (tables tables' : Tables) (stamp : ℕ) (op : Operation)
-    (site new_stamp : ℕ) (new : Entry) → AreLogged ops tables stamp
+pub pushed : {ops : List Operation} {tables : Tables} {stamp : ℕ} → AreLogged ops tables stamp
+    → (tables' : Tables) (op : Operation) (site new_stamp : ℕ) (new : Entry)
     → op.seq ≡ front_of ops op.site + 1 → Begins op.kind (file_len ops op.site)
     → op.stamp ≤ MAX_STAMP → site ≡ op.site → new_stamp ≡ op.stamp → new.index ≡ length ops
-    → new.end ≡ file_len ops op.site + appended_len op.kind
+    → new.end ≡ end_of (table_of tables site).entries + appended_len op.kind
     → (table_of tables' site).entries ≡ (table_of tables site).entries ++ new ∷ []
     → (table_of tables' site).stamp ≡ max new_stamp (table_of tables site).stamp
     → ((other : ℕ) → other ≢ site → table_of tables' other ≡ table_of tables other)
     → AreLogged (ops ++ op ∷ []) tables' (max new_stamp stamp)
-pushed ops tables tables' stamp op site new_stamp new logged next begin low on is index ends entries stamps
-    others =
+pushed {ops} {tables} {stamp} logged tables' op site new_stamp new next begin low on is index ends entries
+    stamps others =
     subst (λ (n : ℕ). AreLogged (ops ++ op ∷ []) tables' (max n stamp)) (sym is) (record {
       by_site = by_site;
       greatest = ap (λ (n : ℕ). max op.stamp n) logged.greatest ∙ sym (greatest-push (λ o. o.stamp) ops op);
@@ -190,6 +182,9 @@ pushed ops tables tables' stamp op site new_stamp new logged next begin low on i
       begins = begins_at_end ops op next logged.known begin logged.begins;
     })
   where
+    ends' : new.end ≡ file_len ops op.site + appended_len op.kind
+    ends' = ends ∙ ap (λ (n : ℕ). n + appended_len op.kind) (file_told logged site ∙ ap (file_len ops) on)
+
     entries' : (table_of tables' op.site).entries ≡ (table_of tables op.site).entries ++ new ∷ []
     entries' =
         subst (λ (s : ℕ). (table_of tables' s).entries ≡ (table_of tables s).entries ++ new ∷ []) on entries
@@ -202,7 +197,7 @@ pushed ops tables tables' stamp op site new_stamp new logged next begin low on i
     by_site : (s : ℕ) → IsTableOf (with_one ops op) s (table_of tables' s)
     by_site s = elim (cases_Bool (eqb op.site s)) [
       | inl e ↦ subst (λ (s : ℕ). IsTableOf (with_one ops op) s (table_of tables' s)) (eqb-true _ _ e)
-          (grown_table ops op next logged.known new index ends (table_of tables op.site)
+          (grown_table ops op next logged.known new index ends' (table_of tables op.site)
           (table_of tables' op.site) (logged.by_site op.site) entries' stamps')
       | inr e ↦ subst (IsTableOf (with_one ops op) s)
           (sym (others s (λ there. both_ways _ e (eq-eqb op.site s (sym on ∙ sym there)))))

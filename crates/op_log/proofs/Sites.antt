@@ -1,6 +1,6 @@
 -- The sites that have operations, by the first operation of each.
-use Rattle.std.proofs.Common.{◌≡◌, ℕ, zero, suc, ◌<◌, ◌↔◌, ◌⊎◌, true, inl, inr, false, eqb, List, [], ◌∷◌, map}
-use Rattle.std.proofs.Common.{AllPairs, Contains, IsPermutation, get_or, refl, sym, ap, subst, ◌∙◌, eq-eqb, arith}
+use Rattle.std.proofs.Common.{◌≡◌, ℕ, suc, ◌<◌, ◌↔◌, true, inl, inr, false, eqb, List, [], ◌∷◌, map}
+use Rattle.std.proofs.Common.{AllPairs, Contains, IsPermutation, get_or, sym, ap, subst, ◌∙◌, eq-eqb, arith}
 use Rattle.std.specs.List.{IsDistinct}
 use Rattle.std.specs.List.Sorted.{IsNonDecreasing}
 use Rattle.std.proofs.lemmas.Bool.{cases_Bool, cases_eq, cond-true, cond-false, eqb-true, ne_eqb, both_ways}
@@ -9,10 +9,11 @@ use Rattle.std.proofs.lemmas.List.Kept.{AllPairs-from_increasing}
 use Rattle.std.proofs.lemmas.List.Sorted.{Contains-permutation, IsPermutation-sym}
 use Rattle.std.proofs.lemmas.Map.Keys.{IsDistinct-cons, IsDistinct-IsPermutation, IsStrictlyIncreasing-from_distinct}
 use Rattle.operations.specs.Operation.{Operation}
-use Rattle.set_laws.specs.Fronts.{front_of}
+use Rattle.set_laws.specs.Fronts.{front_of, AreSites}
 use Rattle.set_laws.specs.Sets.{AreHeldToTheFront}
+use Rattle.set_laws.proofs.Picking.{Contains-head, Contains-tail, Contains-cases}
 use Rattle.op_log.specs.Logged.{first_sites}
-use Rattle.op_log.proofs.Files.{head_in, tail_in, cons_cases, up_to_front}
+use Rattle.op_log.proofs.Files.{within_front}
 
 -- each operation has an identity of its own
 abbrev pub AreOnce : List Operation → Type 0
@@ -26,16 +27,6 @@ without_other : (o : Operation) (ops : List Operation) → eqb o.seq 1 ≡ false
     → first_sites (o ∷ ops) ≡ first_sites ops
 without_other o ops e = ap (map (λ (x : Operation). x.site)) (cond-false _ _ _ e)
 
-site_first : (s : ℕ) (sites : List ℕ) → Contains (s ∷ sites) s
-site_first s sites = (0, omega arith, refl)
-
-site_behind : (s : ℕ) (sites : List ℕ) (x : ℕ) → Contains sites x → Contains (s ∷ sites) x
-site_behind s sites x (k, lt, is) = (suc k, omega arith, is)
-
-site_cases : (s : ℕ) (sites : List ℕ) (x : ℕ) → Contains (s ∷ sites) x → (s ≡ x) ⊎ Contains sites x
-site_cases s sites x (zero, lt, is) = inl is
-site_cases s sites x (suc k, lt, is) = inr (k, omega arith, is)
-
 -- such a site has a first operation
 told_by_first : (ops : List Operation) (site : ℕ) → Contains (first_sites ops) site
     → (op : Operation) × Contains ops op × (op.site ≡ site) × (op.seq ≡ 1)
@@ -43,16 +34,16 @@ told_by_first [] site (k, lt, is) = absurd (omega arith)
 told_by_first (o ∷ ops) site h =
     elim (cases_Bool (eqb o.seq 1)) [
       | inl e ↦
-          elim (site_cases o.site (first_sites ops) site
+          elim (Contains-cases o.site (first_sites ops) site
           (subst (λ (xs : List ℕ). Contains xs site) (with_first o ops e) h)) [
-            | inl is ↦ (o, head_in o ops, is, eqb-true _ _ e)
+            | inl is ↦ (o, Contains-head o ops, is, eqb-true _ _ e)
             | inr behind ↦ let (op, held, on, at) = told_by_first ops site behind in
-                (op, tail_in o ops op held, on, at)
+                (op, Contains-tail o ops op held, on, at)
           ]
       | inr e ↦
           let (op, held, on, at) =
           told_by_first ops site (subst (λ (xs : List ℕ). Contains xs site) (without_other o ops e) h) in
-          (op, tail_in o ops op held, on, at)
+          (op, Contains-tail o ops op held, on, at)
     ]
 
 -- and a first operation's site is one of them
@@ -63,15 +54,15 @@ first_told (o ∷ ops) op held at =
     elim (cases_Bool (eqb o.seq 1)) [
       | inl e ↦
           subst (λ (xs : List ℕ). Contains xs op.site) (sym (with_first o ops e))
-          (elim (cons_cases o ops op held) [
+          (elim (Contains-cases o ops op held) [
             | inl is ↦
                 subst (Contains (o.site ∷ first_sites ops)) (ap (λ (x : Operation). x.site) is)
-                (site_first o.site (first_sites ops))
-            | inr behind ↦ site_behind o.site (first_sites ops) op.site (first_told ops op behind at)
+                (Contains-head o.site (first_sites ops))
+            | inr behind ↦ Contains-tail o.site (first_sites ops) op.site (first_told ops op behind at)
           ])
       | inr e ↦
           subst (λ (xs : List ℕ). Contains xs op.site) (sym (without_other o ops e))
-          (elim (cons_cases o ops op held) [
+          (elim (Contains-cases o ops op held) [
             | inl is ↦
                 absurd (both_ways _ e (eq-eqb _ _ (ap (λ (x : Operation). x.seq) is ∙ at)))
             | inr behind ↦ first_told ops op behind at
@@ -111,18 +102,22 @@ eqb_flips x y =
 
 module _ (ops : List Operation) (sites : List ℕ) (perm : IsPermutation (first_sites ops) sites) where
   -- sorted, they rise
-  pub sites_rise : AreOnce ops → IsNonDecreasing sites → AllPairs (λ (a b : ℕ). a < b) sites
+  sites_rise : AreOnce ops → IsNonDecreasing sites → AllPairs (λ (a b : ℕ). a < b) sites
   sites_rise once sorted =
       AllPairs-from_increasing sites (IsStrictlyIncreasing-from_distinct sites sorted
       (IsDistinct-IsPermutation eqb eqb_flips (first_sites ops) sites perm (distinct ops once)))
 
   -- and are those that have a front above 0
-  pub sites_told : AreHeldToTheFront ops → (site : ℕ) → Contains sites site ↔ (0 < front_of ops site)
+  sites_told : AreHeldToTheFront ops → (site : ℕ) → Contains sites site ↔ (0 < front_of ops site)
   sites_told held site = (
     λ h. let (op, here, on, at) = told_by_first ops site
         (Contains-permutation sites (first_sites ops) site (IsPermutation-sym (first_sites ops) sites perm) h) in
-        let le = up_to_front ops op site here on in omega arith,
+        let le = within_front ops op site here on in omega arith,
     λ some. let (op, here, on, at) = (held site 1).1 (omega arith, omega arith) in
         Contains-permutation (first_sites ops) sites site perm
         (subst (Contains (first_sites ops)) on (first_told ops op here at)),
   )
+
+  -- so the first operations' sites, sorted, are the sites
+  pub sites_sorted : AreOnce ops → AreHeldToTheFront ops → IsNonDecreasing sites → AreSites ops sites
+  sites_sorted once held sorted = record { all = sites_told held; rising = sites_rise once sorted }

@@ -1,5 +1,5 @@
 -- The operations that were taken in, as a contract sees them.
-use Rattle.std.specs.Prelude.{ℕ, ◌<◌, nat_eq, List}
+use Rattle.std.specs.Prelude.{ℕ, ◌<◌, ◌≤◌, nat_eq, List}
 use Rattle.std.specs.Option.{option_map_or}
 use Rattle.std.specs.Map.{lookup}
 use Rattle.operations.specs.Operation.{Operation}
@@ -11,6 +11,15 @@ pub record LogSeen : Type 0 where
   pub room : ℕ
   pub rooms : List (ℕ × ℕ)
 
+-- for how many operations more of a site there is room, 0 for one that isn't named
+abbrev pub room_of : List (ℕ × ℕ) → ℕ → ℕ
+room_of rooms site = option_map_or (λ n. n) (lookup (nat_eq site) rooms) 0
+
 -- the next operation of this site takes no memory
 abbrev pub HasRoom : LogSeen → ℕ → Type 0
-HasRoom log site = (0 < log.room) × (0 < option_map_or (λ n. n) (lookup (nat_eq site) log.rooms) 0)
+HasRoom log site = (0 < log.room) × (0 < room_of log.rooms site)
+
+-- neither the list's room nor that of any site is less than it was
+pub record KeepsRoom (old new : LogSeen) : Type 0 where
+  pub list : old.room ≤ new.room
+  pub sites : (site : ℕ) → room_of old.rooms site ≤ room_of new.rooms site

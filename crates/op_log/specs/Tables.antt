@@ -1,7 +1,7 @@
 -- The tables that say where a site's operations stand.
-use Rattle.std.specs.Prelude.{◌≡◌, ℕ, ◌-◌, ◌<◌, ◌≤◌, nat_eq, List, [], length, map, slice_get, Some}
+use Rattle.std.specs.Prelude.{◌≡◌, ℕ, ◌-◌, ◌<◌, ◌≤◌, nat_eq, List, [], length, map, slice_get, Some, All}
 use Rattle.std.specs.Option.{option_map_or}
-use Rattle.std.specs.Map.{lookup}
+use Rattle.std.specs.Map.{lookup, keys_of}
 use Rattle.op_log.specs.declared.site_log.Entry.{Entry}
 
 -- what is known of a site: its operations by their numbers, its greatest stamp, and how many operations more
@@ -33,6 +33,14 @@ unknown = record { entries = []; stamp = 0; room = 0 }
 -- a site's table; an empty one where there is none
 abbrev pub table_of : Tables → ℕ → SiteSeen
 table_of tables site = option_map_or (λ t. t) (lookup (nat_eq site) tables) unknown
+
+-- a site's front: how many entries its table has
+abbrev pub front_in : Tables → ℕ → ℕ
+front_in tables site = length (table_of tables site).entries
+
+-- each site that has a table in the first has the same front in the second
+abbrev pub AgreesWith : Tables → Tables → Type 0
+AgreesWith t u = All (λ site. front_in t site ≡ front_in u site) (keys_of t)
 
 -- how many operations more of each site take no memory
 abbrev pub rooms_of : Tables → List (ℕ × ℕ)

@@ -1,13 +1,13 @@
-ghost use Rattle.std.specs.Prelude.{◌≡◌, ℕ, ◌+◌, ◌<◌, ◌≤◌, ◌↔◌, [], ◌∷◌, ◌++◌, length, IfSome, IsSome, OnOk};
-ghost use Rattle.std.specs.Prelude.{◌≢◌, AllPairs, Contains, IfOk};
+ghost use Rattle.std.specs.Prelude.{◌≡◌, ◌+◌, ◌≤◌, ◌↔◌, [], ◌∷◌, ◌++◌, length, IfSome, IsSome, OnOk};
+ghost use Rattle.std.specs.Prelude.{◌≢◌, AllPairs, Contains, IfOk, IsTrue};
 ghost use Rattle.looks.specs.Refusal.{RefusedForMemoryAlone};
 ghost use Rattle.operations.specs.Operation.{Operation, appended_len};
 ghost use Rattle.tree_order.specs.Good.{Begins};
 ghost use Rattle.tree_order.specs.Tree.{IsInsertOf};
 ghost use Rattle.set_laws.specs.Fronts.{front_of, file_len, greatest_stamp, greatest_stamp_of};
-ghost use Rattle.set_laws.specs.Fronts.{IsHeld, IsHere};
-ghost use Rattle.set_laws.specs.Sets.{AreIdentified, AreHeldToTheFront};
-ghost use Rattle.op_log.specs.Seen.{HasRoom};
+ghost use Rattle.set_laws.specs.Fronts.{IsHeld, IsHere, AreSites};
+ghost use Rattle.set_laws.specs.Sets.{AreIdentified, AreHeldToTheFront, HaveEqualFronts};
+ghost use Rattle.op_log.specs.Seen.{HasRoom, KeepsRoom};
 ghost use Rattle.op_log.specs.Logged.{first_sites};
 
 use crate::site_log::Entry;
@@ -113,6 +113,13 @@ impl Log {
         self.sites.front(site)
     }
 
+    /// Whether each site has the same front in both. The time grows with the number of sites.
+    pub fn has_fronts_of(&self, other: &Log) -> bool
+        ensures { IsTrue result ↔ HaveEqualFronts self.now.ops other.now.ops }
+    {
+        self.sites.has_fronts_of(&other.sites)
+    }
+
     /// How long a site's file is by what its Inserts append, at most 2^24.
     pub fn file_len(&self, site: SiteNo) -> u32
         ensures value { result ≡ file_len self.now.ops site }
@@ -151,9 +158,7 @@ impl Log {
     /// The sites that have operations, ascending. The time grows with the number of operations. Refused
     /// `OutOfMemory` alone.
     pub fn sites(&self) -> Result<Vec<SiteNo>, Refusal>
-        ensures all { IfOk result (λ sites. (site : ℕ) →
-            Contains sites.items site ↔ (0 < front_of self.now.ops site)) }
-        ensures rising { IfOk result (λ sites. AllPairs (λ a b. a < b) sites.items) }
+        ensures ok { IfOk result (λ sites. AreSites self.now.ops sites.items) }
         ensures errors { RefusedForMemoryAlone result }
     {
         let mut sites = first_sites(*self.ops.allocator(), &self.ops)?;
@@ -173,11 +178,12 @@ impl Log {
 
     /// Makes room for one operation more of this site: the next push of one takes no memory.
     ///
-    /// Refused `OutOfMemory` alone. The operations stay in either case.
+    /// Refused `OutOfMemory` alone. The operations and the room that was there stay in either case.
     pub fn reserve(&mut self, site: SiteNo) -> Result<(), Refusal>
         ensures ok { OnOk result (HasRoom self.new site) }
         ensures errors { RefusedForMemoryAlone result }
         ensures ops { self.new.ops ≡ self.old.ops }
+        ensures keeps { KeepsRoom self.old self.new }
     {
         self.ops.reserve(1)?;
         self.sites.reserve(site)

@@ -111,6 +111,7 @@ impl SiteLog {
         ensures errors { RefusedForMemoryAlone result }
         ensures entries { self.new.entries ≡ self.old.entries }
         ensures stamp { self.new.stamp ≡ self.old.stamp }
+        ensures room { self.old.room ≤ self.new.room }
     {
         self.entries.reserve(1)?;
         Ok(())

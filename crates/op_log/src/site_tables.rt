@@ -1,9 +1,9 @@
-ghost use Rattle.std.specs.Prelude.{◌≡◌, ◌≢◌, ℕ, ◌+◌, ◌-◌, ◌<◌, ◌≤◌, ◌^◌, [], ◌∷◌, ◌++◌, length, max, slice_get};
-ghost use Rattle.std.specs.Prelude.{OnOk, None as Nothing};
+ghost use Rattle.std.specs.Prelude.{◌≡◌, ◌≢◌, ℕ, ◌+◌, ◌-◌, ◌<◌, ◌≤◌, ◌↔◌, ◌^◌, [], ◌∷◌, ◌++◌, length, max};
+ghost use Rattle.std.specs.Prelude.{slice_get, IsTrue, OnOk, None as Nothing};
 ghost use Rattle.std.specs.Option.{option_map};
 ghost use Rattle.std.specs.List.Sorted.{IsNonDecreasingBy};
 ghost use Rattle.looks.specs.Refusal.{RefusedForMemoryAlone};
-ghost use Rattle.op_log.specs.Tables.{end_of, table_of, IsFirstPast};
+ghost use Rattle.op_log.specs.Tables.{end_of, front_in, table_of, AgreesWith, IsFirstPast};
 
 use crate::site_log::{Entry, SiteLog};
 use char_files::{MAX_FILE, Name, SiteNo};
@@ -40,14 +40,37 @@ impl SiteTables {
         }
     }
 
-    // The number of the site's last operation; 0 where there is none.
-    pub(crate) fn front(&self, site: SiteNo) -> u32
-        ensures { result ≡ length (table_of self.now site).entries }
+    // The number of the last operation of the site of this number; 0 where there is none.
+    fn front_at(&self, site: u16) -> u32
+        ensures { result ≡ front_in self.now site }
     {
-        match self.sites.get(&site.get()) {
+        match self.sites.get(&site) {
             Some(table) => table.front(),
             None => 0,
         }
+    }
+
+    // The number of the site's last operation; 0 where there is none.
+    pub(crate) fn front(&self, site: SiteNo) -> u32
+        ensures { result ≡ front_in self.now site }
+    {
+        self.front_at(site.get())
+    }
+
+    // Whether each site that has a table here has the same front there.
+    fn agrees_with(&self, other: &SiteTables) -> bool
+        ensures { IsTrue result ↔ AgreesWith self.now other.now }
+    {
+        self.sites
+            .keys()
+            .all(|site| self.front_at(*site) == other.front_at(*site))
+    }
+
+    // Whether each site has the same front here and there.
+    pub(crate) fn has_fronts_of(&self, other: &SiteTables) -> bool
+        ensures { IsTrue result ↔ ((site : ℕ) → front_in self.now site ≡ front_in other.now site) }
+    {
+        self.agrees_with(other) && other.agrees_with(self)
     }
 
     // How long the site's file is.
@@ -103,6 +126,7 @@ impl SiteTables {
         ensures errors { RefusedForMemoryAlone result }
         ensures entries { (other : ℕ) → (table_of self.new other).entries ≡ (table_of self.old other).entries }
         ensures stamps { (other : ℕ) → (table_of self.new other).stamp ≡ (table_of self.old other).stamp }
+        ensures rooms { (other : ℕ) → (table_of self.old other).room ≤ (table_of self.new other).room }
     {
         if let Some(table) = self.sites.get_mut(&site.get()) {
             return table.reserve();

@@ -1,5 +1,5 @@
 -- Fronts, stamps and files of a set of operations, and which identities and names are here.
-use Rattle.std.specs.Prelude.{◌≡◌, ℕ, suc, ◌<◌, List, [], ◌∷◌, ◌==◌, max, Contains, if◌then◌else◌}
+use Rattle.std.specs.Prelude.{◌≡◌, ℕ, suc, ◌<◌, ◌↔◌, List, [], ◌∷◌, ◌==◌, max, Contains, AllPairs, if◌then◌else◌}
 use Rattle.char_files.specs.CharName.{CharName}
 use Rattle.operations.specs.Operation.{Operation}
 use Rattle.tree_order.specs.Good.{file_before}
@@ -36,3 +36,8 @@ IsHeld ops site seq = (op : Operation) × Contains ops op × (op.site ≡ site) 
 -- a name is here where its offset is below the length of its site's file
 abbrev pub IsHere : List Operation → CharName → Type 0
 IsHere ops name = name.off < file_len ops name.site
+
+-- the sites that have operations, ascending
+pub record AreSites (ops : List Operation) (sites : List ℕ) : Type 0 where
+  pub all : (site : ℕ) → Contains sites site ↔ (0 < front_of ops site)
+  pub rising : AllPairs (λ a b. a < b) sites

@@ -1,7 +1,10 @@
-ghost use Rattle.std.specs.Prelude.{List, ◌++◌};
+ghost use Rattle.std.specs.Prelude.{◌↔◌, List, ◌++◌};
+ghost use Rattle.char_files.specs.CharName.{CharName};
 ghost use Rattle.operations.specs.Operation.{Operation};
 ghost use Rattle.tree_order.specs.Good.{Good};
 ghost use Rattle.tree_order.specs.Laws.{AreSameSet};
+ghost use Rattle.tree_order.specs.Tree.{IsChar};
+ghost use Rattle.set_laws.specs.Fronts.{IsHere};
 ghost use Rattle.set_laws.specs.Sets.{AreIdentified, UnionIsGood, UnionsAreSets, UnionsShowSets};
 ghost use Rattle.set_laws.specs.Sets.{HaveEqualFronts, AreHeldToTheFront, HasToTheFront};
 
@@ -33,6 +36,13 @@ pub fn equal_fronts_tell_equal_sets()
 /// A law: a good set holds the identities of each site up to its front, and no others.
 pub fn front_is_held()
     ensures { (ops : List Operation) → Good ops → AreIdentified ops → AreHeldToTheFront ops }
+{}
+
+/// A law: the names that are here, those whose offsets are below the length of their site's file, are the
+/// characters of a good set.
+pub fn names_here_are_the_characters()
+    ensures { (ops : List Operation) (name : CharName) → Good ops → AreIdentified ops
+        → IsHere ops name ↔ IsChar ops name }
 {}
 
 /// A law: of the operations of another list, a good set has those up to its fronts, and no others. So what a

@@ -4,12 +4,31 @@ use std::test::Fail;
 
 // Three sites, one cause: sites 1 and 2 both type behind the `A` of `AC`; then site 1 deletes a character,
 // which makes no file longer.
-const TOLD: &[Told] = &[
-    (1, 1, 1, Does::Insert(None, 0, b"AC")),
-    (2, 1, 2, Does::Insert(Some((1, 0)), 0, b"X")),
-    (2, 2, 3, Does::Insert(Some((2, 0)), 1, b"Yz")),
-    (1, 2, 2, Does::Insert(Some((1, 0)), 2, b"B")),
-    (1, 3, 4, Does::Delete(&[(1, 1)])),
+const AC: Told = (1, 1, 1, Does::Insert(None, 0, b"AC"));
+
+const X: Told = (2, 1, 2, Does::Insert(Some((1, 0)), 0, b"X"));
+
+const YZ: Told = (2, 2, 3, Does::Insert(Some((2, 0)), 1, b"Yz"));
+
+const B: Told = (1, 2, 2, Does::Insert(Some((1, 0)), 2, b"B"));
+
+const C_GOES: Told = (1, 3, 4, Does::Delete(&[(1, 1)]));
+
+const TOLD: &[Told] = &[AC, X, YZ, B, C_GOES];
+
+// One operation more of site 1, and one of a site that those lack.
+const A_GOES: Told = (1, 4, 5, Does::Delete(&[(1, 0)]));
+
+const OF_A_THIRD: Told = (3, 1, 5, Does::Insert(None, 0, b"!"));
+
+// What another log has taken in, and whether its fronts are those of `TOLD`.
+const OTHERS: &[(&str, &[Told], bool)] = &[
+    ("in another order", &[X, YZ, AC, B, C_GOES], true),
+    ("one behind", &[AC, X, YZ, B], false),
+    ("one ahead", &[AC, X, YZ, B, C_GOES, A_GOES], false),
+    ("a site more", &[AC, X, YZ, B, C_GOES, OF_A_THIRD], false),
+    ("a site less", &[AC, B, C_GOES], false),
+    ("none", &[], false),
 ];
 
 #[test]
@@ -79,5 +98,16 @@ fn the_sites_of_a_log_ascend(rt: HostRuntime) -> Result<(), Fail> {
     let sites = log_of(rt.alloc(), &starts)?.sites()?;
     assert_eq!(rt; sites.len(), 2);
     assert_eq!(rt; (sites[0].get(), sites[1].get()), (1, 3));
+    Ok(())
+}
+
+#[test]
+fn logs_compare_their_fronts(rt: HostRuntime) -> Result<(), Fail> {
+    let log = log_of(rt.alloc(), TOLD)?;
+    for (what, told, want) in OTHERS {
+        let other = log_of(rt.alloc(), told)?;
+        let equal = (log.has_fronts_of(&other), other.has_fronts_of(&log));
+        assert_eq!(rt; (*what, equal), (*what, (*want, *want)));
+    }
     Ok(())
 }

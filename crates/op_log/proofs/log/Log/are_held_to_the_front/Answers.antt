@@ -1,19 +1,12 @@
-use Rattle.std.proofs.Common.{◌≢◌, AllPairs, ap, subst}
+use Rattle.std.proofs.Common.{ap}
 use Rattle.operations.specs.Operation.{Operation}
-use Rattle.set_laws.specs.Sets.{AreHeldToTheFront}
-use Rattle.op_log.specs.Seen.{LogSeen}
 use Rattle.op_log.proofs.Logged.{are_held_to_the_front}
 use Rattle.op_log.proofs.log.Log.are_held_to_the_front.Goals as goal
 
 pub returns-clause-held : goal.returns-clause-held
-returns-clause-held c =
-    let l = c.self.inside in
-    subst (λ (seen : LogSeen). AreHeldToTheFront seen.ops) c.self.view_is
-    (are_held_to_the_front l.ops.items l.sites l.stamp c.self.invariant)
+returns-clause-held c = rw (← c.self.view_is) (are_held_to_the_front c.self.invariant)
 
 pub returns-clause-once : goal.returns-clause-once
 returns-clause-once c =
-    subst (λ (seen : LogSeen). AllPairs (λ a b. a ≢ b) seen.ops) c.self.view_is
-    (λ i j d less lt same.
-    c.self.invariant.once i j d less lt (ap (λ (o : Operation). o.site) same)
-    (ap (λ (o : Operation). o.seq) same))
+    rw (← c.self.view_is) (λ i j d less lt same. c.self.invariant.once i j d less lt
+    (ap (λ (o : Operation). o.site) same) (ap (λ (o : Operation). o.seq) same))

@@ -1,27 +1,13 @@
-use Rattle.std.proofs.Common.{rules, ◌≡◌, ℕ, ◌<◌, ◌↔◌, List, Contains, IsPermutation, ap, subst, ◌∙◌}
+use Rattle.std.proofs.Common.{rules, ◌≡◌, ℕ, List, IsPermutation, ap, subst, ◌∙◌}
 use Rattle.std.specs.List.Sorted.{IsNonDecreasing}
 use Rattle.std.proofs.lemmas.List.Sorted.{IsNonDecreasingBy-from_sort_by_key}
-use Rattle.set_laws.specs.Fronts.{front_of}
-use Rattle.op_log.specs.Seen.{LogSeen}
 use Rattle.op_log.specs.Logged.{first_sites}
 use Rattle.op_log.proofs.Logged.{are_held_to_the_front}
-use Rattle.op_log.proofs.Sites.{sites_rise, sites_told}
+use Rattle.op_log.proofs.Sites.{sites_sorted}
 use Rattle.op_log.proofs.log.Log.sites.Goals as goal
 
-pub returns-clause-all : goal.returns-clause-all
-returns-clause-all c =
-    let l = c.self.inside in
-    let sites = c.sort_unstable_by_key.new.self.items in
-    let firsts : c.in_ok-sites.sites.items ≡ first_sites l.ops.items =
-    c.in_ok-sites.ensures.ok ∙ ap first_sites c.deref.ensures.value in
-    let perm : IsPermutation (first_sites l.ops.items) sites =
-    subst (λ (xs : List ℕ). IsPermutation xs sites) firsts c.sort_unstable_by_key.ensures.permutation in
-    subst (λ (seen : LogSeen). (site : ℕ) → Contains sites site ↔ (0 < front_of seen.ops site))
-    c.self.view_is
-    (sites_told l.ops.items sites perm (are_held_to_the_front l.ops.items l.sites l.stamp c.self.invariant))
-
-pub returns-clause-rising : goal.returns-clause-rising
-returns-clause-rising c =
+pub returns-clause-ok : goal.returns-clause-ok
+returns-clause-ok c =
     let l = c.self.inside in
     let sites = c.sort_unstable_by_key.new.self.items in
     let firsts : c.in_ok-sites.sites.items ≡ first_sites l.ops.items =
@@ -31,4 +17,6 @@ returns-clause-rising c =
     let sorted : IsNonDecreasing sites =
     IsNonDecreasingBy-from_sort_by_key (λ (site : ℕ). site) sites c.sort_unstable_by_key.ensures.sorted
     (λ a r q k. search rules) in
-    sites_rise l.ops.items sites perm c.self.invariant.once sorted
+    rw (← c.self.view_is)
+    (sites_sorted l.ops.items sites perm c.self.invariant.once (are_held_to_the_front c.self.invariant)
+    sorted)
