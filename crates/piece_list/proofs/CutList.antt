@@ -138,6 +138,16 @@ cut_spells old new tag n u cut =
     ap spelled cut.parts ∙ cut_spells_the_same cut.ahead cut.behind tag u n cut.piece le
     ∙ sym (ap spelled cut.whole)
 
+-- and makes one piece more
+pub cut_counts : (old new : Items) (tag n u : ℕ) → IsCut tag n u old new → length new ≡ length old + 1
+cut_counts old new tag n u cut =
+    let p : Piece = cut.piece in
+    let whole : length old ≡ length cut.ahead + length ((tag, p) ∷ cut.behind) =
+    ap length cut.whole ∙ length-append cut.ahead ((tag, p) ∷ cut.behind) in
+    let parts : length new ≡ length cut.ahead + length ((tag, front_of n p) ∷ (u, rest_of n p) ∷ cut.behind) =
+    ap length cut.parts ∙ length-append cut.ahead ((tag, front_of n p) ∷ (u, rest_of n p) ∷ cut.behind) in
+    omega arith
+
 -- and the place moves to the rest
 pub cut_place : (old new : Items) (tag n u : ℕ) → AreTags old → IsCut tag n u old new → (c : CharName)
     → IsPlaceOf old (record { piece = tag; within = n }) c

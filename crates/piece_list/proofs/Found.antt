@@ -29,8 +29,8 @@ some_is a b e = cc
 pub none_is_not : {X : Type 0} (a : X) → None ≡ Some a → ⊥
 none_is_not a e = absurd cc
 
-pub no_some : (r : Option Place) → r ≡ None → IsSome r → ⊥
-no_some (Some place) e some = none_is_not place (sym e)
+pub no_some : {X : Type 0} (r : Option X) → r ≡ None → IsSome r → ⊥
+no_some (Some a) e some = none_is_not a (sym e)
 no_some None e some = absurd cc
 
 -- where a member stands

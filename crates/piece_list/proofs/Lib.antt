@@ -2,6 +2,7 @@ pub mod Along
 pub mod ChangedNames
 pub mod ChangedPiece
 pub mod Changes
+pub mod CharOf
 pub mod Counts
 pub mod Cut
 pub mod CutList
@@ -11,12 +12,12 @@ pub mod Entered
 pub mod Few
 pub mod Found
 pub mod Gap
-pub mod KeyOf
 pub mod Names
 pub mod Order
 pub mod Parts
 pub mod Placing
 pub mod Shown
+pub mod ShownAt
 pub mod ShownTo
 pub mod Tables
 pub mod Walked

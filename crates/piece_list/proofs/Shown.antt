@@ -188,16 +188,18 @@ runs_tell (m ∷ items) =
     runs_with m items m.1.hidden.value (runs_tell items)
     ∙ sym (ap (map appearance_of) (shown_cons m items))
 
--- and none is empty
-pub runs_have_some : (items : Items) → ArePieces items → All (λ run. 0 < run.len) (shown_runs items)
-runs_have_some [] pieces = All-nil (λ (run : Run). 0 < run.len)
-runs_have_some (m ∷ items) pieces =
+-- what holds of each piece as a run holds of each of them
+pub runs_are : (P : Run → Type 0) → ((p : Piece) → IsPiece p → P (run_of p)) → (items : Items)
+    → ArePieces items → All P (shown_runs items)
+runs_are P holds [] pieces = All-nil P
+runs_are P holds (m ∷ items) pieces =
     let Is : ℕ × Piece → Type 0 = λ (n : ℕ × Piece). IsPiece n.1 in
-    go m.1.hidden.value (All-head Is m items pieces).0 (runs_have_some items (All-tail Is m items pieces))
+    go m.1.hidden.value (holds m.1 (All-head Is m items pieces))
+    (runs_are P holds items (All-tail Is m items pieces))
   where
-    go : (hidden : Bool) → 0 < m.1.len → All (λ (run : Run). 0 < run.len) (shown_runs items)
-        → All (λ (run : Run). 0 < run.len) (map (λ (n : ℕ × Piece). run_of n.1)
+    go : (hidden : Bool) → P (run_of m.1) → All P (shown_runs items)
+        → All P (map (λ (n : ℕ × Piece). run_of n.1)
         (cond (not hidden) (m ∷ filter (λ (n : ℕ × Piece). not n.1.hidden.value) items)
         (filter (λ (n : ℕ × Piece). not n.1.hidden.value) items)))
-    go true some rest = rest
-    go false some rest = All-cons (λ (run : Run). 0 < run.len) (run_of m.1) (shown_runs items) some rest
+    go true here rest = rest
+    go false here rest = All-cons P (run_of m.1) (shown_runs items) here rest

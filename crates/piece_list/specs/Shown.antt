@@ -28,15 +28,13 @@ appearance_in r c = record { name = c; key = r.key; looks = r.looks }
 abbrev pub appearances_in : Run → List Appearance
 appearances_in r = map (appearance_in r) (names_of (record { site = r.site; at = r.off; len = r.len }))
 
+-- the looks of a piece's characters
+abbrev pub looks_of : Piece → Looks
+looks_of p = record { font = p.font.value; colour = p.colour.value; offset = p.offset.value }
+
 -- a piece as a run
 abbrev pub run_of : Piece → Run
-run_of p = record {
-  site = p.site;
-  off = p.off;
-  len = p.len;
-  key = p.key;
-  looks = record { font = p.font.value; colour = p.colour.value; offset = p.offset.value };
-}
+run_of p = record { site = p.site; off = p.off; len = p.len; key = p.key; looks = looks_of p }
 
 -- the pieces that aren't hidden, as runs
 abbrev pub shown_runs : List (ℕ × Piece) → List Run

@@ -7,8 +7,6 @@ mod piece;
 mod place;
 mod run;
 mod tags;
-#[cfg(test)]
-mod tests;
 
 pub use list::{PieceList, Walk};
 pub use piece::{MAX_PIECE, Piece};

@@ -8,9 +8,6 @@ ghost use Rattle.piece_list.specs.Changing.{changed_piece, changed_char, AreHere
 ghost use Rattle.piece_list.specs.Held.{AreEntered};
 ghost use Rattle.piece_list.specs.Spelled.{spelled, shown_chars, HasName};
 
-#[cfg(test)]
-mod tests;
-
 use crate::list::walking::shown_of;
 use crate::list::{PieceList, cut, numbers_differ};
 use crate::piece::Piece;
@@ -49,6 +46,7 @@ fn cut_at(pieces: &mut Ring<Piece>, tags: &mut TagTables, site: SiteNo, off: u32
     ensures edges { (other at : ℕ) → IsEdge other at pieces.old.items → IsEdge other at pieces.new.items }
     ensures entered { AreEntered pieces.new.items tags.new }
     ensures room { pieces.old.room ≤ pieces.new.room + 1 }
+    ensures few { length pieces.new.items ≤ length pieces.old.items + 1 }
 {
     numbers_differ(pieces);
     let Some(name) = Name::new(site, off) else {
@@ -87,6 +85,7 @@ fn change_piece(
     ensures entered { AreEntered pieces.new.items tags.now }
     ensures counted { shown.new ≡ length (shown_chars (spelled pieces.new.items)) }
     ensures room { pieces.new.room ≡ pieces.old.room }
+    ensures many { length pieces.new.items ≡ length pieces.old.items }
 {
     numbers_differ(pieces);
     match tags.get(name) {
@@ -123,6 +122,7 @@ fn change_range(
     ensures entered { AreEntered pieces.new.items tags.now }
     ensures counted { shown.new ≡ length (shown_chars (spelled pieces.new.items)) }
     ensures room { pieces.new.room ≡ pieces.old.room }
+    ensures many { length pieces.new.items ≡ length pieces.old.items }
 {
     let end = range.at() + range.len();
     let mut at = range.at();
@@ -151,6 +151,7 @@ fn change_ranges(
         ≡ map (if_named ranges.now (changed_char change.now)) (spelled pieces.old.items) }
     ensures counted { shown.new ≡ length (shown_chars (spelled pieces.new.items)) }
     ensures entered { AreEntered pieces.new.items tags.new }
+    ensures few { length pieces.new.items ≤ length pieces.old.items + 2 * length ranges.now }
 {
     for range in ranges {
         cut_at(pieces, tags, range.site(), range.at());
@@ -167,6 +168,7 @@ impl PieceList {
             ≡ map (if_named names.now (changed_char change.now)) (spelled self.old.items)) }
         ensures errors { RefusedForMemoryAlone result }
         ensures err { OnErr result (self.new ≡ self.old) }
+        ensures few { length self.new.items ≤ length self.old.items + 2 * length names.now }
         ensures steps { self.new.steps ≡ self.old.steps }
     {
         let ranges = names.ranges();
@@ -190,6 +192,7 @@ impl PieceList {
             ≡ map (if_named names.now (switched true key)) (spelled self.old.items)) }
         ensures errors { RefusedForMemoryAlone result }
         ensures err { OnErr result (self.new ≡ self.old) }
+        ensures few { length self.new.items ≤ length self.old.items + 2 * length names.now }
         ensures steps { self.new.steps ≡ self.old.steps }
     {
         self.change(names, &Change::Switch { hidden: true, key })
@@ -205,6 +208,7 @@ impl PieceList {
             ≡ map (if_named names.now (switched false key)) (spelled self.old.items)) }
         ensures errors { RefusedForMemoryAlone result }
         ensures err { OnErr result (self.new ≡ self.old) }
+        ensures few { length self.new.items ≤ length self.old.items + 2 * length names.now }
         ensures steps { self.new.steps ≡ self.old.steps }
     {
         self.change(names, &Change::Switch { hidden: false, key })
@@ -226,6 +230,7 @@ impl PieceList {
             ≡ map (if_named names.now (relooked sel looks.now key)) (spelled self.old.items)) }
         ensures errors { RefusedForMemoryAlone result }
         ensures err { OnErr result (self.new ≡ self.old) }
+        ensures few { length self.new.items ≤ length self.old.items + 2 * length names.now }
         ensures steps { self.new.steps ≡ self.old.steps }
     {
         let looks = looks.copy();

@@ -15,9 +15,6 @@ ghost use Rattle.piece_list.specs.Placing.{IsCounted, IsNext, IsSkip, IsPutInGap
 ghost use Rattle.piece_list.specs.Spelled.{spelled, shown_chars, HasName};
 ghost use Rattle.piece_list.specs.Tables.{table_of};
 
-#[cfg(test)]
-pub(in crate::list) mod tests;
-
 use crate::list::{PieceList, cut, numbers_differ};
 use crate::piece::Piece;
 use crate::place::Place;

@@ -1,12 +1,13 @@
 //! What is shown, and where.
 
-ghost use Rattle.std.specs.Prelude.{◌≡◌, ◌<◌, ◌↔◌, if◌then◌else◌, length, map, All, Contains};
+ghost use Rattle.std.specs.Prelude.{◌≡◌, ◌+◌, ◌<◌, ◌≤◌, ◌↔◌, if◌then◌else◌, length, map, All, Contains};
 ghost use Rattle.std.specs.Prelude.{IsSome, IfSome, slice_get};
 ghost use Rattle.std.specs.Iterator.{YieldsFirst, item_count};
 ghost use Rattle.std.specs.List.{flat_map};
-ghost use Rattle.tree_order.specs.Registers.{Kept};
+ghost use Rattle.tree_order.specs.Registers.{Kept, kept_looks};
+ghost use Rattle.char_files.specs.declared.TheConstants.{MAX_FILE};
 ghost use Rattle.piece_list.specs.Held.{IsPlaceOf};
-ghost use Rattle.piece_list.specs.Shown.{AreShownTo, appearance_of, appearances_in, run_of, shown_runs};
+ghost use Rattle.piece_list.specs.Shown.{AreShownTo, appearance_of, appearances_in, looks_of, run_of, shown_runs};
 ghost use Rattle.piece_list.specs.Spelled.{spelled, shown_chars, HasName};
 
 use super::members::Members;
@@ -18,6 +19,17 @@ use char_files::Name;
 use looks::{Key, Looks};
 use std::marker::Model;
 
+// The looks of a piece's characters.
+fn looks(piece: &Piece) -> Looks
+    ensures { result ≡ looks_of piece.now }
+{
+    Looks {
+        font: piece.font.value.copy(),
+        colour: piece.colour.value,
+        offset: piece.offset.value,
+    }
+}
+
 // The run of all characters of a piece.
 fn run(piece: &Piece) -> Run
     ensures { result ≡ run_of piece.now }
@@ -27,11 +39,7 @@ fn run(piece: &Piece) -> Run
         off: piece.off,
         len: piece.len,
         key: piece.key,
-        looks: Looks {
-            font: piece.font.value.copy(),
-            colour: piece.colour.value,
-            offset: piece.offset.value,
-        },
+        looks: looks(piece),
     }
 }
 
@@ -152,12 +160,28 @@ impl PieceList {
         unreachable!()
     }
 
+    /// The name and the looks of the character that is shown at this position, from 0.
+    pub fn shown_at(&self, pos: u64) -> (Name, Looks)
+        requires { pos < length (shown_chars (spelled self.now.items)) }
+        ensures { IfSome (slice_get (shown_chars (spelled self.now.items)) pos)
+            (λ k. (result.0 ≡ k.name) × (result.1 ≡ kept_looks k)) }
+    {
+        let place = self.locate_pos(pos);
+        numbers_differ(&self.pieces);
+        let piece = self.pieces.value_at(place.piece);
+        match Name::new(piece.site, piece.off + place.within) {
+            Some(name) => (name, looks(piece)),
+            None => unreachable!(),
+        }
+    }
+
     /// Walks the stretches that are shown, in order: each a run that isn't empty.
     pub fn walk(&self) -> Walk<'_>
         ensures runs { result ≡ shown_runs self.now.items }
         ensures shown { flat_map appearances_in result
             ≡ map appearance_of (shown_chars (spelled self.now.items)) }
         ensures some { All (λ run. 0 < run.len) result }
+        ensures within { All (λ run. run.off + run.len ≤ MAX_FILE) result }
     {
         Walk {
             members: Members::of(&self.pieces),

@@ -1,13 +1,14 @@
 use Rattle.std.proofs.Common.{◌≡◌, ℕ, true, List, Some, None, refl, ap, sym, subst, ◌∙◌, arith}
 use Rattle.operations.specs.NameSet.{IsIn}
 use Rattle.piece_list.specs.declared.piece.Piece.{Piece}
+use Rattle.piece_list.specs.declared.place.Place.{Place}
 use Rattle.piece_list.specs.Held.{PiecesSeen}
 use Rattle.piece_list.specs.Pieces.{range_of}
 use Rattle.piece_list.specs.Spelled.{spelled, HasName}
 use Rattle.piece_list.specs.Tables.{tag_at}
 use Rattle.piece_list.proofs.Found.{name_has_place, entry_of, none_is_not, some_is, no_some, no_place}
 use Rattle.piece_list.proofs.Found.{place_has_name}
-use Rattle.piece_list.proofs.KeyOf.{place_of}
+use Rattle.piece_list.proofs.CharOf.{place_of}
 use Rattle.piece_list.proofs.list.PieceList.place_of.Goals as goal
 
 pub returns-in_err-tag-clause-here : goal.returns-in_err-tag-clause-here
@@ -31,7 +32,7 @@ returns-then-not-holds-clause-here c =
     let seen : items ≡ c.args.self.now.items = ap (λ (v : PiecesSeen). v.items) c.self.view_is in
     let out : IsIn (range_of p) c.args.name → ⊥ =
     λ held. let yes = c.holds.ensures.1 held in grind (arith, yes, c.if-not-holds.true) in (
-      λ some. absurd (no_some None refl some),
+      λ some. absurd (no_some {X = Place} None refl some),
       λ has.
           let there : HasName (spelled items) c.args.name =
           subst (λ (l : List (ℕ × Piece)). HasName (spelled l) c.args.name) (sym seen) has in

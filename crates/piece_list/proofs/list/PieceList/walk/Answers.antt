@@ -1,10 +1,11 @@
-use Rattle.std.proofs.Common.{◌≡◌, ℕ, List, ◌<◌, All, sym, ap, subst, ◌∙◌}
+use Rattle.std.proofs.Common.{◌≡◌, ℕ, List, ◌+◌, ◌<◌, ◌≤◌, All, sym, ap, subst, ◌∙◌}
 use Rattle.std.specs.List.{flat_map}
+use Rattle.char_files.specs.declared.TheConstants.{MAX_FILE}
 use Rattle.piece_list.specs.declared.piece.Piece.{Piece}
 use Rattle.piece_list.specs.declared.run.Run.{Run}
 use Rattle.piece_list.specs.Held.{PiecesSeen}
 use Rattle.piece_list.specs.Shown.{appearances_in, shown_runs}
-use Rattle.piece_list.proofs.Shown.{runs_tell, runs_have_some}
+use Rattle.piece_list.proofs.Shown.{runs_tell, runs_are}
 use Rattle.piece_list.proofs.list.PieceList.walk.Goals as goal
 
 pub returns-clause-shown : goal.returns-clause-shown
@@ -16,6 +17,12 @@ returns-clause-shown c =
 
 pub returns-clause-some : goal.returns-clause-some
 returns-clause-some c =
-    let items : List (ℕ × Piece) = c.self.inside.pieces.items in
-    subst (λ (l : List (ℕ × Piece)). All (λ (run : Run). 0 < run.len) (shown_runs l)) (sym c.of.ensures.all)
-    (runs_have_some items c.self.invariant.0.pieces)
+    let Some : Run → Type 0 = λ (run : Run). 0 < run.len in
+    subst (λ (l : List (ℕ × Piece)). All Some (shown_runs l)) (sym c.of.ensures.all)
+    (runs_are Some (λ p is. is.0) c.self.inside.pieces.items c.self.invariant.0.pieces)
+
+pub returns-clause-within : goal.returns-clause-within
+returns-clause-within c =
+    let Within : Run → Type 0 = λ (run : Run). run.off + run.len ≤ MAX_FILE in
+    subst (λ (l : List (ℕ × Piece)). All Within (shown_runs l)) (sym c.of.ensures.all)
+    (runs_are Within (λ p is. is.2) c.self.inside.pieces.items c.self.invariant.0.pieces)

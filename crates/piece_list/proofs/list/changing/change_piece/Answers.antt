@@ -1,4 +1,4 @@
-use Rattle.std.proofs.Common.{ℕ, ◌<◌, ◌^◌, ◌-◌, ◌+◌, ◌≤◌, List, [], ◌∷◌, map, sym, ap, subst, ◌∙◌, arith}
+use Rattle.std.proofs.Common.{ℕ, ◌<◌, ◌^◌, ◌-◌, ◌+◌, ◌≤◌, List, [], ◌∷◌, length, map, sym, ap, subst, ◌∙◌, arith}
 use Rattle.operations.specs.NameSet.{Range}
 use Rattle.tree_order.specs.Registers.{if_named}
 use Rattle.piece_raw.specs.Ring.{with_value_at}
@@ -6,7 +6,7 @@ use Rattle.piece_list.specs.declared.piece.Piece.{Piece}
 use Rattle.piece_list.specs.Changing.{IsEdge, changed_char}
 use Rattle.piece_list.specs.Held.{AreEntered}
 use Rattle.piece_list.specs.Spelled.{spelled}
-use Rattle.piece_list.proofs.ChangedPiece.{turn, put_at_cursor, same_names}
+use Rattle.piece_list.proofs.ChangedPiece.{turn, put_at_cursor, as_many, same_names}
 use Rattle.piece_list.proofs.ChangedPiece.{edges_after, entered_after, changed_there}
 use Rattle.piece_list.proofs.Counts.{change_sub, change_fits, change_counts}
 use Rattle.piece_list.proofs.Edges.{is_entered, edge_behind, edge_of}
@@ -144,3 +144,10 @@ returns-clause-counted c =
     c.shown_of-was.ensures new c.numbers_differ.ensures
     (put_at_cursor c.seek.new.self c.args.pieces.now.items c.in-Some.tag c.args.pieces.now.room
     c.apply.new.piece c.seek.ensures) c.shown_of-is.ensures
+
+pub returns-clause-many : goal.returns-clause-many
+returns-clause-many c =
+    let items : List (ℕ × Piece) = c.args.pieces.now.items in
+    let w : Piece = c.apply.new.piece in
+    ap length (put_at_cursor c.seek.new.self items c.in-Some.tag c.args.pieces.now.room w c.seek.ensures)
+    ∙ as_many c.in-Some.tag w items

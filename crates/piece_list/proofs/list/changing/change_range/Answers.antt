@@ -30,6 +30,7 @@ loop-at-init c =
       changed = sym (ap (λ (n : ℕ). map (if_named (range site from n ∷ []) each) old) none
           ∙ no_range each (keeps_name c.args.change.now) site from old);
       room = refl;
+      many = refl;
     }
 
 pub change_piece-at-requires-clause-here : goal.change_piece-at-requires-clause-here
@@ -71,4 +72,5 @@ loop-at-preserved c =
           (spelled c.loop-at.pieces.items) (spelled new) is c.loop-at.invariant.low
           (omega arith) c.loop-at.invariant.changed c.change_piece-at.ensures.changed;
       room = c.change_piece-at.ensures.room ∙ c.loop-at.invariant.room;
+      many = c.change_piece-at.ensures.many ∙ c.loop-at.invariant.many;
     }

@@ -1,4 +1,4 @@
-use Rattle.std.proofs.Common.{◌-◌, ◌≡◌, ◌+◌, ◌≤◌, [], ◌∷◌, map}
+use Rattle.std.proofs.Common.{◌-◌, ◌≡◌, ◌+◌, ◌≤◌, [], ◌∷◌, length, map}
 use Rattle.tree_order.specs.Registers.{if_named}
 use Rattle.piece_list.specs.Changing.{changed_char, IsEdge}
 use Rattle.piece_list.specs.Held.{AreEntered}
@@ -20,6 +20,7 @@ invariant-loop-at l = record {
       ≡ map (if_named (range l.range.site l.range.at (l.at - l.range.at) ∷ []) (changed_char l.change))
       (spelled l.initial.pieces.items);
   room : l.pieces.room ≡ l.initial.pieces.room;
+  many : length l.pieces.items ≡ length l.initial.pieces.items;
 }
 
 abbrev pub decreases-loop-at : goal.decreases-loop-at

@@ -14,6 +14,7 @@ loop-range-init c = record {
   entered = c.requires.entered;
   counted = c.requires.counted;
   room = omega (arith, c.requires.room);
+  few = omega arith;
   changed = sym (unchanged (changed_char c.args.change.now) (keeps_name c.args.change.now) [] (λ d. refl)
       (spelled c.args.pieces.now.items));
 }
@@ -47,6 +48,13 @@ loop-range-preserved c =
         c.cut_at-in-loop-range.ensures.room,
         c.cut_at.ensures.room,
         c.loop-range.invariant.room,
+      );
+      few = omega (
+        arith,
+        c.change_range.ensures.many,
+        c.cut_at-in-loop-range.ensures.few,
+        c.cut_at.ensures.few,
+        c.loop-range.invariant.few,
       );
       changed = c.change_range.ensures.changed
           ∙ ap (map (if_named (r ∷ []) each)) (c.cut_at-in-loop-range.ensures.spells

@@ -11,6 +11,7 @@ invariant-loop-range l = record {
   entered : AreEntered l.pieces.items l.tags;
   counted : l.shown ≡ shown_in l.pieces.items;
   room : 2 * length l.ranges ≤ l.pieces.room + 2 * l.range-index;
+  few : length l.pieces.items ≤ length l.initial.pieces.items + 2 * l.range-index;
   changed : spelled l.pieces.items
       ≡ map (if_named (take l.range-index l.ranges) (changed_char l.change)) (spelled l.initial.pieces.items);
 }

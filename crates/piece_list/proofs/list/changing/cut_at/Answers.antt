@@ -1,11 +1,11 @@
-use Rattle.std.proofs.Common.{◌≡◌, ◌≤◌, sym, ap, subst, arith}
+use Rattle.std.proofs.Common.{◌≡◌, ◌+◌, ◌≤◌, length, sym, ap, subst, arith}
 use Rattle.char_files.specs.CharName.{CharName}
 use Rattle.operations.specs.NameSet.{IsIn}
 use Rattle.piece_list.specs.Changing.{IsEdge}
 use Rattle.piece_list.specs.Pieces.{range_of}
 use Rattle.piece_list.specs.declared.piece.Piece.{Piece}
 use Rattle.piece_list.proofs.ChangedNames.{true_is_not}
-use Rattle.piece_list.proofs.CutList.{cut_spells}
+use Rattle.piece_list.proofs.CutList.{cut_spells, cut_counts}
 use Rattle.piece_list.proofs.Edges.{edge_there, edges_after_cut, edge_after_cut}
 use Rattle.piece_list.proofs.list.changing.cut_at.Goals as goal
 use Rattle.piece_list.proofs.list.changing.cut_at.Goals.{else-piece-off-via-then-piece-off+else-holds}
@@ -27,6 +27,13 @@ pub returns-then-holds-clause-edges : goal.returns-then-holds-clause-edges
 returns-then-holds-clause-edges c =
     edges_after_cut c.args.pieces.now.items c.cut.new.pieces.items c.in-Some-get.tag _ c.cut.result
     c.cut.ensures.cut
+
+pub returns-then-holds-clause-few : goal.returns-then-holds-clause-few
+returns-then-holds-clause-few c =
+    let more : length c.cut.new.pieces.items ≡ length c.args.pieces.now.items + 1 =
+    cut_counts c.args.pieces.now.items c.cut.new.pieces.items c.in-Some-get.tag _ c.cut.result
+    c.cut.ensures.cut in
+    omega (arith, more)
 
 pub returns-else-piece-off-clause-edge : goal.returns-else-piece-off-clause-edge
 returns-else-piece-off-clause-edge c =

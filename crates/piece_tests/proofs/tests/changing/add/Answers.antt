@@ -1,9 +1,9 @@
-use Rattle.std.proofs.Common.{◌≡◌, ℕ, List, inl, inr, refl, sym, subst}
+use Rattle.std.proofs.Common.{ℕ, List, inl, inr, refl, sym, subst}
 use Rattle.char_files.specs.CharName.{CharName}
 use Rattle.operations.specs.NameSet.{Range, IsAmong}
 use Rattle.piece_list.specs.declared.piece.Piece.{Piece}
 use Rattle.piece_list.specs.Spelled.{spelled, HasName}
-use Rattle.piece_list.proofs.list.changing.tests.add.Goals as goal
+use Rattle.piece_tests.proofs.tests.changing.add.Goals as goal
 
 pub returns : goal.returns
 returns c = λ d is.

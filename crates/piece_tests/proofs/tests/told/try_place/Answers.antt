@@ -3,7 +3,7 @@ use Rattle.operations.specs.NameSet.{Range, IsIn}
 use Rattle.piece_list.specs.declared.piece.Piece.{Piece}
 use Rattle.piece_list.specs.Placing.{HasAnchor}
 use Rattle.piece_list.specs.Spelled.{spelled, HasName}
-use Rattle.piece_list.proofs.list.placing.tests.try_place.Goals as goal
+use Rattle.piece_tests.proofs.tests.told.try_place.Goals as goal
 
 pub place-requires-clause-here : goal.place-requires-clause-here
 place-requires-clause-here c =

@@ -1,4 +1,4 @@
--- The key of a character is that of the piece that holds its name.
+-- A character is the one that the piece holding its name has under it.
 use Rattle.std.proofs.Common.{◌≡◌, ℕ, ◌+◌, ◌-◌, ◌<◌, inl, inr, List, [], ◌∷◌, Some}
 use Rattle.std.proofs.Common.{Contains, refl, sym, ap, subst, ◌∙◌, arith}
 use Rattle.std.proofs.lemmas.List.Elements.{Contains-append_cases}
@@ -24,29 +24,29 @@ pub place_of : (items : Items) (tag : ℕ) (p : Piece) (c : CharName) → IsMemb
 place_of items tag p c is (site, from, to) =
     (record { piece = tag; within = c.off - p.off }, (p, is, omega arith, site, omega arith))
 
--- a character is one of a piece, and has its key
+-- a character is one of a piece
 pub record IsOfPiece (items : Items) (k : Kept) : Type 0 where
   pub tag : ℕ
   pub piece : Piece
   pub member : IsMember items tag piece
   pub name : IsIn (range_of piece) k.name
-  pub key : k.key ≡ piece.key
+  pub same : k ≡ char_of piece k.name
 
-of_piece : (p : Piece) (k : Kept) → Contains (chars_of p) k → IsIn (range_of p) k.name × (k.key ≡ p.key)
+of_piece : (p : Piece) (k : Kept) → Contains (chars_of p) k → IsIn (range_of p) k.name × (k ≡ char_of p k.name)
 of_piece p k (i, lt, e) =
     let few : i < p.len = omega (arith, count_chars p) in
     let c : CharName = record { site = p.site; off = p.off + i } in
     let is : char_of p c ≡ k = sym (char_at p i k few) ∙ e in
     let name : c ≡ k.name = ap (λ (o : Kept). o.name) is in
-    (subst (IsIn (range_of p)) name (refl, omega arith, omega arith), sym (ap (λ (o : Kept). o.key) is))
+    (subst (IsIn (range_of p)) name (refl, omega arith, omega arith), sym is ∙ ap (char_of p) name)
 
 pub is_of_piece : (items : Items) (k : Kept) → Contains (spelled items) k → IsOfPiece items k
 is_of_piece [] k (i, lt, e) = absurd (omega arith)
 is_of_piece (m ∷ items) k has =
     elim (Contains-append_cases (chars_of m.1) (spelled items) k has) [
       | inl here ↦
-          let own : IsIn (range_of m.1) k.name × (k.key ≡ m.1.key) = of_piece m.1 k here in
-          record { tag = m.0; piece = m.1; member = ([], items, refl); name = own.0; key = own.1 }
+          let own : IsIn (range_of m.1) k.name × (k ≡ char_of m.1 k.name) = of_piece m.1 k here in
+          record { tag = m.0; piece = m.1; member = ([], items, refl); name = own.0; same = own.1 }
       | inr later ↦
           let there : IsOfPiece items k = is_of_piece items k later in
           let (xs, ys, is) = there.member in
@@ -55,14 +55,14 @@ is_of_piece (m ∷ items) k has =
             piece = there.piece;
             member = (m ∷ xs, ys, ap (λ (l : Items). m ∷ l) is);
             name = there.name;
-            key = there.key;
+            same = there.same;
           }
     ]
 
-pub key_of_place : (items : Items) (tables : Tables) → AreTags items → AreEntered items tables
+pub char_of_place : (items : Items) (tables : Tables) → AreTags items → AreEntered items tables
     → (place : Place) (c : CharName) (p : Piece) → IsPlaceOf items place c → IsMember items place.piece p
-    → (k : Kept) → Contains (spelled items) k → k.name ≡ c → k.key ≡ p.key
-key_of_place items tables are entered place c p at held k has same =
+    → (k : Kept) → Contains (spelled items) k → k.name ≡ c → k ≡ char_of p c
+char_of_place items tables are entered place c p at held k has same =
     let of : IsOfPiece items k = is_of_piece items k has in
     let (site, from, to) = subst (IsIn (range_of of.piece)) same of.name in
     let other : Place = record { piece = of.tag; within = c.off - of.piece.off } in
@@ -73,4 +73,4 @@ key_of_place items tables are entered place c p at held k has same =
     let piece : of.piece ≡ p =
     one_value items are place.piece of.piece p (subst (λ (t : ℕ). IsMember items t of.piece) one of.member)
     held in
-    of.key ∙ ap (λ (q : Piece). q.key) piece
+    of.same ∙ ap (char_of of.piece) same ∙ ap (λ (q : Piece). char_of q c) piece

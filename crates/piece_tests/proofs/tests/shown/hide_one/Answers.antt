@@ -4,7 +4,7 @@ use Rattle.operations.specs.NameSet.{Range, IsIn, IsAmong, of_name}
 use Rattle.tree_order.specs.Registers.{Kept}
 use Rattle.piece_list.specs.Changing.{AreHere}
 use Rattle.piece_list.specs.Spelled.{spelled, HasName}
-use Rattle.piece_list.proofs.tests.hide_one.Goals as goal
+use Rattle.piece_tests.proofs.tests.shown.hide_one.Goals as goal
 
 one_name : (name c : CharName) (k : ℕ) (r : Range) → k < 1 → get_or (of_name name ∷ []) k r ≡ r → IsIn r c
     → name ≡ c

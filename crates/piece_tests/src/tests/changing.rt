@@ -3,51 +3,22 @@ ghost use Rattle.operations.specs.NameSet.{with_name};
 ghost use Rattle.piece_list.specs.Changing.{AreHere};
 ghost use Rattle.piece_list.specs.Spelled.{spelled};
 
-use crate::list::PieceList;
-use crate::list::placing::tests::{name, new_list, try_place};
+use super::told::{Names, Told, has, name, new_list, try_place};
 use char_files::{Anchor, Name};
 use looks::{Colour, FontName, Key, Looks, Refusal, Sel};
 use operations::NameSet;
+use piece_list::PieceList;
 use std::alloc::Global;
 use std::test::Fail;
 
-// Names as a test writes them: the site, the first offset, and how many there are.
-type Names = (u16, u32, u32);
-
-// Whether these are the pieces in this order, and whether each is hidden. It takes no memory.
-fn has(list: &PieceList, pieces: &[(Names, bool)]) -> bool {
-    let mut tag = list.pieces.first();
-    for ((site, off, len), hidden) in pieces {
-        let Some(here) = tag else {
-            return false;
-        };
-        let piece = list.pieces.value_at(here);
-        let same = piece.site.get() == *site && piece.off == *off && piece.len == *len;
-        if !same || piece.hidden.value != *hidden {
-            return false;
-        }
-        tag = list.pieces.after(here);
-    }
-    tag.is_none()
-}
-
-// Whether all pieces have these looks. It takes no memory.
+// Whether all that is shown looks like this.
 fn all_look(list: &PieceList, want: &Looks) -> bool {
-    let mut tag = list.pieces.first();
-    for _ in 0..8 {
-        let Some(here) = tag else {
-            return true;
-        };
-        let piece = list.pieces.value_at(here);
-        if piece.font.value != want.font
-            || piece.colour.value != want.colour
-            || piece.offset.value != want.offset
-        {
+    for run in list.walk() {
+        if run.looks != *want {
             return false;
         }
-        tag = list.pieces.after(here);
     }
-    false
+    true
 }
 
 fn key(stamp: u64, site: u16) -> Key {
@@ -115,7 +86,7 @@ fn change(
     alloc: Global,
     names: Names,
     does: &Does,
-    before: &[(Names, bool)],
+    before: &[Told],
 ) -> Result<(), Fail> {
     let set = named(list, alloc, names)?;
     let Err(refusal) = call(list, &set, does) else {
@@ -136,16 +107,16 @@ fn type_in(list: &mut PieceList, names: Names, stamp: u64, cause: Anchor) -> Res
     Ok(())
 }
 
-const ABC: [(Names, bool); 1] = [((1, 0, 3), false)];
+const ABC: [Told; 1] = [((1, 0, 3), false)];
 
-const ACX: [(Names, bool); 4] = [
+const ACX: [Told; 4] = [
     ((1, 0, 1), false),
     ((1, 1, 1), true),
     ((1, 2, 1), false),
     ((2, 0, 1), false),
 ];
 
-const ABCX: [(Names, bool); 4] = [
+const ABCX: [Told; 4] = [
     ((1, 0, 1), false),
     ((1, 1, 1), false),
     ((1, 2, 1), false),
@@ -162,14 +133,14 @@ fn a_restore_against_a_delete_at_site_1(rt: HostRuntime) -> Result<(), Fail> {
     type_in(&mut list, (1, 0, 3), 1, Anchor::Root)?;
     change(&mut list, alloc, b, &Does::Hide(key(2, 1)), &ABC)?;
     let ac = [((1, 0, 1), false), ((1, 1, 1), true), ((1, 2, 1), false)];
-    assert!(rt; has(&list, &ac));
+    assert!(rt; has(&mut list, &ac));
     change(&mut list, alloc, b, &Does::Reveal(key(3, 1)), &ac)?;
     type_in(&mut list, (2, 0, 1), 2, Anchor::At(name(1, 2)?))?;
-    assert!(rt; has(&list, &ABCX));
+    assert!(rt; has(&mut list, &ABCX));
     change(&mut list, alloc, b, &Does::Hide(key(3, 2)), &ABCX)?;
-    assert!(rt; has(&list, &ACX));
+    assert!(rt; has(&mut list, &ACX));
     change(&mut list, alloc, b, &Does::Reveal(key(4, 1)), &ACX)?;
-    assert!(rt; has(&list, &ABCX));
+    assert!(rt; has(&mut list, &ABCX));
     Ok(())
 }
 
@@ -182,12 +153,12 @@ fn a_restore_against_a_delete_at_site_2(rt: HostRuntime) -> Result<(), Fail> {
     type_in(&mut list, (2, 0, 1), 2, Anchor::At(name(1, 2)?))?;
     let whole = [((1, 0, 3), false), ((2, 0, 1), false)];
     change(&mut list, alloc, b, &Does::Hide(key(3, 2)), &whole)?;
-    assert!(rt; has(&list, &ACX));
+    assert!(rt; has(&mut list, &ACX));
     change(&mut list, alloc, b, &Does::Hide(key(2, 1)), &ACX)?;
     change(&mut list, alloc, b, &Does::Reveal(key(3, 1)), &ACX)?;
-    assert!(rt; has(&list, &ACX));
+    assert!(rt; has(&mut list, &ACX));
     change(&mut list, alloc, b, &Does::Reveal(key(4, 1)), &ACX)?;
-    assert!(rt; has(&list, &ABCX));
+    assert!(rt; has(&mut list, &ABCX));
     Ok(())
 }
 
@@ -217,7 +188,12 @@ fn looks_so(
     }
     change(&mut list, alloc, Q, first, &[(Q, hidden)])?;
     change(&mut list, alloc, Q, second, &[(Q, hidden)])?;
-    Ok(all_look(&list, want) && has(&list, &[(Q, hidden)]))
+    let stands = has(&mut list, &[(Q, hidden)]);
+    // Looks are told of what is shown alone.
+    if hidden {
+        change(&mut list, alloc, Q, &Does::Reveal(key(3, 1)), &[(Q, true)])?;
+    }
+    Ok(stands && has(&mut list, &[(Q, false)]) && all_look(&list, want))
 }
 
 // Site 1 sets font and colour under the key (2, 1), site 2 the colour under (2, 2): each attribute takes the
@@ -250,7 +226,7 @@ fn a_range_goes_over_pieces(rt: HostRuntime) -> Result<(), Fail> {
         &[((1, 0, 6), false)],
     )?;
     let without_c = [((1, 0, 2), false), ((1, 2, 1), true), ((1, 3, 3), false)];
-    assert!(rt; has(&list, &without_c));
+    assert!(rt; has(&mut list, &without_c));
     change(
         &mut list,
         alloc,
@@ -265,13 +241,13 @@ fn a_range_goes_over_pieces(rt: HostRuntime) -> Result<(), Fail> {
         ((1, 3, 2), true),
         ((1, 5, 1), false),
     ];
-    assert!(rt; has(&list, &af));
+    assert!(rt; has(&mut list, &af));
     change(&mut list, alloc, (1, 0, 6), &Does::Reveal(key(2, 9)), &af)?;
-    assert!(rt; has(&list, &af));
+    assert!(rt; has(&mut list, &af));
     change(&mut list, alloc, (1, 0, 6), &Does::Reveal(key(4, 1)), &af)?;
     assert!(rt;
         has(
-            &list,
+            &mut list,
             &[
                 ((1, 0, 1), false),
                 ((1, 1, 1), false),
@@ -292,12 +268,12 @@ fn two_ranges_go(rt: HostRuntime) -> Result<(), Fail> {
     let mut names = named(&mut list, rt.alloc(), (1, 4, 2))?;
     add(&mut list, &mut names, 1, 0)?;
     if list.hide(&names, key(2, 1)).is_err() {
-        assert!(rt; has(&list, &[((1, 0, 6), false)]));
+        assert!(rt; has(&mut list, &[((1, 0, 6), false)]));
         return Ok(());
     }
     assert!(rt;
         has(
-            &list,
+            &mut list,
             &[((1, 0, 1), true), ((1, 1, 3), false), ((1, 4, 2), true)]
         )
     );

@@ -6,7 +6,7 @@ use Rattle.char_files.specs.CharName.{CharName}
 use Rattle.piece_list.specs.declared.piece.Piece.{Piece}
 use Rattle.piece_list.specs.declared.place.Place.{Place}
 use Rattle.piece_list.specs.Spelled.{spelled, HasName}
-use Rattle.piece_list.proofs.list.placing.tests.are_new.Goals as goal
+use Rattle.piece_tests.proofs.tests.told.are_new.Goals as goal
 
 not_some : (r : Option Place) → is_some r ≡ false → IsSome r → ⊥
 not_some (Some place) e some = absurd cc
