@@ -33,7 +33,7 @@ all_bytes ops files hold [] all = All-nil _
 all_bytes ops files hold (k ∷ kept) all =
     All-cons (λ (j : Kept). HasByte ops (char_in files j).name (char_in files j).byte) k kept (has_byte ops files hold k (All-head (HasRegisters ops) k kept all)) (all_bytes ops files hold kept (All-tail (HasRegisters ops) k kept all))
 
-all_tell : (ops : List Operation) → ((k : Kept) → HasRegisters ops k → TellRegisters ops k) → (kept : List Kept) → All (HasRegisters ops) kept → All (TellRegisters ops) kept
+pub all_tell : (ops : List Operation) → ((k : Kept) → HasRegisters ops k → TellRegisters ops k) → (kept : List Kept) → All (HasRegisters ops) kept → All (TellRegisters ops) kept
 all_tell ops tell [] all = All-nil (TellRegisters ops)
 all_tell ops tell (k ∷ kept) all = All-cons (TellRegisters ops) k kept (tell k (All-head (HasRegisters ops) k kept all)) (all_tell ops tell kept (All-tail (HasRegisters ops) k kept all))
 

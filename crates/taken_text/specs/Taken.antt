@@ -1,12 +1,12 @@
 -- The operations that were taken in, and the characters that they make.
-use Rattle.std.specs.Prelude.{◌≡◌, ℕ, List, map, length, slice_index}
+use Rattle.std.specs.Prelude.{◌≡◌, ℕ, List, map, filter, length, slice_index}
 use Rattle.char_files.specs.CharFiles.{Files, bytes_of}
 use Rattle.char_files.specs.CharName.{CharName}
 use Rattle.char_files.specs.declared.character.Char.{Char}
 use Rattle.operations.specs.Operation.{Operation}
 use Rattle.tree_order.specs.Good.{Good}
 use Rattle.tree_order.specs.Registers.{Kept, AreKept, kept_looks}
-use Rattle.tree_order.specs.Shown.{AreChars}
+use Rattle.tree_order.specs.Shown.{AreChars, is_visible}
 use Rattle.tree_order.specs.Tree.{HasByte}
 use Rattle.set_laws.specs.Fronts.{file_len}
 use Rattle.set_laws.specs.Sets.{AreIdentified}
@@ -23,6 +23,10 @@ pub record IsDefined (t : TakenSeen) : Type 0 where
   pub good : Good t.operations
   pub identified : AreIdentified t.operations
   pub chars : AreChars t.operations t.chars
+
+-- what is shown: the visible ones of all characters, in their order
+abbrev pub shown_of : TakenSeen → List Char
+shown_of t = filter (λ c. is_visible t.operations c.name) t.chars
 
 -- a character as it is kept, with its byte
 abbrev pub char_in : Files → Kept → Char

@@ -1,6 +1,8 @@
 //! A text as the operations that were taken in make it.
 #![tactic(auto)]
 
+mod shown;
 mod taken_text;
 
+pub use shown::Shown;
 pub use taken_text::TakenText;

@@ -1,13 +1,17 @@
-ghost use Rattle.std.specs.Prelude.{◌≡◌, [], ◌∷◌, ◌++◌, IfOk, OnOk, OnErr};
+ghost use Rattle.std.specs.Prelude.{◌≡◌, ◌<◌, ◌↔◌, [], ◌∷◌, ◌++◌, length, slice_get};
+ghost use Rattle.std.specs.Prelude.{IfOk, IfSome, IsSome, OnOk, OnErr};
 ghost use Rattle.looks.specs.Refusal.{RefusedForMemoryAlone};
 ghost use Rattle.char_files.specs.CharFiles.{SameBytes};
 ghost use Rattle.operations.specs.Operation.{insert};
 ghost use Rattle.tree_order.specs.Good.{key_of as key_by};
+ghost use Rattle.tree_order.specs.Shown.{IsPlace};
+ghost use Rattle.tree_order.specs.Tree.{IsChar};
 ghost use Rattle.set_laws.specs.Verdict.{HasVerdict, IsNew, ready};
 ghost use Rattle.taken_text.specs.Lower.{Lower};
-ghost use Rattle.taken_text.specs.Taken.{IsDefined, IsTaken};
+ghost use Rattle.taken_text.specs.Taken.{IsDefined, IsTaken, shown_of};
 
-use char_files::{Anchor, CharFiles};
+use crate::shown::Shown;
+use char_files::{Anchor, Char, CharFiles, Name};
 use looks::{Key, Looks, Refusal};
 use op_log::Log;
 use operations::{Kind, Op};
@@ -15,7 +19,7 @@ use piece_list::laws::{a_piece_of_a_run_is_kept, a_placed_run_is_kept};
 use piece_list::{PieceList, Run};
 use set_laws::closures::nothing_is_good;
 use set_laws::growing::{counts_go_on, counts_tell_what_is_here, good_sets_grow_by_verdict};
-use set_laws::unions::front_is_held;
+use set_laws::unions::{front_is_held, names_here_are_the_characters};
 use std::alloc::Global;
 use std::marker::Model;
 use tree_order::laws::registers::{a_kept_list_is_offered, registers_tell_what_is_shown};
@@ -152,6 +156,48 @@ impl TakenText {
         ensures { result.now.ops ≡ self.now.operations }
     {
         &self.log
+    }
+
+    /// How many characters are shown.
+    pub fn shown_len(&self) -> u64
+        ensures { result ≡ length (shown_of self.now) }
+    {
+        registers_tell_what_is_shown();
+        self.pieces.shown_len()
+    }
+
+    /// The character that is shown at this position, from 0.
+    pub fn char_at(&self, pos: u64) -> Char
+        requires { pos < length (shown_of self.now) }
+        ensures { slice_get (shown_of self.now) pos ≡ Some result }
+    {
+        registers_tell_what_is_shown();
+        names_here_are_the_characters();
+        let (name, looks) = self.pieces.shown_at(pos);
+        Char {
+            name,
+            byte: self.files.byte(name),
+            looks,
+        }
+    }
+
+    /// How many shown characters stand at or ahead of the character of this name, which may be hidden; `None`
+    /// for a name that isn't here.
+    pub fn place_of(&self, name: Name) -> Option<u64>
+        ensures here { IsSome result ↔ IsChar self.now.operations name }
+        ensures place { IfSome result (IsPlace self.now.operations (Anchor.At name)) }
+    {
+        registers_tell_what_is_shown();
+        self.pieces.shown_to(name)
+    }
+
+    /// The characters that are shown, in their order, one after the other: takes no memory.
+    pub fn shown(&self) -> Shown<'_>
+        ensures { result ≡ shown_of self.now }
+    {
+        registers_tell_what_is_shown();
+        names_here_are_the_characters();
+        Shown::of(self.pieces.walk(), &self.files)
     }
 
     /// Takes in an operation that is ready: it stands behind those that were taken in, and the characters are

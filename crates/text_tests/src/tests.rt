@@ -1,0 +1,4 @@
+//! What no clause says: that operations are taken in, and that the definitions give the answers that were
+//! worked out by hand.
+mod shown;
+mod told;

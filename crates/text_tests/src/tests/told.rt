@@ -1,0 +1,103 @@
+//! Operations by their fields, and texts of them.
+use char_files::{Anchor, Name, SiteNo, TextNo};
+use looks::{Colour, Looks, Sel};
+use op_log::Log;
+use operations::{Kind, NameSet, Op};
+use std::alloc::Global;
+use std::test::Fail;
+use taken_text::TakenText;
+use waiting_room::{GoodLog, Verdict, judge};
+
+// A name by its site and its offset.
+pub(super) type Parts = (u16, u32);
+
+// What an operation does. An Insert has default looks.
+#[derive(Clone, Copy)]
+pub(super) enum Does {
+    // The cause, if it isn't the root; the length of its site's file before it; the bytes.
+    Insert(Option<Parts>, u32, &'static [u8]),
+    // The name that it hides.
+    Delete(Parts),
+    // The name that it shows again.
+    Restore(Parts),
+    // The colour, and the name that gets it.
+    ChangeColour(u8, Parts),
+}
+
+// An operation on text 1: its site, its seq, its stamp, what it does.
+pub(super) type Told = (u16, u32, u64, Does);
+
+fn site(number: u16) -> Result<SiteNo, Fail> {
+    Ok(SiteNo::new(number).ok_or("a site")?)
+}
+
+pub(super) fn name((number, off): Parts) -> Result<Name, Fail> {
+    Ok(Name::new(site(number)?, off).ok_or("a name")?)
+}
+
+fn anchor(cause: Option<Parts>) -> Result<Anchor, Fail> {
+    Ok(match cause {
+        None => Anchor::Root,
+        Some(parts) => Anchor::At(name(parts)?),
+    })
+}
+
+fn set_of(alloc: Global, parts: Parts) -> Result<NameSet, Fail> {
+    let mut set = NameSet::new(alloc);
+    set.insert(name(parts)?)?;
+    Ok(set)
+}
+
+fn kind_of(alloc: Global, does: Does) -> Result<Kind, Fail> {
+    Ok(match does {
+        Does::Insert(cause, at, bytes) => Kind::Insert {
+            cause: anchor(cause)?,
+            at,
+            looks: Looks::plain(),
+            bytes: Vec::from_slice(alloc, bytes)?,
+        },
+        Does::Delete(parts) => Kind::Delete {
+            names: set_of(alloc, parts)?,
+        },
+        Does::Restore(parts) => Kind::Restore {
+            names: set_of(alloc, parts)?,
+        },
+        Does::ChangeColour(number, parts) => Kind::ChangeLooks {
+            sel: Sel::new(2).ok_or("colour")?,
+            looks: Looks {
+                colour: Colour::new(number).ok_or("a colour")?,
+                ..Looks::plain()
+            },
+            names: set_of(alloc, parts)?,
+        },
+    })
+}
+
+fn op_of(alloc: Global, (number, seq, stamp, does): Told) -> Result<Op, Fail> {
+    let text = TextNo::new(1).ok_or("a text")?;
+    let kind = kind_of(alloc, does)?;
+    Ok(Op::new(text, site(number)?, seq, stamp, kind).ok_or("an operation")?)
+}
+
+// Takes the operation in, if it is ready.
+pub(super) fn take(alloc: Global, text: &mut TakenText, told: Told) -> Result<(), Fail> {
+    let op = op_of(alloc, told)?;
+    op.has_spelling();
+    text.is_defined();
+    let log: &Log = text.log();
+    if log.get(op.site(), op.seq()).is_some() {
+        return Err("held already".into());
+    }
+    match judge(&op, &GoodLog::new(log)) {
+        Verdict::Ready => Ok(text.add(op)?),
+        Verdict::Wait | Verdict::BadOffset | Verdict::BadStamp => Err("not ready".into()),
+    }
+}
+
+pub(super) fn text_of(alloc: Global, told: &[Told]) -> Result<TakenText, Fail> {
+    let mut text = TakenText::new(alloc)?;
+    for fields in told {
+        take(alloc, &mut text, *fields)?;
+    }
+    Ok(text)
+}
