@@ -1,3 +1,5 @@
 pub mod Counted
+pub mod CountingRuns
 pub mod Lifting
+pub mod Reaching
 pub mod Typing

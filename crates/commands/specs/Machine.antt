@@ -1,15 +1,21 @@
 -- The machine of events: what the run's sites may reply to an event, and the state after it.
-use Rattle.std.specs.Prelude.{◌≡◌, ◌≢◌, ℕ, ◌<◌, ◌⊎◌, List, [], ◌∷◌, ◌++◌, map, Result, Ok, Err, Some, IfOk}
-use Rattle.std.specs.Prelude.{MatchBool, IsTrue, length, slice_get, slice_set}
+use Rattle.std.specs.Prelude.{◌≡◌, ◌≢◌, ℕ, ◌-◌, ◌<◌, ◌⊎◌, List, [], ◌∷◌, ◌++◌, map, Result, Ok, Err, IfOk}
+use Rattle.std.specs.Prelude.{Option, Some, None, MatchOption, MatchBool, IsTrue, ◌==◌, if◌then◌else◌, length}
+use Rattle.std.specs.Prelude.{slice_get, slice_set}
 use Rattle.std.specs.List.{range_with_len}
 use Rattle.looks.specs.declared.refusal.Refusal.{Refusal}
 use Rattle.looks.specs.declared.refusal.Refusal.TheVariants.{BadEvent, OutOfMemory, OutOfRange}
+use Rattle.char_files.specs.Stretch.{Stretch}
+use Rattle.operations.specs.Reading.{SpellsNone}
+use Rattle.set_laws.specs.Fronts.{AreSites}
 use Rattle.texts.specs.Edit.{Edit, Edits, Shows, Stand, is_in_text, plan, count_standing}
-use Rattle.texts.specs.TextState.{TextState}
+use Rattle.texts.specs.Take.{Takes}
+use Rattle.texts.specs.TextState.{TextState, shown_items}
 use Rattle.texts.specs.declared.edit_refusal.EditRefusal.{EditRefusal}
 use Rattle.texts.specs.declared.edit_refusal.EditRefusal.TheVariants.{Whole, Partial}
+use Rattle.texts.specs.declared.took.Took.{Took}
 use Rattle.commands.specs.DeskState.{DeskState, InText, IsTextOf, new_desk}
-use Rattle.commands.specs.Printing.{text_lines}
+use Rattle.commands.specs.Printing.{AreRunsOf, text_lines, front_lines, run_lines}
 
 -- The number of the first site, which the others follow; the sites' desks; the messages that were sent so
 -- far, over all sites.
@@ -21,31 +27,48 @@ pub record State : Type 0 where
 -- What may be asked of a text without changing it.
 pub data Query : Type 0 where
   print_text : Query
+  print_fronts : Query
+  print_runs : Query
+
+-- How a message is told that is taken: as the run's k-th, from 1, or by its bytes.
+pub data Delivery : Type 0 where
+  sent : (k : ℕ) → Delivery
+  bytes : (message : List ℕ) → Delivery
 
 -- What may happen, by classes. A desk is told by its index among the run's. An edit is a site's own, of one
--- of its texts; a query prints a part of the state; what else a line asks is nothing that there is.
+-- of its texts; a taking hands a message to one of its texts; a query prints a part of the state; what else a
+-- line asks is nothing that there is.
 pub data Event : Type 0 where
   edit : (desk text : ℕ) (e : Edit) → Event
+  take : (desk text : ℕ) (d : Delivery) → Event
   query : (desk text : ℕ) (q : Query) → Event
   unknown : Event
 
--- What is replied: the messages that an edit of which all operations stand sent; a query's lines; why nothing
--- was done; or the messages of an edit's first operations, how many stand, and why the next one doesn't.
+-- What is replied: the messages that an edit of which all operations stand sent; what taking a message did; a
+-- query's lines; why nothing was done; or the messages of an edit's first operations, how many stand, and why
+-- the next one doesn't.
 pub data Reply : Type 0 where
   sends : (messages : List (List ℕ)) → Reply
+  takes : (took : Took) → Reply
   prints : (lines : List ℕ) → Reply
   refuses : (why : Refusal) → Reply
   stops : (messages : List (List ℕ)) (done : ℕ) (why : Refusal) → Reply
 
 -- the reply to an edit that answered so, with these messages
 abbrev pub edit_reply : Result ℕ EditRefusal → List (List ℕ) → Reply
-edit_reply (Ok sent) messages = sends messages
+edit_reply (Ok count) messages = sends messages
 edit_reply (Err (Whole why)) messages = refuses why
 edit_reply (Err (Partial done why)) messages = stops messages done why
+
+-- the reply to a message that was answered so
+abbrev pub take_reply : Result Took Refusal → Reply
+take_reply (Ok took) = takes took
+take_reply (Err why) = refuses why
 
 -- the messages that a reply tells
 abbrev pub messages_of : Reply → List (List ℕ)
 messages_of (sends messages) = messages
+messages_of (takes took) = []
 messages_of (prints lines) = []
 messages_of (refuses why) = []
 messages_of (stops messages done why) = messages
@@ -75,21 +98,42 @@ EditsText e r t new =
     × Shows t e result new × (r ≡ edit_reply result messages))
     ((r ≡ refuses OutOfRange) × (new ≡ t))
 
--- what a query prints of a text
-abbrev pub lines_of : Query → TextState → List ℕ
-lines_of print_text t = text_lines t
+-- the message that is told; none where that number wasn't sent yet
+abbrev pub message_in : State → Delivery → Option (List ℕ)
+message_in s (sent k) = if k == 0 then None else slice_get s.sent (k - 1)
+message_in s (bytes message) = Some message
+
+-- a message for a text, where memory is there
+abbrev pub TakesText : List ℕ → Reply → TextState → TextState → Type 0
+TakesText message r t new =
+    (result : Result Took Refusal) × Takes t message result new × (r ≡ take_reply result)
+
+-- a query prints these lines of a text
+abbrev pub Prints : Query → TextState → List ℕ → Type 0
+Prints print_text t lines = lines ≡ text_lines t
+Prints print_fronts t lines =
+    (sites : List ℕ) × AreSites t.operations sites × (lines ≡ front_lines t sites)
+Prints print_runs t lines =
+    (runs : List Stretch) × AreRunsOf (shown_items t) runs × (lines ≡ run_lines runs)
 
 -- What an event does where memory is there: its reply, and the state after it.
 abbrev pub Does : State → Event → Reply → State → Type 0
 Does s (edit i text e) r new = InDesk (λ d d'. InText (EditsText e r) d text d') s i (messages_of r) new
+Does s (take i text d) r new =
+    MatchOption (message_in s d) ((new ≡ s) × (r ≡ refuses BadEvent))
+    (λ message. InDesk (λ d d'. InText (TakesText message r) d text d') s i [] new)
 Does s (query i text q) r new =
-    (new ≡ s) × ((t : TextState) × IsTextAt s i text t × (r ≡ prints (lines_of q t)))
+    (new ≡ s)
+    × ((t : TextState) × (lines : List ℕ) × IsTextAt s i text t × Prints q t lines × (r ≡ prints lines))
 Does s unknown r new = (new ≡ s) × (r ≡ refuses BadEvent)
 
--- whether an event asks for memory: an edit that makes an operation does, and a query
+-- whether an event asks for memory: an edit that makes an operation does, a message that spells one, and a
+-- query
 abbrev pub AsksForMemory : State → Event → Type 0
 AsksForMemory s (edit i text e) =
     (t : TextState) × IsTextAt s i text t × IsTrue (is_in_text t e) × (plan t e ≢ [])
+AsksForMemory s (take i text d) =
+    (message : List ℕ) × (message_in s d ≡ Some message) × (¬ SpellsNone message)
 AsksForMemory s (query i text q) = Unit {0}
 AsksForMemory s unknown = ⊥
 
@@ -99,6 +143,7 @@ abbrev pub StandsInPart : State → Event → ℕ → List (List ℕ) → State 
 StandsInPart s (edit i text e) done messages new =
     InDesk (λ d d'. InText (λ t t'. IsTrue (is_in_text t e) × (0 < done) × (done < count_standing t (plan t e))
     × Stand t (plan t e) done t' messages) d text d') s i messages new
+StandsInPart s (take i text d) done messages new = ⊥
 StandsInPart s (query i text q) done messages new = ⊥
 StandsInPart s unknown done messages new = ⊥
 
@@ -108,6 +153,7 @@ abbrev pub Short : State → Event → Reply → State → Type 0
 Short s e (refuses why) new = (why ≡ OutOfMemory) × AsksForMemory s e × (new ≡ s)
 Short s e (stops messages done why) new = (why ≡ OutOfMemory) × StandsInPart s e done messages new
 Short s e (sends messages) new = ⊥
+Short s e (takes took) new = ⊥
 Short s e (prints lines) new = ⊥
 
 -- the machine may reply so to the event, and go on to new
@@ -116,16 +162,22 @@ Replies s e r new = Does s e r new ⊎ Short s e r new
 
 -- a run of one desk alone
 abbrev pub alone : DeskState → List (List ℕ) → State
-alone d sent = record { first = d.site; desks = d ∷ []; sent = sent }
+alone d messages = record { first = d.site; desks = d ∷ []; sent = messages }
 
 -- One call of a desk is one step of the machine: this edit of one of its texts answered so, with the count of
--- its messages where all was done, and they were put behind those that were sent.
-abbrev pub EditsDesk : DeskState → ℕ → Edit → Result ℕ EditRefusal → DeskState → (sent sent' : List (List ℕ))
-    → Type 0
-EditsDesk d text e result new sent sent' =
+-- its messages where all was done, and they were put behind those before.
+abbrev pub EditsDesk : DeskState → ℕ → Edit → Result ℕ EditRefusal → DeskState
+    → (before after : List (List ℕ)) → Type 0
+EditsDesk d text e result new before after =
     (messages : List (List ℕ)) × IfOk result (λ count. count ≡ length messages)
-    × Replies (alone d sent) (edit 0 text e) (edit_reply result messages) (alone new sent')
+    × Replies (alone d before) (edit 0 text e) (edit_reply result messages) (alone new after)
+
+-- the same of a message for one of its texts, whatever was sent before
+abbrev pub TakesDesk : DeskState → ℕ → List ℕ → Result Took Refusal → DeskState → Type 0
+TakesDesk d text message result new =
+    (before : List (List ℕ))
+    → Replies (alone d before) (take 0 text (bytes message)) (take_reply result) (alone new before)
 
 -- the same of a query: these are its lines
 abbrev pub QueriesDesk : DeskState → ℕ → Query → List ℕ → Type 0
-QueriesDesk d text q lines = (t : TextState) × IsTextOf d text t × (lines ≡ lines_of q t)
+QueriesDesk d text q lines = (t : TextState) × IsTextOf d text t × Prints q t lines

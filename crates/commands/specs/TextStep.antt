@@ -4,7 +4,7 @@ use Rattle.looks.specs.declared.refusal.Refusal.TheVariants.{OutOfMemory}
 use Rattle.texts.specs.Edit.{Edit, Stand, is_in_text, plan, count_standing}
 use Rattle.texts.specs.TextState.{TextState}
 use Rattle.texts.specs.declared.edit_refusal.EditRefusal.{EditRefusal}
-use Rattle.commands.specs.Machine.{EditsText, Reply, edit_reply, messages_of, prints, refuses, sends, stops}
+use Rattle.commands.specs.Machine.{EditsText, Reply, edit_reply, messages_of, prints, refuses, sends, stops, takes}
 
 -- an edit of a text where memory was refused
 abbrev pub EditsTextShort : Edit → Reply → TextState → TextState → Type 0
@@ -14,6 +14,7 @@ EditsTextShort e (stops messages done why) t new =
     (why ≡ OutOfMemory) × IsTrue (is_in_text t e) × (0 < done) × (done < count_standing t (plan t e))
     × Stand t (plan t e) done new messages
 EditsTextShort e (sends messages) t new = ⊥
+EditsTextShort e (takes took) t new = ⊥
 EditsTextShort e (prints lines) t new = ⊥
 
 -- an edit of a text answered so, and its messages were put behind those that were sent

@@ -2,22 +2,23 @@ ghost use Rattle.std.specs.Prelude.{◌≡◌, ◌≤◌, map, length, IfOk};
 ghost use Rattle.looks.specs.Looks.{plain_looks};
 ghost use Rattle.looks.specs.Refusal.{RefusedForMemoryAlone};
 ghost use Rattle.texts.specs.Edit.{insert_run};
-ghost use Rattle.commands.specs.DeskState.{new_desk};
-ghost use Rattle.commands.specs.Machine.{EditsDesk, QueriesDesk, print_text};
-ghost use Rattle.commands.specs.Printing.{text_lines};
+ghost use Rattle.commands.specs.DeskState.{IsTextOf, new_desk};
+ghost use Rattle.commands.specs.Machine.{EditsDesk, QueriesDesk, TakesDesk, print_fronts, print_runs};
+ghost use Rattle.commands.specs.Machine.{print_text};
 ghost use Rattle.commands.specs.TextStep.{EditsTextSending};
 
 use crate::MAX_TEXT;
-use crate::printing::put_printed;
+use crate::printing::{front_lines, text_lines};
+use crate::runs::run_lines;
 use char_files::{Buffer, SiteNo, TextNo};
 use looks::{Looks, Refusal};
 use operations::MAX_INSERT;
 use std::alloc::Global;
 use std::marker::Model;
-use texts::{EditRefusal, Outbox, Replica};
+use texts::{EditRefusal, Outbox, Replica, Took};
 
 /// One site's texts, 1 to 16, each empty until it is first changed. This project's own.
-#[derive(Debug, Drop)]
+#[derive(Drop)]
 pub struct Desk {
     site: SiteNo,
     texts: Vec<Replica>,
@@ -84,16 +85,49 @@ impl Desk {
         type_into(alloc, replica, pos, bytes, outbox)
     }
 
+    /// Takes a message for a text, as its replica does.
+    pub fn take(&mut self, text: TextNo, message: &[u8]) -> Result<Took, Refusal>
+        requires on_desk { text ≤ MAX_TEXT }
+        ensures { TakesDesk self.old text message.now result self.new }
+    {
+        self.texts[text.get() as usize - 1].take(message)
+    }
+
     /// The line that prints a text: its length and its characters. Refused `OutOfMemory` alone.
     pub fn text(&self, text: TextNo) -> Result<Vec<u8>, Refusal>
         requires { text ≤ MAX_TEXT }
         ensures ok { IfOk result (λ lines. QueriesDesk self.now text print_text lines.items) }
         ensures errors { RefusedForMemoryAlone result }
     {
-        text_lines(
-            *self.texts.allocator(),
-            &self.texts[text.get() as usize - 1],
-        )
+        text_lines(*self.texts.allocator(), self.replica(text))
+    }
+
+    /// The lines that print the fronts of a text: of each site of which it has operations, and how many
+    /// wait. Refused `OutOfMemory` alone.
+    pub fn front(&self, text: TextNo) -> Result<Vec<u8>, Refusal>
+        requires on_desk { text ≤ MAX_TEXT }
+        ensures ok { IfOk result (λ lines. QueriesDesk self.now text print_fronts lines.items) }
+        ensures errors { RefusedForMemoryAlone result }
+    {
+        front_lines(*self.texts.allocator(), self.replica(text))
+    }
+
+    /// The lines that print the looks of a text: of each maximal run of equal looks, and how many characters
+    /// it has. Refused `OutOfMemory` alone.
+    pub fn runs(&self, text: TextNo) -> Result<Vec<u8>, Refusal>
+        requires on_desk { text ≤ MAX_TEXT }
+        ensures ok { IfOk result (λ lines. QueriesDesk self.now text print_runs lines.items) }
+        ensures errors { RefusedForMemoryAlone result }
+    {
+        run_lines(*self.texts.allocator(), self.replica(text))
+    }
+
+    // The replica of a text.
+    fn replica(&self, text: TextNo) -> &Replica
+        requires { text ≤ MAX_TEXT }
+        ensures { IsTextOf self.now text result.now }
+    {
+        &self.texts[text.get() as usize - 1]
     }
 }
 
@@ -119,22 +153,4 @@ fn type_into(
         Ok(buffer) => replica.insert(pos, &buffer, outbox),
         Err(why) => Err(EditRefusal::Whole(why)),
     }
-}
-
-// The line that prints a replica's text.
-fn text_lines(alloc: Global, replica: &Replica) -> Result<Vec<u8>, Refusal>
-    ensures ok { IfOk result (λ lines. lines.items ≡ text_lines replica.now) }
-    ensures errors { RefusedForMemoryAlone result }
-{
-    let mut lines = Vec::from_slice(alloc, b"text ")?;
-    let len = replica.shown_len();
-    lines.extend_from_slice(itoa::Buffer::new().format(len).as_bytes())?;
-    if len != 0 {
-        lines.push(b' ')?;
-    }
-    for pos in 0..len {
-        put_printed(&mut lines, replica.attributes(pos).0)?;
-    }
-    lines.push(b'\n')?;
-    Ok(lines)
 }

@@ -1,8 +1,10 @@
-//! One site's desk: its texts, and a call for each event.
+//! One site's desk: its texts, and a call for each event; and laws of what runs can come to.
 #![tactic(auto)]
 
 mod desk;
+pub mod laws;
 mod printing;
+mod runs;
 
 pub use desk::Desk;
 

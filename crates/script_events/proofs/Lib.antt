@@ -1,2 +1,3 @@
+pub mod HexPairs
 pub mod Spelling
 pub mod Words

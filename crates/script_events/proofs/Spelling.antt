@@ -3,7 +3,7 @@ use Rattle.std.proofs.Common.{◌≡◌, ℕ, ◌+◌, ◌≤◌, List, [], ◌�
 use Rattle.std.specs.Prelude.{IsSome, option_and_then, unwrap_or}
 use Rattle.std.proofs.lemmas.List.{append-nil}
 use Rattle.std.proofs.lemmas.Option.{same_Some}
-use Rattle.script_events.specs.Script.{byte_of_digits, cut_escaped, cut_byte, bytes_in}
+use Rattle.script_events.specs.Script.{byte_of_digits, cut_hex_byte, cut_byte, bytes_in}
 
 and_then-if : {A B : Type 0} (f : A → Option B) (t : Bool) (x y : Option A) → option_and_then f (cond t x y) ≡ cond t (option_and_then f x) (option_and_then f y)
 and_then-if f true x y = refl
@@ -19,12 +19,12 @@ onto cut = option_map (λ bytes. cut.0 ∷ bytes) (bytes_in cut.1)
 
 bytes_in-step : (b : ℕ) (behind : List ℕ) → bytes_in (b ∷ behind) ≡ option_and_then onto (cut_byte b behind)
 unfolding bytes_in
-bytes_in-step b [] = sym (and_then-if onto (b == 92) (cut_escaped []) (Some (b, [])))
-bytes_in-step b (c ∷ []) = sym (and_then-if onto (b == 92) (cut_escaped (c ∷ [])) (Some (b, c ∷ [])))
+bytes_in-step b [] = sym (and_then-if onto (b == 92) (cut_hex_byte []) (Some (b, [])))
+bytes_in-step b (c ∷ []) = sym (and_then-if onto (b == 92) (cut_hex_byte (c ∷ [])) (Some (b, c ∷ [])))
 bytes_in-step b (c ∷ d ∷ raw) =
     let plain = option_map (λ (bytes : List ℕ). b ∷ bytes) (bytes_in (c ∷ d ∷ raw)) in
     ap (λ (o : Option (List ℕ)). cond (b == 92) o plain) (sym (and_then-map onto (λ byte. (byte, raw)) (byte_of_digits c d)))
-    ∙ sym (and_then-if onto (b == 92) (cut_escaped (c ∷ d ∷ raw)) (Some (b, c ∷ d ∷ raw)))
+    ∙ sym (and_then-if onto (b == 92) (cut_hex_byte (c ∷ d ∷ raw)) (Some (b, c ∷ d ∷ raw)))
 
 -- a byte is cut, and the rest spells the others
 pub bytes_in-cut : (rest : List ℕ) (b : ℕ) (behind : List ℕ) (byte : ℕ) (left : List ℕ) → rest ≡ b ∷ behind → Some (byte, left) ≡ cut_byte b behind → bytes_in rest ≡ option_map (λ bytes. byte ∷ bytes) (bytes_in left)
@@ -80,36 +80,36 @@ pub bytes_in-some : {len : ℕ} (o : Option (List ℕ)) → option_map length o 
 bytes_in-some None e = absurd cc
 bytes_in-some (Some bytes) e = refl
 
--- what is left spells what is still to come behind those in front
-pub record IsDecoded (whole front rest : List ℕ) : Type 0 where
-  pub same : option_map (λ bytes. front ++ bytes) (bytes_in rest) ≡ Some whole
+-- what is left to decode spells what is still to come behind those in front
+pub record IsDecoded (whole front : List ℕ) (spelled : Option (List ℕ)) : Type 0 where
+  pub same : option_map (λ bytes. front ++ bytes) spelled ≡ Some whole
 
-pub IsDecoded-none : {len : ℕ} (front raw bytes : List ℕ) → option_map length (bytes_in raw) ≡ Some len → unwrap_or (bytes_in raw) [] ≡ bytes → IsDecoded (front ++ bytes) front raw
-IsDecoded-none front raw bytes valid view =
-    record { same = ap (option_map (λ (bytes : List ℕ). front ++ bytes)) (sym (bytes_in-some (bytes_in raw) valid)) ∙ ap (λ (bytes : List ℕ). Some (front ++ bytes)) view }
+pub IsDecoded-none : (front bytes : List ℕ) (spelled : Option (List ℕ)) → Some (unwrap_or spelled []) ≡ spelled → unwrap_or spelled [] ≡ bytes → IsDecoded (front ++ bytes) front spelled
+IsDecoded-none front bytes spelled some view =
+    record { same = ap (option_map (λ (bytes : List ℕ). front ++ bytes)) (sym some) ∙ ap (λ (bytes : List ℕ). Some (front ++ bytes)) view }
 
 -- where bytes are left, one can be cut
-pub IsDecoded-cuts : {A : Type 0} {whole front rest : List ℕ} (b : ℕ) (behind : List ℕ) (f : A → ℕ × List ℕ) (cut : Option A) → IsDecoded whole front rest → rest ≡ b ∷ behind → option_map f cut ≡ cut_byte b behind → IsSome cut
-IsDecoded-cuts b behind f (Some cut) d rest_is cut_is = refl
-IsDecoded-cuts {whole = whole} {front = front} {rest = rest} b behind f None d rest_is cut_is =
-    let wrong : None ≡ Some whole = ap (option_map (λ (bytes : List ℕ). front ++ bytes)) (sym (bytes_in-wrong rest b behind rest_is cut_is)) ∙ d.same in
+pub IsDecoded-cuts : {A : Type 0} {whole front : List ℕ} (f : A → ℕ × List ℕ) (cut : Option A) (spelled : Option (List ℕ)) (asked : Option (ℕ × List ℕ)) → IsDecoded whole front spelled → (None ≡ asked → spelled ≡ None) → option_map f cut ≡ asked → IsSome cut
+IsDecoded-cuts f (Some cut) spelled asked d wrong cut_is = refl
+IsDecoded-cuts {whole = whole} {front = front} f None spelled asked d wrong cut_is =
+    let none : None ≡ Some whole = ap (option_map (λ (bytes : List ℕ). front ++ bytes)) (sym (wrong cut_is)) ∙ d.same in
     absurd cc
 
 front-push : (front : List ℕ) (byte : ℕ) (o : Option (List ℕ)) → option_map (λ bytes. front ++ bytes) (option_map (λ bytes. byte ∷ bytes) o) ≡ option_map (λ bytes. front ++ byte ∷ [] ++ bytes) o
 front-push front byte None = refl
 front-push front byte (Some bytes) = ap Some (sym (append_assoc front (byte ∷ []) bytes))
 
-pub IsDecoded-more : {whole front rest : List ℕ} (b : ℕ) (behind : List ℕ) (byte : ℕ) (left : List ℕ) → IsDecoded whole front rest → rest ≡ b ∷ behind → Some (byte, left) ≡ cut_byte b behind → IsDecoded whole (front ++ byte ∷ []) left
-IsDecoded-more {whole} {front} {rest} b behind byte left d rest_is cut_is =
-    record { same = sym (front-push front byte (bytes_in left)) ∙ ap (option_map (λ (bytes : List ℕ). front ++ bytes)) (sym (bytes_in-cut rest b behind byte left rest_is cut_is)) ∙ d.same }
+pub IsDecoded-more : {whole front : List ℕ} {spelled : Option (List ℕ)} (byte : ℕ) (left : Option (List ℕ)) → IsDecoded whole front spelled → spelled ≡ option_map (λ bytes. byte ∷ bytes) left → IsDecoded whole (front ++ byte ∷ []) left
+IsDecoded-more {whole} {front} {spelled} byte left d cut =
+    record { same = sym (front-push front byte left) ∙ ap (option_map (λ (bytes : List ℕ). front ++ bytes)) (sym cut) ∙ d.same }
 
 within : (front whole : List ℕ) (o : Option (List ℕ)) → option_map (λ bytes. front ++ bytes) o ≡ Some whole → length front ≤ length whole
 within front whole None e = absurd cc
 within front whole (Some bytes) e = omega (arith, length-append front bytes, ap length (same_Some (front ++ bytes) whole e))
 
-pub IsDecoded-within : {whole front rest : List ℕ} → IsDecoded whole front rest → length front ≤ length whole
-IsDecoded-within {whole} {front} {rest} d = within front whole (bytes_in rest) d.same
+pub IsDecoded-within : {whole front : List ℕ} {spelled : Option (List ℕ)} → IsDecoded whole front spelled → length front ≤ length whole
+IsDecoded-within {whole} {front} {spelled} d = within front whole spelled d.same
 
-pub IsDecoded-all : {whole front rest : List ℕ} → IsDecoded whole front rest → length rest ≡ 0 → front ≡ whole
-IsDecoded-all {whole} {front} {rest} d none =
-    same_Some front whole (ap Some (sym (append-nil front)) ∙ ap (option_map (λ (bytes : List ℕ). front ++ bytes)) (sym (bytes_in-end rest none)) ∙ d.same)
+pub IsDecoded-all : {whole front : List ℕ} {spelled : Option (List ℕ)} → IsDecoded whole front spelled → spelled ≡ Some [] → front ≡ whole
+IsDecoded-all {whole} {front} {spelled} d none =
+    same_Some front whole (ap Some (sym (append-nil front)) ∙ ap (option_map (λ (bytes : List ℕ). front ++ bytes)) (sym none) ∙ d.same)

@@ -1,8 +1,8 @@
-ghost use Rattle.std.specs.Prelude.{◌≡◌, ◌+◌, ◌<◌, ◌≤◌, ◌++◌, length, option_map, IfSome};
+ghost use Rattle.std.specs.Prelude.{◌≡◌, ◌+◌, ◌≤◌, ◌++◌, length, option_map, IfSome};
 ghost use Rattle.std.specs.Prelude.{vec_capacity, vec_len};
-ghost use Rattle.hex.specs.Hex.{hex_digit_value};
-ghost use Rattle.script_events.specs.Script.{bytes_in, cut_byte, cut_escaped};
+ghost use Rattle.script_events.specs.Script.{bytes_in, cut_byte};
 
+use crate::hex_bytes::cut_hex_byte;
 use std::marker::Model;
 
 /// Bytes as a line of a script spells them: a backslash and two hex digits of either case stand for one byte,
@@ -69,27 +69,8 @@ fn cut_byte(first: u8, behind: &[u8]) -> Option<(u8, &[u8])>
     ensures shorter { IfSome result (λ cut. length cut.1.now ≤ length behind.now) }
 {
     if first == b'\\' {
-        cut_escaped(behind)
+        cut_hex_byte(behind)
     } else {
         Some((first, behind))
     }
-}
-
-// The byte of the two hex digits in front, and what stands behind them.
-fn cut_escaped(raw: &[u8]) -> Option<(u8, &[u8])>
-    ensures value { option_map (λ cut. (cut.0, cut.1.now)) result ≡ cut_escaped raw.now }
-    ensures shorter { IfSome result (λ cut. length cut.1.now ≤ length raw.now) }
-{
-    let [high, low, rest @ ..] = raw else {
-        return None;
-    };
-    Some((16 * hex_digit(*high)? + hex_digit(*low)?, rest))
-}
-
-// The value of a hex digit of either case.
-fn hex_digit(byte: u8) -> Option<u8>
-    ensures value { result ≡ hex_digit_value byte }
-    ensures small { IfSome result (λ digit. digit < 16) }
-{
-    Some(char::from(byte).to_digit(16)? as u8)
 }

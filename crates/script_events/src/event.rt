@@ -1,10 +1,13 @@
 ghost use Rattle.std.specs.Prelude.{◌≡◌, ℕ, ◌<◌, ◌≤◌, length, option_map, IfSome};
 ghost use Rattle.std.specs.Str.{all_ascii_digits};
-ghost use Rattle.script_events.specs.EventView.{edit_of, event_of, query_of, event_or_unknown, IsInRun, IsShort};
+ghost use Rattle.script_events.specs.EventView.{delivery_of, edit_of, event_of, query_of, event_or_unknown};
+ghost use Rattle.script_events.specs.EventView.{IsInRun, IsOfLine, IsShort, IsWithin};
 ghost use Rattle.script_events.specs.Script.{cut_word, number_in, desk_in, text_in, typed_in, type_edit};
-ghost use Rattle.script_events.specs.Script.{edit_in, query_in, edit_event, query_event, verb_event, event_in};
+ghost use Rattle.script_events.specs.Script.{delivery_in, edit_in, query_in, edit_event, take_event};
+ghost use Rattle.script_events.specs.Script.{query_event, verb_event, event_in};
 
 use crate::escaped::Escaped;
+use crate::hex_bytes::Hex;
 use char_files::TextNo;
 use commands::MAX_TEXT;
 use operations::MAX_INSERT;
@@ -19,6 +22,12 @@ pub enum Event<'a> {
         desk: usize,
         text: TextNo,
         edit: Edit<'a>,
+    },
+    /// A message handed to a desk's text.
+    Takes {
+        desk: usize,
+        text: TextNo,
+        message: Delivery<'a>,
     },
     /// A print of a desk's text.
     Queries {
@@ -35,16 +44,30 @@ pub enum Edit<'a> {
     TypeIn { pos: u64, bytes: Escaped<'a> },
 }
 
+/// How a message is told that is to be taken.
+#[derive(Debug, Drop)]
+pub enum Delivery<'a> {
+    /// By its number among those that were sent, from 1; it may not be sent yet.
+    Sent(u32),
+    /// By its bytes.
+    Bytes(Hex<'a>),
+}
+
 /// What is to be printed of a text.
 #[derive(Clone, Copy, Debug)]
 pub enum Query {
     /// Its length and its characters.
     Text,
+    /// The fronts of its sites, and how many operations wait.
+    Front,
+    /// Its runs of equal looks.
+    Runs,
 }
 
 // The word up to the first blank, and what stands behind that blank.
 fn cut_word(bytes: &[u8]) -> Option<(&[u8], &[u8])>
-    ensures { option_map (λ cut. (cut.0.now, cut.1.now)) result ≡ cut_word bytes.now }
+    ensures word { option_map (λ cut. (cut.0.now, cut.1.now)) result ≡ cut_word bytes.now }
+    ensures shorter { IfSome result (λ cut. length cut.1.now ≤ length bytes.now) }
 {
     let end = bytes.iter().position(|byte| *byte == b' ')?;
     Some((&bytes[..end], &bytes[end + 1..]))
@@ -131,6 +154,10 @@ fn query_in(verb: &[u8]) -> Option<Query>
 {
     if verb == b"text".as_slice() {
         Some(Query::Text)
+    } else if verb == b"front".as_slice() {
+        Some(Query::Front)
+    } else if verb == b"runs".as_slice() {
+        Some(Query::Runs)
     } else {
         None
     }
@@ -140,6 +167,7 @@ fn query_in(verb: &[u8]) -> Option<Query>
 fn edit_event<'a>(verb: &[u8], desk: usize, rest: &'a [u8]) -> Option<Event<'a>>
     ensures event { option_map event_of result ≡ edit_event verb.now desk rest.now }
     ensures in_run { IfSome result (λ event. (count : ℕ) → desk < count → IsInRun count event) }
+    ensures within { IfSome result (λ event. (len : ℕ) → length rest.now ≤ len → IsOfLine len event) }
 {
     let (text, rest) = cut_word(rest)?;
     Some(Event::Edits {
@@ -149,10 +177,39 @@ fn edit_event<'a>(verb: &[u8], desk: usize, rest: &'a [u8]) -> Option<Event<'a>>
     })
 }
 
+// How a message is told.
+fn delivery_in(word: &[u8]) -> Option<Delivery<'_>>
+    ensures delivery { option_map delivery_of result ≡ delivery_in word.now }
+    ensures within { IfSome result (λ told. (len : ℕ) → length word.now ≤ len → IsWithin len told) }
+{
+    match word {
+        [b'm', number @ ..] => Some(Delivery::Sent(number_in(number)?)),
+        _ => Some(Delivery::Bytes(Hex::new(word)?)),
+    }
+}
+
+// The line of `take` goes on with its text, and then with the message.
+fn take_event<'a>(verb: &[u8], desk: usize, rest: &'a [u8]) -> Option<Event<'a>>
+    ensures event { option_map event_of result ≡ take_event verb.now desk rest.now }
+    ensures in_run { IfSome result (λ event. (count : ℕ) → desk < count → IsInRun count event) }
+    ensures within { IfSome result (λ event. (len : ℕ) → length rest.now ≤ len → IsOfLine len event) }
+{
+    if verb != b"take".as_slice() {
+        return None;
+    }
+    let (number, word) = cut_word(rest)?;
+    Some(Event::Takes {
+        desk,
+        text: text_in(number)?,
+        message: delivery_in(word)?,
+    })
+}
+
 // A query's line goes on with its text.
 fn query_event<'a>(verb: &[u8], desk: usize, rest: &'a [u8]) -> Option<Event<'a>>
     ensures event { option_map event_of result ≡ query_event verb.now desk rest.now }
     ensures in_run { IfSome result (λ event. (count : ℕ) → desk < count → IsInRun count event) }
+    ensures within { IfSome result (λ event. (len : ℕ) → length rest.now ≤ len → IsOfLine len event) }
 {
     Some(Event::Queries {
         desk,
@@ -165,8 +222,11 @@ fn query_event<'a>(verb: &[u8], desk: usize, rest: &'a [u8]) -> Option<Event<'a>
 fn verb_event<'a>(verb: &[u8], desk: usize, rest: &'a [u8]) -> Option<Event<'a>>
     ensures event { option_map event_of result ≡ verb_event verb.now desk rest.now }
     ensures in_run { IfSome result (λ event. (count : ℕ) → desk < count → IsInRun count event) }
+    ensures within { IfSome result (λ event. (len : ℕ) → length rest.now ≤ len → IsOfLine len event) }
 {
-    edit_event(verb, desk, rest).or_else(|| query_event(verb, desk, rest))
+    edit_event(verb, desk, rest)
+        .or_else(|| take_event(verb, desk, rest))
+        .or_else(|| query_event(verb, desk, rest))
 }
 
 /// The event that a line spells, where `count` sites run from `first` on, or `None` where it spells none.
@@ -174,6 +234,7 @@ fn verb_event<'a>(verb: &[u8], desk: usize, rest: &'a [u8]) -> Option<Event<'a>>
 pub fn event_in<'a>(first: u16, count: usize, line: &'a [u8]) -> Option<Event<'a>>
     ensures event { event_or_unknown result ≡ event_in first count line.now }
     ensures in_run { IfSome result (λ event. IsInRun count event) }
+    ensures within { IfSome result (λ event. IsOfLine (length line.now) event) }
 {
     let (site, rest) = cut_word(line)?;
     let (verb, rest) = cut_word(rest)?;

@@ -3,6 +3,8 @@
 
 mod escaped;
 mod event;
+mod hex_bytes;
 
 pub use escaped::Escaped;
-pub use event::{Edit, Event, Query, event_in};
+pub use event::{Delivery, Edit, Event, Query, event_in};
+pub use hex_bytes::Hex;

@@ -1,4 +1,5 @@
 pub mod Printing
+pub mod Reaching
 pub mod Replying
 pub mod Traces
 pub mod WriteLemmas

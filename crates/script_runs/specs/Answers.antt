@@ -1,10 +1,12 @@
 -- How replies are printed: the answer lines.
-use Rattle.std.specs.Prelude.{ℕ, ◌+◌, List, [], ◌∷◌, ◌++◌, codes}
+use Rattle.std.specs.Prelude.{ℕ, ◌+◌, List, [], ◌∷◌, ◌++◌, codes, if◌then◌else◌}
 use Rattle.std.specs.Fmt.{decimal}
 use Rattle.hex.specs.Hex.{encode_lower}
 use Rattle.looks.specs.declared.refusal.Refusal.{Refusal}
 use Rattle.looks.specs.Refusal.{number_of}
-use Rattle.commands.specs.Machine.{Reply, sends, prints, refuses, stops}
+use Rattle.texts.specs.declared.took.Took.{Took}
+use Rattle.texts.specs.declared.took.Took.TheVariants.{Taken, Repeat}
+use Rattle.commands.specs.Machine.{Reply, sends, takes, prints, refuses, stops}
 use Rattle.commands.specs.Printing.{line}
 
 -- the k-th message of the run goes out
@@ -20,6 +22,12 @@ send_lines k (message ∷ messages) = send_line (k + 1) message ++ send_lines (k
 abbrev pub ok_line : List ℕ
 ok_line = line (codes "ok")
 
+-- a message was taken in, with how many that waited were taken in and thrown away; or it was held already
+abbrev pub took_line : Took → List ℕ
+took_line (Taken drained dropped stopped) =
+    line (codes "taken " ++ decimal drained ++ 32 ∷ decimal dropped ++ (if stopped then codes " stopped" else []))
+took_line Repeat = line (codes "repeat")
+
 -- nothing was done
 abbrev pub refused_line : Refusal → List ℕ
 refused_line why = line (codes "refused " ++ decimal (number_of why))
@@ -31,6 +39,7 @@ partial_line done why = line (codes "partial " ++ decimal done ++ 32 ∷ decimal
 -- the lines of a reply, where k messages were sent before
 abbrev pub reply_lines : ℕ → Reply → List ℕ
 reply_lines k (sends messages) = send_lines k messages ++ ok_line
+reply_lines k (takes took) = took_line took
 reply_lines k (prints lines) = lines
 reply_lines k (refuses why) = refused_line why
 reply_lines k (stops messages done why) = send_lines k messages ++ partial_line done why

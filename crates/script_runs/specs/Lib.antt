@@ -1,5 +1,6 @@
-pub mod Ends
-pub mod Trace
 pub mod Answers
-pub mod Writing
+pub mod Ends
+pub mod Laws
 pub mod Parts
+pub mod Trace
+pub mod Writing

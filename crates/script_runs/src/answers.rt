@@ -3,12 +3,13 @@ ghost use Rattle.std.specs.Fmt.{decimal};
 ghost use Rattle.hex.specs.Hex.{encode_lower};
 ghost use Rattle.commands.specs.Machine.{edit_reply};
 ghost use Rattle.script_runs.specs.Answers.{refused_line, partial_line, reply_lines, send_line, send_lines};
+ghost use Rattle.script_runs.specs.Answers.{took_line};
 ghost use Rattle.script_runs.specs.Writing.{Puts};
 
 use looks::Refusal;
 use script_io::Output;
 use std::io::Write;
-use texts::{EditRefusal, Outbox};
+use texts::{EditRefusal, Outbox, Took};
 
 /// Writes the bytes. Refused `WriteFault` where the writer fails, is interrupted or takes nothing.
 pub fn put<W: Write>(output: &mut Output<W>, bytes: &[u8]) -> Result<(), Refusal>
@@ -112,5 +113,37 @@ pub fn put_edit<W: Write>(
             put_sends(output, outbox, from)?;
             put_partial(output, done, why)
         }
+    }
+}
+
+// Counts of the operations that waited, and whether that ended early.
+fn put_taken<W: Write>(
+    output: &mut Output<W>,
+    drained: u32,
+    dropped: u32,
+    stopped: bool,
+) -> Result<(), Refusal>
+    ensures { Puts result output.old output.new (took_line (Took.Taken drained dropped stopped)) }
+{
+    put_numbered(output, b"taken ", u64::from(drained))?;
+    put_numbered(output, b" ", u64::from(dropped))?;
+    if stopped {
+        put(output, b" stopped\n")
+    } else {
+        put(output, b"\n")
+    }
+}
+
+/// Writes the line of a message that was taken.
+pub fn put_took<W: Write>(output: &mut Output<W>, took: Took) -> Result<(), Refusal>
+    ensures { Puts result output.old output.new (took_line took) }
+{
+    match took {
+        Took::Taken {
+            drained,
+            dropped,
+            stopped,
+        } => put_taken(output, drained, dropped, stopped),
+        Took::Repeat => put(output, b"repeat\n"),
     }
 }

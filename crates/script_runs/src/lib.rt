@@ -1,7 +1,9 @@
-//! Runs of a script for one to eight sites: each line is answered by a step of the machine of events.
+//! Runs of a script for one to eight sites: each line is answered by a step of the machine of events; and laws of
+//! whole scripts.
 #![tactic(auto)]
 
 mod answers;
+pub mod laws;
 mod running;
 mod settings;
 mod sites;

@@ -1,4 +1,4 @@
-ghost use Rattle.std.specs.Prelude.{◌≡◌, ◌≤◌, ◌⊎◌, ℕ, List, Contains, IsTrue, OnErr, OnOk, vec_capacity, is_ok};
+ghost use Rattle.std.specs.Prelude.{◌≡◌, ◌≤◌, ◌⊎◌, ℕ, List, Contains, IsTrue, OnErr, OnOk, length, vec_capacity, is_ok};
 ghost use Rattle.std.specs.Prelude.{if◌then◌else◌, Err, IfSome, IfErr};
 ghost use Rattle.std.specs.Io.KnownBytes.{Keeps};
 ghost use Rattle.commands.specs.Machine.{new_state};
@@ -43,6 +43,7 @@ fn answer_last<W: Write>(
     output: &mut Output<W>,
     line: &[u8],
 ) -> Result<(), Refusal>
+    requires { length line.now ≤ MAX_LINE }
     ensures answers { (answer : List ℕ) × Puts result output.old output.new answer
         × Answers sites.old line.now answer sites.new }
     ensures flushed { OnOk result (IsTrue output.new.flushed) }

@@ -3,26 +3,28 @@ ghost use Rattle.looks.specs.Refusal.{RefusedForMemoryAlone};
 ghost use Rattle.looks.specs.Looks.{plain_looks};
 ghost use Rattle.texts.specs.Edit.{insert_run};
 ghost use Rattle.texts.specs.TextState.{TextState};
-ghost use Rattle.commands.specs.Machine.{IsTextAt, Replies, edit, edit_reply, lines_of, new_state};
-ghost use Rattle.script_events.specs.EventView.{edit_of, event_of, query_of, IsInRun, IsShort};
+ghost use Rattle.commands.specs.Machine.{IsTextAt, Prints, Replies, edit, edit_reply, new_state, sent};
+ghost use Rattle.commands.specs.Machine.{take, take_reply};
+ghost use Rattle.script_events.specs.EventView.{delivery_of, edit_of, event_of, query_of, IsInRun, IsOfLine};
+ghost use Rattle.script_events.specs.EventView.{IsShort, IsWithin};
 ghost use Rattle.script_runs.specs.Trace.{Answers, Step, is_silent};
 ghost use Rattle.script_runs.specs.Writing.{Puts};
 
-use crate::answers::{put, put_edit, put_refused};
+use crate::answers::{put, put_edit, put_refused, put_took};
 use crate::settings::{MAX_FIRST, MAX_SITES};
 use char_files::{SiteNo, TextNo};
 use commands::{Desk, MAX_TEXT};
 use looks::Refusal;
 use operations::MAX_INSERT;
-use script_events::{Edit, Escaped, Event, Query, event_in};
+use script_events::{Delivery, Edit, Escaped, Event, Query, event_in};
 use script_io::{MAX_LINE, Output};
 use std::alloc::Global;
 use std::io::Write;
 use std::marker::Model;
-use texts::{EditRefusal, Outbox};
+use texts::{EditRefusal, Outbox, Took};
 
 /// The desks of a run's sites, and the messages that they sent.
-#[derive(Debug, Drop)]
+#[derive(Drop)]
 pub struct Sites {
     first: u16,
     desks: Vec<Desk>,
@@ -75,6 +77,7 @@ impl Sites {
 
     /// Answers a line of the script. Refused `WriteFault` where the writer fails.
     pub fn answer<W: Write>(&mut self, output: &mut Output<W>, line: &[u8]) -> Result<(), Refusal>
+        requires { length line.now ≤ MAX_LINE }
         ensures { (answer : List ℕ) × Puts result output.old output.new answer
             × Answers self.old line.now answer self.new }
     {
@@ -89,7 +92,8 @@ impl Sites {
 
     // Answers an event.
     fn step<W: Write>(&mut self, output: &mut Output<W>, event: Event) -> Result<(), Refusal>
-        requires { IsInRun (length self.old.desks) event }
+        requires in_run { IsInRun (length self.old.desks) event }
+        requires of_line { IsOfLine MAX_LINE event }
         ensures { (answer : List ℕ) × Puts result output.old output.new answer
             × Step self.old (event_of event.entry) answer self.new }
     {
@@ -101,6 +105,14 @@ impl Sites {
                 let outcome = self.edit(desk, text, &edit);
                 put_edit(output, &self.outbox, sent, outcome)
             }
+            Event::Takes {
+                desk,
+                text,
+                message,
+            } => match self.take(desk, text, &message) {
+                Ok(took) => put_took(output, took),
+                Err(why) => put_refused(output, why),
+            },
             Event::Queries { desk, text, query } => match self.query(desk, text, query) {
                 Ok(lines) => put(output, &lines),
                 Err(why) => put_refused(output, why),
@@ -140,16 +152,49 @@ impl Sites {
         self.desks[desk].type_in(text, pos, &self.bytes, &mut self.outbox)
     }
 
+    // Hands a message to a desk's text.
+    fn take(&mut self, desk: usize, text: TextNo, told: &Delivery) -> Result<Took, Refusal>
+        requires in_run { desk < length self.old.desks }
+        requires on_desk { text ≤ MAX_TEXT }
+        requires within { IsWithin MAX_LINE told.now }
+        ensures { Replies self.old (take desk text (delivery_of told.now)) (take_reply result) self.new }
+    {
+        match told {
+            Delivery::Sent(k) => self.take_sent(desk, text, *k),
+            Delivery::Bytes(message) => {
+                self.bytes.clear();
+                message.decode(&mut self.bytes);
+                self.desks[desk].take(text, &self.bytes)
+            }
+        }
+    }
+
+    // Hands the k-th message that was sent to a desk's text. Refused `BadEvent` where it wasn't sent yet.
+    fn take_sent(&mut self, desk: usize, text: TextNo, k: u32) -> Result<Took, Refusal>
+        requires in_run { desk < length self.old.desks }
+        requires on_desk { text ≤ MAX_TEXT }
+        ensures { Replies self.old (take desk text (sent k)) (take_reply result) self.new }
+    {
+        let k = k as usize;
+        if k == 0 || self.outbox.len() < k {
+            return Err(Refusal::BadEvent);
+        }
+        let message = self.outbox.message(k - 1);
+        self.desks[desk].take(text, message)
+    }
+
     // The lines that a query prints of a desk's text.
     fn query(&self, desk: usize, text: TextNo, query: Query) -> Result<Vec<u8>, Refusal>
         requires in_run { desk < length self.now.desks }
         requires on_desk { text ≤ MAX_TEXT }
         ensures ok { IfOk result (λ lines.
-            (t : TextState) × IsTextAt self.now desk text t × (lines.items ≡ lines_of (query_of query) t)) }
+            (t : TextState) × IsTextAt self.now desk text t × Prints (query_of query) t lines.items) }
         ensures errors { RefusedForMemoryAlone result }
     {
         match query {
             Query::Text => self.desks[desk].text(text),
+            Query::Front => self.desks[desk].front(text),
+            Query::Runs => self.desks[desk].runs(text),
         }
     }
 }

@@ -19,6 +19,7 @@ use Rattle.tree_order.specs.Shown.{up_to}
 use Rattle.tree_order.specs.Tree.{IsChar}
 use Rattle.texts.specs.Edit.{anchor_before}
 use Rattle.texts.specs.Order.{count_to}
+use Rattle.texts.specs.Text.{IsAnchor}
 
 -- the position is that behind the anchor
 pub anchor_is_behind : (shown : List Char) (pos : ℕ) → pos ≤ length shown
@@ -34,20 +35,13 @@ anchor_is_behind shown (suc k) within =
       | inr w ↦ absurd (omega arith)
     ]
 
--- the anchor is the root or a character
-pub IsOld : List Operation → Anchor → Type 0
-IsOld ops Root = Unit {0}
-IsOld ops (At c) = IsChar ops c
-
-pub old_if_mentioned : (ops : List Operation) (a : Anchor) (at : ℕ) (looks : Looks) (bytes : List ℕ) → IsOld ops a
+pub old_if_mentioned : (ops : List Operation) (a : Anchor) (at : ℕ) (looks : Looks) (bytes : List ℕ) → IsAnchor ops a
     → (name : CharName) → MentionsBy (insert a at looks bytes) name → IsChar ops name
-unfolding IsOld
 old_if_mentioned ops Root at looks bytes old name m = absurd m
 old_if_mentioned ops (At c) at looks bytes old name m = subst (IsChar ops) (sym m) old
 
 pub old_if_behind : (ops : List Operation) (names : List CharName) (a : Anchor) (pos : ℕ) → All (IsChar ops) names
-    → IsBehind names a pos → IsOld ops a
-unfolding IsOld
+    → IsBehind names a pos → IsAnchor ops a
 old_if_behind ops names Root pos are behind = tt
 old_if_behind ops names (At c) pos are (k, at, next) =
     All-contains (IsChar ops) names c are
@@ -88,7 +82,6 @@ ends_with c (d ∷ names) (suc k, lt, e) =
     (λ apart. ends_with c names (k, omega arith, e))
 
 pub ends_at : (ops : List Operation) (order : List Char) (a : Anchor) → IsOrder ops (map (λ c. c.name) order)
-    → IsOld ops a → EndsAt (take (count_to order a) (map (λ c. c.name) order)) a
-unfolding IsOld
+    → IsAnchor ops a → EndsAt (take (count_to order a) (map (λ c. c.name) order)) a
 ends_at ops order Root is old = refl
 ends_at ops order (At c) is old = ends_with c (map (λ (x : Char). x.name) order) ((is.each c).1 old)

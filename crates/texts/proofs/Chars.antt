@@ -43,6 +43,14 @@ shows_the_definition t is = record {
       is.chars.looks;
 }
 
+-- and what it shows are characters
+pub shown_are_chars : (t : TextState) → IsText t → All (IsChar t.operations) (map (λ s. s.name) (shown_of t))
+shown_are_chars t is =
+    let s = shows_the_definition t is in
+    subst (λ (names : List CharName). All (IsChar t.operations) names) (sym s.visible)
+    (All-filter (is_visible t.operations) (IsChar t.operations) s.order
+    (λ k d lt. (s.in_order.each _).0 (Contains-get_or s.order k d lt)))
+
 -- the laws that a good set has one order, and that names tell characters
 pub record TellChars : Type 0 where
   pub order : (ops : List Operation) → Good ops → HasOneOrder ops

@@ -1,11 +1,11 @@
 pub mod Causes
 pub mod Chars
-pub mod Inserting
-pub mod Names
-pub mod Nothing
 pub mod OneEdit
 pub mod OneRun
+pub mod OwnChange
 pub mod OwnInsert
+pub mod OwnStep
+pub mod OwnStretch
 pub mod Refusals
 pub mod RunChars
-pub mod Visible
+pub mod Taking

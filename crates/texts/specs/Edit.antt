@@ -12,7 +12,7 @@ use Rattle.char_files.specs.declared.TheConstants.{MAX_FILE}
 use Rattle.char_files.specs.declared.character.Char.{Char}
 use Rattle.char_files.specs.declared.name.Anchor.{Anchor}
 use Rattle.char_files.specs.declared.name.Anchor.TheVariants.{Root, At}
-use Rattle.operations.specs.Operation.{Operation, insert, appended_len}
+use Rattle.operations.specs.Operation.{Operation, OpKind, insert, appended_len}
 use Rattle.operations.specs.Spelling.{spelling}
 use Rattle.operations.specs.declared.kind.TheConstants.{MAX_INSERT}
 use Rattle.operations.specs.declared.op.TheConstants.{MAX_STAMP}
@@ -37,15 +37,20 @@ abbrev pub anchor_before : List Char → ℕ → Anchor
 anchor_before shown pos =
     if pos == 0 then Root else option_map_or (λ c. At c.name) (slice_get shown (pos - 1)) Root
 
--- the Insert of a run behind the first pos characters shown
-abbrev pub own_insert : TextState → ℕ → Looks → List ℕ → Operation
-own_insert t pos looks bytes = record {
+-- the operation of this kind that the site makes next
+abbrev pub own_op : TextState → OpKind → Operation
+own_op t kind = record {
   text = t.text;
   site = t.site;
   seq = front_of t.operations t.site + 1;
   stamp = greatest_stamp t.operations + 1;
-  kind = insert (anchor_before (shown_of t) pos) (file_len t.operations t.site) looks bytes;
+  kind = kind;
 }
+
+-- the Insert of a run behind the first pos characters shown
+abbrev pub own_insert : TextState → ℕ → Looks → List ℕ → Operation
+own_insert t pos looks bytes =
+    own_op t (insert (anchor_before (shown_of t) pos) (file_len t.operations t.site) looks bytes)
 
 -- the operations that an edit makes: none where it is empty
 abbrev pub plan : TextState → Edit → List Operation

@@ -1,11 +1,19 @@
 -- The laws of what replicas show: the operations taken in tell it, whatever their order.
-use Rattle.std.specs.Prelude.{◌≡◌, ℕ, ◌≤◌, List, [], ◌∷◌, ◌++◌, length}
+use Rattle.std.specs.Prelude.{◌≡◌, ℕ, ◌≤◌, ◌↔◌, ◌||◌, not, List, [], ◌∷◌, ◌++◌, length, filter, map}
+use Rattle.std.specs.Prelude.{Contains, slice_range}
+use Rattle.looks.specs.Sel.{Selection}
 use Rattle.looks.specs.declared.looks.Looks.{Looks}
-use Rattle.operations.specs.Operation.{Operation}
+use Rattle.char_files.specs.CharName.{CharName}
+use Rattle.char_files.specs.declared.character.Char.{Char}
+use Rattle.operations.specs.NameSet.{Range, IsAmong}
+use Rattle.operations.specs.Operation.{Operation, OpKind, delete, restore, change_looks}
 use Rattle.tree_order.specs.Laws.{AreSameSet}
-use Rattle.tree_order.specs.Shown.{IsShown}
+use Rattle.tree_order.specs.Shown.{IsShown, is_visible}
+use Rattle.tree_order.specs.Tree.{IsChar}
 use Rattle.set_laws.specs.Sets.{AreIdentified, HaveEqualFronts}
-use Rattle.texts.specs.Edit.{insert_run, own_insert, shown_after, with_operation}
+use Rattle.set_laws.specs.Verdict.{HasVerdict, IsNew, ready}
+use Rattle.texts.specs.Edit.{insert_run, own_insert, own_op, shown_after, with_operation}
+use Rattle.texts.specs.Order.{cut, dress, is_named, with_looks}
 use Rattle.texts.specs.Text.{IsText}
 use Rattle.texts.specs.TextState.{TextState, shown_of}
 
@@ -28,8 +36,11 @@ abbrev pub FrontsTellTheText : Type 0
 FrontsTellTheText = (t u : TextState) → IsText t → IsText u → AreIdentified (t.operations ++ u.operations)
     → HaveEqualFronts t.operations u.operations → AreAlike t u
 
--- the text after an own Insert is what its operations define, and the Insert shows its run where it was typed
+-- an own Insert is new and ready; the text after it is what its operations define, and it shows its run where
+-- it was typed
 pub record IsPlainEdit (t : TextState) (pos : ℕ) (looks : Looks) (bytes : List ℕ) : Type 0 where
+  pub new : IsNew t.operations (own_insert t pos looks bytes)
+  pub ready : HasVerdict t.operations (own_insert t pos looks bytes) ready
   pub text : IsText (with_operation t (own_insert t pos looks bytes))
   pub shown : shown_of (with_operation t (own_insert t pos looks bytes))
       ≡ shown_after t (insert_run pos looks bytes)
@@ -38,6 +49,51 @@ pub record IsPlainEdit (t : TextState) (pos : ℕ) (looks : Looks) (bytes : List
 abbrev pub OwnInsertIsPlain : Type 0
 OwnInsertIsPlain = (t : TextState) (pos : ℕ) (looks : Looks) (bytes : List ℕ) → IsText t
     → pos ≤ length (shown_of t) → IsPlainEdit t pos looks bytes
+
+-- each name of the set is that of a character, which may be hidden
+abbrev pub AreCharNames : List Operation → List Range → Type 0
+AreCharNames ops names = (c : CharName) → IsAmong names c → IsChar ops c
+
+-- an own operation of this kind is new and ready; the text after it is what its operations define, and it
+-- shows these characters
+pub record IsOwnEdit (t : TextState) (kind : OpKind) (chars : List Char) : Type 0 where
+  pub new : IsNew t.operations (own_op t kind)
+  pub ready : HasVerdict t.operations (own_op t kind) ready
+  pub text : IsText (with_operation t (own_op t kind))
+  pub shown : shown_of (with_operation t (own_op t kind)) ≡ chars
+
+-- an own Delete takes those that it names out of what is shown, and leaves all others as they were
+abbrev pub OwnDeleteHides : Type 0
+OwnDeleteHides = (t : TextState) (names : List Range) → IsText t → AreCharNames t.operations names
+    → IsOwnEdit t (delete names) (filter (λ c. not (is_named names c)) (shown_of t))
+
+-- an own Restore shows those that it names beside those that were shown, each at its place among all
+abbrev pub OwnRestoreShows : Type 0
+OwnRestoreShows = (t : TextState) (names : List Range) → IsText t → AreCharNames t.operations names
+    → IsOwnEdit t (restore names)
+    (filter (λ c. is_named names c || is_visible t.operations c.name) t.order)
+
+-- an own ChangeLooks gives looks to those that it names, and moves, hides and shows none
+abbrev pub OwnLooksAreGiven : Type 0
+OwnLooksAreGiven = (t : TextState) (sel : Selection) (looks : Looks) (names : List Range) → IsText t
+    → AreCharNames t.operations names
+    → IsOwnEdit t (change_looks sel looks names) (map (with_looks sel looks names) (shown_of t))
+
+-- the set has the names of the characters shown from beg to end, and no others
+abbrev pub NamesStretch : TextState → List Range → (beg end : ℕ) → Type 0
+NamesStretch t names beg end = (c : CharName)
+    → IsAmong names c ↔ Contains (map (λ s. s.name) (slice_range (shown_of t) beg end)) c
+
+-- an own Delete of what is shown from beg to end is an edit of a plain list
+abbrev pub OwnDeleteIsPlain : Type 0
+OwnDeleteIsPlain = (t : TextState) (names : List Range) (beg end : ℕ) → IsText t → beg ≤ end
+    → NamesStretch t names beg end → IsOwnEdit t (delete names) (cut (shown_of t) beg end)
+
+-- so is an own ChangeLooks
+abbrev pub OwnLooksArePlain : Type 0
+OwnLooksArePlain = (t : TextState) (sel : Selection) (looks : Looks) (names : List Range) (beg end : ℕ)
+    → IsText t → beg ≤ end → NamesStretch t names beg end
+    → IsOwnEdit t (change_looks sel looks names) (dress sel looks (shown_of t) beg end)
 
 -- one operation more of which the set with it is good leaves one text, and no other
 pub record HasOneTextWith (t : TextState) (op : Operation) : Type 0 where

@@ -1,5 +1,6 @@
 -- What an operation of the site itself, the latest of all, does to the list of all characters.
-use Rattle.std.specs.Prelude.{ℕ, ◌+◌, List, [], ◌∷◌, ◌++◌, length, take, drop, map, if◌then◌else◌}
+use Rattle.std.specs.Prelude.{ℕ, ◌+◌, Bool, List, [], ◌∷◌, ◌++◌, length, take, drop, map, if◌then◌else◌}
+use Rattle.std.specs.Prelude.{slice_range}
 use Rattle.std.specs.List.{list_any}
 use Rattle.looks.specs.Sel.{Selection}
 use Rattle.looks.specs.declared.looks.Looks.{Looks}
@@ -34,11 +35,27 @@ with_selected sel looks old = record {
   offset = if sel.offset then looks.offset else old.offset;
 }
 
+-- the character, with those of its looks replaced that are selected
+abbrev pub dressed : Selection → Looks → Char → Char
+dressed sel looks c = record c { looks = with_selected sel looks c.looks }
+
+-- whether the set has the character's name
+abbrev pub is_named : List Range → Char → Bool
+is_named names c = list_any (λ r. range_contains r c.name) names
+
 -- the character, in new looks where the set has its name
 abbrev pub with_looks : Selection → Looks → List Range → Char → Char
 with_looks sel looks names c =
-    if list_any (λ r. range_contains r c.name) names
-    then record c { looks = with_selected sel looks c.looks } else c
+    if is_named names c then dressed sel looks c else c
+
+-- all but those from beg to end
+abbrev pub cut : {X : Type 0} → List X → (beg end : ℕ) → List X
+cut xs beg end = take beg xs ++ drop end xs
+
+-- those from beg to end in new looks, all others as they are
+abbrev pub dress : Selection → Looks → List Char → (beg end : ℕ) → List Char
+dress sel looks chars beg end =
+    take beg chars ++ map (dressed sel looks) (slice_range chars beg end) ++ drop end chars
 
 -- an Insert's run stands directly behind its cause; a Delete hides, a Restore shows again, and neither moves
 -- anything; a ChangeLooks gives looks to those that it names

@@ -1,7 +1,11 @@
 -- What every replica is, as a fact of what is seen of it: its characters are those that its operations define.
-use Rattle.std.specs.Prelude.{◌≡◌, All}
+use Rattle.std.specs.Prelude.{◌≡◌, List, All}
+use Rattle.char_files.specs.declared.name.Anchor.{Anchor}
+use Rattle.char_files.specs.declared.name.Anchor.TheVariants.{Root, At}
+use Rattle.operations.specs.Operation.{Operation}
 use Rattle.tree_order.specs.Good.{Good}
 use Rattle.tree_order.specs.Shown.{AreChars}
+use Rattle.tree_order.specs.Tree.{IsChar}
 use Rattle.set_laws.specs.Sets.{AreIdentified}
 use Rattle.texts.specs.TextState.{TextState}
 
@@ -11,3 +15,8 @@ pub record IsText (t : TextState) : Type 0 where
   pub identified : AreIdentified t.operations
   pub of_text : All (λ op. op.text ≡ t.text) t.operations
   pub chars : AreChars t.operations t.order
+
+-- the anchor is the root or a character
+abbrev pub IsAnchor : List Operation → Anchor → Type 0
+IsAnchor ops Root = Unit {0}
+IsAnchor ops (At c) = IsChar ops c

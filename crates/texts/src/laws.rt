@@ -6,15 +6,20 @@ ghost use Rattle.tree_order.specs.Good.{Good};
 ghost use Rattle.set_laws.specs.Sets.{AreIdentified};
 ghost use Rattle.texts.specs.Laws.{ShowsTheDefinition, OperationsTellTheText, FrontsTellTheText};
 ghost use Rattle.texts.specs.Laws.{OwnInsertIsPlain, HasOneTextWith};
+ghost use Rattle.texts.specs.Laws.{OwnDeleteHides, OwnRestoreShows, OwnLooksAreGiven};
+ghost use Rattle.texts.specs.Laws.{OwnDeleteIsPlain, OwnLooksArePlain};
 ghost use Rattle.texts.specs.Text.{IsText};
 ghost use Rattle.texts.specs.TextState.{TextState};
 
 use set_laws::growing::{counts_tell_what_is_here, good_sets_grow_by_verdict, own_next_is_ready};
 use set_laws::unions::{equal_fronts_tell_equal_sets, front_is_held};
-use tree_order::laws::registers::{registers_are_offered, registers_tell_what_is_shown};
+use tree_order::laws::registers::{
+    registers_are_offered, registers_tell_what_is_shown, the_order_stays,
+};
 use tree_order::laws::sequential::{the_latest_goes_behind_its_cause, the_latest_is_a_plain_edit};
 use tree_order::laws::{
-    only_the_set_counts, there_is_one_character_each, there_is_one_order, there_is_one_text,
+    only_the_set_counts, the_last_switch_decides, there_is_one_character_each, there_is_one_order,
+    there_is_one_text,
 };
 
 /// A law: what a text shows is what the definition gives from the operations that it took in.
@@ -53,6 +58,57 @@ pub fn an_own_insert_is_plain()
     registers_are_offered();
     registers_tell_what_is_shown();
     there_is_one_text();
+}
+
+/// A law: an own Delete takes those that it names out of what is shown; all others stand as they did.
+pub fn an_own_delete_hides()
+    ensures { OwnDeleteHides }
+{
+    front_is_held();
+    counts_tell_what_is_here();
+    own_next_is_ready();
+    good_sets_grow_by_verdict();
+    the_order_stays();
+    the_last_switch_decides();
+}
+
+/// A law: an own Restore shows those that it names, each at its place among all; all others stand as they did.
+pub fn an_own_restore_shows()
+    ensures { OwnRestoreShows }
+{
+    front_is_held();
+    counts_tell_what_is_here();
+    own_next_is_ready();
+    good_sets_grow_by_verdict();
+    the_order_stays();
+    the_last_switch_decides();
+}
+
+/// A law: an own ChangeLooks gives the looks that it selects to those that it names; it moves, hides and shows
+/// none.
+pub fn own_looks_are_given()
+    ensures { OwnLooksAreGiven }
+{
+    front_is_held();
+    counts_tell_what_is_here();
+    own_next_is_ready();
+    good_sets_grow_by_verdict();
+    the_order_stays();
+}
+
+/// A law: an own Delete of what is shown from beg to end is an edit of a plain list: it takes these out.
+pub fn an_own_delete_is_plain()
+    ensures { OwnDeleteIsPlain }
+{
+    an_own_delete_hides();
+}
+
+/// A law: an own ChangeLooks of what is shown from beg to end gives these the looks that it selects, and leaves
+/// all others as they were.
+pub fn own_looks_are_plain()
+    ensures { OwnLooksArePlain }
+{
+    own_looks_are_given();
 }
 
 /// A law: one operation more, of this text, of which the set with it is good, leaves one text and no other.

@@ -1,5 +1,5 @@
-ghost use Rattle.std.specs.Prelude.{◌≡◌, ◌<◌, [], ◌∷◌, ◌++◌, length, slice_get, is_ok, if◌then◌else◌, IsTrue};
-ghost use Rattle.std.specs.Prelude.{◌↔◌};
+ghost use Rattle.std.specs.Prelude.{◌≡◌, ◌≢◌, ℕ, ◌<◌, ◌↔◌, List, [], ◌∷◌, ◌++◌, length, slice_get, is_ok};
+ghost use Rattle.std.specs.Prelude.{if◌then◌else◌, IsTrue};
 
 use std::alloc::{AllocError, Global};
 use std::marker::Model;
@@ -56,5 +56,14 @@ impl Outbox {
     {
         self.messages.push(message)?;
         Ok(())
+    }
+
+    // Takes the last message back.
+    pub(crate) fn take_back(&mut self)
+        requires { self.old ≢ [] }
+        ensures { (messages : List (List ℕ)) (message : List ℕ) → self.old ≡ messages ++ message ∷ []
+            → self.new ≡ messages }
+    {
+        let _ = self.messages.pop();
     }
 }

@@ -1,49 +1,45 @@
-ghost use Rattle.std.specs.Prelude.{◌≡◌, ◌<◌, ◌≤◌, [], ◌∷◌, ◌++◌, length, slice_get, IfSome, IfNone, IfOk};
+ghost use Rattle.std.specs.Prelude.{◌≡◌, ◌<◌, ◌≤◌, ◌++◌, ◌↔◌, length, slice_get, IfSome, IfOk, IsSome, IsTrue};
 ghost use Rattle.std.specs.Prelude.{OnOk, OnErr};
 ghost use Rattle.looks.specs.Refusal.{RefusedForMemoryAlone};
-ghost use Rattle.operations.specs.Spelling.{spelling};
-ghost use Rattle.texts.specs.Edit.{EditsSending, IsOneInsert, insert_run, insertion, own_insert, refusal_for};
-ghost use Rattle.texts.specs.Edit.{shown_after, with_operation};
-ghost use Rattle.texts.specs.Text.{IsText};
+ghost use Rattle.set_laws.specs.Fronts.{AreSites, front_of};
+ghost use Rattle.set_laws.specs.Sets.{AreIdentified, HaveEqualFronts};
+ghost use Rattle.set_laws.specs.Verdict.{ready};
+ghost use Rattle.tree_order.specs.Shown.{IsPlace};
+ghost use Rattle.texts.specs.Edit.{anchor_before};
+ghost use Rattle.texts.specs.Laws.{AreAlike};
+ghost use Rattle.texts.specs.Take.{HasTaken, IsJudged};
+ghost use Rattle.texts.specs.Text.{IsAnchor, IsText};
 ghost use Rattle.texts.specs.TextState.{empty_text, shown_of};
 
-use crate::MAX_SEQ;
-use crate::edit_refusal::EditRefusal;
-use crate::laws::an_own_insert_is_plain;
-use crate::order::{anchor_before, chars_of, put};
-use crate::outbox::Outbox;
-use crate::site_counts::SiteCounts;
-use char_files::{Buffer, Char, MAX_FILE, SiteNo, TextNo};
+mod inserting;
+mod taking;
+
+use crate::laws::the_fronts_tell_the_text;
+use char_files::{Anchor, SiteNo, TextNo};
 use looks::{Looks, Refusal};
-use operations::{Kind, MAX_INSERT, MAX_STAMP, Op, encode};
-use set_laws::closures::nothing_is_good;
-use set_laws::growing::counts_go_on;
-use set_laws::unions::front_is_held;
-use std::alloc::{AllocError, Global};
+use operations::Op;
+use std::alloc::Global;
 use std::marker::Model;
-use tree_order::laws::sequential::one_writer_goes_behind_causes;
+use taken_text::{Shown, TakenText};
 
 /// One site's copy of a text. This project's own.
-#[derive(Debug, Drop)]
+#[derive(Drop)]
 pub struct Replica {
     text: TextNo,
     site: SiteNo,
-    operations: Vec<Op>,
-    order: Vec<Char>,
-    // The greatest stamp taken in, and what the site's own operations come to.
-    stamp: u64,
-    own: SiteCounts,
+    taken: TakenText,
+    alloc: Global,
 }
 
 impl Model for Replica {
-    ghost use Rattle.texts.specs.Counts.{IsReplica};
+    ghost use Rattle.std.specs.Prelude.{◌≡◌, All};
     ghost use Rattle.texts.specs.TextState.{TextState, state_of};
 
     ghost Value = { TextState };
 
-    ghost view = { λ r. state_of r.text r.site r.operations.items r.order.items };
+    ghost view = { λ r. state_of r.text r.site r.taken.operations r.taken.chars };
 
-    ghost invariant = { λ r. IsReplica r.text r.site r.operations.items r.order.items r.stamp r.own };
+    ghost invariant = { λ r. All (λ op. op.text ≡ r.text) r.taken.operations };
 }
 
 impl Replica {
@@ -52,15 +48,11 @@ impl Replica {
         ensures ok { IfOk result (λ r. r ≡ empty_text text site) }
         ensures errors { RefusedForMemoryAlone result }
     {
-        nothing_is_good();
-        one_writer_goes_behind_causes();
         Ok(Replica {
             text,
             site,
-            operations: Vec::new(alloc),
-            order: Vec::new(alloc),
-            stamp: 0,
-            own: SiteCounts::NONE,
+            taken: TakenText::new(alloc)?,
+            alloc,
         })
     }
 
@@ -83,14 +75,51 @@ impl Replica {
     pub fn is_text(&self)
         ensures { IsText self.now }
     {
-        let _ = &self.operations;
+        self.taken.is_defined();
+    }
+
+    /// The greatest seq of a site's operations that were taken in, its front; 0 for none.
+    pub fn front(&self, site: SiteNo) -> u32
+        ensures { result ≡ front_of self.now.operations site }
+    {
+        self.taken.log().front(site)
+    }
+
+    /// The sites of which operations were taken in, ascending. The time grows with the number of operations.
+    /// Refused `OutOfMemory` alone.
+    pub fn sites(&self) -> Result<Vec<SiteNo>, Refusal>
+        ensures ok { IfOk result (λ sites. AreSites self.now.operations sites.items) }
+        ensures errors { RefusedForMemoryAlone result }
+    {
+        self.taken.log().sites()
+    }
+
+    /// Whether both have taken in the same operations of each site, by their numbers. Where no identity was
+    /// used twice, both then show the same.
+    pub fn has_fronts_of(&self, other: &Replica) -> bool
+        ensures fronts { IsTrue result ↔ HaveEqualFronts self.now.operations other.now.operations }
+        ensures alike { IsTrue result → AreIdentified (self.now.operations ++ other.now.operations)
+            → AreAlike self.now other.now }
+    {
+        the_fronts_tell_the_text();
+        self.is_text();
+        other.is_text();
+        self.taken.log().has_fronts_of(other.taken.log())
+    }
+
+    /// How many operations wait for a cause: none, as there is no waiting room yet.
+    pub fn waiting(&self) -> u32
+        ensures { result ≡ length self.now.waiting_room }
+    {
+        let _ = &self.taken;
+        0
     }
 
     /// How many characters are shown.
     pub fn shown_len(&self) -> u64
         ensures { result ≡ length (shown_of self.now) }
     {
-        self.shown().len() as u64
+        self.taken.shown_len()
     }
 
     /// The character shown at this position, and its looks.
@@ -98,118 +127,52 @@ impl Replica {
         requires { pos < length (shown_of self.now) }
         ensures { IfSome (slice_get (shown_of self.now) pos) (λ c. result ≡ (c.byte, c.looks)) }
     {
-        let shown = &self.shown()[pos as usize];
-        (shown.byte, shown.looks.copy())
+        let shown = self.taken.char_at(pos);
+        (shown.byte, shown.looks)
     }
 
-    // The characters shown: all of them, as long as no operation hides any.
-    fn shown(&self) -> &[Char]
-        ensures { result.now ≡ shown_of self.now }
+    /// The characters shown, one after the other. It takes no memory.
+    pub fn shown(&self) -> Shown<'_>
+        ensures { result ≡ shown_of self.now }
     {
-        &self.order
+        self.taken.shown()
     }
 
-    /// Types a stretch of one set of looks behind the first `pos` characters shown, by one Insert of at most
-    /// 4,096 bytes.
-    ///
-    /// Answers how many messages it added to the Outbox. Refused, in this order, `SeqSpent` after the site's
-    /// last seq, `StampsSpent` after the greatest stamp, `FileSpent` where the site's file would pass 2^24
-    /// bytes, and `OutOfMemory`. An empty stretch sends nothing and is never refused.
-    pub fn insert(
-        &mut self,
-        pos: u64,
-        buffer: &Buffer,
-        outbox: &mut Outbox,
-    ) -> Result<u32, EditRefusal>
-        requires in_text { pos ≤ length (shown_of self.old) }
-        requires one { IsOneInsert buffer.now }
-        ensures { EditsSending self.old (insertion pos buffer.now) result self.new outbox.old outbox.new }
+    /// What a character hangs on that is typed behind the first `pos` characters shown: the last of them, or
+    /// the root where there is none.
+    pub fn anchor_after(&self, pos: u64) -> Anchor
+        requires { pos ≤ length (shown_of self.now) }
+        ensures { result ≡ anchor_before (shown_of self.now) pos }
     {
-        match buffer.runs() {
-            [] => Ok(0),
-            [run, ..] => match self.insert_run(pos as usize, run.looks(), run.bytes(), outbox) {
-                Ok(()) => Ok(1),
-                Err(why) => Err(EditRefusal::Whole(why)),
-            },
-        }
-    }
-
-    // Why an operation of the site itself that appends so many bytes is refused whatever the memory.
-    fn refusal_for(&self, appended: usize) -> Option<Refusal>
-        requires { appended ≤ MAX_INSERT }
-        ensures { result ≡ refusal_for self.now appended }
-    {
-        if self.own.front == MAX_SEQ {
-            Some(Refusal::SeqSpent)
-        } else if self.stamp == MAX_STAMP {
-            Some(Refusal::StampsSpent)
-        } else if MAX_FILE < u64::from(self.own.file_len) + appended as u64 {
-            Some(Refusal::FileSpent)
+        if pos == 0 {
+            Anchor::Root
         } else {
-            None
+            Anchor::At(self.taken.char_at(pos - 1).name)
         }
     }
 
-    // The Insert of a run behind the first `pos` characters shown.
-    fn own_insert(&self, pos: usize, looks: &Looks, bytes: &[u8]) -> Result<Op, AllocError>
-        requires in_text { pos ≤ length (shown_of self.now) }
-        requires some { 0 < length bytes.now }
-        requires few { length bytes.now ≤ MAX_INSERT }
-        requires allowed { refusal_for self.now (length bytes.now) ≡ None }
-        ensures { IfOk result (λ op. op ≡ own_insert self.now pos looks.now bytes.now) }
+    /// How many shown characters are the anchor, which may be hidden, or stand ahead of it; `None` for a name
+    /// that isn't here.
+    pub fn position(&self, anchor: Anchor) -> Option<u64>
+        ensures here { IsSome result ↔ IsAnchor self.now.operations anchor }
+        ensures place { IfSome result (IsPlace self.now.operations anchor) }
     {
-        // The numbers and the looks are in range by their types.
-        let _ = (self.text.get(), self.site.get());
-        looks.are_in_range();
-        let kind = Kind::Insert {
-            cause: anchor_before(self.shown(), pos),
-            at: self.own.file_len,
-            looks: looks.copy(),
-            bytes: Vec::from_slice(*self.operations.allocator(), bytes)?,
-        };
-        let (seq, stamp) = (self.own.front + 1, self.stamp + 1);
-        Ok(Op::new(self.text, self.site, seq, stamp, kind).unwrap())
+        self.taken.is_defined();
+        match anchor {
+            Anchor::Root => Some(0),
+            Anchor::At(name) => self.taken.place_of(name),
+        }
     }
 
-    // One Insert of these bytes. An `Err` changes nothing.
-    fn insert_run(
-        &mut self,
-        pos: usize,
-        looks: &Looks,
-        bytes: &[u8],
-        outbox: &mut Outbox,
-    ) -> Result<(), Refusal>
-        requires in_text { pos ≤ length (shown_of self.old) }
-        requires some { 0 < length bytes.now }
-        requires few { length bytes.now ≤ MAX_INSERT }
-        ensures ok { let op = own_insert self.old pos looks.now bytes.now in
-            OnOk result ((self.new ≡ with_operation self.old op)
-            × (outbox.new ≡ outbox.old ++ spelling op ∷ [])) }
-        ensures shown { OnOk result
-            (shown_of self.new ≡ shown_after self.old (insert_run pos looks.now bytes.now)) }
-        ensures refused { IfSome (refusal_for self.old (length bytes.now)) (λ why. result ≡ Err why) }
-        ensures memory { IfNone (refusal_for self.old (length bytes.now)) (RefusedForMemoryAlone result) }
-        ensures err { OnErr result ((self.new ≡ self.old) × (outbox.new ≡ outbox.old)) }
+    // Takes in an operation that is ready. An `Err` changes nothing.
+    fn add(&mut self, op: Op) -> Result<(), Refusal>
+        requires { IsJudged self.old op ready }
+        ensures ok { OnOk result (HasTaken self.old op self.new) }
+        ensures errors { RefusedForMemoryAlone result }
+        ensures err { OnErr result (self.new ≡ self.old) }
     {
-        an_own_insert_is_plain();
-        front_is_held();
-        counts_go_on();
-        if let Some(why) = self.refusal_for(bytes.len()) {
-            return Err(why);
-        }
-        let alloc = *self.operations.allocator();
-        let op = self.own_insert(pos, looks, bytes)?;
-        let run = chars_of(alloc, self.site, self.own.file_len, looks, bytes)?;
-        let mut message = Vec::new(alloc);
-        encode(&op, &mut message)?;
-        self.order.reserve(run.len())?;
-        self.operations.reserve(1)?;
-        outbox.push(message)?;
-        put(&mut self.order, pos, run);
-        self.operations.push_reserved(op);
-        self.stamp += 1;
-        self.own.front += 1;
-        self.own.file_len += bytes.len() as u32;
+        self.taken.add(op)?;
+        self.is_text();
         Ok(())
     }
 }

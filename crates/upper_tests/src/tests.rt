@@ -1,16 +1,23 @@
 //! What no clause says: that calls succeed, and that scripts get the answers that were worked out by hand.
+use fakes::ByteByByte;
 use looks::Refusal;
 use script_io::{Input, Output};
-use script_runs::{Settings, run};
+use script_runs::{MAX_FIRST, MAX_SITES, Settings, run};
 use std::alloc::Global;
 use std::io;
+use std::test::Fail;
 
 mod desks;
 mod fakes;
 mod faults;
 mod limits;
+mod malformed;
+mod messages;
 mod replicas;
 mod rows;
+mod runs;
+mod sharing;
+mod taking;
 
 /// What a run did.
 #[derive(Drop)]
@@ -48,6 +55,43 @@ fn play_with<R: io::Read + Drop, W: io::Write + Drop>(
         flushed,
         ended,
     })
+}
+
+/// So many sites from this one on.
+fn sites((first, count): (u16, u16)) -> Result<Settings, Fail> {
+    if !(1..=MAX_FIRST).contains(&first) || !(1..=MAX_SITES).contains(&count) {
+        return Err("sites of a run".into());
+    }
+    Ok(Settings {
+        first,
+        count,
+        width: 80,
+        height: 24,
+    })
+}
+
+/// Whether a run ended well, and wrote these answers; else a failure that says what it wrote.
+fn compare(what: &str, played: &Played<Vec<u8>>, want: &[u8]) -> Result<(), Fail> {
+    let wrote = played.writer.as_slice();
+    if wrote == want && played.ended == Ok(()) {
+        return Ok(());
+    }
+    let wrote = std::str::from_utf8(wrote);
+    Err(Fail::new(format_args!("{what}: {wrote:?}")))
+}
+
+/// Plays a script at once, and again byte by byte, and compares all its answers.
+fn plays(
+    alloc: Global,
+    what: &str,
+    settings: Settings,
+    script: &[u8],
+    want: &[u8],
+) -> Result<(), Fail> {
+    let played = play_with(alloc, script, Vec::new(alloc), settings)?;
+    compare(what, &played, want)?;
+    let slow = play_with(alloc, ByteByByte(script), Vec::new(alloc), settings)?;
+    compare(what, &slow, want)
 }
 
 /// These bytes, and `len` times another behind them.

@@ -1,4 +1,5 @@
 use super::fakes::{Buffered, ByteByByte, FailsBehind, Fault, Limited};
+use super::messages::spelled;
 use super::{Played, play};
 use looks::Refusal;
 use script_runs::status_of;
@@ -6,15 +7,12 @@ use std::alloc::Global;
 use std::io;
 use std::test::Fail;
 
-// Lines, each with its answer.
-const LINES: &[(&[u8], &[u8])] = &[
-    (
-        b"1 type 1 0 Oberon\n",
-        b"send m1 4f5401010001000100000001000000000000000100000000000000000000104f6265726f6e31302e53636e2e466e74010000064f6265726f6e\nok\n",
-    ),
-    (b"1 text 1\n", b"text 6 Oberon\n"),
-    (b"1 typo\n", b"refused 20\n"),
-    (b"# a comment\n", b""),
+// Lines, each with its answer, in which `<Oberon>` stands for the message's hex.
+const LINES: &[(&[u8], &str)] = &[
+    (b"1 type 1 0 Oberon\n", "send m1 <Oberon>\nok\n"),
+    (b"1 text 1\n", "text 6 Oberon\n"),
+    (b"1 typo\n", "refused 20\n"),
+    (b"# a comment\n", ""),
 ];
 
 #[test]
@@ -33,7 +31,7 @@ fn the_reader_fails_at_each_byte(rt: HostRuntime) -> Result<(), Fail> {
             assert!(rt; played.read_failed && !played.write_failed && played.flushed);
         }
         script.extend_from_slice(line)?;
-        answered.extend_from_slice(answer)?;
+        answered.extend_from_slice(&spelled(rt.alloc(), answer)?)?;
     }
     Ok(())
 }
@@ -92,7 +90,7 @@ fn the_writer_fails_at_each_byte(rt: HostRuntime) -> Result<(), Fail> {
     let mut want = Vec::new(rt.alloc());
     for (line, answer) in LINES {
         script.extend_from_slice(line)?;
-        want.extend_from_slice(answer)?;
+        want.extend_from_slice(&spelled(rt.alloc(), answer)?)?;
     }
     for (fault, step) in HOW {
         for room in 0..want.len() {

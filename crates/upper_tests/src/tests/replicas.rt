@@ -7,18 +7,16 @@ use std::alloc::Global;
 use std::test::Fail;
 use texts::{MAX_SEQ, Outbox, Replica};
 
-// Site 9's copy of text 3.
-fn replica_of(alloc: Global) -> Result<Replica, Fail> {
-    let (text, site) = (
-        TextNo::new(3).ok_or("text 3")?,
-        SiteNo::new(9).ok_or("site 9")?,
-    );
+// A site's copy of a text.
+pub(super) fn replica_of(alloc: Global, text: u16, site: u16) -> Result<Replica, Fail> {
+    let text = TextNo::new(text).ok_or("a text")?;
+    let site = SiteNo::new(site).ok_or("a site")?;
     Ok(Replica::new(alloc, text, site)?)
 }
 
 #[test]
 fn begins_empty(rt: HostRuntime) -> Result<(), Fail> {
-    let replica = replica_of(rt.alloc())?;
+    let replica = replica_of(rt.alloc(), 3, 9)?;
     assert_eq!(rt; (replica.text().get(), replica.site().get()), (3, 9));
     assert_eq!(rt; replica.shown_len(), 0);
     let outbox = Outbox::new(rt.alloc());
@@ -38,7 +36,7 @@ fn alone(alloc: Global, byte: u8) -> Result<Buffer, Refusal>
 
 #[test]
 fn inserts(rt: HostRuntime) -> Result<(), Fail> {
-    let mut replica = replica_of(rt.alloc())?;
+    let mut replica = replica_of(rt.alloc(), 3, 9)?;
     let mut outbox = Outbox::new(rt.alloc());
     let sent = replica.insert(0, &alone(rt.alloc(), b'b')?, &mut outbox);
     assert_eq!(rt; sent, Ok(1));

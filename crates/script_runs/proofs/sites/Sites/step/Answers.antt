@@ -1,7 +1,7 @@
-use Rattle.std.proofs.Common.{◌≡◌, length, ap, ◌∙◌}
+use Rattle.std.proofs.Common.{◌≡◌, length, Ok, Err, ap, ◌∙◌}
 use Rattle.commands.specs.Machine.{State}
-use Rattle.script_events.specs.EventView.{edit_of, query_of}
-use Rattle.script_runs.proofs.Replying.{edit_step, query_step, query_short}
+use Rattle.script_events.specs.EventView.{delivery_of, edit_of, query_of}
+use Rattle.script_runs.proofs.Replying.{edit_step, query_step, query_short, take_step}
 use Rattle.script_runs.proofs.sites.Sites.step.Goals as goal
 
 pub returns-in-Edits : goal.returns-in-Edits
@@ -15,11 +15,21 @@ returns-in-Edits g c =
 
 pub returns-in-Ok : goal.returns-in-Ok
 returns-in-Ok g c =
-    let step = query_step c.args.self.now c.in-Queries.desk c.in-Queries.text (query_of c.in-Queries.query) c.in-Ok.lines.items c.in-Ok.ensures.ok in
-    let written = rw c.deref.ensures.value at c.put.ensures in
-    rw c.in-Queries.is (c.in-Ok.lines.items, written, step)
+    let step = take_step c.args.self.now c.take.new.self c.in-Takes.desk c.in-Takes.text (delivery_of c.in-Takes.message) (Ok c.in-Ok.took) c.in-Ok.ensures in
+    rw c.in-Takes.is (_, c.put_took.ensures, step)
 
 pub returns-in-Err : goal.returns-in-Err
 returns-in-Err g c =
-    let step = query_short c.args.self.now c.in-Queries.desk c.in-Queries.text (query_of c.in-Queries.query) c.in-Err.why c.in-Err.ensures.errors in
-    rw c.in-Queries.is (_, c.put_refused.ensures, step)
+    let step = take_step c.args.self.now c.take.new.self c.in-Takes.desk c.in-Takes.text (delivery_of c.in-Takes.message) (Err c.in-Err.why) c.in-Err.ensures in
+    rw c.in-Takes.is (_, c.put_refused.ensures, step)
+
+pub returns-in-Ok-query : goal.returns-in-Ok-query
+returns-in-Ok-query g c =
+    let step = query_step c.args.self.now c.in-Queries.desk c.in-Queries.text (query_of c.in-Queries.query) c.in-Ok-query.lines.items c.in-Ok-query.ensures.ok in
+    let written = rw c.deref.ensures.value at c.put.ensures in
+    rw c.in-Queries.is (c.in-Ok-query.lines.items, written, step)
+
+pub returns-in-Err-query : goal.returns-in-Err-query
+returns-in-Err-query g c =
+    let step = query_short c.args.self.now c.in-Queries.desk c.in-Queries.text (query_of c.in-Queries.query) c.in-Err-query.why c.in-Err-query.ensures.errors in
+    rw c.in-Queries.is (_, c.put_refused-in-Err-query.ensures, step)

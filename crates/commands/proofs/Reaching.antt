@@ -1,0 +1,169 @@
+-- What a run comes to: each text is what its operations define, by the steps that led there.
+use Rattle.std.proofs.Common.{◌≡◌, ℕ, zero, suc, ◌-◌, true, false, Bool, List, [], ◌∷◌, map, Option, Some, None, Result, Ok, Err, refl, sym, ap, subst, ◌∙◌, inl, inr, arith}
+use Rattle.std.specs.Prelude.{◌⊎◌, IsTrue, MatchBool, MatchOption, option_map, slice_get, slice_set}
+use Rattle.std.specs.List.{range_with_len}
+use Rattle.std.proofs.lemmas.Bool.{leb-true}
+use Rattle.std.proofs.lemmas.List.Elements.{All-nil}
+use Rattle.std.proofs.lemmas.Option.{same_Some, slice_get-map}
+use Rattle.looks.specs.declared.refusal.Refusal.TheVariants.{BadEvent}
+use Rattle.operations.specs.Operation.{Operation}
+use Rattle.tree_order.specs.Good.{Good}
+use Rattle.tree_order.specs.Sequential.{OneWriterGoesBehindCauses}
+use Rattle.set_laws.specs.Sets.{AreIdentified}
+use Rattle.texts.specs.Edit.{Edit, Edits, Stand, insert_run, is_in_text, plan}
+use Rattle.texts.specs.Laws.{OwnInsertIsPlain}
+use Rattle.texts.specs.Take.{IsAfter}
+use Rattle.texts.specs.Text.{IsText}
+use Rattle.texts.specs.TextState.{TextState, empty_text, shown_of}
+use Rattle.texts.specs.declared.edit_refusal.EditRefusal.{EditRefusal}
+use Rattle.texts.specs.declared.edit_refusal.EditRefusal.TheVariants.{Whole, Partial}
+use Rattle.texts.specs.declared.fate.Fate.{Fate}
+use Rattle.texts.specs.declared.fate.Fate.TheVariants.{OtherText, Known, Conflicting, Wait, WrongOffset, LowStamp, Ready}
+use Rattle.commands.specs.DeskState.{DeskState, InText, IsTextOf, new_desk}
+use Rattle.commands.specs.Laws.{AreTexts, Reached, begins, goes_on}
+use Rattle.commands.specs.Machine.{Does, EditsText, Event, InDesk, IsTextAt, Replies, Reply, Short, State, TakesText, edit, message_in, messages_of, new_state, prints, query, refuses, sends, stops, takes, unknown}
+use Rattle.commands.specs.Machine.{take as taking}
+use Rattle.commands.specs.Printing.{text_lines}
+
+-- an element of a list in which one was set is that one or was there before
+set_cases : {A : Type 0} (xs : List A) (i j : ℕ) (y z : A) → slice_get (slice_set xs i y) j ≡ Some z → (z ≡ y) ⊎ (slice_get xs j ≡ Some z)
+set_cases [] i j y z at = inr at
+set_cases (x ∷ xs) zero zero y z at = inl (sym (same_Some y z at))
+set_cases (x ∷ xs) zero (suc j) y z at = inr at
+set_cases (x ∷ xs) (suc i) zero y z at = inr at
+set_cases (x ∷ xs) (suc i) (suc j) y z at = set_cases xs i j y z at
+
+-- a text where nothing was taken in
+empty_is_text : (good : Good []) (identified : AreIdentified []) (order : OneWriterGoesBehindCauses) (text site : ℕ) → IsText (empty_text text site)
+empty_is_text good identified order text site = record {
+  good = good;
+  identified = identified;
+  of_text = All-nil _;
+  chars = record {
+    order = order [] site 0 good (λ k op e. absurd cc) (omega arith);
+    bytes = All-nil _;
+    looks = All-nil _;
+  };
+}
+
+of_option : {A B : Type 0} (f : A → B) (o : Option A) (b : B) → option_map f o ≡ Some b → (a : A) × (f a ≡ b)
+of_option f None b e = absurd cc
+of_option f (Some a) b e = (a, same_Some (f a) b e)
+
+-- an element of a mapped list is made of one
+mapped : {A B : Type 0} (f : A → B) (xs : List A) (i : ℕ) (b : B) → slice_get (map f xs) i ≡ Some b → (a : A) × (f a ≡ b)
+mapped f xs i b at = of_option f (slice_get xs i) b (sym (slice_get-map f xs i) ∙ at)
+
+-- the texts of a new run are empty
+new_texts : (first count i text : ℕ) (t : TextState) → IsTextAt (new_state first count) i text t → (number site : ℕ) × (empty_text number site ≡ t)
+new_texts first count i text t (d, at, there) =
+    let (site, is) = mapped new_desk (range_with_len first count) i d at in
+    let here : slice_get (new_desk site).texts (text - 1) ≡ Some t = ap (λ (x : DeskState). slice_get x.texts (text - 1)) is ∙ there in
+    let (number, same) = mapped (λ (n : ℕ). empty_text n site) (range_with_len 1 16) (text - 1) t here in
+    (number, site, same)
+
+-- each text of a desk is what its operations define
+abbrev HasTexts : DeskState → Type 0
+HasTexts d = (text : ℕ) (t : TextState) → IsTextOf d text t → IsText t
+
+-- what a text does that leaves it defined leaves the desk's texts so
+in_text : (Does' : TextState → TextState → Type 0) (d d' : DeskState) (text : ℕ) → ((t t' : TextState) → Does' t t' → IsText t → IsText t') → InText Does' d text d' → HasTexts d → HasTexts d'
+in_text Does' d d' text keeps (t, t', at, does, is) all number u there =
+    let texts : d'.texts ≡ slice_set d.texts (text - 1) t' = ap (λ (x : DeskState). x.texts) is in
+    elim (set_cases d.texts (text - 1) (number - 1) t' u (rw texts at there)) [
+      | inl same ↦ subst IsText (sym same) (keeps t t' does (all text t at))
+      | inr before ↦ all number u before
+    ]
+
+-- and what a desk does that leaves its texts so leaves the run's
+in_desk : (Does' : DeskState → DeskState → Type 0) (s new : State) (i : ℕ) (messages : List (List ℕ)) → ((d d' : DeskState) → Does' d d' → HasTexts d → HasTexts d') → InDesk Does' s i messages new → AreTexts s → AreTexts new
+in_desk Does' s new i messages keeps (d, d', at, does, is) all j number u (x, there, is_text) =
+    let desks : new.desks ≡ slice_set s.desks i d' = ap (λ (x : State). x.desks) is in
+    elim (set_cases s.desks i j d' x (rw desks at there)) [
+      | inl same ↦ let in_new : IsTextOf d' number u = subst (λ (y : DeskState). IsTextOf y number u) same is_text in
+          keeps d d' does (λ k v in_d. all i k v (d, at, in_d)) number u in_new
+      | inr before ↦ all j number u (x, before, is_text)
+    ]
+
+by_test : (b : Bool) (P Q : Type 0) → MatchBool b P Q → ((b ≡ true) × P) ⊎ ((b ≡ false) × Q)
+by_test true P Q h = inl (refl, h)
+by_test false P Q h = inr (refl, h)
+
+-- a message leaves the text defined
+after_fate : (t : TextState) (op : Operation) (fate : Fate) (new : TextState) → IsAfter t op fate new → IsText t → IsText new
+after_fate t op OtherText new after is = subst IsText (sym after) is
+after_fate t op Known new after is = subst IsText (sym after) is
+after_fate t op Conflicting new after is = subst IsText (sym after) is
+after_fate t op Wait new after is = subst IsText (sym after) is
+after_fate t op WrongOffset new after is = subst IsText (sym after) is
+after_fate t op LowStamp new after is = subst IsText (sym after) is
+after_fate t op Ready new after is = after.is
+
+takes_text : (message : List ℕ) (r : Reply) (t new : TextState) → TakesText message r t new → IsText t → IsText new
+takes_text message r t new (result, inl malformed, replied) is = subst IsText (sym malformed.2) is
+takes_text message r t new (result, inr (op, fate, tells, has, answered, after), replied) is = after_fate t op fate new after is
+
+-- a taking leaves each text defined, whether its message is told or not
+taken : (s : State) (i text : ℕ) (told : Option (List ℕ)) (r : Reply) (new : State) → MatchOption told ((new ≡ s) × (r ≡ refuses BadEvent)) (λ message. InDesk (λ d d'. InText (TakesText message r) d text d') s i [] new)
+    → AreTexts s → AreTexts new
+taken s i text None r new does all = subst AreTexts (sym does.0) all
+taken s i text (Some message) r new does all = in_desk _ s new i [] (λ d d'. in_text _ d d' text (takes_text message r)) does all
+
+module _ (plain : OwnInsertIsPlain) where
+  -- the first of an edit's operations leave the text defined
+  standing : (t : TextState) (e : Edit) (n : ℕ) (new : TextState) (messages : List (List ℕ)) → IsTrue (is_in_text t e) → Stand t (plan t e) n new messages → IsText t → IsText new
+  standing t (insert_run pos looks []) zero new messages within stand is = subst IsText (sym stand.text) is
+  standing t (insert_run pos looks []) (suc n) new messages within stand is = subst IsText (sym stand.text) is
+  standing t (insert_run pos looks (b ∷ bytes)) zero new messages within stand is = subst IsText (sym stand.text) is
+  standing t (insert_run pos looks (b ∷ bytes)) (suc zero) new messages within stand is =
+      subst IsText (sym stand.text) (plain t pos looks (b ∷ bytes) is (leb-true _ _ within)).text
+  standing t (insert_run pos looks (b ∷ bytes)) (suc (suc n)) new messages within stand is =
+      subst IsText (sym stand.text) (plain t pos looks (b ∷ bytes) is (leb-true _ _ within)).text
+
+  edited : (t : TextState) (e : Edit) (result : Result ℕ EditRefusal) (new : TextState) (messages : List (List ℕ)) → IsTrue (is_in_text t e) → Edits t (plan t e) result new messages → IsText t → IsText new
+  edited t e (Ok n) new messages within does is = standing t e n new messages within does.2 is
+  edited t e (Err (Whole why)) new messages within does is = standing t e 0 new messages within does.1 is
+  edited t e (Err (Partial n why)) new messages within does is = standing t e n new messages within does.2 is
+
+  edits_text : (e : Edit) (r : Reply) (t new : TextState) → EditsText e r t new → IsText t → IsText new
+  edits_text e r t new does is =
+      elim (by_test (is_in_text t e) _ _ does) [
+        | inl done ↦ let (result, messages, edits, shows, replied) = done.1 in edited t e result new messages done.0 edits is
+        | inr left ↦ subst IsText (sym left.1.1) is
+      ]
+
+  -- what a step does where memory is there leaves each text defined
+  does_texts : (s : State) (e : Event) (r : Reply) (new : State) → Does s e r new → AreTexts s → AreTexts new
+  does_texts s (edit i text e) r new does all =
+      in_desk _ s new i (messages_of r) (λ d d'. in_text _ d d' text (edits_text e r)) does all
+  does_texts s (taking i text told) r new does all = taken s i text (message_in s told) r new does all
+  does_texts s (query i text q) r new does all = subst AreTexts (sym does.0) all
+  does_texts s unknown r new does all = subst AreTexts (sym does.0) all
+
+  -- and what it does where memory was refused
+  short_texts : (s : State) (e : Event) (r : Reply) (new : State) → Short s e r new → AreTexts s → AreTexts new
+  short_texts s e (sends messages) new short all = absurd short
+  short_texts s e (takes took) new short all = absurd short
+  short_texts s e (prints lines) new short all = absurd short
+  short_texts s e (refuses why) new short all = subst AreTexts (sym short.2) all
+  short_texts s (edit i text e) (stops messages n why) new short all =
+      in_desk _ s new i messages (λ d d'. in_text _ d d' text (λ t t' stands. standing t e n t' messages stands.0 stands.3)) short.1 all
+  short_texts s (taking i text told) (stops messages n why) new short all = absurd short.1
+  short_texts s (query i text q) (stops messages n why) new short all = absurd short.1
+  short_texts s unknown (stops messages n why) new short all = absurd short.1
+
+  step_texts : (s : State) (e : Event) (r : Reply) (new : State) → Replies s e r new → AreTexts s → AreTexts new
+  step_texts s e r new (inl does) all = does_texts s e r new does all
+  step_texts s e r new (inr short) all = short_texts s e r new short all
+
+  -- each text of a state that a run can come to is what its operations define
+  pub reached_texts : Good [] → AreIdentified [] → OneWriterGoesBehindCauses → (first count : ℕ) (s : State) → Reached first count s → AreTexts s
+  reached_texts good identified order first count s begins = λ i text t there.
+      let (number, site, is) = new_texts first count i text t there in
+      subst IsText is (empty_is_text good identified order number site)
+  reached_texts good identified order first count s (goes_on {s = before} e r new reached replies) =
+      step_texts before e r new replies (reached_texts good identified order first count before reached)
+
+-- what is shown tells what is printed
+pub text_lines-shown : (t u : TextState) → shown_of t ≡ shown_of u → text_lines t ≡ text_lines u
+text_lines-shown t u same = rw same refl

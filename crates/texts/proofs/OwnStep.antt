@@ -1,0 +1,143 @@
+-- An operation that the site makes next is new, is ready, and is the latest of all.
+use Rattle.std.proofs.Common.{◌≡◌, ℕ, ◌+◌, ◌<◌, inl, inr, Bool, List, [], ◌∷◌, ◌++◌, refl, sym, subst}
+use Rattle.std.proofs.Common.{arith}
+use Rattle.std.proofs.lemmas.List.Elements.{All-cons, All-nil, All-push, Contains-append_left}
+use Rattle.std.proofs.lemmas.List.Elements.{Contains-push_cases}
+use Rattle.std.specs.Prelude.{All}
+use Rattle.looks.specs.Sel.{Selection}
+use Rattle.looks.specs.declared.looks.Looks.{Looks}
+use Rattle.char_files.specs.CharName.{CharName}
+use Rattle.operations.specs.Operation.{Operation, OpKind, MentionsBy}
+use Rattle.tree_order.specs.Good.{Begins, Good}
+use Rattle.tree_order.specs.Insertion.{IsOneMore}
+use Rattle.tree_order.specs.Looks.{HasLooks, IsLastToSet, Sets}
+use Rattle.tree_order.specs.Sequential.{IsLatest}
+use Rattle.tree_order.specs.Shown.{AreChars}
+use Rattle.tree_order.specs.Tree.{HasByte, IsChar}
+use Rattle.set_laws.specs.Fronts.{greatest, front_of, greatest_stamp, file_len}
+use Rattle.set_laws.specs.Growing.{AreToldByCounts, GrowsByVerdict, IsOwnNext}
+use Rattle.set_laws.specs.Sets.{AreIdentified, AreHeldToTheFront}
+use Rattle.set_laws.specs.Verdict.{HasVerdict, IsNew, ready}
+use Rattle.texts.specs.Edit.{own_op, with_operation}
+use Rattle.texts.specs.Order.{order_after}
+use Rattle.texts.specs.Text.{IsText}
+use Rattle.texts.specs.TextState.{TextState}
+
+-- the laws of good sets with one operation more
+pub record GrowthLaws : Type 0 where
+  pub held : (ops : List Operation) → Good ops → AreIdentified ops → AreHeldToTheFront ops
+  pub counts : (ops : List Operation) (op : Operation) → Good ops → AreIdentified ops → IsNew ops op
+      → AreToldByCounts ops op
+  pub ready : (ops : List Operation) (op : Operation) → Good ops → AreIdentified ops → IsOwnNext ops op
+      → HasVerdict ops op ready
+  pub grows : (ops : List Operation) (op : Operation) → Good ops → AreIdentified ops → IsNew ops op
+      → GrowsByVerdict ops op
+
+-- the operation may be taken in, is the latest, and leaves a text where its characters are those defined
+pub record IsOwnStep (t : TextState) (op : Operation) : Type 0 where
+  pub new : IsNew t.operations op
+  pub told : AreToldByCounts t.operations op
+  pub ready : HasVerdict t.operations op ready
+  pub one : IsOneMore t.operations op
+  pub latest : IsLatest t.operations op
+  pub text : AreChars (t.operations ++ op ∷ []) (order_after t.order op) → IsText (with_operation t op)
+
+-- no operation gives as much as what is above the greatest
+below : (f : Operation → ℕ) (ops : List Operation) (n : ℕ) → greatest f ops < n → All (λ op. f op < n) ops
+below f [] n less = All-nil (λ (op : Operation). f op < n)
+below f (op ∷ ops) n less =
+    All-cons (λ (o : Operation). f o < n) op ops (omega arith) (below f ops n (omega arith))
+
+module _ (laws : GrowthLaws) (t : TextState) (kind : OpKind) (is : IsText t)
+    (begins : Begins kind (file_len t.operations t.site))
+    (old : (name : CharName) → MentionsBy kind name → IsChar t.operations name) where
+  abbrev ops : List Operation
+  ops = t.operations
+
+  abbrev own : Operation
+  own = own_op t kind
+
+  abbrev with_own : List Operation
+  with_own = ops ++ own ∷ []
+
+  new : IsNew ops own
+  new = record {
+    counted = omega arith;
+    unheld = λ held.
+        let up = ((laws.held ops is.good is.identified t.site (front_of ops t.site + 1)).0 held).1 in
+        omega arith;
+  }
+
+  told : AreToldByCounts ops own
+  told = laws.counts ops own is.good is.identified new
+
+  next : IsOwnNext ops own
+  next = record {
+    seq = refl;
+    stamp = omega arith;
+    begins = begins;
+    mentions = λ name m. (told.here name).1 (old name m);
+  }
+
+  is_ready : HasVerdict ops own ready
+  is_ready = laws.ready ops own is.good is.identified next
+
+  larger : Good with_own
+  larger = (laws.grows ops own is.good is.identified new).ready.0 is_ready
+
+  identified : AreIdentified with_own
+  identified = record {
+    counted = λ op held. elim (Contains-push_cases ops own op held) [
+      | inl here ↦ is.identified.counted op here
+      | inr e ↦ subst (λ (o : Operation). 0 < o.seq) e new.counted
+    ];
+    unique = larger.identities;
+  }
+
+  pub own_step : IsOwnStep t own
+  own_step = record {
+    new = new;
+    told = told;
+    ready = is_ready;
+    one = record { good = is.good; larger = larger; new = λ held. new.unheld (own, held, refl, refl) };
+    latest = below (λ (op : Operation). op.stamp) ops (greatest_stamp ops + 1) (omega arith);
+    text = λ chars. record {
+      good = larger;
+      identified = identified;
+      of_text = All-push (λ (o : Operation). o.text ≡ t.text) ops own is.of_text refl;
+      chars = chars;
+    };
+  }
+
+-- One operation more takes no attribute away that it doesn't set, and no byte.
+module _ (ops : List Operation) (op : Operation) (c : CharName) where
+  pub last_stays : (selects : Selection → Bool) → (Sets op selects c → ⊥) → (o : Operation)
+      → IsLastToSet ops selects c o → IsLastToSet (ops ++ op ∷ []) selects c o
+  last_stays selects sets_none o last = record {
+    held = Contains-append_left ops (op ∷ []) o last.held;
+    sets = last.sets;
+    greatest = λ other held sets. elim (Contains-push_cases ops op other held) [
+      | inl old ↦ last.greatest other old sets
+      | inr e ↦ absurd (sets_none (subst (λ (x : Operation). Sets x selects c) (sym e) sets))
+    ];
+  }
+
+  pub looks_stay : ((selects : Selection → Bool) → Sets op selects c → ⊥) → (looks : Looks)
+      → HasLooks ops c looks → HasLooks (ops ++ op ∷ []) c looks
+  looks_stay sets_none looks has = record {
+    font = (has.font.0, last_stays (λ s. s.font) (sets_none (λ s. s.font)) has.font.0 has.font.1, has.font.2);
+    colour = (
+      has.colour.0,
+      last_stays (λ s. s.colour) (sets_none (λ s. s.colour)) has.colour.0 has.colour.1,
+      has.colour.2,
+    );
+    offset = (
+      has.offset.0,
+      last_stays (λ s. s.offset) (sets_none (λ s. s.offset)) has.offset.0 has.offset.1,
+      has.offset.2,
+    );
+  }
+
+  pub byte_stays : (byte : ℕ) → HasByte ops c byte → HasByte (ops ++ op ∷ []) c byte
+  byte_stays byte (i, h, e) =
+      (i, record { held = Contains-append_left ops (op ∷ []) i h.held; inserts = h.inserts }, e)

@@ -1,0 +1,12 @@
+use Rattle.texts.proofs.OwnChange.{delete_hides}
+use Rattle.texts.proofs.laws.an_own_delete_hides.Goals as goal
+
+pub returns : goal.returns
+returns c =
+    delete_hides (record {
+      held = c.front_is_held.ensures;
+      counts = c.counts_tell_what_is_here.ensures;
+      ready = c.own_next_is_ready.ensures;
+      grows = c.good_sets_grow_by_verdict.ensures;
+    })
+    c.the_order_stays.ensures c.the_last_switch_decides.ensures

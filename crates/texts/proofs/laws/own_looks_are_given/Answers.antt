@@ -1,0 +1,12 @@
+use Rattle.texts.proofs.OwnChange.{looks_are_given}
+use Rattle.texts.proofs.laws.own_looks_are_given.Goals as goal
+
+pub returns : goal.returns
+returns c =
+    looks_are_given (record {
+      held = c.front_is_held.ensures;
+      counts = c.counts_tell_what_is_here.ensures;
+      ready = c.own_next_is_ready.ensures;
+      grows = c.good_sets_grow_by_verdict.ensures;
+    })
+    c.the_order_stays.ensures

@@ -1,0 +1,18 @@
+/// What becomes of an operation that is handed in. This project's own.
+#[derive(Clone, Copy, Debug, PartialEq, Eq)]
+pub enum Fate {
+    /// It is of another text.
+    OtherText,
+    /// It is held already.
+    Known,
+    /// Another operation is held under its identity.
+    Conflicting,
+    /// A cause of it isn't held.
+    Wait,
+    /// It begins elsewhere than its site's file ends, or names an own character behind that end.
+    WrongOffset,
+    /// Its stamp isn't above each cause's.
+    LowStamp,
+    /// It may be taken in.
+    Ready,
+}
