@@ -1,4 +1,5 @@
 pub mod CharFiles
 pub mod CharName
 pub mod Plain
+pub mod Runs
 pub mod Stretch

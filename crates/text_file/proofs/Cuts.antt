@@ -11,7 +11,6 @@ use Rattle.text_file.specs.declared.TheConstants.{MAX_TEXT}
 use Rattle.text_file.specs.declared.loading.Head.{Head}
 use Rattle.text_file.specs.Files.{run_spelling}
 use Rattle.text_file.specs.Heads.{head_spelling, AreHeads, total_of, cut}
-use Rattle.text_file.proofs.MaximalRuns.{Apart, stretch, first_some, first_apart, other_runs}
 
 -- a run without its characters
 abbrev pub head_of : Stretch → Head
@@ -20,6 +19,10 @@ head_of r = record { looks = r.looks; len = length r.bytes }
 -- the characters of runs
 abbrev pub chars_of : List Stretch → List ℕ
 chars_of runs = flat_map (λ r. r.bytes) runs
+
+-- the characters of a run of these looks
+abbrev pub run_items : Looks → List ℕ → List Item
+run_items looks bytes = items_of_run (record { looks = looks; bytes = bytes })
 
 -- each character has looks that there are
 abbrev pub InLooks : List Item → Type 0
@@ -67,7 +70,7 @@ cut_runs last (h ∷ g ∷ heads) chars valid e = (
 )
 
 run_in_looks : (looks : Looks) (bytes : List ℕ) (items : List Item) → IsLooks looks → InLooks items
-    → InLooks (items_of_run (stretch looks bytes) ++ items)
+    → InLooks (run_items looks bytes ++ items)
 run_in_looks looks [] items is others = others
 run_in_looks looks (b ∷ bytes) items is others = (is, run_in_looks looks bytes items is others)
 
@@ -94,7 +97,7 @@ cut_again (r ∷ runs) =
     ∙ ap (λ (more : List Stretch). r ∷ more) (cut_again runs)
 
 run_chars : (looks : Looks) (bytes : List ℕ)
-    → map (λ c. c.0) (items_of_run (stretch looks bytes)) ≡ bytes
+    → map (λ c. c.0) (run_items looks bytes) ≡ bytes
 run_chars looks [] = refl
 run_chars looks (b ∷ bytes) = ap (λ (more : List ℕ). b ∷ more) (run_chars looks bytes)
 
@@ -120,21 +123,31 @@ pub heads_spelling : (runs : List Stretch)
 heads_spelling [] = refl
 heads_spelling (r ∷ runs) = ap (λ (more : List ℕ). run_spelling r ++ more) (heads_spelling runs)
 
+-- ---- runs that can't be joined
+
+pub first_some : (r : Stretch) (runs : List Stretch) → AreRuns (r ∷ runs) → r.bytes ≢ []
+first_some r [] maximal = maximal
+first_some r (s ∷ runs) maximal = maximal.0
+
+pub other_runs : (r : Stretch) (runs : List Stretch) → AreRuns (r ∷ runs) → AreRuns runs
+other_runs r [] maximal = tt
+other_runs r (s ∷ runs) maximal = maximal.2
+
 -- the first of these runs has other looks than the last one
 abbrev pub FirstApart : Option Looks → List Stretch → Type 0
 FirstApart last [] = Unit {0}
 FirstApart last (r ∷ runs) = last ≢ Some r.looks
 
-apart_after : (looks : Looks) (runs : List Stretch) → Apart looks runs → FirstApart (Some looks) runs
-apart_after looks [] apart = tt
-apart_after looks (r ∷ runs) apart = λ same. apart (cc)
+first_apart : (r : Stretch) (runs : List Stretch) → AreRuns (r ∷ runs) → FirstApart (Some r.looks) runs
+first_apart r [] maximal = tt
+first_apart r (s ∷ runs) maximal = λ same. maximal.1 cc
 
 others_in_looks : (xs ys : List Item) → InLooks (xs ++ ys) → InLooks ys
 others_in_looks [] ys h = h
 others_in_looks (x ∷ xs) ys h = others_in_looks xs ys h.1
 
 first_in_looks : (looks : Looks) (bytes : List ℕ) (items : List Item) → bytes ≢ []
-    → InLooks (items_of_run (stretch looks bytes) ++ items) → IsLooks looks
+    → InLooks (run_items looks bytes ++ items) → IsLooks looks
 first_in_looks looks [] items some h = absurd (some refl)
 first_in_looks looks (b ∷ bytes) items some h = h.0
 
@@ -158,5 +171,5 @@ heads_valid last (r ∷ runs) maximal looks few apart =
       apart,
       heads_valid (Some r.looks) runs (other_runs r runs maximal)
           (others_in_looks (items_of_run r) (items_of runs) looks) (omega (arith, len, few))
-          (apart_after r.looks runs (first_apart r runs maximal)),
+          (first_apart r runs maximal),
     )

@@ -11,12 +11,12 @@ use Rattle.looks.specs.declared.refusal.Refusal.{Refusal}
 use Rattle.looks.specs.declared.refusal.Refusal.TheVariants.{OutOfMemory, FileSpent}
 use Rattle.looks.specs.Refusal.{RefusedForMemoryAlone}
 use Rattle.char_files.specs.declared.TheConstants.{MAX_FILE}
-use Rattle.char_files.specs.Stretch.{Item, items_of, items_of_run}
+use Rattle.char_files.specs.Stretch.{Item, items_of}
 use Rattle.operations.specs.Reading.{LooksAreTold}
 use Rattle.text_file.specs.declared.loading.Head.{Head}
 use Rattle.text_file.specs.Heads.{head_spelling, IsHead, AreHeads, total_of, cut, AreSpelled}
+use Rattle.text_file.proofs.Cuts.{run_items}
 use Rattle.text_file.proofs.Heads.{head_told}
-use Rattle.text_file.proofs.MaximalRuns.{stretch}
 
 -- a buffer that has room refuses for memory alone
 pub memory_alone : (r : Result (Unit {0}) Refusal) (IsFull : Type 0)
@@ -80,10 +80,9 @@ module _ (told : LooksAreTold) (whole text : List Item) (rest left : List ℕ) (
 
   pub todo_more : (new : List Item) (front others : List ℕ) → front ≡ take h.len left
       → others ≡ drop h.len left → Todo whole text rest left
-      → new ≡ text ++ items_of_run (stretch h.looks front) → Todo whole new behind others
+      → new ≡ text ++ run_items h.looks front → Todo whole new behind others
   todo_more new front others front_is others_is t pushed =
       let next = next_is t in
-      let in_looks : List ℕ → List Item = λ bytes. items_of_run (stretch h.looks bytes) in
       let more : List Item = items_of (cut next.0 (drop h.len left)) in
       subst (λ (l : List ℕ). Todo whole new behind l) (sym others_is)
       (record {
@@ -93,17 +92,18 @@ module _ (told : LooksAreTold) (whole text : List Item) (rest left : List ℕ) (
         total = omega (arith, ap total_of next.1, t.total, length-drop h.len left);
         spelled = next.3;
         ends =
-            ap (λ (x : List Item). x ++ more) (pushed ∙ ap (λ (bytes : List ℕ). text ++ in_looks bytes) front_is)
-            ∙ append_assoc text (in_looks (take h.len left)) more
+            ap (λ (x : List Item). x ++ more) (pushed
+            ∙ ap (λ (bytes : List ℕ). text ++ run_items h.looks bytes) front_is)
+            ∙ append_assoc text (run_items h.looks (take h.len left)) more
             ∙ ap (λ (hs : List Head). text ++ items_of (cut hs left)) (sym next.1) ∙ t.ends;
       })
 
 -- how long the text is with one run more
 pub run_len : (old new : List Item) (looks : Looks) (bytes : List ℕ)
-    → new ≡ old ++ items_of_run (stretch looks bytes) → length new ≡ length old + length bytes
+    → new ≡ old ++ run_items looks bytes → length new ≡ length old + length bytes
 run_len old new looks bytes e =
     let item : ℕ → Item = λ b. (b, looks) in
-    omega (arith, ap length e, length-append old (items_of_run (stretch looks bytes)), length-map bytes item)
+    omega (arith, ap length e, length-append old (run_items looks bytes), length-map bytes item)
 
 pub todo_none : (whole text : List Item) (rest left : List ℕ) → Todo whole text rest left
     → ((h : Head) (behind : List ℕ) → IsHead h → rest ≡ head_spelling h ++ behind → ⊥) → text ≡ whole
@@ -118,7 +118,7 @@ todo_none whole text rest left t none = go t.runs refl
         ∙ ap (λ (hs : List Head). flat_map head_spelling hs) are))
 
 pub run_room : (old now : List Item) (bytes : List ℕ) (looks : Looks) (i : ℕ)
-    → now ≡ old ++ items_of_run (stretch looks (take i bytes)) → i < length bytes
+    → now ≡ old ++ run_items looks (take i bytes) → i < length bytes
     → length old + length bytes ≤ MAX_FILE → length now < MAX_FILE
 run_room old now bytes looks i so_far lt few =
     omega (arith, lt, few, run_len old now looks (take i bytes) so_far, length-take i bytes)

@@ -2,7 +2,6 @@ pub mod Cuts
 pub mod Filled
 pub mod HeadAt
 pub mod Heads
-pub mod MaximalRuns
 pub mod Numbers
 pub mod PlainFiles
 pub mod Stored

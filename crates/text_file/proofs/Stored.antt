@@ -8,12 +8,12 @@ use Rattle.std.proofs.lemmas.List.{take_more, length-take}
 use Rattle.std.proofs.lemmas.Option.{slice_get-get_or}
 use Rattle.looks.specs.Looks.{IsLooks}
 use Rattle.char_files.specs.declared.TheConstants.{MAX_FILE}
+use Rattle.char_files.specs.Runs.{maximal_runs, NoOtherRuns}
 use Rattle.char_files.specs.Stretch.{Stretch, Item, items_of, AreRuns}
 use Rattle.operations.specs.Spelling.{number_spelling}
 use Rattle.text_file.specs.declared.TheConstants.{MAX_TEXT}
-use Rattle.text_file.specs.Files.{tag, maximal_runs, run_spelling, formatted}
-use Rattle.text_file.proofs.Cuts.{InLooks, chars_of, items_chars, items_len, some_len}
-use Rattle.text_file.proofs.MaximalRuns.{first_some, other_runs, runs_again}
+use Rattle.text_file.specs.Files.{tag, run_spelling, formatted}
+use Rattle.text_file.proofs.Cuts.{InLooks, chars_of, items_chars, items_len, some_len, first_some, other_runs}
 use Rattle.text_file.proofs.Texts.{bytes_of}
 
 -- ---- a source that is copied
@@ -79,13 +79,13 @@ abbrev with_runs : List Stretch → ℕ → List ℕ → List ℕ
 with_runs runs len chars =
     tag ++ number_spelling w32 (length runs) ++ flat_map run_spelling runs ++ number_spelling w32 len ++ chars
 
-pub stored : (text : List Item) (runs : List Stretch) (a b c d e : List ℕ) → AreRuns runs
+pub stored : NoOtherRuns → (text : List Item) (runs : List Stretch) (a b c d e : List ℕ) → AreRuns runs
     → items_of runs ≡ text → a ≡ tag → b ≡ a ++ number_spelling w32 (length runs)
     → c ≡ b ++ flat_map run_spelling runs → d ≡ c ++ number_spelling w32 (length text)
     → e ≡ d ++ chars_of runs → e ≡ formatted text
 unfolding formatted
-stored text runs a b c d e are is a_is b_is c_is d_is e_is =
-    let maximal : maximal_runs text ≡ runs = ap maximal_runs (sym is) ∙ runs_again runs are in
+stored only text runs a b c d e are is a_is b_is c_is d_is e_is =
+    let maximal : maximal_runs text ≡ runs = ap maximal_runs (sym is) ∙ only runs are in
     let bytes : bytes_of text ≡ chars_of runs = ap bytes_of (sym is) ∙ items_chars runs in
     let n : List ℕ = number_spelling w32 (length runs) in
     let spelled : List ℕ = flat_map run_spelling runs in

@@ -11,19 +11,19 @@ use Rattle.looks.specs.declared.refusal.Refusal.{Refusal}
 use Rattle.looks.specs.declared.refusal.Refusal.TheVariants.{OutOfMemory, BadFile}
 use Rattle.looks.specs.Refusal.{RefusedForMemoryAlone}
 use Rattle.char_files.specs.Plain.{plain_items}
+use Rattle.char_files.specs.Runs.{maximal_runs, RunsAreMaximal, NoOtherRuns}
 use Rattle.char_files.specs.Stretch.{Stretch, Item, items_of}
 use Rattle.operations.specs.Reading.{LooksAreTold}
 use Rattle.operations.specs.Spelling.{number_spelling}
 use Rattle.text_file.specs.declared.TheConstants.{MAX_TEXT}
 use Rattle.text_file.specs.declared.loading.Head.{Head}
-use Rattle.text_file.specs.Files.{tag, maximal_runs, run_spelling, formatted, IsText, IsFormatted}
+use Rattle.text_file.specs.Files.{tag, run_spelling, formatted, IsText, IsFormatted}
 use Rattle.text_file.specs.Files.{IsFileOf, IsNoFile, OneText, plain_bytes}
 use Rattle.text_file.specs.Heads.{head_spelling, cut, AreSpelled, IsRead}
 use Rattle.text_file.proofs.Cuts.{head_of, chars_of, InLooks, cut_heads, cut_chars, cut_runs, cut_in_looks}
 use Rattle.text_file.proofs.Cuts.{cut_again, items_chars, items_len, heads_total, heads_spelling, heads_valid}
 use Rattle.text_file.proofs.Cuts.{FirstApart}
 use Rattle.text_file.proofs.Heads.{heads_few, heads_told}
-use Rattle.text_file.proofs.MaximalRuns.{maximal_items, maximal_are_runs, runs_again}
 use Rattle.text_file.proofs.Numbers.{number_told}
 
 -- a text's runs without their characters
@@ -61,105 +61,111 @@ formatted_is items =
     ∙ ap (λ (n : ℕ). tag ++ behind_tag (length (heads_of items)) (flat_map head_spelling (heads_of items)) n
     bytes) (sym (length-map items first))
 
-bytes_chars : (items : List Item) → chars_of (maximal_runs items) ≡ bytes_of items
-bytes_chars items =
-    sym (items_chars (maximal_runs items)) ∙ ap bytes_of (maximal_items items)
-
--- a text is what its runs and its characters say
-pub text_again : (items : List Item) → items_of (cut (heads_of items) (bytes_of items)) ≡ items
-text_again items =
-    let runs : List Stretch = maximal_runs items in
-    ap (λ (bytes : List ℕ). items_of (cut (heads_of items) bytes)) (sym (bytes_chars items))
-    ∙ ap items_of (cut_again runs) ∙ maximal_items items
-
-none_apart : (runs : List Stretch) → FirstApart None runs
-none_apart [] = tt
-none_apart (r ∷ runs) = λ e. cc
-
--- a text's file is read so
-pub text_read : (items : List Item) → IsText items
-    → IsRead (heads_of items) (bytes_of items) (read_spelling (heads_of items) (bytes_of items))
-text_read items text =
-    let runs : List Stretch = maximal_runs items in
-    let bytes : length (chars_of runs) ≡ length (bytes_of items) = ap length (bytes_chars items) in
-    let first : Item → ℕ = λ c. c.0 in
-    let len : length (bytes_of items) ≡ length items = length-map items first in
-    let looks : InLooks (items_of runs) = subst InLooks (sym (maximal_items items)) text.looks in
-    record {
-      valid =
-          heads_valid None runs (maximal_are_runs items) looks (omega (arith, bytes, len, text.few))
-          (none_apart runs);
-      total = heads_total runs ∙ bytes;
-      few = omega (arith, len, text.few);
-      parts = refl;
-    }
-
--- what is read so is a text's file
-pub read_text : (heads : List Head) (chars rest : List ℕ) → IsRead heads chars rest
-    → IsFormatted (items_of (cut heads chars)) (tag ++ rest)
-read_text heads chars rest r =
-    let runs : List Stretch = cut heads chars in
-    let bytes : chars_of runs ≡ chars = cut_chars heads chars r.total in
-    let same_runs : maximal_runs (items_of runs) ≡ runs = runs_again runs (cut_runs None heads chars r.valid
-    r.total) in
-    let same_heads : heads_of (items_of runs) ≡ heads =
-    ap (λ (rs : List Stretch). map head_of rs) same_runs ∙ cut_heads heads chars r.total in
-    let same_bytes : bytes_of (items_of runs) ≡ chars = items_chars runs ∙ bytes in
-    record {
-      text = record {
-        few = omega (arith, items_len runs, ap length bytes, r.few);
-        looks = cut_in_looks None heads chars r.valid;
-      };
-      spelled =
-          ap (λ (l : List ℕ). tag ++ l) r.parts
-          ∙ ap (λ (hs : List Head). tag ++ read_spelling hs chars) (sym same_heads)
-          ∙ ap (λ (cs : List ℕ). tag ++ read_spelling (heads_of (items_of runs)) cs) (sym same_bytes)
-          ∙ sym (formatted_is (items_of runs));
-    }
-
--- a formatted file is read so
-pub formatted_read : (items : List Item) (rest : List ℕ) → IsFormatted items (tag ++ rest)
-    → IsRead (heads_of items) (bytes_of items) rest
-formatted_read items rest f =
-    let r = text_read items f.text in
-    let same : rest ≡ read_spelling (heads_of items) (bytes_of items) =
-    append_cancel_left tag rest (read_spelling (heads_of items) (bytes_of items)) (f.spelled
-    ∙ formatted_is items) in
-    record { valid = r.valid; total = r.total; few = r.few; parts = same }
-
 -- a formatted file begins with the tag
 pub formatted_tagged : (items : List Item) (file : List ℕ) → IsFormatted items file → take 4 file ≡ tag
 formatted_tagged items file f =
     let rest : List ℕ = read_spelling (heads_of items) (bytes_of items) in
     ap (λ (l : List ℕ). take 4 l) (f.spelled ∙ formatted_is items) ∙ take_at tag rest 4 refl
 
+none_apart : (runs : List Stretch) → FirstApart None runs
+none_apart [] = tt
+none_apart (r ∷ runs) = λ e. cc
+
+-- ---- what a formatted file says
+
+-- a text has the characters of its maximal runs
+module _ (maximal : RunsAreMaximal) where
+  bytes_chars : (items : List Item) → chars_of (maximal_runs items) ≡ bytes_of items
+  bytes_chars items =
+      sym (items_chars (maximal_runs items)) ∙ ap bytes_of (maximal items).1
+
+  -- a text is what its runs and its characters say
+  pub text_again : (items : List Item) → items_of (cut (heads_of items) (bytes_of items)) ≡ items
+  text_again items =
+      let runs : List Stretch = maximal_runs items in
+      ap (λ (bytes : List ℕ). items_of (cut (heads_of items) bytes)) (sym (bytes_chars items))
+      ∙ ap items_of (cut_again runs) ∙ (maximal items).1
+
+  -- a text's file is read so
+  pub text_read : (items : List Item) → IsText items
+      → IsRead (heads_of items) (bytes_of items) (read_spelling (heads_of items) (bytes_of items))
+  text_read items text =
+      let runs : List Stretch = maximal_runs items in
+      let bytes : length (chars_of runs) ≡ length (bytes_of items) = ap length (bytes_chars items) in
+      let first : Item → ℕ = λ c. c.0 in
+      let len : length (bytes_of items) ≡ length items = length-map items first in
+      let looks : InLooks (items_of runs) = subst InLooks (sym (maximal items).1) text.looks in
+      record {
+        valid =
+            heads_valid None runs (maximal items).0 looks (omega (arith, bytes, len, text.few))
+            (none_apart runs);
+        total = heads_total runs ∙ bytes;
+        few = omega (arith, len, text.few);
+        parts = refl;
+      }
+
+  -- a formatted file is read so
+  pub formatted_read : (items : List Item) (rest : List ℕ) → IsFormatted items (tag ++ rest)
+      → IsRead (heads_of items) (bytes_of items) rest
+  formatted_read items rest f =
+      let r = text_read items f.text in
+      let same : rest ≡ read_spelling (heads_of items) (bytes_of items) =
+      append_cancel_left tag rest (read_spelling (heads_of items) (bytes_of items)) (f.spelled
+      ∙ formatted_is items) in
+      record { valid = r.valid; total = r.total; few = r.few; parts = same }
+
+  pub formatted_none : (rest : List ℕ)
+      → ((heads : List Head) (chars : List ℕ) → IsRead heads chars rest → ⊥) → (items : List Item)
+      → IsFormatted items (tag ++ rest) → ⊥
+  formatted_none rest none items f = none (heads_of items) (bytes_of items) (formatted_read items rest f)
+
+-- a text of such runs has no others
+module _ (only : NoOtherRuns) where
+  -- what is read so is a text's file
+  pub read_text : (heads : List Head) (chars rest : List ℕ) → IsRead heads chars rest
+      → IsFormatted (items_of (cut heads chars)) (tag ++ rest)
+  read_text heads chars rest r =
+      let runs : List Stretch = cut heads chars in
+      let bytes : chars_of runs ≡ chars = cut_chars heads chars r.total in
+      let same_runs : maximal_runs (items_of runs) ≡ runs = only runs (cut_runs None heads chars r.valid
+      r.total) in
+      let same_heads : heads_of (items_of runs) ≡ heads =
+      ap (λ (rs : List Stretch). map head_of rs) same_runs ∙ cut_heads heads chars r.total in
+      let same_bytes : bytes_of (items_of runs) ≡ chars = items_chars runs ∙ bytes in
+      record {
+        text = record {
+          few = omega (arith, items_len runs, ap length bytes, r.few);
+          looks = cut_in_looks None heads chars r.valid;
+        };
+        spelled =
+            ap (λ (l : List ℕ). tag ++ l) r.parts
+            ∙ ap (λ (hs : List Head). tag ++ read_spelling hs chars) (sym same_heads)
+            ∙ ap (λ (cs : List ℕ). tag ++ read_spelling (heads_of (items_of runs)) cs) (sym same_bytes)
+            ∙ sym (formatted_is (items_of runs));
+      }
+
+  pub formatted_loaded : (rest : List ℕ) (r : Result (List Item) Refusal) (heads : List Head)
+      (chars spelled : List ℕ) → IsRead heads chars rest → AreSpelled heads chars spelled
+      → IfOk r (λ text. (runs : List Head) → AreSpelled runs chars spelled → text ≡ items_of (cut runs chars))
+      → IfOk r (λ text. IsFormatted text (tag ++ rest))
+  formatted_loaded rest (Ok text) heads chars spelled read s is =
+      subst (λ (t : List Item). IsFormatted t (tag ++ rest)) (sym (is heads s)) (read_text heads chars rest read)
+  formatted_loaded rest (Err e) heads chars spelled read s is = tt
+
+  -- a formatted file is refused for memory alone
+  pub formatted_refused : (rest : List ℕ) (r : Result (List Item) Refusal) (heads : List Head) (chars : List ℕ)
+      → IsRead heads chars rest → RefusedForMemoryAlone r
+      → IsErrOf r BadFile ↔ ((items : List Item) → IsFormatted items (tag ++ rest) → ⊥)
+  formatted_refused rest (Ok text) heads chars read errors =
+      (λ e. absurd cc, λ none. absurd (none (items_of (cut heads chars)) (read_text heads chars rest read)))
+  formatted_refused rest (Err x) heads chars read errors = (
+    λ e.
+        let is : x ≡ BadFile = cc in
+        let apart : ◌≡◌ {A = Refusal} OutOfMemory BadFile = sym errors ∙ is in absurd cc,
+    λ none. absurd (none (items_of (cut heads chars)) (read_text heads chars rest read)),
+  )
+
 -- ---- files that are loaded
-
-pub formatted_loaded : (rest : List ℕ) (r : Result (List Item) Refusal) (heads : List Head) (chars spelled : List ℕ)
-    → IsRead heads chars rest → AreSpelled heads chars spelled
-    → IfOk r (λ text. (runs : List Head) → AreSpelled runs chars spelled → text ≡ items_of (cut runs chars))
-    → IfOk r (λ text. IsFormatted text (tag ++ rest))
-formatted_loaded rest (Ok text) heads chars spelled read s is =
-    subst (λ (t : List Item). IsFormatted t (tag ++ rest)) (sym (is heads s)) (read_text heads chars rest read)
-formatted_loaded rest (Err e) heads chars spelled read s is = tt
-
--- a formatted file is refused for memory alone
-pub formatted_refused : (rest : List ℕ) (r : Result (List Item) Refusal) (heads : List Head) (chars : List ℕ)
-    → IsRead heads chars rest → RefusedForMemoryAlone r
-    → IsErrOf r BadFile ↔ ((items : List Item) → IsFormatted items (tag ++ rest) → ⊥)
-formatted_refused rest (Ok text) heads chars read errors =
-    (λ e. absurd cc, λ none. absurd (none (items_of (cut heads chars)) (read_text heads chars rest read)))
-formatted_refused rest (Err x) heads chars read errors = (
-  λ e.
-      let is : x ≡ BadFile = cc in
-      let apart : ◌≡◌ {A = Refusal} OutOfMemory BadFile = sym errors ∙ is in absurd cc,
-  λ none. absurd (none (items_of (cut heads chars)) (read_text heads chars rest read)),
-)
-
-pub formatted_none : (rest : List ℕ)
-    → ((heads : List Head) (chars : List ℕ) → IsRead heads chars rest → ⊥) → (items : List Item)
-    → IsFormatted items (tag ++ rest) → ⊥
-formatted_none rest none items f = none (heads_of items) (bytes_of items) (formatted_read items rest f)
 
 -- what is loaded is the one text of the file
 pub only_loaded : (file : List ℕ) (r : Result (List Item) Refusal) → OneText
@@ -202,7 +208,7 @@ plain_refused file r untagged long = (
 
 -- ---- one text
 
-module _ (told : LooksAreTold) where
+module _ (told : LooksAreTold) (maximal : RunsAreMaximal) where
   -- what is read at the front of bytes is told by them
   read_told : (heads : List Head) (chars : List ℕ) (others : List Head) (other_chars rest : List ℕ)
       (a b : List ℕ) → IsRead heads chars a → IsRead others other_chars b → b ≡ a ++ rest
@@ -256,10 +262,10 @@ module _ (told : LooksAreTold) where
       sym (formatted_is b) ∙ e ∙ ap (λ (l : List ℕ). l ++ rest) (formatted_is a)
       ∙ append_assoc tag a_read rest in
       let t =
-      read_told (heads_of a) (bytes_of a) (heads_of b) (bytes_of b) rest a_read b_read (text_read a a_text)
-      (text_read b b_text) (append_cancel_left tag b_read (a_read ++ rest) tagged) in (
-        sym (text_again a) ∙ ap (λ (hs : List Head). items_of (cut hs (bytes_of a))) t.0
-            ∙ ap (λ (cs : List ℕ). items_of (cut (heads_of b) cs)) t.1 ∙ text_again b,
+      read_told (heads_of a) (bytes_of a) (heads_of b) (bytes_of b) rest a_read b_read (text_read maximal a a_text)
+      (text_read maximal b b_text) (append_cancel_left tag b_read (a_read ++ rest) tagged) in (
+        sym (text_again maximal a) ∙ ap (λ (hs : List Head). items_of (cut hs (bytes_of a))) t.0
+            ∙ ap (λ (cs : List ℕ). items_of (cut (heads_of b) cs)) t.1 ∙ text_again maximal b,
         t.2,
       )
 

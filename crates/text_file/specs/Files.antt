@@ -1,41 +1,18 @@
 -- Text files: which bytes stand for which characters with their looks.
-use Rattle.std.specs.Prelude.{◌≡◌, ◌≢◌, ℕ, ◌≤◌, ◌⊎◌, Bool, ◌==◌, ◌&&◌, if◌then◌else◌, List, [], ◌∷◌, ◌++◌}
-use Rattle.std.specs.Prelude.{length, map, take, codes, bytes_eq}
+use Rattle.std.specs.Prelude.{◌≡◌, ◌≢◌, ℕ, ◌≤◌, ◌⊎◌, ◌==◌, ◌&&◌, if◌then◌else◌, List, [], ◌∷◌, ◌++◌}
+use Rattle.std.specs.Prelude.{length, map, take, codes}
 use Rattle.std.specs.Int.{w32}
 use Rattle.std.specs.List.{flat_map, AllByRecursion}
-use Rattle.std.specs.Ordering.{int_eq}
-use Rattle.looks.specs.declared.looks.Looks.{Looks}
 use Rattle.looks.specs.Looks.{IsLooks}
 use Rattle.char_files.specs.Plain.{plain_items}
-use Rattle.char_files.specs.Stretch.{Stretch, Item, items_of, AreRuns}
+use Rattle.char_files.specs.Runs.{maximal_runs}
+use Rattle.char_files.specs.Stretch.{Stretch, Item}
 use Rattle.operations.specs.Spelling.{number_spelling, looks_spelling}
 use Rattle.text_file.specs.declared.TheConstants.{MAX_TEXT}
 
 -- what a formatted file begins with
 abbrev pub tag : List ℕ
 tag = codes "OTF1"
-
--- whether looks are the same in font, colour and offset
-abbrev pub same_looks : Looks → Looks → Bool
-same_looks a b = bytes_eq a.font b.font && a.colour == b.colour && int_eq a.offset b.offset
-
--- a character as a run by itself
-abbrev pub alone : Item → Stretch
-alone c = record { looks = c.1; bytes = c.0 ∷ [] }
-
--- a run with one more character in front
-abbrev pub grown : ℕ → Stretch → Stretch
-grown b r = record { looks = r.looks; bytes = b ∷ r.bytes }
-
--- a character in front of runs: it joins the first one where that has its looks, else it is a run by itself
-abbrev pub joined : Item → List Stretch → List Stretch
-joined c [] = alone c ∷ []
-joined c (r ∷ runs) = if same_looks c.1 r.looks then grown c.0 r ∷ runs else alone c ∷ r ∷ runs
-
--- the longest stretches of equal looks, in order
-abbrev pub maximal_runs : List Item → List Stretch
-maximal_runs [] = []
-maximal_runs (c ∷ items) = joined c (maximal_runs items)
 
 -- a run: its looks, and how many characters it has
 abbrev pub run_spelling : Stretch → List ℕ
@@ -100,11 +77,3 @@ NoneIsShared = (a b : List Item) → IsText a → IsText b → formatted a ≡ f
 abbrev pub NoneBeginsAnother : Type 0
 NoneBeginsAnother =
     (a b : List Item) (rest : List ℕ) → IsText a → IsText b → formatted b ≡ formatted a ++ rest → rest ≡ []
-
--- the runs of a formatted file can't be joined, and their characters are the text's
-abbrev pub RunsAreMaximal : Type 0
-RunsAreMaximal = (items : List Item) → AreRuns (maximal_runs items) × (items_of (maximal_runs items) ≡ items)
-
--- and they are the only such runs
-abbrev pub NoOtherRuns : Type 0
-NoOtherRuns = (runs : List Stretch) → AreRuns runs → maximal_runs (items_of runs) ≡ runs

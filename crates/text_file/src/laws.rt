@@ -1,4 +1,4 @@
-ghost use Rattle.text_file.specs.Files.{OneText, NoneIsShared, NoneBeginsAnother, RunsAreMaximal, NoOtherRuns};
+ghost use Rattle.text_file.specs.Files.{OneText, NoneIsShared, NoneBeginsAnother};
 
 /// A law: a file is of one text at most, no two texts share a formatted file, and no formatted file begins
 /// another one. A proof gets it by calling this, at no cost.
@@ -8,11 +8,5 @@ pub fn one_text()
     ensures prefix { NoneBeginsAnother }
 {
     operations::one_spelling();
+    char_files::runs_are_maximal();
 }
-
-/// A law: the runs that a formatted file has are the text's maximal ones, and there are no others. A proof gets
-/// it by calling this, at no cost.
-pub fn runs_are_maximal()
-    ensures runs { RunsAreMaximal }
-    ensures only { NoOtherRuns }
-{}

@@ -7,7 +7,7 @@ mod loading;
 mod plain;
 mod storing;
 
-pub use laws::{one_text, runs_are_maximal};
+pub use laws::one_text;
 pub use loading::load;
 pub use storing::store;
 

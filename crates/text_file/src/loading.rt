@@ -161,6 +161,7 @@ fn load_formatted(alloc: Global, bytes: &[u8]) -> Result<Buffer, Refusal>
         ↔ ((items : List Item) → IsFormatted items (tag ++ bytes.now) → ⊥) }
     ensures errors { IfErr result (λ e. (e ≡ Refusal.BadFile) ⊎ (e ≡ Refusal.OutOfMemory)) }
 {
+    char_files::runs_are_maximal();
     let Some(parts) = parts_of(bytes) else {
         return Err(Refusal::BadFile);
     };

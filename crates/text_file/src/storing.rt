@@ -77,6 +77,7 @@ fn file_of(alloc: Global, text: &Buffer) -> Result<Vec<u8>, Refusal>
     ensures ok { IfOk result (λ file. file.items ≡ formatted text.now) }
     ensures errors { RefusedForMemoryAlone result }
 {
+    char_files::runs_are_maximal();
     let runs = text.runs();
     let mut file = Vec::from_slice(alloc, b"OTF1")?;
     put_u32(&mut file, runs.len() as u32)?;

@@ -2,11 +2,12 @@ use Rattle.text_file.proofs.Texts.{formatted_told, one_text_shares, one_text_of}
 use Rattle.text_file.proofs.laws.one_text.Goals as goal
 
 pub returns-clause-text : goal.returns-clause-text
-returns-clause-text c = one_text_of c.one_spelling.ensures.looks
+returns-clause-text c = one_text_of c.one_spelling.ensures.looks c.runs_are_maximal.ensures.runs
 
 pub returns-clause-shared : goal.returns-clause-shared
-returns-clause-shared c = one_text_shares c.one_spelling.ensures.looks
+returns-clause-shared c = one_text_shares c.one_spelling.ensures.looks c.runs_are_maximal.ensures.runs
 
 pub returns-clause-prefix : goal.returns-clause-prefix
 returns-clause-prefix c =
-    λ a b rest a_text b_text e. (formatted_told c.one_spelling.ensures.looks a b rest a_text b_text e).1
+    λ a b rest a_text b_text e.
+    (formatted_told c.one_spelling.ensures.looks c.runs_are_maximal.ensures.runs a b rest a_text b_text e).1

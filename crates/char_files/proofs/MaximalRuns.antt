@@ -9,7 +9,7 @@ use Rattle.std.proofs.lemmas.Bool.Decides.{not_from_Decides}
 use Rattle.std.proofs.lemmas.Slice.Eq.{bytes_eq-Decides}
 use Rattle.looks.specs.declared.looks.Looks.{Looks}
 use Rattle.char_files.specs.Stretch.{Stretch, Item, items_of, items_of_run, AreRuns}
-use Rattle.text_file.specs.Files.{same_looks, alone, grown, joined, maximal_runs}
+use Rattle.char_files.specs.Runs.{same_looks, alone, grown, joined, maximal_runs}
 
 same_parts : (a b : Looks) → a.font ≡ b.font → a.colour ≡ b.colour → a.offset ≡ b.offset → a ≡ b
 same_parts a b font colour offset =
@@ -76,21 +76,9 @@ maximal_are_runs (c ∷ items) = joined_runs c (maximal_runs items) (maximal_are
 -- ---- there are no others
 
 -- the first of these runs has other looks
-abbrev pub Apart : Looks → List Stretch → Type 0
+abbrev Apart : Looks → List Stretch → Type 0
 Apart looks [] = Unit {0}
 Apart looks (r ∷ runs) = looks ≢ r.looks
-
-pub first_some : (r : Stretch) (runs : List Stretch) → AreRuns (r ∷ runs) → r.bytes ≢ []
-first_some r [] h = h
-first_some r (s ∷ runs) h = h.0
-
-pub first_apart : (r : Stretch) (runs : List Stretch) → AreRuns (r ∷ runs) → Apart r.looks runs
-first_apart r [] h = tt
-first_apart r (s ∷ runs) h = h.1
-
-pub other_runs : (r : Stretch) (runs : List Stretch) → AreRuns (r ∷ runs) → AreRuns runs
-other_runs r [] h = tt
-other_runs r (s ∷ runs) h = h.2
 
 joined_apart : (c : Item) (runs : List Stretch) → Apart c.1 runs → joined c runs ≡ alone c ∷ runs
 joined_apart c [] apart = refl
@@ -111,7 +99,7 @@ joined_same b r runs = go (same_looks r.looks r.looks) (same_looks_decides r.loo
     go false d = let e = d.1 refl in absurd cc
 
 -- a run of these looks
-abbrev pub stretch : Looks → List ℕ → Stretch
+abbrev stretch : Looks → List ℕ → Stretch
 stretch looks bytes = record { looks = looks; bytes = bytes }
 
 run_again : (b : ℕ) (bs : List ℕ) (looks : Looks) (runs : List Stretch) (items : List Item)
@@ -131,6 +119,5 @@ one_run_again looks (b ∷ bs) runs some apart e = run_again b bs looks runs (it
 
 pub runs_again : (runs : List Stretch) → AreRuns runs → maximal_runs (items_of runs) ≡ runs
 runs_again [] h = refl
-runs_again (r ∷ runs) h =
-    one_run_again r.looks r.bytes runs (first_some r runs h) (first_apart r runs h)
-    (runs_again runs (other_runs r runs h))
+runs_again (r ∷ []) h = one_run_again r.looks r.bytes [] h tt refl
+runs_again (r ∷ s ∷ runs) h = one_run_again r.looks r.bytes (s ∷ runs) h.0 h.1 (runs_again (s ∷ runs) h.2)

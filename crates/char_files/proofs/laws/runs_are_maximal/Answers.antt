@@ -1,5 +1,5 @@
-use Rattle.text_file.proofs.MaximalRuns.{maximal_items, maximal_are_runs, runs_again}
-use Rattle.text_file.proofs.laws.runs_are_maximal.Goals as goal
+use Rattle.char_files.proofs.MaximalRuns.{maximal_items, maximal_are_runs, runs_again}
+use Rattle.char_files.proofs.laws.runs_are_maximal.Goals as goal
 
 pub returns-clause-runs : goal.returns-clause-runs
 returns-clause-runs c = λ items. (maximal_are_runs items, maximal_items items)
