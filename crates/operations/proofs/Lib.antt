@@ -1,8 +1,10 @@
 pub mod Appended
 pub mod Fields
+pub mod Joins
 pub mod NamesOf
 pub mod ReadLooks
 pub mod ReadMessages
 pub mod ReadSets
 pub mod Readers
+pub mod SetOf
 pub mod WithName

@@ -10,16 +10,16 @@ use Rattle.operations.proofs.WithName.{Among, among, is_among, same_name}
 
 -- lists of names by recursion
 
-abbrev Has : List CharName → CharName → Type 0
+abbrev pub Has : List CharName → CharName → Type 0
 Has [] name = ⊥
 Has (m ∷ names) name = (m ≡ name) ⊎ Has names name
 
-has : (names : List CharName) (name : CharName) → Contains names name → Has names name
+pub has : (names : List CharName) (name : CharName) → Contains names name → Has names name
 has [] name (k, lt, is) = absurd (omega arith)
 has (m ∷ names) name (zero, lt, is) = inl is
 has (m ∷ names) name (suc k, lt, is) = inr (has names name (k, omega arith, is))
 
-contains : (names : List CharName) (name : CharName) → Has names name → Contains names name
+pub contains : (names : List CharName) (name : CharName) → Has names name → Contains names name
 contains [] name h = absurd h
 contains (m ∷ names) name (inl e) = (0, omega arith, e)
 contains (m ∷ names) name (inr h) = let at : Contains names name = contains names name h in

@@ -248,7 +248,7 @@ ranges_of [] h k d l = absurd (omega arith)
 ranges_of (r ∷ ranges) h zero d l = h.0
 ranges_of (r ∷ ranges) h (suc k) d l = ranges_of ranges h.2 k d (omega arith)
 
-IsAhead-trans : (r s t : Range) → IsAhead r s → IsAhead s t → IsAhead r t
+pub IsAhead-trans : (r s t : Range) → IsAhead r s → IsAhead s t → IsAhead r t
 IsAhead-trans r s t a b = grind arith
 
 ahead_of_all : (q : Range) (ranges : List Range) → First (IsAhead q) ranges → IsRising ranges

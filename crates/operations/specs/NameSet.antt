@@ -1,7 +1,7 @@
 -- Sets of names, as the stretches that a site's neighbouring names make.
 use Rattle.std.specs.Prelude.{◌≡◌, ℕ, ◌+◌, ◌^◌, ◌<◌, ◌≤◌, ◌⊎◌, Bool, ◌==◌, nat_lt, nat_le, ◌&&◌, ◌||◌}
 use Rattle.std.specs.Prelude.{if◌then◌else◌, List, [], ◌∷◌, ◌++◌, length, take, drop, map, All, Any}
-use Rattle.std.specs.Prelude.{AllPairs}
+use Rattle.std.specs.Prelude.{AllPairs, Contains, ◌↔◌}
 use Rattle.std.specs.List.{range_with_len, flat_map}
 use Rattle.std.specs.List.Sorted.{IsPartitionPoint}
 use Rattle.char_files.specs.CharName.{CharName}
@@ -25,6 +25,10 @@ IsAmong names name = Any (λ r. IsIn r name) names
 -- one name at least, all of them within a site's file
 abbrev pub IsRange : Range → Type 0
 IsRange r = (0 < r.site) × (r.site < 2 ^ 16) × (0 < r.len) × (r.at + r.len ≤ MAX_FILE)
+
+-- one name of a site's file
+abbrev pub IsFileName : CharName → Type 0
+IsFileName name = (0 < name.site) × (name.site < 2 ^ 16) × (name.off < MAX_FILE)
 
 -- r stands ahead of s, and doesn't touch it
 abbrev pub IsAhead : Range → Range → Type 0
@@ -89,3 +93,23 @@ with_name (r ∷ ranges) name =
     if is_ahead r (of_name name) then r ∷ with_name ranges name
     else (if touches r (of_name name) then with_first (record r { len = r.len + 1 }) ranges
     else (if range_contains r name then r ∷ ranges else with_first (of_name name) (r ∷ ranges)))
+
+-- the set of these names, put in one by one
+abbrev pub set_of : List CharName → List Range
+set_of [] = []
+set_of (name ∷ names) = with_name (set_of names) name
+
+-- `set_of` makes the set that has these names and no others
+abbrev pub SetOfHasTheNames : Type 0
+SetOfHasTheNames =
+    (names : List CharName) → (All IsFileName names → IsSet (set_of names))
+    × ((c : CharName) → IsAmong (set_of names) c ↔ Contains names c)
+
+-- sets that have the same names are one
+abbrev pub NamesTellTheSet : Type 0
+NamesTellTheSet =
+    (xs ys : List Range) → IsSet xs → IsSet ys → ((c : CharName) → IsAmong xs c ↔ IsAmong ys c) → xs ≡ ys
+
+-- r's first name is no later than that of s
+abbrev pub StartsNoLater : Range → Range → Type 0
+StartsNoLater r s = (r.site < s.site) ⊎ ((r.site ≡ s.site) × (r.at ≤ s.at))

@@ -1,7 +1,9 @@
 //! Operations on a text, and the one message that each is spelled as.
 #![tactic(auto)]
 
+mod joining;
 mod kind;
+mod laws;
 mod name_set;
 mod name_walk;
 mod op;
@@ -9,6 +11,7 @@ mod reading;
 mod writing;
 
 pub use kind::{Kind, MAX_INSERT};
+pub use laws::sets_are_told_by_their_names;
 pub use name_set::{MAX_RANGES, NameRange, NameSet};
 pub use name_walk::{NameWalk, named};
 pub use op::{MAX_STAMP, Op};

@@ -4,8 +4,10 @@ ghost use Rattle.std.specs.Option.{option_map_or};
 ghost use Rattle.looks.specs.Refusal.{RefusedForMemoryAlone};
 ghost use Rattle.char_files.specs.CharName.{CharName};
 ghost use Rattle.operations.specs.NameSet.{IsIn, IsAmong, IsRange, IsAhead, IsSet, IsInsertionPoint};
-ghost use Rattle.operations.specs.NameSet.{of_name, names_of, with_range_at, with_other_at, with_name};
+ghost use Rattle.operations.specs.NameSet.{of_name, names_of, names_in, set_of, with_range_at, with_other_at};
+ghost use Rattle.operations.specs.NameSet.{with_name};
 
+use crate::joining::joined;
 use char_files::{Name, SiteNo};
 use looks::Refusal;
 use std::alloc::Global;
@@ -131,6 +133,13 @@ impl NameRange {
         self.site.get() == other.site.get() && self.end() == other.at
     }
 
+    // Whether the other, of the same site, starts where this one ends, or ahead of that.
+    pub(crate) fn reaches(self, other: NameRange) -> bool
+        ensures { IsTrue result ↔ ((self.site ≡ other.site) × (other.at ≤ self.at + self.len)) }
+    {
+        other.at <= self.end() && other.site.get() == self.site.get()
+    }
+
     // Its names and those of the next range, which it touches.
     fn union(self, next: NameRange) -> NameRange
         requires site { self.site ≡ next.site }
@@ -144,8 +153,23 @@ impl NameRange {
         }
     }
 
-    // So many names of the site, from this offset on.
-    pub(crate) fn new(site: SiteNo, at: u32, len: u32) -> NameRange
+    // All from this range's first name to the last of both. The other starts in this range, or where it ends.
+    pub(crate) fn hull(self, other: NameRange) -> NameRange
+        requires site { self.site ≡ other.site }
+        requires at { (self.at ≤ other.at) × (other.at ≤ self.at + self.len) }
+        ensures start { (result.site ≡ self.site) × (result.at ≡ self.at) }
+        ensures names { (name : CharName) → IsIn result name ↔ (IsIn self name ⊎ IsIn other name) }
+        ensures range { IsRange result }
+    {
+        NameRange {
+            site: self.site,
+            at: self.at,
+            len: self.end().max(other.end()) - self.at,
+        }
+    }
+
+    /// So many names of the site, from this offset on.
+    pub fn new(site: SiteNo, at: u32, len: u32) -> NameRange
         requires { IsRange (record { site = site; at = at; len = len }) }
         ensures { result ≡ record { site = site; at = at; len = len } }
     {
@@ -308,6 +332,22 @@ impl NameSet {
     {
         let at = insertion_point(&self.ranges, NameRange::of(name));
         put(&mut self.ranges, at, name)
+    }
+
+    /// The set of all names of these ranges, which may stand in any order, touch and overlap. It takes no memory.
+    ///
+    /// Refused `Scattered` where the set would need more than 1,024 ranges.
+    pub fn of_all(ranges: Vec<NameRange>) -> Result<NameSet, Refusal>
+        ensures ok { IfOk result (λ set. set ≡ set_of (names_in ranges.items)) }
+        ensures scattered { IsErrOf result Refusal.Scattered
+            ↔ (MAX_RANGES < length (set_of (names_in ranges.items))) }
+        ensures errors { IfErr result (λ e. e ≡ Refusal.Scattered) }
+    {
+        let ranges = joined(ranges);
+        if ranges.len() > MAX_RANGES {
+            return Err(Refusal::Scattered);
+        }
+        Ok(NameSet { ranges })
     }
 
     // The set of these ranges. Refused `OutOfMemory` alone.

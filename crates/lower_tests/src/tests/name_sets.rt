@@ -1,7 +1,8 @@
-use super::fixtures::{are_ranges, name};
+use super::fixtures::{Ranges, are_ranges, name};
+use char_files::{MAX_FILE, SiteNo};
 use looks::Refusal;
-use operations::NameSet;
-use std::alloc::Global;
+use operations::{NameRange, NameSet};
+use std::alloc::{AllocError, Global};
 use std::test::Fail;
 
 // Names as (site, off) that go into a set one by one, and the set's ranges as (site, at, len).
@@ -171,5 +172,117 @@ fn a_set_of_1024_ranges(rt: HostRuntime) -> Result<(), Fail> {
         assert!(rt; goes_in(&mut set, parts)?);
         assert!(rt; set.ranges().len() == len && has(&set, parts));
     }
+    Ok(())
+}
+
+// Ranges in some order, and those of the set that they make, as (site, at, len).
+struct Joins {
+    what: &'static str,
+    given: Ranges,
+    ranges: Ranges,
+}
+
+const JOINS: &[Joins] = &[
+    Joins {
+        what: "no range",
+        given: &[],
+        ranges: &[],
+    },
+    Joins {
+        what: "one range",
+        given: &[(2, 7, 3)],
+        ranges: &[(2, 7, 3)],
+    },
+    Joins {
+        what: "falling ranges with gaps",
+        given: &[(2, 9, 1), (2, 5, 3), (1, 9, 2), (1, 0, 1)],
+        ranges: &[(1, 0, 1), (1, 9, 2), (2, 5, 3), (2, 9, 1)],
+    },
+    Joins {
+        what: "ranges that touch",
+        given: &[(1, 5, 2), (1, 7, 1), (1, 2, 3)],
+        ranges: &[(1, 2, 6)],
+    },
+    Joins {
+        what: "ranges that overlap",
+        given: &[(1, 6, 4), (1, 3, 5)],
+        ranges: &[(1, 3, 7)],
+    },
+    Joins {
+        what: "ranges within another",
+        given: &[(1, 4, 1), (1, 2, 9), (1, 6, 2), (1, 12, 1)],
+        ranges: &[(1, 2, 9), (1, 12, 1)],
+    },
+    Joins {
+        what: "one first name, and ranges twice",
+        given: &[(1, 4, 1), (1, 4, 3), (1, 4, 2), (1, 4, 3)],
+        ranges: &[(1, 4, 3)],
+    },
+    Joins {
+        what: "neighbouring offsets of two sites",
+        given: &[(2, 6, 2), (1, 4, 2)],
+        ranges: &[(1, 4, 2), (2, 6, 2)],
+    },
+    Joins {
+        what: "the ends of the last site's file",
+        given: &[(0xffff, 0x00ff_fffe, 2), (0xffff, 0, 1)],
+        ranges: &[(0xffff, 0, 1), (0xffff, 0x00ff_fffe, 2)],
+    },
+];
+
+fn range((site, at, len): (u16, u32, u32)) -> Option<NameRange> {
+    let site = SiteNo::new(site)?;
+    if len == 0 || MAX_FILE < u64::from(at) + u64::from(len) {
+        return None;
+    }
+    Some(NameRange::new(site, at, len))
+}
+
+// Room for so many ranges; an allocation that is refused once is tried again.
+fn room(alloc: Global, len: usize) -> Result<Vec<NameRange>, AllocError> {
+    match Vec::with_capacity(alloc, len) {
+        Ok(ranges) => Ok(ranges),
+        Err(_) => Vec::with_capacity(alloc, len),
+    }
+}
+
+fn all_of(alloc: Global, given: Ranges) -> Result<Vec<NameRange>, Fail> {
+    let mut ranges = room(alloc, given.len())?;
+    for parts in given {
+        ranges.push(range(*parts).ok_or("no range")?)?;
+    }
+    Ok(ranges)
+}
+
+#[test]
+fn ranges_in_any_order_make_a_set(rt: HostRuntime) -> Result<(), Fail> {
+    for case in JOINS {
+        let set = NameSet::of_all(all_of(rt.alloc(), case.given)?)?;
+        assert!(rt; are_ranges(&set, case.ranges), "{}", case.what);
+    }
+    Ok(())
+}
+
+// The names of every second offset, the greatest first: so many ranges, and room for one more.
+fn scattered(alloc: Global, len: u16) -> Result<Vec<NameRange>, Fail> {
+    let mut ranges = room(alloc, usize::from(len) + 1)?;
+    for index in 0..len {
+        let at = 2 * u32::from(len - 1 - index);
+        ranges.push(range((1, at, 1)).ok_or("no range")?)?;
+    }
+    Ok(ranges)
+}
+
+// What counts is how many ranges are left, and not how many are given.
+#[test]
+fn ranges_are_joined_to_1024_at_most(rt: HostRuntime) -> Result<(), Fail> {
+    let full = NameSet::of_all(scattered(rt.alloc(), 1024)?)?;
+    assert!(rt; full.ranges().len() == 1024 && is_scattered(&full));
+    let refused = NameSet::of_all(scattered(rt.alloc(), 1025)?);
+    assert!(rt; matches!(refused, Err(Refusal::Scattered)));
+    let mut ranges = scattered(rt.alloc(), 1025)?;
+    ranges.push(range((1, 0, 2049)).ok_or("no range")?)?;
+    let joined = NameSet::of_all(ranges)?;
+    assert!(rt; are_ranges(&joined, &[(1, 0, 2049)]));
     Ok(())
 }
