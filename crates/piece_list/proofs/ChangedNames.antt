@@ -20,7 +20,7 @@ range site at len = record { site = site; at = at; len = len }
 abbrev pub named : List Range → CharName → Bool
 named names c = list_any (λ r. range_contains r c) names
 
-is_false : (b : Bool) → (b ≡ true → ⊥) → b ≡ false
+pub is_false : (b : Bool) → (b ≡ true → ⊥) → b ≡ false
 is_false true out = absurd (out refl)
 is_false false out = refl
 

@@ -12,10 +12,12 @@ pub mod Entered
 pub mod Few
 pub mod Found
 pub mod Gap
+pub mod HiddenNames
 pub mod Names
 pub mod Order
 pub mod Parts
 pub mod Placing
+pub mod RunCuts
 pub mod Shown
 pub mod ShownAt
 pub mod ShownTo

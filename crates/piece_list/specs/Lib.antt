@@ -5,6 +5,7 @@ pub mod Laws
 pub mod Pieces
 pub mod Placed
 pub mod Placing
+pub mod RunCuts
 pub mod Shown
 pub mod Spelled
 pub mod Tables

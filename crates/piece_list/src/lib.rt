@@ -8,7 +8,7 @@ mod place;
 mod run;
 mod tags;
 
-pub use list::{PieceList, Walk};
+pub use list::{Between, PieceList, Walk};
 pub use piece::{MAX_PIECE, Piece};
 pub use place::Place;
 pub use run::Run;

@@ -7,7 +7,9 @@ ghost use Rattle.piece_list.specs.Held.{IsPlaceOf, HasPlace, IsCut, AreEntered};
 ghost use Rattle.piece_list.specs.Spelled.{spelled, HasName};
 ghost use Rattle.piece_list.specs.Tables.{table_of};
 
+mod between;
 mod changing;
+mod hidden;
 mod members;
 mod placing;
 mod walking;
@@ -15,6 +17,7 @@ mod walking;
 use crate::piece::Piece;
 use crate::place::Place;
 use crate::tags::TagTables;
+pub use between::Between;
 use char_files::Name;
 use looks::Refusal;
 use piece_raw::Ring;

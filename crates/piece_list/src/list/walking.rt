@@ -87,7 +87,7 @@ impl<'a> Iterator for Walk<'a> {
 impl PieceList {
     // Where the character of this name stands. It reads one entry of a table, and compares the name with one
     // piece at most.
-    fn place_of(&self, name: Name) -> Option<Place>
+    pub(super) fn place_of(&self, name: Name) -> Option<Place>
         ensures place { IfSome result (λ place. IsPlaceOf self.now.items place name) }
         ensures here { IsSome result ↔ HasName (spelled self.now.items) name }
     {

@@ -279,3 +279,26 @@ fn two_ranges_go(rt: HostRuntime) -> Result<(), Fail> {
     );
     Ok(())
 }
+
+// Of abcdef, c is hidden: sets of neighbours, and a set of a and c.
+#[test]
+fn sets_are_asked_for_hidden_characters(rt: HostRuntime) -> Result<(), Fail> {
+    let alloc = rt.alloc();
+    let mut list = new_list(&rt)?;
+    type_in(&mut list, (1, 0, 6), 1, Anchor::Root)?;
+    let whole = [((1, 0, 6), false)];
+    change(&mut list, alloc, (1, 2, 1), &Does::Hide(key(2, 1)), &whole)?;
+    for (names, hidden) in [
+        ((1, 0, 2), false),
+        ((1, 1, 2), true),
+        ((1, 0, 6), true),
+        ((1, 3, 3), false),
+    ] {
+        let set = named(&mut list, alloc, names)?;
+        assert_eq!(rt; list.has_hidden(&set), hidden);
+    }
+    let mut two = named(&mut list, alloc, (1, 0, 1))?;
+    add(&mut list, &mut two, 1, 2)?;
+    assert!(rt; list.has_hidden(&two));
+    Ok(())
+}

@@ -1,4 +1,4 @@
-ghost use Rattle.std.specs.Prelude.{◌≡◌, [], ◌∷◌};
+ghost use Rattle.std.specs.Prelude.{◌≡◌, ◌≤◌, [], ◌∷◌};
 ghost use Rattle.operations.specs.NameSet.{of_name};
 
 use super::told::{first_run, name};
@@ -88,5 +88,48 @@ fn what_is_shown_is_told(rt: HostRuntime) -> Result<(), Fail> {
         assert_eq!(rt; (run.off, run.len), (off, len));
     }
     assert!(rt; walk.next().is_none());
+    Ok(())
+}
+
+// Of six characters the third is hidden: stretches of those that are shown, as runs by their offsets and lengths.
+const STRETCHES: &[(u64, u64, &[(u32, u32)])] = &[
+    (0, 5, &[(0, 2), (3, 3)]),
+    (0, 2, &[(0, 2)]),
+    (1, 4, &[(1, 1), (3, 2)]),
+    (2, 4, &[(3, 2)]),
+    (3, 9, &[(4, 2)]),
+    (2, 2, &[]),
+    (5, 5, &[]),
+    (7, 9, &[]),
+];
+
+// Whether what is shown between the positions are these runs.
+fn walks(list: &PieceList, beg: u64, end: u64, runs: &[(u32, u32)]) -> bool
+    requires { beg ≤ end }
+{
+    let mut walk = list.walk_between(beg, end);
+    for want in runs {
+        let Some(run) = walk.next() else {
+            return false;
+        };
+        if (run.off, run.len) != *want {
+            return false;
+        }
+    }
+    walk.next().is_none()
+}
+
+#[test]
+fn stretches_are_walked(rt: HostRuntime) -> Result<(), Fail> {
+    let mut list = PieceList::new(rt.alloc())?;
+    list.place(first_run(6)?, Anchor::Root)?;
+    let third = name(1, 2)?;
+    let mut names = NameSet::new(rt.alloc());
+    names.insert(third)?;
+    hide_one(&mut list, &names, third)?;
+    for (beg, end, runs) in STRETCHES {
+        assert!(rt; *beg <= *end);
+        assert!(rt; walks(&list, *beg, *end, runs));
+    }
     Ok(())
 }

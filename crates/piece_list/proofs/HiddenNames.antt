@@ -1,0 +1,100 @@
+-- Whether characters of a range are hidden, piece by piece.
+use Rattle.std.proofs.Common.{◌≡◌, ℕ, ◌+◌, ◌-◌, ◌<◌, ◌≤◌, true, false, inl, inr, List, [], ◌∷◌, zero, suc, length, get_or}
+use Rattle.std.proofs.Common.{Contains, refl, sym, ap, subst, ◌∙◌, arith}
+use Rattle.std.specs.Prelude.{IsTrue}
+use Rattle.std.proofs.lemmas.Bool.{cases_lt}
+use Rattle.std.proofs.lemmas.List.{get_or_default}
+use Rattle.char_files.specs.CharName.{CharName}
+use Rattle.char_files.specs.declared.TheConstants.{MAX_FILE}
+use Rattle.operations.specs.NameSet.{Range, IsIn, IsAmong}
+use Rattle.piece_raw.specs.Ring.{IsMember, AreTags}
+use Rattle.tree_order.specs.Registers.{Kept}
+use Rattle.piece_list.specs.declared.piece.Piece.{Piece}
+use Rattle.piece_list.specs.declared.place.Place.{Place}
+use Rattle.piece_list.specs.Held.{IsPlaceOf, AreEntered}
+use Rattle.piece_list.specs.Pieces.{IsPiece}
+use Rattle.piece_list.specs.Spelled.{spelled, HasName}
+use Rattle.piece_list.specs.Tables.{Tables}
+use Rattle.piece_list.proofs.CharOf.{char_of_place}
+use Rattle.piece_list.proofs.ChangedNames.{range}
+use Rattle.piece_list.proofs.Found.{one_value, member_at}
+use Rattle.piece_list.proofs.Walked.{Items}
+
+-- a piece that holds a name, from the name's place on
+module _ (items : Items) (tables : Tables) (are : AreTags items) (entered : AreEntered items tables)
+    (place : Place) (c : CharName) (p : Piece) (at : IsPlaceOf items place c)
+    (held : IsMember items place.piece p) where
+  is_inside : (place.within < p.len) × (c.site ≡ p.site) × (c.off ≡ p.off + place.within)
+  is_inside =
+      let (q, member, within, site, off) = at in
+      let one : q ≡ p = one_value items are place.piece q p member held in
+      subst (λ (r : Piece). (place.within < r.len) × (c.site ≡ r.site) × (c.off ≡ r.off + place.within)) one
+      (within, site, off)
+
+  pub ends_behind : c.off < p.off + p.len
+  ends_behind = omega (arith, is_inside.0, is_inside.2)
+
+  pub end_fits : p.off + p.len ≤ MAX_FILE
+  end_fits =
+      let m : ℕ × Piece = (place.piece, p) in
+      let (i, lt, is) = member_at items place.piece p held in
+      let piece : IsPiece p = subst (λ (n : ℕ × Piece). IsPiece n.1) (is m) (entered.pieces i m lt) in
+      piece.2
+
+  -- its characters are hidden as it is
+  pub alike : (k : Kept) → Contains (spelled items) k → IsIn (range c.site c.off (p.off + p.len - c.off)) k.name
+      → k.hidden.value ≡ p.hidden.value
+  alike k has (site, from, to) =
+      let there : Place = record { piece = place.piece; within = k.name.off - p.off } in
+      let low : p.off ≤ k.name.off = omega (arith, is_inside.2) in
+      let high : k.name.off < p.off + p.len = omega (arith, is_inside.2) in
+      let is : IsPlaceOf items there k.name = (p, held, omega arith, site ∙ is_inside.1, omega arith) in
+      ap (λ (o : Kept). o.hidden.value) (char_of_place items tables are entered there k.name p is held k has refl)
+
+-- a name that is here is that of a character
+pub char_named : (ks : List Kept) (c : CharName) → HasName ks c → (k : Kept) × Contains ks k × (k.name ≡ c)
+char_named [] c (i, lt, e) = absurd (omega arith)
+char_named (k ∷ ks) c (zero, lt, e) = (k, (0, omega arith, refl), e)
+char_named (k ∷ ks) c (suc i, lt, e) =
+    let (j, (n, few, is), named) = char_named ks c (i, omega arith, e) in
+    (j, (suc n, omega arith, is), named)
+
+-- none of the characters of a range is hidden
+abbrev pub NoneHidden : List Kept → Range → Type 0
+NoneHidden ks r = (k : Kept) → Contains ks k → IsIn r k.name → k.hidden.value ≡ false
+
+-- a range, and one more piece of it
+pub more_shown : (ks : List Kept) (site from at to : ℕ) → from ≤ at → at < to
+    → NoneHidden ks (range site from (at - from)) → NoneHidden ks (range site at (to - at))
+    → NoneHidden ks (range site from (to - from))
+more_shown ks site from at to le lt shown more = λ k has (same, low, high).
+    elim (cases_lt k.name.off at) [
+      | inl less ↦ shown k has (same, low, omega arith)
+      | inr past ↦ more k has (same, past, omega arith)
+    ]
+
+-- where the character of a name is hidden, a range with the name has a hidden one
+pub one_hidden : (ks : List Kept) (r : Range) (c : CharName) → HasName ks c → IsIn r c
+    → ((k : Kept) → Contains ks k → k.name ≡ c → k.hidden.value ≡ true)
+    → (k : Kept) × Contains ks k × IsIn r k.name × IsTrue k.hidden.value
+one_hidden ks r c here held hidden =
+    let (k, has, named) = char_named ks c here in
+    (k, has, subst (IsIn r) (sym named) held, hidden k has named)
+
+-- none of the characters of the first n ranges is hidden
+abbrev pub NoneHiddenTo : List Kept → List Range → ℕ → Type 0
+NoneHiddenTo ks ranges n = (i : ℕ) (d : Range) → i < n → NoneHidden ks (get_or ranges i d)
+
+pub more_ranges : (ks : List Kept) (ranges : List Range) (n : ℕ) (r : Range) → n < length ranges
+    → r ≡ get_or ranges n r → NoneHiddenTo ks ranges n → NoneHidden ks r → NoneHiddenTo ks ranges (n + 1)
+more_ranges ks ranges n r lt is shown more = λ i d few.
+    elim (cases_lt i n) [
+      | inl less ↦ shown i d less
+      | inr past ↦
+          let same : n ≡ i = omega arith in
+          subst (NoneHidden ks) (is ∙ get_or_default ranges n r d lt ∙ ap (λ (j : ℕ). get_or ranges j d) same) more
+    ]
+
+pub none_of_all : (ks : List Kept) (ranges : List Range) (n : ℕ) → length ranges ≤ n → NoneHiddenTo ks ranges n
+    → (k : Kept) → Contains ks k → IsAmong ranges k.name → k.hidden.value ≡ false
+none_of_all ks ranges n le shown k has (i, r, lt, at, held) = shown i r (omega arith) k has (subst (λ (s : Range). IsIn s k.name) (sym at) held)

@@ -1,0 +1,101 @@
+//! What is shown between two positions.
+
+ghost use Rattle.std.specs.Prelude.{◌≡◌, ◌+◌, ◌<◌, ◌≤◌, map, drop, All, slice_range};
+ghost use Rattle.std.specs.Iterator.{YieldsFirst, item_count};
+ghost use Rattle.std.specs.List.{flat_map};
+ghost use Rattle.char_files.specs.declared.TheConstants.{MAX_FILE};
+ghost use Rattle.piece_list.specs.RunCuts.{AreWithin, with_first};
+ghost use Rattle.piece_list.specs.Shown.{appearance_of, appearances_in};
+ghost use Rattle.piece_list.specs.Spelled.{spelled, shown_chars};
+
+use super::PieceList;
+use super::walking::Walk;
+use crate::run::Run;
+use std::marker::Model;
+
+/// The stretches of a text that are shown between two positions, one after the other, without memory: seen as
+/// the list of the runs that are left. It reads no piece behind the last of them. This project's own.
+#[derive(Drop)]
+pub struct Between<'a> {
+    // The first run, if it was read ahead: cut at its front.
+    first: Option<Run>,
+    // The runs behind it.
+    walk: Walk<'a>,
+    // How many characters are wanted.
+    left: u64,
+}
+
+impl<'a> Model for Between<'a> {
+    ghost use Rattle.std.specs.Prelude.{List};
+    ghost use Rattle.piece_list.specs.declared.run.Run.{Run as Seen};
+    ghost use Rattle.piece_list.specs.RunCuts.{first_chars, with_first};
+
+    ghost Value = { List Seen };
+
+    ghost view = { λ b. first_chars b.left (with_first b.first b.walk) };
+}
+
+impl<'a> Iterator for Between<'a> {
+    type Item = Run;
+
+    ghost next_gives = { YieldsFirst (λ runs. runs) };
+
+    ghost remaining = { item_count (λ runs. runs) };
+
+    fn next(&mut self) -> Option<Run> {
+        if self.left == 0 {
+            return None;
+        }
+        let mut run = match self.first.take() {
+            Some(first) => first,
+            None => self.walk.next()?,
+        };
+        if self.left < u64::from(run.len) {
+            run.len = self.left as u32;
+        }
+        self.left -= u64::from(run.len);
+        Some(run)
+    }
+}
+
+// Leaves out the first `n` characters of a walk. What is left of the run that they end in comes ahead of the
+// walk.
+fn skip_chars(walk: &mut Walk<'_>, n: u64) -> Option<Run>
+    requires { AreWithin walk.old }
+    ensures left { flat_map appearances_in (with_first result walk.new)
+        ≡ drop n (flat_map appearances_in walk.old) }
+    ensures within { AreWithin (with_first result walk.new) }
+{
+    let mut ahead = n;
+    while let Some(mut run) = walk.next() {
+        let len = u64::from(run.len);
+        if ahead < len {
+            run.off += ahead as u32;
+            run.len -= ahead as u32;
+            return Some(run);
+        }
+        ahead -= len;
+    }
+    None
+}
+
+impl PieceList {
+    /// Walks the stretches that are shown from `beg` to `end`, in order: each a run that isn't empty. It takes
+    /// no memory. The pieces ahead of `beg` are gone through once, and then each step reads on to the next
+    /// piece that is shown.
+    pub fn walk_between(&self, beg: u64, end: u64) -> Between<'_>
+        requires range { beg ≤ end }
+        ensures shown { flat_map appearances_in result
+            ≡ slice_range (map appearance_of (shown_chars (spelled self.now.items))) beg end }
+        ensures some { All (λ run. 0 < run.len) result }
+        ensures within { All (λ run. run.off + run.len ≤ MAX_FILE) result }
+    {
+        let mut walk = self.walk();
+        let first = skip_chars(&mut walk, beg);
+        Between {
+            first,
+            walk,
+            left: end - beg,
+        }
+    }
+}

@@ -1,0 +1,68 @@
+//! Whether a set of names has a hidden character.
+
+ghost use Rattle.std.specs.Prelude.{◌≡◌, ◌-◌, ◌<◌, ◌↔◌, [], ◌∷◌, IsTrue, Contains};
+ghost use Rattle.operations.specs.NameSet.{IsIn, IsAmong};
+ghost use Rattle.tree_order.specs.Registers.{Kept};
+ghost use Rattle.piece_list.specs.Changing.{AreHere};
+ghost use Rattle.piece_list.specs.Spelled.{spelled, HasName};
+
+use super::{PieceList, numbers_differ};
+use char_files::Name;
+use operations::{NameRange, NameSet};
+
+impl PieceList {
+    // Whether the character of this name is hidden, and the offset behind the last of its piece, up to which
+    // the others are alike.
+    fn hidden_from(&self, name: Name) -> (bool, u32)
+        requires { HasName (spelled self.now.items) name }
+        ensures some { name.off < result.1 }
+        ensures alike { (k : Kept) → Contains (spelled self.now.items) k
+            → IsIn (record { site = name.site; at = name.off; len = result.1 - name.off }) k.name
+            → k.hidden.value ≡ result.0 }
+    {
+        match self.place_of(name) {
+            Some(place) => {
+                numbers_differ(&self.pieces);
+                let piece = self.pieces.value_at(place.piece);
+                (piece.hidden.value, piece.off + piece.len)
+            }
+            None => unreachable!(),
+        }
+    }
+
+    // Whether a character of this range is hidden: one step a piece.
+    fn has_hidden_in(&self, range: NameRange) -> bool
+        requires { AreHere (range ∷ []) (spelled self.now.items) }
+        ensures { IsTrue result
+            ↔ ((k : Kept) × Contains (spelled self.now.items) k × IsIn range k.name × IsTrue k.hidden.value) }
+    {
+        let end = range.at() + range.len();
+        let mut at = range.at();
+        while at < end {
+            let (hidden, next) = match Name::new(range.site(), at) {
+                Some(name) => self.hidden_from(name),
+                None => unreachable!(),
+            };
+            if hidden {
+                return true;
+            }
+            at = next;
+        }
+        false
+    }
+
+    /// Whether a character of these names is hidden. One step a piece of the ranges, each found by one entry
+    /// of a table.
+    pub fn has_hidden(&self, names: &NameSet) -> bool
+        requires { AreHere names.now (spelled self.now.items) }
+        ensures { IsTrue result ↔ ((k : Kept) × Contains (spelled self.now.items) k × IsAmong names.now k.name
+            × IsTrue k.hidden.value) }
+    {
+        for range in names.ranges() {
+            if self.has_hidden_in(*range) {
+                return true;
+            }
+        }
+        false
+    }
+}
