@@ -5,4 +5,6 @@ pub mod Placed
 pub mod Ready
 pub mod Runs
 pub mod Spelling
+pub mod Stretch
 pub mod Taking
+pub mod Visible

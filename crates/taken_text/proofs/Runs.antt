@@ -1,25 +1,22 @@
 -- The runs that are shown have their bytes, and their characters are what is shown.
-use Rattle.std.proofs.Common.{◌≡◌, ℕ, ◌+◌, ◌-◌, ◌<◌, ◌≤◌, not, List, [], ◌∷◌, ◌++◌, zero, suc, length, get_or, map, All, ◌⊎◌, inl, inr}
+use Rattle.std.proofs.Common.{◌≡◌, ℕ, ◌+◌, ◌-◌, ◌<◌, ◌≤◌, List, [], ◌∷◌, ◌++◌, zero, suc, length, get_or, map, All, ◌⊎◌, inl, inr}
 use Rattle.std.proofs.Common.{Option, Some, None, refl, sym, ap, subst, ◌∙◌, arith}
 use Rattle.std.specs.Iterator.{YieldsFirst}
 use Rattle.std.specs.List.{flat_map}
 use Rattle.std.proofs.lemmas.List.{map-append, length-map, length-append, get_or-map, get_or_append_left, get_or-append-add}
-use Rattle.std.proofs.lemmas.List.Elements.{All-filter, All-map, All-head, All-tail, All-cons, All-nil}
+use Rattle.std.proofs.lemmas.List.Elements.{All-map, All-head, All-tail, All-cons, All-nil}
 use Rattle.std.proofs.lemmas.List.FromFn.{length-map-range_with_len, get_or-map-range_with_len}
 use Rattle.char_files.specs.CharFiles.{Files, bytes_of}
 use Rattle.char_files.specs.CharName.{CharName}
 use Rattle.char_files.specs.declared.TheConstants.{MAX_FILE}
 use Rattle.char_files.specs.declared.character.Char.{Char}
 use Rattle.operations.specs.NameSet.{names_of}
-use Rattle.operations.specs.Operation.{Operation}
 use Rattle.tree_order.specs.Registers.{Kept}
 use Rattle.piece_list.specs.Shown.{Appearance, appearance_of, appearance_in, appearances_in}
-use Rattle.piece_list.specs.Spelled.{spelled, shown_chars}
-use Rattle.piece_list.specs.declared.piece.Piece.{Piece}
 use Rattle.piece_list.specs.declared.run.Run.{Run}
 use Rattle.taken_text.specs.Shown.{with_byte, chars_of_run, chars_of_runs, runs_left, IsInFile, AreInFiles}
-use Rattle.taken_text.specs.Taken.{IsTaken, char_in}
-use Rattle.taken_text.proofs.Counted.{HereAreChars, HasByteIn, have_bytes}
+use Rattle.taken_text.specs.Taken.{char_in}
+use Rattle.taken_text.proofs.Counted.{HasByteIn}
 
 -- the characters of runs are those that the runs tell of
 chars_told : (files : Files) (runs : List Run) → chars_of_runs files runs ≡ map (with_byte files) (flat_map appearances_in runs)
@@ -32,11 +29,10 @@ chars_kept : (files : Files) (kept : List Kept) → map (with_byte files) (map a
 chars_kept files [] = refl
 chars_kept files (k ∷ kept) = ap (λ (cs : List Char). char_in files k ∷ cs) (chars_kept files kept)
 
--- so they are what is shown
-pub chars_of_walk : (files : Files) (kept : List Kept) (runs : List Run) → flat_map appearances_in runs ≡ map appearance_of (shown_chars kept)
-    → chars_of_runs files runs ≡ map (char_in files) (shown_chars kept)
-chars_of_walk files kept runs told =
-    chars_told files runs ∙ ap (map (with_byte files)) told ∙ chars_kept files (shown_chars kept)
+-- so they are the characters that are told of
+pub chars_of_walk : (files : Files) (kept : List Kept) (runs : List Run) → flat_map appearances_in runs ≡ map appearance_of kept
+    → chars_of_runs files runs ≡ map (char_in files) kept
+chars_of_walk files kept runs told = chars_told files runs ∙ ap (map (with_byte files)) told ∙ chars_kept files kept
 
 -- a run's first character
 chars_first : (files : Files) (r : Run) → 0 < r.len
@@ -97,15 +93,12 @@ in_files files (r ∷ runs) some within all =
     (rest_of Has (appearances_in r) (flat_map appearances_in runs) all))
 
 -- the runs of a walk are in the files
-pub walk_in_files : HereAreChars → (ops : List Operation) (items : List (ℕ × Piece)) (files : Files) → IsTaken ops items files
+pub walk_in_files : (files : Files) (kept : List Kept) → All (λ k. HasByteIn files k.name) kept
     → (runs : List Run) → All (λ run. 0 < run.len) runs → All (λ run. run.off + run.len ≤ MAX_FILE) runs
-    → flat_map appearances_in runs ≡ map appearance_of (shown_chars (spelled items)) → AreInFiles files runs
-walk_in_files law ops items files t runs some within told =
+    → flat_map appearances_in runs ≡ map appearance_of kept → AreInFiles files runs
+walk_in_files files kept have runs some within told =
     let Has : Appearance → Type 0 = λ (a : Appearance). HasByteIn files a.name in
-    let kept : All (λ (k : Kept). HasByteIn files k.name) (shown_chars (spelled items)) =
-    All-filter (λ (k : Kept). not k.hidden.value) (λ (k : Kept). HasByteIn files k.name) (spelled items) (have_bytes law ops items files t) in
-    in_files files runs some within
-    (subst (All Has) (sym told) (All-map Has appearance_of (shown_chars (spelled items)) kept))
+    in_files files runs some within (subst (All Has) (sym told) (All-map Has appearance_of kept have))
 
 -- a run without its first character
 abbrev pub without_first : Run → Run

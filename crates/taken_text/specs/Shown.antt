@@ -4,6 +4,7 @@ use Rattle.std.specs.List.{flat_map}
 use Rattle.char_files.specs.CharFiles.{Files, bytes_of}
 use Rattle.char_files.specs.declared.TheConstants.{MAX_FILE}
 use Rattle.char_files.specs.declared.character.Char.{Char}
+use Rattle.operations.specs.NameSet.{Range}
 use Rattle.piece_list.specs.Shown.{Appearance, appearances_in}
 use Rattle.piece_list.specs.declared.run.Run.{Run}
 
@@ -27,6 +28,10 @@ chars_of_runs files runs = flat_map (chars_of_run files) runs
 abbrev pub runs_left : Option Run → List Run → List Run
 runs_left None rest = []
 runs_left (Some r) rest = r ∷ rest
+
+-- a run's names
+abbrev pub range_of_run : Run → Range
+range_of_run r = record { site = r.site; at = r.off; len = r.len }
 
 -- a run isn't empty, and its site's file has its bytes
 pub record IsInFile (files : Files) (r : Run) : Type 0 where

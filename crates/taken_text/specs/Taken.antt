@@ -1,8 +1,9 @@
 -- The operations that were taken in, and the characters that they make.
-use Rattle.std.specs.Prelude.{◌≡◌, ℕ, List, map, filter, length, slice_index}
+use Rattle.std.specs.Prelude.{◌≡◌, ℕ, List, map, filter, length, slice_index, slice_range}
 use Rattle.char_files.specs.CharFiles.{Files, bytes_of}
 use Rattle.char_files.specs.CharName.{CharName}
 use Rattle.char_files.specs.declared.character.Char.{Char}
+use Rattle.operations.specs.NameSet.{Range, set_of}
 use Rattle.operations.specs.Operation.{Operation}
 use Rattle.tree_order.specs.Good.{Good}
 use Rattle.tree_order.specs.Registers.{Kept, AreKept, kept_looks}
@@ -27,6 +28,10 @@ pub record IsDefined (t : TakenSeen) : Type 0 where
 -- what is shown: the visible ones of all characters, in their order
 abbrev pub shown_of : TakenSeen → List Char
 shown_of t = filter (λ c. is_visible t.operations c.name) t.chars
+
+-- the names of the characters that are shown from beg to end, as a set
+abbrev pub names_between : TakenSeen → ℕ → ℕ → List Range
+names_between t beg end = set_of (map (λ c. c.name) (slice_range (shown_of t) beg end))
 
 -- a character as it is kept, with its byte
 abbrev pub char_in : Files → Kept → Char

@@ -2,6 +2,7 @@
 #![tactic(auto)]
 
 mod shown;
+mod stretches;
 mod taken_text;
 
 pub use shown::Shown;

@@ -4,7 +4,7 @@ ghost use Rattle.piece_list.specs.Shown.{appearance_in};
 ghost use Rattle.taken_text.specs.Shown.{AreInFiles, IsInFile, chars_of_runs, with_byte};
 
 use char_files::{Char, CharFiles, Name};
-use piece_list::{Run, Walk};
+use piece_list::{Between, Run};
 use std::marker::Model;
 
 // The first character of a run.
@@ -31,7 +31,7 @@ pub struct Shown<'a> {
     // What is left of the run that is being read; none behind the last one.
     run: Option<Run>,
     // The runs behind it.
-    walk: Walk<'a>,
+    walk: Between<'a>,
 }
 
 impl<'a> Model for Shown<'a> {
@@ -69,7 +69,7 @@ impl<'a> Iterator for Shown<'a> {
 
 impl<'a> Shown<'a> {
     // All characters of these runs.
-    pub(crate) fn of(mut walk: Walk<'a>, files: &'a CharFiles) -> Shown<'a>
+    pub(crate) fn of(mut walk: Between<'a>, files: &'a CharFiles) -> Shown<'a>
         requires { AreInFiles files.now walk }
         ensures { result ≡ chars_of_runs files.now walk.entry }
     {

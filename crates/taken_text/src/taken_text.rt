@@ -29,9 +29,10 @@ use tree_order::laws::sequential::one_writer_goes_behind_causes;
 /// make: a list of pieces over append-only files. This project's own.
 #[derive(Drop)]
 pub struct TakenText {
-    log: Log,
-    pieces: PieceList,
-    files: CharFiles,
+    pub(crate) log: Log,
+    pub(crate) pieces: PieceList,
+    pub(crate) files: CharFiles,
+    pub(crate) alloc: Global,
 }
 
 impl Model for TakenText {
@@ -139,6 +140,7 @@ impl TakenText {
             log: Log::new(alloc),
             pieces: PieceList::new(alloc)?,
             files: CharFiles::new(alloc),
+            alloc,
         })
     }
 
@@ -195,9 +197,7 @@ impl TakenText {
     pub fn shown(&self) -> Shown<'_>
         ensures { result ≡ shown_of self.now }
     {
-        registers_tell_what_is_shown();
-        names_here_are_the_characters();
-        Shown::of(self.pieces.walk(), &self.files)
+        self.shown_between(0, self.shown_len())
     }
 
     /// Takes in an operation that is ready: it stands behind those that were taken in, and the characters are

@@ -1,20 +1,8 @@
-use super::told::{Does, Parts, Told, name, take, text_of};
+use super::told::{Does, Parts, TOLD, name, take, text_of};
 use char_files::Char;
 use std::process::Abort;
 use std::test::Fail;
 use taken_text::TakenText;
-
-// Site 1 types `AC`; then both sites type behind the `A`, and site 2 goes ahead under the same stamp: `AXBC`.
-// The `B` is deleted; the `X` is deleted and shown again; the `C` gets colour 3.
-const TOLD: &[Told] = &[
-    (1, 1, 1, Does::Insert(None, 0, b"AC")),
-    (1, 2, 2, Does::Insert(Some((1, 0)), 2, b"B")),
-    (2, 1, 2, Does::Insert(Some((1, 0)), 0, b"X")),
-    (1, 3, 3, Does::Delete((1, 2))),
-    (2, 2, 3, Does::Delete((2, 0))),
-    (1, 4, 4, Does::Restore((2, 0))),
-    (2, 3, 4, Does::ChangeColour(3, (1, 1))),
-];
 
 // Each character that is shown: its name, its byte, its colour.
 const SHOWN: &[(Parts, u8, u8)] = &[((1, 0), b'A', 1), ((2, 0), b'X', 1), ((1, 1), b'C', 3)];

@@ -27,6 +27,18 @@ pub(super) enum Does {
 // An operation on text 1: its site, its seq, its stamp, what it does.
 pub(super) type Told = (u16, u32, u64, Does);
 
+// Site 1 types `AC`; then both sites type behind the `A`, and site 2 goes ahead under the same stamp: `AXBC`.
+// The `B` is deleted; the `X` is deleted and shown again; the `C` gets colour 3.
+pub(super) const TOLD: &[Told] = &[
+    (1, 1, 1, Does::Insert(None, 0, b"AC")),
+    (1, 2, 2, Does::Insert(Some((1, 0)), 2, b"B")),
+    (2, 1, 2, Does::Insert(Some((1, 0)), 0, b"X")),
+    (1, 3, 3, Does::Delete((1, 2))),
+    (2, 2, 3, Does::Delete((2, 0))),
+    (1, 4, 4, Does::Restore((2, 0))),
+    (2, 3, 4, Does::ChangeColour(3, (1, 1))),
+];
+
 fn site(number: u16) -> Result<SiteNo, Fail> {
     Ok(SiteNo::new(number).ok_or("a site")?)
 }

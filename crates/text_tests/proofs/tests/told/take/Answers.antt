@@ -1,4 +1,4 @@
-use Rattle.std.proofs.Common.{◌≡◌, List, subst, ◌∙◌}
+use Rattle.std.proofs.Common.{List, subst, ◌∙◌}
 use Rattle.operations.specs.Operation.{Operation}
 use Rattle.set_laws.specs.Verdict.{HasVerdict, ready}
 use Rattle.text_tests.proofs.tests.told.take.Goals as goal

@@ -1,0 +1,60 @@
+-- Of a set of names, all are visible where none is that of a hidden character.
+use Rattle.std.proofs.Common.{◌≡◌, ◌<◌, Bool, true, false, not, inl, inr, List, length, All, Contains}
+use Rattle.std.proofs.Common.{refl, sym, ap, subst, ◌∙◌, arith}
+use Rattle.std.specs.Prelude.{◌↔◌, IsTrue}
+use Rattle.std.proofs.lemmas.List.{length-map, get_or-map}
+use Rattle.std.proofs.lemmas.Option.{slice_get_cases, get_or_from_slice_get}
+use Rattle.char_files.specs.CharName.{CharName}
+use Rattle.operations.specs.NameSet.{Range, IsAmong}
+use Rattle.operations.specs.Operation.{Operation}
+use Rattle.tree_order.specs.Registers.{Kept, AreKept}
+use Rattle.tree_order.specs.RegisterLaws.{TellRegisters}
+use Rattle.tree_order.specs.Shown.{is_visible}
+use Rattle.tree_order.specs.Tree.{IsChar}
+use Rattle.piece_list.specs.Changing.{AreHere}
+use Rattle.piece_list.specs.Spelled.{HasName}
+
+-- a name that is here is that of a character
+char_named : (kept : List Kept) (c : CharName) → HasName kept c → (k : Kept) × Contains kept k × (k.name ≡ c)
+char_named kept c (i, lt, e) =
+    let name : Kept → CharName = λ (k : Kept). k.name in
+    let few : i < length kept = omega (arith, length-map kept name) in
+    elim (slice_get_cases kept i).1 [
+      | inl found ↦
+          let (k, within, is, same) = found in
+          let here = get_or_from_slice_get kept i k k is in
+          (k, (i, few, here), sym (ap name here) ∙ sym (get_or-map name kept i k c few) ∙ e)
+      | inr past ↦ absurd (omega (arith, few, past.0))
+    ]
+
+not_true : (b : Bool) → IsTrue (not b) → IsTrue b → ⊥
+not_true true out is = absurd cc
+not_true false out is = absurd cc
+
+true_unless : (b : Bool) → (IsTrue b → ⊥) → IsTrue (not b)
+true_unless true out = absurd (out refl)
+true_unless false out = refl
+
+-- of operations and the characters that are kept of them
+module _ (ops : List Operation) (kept : List Kept) (are : AreKept ops kept) (all : All (TellRegisters ops) kept) where
+  -- characters are here
+  pub chars_are_here : (names : List Range) → ((c : CharName) → IsAmong names c → IsChar ops c) → AreHere names kept
+  chars_are_here names chars = λ c named. (are.order.each c).1 (chars c named)
+
+  -- a character is visible unless it is hidden
+  told : (k : Kept) → Contains kept k → is_visible ops k.name ≡ not k.hidden.value
+  told k (i, lt, is) = (subst (TellRegisters ops) is (all i k lt)).visible
+
+  pub all_visible : (names : List Range) → AreHere names kept → (hidden : Bool)
+      → (IsTrue hidden ↔ ((k : Kept) × Contains kept k × IsAmong names k.name × IsTrue k.hidden.value))
+      → IsTrue (not hidden) ↔ ((c : CharName) → IsAmong names c → IsTrue (is_visible ops c))
+  all_visible names here hidden tells = (
+    λ none c named.
+        let (k, has, is) = char_named kept c (here c named) in
+        let out : IsTrue k.hidden.value → ⊥ =
+        λ yes. not_true hidden none (tells.1 (k, has, subst (IsAmong names) (sym is) named, yes)) in
+        subst (λ (d : CharName). IsTrue (is_visible ops d)) is (told k has ∙ true_unless k.hidden.value out),
+    λ visible. true_unless hidden (λ yes.
+        let (k, has, named, own) = tells.0 yes in
+        not_true k.hidden.value (sym (told k has) ∙ visible k.name named) own),
+  )

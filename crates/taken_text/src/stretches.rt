@@ -1,0 +1,109 @@
+//! What is shown between two positions, taken out of a text, and whether all of a set is shown.
+
+ghost use Rattle.std.specs.Prelude.{◌≡◌, ◌-◌, ◌<◌, ◌≤◌, ◌⊎◌, ◌↔◌, length, map, All, slice_range, IsTrue};
+ghost use Rattle.std.specs.Prelude.{IfOk, IfErr, IsOk, IsErrOf};
+ghost use Rattle.looks.specs.Refusal.{RefusedForMemoryAlone};
+ghost use Rattle.char_files.specs.CharName.{CharName};
+ghost use Rattle.operations.specs.NameSet.{IsAmong};
+ghost use Rattle.operations.specs.declared.name_set.TheConstants.{MAX_RANGES};
+ghost use Rattle.piece_list.specs.RunCuts.{AreWithin};
+ghost use Rattle.tree_order.specs.Shown.{is_visible};
+ghost use Rattle.tree_order.specs.Tree.{IsChar};
+ghost use Rattle.taken_text.specs.Shown.{range_of_run};
+ghost use Rattle.taken_text.specs.Taken.{names_between, shown_of};
+
+use crate::shown::Shown;
+use crate::taken_text::TakenText;
+use char_files::{Buffer, MAX_FILE};
+use looks::Refusal;
+use operations::{NameRange, NameSet};
+use piece_list::Between;
+use set_laws::unions::names_here_are_the_characters;
+use std::alloc::Global;
+use tree_order::laws::registers::registers_tell_what_is_shown;
+
+// The names of these runs, run by run. Refused `OutOfMemory` alone.
+fn ranges_of(alloc: Global, runs: Between<'_>) -> Result<Vec<NameRange>, Refusal>
+    requires { AreWithin runs }
+    ensures ok { IfOk result (λ ranges. ranges.items ≡ map range_of_run runs.entry) }
+    ensures errors { RefusedForMemoryAlone result }
+{
+    let mut ranges = Vec::new(alloc);
+    for run in runs {
+        // A site's number isn't 0.
+        let _ = run.site.get();
+        ranges.push(NameRange::new(run.site, run.off, run.len))?;
+    }
+    Ok(ranges)
+}
+
+// These characters, outside the text. Refused `OutOfMemory` alone.
+fn taken_out(alloc: Global, chars: Shown<'_>) -> Result<Buffer, Refusal>
+    requires { length chars ≤ MAX_FILE }
+    ensures ok { IfOk result (λ buffer. buffer ≡ map (λ c. (c.byte, c.looks)) chars.entry) }
+    ensures errors { RefusedForMemoryAlone result }
+    ensures none { length chars.entry ≡ 0 → IsOk result }
+{
+    let mut buffer = Buffer::new(alloc);
+    for char in chars {
+        buffer.push(char.byte, char.looks)?;
+    }
+    Ok(buffer)
+}
+
+impl TakenText {
+    // The characters that are shown from `beg` to `end`, one after the other.
+    pub(crate) fn shown_between(&self, beg: u64, end: u64) -> Shown<'_>
+        requires { beg ≤ end }
+        ensures { result ≡ slice_range (shown_of self.now) beg end }
+    {
+        registers_tell_what_is_shown();
+        names_here_are_the_characters();
+        Shown::of(self.pieces.walk_between(beg, end), &self.files)
+    }
+
+    /// The names of the characters that are shown from `beg` to `end`, as a set.
+    ///
+    /// Refused `Scattered` where they make more than 1,024 ranges, and `OutOfMemory`, which may come ahead of
+    /// it.
+    pub fn names_shown(&self, beg: u64, end: u64) -> Result<NameSet, Refusal>
+        requires range { beg ≤ end }
+        requires in_text { end ≤ length (shown_of self.now) }
+        ensures ok { IfOk result (λ set. set ≡ names_between self.now beg end) }
+        ensures scattered { IsErrOf result Refusal.Scattered
+            → MAX_RANGES < length (names_between self.now beg end) }
+        ensures errors { IfErr result (λ e. (e ≡ Refusal.Scattered) ⊎ (e ≡ Refusal.OutOfMemory)) }
+    {
+        registers_tell_what_is_shown();
+        NameSet::of_all(ranges_of(self.alloc, self.pieces.walk_between(beg, end))?)
+    }
+
+    /// The characters that are shown from `beg` to `end`, outside the text: their bytes and looks.
+    ///
+    /// Refused `FileSpent` where there are more than 2^24, else `OutOfMemory` where memory is; an empty
+    /// stretch is never refused.
+    pub fn stretch(&self, beg: u64, end: u64) -> Result<Buffer, Refusal>
+        requires range { beg ≤ end }
+        requires in_text { end ≤ length (shown_of self.now) }
+        ensures ok { IfOk result
+            (λ buffer. buffer ≡ map (λ c. (c.byte, c.looks)) (slice_range (shown_of self.now) beg end)) }
+        ensures long { IsErrOf result Refusal.FileSpent ↔ (MAX_FILE < end - beg) }
+        ensures errors { IfErr result (λ e. (e ≡ Refusal.FileSpent) ⊎ (e ≡ Refusal.OutOfMemory)) }
+        ensures empty { beg ≡ end → IsOk result }
+    {
+        if MAX_FILE < end - beg {
+            return Err(Refusal::FileSpent);
+        }
+        taken_out(self.alloc, self.shown_between(beg, end))
+    }
+
+    /// Whether all characters of these names are shown.
+    pub fn are_shown(&self, names: &NameSet) -> bool
+        requires { (c : CharName) → IsAmong names.now c → IsChar self.now.operations c }
+        ensures { IsTrue result
+            ↔ ((c : CharName) → IsAmong names.now c → IsTrue (is_visible self.now.operations c)) }
+    {
+        registers_tell_what_is_shown();
+        !self.pieces.has_hidden(names)
+    }
+}
