@@ -2,4 +2,4 @@ pub mod Counted
 pub mod CountingRuns
 pub mod Lifting
 pub mod Reaching
-pub mod Typing
+pub mod TextEdits

@@ -1,17 +1,22 @@
 -- What a run comes to: each text is what its operations define, by the steps that led there.
-use Rattle.std.proofs.Common.{◌≡◌, ℕ, zero, suc, ◌-◌, true, false, Bool, List, [], ◌∷◌, map, Option, Some, None, Result, Ok, Err, refl, sym, ap, subst, ◌∙◌, inl, inr, arith}
-use Rattle.std.specs.Prelude.{◌⊎◌, IsTrue, MatchBool, MatchOption, option_map, slice_get, slice_set}
+use Rattle.std.proofs.Common.{◌≡◌, ℕ, zero, suc, ◌≤◌, ◌-◌, length, true, false, Bool, List, [], ◌∷◌, map, Option, Some, None, Result, Ok, Err, refl, sym, ap, subst, ◌∙◌, inl, inr, arith}
+use Rattle.std.specs.Prelude.{◌⊎◌, IsTrue, MatchBool, MatchOption, nat_lt, option_map, slice_get, slice_set}
 use Rattle.std.specs.List.{range_with_len}
-use Rattle.std.proofs.lemmas.Bool.{leb-true}
+use Rattle.std.specs.Option.{option_map_or}
 use Rattle.std.proofs.lemmas.List.Elements.{All-nil}
 use Rattle.std.proofs.lemmas.Option.{same_Some, slice_get-map}
+use Rattle.looks.specs.declared.refusal.Refusal.{Refusal}
 use Rattle.looks.specs.declared.refusal.Refusal.TheVariants.{BadEvent}
+use Rattle.char_files.specs.declared.TheConstants.{MAX_FILE}
+use Rattle.char_files.specs.CharName.{CharName}
+use Rattle.operations.specs.NameSet.{IsAmong}
 use Rattle.operations.specs.Operation.{Operation}
 use Rattle.tree_order.specs.Good.{Good}
 use Rattle.tree_order.specs.Sequential.{OneWriterGoesBehindCauses}
 use Rattle.set_laws.specs.Sets.{AreIdentified}
-use Rattle.texts.specs.Edit.{Edit, Edits, Stand, insert_run, is_in_text, plan}
-use Rattle.texts.specs.Laws.{OwnInsertIsPlain}
+use Rattle.texts.specs.Edit.{Edit, is_in_text, plan, with_operation}
+use Rattle.texts.specs.Laws.{OwnEditsArePlain}
+use Rattle.texts.specs.Outcome.{Edits, Stand, count_standing, first_refusal, refusal_for, refusal_or}
 use Rattle.texts.specs.Take.{IsAfter}
 use Rattle.texts.specs.Text.{IsText}
 use Rattle.texts.specs.TextState.{TextState, empty_text, shown_of}
@@ -21,7 +26,7 @@ use Rattle.texts.specs.declared.fate.Fate.{Fate}
 use Rattle.texts.specs.declared.fate.Fate.TheVariants.{OtherText, Known, Conflicting, Wait, WrongOffset, LowStamp, Ready}
 use Rattle.commands.specs.DeskState.{DeskState, InText, IsTextOf, new_desk}
 use Rattle.commands.specs.Laws.{AreTexts, Reached, begins, goes_on}
-use Rattle.commands.specs.Machine.{Does, EditsText, Event, InDesk, IsTextAt, Replies, Reply, Short, State, TakesText, edit, message_in, messages_of, new_state, prints, query, refuses, sends, stops, takes, unknown}
+use Rattle.commands.specs.Machine.{CopiesText, Does, EditsInPart, EditsText, Event, InDesk, IsTextAt, Replies, Reply, Short, State, TakesText, copied, copy, edit, is_copy_in, message_in, messages_of, new_state, prints, query, refuses, sends, stops, takes, unknown}
 use Rattle.commands.specs.Machine.{take as taking}
 use Rattle.commands.specs.Printing.{text_lines}
 
@@ -32,6 +37,9 @@ set_cases (x ∷ xs) zero zero y z at = inl (sym (same_Some y z at))
 set_cases (x ∷ xs) zero (suc j) y z at = inr at
 set_cases (x ∷ xs) (suc i) zero y z at = inr at
 set_cases (x ∷ xs) (suc i) (suc j) y z at = set_cases xs i j y z at
+
+no_name : (c : CharName) → IsAmong [] c → ⊥
+no_name c (k, r, within, read, holds) = omega (arith, within)
 
 -- a text where nothing was taken in
 empty_is_text : (good : Good []) (identified : AreIdentified []) (order : OneWriterGoesBehindCauses) (text site : ℕ) → IsText (empty_text text site)
@@ -44,6 +52,7 @@ empty_is_text good identified order text site = record {
     bytes = All-nil _;
     looks = All-nil _;
   };
+  kept = λ c named. absurd (no_name c named);
 }
 
 of_option : {A B : Type 0} (f : A → B) (o : Option A) (b : B) → option_map f o ≡ Some b → (a : A) × (f a ≡ b)
@@ -109,21 +118,35 @@ taken : (s : State) (i text : ℕ) (told : Option (List ℕ)) (r : Reply) (new :
 taken s i text None r new does all = subst AreTexts (sym does.0) all
 taken s i text (Some message) r new does all = in_desk _ s new i [] (λ d d'. in_text _ d d' text (takes_text message r)) does all
 
-module _ (plain : OwnInsertIsPlain) where
+-- no more operations stand than there are
+within_more : (why : Option Refusal) (later : Option (ℕ × Refusal)) (len : ℕ) → option_map_or (λ stop. stop.0) later len ≤ len → option_map_or (λ stop. stop.0) (refusal_or why later) (suc len) ≤ suc len
+within_more (Some why) later len le = omega arith
+within_more None None len le = omega arith
+within_more None (Some stop) len le = omega arith
+
+standing_within : (t : TextState) (ops : List Operation) → count_standing t ops ≤ length ops
+standing_within t [] = omega arith
+standing_within t (op ∷ ops) =
+    let after_it = with_operation t op in
+    within_more (refusal_for t op.kind) (first_refusal after_it ops) (length ops) (standing_within after_it ops)
+
+module _ (plain : OwnEditsArePlain) where
   -- the first of an edit's operations leave the text defined
-  standing : (t : TextState) (e : Edit) (n : ℕ) (new : TextState) (messages : List (List ℕ)) → IsTrue (is_in_text t e) → Stand t (plan t e) n new messages → IsText t → IsText new
-  standing t (insert_run pos looks []) zero new messages within stand is = subst IsText (sym stand.text) is
-  standing t (insert_run pos looks []) (suc n) new messages within stand is = subst IsText (sym stand.text) is
-  standing t (insert_run pos looks (b ∷ bytes)) zero new messages within stand is = subst IsText (sym stand.text) is
-  standing t (insert_run pos looks (b ∷ bytes)) (suc zero) new messages within stand is =
-      subst IsText (sym stand.text) (plain t pos looks (b ∷ bytes) is (leb-true _ _ within)).text
-  standing t (insert_run pos looks (b ∷ bytes)) (suc (suc n)) new messages within stand is =
-      subst IsText (sym stand.text) (plain t pos looks (b ∷ bytes) is (leb-true _ _ within)).text
+  standing : (t : TextState) (e : Edit) (n : ℕ) (new : TextState) (messages : List (List ℕ)) → IsTrue (is_in_text t e) → n ≤ length (plan t e) → Stand t (plan t e) n new messages → IsText t → IsText new
+  standing t e n new messages within few stand is = subst IsText (sym stand.text) (plain t e n is within few).text
 
   edited : (t : TextState) (e : Edit) (result : Result ℕ EditRefusal) (new : TextState) (messages : List (List ℕ)) → IsTrue (is_in_text t e) → Edits t (plan t e) result new messages → IsText t → IsText new
-  edited t e (Ok n) new messages within does is = standing t e n new messages within does.2 is
-  edited t e (Err (Whole why)) new messages within does is = standing t e 0 new messages within does.1 is
-  edited t e (Err (Partial n why)) new messages within does is = standing t e n new messages within does.2 is
+  edited t e (Ok n) new messages within (none, all, stand) is = standing t e n new messages within (omega arith) stand is
+  edited t e (Err (Whole why)) new messages within (refused, stand) is = standing t e 0 new messages within (omega arith) stand is
+  edited t e (Err (Partial n why)) new messages within (some, refused, stand) is =
+      let count : count_standing t (plan t e) ≡ n = ap (λ (stop : Option (ℕ × Refusal)). option_map_or (λ stop. stop.0) stop (length (plan t e))) refused in
+      let few : n ≤ length (plan t e) = omega (arith, standing_within t (plan t e)) in
+      standing t e n new messages within few stand is
+
+  in_part : (e : Edit) (n : ℕ) (messages : List (List ℕ)) (t new : TextState) → EditsInPart e n messages t new → IsText t → IsText new
+  in_part e n messages t new (within, some, more, stand, shows) is =
+      let few : n ≤ length (plan t e) = omega (arith, standing_within t (plan t e)) in
+      standing t e n new messages within few stand is
 
   edits_text : (e : Edit) (r : Reply) (t new : TextState) → EditsText e r t new → IsText t → IsText new
   edits_text e r t new does is =
@@ -132,10 +155,22 @@ module _ (plain : OwnInsertIsPlain) where
         | inr left ↦ subst IsText (sym left.1.1) is
       ]
 
+  copies_text : (t : TextState) (beg end pos : ℕ) (r : Reply) (u new : TextState) → CopiesText t beg end pos r u new → IsText u → IsText new
+  copies_text t beg end pos r u new does is =
+      elim (by_test (is_copy_in t u beg end pos) _ _ does) [
+        | inl positions ↦ elim (by_test (nat_lt MAX_FILE (end - beg)) _ _ positions.1) [
+          | inl long ↦ subst IsText (sym long.1.1) is
+          | inr short ↦ edits_text (copied t beg end pos) r u new short.1 is
+        ]
+        | inr left ↦ subst IsText (sym left.1.1) is
+      ]
+
   -- what a step does where memory is there leaves each text defined
   does_texts : (s : State) (e : Event) (r : Reply) (new : State) → Does s e r new → AreTexts s → AreTexts new
   does_texts s (edit i text e) r new does all =
       in_desk _ s new i (messages_of r) (λ d d'. in_text _ d d' text (edits_text e r)) does all
+  does_texts s (copy i text beg end other pos) r new (t, there, does) all =
+      in_desk _ s new i (messages_of r) (λ d d'. in_text _ d d' other (copies_text t beg end pos r)) does all
   does_texts s (taking i text told) r new does all = taken s i text (message_in s told) r new does all
   does_texts s (query i text q) r new does all = subst AreTexts (sym does.0) all
   does_texts s unknown r new does all = subst AreTexts (sym does.0) all
@@ -146,8 +181,10 @@ module _ (plain : OwnInsertIsPlain) where
   short_texts s e (takes took) new short all = absurd short
   short_texts s e (prints lines) new short all = absurd short
   short_texts s e (refuses why) new short all = subst AreTexts (sym short.2) all
-  short_texts s (edit i text e) (stops messages n why) new short all =
-      in_desk _ s new i messages (λ d d'. in_text _ d d' text (λ t t' stands. standing t e n t' messages stands.0 stands.3)) short.1 all
+  short_texts s (edit i text e) (stops messages n why) new (is, part) all =
+      in_desk _ s new i messages (λ d d'. in_text _ d d' text (in_part e n messages)) part all
+  short_texts s (copy i text beg end other pos) (stops messages n why) new (is, (t, there, in_range, part)) all =
+      in_desk _ s new i messages (λ d d'. in_text _ d d' other (in_part (copied t beg end pos) n messages)) part all
   short_texts s (taking i text told) (stops messages n why) new short all = absurd short.1
   short_texts s (query i text q) (stops messages n why) new short all = absurd short.1
   short_texts s unknown (stops messages n why) new short all = absurd short.1

@@ -1,16 +1,18 @@
 -- The machine of events: what the run's sites may reply to an event, and the state after it.
 use Rattle.std.specs.Prelude.{◌≡◌, ◌≢◌, ℕ, ◌-◌, ◌<◌, ◌⊎◌, List, [], ◌∷◌, ◌++◌, map, Result, Ok, Err, IfOk}
 use Rattle.std.specs.Prelude.{Option, Some, None, MatchOption, MatchBool, IsTrue, ◌==◌, if◌then◌else◌, length}
-use Rattle.std.specs.Prelude.{slice_get, slice_set}
+use Rattle.std.specs.Prelude.{◌≤◌, ◌&&◌, Bool, nat_lt, slice_get, slice_range, slice_set}
 use Rattle.std.specs.List.{range_with_len}
 use Rattle.looks.specs.declared.refusal.Refusal.{Refusal}
-use Rattle.looks.specs.declared.refusal.Refusal.TheVariants.{BadEvent, OutOfMemory, OutOfRange}
+use Rattle.looks.specs.declared.refusal.Refusal.TheVariants.{BadEvent, FileSpent, OutOfMemory, OutOfRange}
 use Rattle.char_files.specs.Stretch.{Stretch}
+use Rattle.char_files.specs.declared.TheConstants.{MAX_FILE}
 use Rattle.operations.specs.Reading.{SpellsNone}
 use Rattle.set_laws.specs.Fronts.{AreSites}
-use Rattle.texts.specs.Edit.{Edit, Edits, Shows, Stand, is_in_text, plan, count_standing}
+use Rattle.texts.specs.Edit.{Edit, first_part, insertion, is_in_text, is_range_in, plan, shown_after}
+use Rattle.texts.specs.Outcome.{Edits, Shows, Stand, count_standing}
 use Rattle.texts.specs.Take.{Takes}
-use Rattle.texts.specs.TextState.{TextState, shown_items}
+use Rattle.texts.specs.TextState.{TextState, shown_items, shown_of}
 use Rattle.texts.specs.declared.edit_refusal.EditRefusal.{EditRefusal}
 use Rattle.texts.specs.declared.edit_refusal.EditRefusal.TheVariants.{Whole, Partial}
 use Rattle.texts.specs.declared.took.Took.{Took}
@@ -36,10 +38,12 @@ pub data Delivery : Type 0 where
   bytes : (message : List ℕ) → Delivery
 
 -- What may happen, by classes. A desk is told by its index among the run's. An edit is a site's own, of one
--- of its texts; a taking hands a message to one of its texts; a query prints a part of the state; what else a
--- line asks is nothing that there is.
+-- of its texts; a copy puts what is shown from beg to end of one of its texts into another one, or the same; a
+-- taking hands a message to one of its texts; a query prints a part of the state; what else a line asks is
+-- nothing that there is.
 pub data Event : Type 0 where
   edit : (desk text : ℕ) (e : Edit) → Event
+  copy : (desk text beg end other pos : ℕ) → Event
   take : (desk text : ℕ) (d : Delivery) → Event
   query : (desk text : ℕ) (q : Query) → Event
   unknown : Event
@@ -98,6 +102,27 @@ EditsText e r t new =
     × Shows t e result new × (r ≡ edit_reply result messages))
     ((r ≡ refuses OutOfRange) × (new ≡ t))
 
+-- what a copy puts in, behind the first pos characters shown: what t shows from beg to end
+abbrev pub copied : TextState → (beg end pos : ℕ) → Edit
+copied t beg end pos = insertion pos (slice_range (shown_items t) beg end)
+
+-- whether the positions of a copy lie in the two texts
+abbrev pub is_copy_in : TextState → TextState → (beg end pos : ℕ) → Bool
+is_copy_in t u beg end pos = is_range_in t beg end && is_in_text u (copied t beg end pos)
+
+-- what t shows from beg to end can be copied: it lies in the text, and is no longer than a stretch may be
+abbrev pub CanBeCopied : TextState → (beg end : ℕ) → Type 0
+CanBeCopied t beg end = IsTrue (is_range_in t beg end) × (end - beg ≤ MAX_FILE)
+
+-- A copy out of t, where memory is there: refused for its positions, or where it is longer than a stretch may be;
+-- else an edit of the other text.
+abbrev pub CopiesText : TextState → (beg end pos : ℕ) → Reply → TextState → TextState → Type 0
+CopiesText t beg end pos r u new =
+    MatchBool (is_copy_in t u beg end pos)
+    (MatchBool (nat_lt MAX_FILE (end - beg)) ((r ≡ refuses FileSpent) × (new ≡ u))
+    (EditsText (copied t beg end pos) r u new))
+    ((r ≡ refuses OutOfRange) × (new ≡ u))
+
 -- the message that is told; none where that number wasn't sent yet
 abbrev pub message_in : State → Delivery → Option (List ℕ)
 message_in s (sent k) = if k == 0 then None else slice_get s.sent (k - 1)
@@ -119,6 +144,9 @@ Prints print_runs t lines =
 -- What an event does where memory is there: its reply, and the state after it.
 abbrev pub Does : State → Event → Reply → State → Type 0
 Does s (edit i text e) r new = InDesk (λ d d'. InText (EditsText e r) d text d') s i (messages_of r) new
+Does s (copy i text beg end other pos) r new =
+    (t : TextState) × IsTextAt s i text t
+    × InDesk (λ d d'. InText (CopiesText t beg end pos r) d other d') s i (messages_of r) new
 Does s (take i text d) r new =
     MatchOption (message_in s d) ((new ≡ s) × (r ≡ refuses BadEvent))
     (λ message. InDesk (λ d d'. InText (TakesText message r) d text d') s i [] new)
@@ -127,22 +155,33 @@ Does s (query i text q) r new =
     × ((t : TextState) × (lines : List ℕ) × IsTextAt s i text t × Prints q t lines × (r ≡ prints lines))
 Does s unknown r new = (new ≡ s) × (r ≡ refuses BadEvent)
 
--- whether an event asks for memory: an edit that makes an operation does, a message that spells one, and a
--- query
+-- whether an event asks for memory: an edit that makes an operation does, a copy of something that isn't too long,
+-- a message that spells an operation, and a query
 abbrev pub AsksForMemory : State → Event → Type 0
 AsksForMemory s (edit i text e) =
     (t : TextState) × IsTextAt s i text t × IsTrue (is_in_text t e) × (plan t e ≢ [])
+AsksForMemory s (copy i text beg end other pos) =
+    (t u : TextState) × IsTextAt s i text t × IsTextAt s i other u × IsTrue (is_copy_in t u beg end pos)
+    × (beg < end) × (end - beg ≤ MAX_FILE)
 AsksForMemory s (take i text d) =
     (message : List ℕ) × (message_in s d ≡ Some message) × (¬ SpellsNone message)
 AsksForMemory s (query i text q) = Unit {0}
 AsksForMemory s unknown = ⊥
 
--- the first done operations of an event stand, one at least and not all that would stand, and these messages
--- tell them
+-- the first done operations of an edit stand, one at least and not all that would stand, and these messages tell
+-- them
+abbrev pub EditsInPart : Edit → ℕ → List (List ℕ) → TextState → TextState → Type 0
+EditsInPart e done messages t new =
+    IsTrue (is_in_text t e) × (0 < done) × (done < count_standing t (plan t e))
+    × Stand t (plan t e) done new messages × (shown_of new ≡ shown_after t (first_part t done e))
+
+-- so it is with an event
 abbrev pub StandsInPart : State → Event → ℕ → List (List ℕ) → State → Type 0
 StandsInPart s (edit i text e) done messages new =
-    InDesk (λ d d'. InText (λ t t'. IsTrue (is_in_text t e) × (0 < done) × (done < count_standing t (plan t e))
-    × Stand t (plan t e) done t' messages) d text d') s i messages new
+    InDesk (λ d d'. InText (EditsInPart e done messages) d text d') s i messages new
+StandsInPart s (copy i text beg end other pos) done messages new =
+    (t : TextState) × IsTextAt s i text t × CanBeCopied t beg end
+    × InDesk (λ d d'. InText (EditsInPart (copied t beg end pos) done messages) d other d') s i messages new
 StandsInPart s (take i text d) done messages new = ⊥
 StandsInPart s (query i text q) done messages new = ⊥
 StandsInPart s unknown done messages new = ⊥
@@ -164,13 +203,13 @@ Replies s e r new = Does s e r new ⊎ Short s e r new
 abbrev pub alone : DeskState → List (List ℕ) → State
 alone d messages = record { first = d.site; desks = d ∷ []; sent = messages }
 
--- One call of a desk is one step of the machine: this edit of one of its texts answered so, with the count of
--- its messages where all was done, and they were put behind those before.
-abbrev pub EditsDesk : DeskState → ℕ → Edit → Result ℕ EditRefusal → DeskState
+-- One call of a desk is one step of the machine: this event, an edit of one of its texts or a copy, is answered
+-- so, with the count of its messages where all was done, and they were put behind those before.
+abbrev pub EditsDesk : DeskState → Event → Result ℕ EditRefusal → DeskState
     → (before after : List (List ℕ)) → Type 0
-EditsDesk d text e result new before after =
+EditsDesk d e result new before after =
     (messages : List (List ℕ)) × IfOk result (λ count. count ≡ length messages)
-    × Replies (alone d before) (edit 0 text e) (edit_reply result messages) (alone new after)
+    × Replies (alone d before) e (edit_reply result messages) (alone new after)
 
 -- the same of a message for one of its texts, whatever was sent before
 abbrev pub TakesDesk : DeskState → ℕ → List ℕ → Result Took Refusal → DeskState → Type 0

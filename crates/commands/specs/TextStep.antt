@@ -1,26 +1,58 @@
 -- What a desk's private calls do to one of its texts.
-use Rattle.std.specs.Prelude.{◌≡◌, ◌≢◌, ℕ, ◌<◌, ◌⊎◌, List, [], ◌++◌, length, Result, IfOk, IsTrue}
+use Rattle.std.specs.Prelude.{◌≡◌, ◌≢◌, ℕ, ◌-◌, ◌<◌, ◌≤◌, ◌⊎◌, List, [], ◌++◌, length, slice_range}
+use Rattle.std.specs.Prelude.{Result, Ok, Err, IfOk, IsTrue}
+use Rattle.looks.specs.declared.refusal.Refusal.{Refusal}
 use Rattle.looks.specs.declared.refusal.Refusal.TheVariants.{OutOfMemory}
-use Rattle.texts.specs.Edit.{Edit, Stand, is_in_text, plan, count_standing}
-use Rattle.texts.specs.TextState.{TextState}
+use Rattle.char_files.specs.Stretch.{Item}
+use Rattle.char_files.specs.declared.TheConstants.{MAX_FILE}
+use Rattle.texts.specs.Edit.{Edit, is_in_text, plan}
+use Rattle.texts.specs.TextState.{TextState, shown_items}
 use Rattle.texts.specs.declared.edit_refusal.EditRefusal.{EditRefusal}
-use Rattle.commands.specs.Machine.{EditsText, Reply, edit_reply, messages_of, prints, refuses, sends, stops, takes}
+use Rattle.commands.specs.Machine.{CanBeCopied, CopiesText, EditsInPart, EditsText, Reply, copied, edit_reply}
+use Rattle.commands.specs.Machine.{is_copy_in, messages_of, prints, refuses, sends, stops, takes}
 
 -- an edit of a text where memory was refused
 abbrev pub EditsTextShort : Edit → Reply → TextState → TextState → Type 0
 EditsTextShort e (refuses why) t new =
     (why ≡ OutOfMemory) × IsTrue (is_in_text t e) × (plan t e ≢ []) × (new ≡ t)
 EditsTextShort e (stops messages done why) t new =
-    (why ≡ OutOfMemory) × IsTrue (is_in_text t e) × (0 < done) × (done < count_standing t (plan t e))
-    × Stand t (plan t e) done new messages
+    (why ≡ OutOfMemory) × EditsInPart e done messages t new
 EditsTextShort e (sends messages) t new = ⊥
 EditsTextShort e (takes took) t new = ⊥
 EditsTextShort e (prints lines) t new = ⊥
 
--- an edit of a text answered so, and its messages were put behind those that were sent
-abbrev pub EditsTextSending : TextState → Edit → Result ℕ EditRefusal → TextState
-    → (sent sent' : List (List ℕ)) → Type 0
-EditsTextSending t e result new sent sent' =
+-- a text is changed and answers so, and its messages were put behind those that were sent
+abbrev pub Sending : (Reply → TextState → TextState → Type 0) → (Reply → TextState → TextState → Type 0)
+    → TextState → Result ℕ EditRefusal → TextState → (sent sent' : List (List ℕ)) → Type 0
+Sending Does Short t result new sent sent' =
     (messages : List (List ℕ)) × IfOk result (λ count. count ≡ length messages)
     × (sent' ≡ sent ++ messages_of (edit_reply result messages))
-    × (EditsText e (edit_reply result messages) t new ⊎ EditsTextShort e (edit_reply result messages) t new)
+    × (Does (edit_reply result messages) t new ⊎ Short (edit_reply result messages) t new)
+
+-- so it is with an edit
+abbrev pub EditsTextSending : TextState → Edit → Result ℕ EditRefusal → TextState
+    → (sent sent' : List (List ℕ)) → Type 0
+EditsTextSending t e = Sending (EditsText e) (EditsTextShort e) t
+
+-- a copy out of t where memory was refused
+abbrev pub CopiesTextShort : TextState → (beg end pos : ℕ) → Reply → TextState → TextState → Type 0
+CopiesTextShort t beg end pos (refuses why) u new =
+    (why ≡ OutOfMemory) × IsTrue (is_copy_in t u beg end pos) × (beg < end) × (end - beg ≤ MAX_FILE) × (new ≡ u)
+CopiesTextShort t beg end pos (stops messages done why) u new =
+    (why ≡ OutOfMemory) × CanBeCopied t beg end × EditsInPart (copied t beg end pos) done messages u new
+CopiesTextShort t beg end pos (sends messages) u new = ⊥
+CopiesTextShort t beg end pos (takes took) u new = ⊥
+CopiesTextShort t beg end pos (prints lines) u new = ⊥
+
+-- so it is with a copy out of t
+abbrev pub CopiesTextSending : TextState → (beg end pos : ℕ) → TextState → Result ℕ EditRefusal → TextState
+    → (sent sent' : List (List ℕ)) → Type 0
+CopiesTextSending t beg end pos = Sending (CopiesText t beg end pos) (CopiesTextShort t beg end pos)
+
+-- What a copy out of t is to put into u; or why it puts nothing in.
+abbrev pub CopiesOut : TextState → (beg end pos : ℕ) → TextState → Result (List Item) Refusal → Type 0
+CopiesOut t beg end pos u (Ok items) =
+    IsTrue (is_copy_in t u beg end pos) × (end - beg ≤ MAX_FILE)
+    × (items ≡ slice_range (shown_items t) beg end)
+CopiesOut t beg end pos u (Err why) =
+    CopiesText t beg end pos (refuses why) u u ⊎ CopiesTextShort t beg end pos (refuses why) u u

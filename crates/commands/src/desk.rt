@@ -1,18 +1,18 @@
 ghost use Rattle.std.specs.Prelude.{◌≡◌, ◌≤◌, map, length, IfOk};
 ghost use Rattle.looks.specs.Looks.{plain_looks};
 ghost use Rattle.looks.specs.Refusal.{RefusedForMemoryAlone};
-ghost use Rattle.texts.specs.Edit.{insert_run};
+ghost use Rattle.texts.specs.Edit.{deletion, insertion, looks_change, recalling, restoration};
 ghost use Rattle.commands.specs.DeskState.{IsTextOf, new_desk};
+ghost use Rattle.commands.specs.Machine.{copy, edit};
 ghost use Rattle.commands.specs.Machine.{EditsDesk, QueriesDesk, TakesDesk, print_fronts, print_runs};
 ghost use Rattle.commands.specs.Machine.{print_text};
-ghost use Rattle.commands.specs.TextStep.{EditsTextSending};
 
 use crate::MAX_TEXT;
+use crate::editing::{change_looks_in, copy_out_of, cut_out_of, recall_into, type_into};
 use crate::printing::{front_lines, text_lines};
 use crate::runs::run_lines;
-use char_files::{Buffer, SiteNo, TextNo};
-use looks::{Looks, Refusal};
-use operations::MAX_INSERT;
+use char_files::{MAX_FILE, SiteNo, TextNo};
+use looks::{Looks, Refusal, Sel};
 use std::alloc::Global;
 use std::marker::Model;
 use texts::{EditRefusal, Outbox, Replica, Took};
@@ -36,19 +36,6 @@ impl Model for Desk {
     ghost invariant = { λ d. length d.texts.items ≡ MAX_TEXT };
 }
 
-// These bytes in default looks.
-fn plain_buffer(alloc: Global, bytes: &[u8]) -> Result<Buffer, Refusal>
-    requires { length bytes.now ≤ MAX_INSERT }
-    ensures ok { IfOk result (λ buffer. buffer ≡ map (λ b. (b, plain_looks)) bytes.now) }
-    ensures errors { RefusedForMemoryAlone result }
-{
-    let mut buffer = Buffer::new(alloc);
-    for byte in bytes {
-        buffer.push(*byte, Looks::plain())?;
-    }
-    Ok(buffer)
-}
-
 impl Desk {
     /// A site's desk as it begins. Refused `OutOfMemory` alone.
     pub fn new(alloc: Global, site: SiteNo) -> Result<Desk, Refusal>
@@ -63,11 +50,11 @@ impl Desk {
         Ok(Desk { site, texts })
     }
 
-    /// Types bytes of default looks, 4,096 at most, at a position of a text.
+    /// Types bytes of default looks at a position of a text.
     ///
-    /// Answers how many messages it added to the Outbox. Refused `OutOfRange` behind the text's end, else as
-    /// the replica refuses the insertion; typing nothing is refused for its position alone. Want of memory
-    /// may come ahead of the replica's other refusals.
+    /// This and the other edits answer how many messages they added to the Outbox. They are refused
+    /// `OutOfRange` where a position lies outside the text, else as the replica refuses them; an empty edit is
+    /// refused for its positions alone. Want of memory may come ahead of the replica's other refusals.
     pub fn type_in(
         &mut self,
         text: TextNo,
@@ -76,13 +63,89 @@ impl Desk {
         outbox: &mut Outbox,
     ) -> Result<u32, EditRefusal>
         requires on_desk { text ≤ MAX_TEXT }
-        requires short { length bytes.now ≤ MAX_INSERT }
-        ensures { EditsDesk self.old text (insert_run pos plain_looks bytes.now) result
-            self.new outbox.old outbox.new }
+        requires short { length bytes.now ≤ MAX_FILE }
+        ensures { EditsDesk self.old (edit 0 text (insertion pos (map (λ b. (b, plain_looks)) bytes.now)))
+            result self.new outbox.old outbox.new }
     {
         let alloc = *self.texts.allocator();
         let replica = &mut self.texts[text.get() as usize - 1];
         type_into(alloc, replica, pos, bytes, outbox)
+    }
+
+    /// Takes the characters from `beg` to `end` out of a text; they are kept for `recall` and `restore`.
+    pub fn cut(
+        &mut self,
+        text: TextNo,
+        beg: u64,
+        end: u64,
+        outbox: &mut Outbox,
+    ) -> Result<u32, EditRefusal>
+        requires on_desk { text ≤ MAX_TEXT }
+        ensures { EditsDesk self.old (edit 0 text (deletion beg end)) result self.new outbox.old outbox.new }
+    {
+        let replica = &mut self.texts[text.get() as usize - 1];
+        cut_out_of(replica, beg, end, outbox)
+    }
+
+    /// Gives the characters from `beg` to `end` of a text the looks that are selected.
+    pub fn change_looks(
+        &mut self,
+        text: TextNo,
+        beg: u64,
+        end: u64,
+        sel: Sel,
+        looks: &Looks,
+        outbox: &mut Outbox,
+    ) -> Result<u32, EditRefusal>
+        requires on_desk { text ≤ MAX_TEXT }
+        ensures { EditsDesk self.old (edit 0 text (looks_change beg end sel looks.now)) result
+            self.new outbox.old outbox.new }
+    {
+        let replica = &mut self.texts[text.get() as usize - 1];
+        change_looks_in(replica, beg, end, sel, looks, outbox)
+    }
+
+    /// Puts a copy of what was cut last out of a text into it, at a position.
+    pub fn recall(
+        &mut self,
+        text: TextNo,
+        pos: u64,
+        outbox: &mut Outbox,
+    ) -> Result<u32, EditRefusal>
+        requires on_desk { text ≤ MAX_TEXT }
+        ensures { EditsDesk self.old (edit 0 text (recalling pos)) result self.new outbox.old outbox.new }
+    {
+        let replica = &mut self.texts[text.get() as usize - 1];
+        recall_into(replica, pos, outbox)
+    }
+
+    /// Shows again what was cut last out of a text.
+    pub fn restore(&mut self, text: TextNo, outbox: &mut Outbox) -> Result<u32, EditRefusal>
+        requires on_desk { text ≤ MAX_TEXT }
+        ensures { EditsDesk self.old (edit 0 text restoration) result self.new outbox.old outbox.new }
+    {
+        self.texts[text.get() as usize - 1].restore(outbox)
+    }
+
+    /// Puts a copy of the characters from `beg` to `end` of a text into another one, or into itself, at a
+    /// position. Refused `FileSpent`, behind `OutOfRange`, where there are more than 2^24.
+    pub fn save(
+        &mut self,
+        text: TextNo,
+        beg: u64,
+        end: u64,
+        other: TextNo,
+        pos: u64,
+        outbox: &mut Outbox,
+    ) -> Result<u32, EditRefusal>
+        requires on_desk { text ≤ MAX_TEXT }
+        requires other_on_desk { other ≤ MAX_TEXT }
+        ensures { EditsDesk self.old (copy 0 text beg end other pos) result self.new outbox.old outbox.new }
+    {
+        match copy_out_of(self.replica(text), beg, end, self.replica(other), pos) {
+            Ok(buffer) => self.texts[other.get() as usize - 1].insert(pos, &buffer, outbox),
+            Err(why) => Err(EditRefusal::Whole(why)),
+        }
     }
 
     /// Takes a message for a text, as its replica does.
@@ -128,29 +191,5 @@ impl Desk {
         ensures { IsTextOf self.now text result.now }
     {
         &self.texts[text.get() as usize - 1]
-    }
-}
-
-// What `type_in` does to the text's replica.
-fn type_into(
-    alloc: Global,
-    replica: &mut Replica,
-    pos: u64,
-    bytes: &[u8],
-    outbox: &mut Outbox,
-) -> Result<u32, EditRefusal>
-    requires { length bytes.now ≤ MAX_INSERT }
-    ensures { EditsTextSending replica.old (insert_run pos plain_looks bytes.now) result replica.new
-        outbox.old outbox.new }
-{
-    if replica.shown_len() < pos {
-        return Err(EditRefusal::Whole(Refusal::OutOfRange));
-    }
-    if bytes.is_empty() {
-        return Ok(0);
-    }
-    match plain_buffer(alloc, bytes) {
-        Ok(buffer) => replica.insert(pos, &buffer, outbox),
-        Err(why) => Err(EditRefusal::Whole(why)),
     }
 }

@@ -4,7 +4,7 @@ ghost use Rattle.commands.specs.Laws.{WhatIsReachedIsDefined, OperationsTellWhat
 ghost use Rattle.commands.specs.Laws.{FrontsTellWhatIsPrinted};
 
 use set_laws::closures::nothing_is_good;
-use texts::laws::{an_own_insert_is_plain, the_fronts_tell_the_text, the_operations_tell_the_text};
+use texts::laws::{own_edits_are_plain, the_fronts_tell_the_text, the_operations_tell_the_text};
 use tree_order::laws::sequential::one_writer_goes_behind_causes;
 
 /// A law: in each state that a run can come to, each text of each desk is what its operations define.
@@ -13,7 +13,7 @@ pub fn what_is_reached_is_defined()
 {
     nothing_is_good();
     one_writer_goes_behind_causes();
-    an_own_insert_is_plain();
+    own_edits_are_plain();
 }
 
 /// A law: two texts, of one run or of two, that have taken in the same operations print the same line.

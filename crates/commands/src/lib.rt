@@ -2,6 +2,7 @@
 #![tactic(auto)]
 
 mod desk;
+mod editing;
 pub mod laws;
 mod printing;
 mod runs;

@@ -1,3 +1,4 @@
 pub mod HexPairs
+pub mod LooksValues
 pub mod Spelling
 pub mod Words

@@ -80,6 +80,13 @@ pub bytes_in-some : {len : ℕ} (o : Option (List ℕ)) → option_map length o 
 bytes_in-some None e = absurd cc
 bytes_in-some (Some bytes) e = refl
 
+pub IsCounted-few : {raw rest : List ℕ} {len : ℕ} → IsCounted raw rest len → len ≤ length raw
+IsCounted-few i = omega (arith, i.within)
+
+pub bytes_in-short : {len most : ℕ} (o : Option (List ℕ)) → option_map length o ≡ Some len → len ≤ most → length (unwrap_or o []) ≤ most
+bytes_in-short None e le = absurd cc
+bytes_in-short {len} {most} (Some bytes) e le = omega (arith, same_Some (length bytes) len e)
+
 -- what is left to decode spells what is still to come behind those in front
 pub record IsDecoded (whole front : List ℕ) (spelled : Option (List ℕ)) : Type 0 where
   pub same : option_map (λ bytes. front ++ bytes) spelled ≡ Some whole

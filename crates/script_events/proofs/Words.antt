@@ -11,7 +11,7 @@ use Rattle.std.proofs.lemmas.Option.{same_Some}
 use Rattle.std.proofs.lemmas.List.{take_all, length-drop, get_or_past}
 use Rattle.std.proofs.lemmas.Str.{IsUtf8-from_ascii}
 use Rattle.std.proofs.lemmas.Str.Parse.{IsNumeralModel, numerals_by_value, tells_all_ascii_digits, digit_at, parse_digits}
-use Rattle.script_events.specs.Script.{some_if, cut_word, number_in}
+use Rattle.script_events.specs.Words.{some_if, cut_word, number_in}
 
 pub cut_word-none : (bytes : List ℕ) → position (λ b. b == 32) bytes ≡ None → cut_word bytes ≡ None
 cut_word-none bytes e = ap (option_map (λ (i : ℕ). (take i bytes, drop (i + 1) bytes))) e

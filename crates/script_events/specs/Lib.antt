@@ -1,2 +1,4 @@
+pub mod Words
+pub mod LooksWords
 pub mod Script
 pub mod EventView

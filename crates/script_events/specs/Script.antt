@@ -1,45 +1,14 @@
 -- How events are spelled in a script: words with one blank between them.
-use Rattle.std.specs.Prelude.{ℕ, ◌+◌, ◌-◌, ◌*◌, ◌^◌, List, [], ◌∷◌, length, take, drop, Bool, ◌&&◌, ◌==◌}
-use Rattle.std.specs.Prelude.{nat_eq, nat_le, nat_lt, if◌then◌else◌, Option, Some, None, option_and_then}
-use Rattle.std.specs.Prelude.{option_map, unwrap_or, position, codes}
-use Rattle.std.specs.Option.{option_or}
-use Rattle.std.specs.Cmp.Lexicographic.{pointwise}
-use Rattle.std.specs.Str.{all_ascii_digits}
-use Rattle.std.specs.Str.Parse.{digits_value}
+use Rattle.std.specs.Prelude.{ℕ, ◌+◌, ◌*◌, List, [], ◌∷◌, length, map, ◌==◌, if◌then◌else◌}
+use Rattle.std.specs.Prelude.{Option, Some, None, option_map, unwrap_or, codes}
+use Rattle.std.specs.Option.{option_map_or}
 use Rattle.hex.specs.Hex.{hex_digit_value}
 use Rattle.looks.specs.Looks.{plain_looks}
-use Rattle.operations.specs.declared.kind.TheConstants.{MAX_INSERT}
-use Rattle.texts.specs.Edit.{Edit, insert_run}
-use Rattle.commands.specs.Machine.{Delivery, Event, Query, edit, query, unknown, print_text, print_fronts, print_runs}
-use Rattle.commands.specs.Machine.{take as taking, sent as by_number, bytes as by_bytes}
-use Rattle.commands.specs.declared.TheConstants.{MAX_TEXT}
-
-infixl 10 ◌>>=◌
-abbrev pub ◌>>=◌ : {A B : Type 0} → Option A → (A → Option B) → Option B
-o >>= f = option_and_then f o
-
--- v where the test holds
-abbrev pub some_if : {A : Type 0} → Bool → A → Option A
-some_if test v = if test then Some v else None
-
--- the word up to the first blank, and what stands behind that blank
-abbrev pub cut_word : List ℕ → Option (List ℕ × List ℕ)
-cut_word bytes = option_map (λ i. (take i bytes, drop (i + 1) bytes)) (position (λ b. b == 32) bytes)
-
--- a number: 1 to 10 decimal digits, with a value to 2^32 - 1
-abbrev pub number_in : List ℕ → Option ℕ
-number_in word =
-    some_if (nat_le 1 (length word) && nat_le (length word) 10 && all_ascii_digits word
-    && nat_lt (digits_value 10 word) (2 ^ 32)) (digits_value 10 word)
-
--- the index among the run's sites of the site with this number
-abbrev pub desk_in : (first count : ℕ) → List ℕ → Option ℕ
-desk_in first count word =
-    number_in word >>= λ site. some_if (nat_le first site && nat_lt site (first + count)) (site - first)
-
--- the number of a text of a desk
-abbrev pub text_in : List ℕ → Option ℕ
-text_in word = number_in word >>= λ text. some_if (nat_le 1 text && nat_le text MAX_TEXT) text
+use Rattle.texts.specs.Edit.{Edit, insertion, deletion, looks_change, recalling, restoration}
+use Rattle.commands.specs.Machine.{Delivery, Event, Query, copy, edit, query, unknown, print_text, print_fronts}
+use Rattle.commands.specs.Machine.{print_runs, take as taking, sent as by_number, bytes as by_bytes}
+use Rattle.script_events.specs.Words.{◌>>=◌, is_word, cut_word, number_in, cut_number, desk_in, text_in}
+use Rattle.script_events.specs.LooksWords.{change_in}
 
 -- the byte of two hex digits
 abbrev pub byte_of_digits : ℕ → ℕ → Option ℕ
@@ -81,25 +50,53 @@ delivery_in (b ∷ word) =
     if b == 109 then option_map (λ k. by_number k) (number_in word)
     else option_map (λ message. by_bytes message) (hex_in (b ∷ word))
 
--- bytes to type: as many as one Insert has, at most
-abbrev pub typed_in : List ℕ → Option (List ℕ)
-typed_in raw = bytes_in raw >>= λ bytes. some_if (nat_le (length bytes) MAX_INSERT) bytes
+-- to put bytes of default looks in
+abbrev pub typing : (pos : ℕ) → List ℕ → Edit
+typing pos bytes = insertion pos (map (λ b. (b, plain_looks)) bytes)
 
--- what `type` goes on with behind its text: a position and the bytes, which have the default looks
+-- what `type` goes on with behind its text: a position and the bytes
 abbrev pub type_edit : List ℕ → Option Edit
 type_edit rest = do
-  cut ← cut_word rest
-  pos ← number_in cut.0
-  bytes ← typed_in cut.1
-  Some (insert_run pos plain_looks bytes)
+  pos ← cut_number rest
+  bytes ← bytes_in pos.1
+  Some (typing pos.0 bytes)
 
--- whether a word is this one
-abbrev pub is_word : List ℕ → List ℕ → Bool
-is_word word other = pointwise nat_eq word other
+-- `cut`: from where to where
+abbrev pub cut_edit : List ℕ → Option Edit
+cut_edit rest = do
+  beg ← cut_number rest
+  end ← number_in beg.1
+  Some (deletion beg.0 end)
+
+-- `looks`: from where to where, and the attributes
+abbrev pub looks_edit : List ℕ → Option Edit
+looks_edit rest = do
+  beg ← cut_number rest
+  end ← cut_number beg.1
+  change ← change_in end.1
+  Some (looks_change beg.0 end.0 change.0 change.1)
+
+-- `recall`: a position
+abbrev pub recall_edit : List ℕ → Option Edit
+recall_edit rest = option_map (λ pos. recalling pos) (number_in rest)
 
 -- the edit that a verb asks for with what stands behind the text: a row for each verb
 abbrev pub edit_in : List ℕ → List ℕ → Option Edit
-edit_in verb rest = if is_word verb (codes "type") then type_edit rest else None
+edit_in verb rest =
+    if is_word verb (codes "type") then type_edit rest
+    else (if is_word verb (codes "cut") then cut_edit rest
+    else (if is_word verb (codes "looks") then looks_edit rest
+    else (if is_word verb (codes "recall") then recall_edit rest else None)))
+
+-- what `save` goes on with behind its text: from where to where, the other text, and a position in that
+abbrev pub save_event : (desk text : ℕ) → List ℕ → Option Event
+save_event desk text rest = do
+  beg ← cut_number rest
+  end ← cut_number beg.1
+  cut ← cut_word end.1
+  other ← text_in cut.0
+  pos ← number_in cut.1
+  Some (copy desk text beg.0 end.0 other pos)
 
 -- what a verb prints of a text: a row for each verb
 abbrev pub query_in : List ℕ → Option Query
@@ -108,37 +105,24 @@ query_in verb =
     else (if is_word verb (codes "front") then Some print_fronts
     else (if is_word verb (codes "runs") then Some print_runs else None))
 
--- an edit's line goes on with its text, and then with what the verb asks
-abbrev pub edit_event : List ℕ → ℕ → List ℕ → Option Event
-edit_event verb desk rest = do
-  cut ← cut_word rest
-  text ← text_in cut.0
-  e ← edit_in verb cut.1
-  Some (edit desk text e)
+-- what a verb asks of a text that ends the line: to restore, or a query
+abbrev pub short_event : List ℕ → (desk text : ℕ) → Option Event
+short_event verb desk text =
+    if is_word verb (codes "restore") then Some (edit desk text restoration)
+    else option_map (λ q. query desk text q) (query_in verb)
 
--- the text that is to take a message, and then the message
-abbrev pub taking_in : ℕ → List ℕ → Option Event
-taking_in desk rest = do
-  cut ← cut_word rest
-  text ← text_in cut.0
-  message ← delivery_in cut.1
-  Some (taking desk text message)
+-- what a verb asks of a text with what stands behind it: to take a message, to save, or another edit
+abbrev pub long_event : List ℕ → (desk text : ℕ) → List ℕ → Option Event
+long_event verb desk text rest =
+    if is_word verb (codes "take") then option_map (λ message. taking desk text message) (delivery_in rest)
+    else (if is_word verb (codes "save") then save_event desk text rest
+    else option_map (λ e. edit desk text e) (edit_in verb rest))
 
--- the line of `take` goes on with its text and the message
-abbrev pub take_event : List ℕ → ℕ → List ℕ → Option Event
-take_event verb desk rest = if is_word verb (codes "take") then taking_in desk rest else None
-
--- a query's line goes on with its text
-abbrev pub query_event : List ℕ → ℕ → List ℕ → Option Event
-query_event verb desk rest = do
-  q ← query_in verb
-  text ← text_in rest
-  Some (query desk text q)
-
--- what a verb goes on with: that of an edit, of a taking or of a query
+-- what a verb goes on with: a text, which ends the line or has a blank and more behind it
 abbrev pub verb_event : List ℕ → ℕ → List ℕ → Option Event
 verb_event verb desk rest =
-    option_or (option_or (edit_event verb desk rest) (take_event verb desk rest)) (query_event verb desk rest)
+    option_map_or (λ cut. text_in cut.0 >>= λ text. long_event verb desk text cut.1) (cut_word rest)
+    (text_in rest >>= λ text. short_event verb desk text)
 
 -- the event that a line spells, if it spells one: a site, a verb, and what the verb goes on with
 unfoldable pub spelled_event : (first count : ℕ) → List ℕ → Option Event

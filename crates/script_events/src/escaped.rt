@@ -30,7 +30,8 @@ impl<'a> Model for Escaped<'a> {
 impl<'a> Escaped<'a> {
     /// The bytes that `raw` spells, or `None` where a backslash stands without its two digits.
     pub fn new(raw: &'a [u8]) -> Option<Escaped<'a>>
-        ensures { result ≡ bytes_in raw.now }
+        ensures bytes { result ≡ bytes_in raw.now }
+        ensures shorter { IfSome result (λ bytes. length bytes ≤ length raw.now) }
     {
         let mut len = 0;
         let mut rest = raw;

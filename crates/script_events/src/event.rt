@@ -1,16 +1,20 @@
 ghost use Rattle.std.specs.Prelude.{◌≡◌, ℕ, ◌<◌, ◌≤◌, length, option_map, IfSome};
-ghost use Rattle.std.specs.Str.{all_ascii_digits};
-ghost use Rattle.script_events.specs.EventView.{delivery_of, edit_of, event_of, query_of, event_or_unknown};
-ghost use Rattle.script_events.specs.EventView.{IsInRun, IsOfLine, IsShort, IsWithin};
-ghost use Rattle.script_events.specs.Script.{cut_word, number_in, desk_in, text_in, typed_in, type_edit};
-ghost use Rattle.script_events.specs.Script.{delivery_in, edit_in, query_in, edit_event, take_event};
-ghost use Rattle.script_events.specs.Script.{query_event, verb_event, event_in};
+ghost use Rattle.script_events.specs.EventView.{delivery_of, event_of, query_of, event_or_unknown};
+ghost use Rattle.script_events.specs.EventView.{IsInRun, IsOfLine, IsWithin};
+ghost use Rattle.script_events.specs.Script.{delivery_in, query_in, save_event, short_event, long_event};
+ghost use Rattle.script_events.specs.Script.{verb_event, event_in};
+
+mod edits;
+mod looks_words;
+mod words;
 
 use crate::escaped::Escaped;
+use crate::event::edits::edit_in;
+use crate::event::words::{cut_number, cut_word, desk_in, number_in, text_in};
 use crate::hex_bytes::Hex;
 use char_files::TextNo;
 use commands::MAX_TEXT;
-use operations::MAX_INSERT;
+use looks::{Looks, Sel};
 
 /// What a line of a script asks; it borrows its bytes from the line.
 ///
@@ -22,6 +26,12 @@ pub enum Event<'a> {
         desk: usize,
         text: TextNo,
         edit: Edit<'a>,
+    },
+    /// A copy of the characters from one position of a desk's text to another, put into a text of that desk.
+    Saves {
+        desk: usize,
+        text: TextNo,
+        save: Save,
     },
     /// A message handed to a desk's text.
     Takes {
@@ -41,7 +51,37 @@ pub enum Event<'a> {
 #[derive(Debug, Drop)]
 pub enum Edit<'a> {
     /// To type bytes of default looks at a position.
-    TypeIn { pos: u64, bytes: Escaped<'a> },
+    TypeIn {
+        pos: u64,
+        bytes: Escaped<'a>,
+    },
+    /// To take the characters from one position to another out.
+    Cut {
+        beg: u64,
+        end: u64,
+    },
+    /// To give the characters from one position to another the looks that are selected.
+    Looks {
+        beg: u64,
+        end: u64,
+        sel: Sel,
+        looks: Looks,
+    },
+    /// To put a copy of what was cut last in at a position.
+    Recall {
+        pos: u64,
+    },
+    /// To show again what was cut last.
+    Restore,
+}
+
+/// From where to where of a text is copied, into which other one, and to which position there.
+#[derive(Clone, Copy, Debug)]
+pub struct Save {
+    pub beg: u64,
+    pub end: u64,
+    pub other: TextNo,
+    pub pos: u64,
 }
 
 /// How a message is told that is to be taken.
@@ -64,87 +104,14 @@ pub enum Query {
     Runs,
 }
 
-// The word up to the first blank, and what stands behind that blank.
-fn cut_word(bytes: &[u8]) -> Option<(&[u8], &[u8])>
-    ensures word { option_map (λ cut. (cut.0.now, cut.1.now)) result ≡ cut_word bytes.now }
-    ensures shorter { IfSome result (λ cut. length cut.1.now ≤ length bytes.now) }
+// How a message is told.
+fn delivery_in(word: &[u8]) -> Option<Delivery<'_>>
+    ensures delivery { option_map delivery_of result ≡ delivery_in word.now }
+    ensures within { IfSome result (λ told. (len : ℕ) → length word.now ≤ len → IsWithin len told) }
 {
-    let end = bytes.iter().position(|byte| *byte == b' ')?;
-    Some((&bytes[..end], &bytes[end + 1..]))
-}
-
-// Whether each byte is a decimal digit.
-fn are_digits(word: &[u8]) -> bool
-    ensures { result ≡ all_ascii_digits word.now }
-{
-    word.iter().all(|byte| byte.is_ascii_digit())
-}
-
-// A number of 1 to 10 digits, to 2^32 - 1.
-fn number_in(word: &[u8]) -> Option<u32>
-    ensures { result ≡ number_in word.now }
-{
-    if word.is_empty() || 10 < word.len() || !are_digits(word) {
-        return None;
-    }
-    let text = std::str::from_utf8(word).ok()?;
-    text.parse().ok()
-}
-
-// The index among the run's sites of the site with this number.
-fn desk_in(first: u16, count: usize, word: &[u8]) -> Option<usize>
-    ensures index { result ≡ desk_in first count word.now }
-    ensures in_run { IfSome result (λ desk. desk < count) }
-{
-    let desk = number_in(word)?.checked_sub(u32::from(first))? as usize;
-    (desk < count).then_some(desk)
-}
-
-// A text of a desk, 1 to `MAX_TEXT`.
-fn text_in(word: &[u8]) -> Option<TextNo>
-    ensures value { result ≡ text_in word.now }
-    ensures on_desk { IfSome result (λ text. text ≤ MAX_TEXT) }
-{
-    let number = number_in(word)?;
-    if u32::from(MAX_TEXT) < number {
-        return None;
-    }
-    TextNo::new(number as u16)
-}
-
-// The bytes to type, as many as one Insert has at most.
-fn typed_in(raw: &[u8]) -> Option<Escaped<'_>>
-    ensures value { result ≡ typed_in raw.now }
-    ensures short { IfSome result (λ bytes. length bytes ≤ MAX_INSERT) }
-{
-    let bytes = Escaped::new(raw)?;
-    if MAX_INSERT < bytes.len() {
-        return None;
-    }
-    Some(bytes)
-}
-
-// What `type` goes on with behind its text: a position and the bytes.
-fn type_edit(rest: &[u8]) -> Option<Edit<'_>>
-    ensures edit { option_map edit_of result ≡ type_edit rest.now }
-    ensures short { IfSome result IsShort }
-{
-    let (pos, raw) = cut_word(rest)?;
-    Some(Edit::TypeIn {
-        pos: u64::from(number_in(pos)?),
-        bytes: typed_in(raw)?,
-    })
-}
-
-// The edit that a verb asks for with what stands behind the text: a row for each verb.
-fn edit_in<'a>(verb: &[u8], rest: &'a [u8]) -> Option<Edit<'a>>
-    ensures edit { option_map edit_of result ≡ edit_in verb.now rest.now }
-    ensures short { IfSome result IsShort }
-{
-    if verb == b"type".as_slice() {
-        type_edit(rest)
-    } else {
-        None
+    match word {
+        [b'm', number @ ..] => Some(Delivery::Sent(number_in(number)?)),
+        _ => Some(Delivery::Bytes(Hex::new(word)?)),
     }
 }
 
@@ -163,70 +130,72 @@ fn query_in(verb: &[u8]) -> Option<Query>
     }
 }
 
-// An edit's line goes on with its text, and then with what the verb asks.
-fn edit_event<'a>(verb: &[u8], desk: usize, rest: &'a [u8]) -> Option<Event<'a>>
-    ensures event { option_map event_of result ≡ edit_event verb.now desk rest.now }
+// What `save` goes on with behind its text: from where to where, the other text, and a position in that.
+fn save_event(desk: usize, text: TextNo, rest: &[u8]) -> Option<Event<'_>>
+    requires { text ≤ MAX_TEXT }
+    ensures event { option_map event_of result ≡ save_event desk text rest.now }
+    ensures in_run { IfSome result (λ event. (count : ℕ) → desk < count → IsInRun count event) }
+    ensures within { IfSome result (λ event. (len : ℕ) → IsOfLine len event) }
+{
+    let (beg, rest) = cut_number(rest)?;
+    let (end, rest) = cut_number(rest)?;
+    let (other, pos) = cut_word(rest)?;
+    let save = Save {
+        beg,
+        end,
+        other: text_in(other)?,
+        pos: u64::from(number_in(pos)?),
+    };
+    Some(Event::Saves { desk, text, save })
+}
+
+// What a verb asks of a text that ends the line: to restore, or a query.
+fn short_event(verb: &[u8], desk: usize, text: TextNo) -> Option<Event<'static>>
+    requires { text ≤ MAX_TEXT }
+    ensures event { option_map event_of result ≡ short_event verb.now desk text }
+    ensures in_run { IfSome result (λ event. (count : ℕ) → desk < count → IsInRun count event) }
+    ensures within { IfSome result (λ event. (len : ℕ) → IsOfLine len event) }
+{
+    if verb == b"restore".as_slice() {
+        let edit = Edit::Restore;
+        return Some(Event::Edits { desk, text, edit });
+    }
+    let query = query_in(verb)?;
+    Some(Event::Queries { desk, text, query })
+}
+
+// What a verb asks of a text with what stands behind it: to take a message, to save, or another edit.
+fn long_event<'a>(verb: &[u8], desk: usize, text: TextNo, rest: &'a [u8]) -> Option<Event<'a>>
+    requires { text ≤ MAX_TEXT }
+    ensures event { option_map event_of result ≡ long_event verb.now desk text rest.now }
     ensures in_run { IfSome result (λ event. (count : ℕ) → desk < count → IsInRun count event) }
     ensures within { IfSome result (λ event. (len : ℕ) → length rest.now ≤ len → IsOfLine len event) }
 {
-    let (text, rest) = cut_word(rest)?;
-    Some(Event::Edits {
-        desk,
-        text: text_in(text)?,
-        edit: edit_in(verb, rest)?,
-    })
-}
-
-// How a message is told.
-fn delivery_in(word: &[u8]) -> Option<Delivery<'_>>
-    ensures delivery { option_map delivery_of result ≡ delivery_in word.now }
-    ensures within { IfSome result (λ told. (len : ℕ) → length word.now ≤ len → IsWithin len told) }
-{
-    match word {
-        [b'm', number @ ..] => Some(Delivery::Sent(number_in(number)?)),
-        _ => Some(Delivery::Bytes(Hex::new(word)?)),
+    if verb == b"take".as_slice() {
+        let message = delivery_in(rest)?;
+        Some(Event::Takes {
+            desk,
+            text,
+            message,
+        })
+    } else if verb == b"save".as_slice() {
+        save_event(desk, text, rest)
+    } else {
+        let edit = edit_in(verb, rest)?;
+        Some(Event::Edits { desk, text, edit })
     }
 }
 
-// The line of `take` goes on with its text, and then with the message.
-fn take_event<'a>(verb: &[u8], desk: usize, rest: &'a [u8]) -> Option<Event<'a>>
-    ensures event { option_map event_of result ≡ take_event verb.now desk rest.now }
-    ensures in_run { IfSome result (λ event. (count : ℕ) → desk < count → IsInRun count event) }
-    ensures within { IfSome result (λ event. (len : ℕ) → length rest.now ≤ len → IsOfLine len event) }
-{
-    if verb != b"take".as_slice() {
-        return None;
-    }
-    let (number, word) = cut_word(rest)?;
-    Some(Event::Takes {
-        desk,
-        text: text_in(number)?,
-        message: delivery_in(word)?,
-    })
-}
-
-// A query's line goes on with its text.
-fn query_event<'a>(verb: &[u8], desk: usize, rest: &'a [u8]) -> Option<Event<'a>>
-    ensures event { option_map event_of result ≡ query_event verb.now desk rest.now }
-    ensures in_run { IfSome result (λ event. (count : ℕ) → desk < count → IsInRun count event) }
-    ensures within { IfSome result (λ event. (len : ℕ) → length rest.now ≤ len → IsOfLine len event) }
-{
-    Some(Event::Queries {
-        desk,
-        query: query_in(verb)?,
-        text: text_in(rest)?,
-    })
-}
-
-// What a verb goes on with.
+// What a verb goes on with: a text, which ends the line or has a blank and more behind it.
 fn verb_event<'a>(verb: &[u8], desk: usize, rest: &'a [u8]) -> Option<Event<'a>>
     ensures event { option_map event_of result ≡ verb_event verb.now desk rest.now }
     ensures in_run { IfSome result (λ event. (count : ℕ) → desk < count → IsInRun count event) }
     ensures within { IfSome result (λ event. (len : ℕ) → length rest.now ≤ len → IsOfLine len event) }
 {
-    edit_event(verb, desk, rest)
-        .or_else(|| take_event(verb, desk, rest))
-        .or_else(|| query_event(verb, desk, rest))
+    match cut_word(rest) {
+        Some((text, rest)) => long_event(verb, desk, text_in(text)?, rest),
+        None => short_event(verb, desk, text_in(rest)?),
+    }
 }
 
 /// The event that a line spells, where `count` sites run from `first` on, or `None` where it spells none.

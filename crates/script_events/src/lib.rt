@@ -6,5 +6,5 @@ mod event;
 mod hex_bytes;
 
 pub use escaped::Escaped;
-pub use event::{Delivery, Edit, Event, Query, event_in};
+pub use event::{Delivery, Edit, Event, Query, Save, event_in};
 pub use hex_bytes::Hex;

@@ -1,3 +1,4 @@
+pub mod Lifting
 pub mod Printing
 pub mod Reaching
 pub mod Replying

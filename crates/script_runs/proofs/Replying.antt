@@ -4,40 +4,55 @@ use Rattle.std.specs.Prelude.{IfOk, slice_get}
 use Rattle.std.proofs.lemmas.List.{drop_at}
 use Rattle.looks.specs.declared.refusal.Refusal.{Refusal}
 use Rattle.looks.specs.declared.refusal.Refusal.TheVariants.{BadEvent, OutOfMemory}
-use Rattle.texts.specs.Edit.{Edit}
 use Rattle.texts.specs.TextState.{TextState}
 use Rattle.texts.specs.declared.edit_refusal.EditRefusal.{EditRefusal}
 use Rattle.texts.specs.declared.edit_refusal.EditRefusal.TheVariants.{Whole, Partial}
 use Rattle.texts.specs.declared.took.Took.{Took}
 use Rattle.commands.specs.DeskState.{DeskState}
-use Rattle.commands.specs.Machine.{Delivery, Event, InDesk, Query, QueriesDesk, Replies, State, IsTextAt, Prints, edit, query, edit_reply, message_in, prints, refuses, sent, take, take_reply, unknown}
+use Rattle.commands.specs.Machine.{Delivery, Does, Event, InDesk, Query, QueriesDesk, Replies, Reply, StandsInPart, State, IsTextAt, Prints, copy, edit, query, edit_reply, message_in, messages_of, prints, refuses, sent, take, take_reply, unknown}
 use Rattle.script_events.specs.EventView.{IsOfLine}
 use Rattle.script_events.specs.declared.event.Event.{Event as Parsed}
-use Rattle.script_events.specs.declared.event.Event.TheVariants.{Edits, Takes, Queries}
+use Rattle.script_events.specs.declared.event.Event.TheVariants.{Edits, Saves, Takes, Queries}
+use Rattle.script_events.specs.declared.event.Edit.TheVariants.{TypeIn, Cut, Looks, Recall, Restore}
 use Rattle.script_events.specs.declared.event.Delivery.TheVariants.{Sent, Bytes}
 use Rattle.script_runs.specs.Answers.{refused_line, reply_lines}
 use Rattle.script_runs.specs.Trace.{Step}
+use Rattle.script_runs.proofs.Lifting.{IsChange}
 
 -- what was sent behind the messages before
 sent_behind : (s new : State) (messages : List (List ℕ)) → new.sent ≡ s.sent ++ messages → drop (length s.sent) new.sent ≡ messages
 sent_behind s new messages is = ap (drop (length s.sent)) is ∙ drop_at s.sent messages (length s.sent) refl
 
-sent_in_desk : (Does : DeskState → DeskState → Type 0) (s new : State) (i : ℕ) (messages : List (List ℕ)) → InDesk Does s i messages new → drop (length s.sent) new.sent ≡ messages
-sent_in_desk Does s new i messages (d, d', at, does, is) = sent_behind s new messages (ap (λ (x : State). x.sent) is)
+sent_in_desk : (Goes : DeskState → DeskState → Type 0) (s new : State) (i : ℕ) (messages : List (List ℕ)) → InDesk Goes s i messages new → drop (length s.sent) new.sent ≡ messages
+sent_in_desk Goes s new i messages (d, d', at, goes, is) = sent_behind s new messages (ap (λ (x : State). x.sent) is)
 
--- an edit's reply tells what was sent behind the messages before
-told : (s new : State) (i text : ℕ) (e : Edit) (result : Result ℕ EditRefusal) (messages : List (List ℕ)) → Replies s (edit i text e) (edit_reply result messages) new
+sent_by_all : (s new : State) (e : Event) (r : Reply) → IsChange e → Does s e r new → drop (length s.sent) new.sent ≡ messages_of r
+sent_by_all s new (edit i text e) r change does = sent_in_desk _ s new i (messages_of r) does
+sent_by_all s new (copy i text beg end other pos) r change (t, at, does) = sent_in_desk _ s new i (messages_of r) does
+sent_by_all s new (take i text d) r change does = absurd change
+sent_by_all s new (query i text q) r change does = absurd change
+sent_by_all s new unknown r change does = absurd change
+
+sent_by_part : (s new : State) (e : Event) (done : ℕ) (messages : List (List ℕ)) → StandsInPart s e done messages new → drop (length s.sent) new.sent ≡ messages
+sent_by_part s new (edit i text e) done messages stands = sent_in_desk _ s new i messages stands
+sent_by_part s new (copy i text beg end other pos) done messages (t, at, in_text, stands) = sent_in_desk _ s new i messages stands
+sent_by_part s new (take i text d) done messages stands = absurd stands
+sent_by_part s new (query i text q) done messages stands = absurd stands
+sent_by_part s new unknown done messages stands = absurd stands
+
+-- the reply to an edit or a copy tells what was sent behind the messages before
+told : (s new : State) (e : Event) (result : Result ℕ EditRefusal) (messages : List (List ℕ)) → IsChange e → Replies s e (edit_reply result messages) new
     → edit_reply result (drop (length s.sent) new.sent) ≡ edit_reply result messages
-told s new i text e (Ok n) messages (inl does) = ap (edit_reply (Ok n)) (sent_in_desk _ s new i messages does)
-told s new i text e (Ok n) messages (inr short) = absurd short
-told s new i text e (Err (Whole why)) messages replies = refl
-told s new i text e (Err (Partial done why)) messages (inl does) = ap (edit_reply (Err (Partial done why))) (sent_in_desk _ s new i messages does)
-told s new i text e (Err (Partial done why)) messages (inr short) = ap (edit_reply (Err (Partial done why))) (sent_in_desk _ s new i messages short.1)
+told s new e (Ok n) messages change (inl does) = ap (edit_reply (Ok n)) (sent_by_all s new e (edit_reply (Ok n) messages) change does)
+told s new e (Ok n) messages change (inr short) = absurd short
+told s new e (Err (Whole why)) messages change replies = refl
+told s new e (Err (Partial done why)) messages change (inl does) = ap (edit_reply (Err (Partial done why))) (sent_by_all s new e (edit_reply (Err (Partial done why)) messages) change does)
+told s new e (Err (Partial done why)) messages change (inr short) = ap (edit_reply (Err (Partial done why))) (sent_by_part s new e done messages short.1)
 
--- an edit's step, answered with the messages that came behind those before
-pub edit_step : (s new : State) (i text : ℕ) (e : Edit) (result : Result ℕ EditRefusal) → (messages : List (List ℕ)) × Replies s (edit i text e) (edit_reply result messages) new
-    → Step s (edit i text e) (reply_lines (length s.sent) (edit_reply result (drop (length s.sent) new.sent))) new
-edit_step s new i text e result (messages, replies) = (edit_reply result messages, ap (reply_lines (length s.sent)) (told s new i text e result messages replies), replies)
+-- the step of an edit or a copy, answered with the messages that came behind those before
+pub change_step : (s new : State) (e : Event) (result : Result ℕ EditRefusal) → IsChange e → (messages : List (List ℕ)) × Replies s e (edit_reply result messages) new
+    → Step s e (reply_lines (length s.sent) (edit_reply result (drop (length s.sent) new.sent))) new
+change_step s new e result change (messages, replies) = (edit_reply result messages, ap (reply_lines (length s.sent)) (told s new e result messages change replies), replies)
 
 -- a query's step, answered with its lines
 pub query_step : (s : State) (i text : ℕ) (q : Query) (lines : List ℕ) → (t : TextState) × IsTextAt s i text t × Prints q t lines → Step s (query i text q) lines s
@@ -62,9 +77,14 @@ pub query_asked : {X : Type 0} (s : State) (i text : ℕ) (d : DeskState) (q : Q
 query_asked s i text d q (Ok x) lines at_i (t, there, is) = (t, (d, at_i, there), is)
 query_asked s i text d q (Err why) lines at_i asked = tt
 
--- a message that is told by its bytes has no more than a longer line
+-- the bytes that an event tells are no more than those of a longer line
 pub IsOfLine-weaker : (event : Parsed) (len longer : ℕ) → len ≤ longer → IsOfLine len event → IsOfLine longer event
-IsOfLine-weaker (Edits desk text e) len longer le h = tt
+IsOfLine-weaker (Edits desk text (TypeIn pos typed)) len longer le h = omega arith
+IsOfLine-weaker (Edits desk text (Cut beg end)) len longer le h = tt
+IsOfLine-weaker (Edits desk text (Looks beg end sel looks)) len longer le h = tt
+IsOfLine-weaker (Edits desk text (Recall pos)) len longer le h = tt
+IsOfLine-weaker (Edits desk text Restore) len longer le h = tt
+IsOfLine-weaker (Saves desk text save) len longer le h = tt
 IsOfLine-weaker (Takes desk text (Sent k)) len longer le h = tt
 IsOfLine-weaker (Takes desk text (Bytes message)) len longer le h = omega arith
 IsOfLine-weaker (Queries desk text q) len longer le h = tt

@@ -1,12 +1,11 @@
 ghost use Rattle.std.specs.Prelude.{◌≡◌, ◌≤◌, ◌<◌, List, ℕ, length, IfOk};
 ghost use Rattle.looks.specs.Refusal.{RefusedForMemoryAlone};
-ghost use Rattle.looks.specs.Looks.{plain_looks};
-ghost use Rattle.texts.specs.Edit.{insert_run};
 ghost use Rattle.texts.specs.TextState.{TextState};
-ghost use Rattle.commands.specs.Machine.{IsTextAt, Prints, Replies, edit, edit_reply, new_state, sent};
+ghost use Rattle.commands.specs.Machine.{IsTextAt, Prints, Replies, copy, edit, edit_reply, new_state, sent};
 ghost use Rattle.commands.specs.Machine.{take, take_reply};
 ghost use Rattle.script_events.specs.EventView.{delivery_of, edit_of, event_of, query_of, IsInRun, IsOfLine};
 ghost use Rattle.script_events.specs.EventView.{IsShort, IsWithin};
+ghost use Rattle.script_events.specs.Script.{typing};
 ghost use Rattle.script_runs.specs.Trace.{Answers, Step, is_silent};
 ghost use Rattle.script_runs.specs.Writing.{Puts};
 
@@ -15,8 +14,7 @@ use crate::settings::{MAX_FIRST, MAX_SITES};
 use char_files::{SiteNo, TextNo};
 use commands::{Desk, MAX_TEXT};
 use looks::Refusal;
-use operations::MAX_INSERT;
-use script_events::{Delivery, Edit, Escaped, Event, Query, event_in};
+use script_events::{Delivery, Edit, Escaped, Event, Query, Save, event_in};
 use script_io::{MAX_LINE, Output};
 use std::alloc::Global;
 use std::io::Write;
@@ -98,11 +96,16 @@ impl Sites {
             × Step self.old (event_of event.entry) answer self.new }
     {
         match event {
-            // The edit stands, and its message is in the Outbox, before the first byte of the answer goes
-            // out: the step is taken also where the writer fails.
+            // An edit or a copy stands, and its messages are in the Outbox, before the first byte of the
+            // answer goes out: the step is taken also where the writer fails.
             Event::Edits { desk, text, edit } => {
                 let sent = self.outbox.len();
                 let outcome = self.edit(desk, text, &edit);
+                put_edit(output, &self.outbox, sent, outcome)
+            }
+            Event::Saves { desk, text, save } => {
+                let sent = self.outbox.len();
+                let outcome = self.save(desk, text, save);
                 put_edit(output, &self.outbox, sent, outcome)
             }
             Event::Takes {
@@ -124,12 +127,21 @@ impl Sites {
     fn edit(&mut self, desk: usize, text: TextNo, asked: &Edit) -> Result<u32, EditRefusal>
         requires in_run { desk < length self.old.desks }
         requires on_desk { text ≤ MAX_TEXT }
-        requires short { IsShort asked.now }
+        requires short { IsShort MAX_LINE asked.now }
         ensures { (messages : List (List ℕ))
             × Replies self.old (edit desk text (edit_of asked.now)) (edit_reply result messages) self.new }
     {
         match asked {
             Edit::TypeIn { pos, bytes } => self.type_in(desk, text, *pos, bytes),
+            Edit::Cut { beg, end } => self.desks[desk].cut(text, *beg, *end, &mut self.outbox),
+            Edit::Looks {
+                beg,
+                end,
+                sel,
+                looks,
+            } => self.desks[desk].change_looks(text, *beg, *end, *sel, looks, &mut self.outbox),
+            Edit::Recall { pos } => self.desks[desk].recall(text, *pos, &mut self.outbox),
+            Edit::Restore => self.desks[desk].restore(text, &mut self.outbox),
         }
     }
 
@@ -143,13 +155,30 @@ impl Sites {
     ) -> Result<u32, EditRefusal>
         requires in_run { desk < length self.old.desks }
         requires on_desk { text ≤ MAX_TEXT }
-        requires short { length bytes.now ≤ MAX_INSERT }
+        requires short { length bytes.now ≤ MAX_LINE }
         ensures { (messages : List (List ℕ)) × Replies self.old
-            (edit desk text (insert_run pos plain_looks bytes.now)) (edit_reply result messages) self.new }
+            (edit desk text (typing pos bytes.now)) (edit_reply result messages) self.new }
     {
         self.bytes.clear();
         bytes.decode(&mut self.bytes);
         self.desks[desk].type_in(text, pos, &self.bytes, &mut self.outbox)
+    }
+
+    // Copies a part of a desk's text into another one.
+    fn save(&mut self, desk: usize, text: TextNo, asked: Save) -> Result<u32, EditRefusal>
+        requires in_run { desk < length self.old.desks }
+        requires on_desk { text ≤ MAX_TEXT }
+        requires other_on_desk { asked.other ≤ MAX_TEXT }
+        ensures { (messages : List (List ℕ)) × Replies self.old
+            (copy desk text asked.beg asked.end asked.other asked.pos) (edit_reply result messages) self.new }
+    {
+        let Save {
+            beg,
+            end,
+            other,
+            pos,
+        } = asked;
+        self.desks[desk].save(text, beg, end, other, pos, &mut self.outbox)
     }
 
     // Hands a message to a desk's text.

@@ -17,6 +17,7 @@ use Rattle.set_laws.specs.Sets.{AreIdentified, HaveEqualFronts}
 use Rattle.texts.specs.Laws.{ShowsTheDefinition, OperationsTellTheText, FrontsTellTheText, HasOneTextWith}
 use Rattle.texts.specs.Text.{IsText}
 use Rattle.texts.specs.TextState.{TextState, shown_of}
+use Rattle.texts.proofs.OwnStep.{char_stays}
 
 -- the names of those that pass are the names that pass
 one_passes : (b : Bool) (c : Char) (xs : List Char) (names : List CharName) → map (λ s. s.name) xs ≡ names
@@ -89,6 +90,7 @@ one_text_with laws t op is good known own =
         identified = known;
         of_text = All-push (λ (o : Operation). o.text ≡ t.text) t.operations op is.of_text own;
         chars = are;
+        kept = λ c among. char_stays t.operations op c (is.kept c among);
       };
       grown = refl;
       only = λ other is' e.

@@ -25,9 +25,9 @@ use Rattle.tree_order.specs.RegisterLaws.{InsertsNone, KeepsTheOrder}
 use Rattle.tree_order.specs.Shown.{AreChars, SwitchesBy, deletes_by, hides, is_visible, restores_by}
 use Rattle.tree_order.specs.Tree.{HasByte}
 use Rattle.texts.specs.Edit.{own_op}
-use Rattle.texts.specs.Laws.{AreCharNames, IsOwnEdit}
+use Rattle.texts.specs.Laws.{IsOwnEdit}
 use Rattle.texts.specs.Order.{dressed, is_named, with_looks}
-use Rattle.texts.specs.Text.{IsText}
+use Rattle.texts.specs.Text.{AreCharNames, IsText}
 use Rattle.texts.specs.TextState.{TextState, shown_of}
 use Rattle.texts.proofs.OwnStep.{byte_stays, last_stays, looks_stay, own_step, GrowthLaws, IsOwnStep}
 

@@ -24,8 +24,8 @@ use Rattle.tree_order.specs.Sequential.{LatestGoesBehindCause, LatestIsPlainEdit
 use Rattle.tree_order.specs.Shown.{AreChars, IsShown}
 use Rattle.tree_order.specs.Tree.{HasByte, IsChar}
 use Rattle.set_laws.specs.Fronts.{file_len}
-use Rattle.texts.specs.Edit.{anchor_before, insert_run, own_insert, shown_after, with_operation}
-use Rattle.texts.specs.Laws.{OwnInsertIsPlain}
+use Rattle.texts.specs.Edit.{anchor_before, own_insert, with_operation}
+use Rattle.texts.specs.Laws.{OwnInsertIsPlain, shown_with_run}
 use Rattle.texts.specs.Order.{chars_of, count_to, put}
 use Rattle.texts.specs.Text.{IsAnchor, IsText}
 use Rattle.texts.specs.TextState.{TextState, shown_of}
@@ -144,7 +144,7 @@ module _ (lower : Lower) (t : TextState) (pos : ℕ) (looks : Looks) (bytes : Li
   text = step.text chars
 
   -- and it is shown where it was typed
-  shown : shown_of (with_operation t own) ≡ shown_after t (insert_run pos looks bytes)
+  shown : shown_of (with_operation t own) ≡ shown_with_run t pos looks bytes
   shown =
       let was = shows_the_definition t is in
       let plain = lower.plain ops own cause (shown_of t) pos step.one step.latest refl was behind in

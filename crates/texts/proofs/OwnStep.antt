@@ -7,7 +7,7 @@ use Rattle.std.specs.Prelude.{All}
 use Rattle.looks.specs.Sel.{Selection}
 use Rattle.looks.specs.declared.looks.Looks.{Looks}
 use Rattle.char_files.specs.CharName.{CharName}
-use Rattle.operations.specs.Operation.{Operation, OpKind, MentionsBy}
+use Rattle.operations.specs.Operation.{Operation, OpKind, MentionsBy, insert, delete, restore, change_looks}
 use Rattle.tree_order.specs.Good.{Begins, Good}
 use Rattle.tree_order.specs.Insertion.{IsOneMore}
 use Rattle.tree_order.specs.Looks.{HasLooks, IsLastToSet, Sets}
@@ -18,9 +18,9 @@ use Rattle.set_laws.specs.Fronts.{greatest, front_of, greatest_stamp, file_len}
 use Rattle.set_laws.specs.Growing.{AreToldByCounts, GrowsByVerdict, IsOwnNext}
 use Rattle.set_laws.specs.Sets.{AreIdentified, AreHeldToTheFront}
 use Rattle.set_laws.specs.Verdict.{HasVerdict, IsNew, ready}
-use Rattle.texts.specs.Edit.{own_op, with_operation}
+use Rattle.texts.specs.Edit.{own_op, set_after, with_operation}
 use Rattle.texts.specs.Order.{order_after}
-use Rattle.texts.specs.Text.{IsText}
+use Rattle.texts.specs.Text.{AreCharNames, IsText}
 use Rattle.texts.specs.TextState.{TextState}
 
 -- the laws of good sets with one operation more
@@ -47,6 +47,20 @@ below : (f : Operation → ℕ) (ops : List Operation) (n : ℕ) → greatest f 
 below f [] n less = All-nil (λ (op : Operation). f op < n)
 below f (op ∷ ops) n less =
     All-cons (λ (o : Operation). f o < n) op ops (omega arith) (below f ops n (omega arith))
+
+-- a character stays one when an operation more is taken in
+pub char_stays : (ops : List Operation) (op : Operation) (c : CharName) → IsChar ops c → IsChar (ops ++ op ∷ []) c
+char_stays ops op c (i, h) =
+    (i, record { held = Contains-append_left ops (op ∷ []) i h.held; inserts = h.inserts })
+
+-- what a Delete keeps are names that it mentions, and the others keep nothing
+kept_names : (t : TextState) (kind : OpKind)
+    → ((name : CharName) → MentionsBy kind name → IsChar t.operations name)
+    → AreCharNames t.operations t.last_set → AreCharNames t.operations (set_after t kind)
+kept_names t (insert cause at looks bytes) old kept = kept
+kept_names t (delete names) old kept = old
+kept_names t (restore names) old kept = kept
+kept_names t (change_looks sel looks names) old kept = kept
 
 module _ (laws : GrowthLaws) (t : TextState) (kind : OpKind) (is : IsText t)
     (begins : Begins kind (file_len t.operations t.site))
@@ -106,6 +120,7 @@ module _ (laws : GrowthLaws) (t : TextState) (kind : OpKind) (is : IsText t)
       identified = identified;
       of_text = All-push (λ (o : Operation). o.text ≡ t.text) ops own is.of_text refl;
       chars = chars;
+      kept = λ c among. char_stays ops own c (kept_names t kind old is.kept c among);
     };
   }
 

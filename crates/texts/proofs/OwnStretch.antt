@@ -1,7 +1,7 @@
 -- A set with the names of what is shown from beg to end has those of no other characters shown.
 use Rattle.std.proofs.Common.{◌≡◌, ◌≢◌, ◌↔◌, ℕ, zero, suc, ◌+◌, ◌-◌, ◌≤◌, Bool, true, false, not}
 use Rattle.std.proofs.Common.{List, [], ◌∷◌, ◌++◌, get_or, take, drop, map, refl, sym, ap, subst, ◌∙◌}
-use Rattle.std.proofs.Common.{All, AllPairs, Contains, arith, append_assoc}
+use Rattle.std.proofs.Common.{All, AllPairs, Contains, arith, append_assoc, append-nil}
 use Rattle.std.specs.List.{filter, slice_range}
 use Rattle.std.specs.Prelude.{if◌then◌else◌}
 use Rattle.std.proofs.lemmas.Bool.{false_from_ne_true}
@@ -17,10 +17,10 @@ use Rattle.operations.specs.NameSet.{Range, IsAmong}
 use Rattle.operations.specs.Operation.{delete, change_looks}
 use Rattle.tree_order.specs.Shown.{is_visible}
 use Rattle.tree_order.specs.Tree.{IsChar}
-use Rattle.texts.specs.Laws.{AreCharNames, IsOwnEdit, NamesStretch, OwnDeleteHides, OwnDeleteIsPlain}
+use Rattle.texts.specs.Laws.{IsOwnEdit, NamesStretch, OwnDeleteHides, OwnDeleteIsPlain}
 use Rattle.texts.specs.Laws.{OwnLooksAreGiven, OwnLooksArePlain}
 use Rattle.texts.specs.Order.{cut, dress, dressed, is_named, with_looks}
-use Rattle.texts.specs.Text.{IsText}
+use Rattle.texts.specs.Text.{AreCharNames, IsText}
 use Rattle.texts.specs.TextState.{TextState, shown_of}
 use Rattle.texts.proofs.Chars.{shown_are_chars, shows_the_definition}
 use Rattle.texts.proofs.OwnChange.{named_is}
@@ -42,7 +42,7 @@ map_keeps f [] same = refl
 map_keeps f (c ∷ xs) same =
     rw (same 0 c (omega arith), map_keeps f xs (All-tail (λ (x : Char). f x ≡ x) c xs same)) refl
 
-map_agrees : (f g : Char → Char) (xs : List Char) → All (λ c. f c ≡ g c) xs → map f xs ≡ map g xs
+pub map_agrees : (f g : Char → Char) (xs : List Char) → All (λ c. f c ≡ g c) xs → map f xs ≡ map g xs
 map_agrees f g [] same = refl
 map_agrees f g (c ∷ xs) same =
     rw (same 0 c (omega arith), map_agrees f g xs (All-tail (λ (x : Char). f x ≡ g x) c xs same)) refl
@@ -131,6 +131,19 @@ module _ (shown : List Char) (names : List Range) (beg end : ℕ) (rising : beg 
       (filter_drops p stretch (each stretch (λ c. p c ≡ false) (λ c here. ap not (named_there c here))))
       ∙ filter_keeps p behind (each behind (λ c. p c ≡ true) (λ c here. ap not (unnamed_behind c here))))
 
+  pub is_picked : filter (is_named names) shown ≡ stretch
+  is_picked =
+      let p : Char → Bool = is_named names in
+      ap (filter p) parts ∙ filter-append p ahead (stretch ++ behind)
+      ∙ ap (λ (xs : List Char). xs ++ filter p (stretch ++ behind))
+      (filter_drops p ahead (each ahead (λ c. p c ≡ false) unnamed_ahead))
+      ∙ (filter-append p stretch behind
+      ∙ ap (λ (xs : List Char). xs ++ filter p behind)
+      (filter_keeps p stretch (each stretch (λ c. p c ≡ true) named_there))
+      ∙ ap (λ (xs : List Char). stretch ++ xs)
+      (filter_drops p behind (each behind (λ c. p c ≡ false) unnamed_behind))
+      ∙ append-nil stretch)
+
   pub is_dressed : (sel : Selection) (looks : Looks)
       → map (with_looks sel looks names) shown ≡ dress sel looks shown beg end
   is_dressed sel looks =
@@ -149,7 +162,7 @@ module _ (shown : List Char) (names : List Range) (beg end : ℕ) (rising : beg 
       ∙ sym (append_assoc ahead (map g stretch) behind)
 
 -- what is shown has each name once
-names_differ : (t : TextState) → IsText t → AllPairs (λ a b. a ≢ b) (map (λ s. s.name) (shown_of t))
+pub names_differ : (t : TextState) → IsText t → AllPairs (λ a b. a ≢ b) (map (λ s. s.name) (shown_of t))
 names_differ t is =
     let s = shows_the_definition t is in
     subst (λ (xs : List CharName). AllPairs (λ a b. a ≢ b) xs) (sym s.visible)

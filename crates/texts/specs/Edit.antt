@@ -1,35 +1,44 @@
--- The edits of a site's own: the operations that they make, and how many of these stand.
-use Rattle.std.specs.Prelude.{◌≡◌, ℕ, ◌+◌, ◌-◌, ◌<◌, ◌≤◌, ◌⊎◌, List, [], ◌∷◌, ◌++◌, length, take, map}
-use Rattle.std.specs.Prelude.{slice_get, Bool, Option, Some, None, option_map, nat_lt, nat_le, ◌==◌}
-use Rattle.std.specs.Prelude.{if◌then◌else◌, Result, Ok, Err, OnOk}
+-- The edits of a site's own: the operations that they make, and what these show.
+use Rattle.std.specs.Prelude.{ℕ, ◌+◌, ◌-◌, List, [], ◌∷◌, ◌++◌, length, take, map, filter, slice_range}
+use Rattle.std.specs.Prelude.{slice_get, Bool, true, nat_lt, nat_le, ◌==◌, ◌&&◌, ◌||◌, if◌then◌else◌}
+use Rattle.std.specs.List.{flat_map, list_all}
 use Rattle.std.specs.Option.{option_map_or}
+use Rattle.looks.specs.Sel.{Selection}
 use Rattle.looks.specs.declared.looks.Looks.{Looks}
 use Rattle.looks.specs.Looks.{plain_looks}
-use Rattle.looks.specs.declared.refusal.Refusal.{Refusal}
-use Rattle.looks.specs.declared.refusal.Refusal.TheVariants.{SeqSpent, StampsSpent, FileSpent, OutOfMemory}
-use Rattle.char_files.specs.Stretch.{Item}
-use Rattle.char_files.specs.declared.TheConstants.{MAX_FILE}
+use Rattle.char_files.specs.Runs.{maximal_runs}
+use Rattle.char_files.specs.Stretch.{Item, Stretch, items_of}
 use Rattle.char_files.specs.declared.character.Char.{Char}
 use Rattle.char_files.specs.declared.name.Anchor.{Anchor}
 use Rattle.char_files.specs.declared.name.Anchor.TheVariants.{Root, At}
-use Rattle.operations.specs.Operation.{Operation, OpKind, insert, appended_len}
-use Rattle.operations.specs.Spelling.{spelling}
+use Rattle.operations.specs.NameSet.{Range, names_in, set_of}
+use Rattle.operations.specs.Operation.{Operation, OpKind, insert, delete, restore, change_looks}
 use Rattle.operations.specs.declared.kind.TheConstants.{MAX_INSERT}
-use Rattle.operations.specs.declared.op.TheConstants.{MAX_STAMP}
 use Rattle.set_laws.specs.Fronts.{front_of, greatest_stamp, file_len}
-use Rattle.texts.specs.Order.{chars_of, order_after, put}
+use Rattle.tree_order.specs.Shown.{is_visible}
+use Rattle.texts.specs.Order.{chars_from, cut, dress, is_named, order_after, put, with_selected}
 use Rattle.texts.specs.TextState.{TextState, shown_of}
-use Rattle.texts.specs.declared.TheConstants.{MAX_SEQ}
-use Rattle.texts.specs.declared.edit_refusal.EditRefusal.{EditRefusal}
-use Rattle.texts.specs.declared.edit_refusal.EditRefusal.TheVariants.{Whole, Partial}
 
--- What an edit asks: to put bytes of one set of looks behind the first pos characters shown.
+-- What an edit asks: to put characters behind the first pos shown; to take those from beg to end out of what is
+-- shown, or to give them looks; to show again those that were deleted last, or to put them in anew, as a copy.
 pub data Edit : Type 0 where
-  insert_run : (pos : ℕ) (looks : Looks) (bytes : List ℕ) → Edit
+  insertion : (pos : ℕ) (items : List Item) → Edit
+  deletion : (beg end : ℕ) → Edit
+  looks_change : (beg end : ℕ) (sel : Selection) (looks : Looks) → Edit
+  restoration : Edit
+  recalling : (pos : ℕ) → Edit
+
+-- whether beg to end lie in the text
+abbrev pub is_range_in : TextState → (beg end : ℕ) → Bool
+is_range_in t beg end = nat_le beg end && nat_le end (length (shown_of t))
 
 -- whether the positions of an edit lie in the text
 abbrev pub is_in_text : TextState → Edit → Bool
-is_in_text t (insert_run pos looks bytes) = nat_le pos (length (shown_of t))
+is_in_text t (insertion pos items) = nat_le pos (length (shown_of t))
+is_in_text t (deletion beg end) = is_range_in t beg end
+is_in_text t (looks_change beg end sel looks) = is_range_in t beg end
+is_in_text t restoration = true
+is_in_text t (recalling pos) = nat_le pos (length (shown_of t))
 
 -- what a character hangs on that is typed behind the first pos characters shown: the last of them, or the
 -- root
@@ -52,99 +61,107 @@ abbrev pub own_insert : TextState → ℕ → Looks → List ℕ → Operation
 own_insert t pos looks bytes =
     own_op t (insert (anchor_before (shown_of t) pos) (file_len t.operations t.site) looks bytes)
 
--- the operations that an edit makes: none where it is empty
-abbrev pub plan : TextState → Edit → List Operation
-plan t (insert_run pos looks []) = []
-plan t (insert_run pos looks (b ∷ bytes)) = own_insert t pos looks (b ∷ bytes) ∷ []
+-- the names of the characters shown from beg to end
+abbrev pub names_shown : TextState → (beg end : ℕ) → List Range
+names_shown t beg end = set_of (map (λ c. c.name) (slice_range (shown_of t) beg end))
+
+-- the characters shown that a set names, outside the text
+abbrev pub stretch_named : TextState → List Range → List Item
+stretch_named t names = map (λ c. (c.byte, c.looks)) (filter (is_named names) (shown_of t))
+
+-- the stretch that was deleted last, after one more operation of the site's own: a Delete keeps what it hides
+abbrev pub stretch_after : TextState → OpKind → List Item
+stretch_after t (insert cause at looks bytes) = t.last_stretch
+stretch_after t (delete names) = stretch_named t names
+stretch_after t (restore names) = t.last_stretch
+stretch_after t (change_looks sel looks names) = t.last_stretch
+
+-- its names alike
+abbrev pub set_after : TextState → OpKind → List Range
+set_after t (insert cause at looks bytes) = t.last_set
+set_after t (delete names) = names
+set_after t (restore names) = t.last_set
+set_after t (change_looks sel looks names) = t.last_set
 
 -- the text with one more operation of the site itself
 abbrev pub with_operation : TextState → Operation → TextState
-with_operation t op = record t { operations = t.operations ++ op ∷ []; order = order_after t.order op }
+with_operation t op = record t {
+  operations = t.operations ++ op ∷ [];
+  order = order_after t.order op;
+  last_stretch = stretch_after t op.kind;
+  last_set = set_after t op.kind;
+}
 
 -- the text after these operations of the site itself
 abbrev pub after : TextState → List Operation → TextState
 after t [] = t
 after t (op ∷ ops) = after (with_operation t op) ops
 
--- why an operation of the site itself that appends so many bytes is refused whatever the memory: the first
--- that holds
-abbrev pub refusal_for : TextState → ℕ → Option Refusal
-refusal_for t appended =
-    if front_of t.operations t.site == MAX_SEQ then Some SeqSpent
-    else (if greatest_stamp t.operations == MAX_STAMP then Some StampsSpent
-    else (if nat_lt MAX_FILE (file_len t.operations t.site + appended) then Some FileSpent else None))
+-- bytes behind those of a part, cut behind each 4,096
+abbrev pub parts_from : (part bytes : List ℕ) → List (List ℕ)
+parts_from [] [] = []
+parts_from (p ∷ part) [] = (p ∷ part) ∷ []
+parts_from part (b ∷ bytes) =
+    if length part == MAX_INSERT then part ∷ parts_from (b ∷ []) bytes else parts_from (part ++ b ∷ []) bytes
 
--- the first operation's refusal, else what stops the later ones
-abbrev pub refusal_or : Option Refusal → Option (ℕ × Refusal) → Option (ℕ × Refusal)
-refusal_or (Some why) later = Some (0, why)
-refusal_or None later = option_map (λ stop. (stop.0 + 1, stop.1)) later
+-- the parts of a run, of 4,096 bytes each but for the last
+abbrev pub parts_of : Stretch → List Stretch
+parts_of r = map (λ part. record { looks = r.looks; bytes = part }) (parts_from [] r.bytes)
 
--- how many of the operations stand, and why the next one doesn't; none where all stand
-abbrev pub first_refusal : TextState → List Operation → Option (ℕ × Refusal)
-first_refusal t [] = None
-first_refusal t (op ∷ ops) =
-    refusal_or (refusal_for t (appended_len op.kind)) (first_refusal (with_operation t op) ops)
+-- the pieces of a stretch that are inserted one by one: cut where the looks change, and behind each 4,096
+-- bytes of equal looks
+abbrev pub pieces_of : List Item → List Stretch
+pieces_of items = flat_map parts_of (maximal_runs items)
 
--- how many of the operations stand, where memory is there
-abbrev pub count_standing : TextState → List Operation → ℕ
-count_standing t ops = option_map_or (λ stop. stop.0) (first_refusal t ops) (length ops)
+-- the Inserts of pieces: the first one behind the first pos characters shown, each other one behind the piece
+-- before it
+abbrev pub inserts : TextState → ℕ → List Stretch → List Operation
+inserts t pos [] = []
+inserts t pos (p ∷ pieces) =
+    own_insert t pos p.looks p.bytes
+    ∷ inserts (with_operation t (own_insert t pos p.looks p.bytes)) (pos + length p.bytes) pieces
 
--- the first n of the operations were made, and no other, and these messages tell them
-pub record Stand (t : TextState) (ops : List Operation) (n : ℕ) (new : TextState) (messages : List (List ℕ))
-    : Type 0 where
-  pub text : new ≡ after t (take n ops)
-  pub told : messages ≡ map spelling (take n ops)
+-- the operation of this kind, where there is something from beg to end
+abbrev pub unless_empty : TextState → (beg end : ℕ) → OpKind → List Operation
+unless_empty t beg end kind = if nat_lt beg end then own_op t kind ∷ [] else []
 
--- What an edit of these operations answers, what it leaves, and the messages that it sends, where memory is
--- there: all were made; or the first was refused, and nothing was done; or the first ones stand, and the next
--- one was refused.
-abbrev pub Edits : TextState → List Operation → Result ℕ EditRefusal → TextState → List (List ℕ) → Type 0
-Edits t ops (Ok sent) new messages =
-    (first_refusal t ops ≡ None) × (sent ≡ length ops) × Stand t ops sent new messages
-Edits t ops (Err (Whole why)) new messages =
-    (first_refusal t ops ≡ Some (0, why)) × Stand t ops 0 new messages
-Edits t ops (Err (Partial done why)) new messages =
-    (0 < done) × (first_refusal t ops ≡ Some (done, why)) × Stand t ops done new messages
+-- whether all that was deleted last is shown
+abbrev pub is_restored : TextState → Bool
+is_restored t = list_all (λ c. is_visible t.operations c) (names_in t.last_set)
 
--- The same where memory was refused, instead of an operation that would stand.
-abbrev pub EditsShort : TextState → List Operation → Result ℕ EditRefusal → TextState → List (List ℕ) → Type 0
-EditsShort t ops (Ok sent) new messages = ⊥
-EditsShort t ops (Err (Whole why)) new messages =
-    (why ≡ OutOfMemory) × (0 < count_standing t ops) × Stand t ops 0 new messages
-EditsShort t ops (Err (Partial done why)) new messages =
-    (why ≡ OutOfMemory) × (0 < done) × (done < count_standing t ops) × Stand t ops done new messages
+-- the operations that an edit makes: none where it is empty
+abbrev pub plan : TextState → Edit → List Operation
+plan t (insertion pos items) = inserts t pos (pieces_of items)
+plan t (deletion beg end) = unless_empty t beg end (delete (names_shown t beg end))
+plan t (looks_change beg end sel looks) =
+    unless_empty t beg end (change_looks sel (with_selected sel looks plain_looks) (names_shown t beg end))
+plan t restoration = if is_restored t then [] else own_op t (restore t.last_set) ∷ []
+plan t (recalling pos) = inserts t pos (pieces_of t.last_stretch)
 
--- What an edit that was done wholly makes of the list shown: the run stands behind the first pos characters,
--- all others as they did.
+-- what is shown with these characters of the site's behind the first pos
+abbrev pub shown_with : TextState → ℕ → List Item → List Char
+shown_with t pos items = put (shown_of t) pos (chars_from t.site (file_len t.operations t.site) items)
+
+-- what is shown with those that were deleted last beside those that are shown, each at its place among all
+abbrev pub shown_again : TextState → List Char
+shown_again t = filter (λ c. is_named t.last_set c || is_visible t.operations c.name) t.order
+
+-- What an edit that was done wholly makes of the list shown: a plain edit of that list.
 abbrev pub shown_after : TextState → Edit → List Char
-shown_after t (insert_run pos looks bytes) =
-    put (shown_of t) pos (chars_of t.site (file_len t.operations t.site) looks bytes)
+shown_after t (insertion pos items) = shown_with t pos items
+shown_after t (deletion beg end) = cut (shown_of t) beg end
+shown_after t (looks_change beg end sel looks) = dress sel looks (shown_of t) beg end
+shown_after t restoration = shown_again t
+shown_after t (recalling pos) = shown_with t pos t.last_stretch
 
--- an edit that was done wholly shows what it is to show
-abbrev pub Shows : TextState → Edit → Result ℕ EditRefusal → TextState → Type 0
-Shows t e result new = OnOk result (shown_of new ≡ shown_after t e)
+-- the insertion of the first n pieces alone
+abbrev pub first_pieces : ℕ → ℕ → List Item → Edit
+first_pieces n pos items = insertion pos (items_of (take n (pieces_of items)))
 
--- an edit with its messages put behind those that were sent, whether memory was there or not
-abbrev pub EditsSending : TextState → Edit → Result ℕ EditRefusal → TextState → (sent sent' : List (List ℕ))
-    → Type 0
-EditsSending t e result new sent sent' =
-    (messages : List (List ℕ)) × (sent' ≡ sent ++ messages) × Shows t e result new
-    × (Edits t (plan t e) result new messages ⊎ EditsShort t (plan t e) result new messages)
-
--- the bytes of a stretch
-abbrev pub bytes_of : List Item → List ℕ
-bytes_of items = map (λ i. i.0) items
-
--- the looks of a stretch's first character, the default ones where there is none
-abbrev pub looks_of : List Item → Looks
-looks_of [] = plain_looks
-looks_of (i ∷ items) = i.1
-
--- a stretch of one set of looks, short enough for one Insert
-pub record IsOneInsert (items : List Item) : Type 0 where
-  pub uniform : items ≡ map (λ b. (b, looks_of items)) (bytes_of items)
-  pub few : length items ≤ MAX_INSERT
-
--- to put this stretch, of one set of looks, behind the first pos characters shown
-abbrev pub insertion : ℕ → List Item → Edit
-insertion pos items = insert_run pos (looks_of items) (bytes_of items)
+-- the edit of an edit's first n operations alone; only an insertion has more than one
+abbrev pub first_part : TextState → ℕ → Edit → Edit
+first_part t n (insertion pos items) = first_pieces n pos items
+first_part t n (deletion beg end) = deletion beg end
+first_part t n (looks_change beg end sel looks) = looks_change beg end sel looks
+first_part t n restoration = restoration
+first_part t n (recalling pos) = first_pieces n pos t.last_stretch

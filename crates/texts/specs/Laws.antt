@@ -1,6 +1,6 @@
 -- The laws of what replicas show: the operations taken in tell it, whatever their order.
-use Rattle.std.specs.Prelude.{◌≡◌, ℕ, ◌≤◌, ◌↔◌, ◌||◌, not, List, [], ◌∷◌, ◌++◌, length, filter, map}
-use Rattle.std.specs.Prelude.{Contains, slice_range}
+use Rattle.std.specs.Prelude.{◌≡◌, ℕ, ◌<◌, ◌≤◌, ◌↔◌, ◌||◌, not, List, [], ◌∷◌, ◌++◌, length, filter, map}
+use Rattle.std.specs.Prelude.{Contains, IsTrue, slice_range, take}
 use Rattle.looks.specs.Sel.{Selection}
 use Rattle.looks.specs.declared.looks.Looks.{Looks}
 use Rattle.char_files.specs.CharName.{CharName}
@@ -9,13 +9,14 @@ use Rattle.operations.specs.NameSet.{Range, IsAmong}
 use Rattle.operations.specs.Operation.{Operation, OpKind, delete, restore, change_looks}
 use Rattle.tree_order.specs.Laws.{AreSameSet}
 use Rattle.tree_order.specs.Shown.{IsShown, is_visible}
-use Rattle.tree_order.specs.Tree.{IsChar}
 use Rattle.set_laws.specs.Sets.{AreIdentified, HaveEqualFronts}
 use Rattle.set_laws.specs.Verdict.{HasVerdict, IsNew, ready}
-use Rattle.texts.specs.Edit.{insert_run, own_insert, own_op, shown_after, with_operation}
-use Rattle.texts.specs.Order.{cut, dress, is_named, with_looks}
-use Rattle.texts.specs.Text.{IsText}
-use Rattle.texts.specs.TextState.{TextState, shown_of}
+use Rattle.set_laws.specs.Fronts.{file_len}
+use Rattle.texts.specs.Edit.{Edit, after, first_part, is_in_text, names_shown, own_insert, own_op, plan}
+use Rattle.texts.specs.Edit.{shown_after, stretch_named, with_operation}
+use Rattle.texts.specs.Order.{chars_of, cut, dress, is_named, put, with_looks}
+use Rattle.texts.specs.Text.{AreCharNames, IsText}
+use Rattle.texts.specs.TextState.{TextState, shown_items, shown_of}
 
 -- the same characters in one order, with the same bytes and looks, and the same of them shown
 pub record AreAlike (t u : TextState) : Type 0 where
@@ -36,23 +37,23 @@ abbrev pub FrontsTellTheText : Type 0
 FrontsTellTheText = (t u : TextState) → IsText t → IsText u → AreIdentified (t.operations ++ u.operations)
     → HaveEqualFronts t.operations u.operations → AreAlike t u
 
+-- what is shown with a run of the site's behind the first pos characters
+abbrev pub shown_with_run : TextState → ℕ → Looks → List ℕ → List Char
+shown_with_run t pos looks bytes =
+    put (shown_of t) pos (chars_of t.site (file_len t.operations t.site) looks bytes)
+
 -- an own Insert is new and ready; the text after it is what its operations define, and it shows its run where
 -- it was typed
 pub record IsPlainEdit (t : TextState) (pos : ℕ) (looks : Looks) (bytes : List ℕ) : Type 0 where
   pub new : IsNew t.operations (own_insert t pos looks bytes)
   pub ready : HasVerdict t.operations (own_insert t pos looks bytes) ready
   pub text : IsText (with_operation t (own_insert t pos looks bytes))
-  pub shown : shown_of (with_operation t (own_insert t pos looks bytes))
-      ≡ shown_after t (insert_run pos looks bytes)
+  pub shown : shown_of (with_operation t (own_insert t pos looks bytes)) ≡ shown_with_run t pos looks bytes
 
 -- an own Insert is a plain edit
 abbrev pub OwnInsertIsPlain : Type 0
 OwnInsertIsPlain = (t : TextState) (pos : ℕ) (looks : Looks) (bytes : List ℕ) → IsText t
     → pos ≤ length (shown_of t) → IsPlainEdit t pos looks bytes
-
--- each name of the set is that of a character, which may be hidden
-abbrev pub AreCharNames : List Operation → List Range → Type 0
-AreCharNames ops names = (c : CharName) → IsAmong names c → IsChar ops c
 
 -- an own operation of this kind is new and ready; the text after it is what its operations define, and it
 -- shows these characters
@@ -94,6 +95,28 @@ abbrev pub OwnLooksArePlain : Type 0
 OwnLooksArePlain = (t : TextState) (sel : Selection) (looks : Looks) (names : List Range) (beg end : ℕ)
     → IsText t → beg ≤ end → NamesStretch t names beg end
     → IsOwnEdit t (change_looks sel looks names) (dress sel looks (shown_of t) beg end)
+
+-- the set of the names shown from beg to end names this stretch, and no others
+abbrev pub ADeleteKeepsItsStretch : Type 0
+ADeleteKeepsItsStretch = (t : TextState) (beg end : ℕ) → IsText t
+    → NamesStretch t (names_shown t beg end) beg end
+    × (stretch_named t (names_shown t beg end) ≡ slice_range (shown_items t) beg end)
+
+-- the text after an edit's first n operations
+abbrev pub after_part : TextState → Edit → ℕ → TextState
+after_part t e n = after t (take n (plan t e))
+
+-- However many of its operations stand, an own edit leaves a text that its operations define; with all of them
+-- it shows what it is to show, and with a part of them what that part is to show.
+pub record IsPlainPart (t : TextState) (e : Edit) (n : ℕ) : Type 0 where
+  pub text : IsText (after_part t e n)
+  pub whole : n ≡ length (plan t e) → shown_of (after_part t e n) ≡ shown_after t e
+  pub part : 0 < n → shown_of (after_part t e n) ≡ shown_after t (first_part t n e)
+
+-- own edits are plain edits
+abbrev pub OwnEditsArePlain : Type 0
+OwnEditsArePlain = (t : TextState) (e : Edit) (n : ℕ) → IsText t → IsTrue (is_in_text t e)
+    → n ≤ length (plan t e) → IsPlainPart t e n
 
 -- one operation more of which the set with it is good leaves one text, and no other
 pub record HasOneTextWith (t : TextState) (op : Operation) : Type 0 where

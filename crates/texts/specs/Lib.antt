@@ -1,6 +1,9 @@
 pub mod Edit
 pub mod Laws
 pub mod Order
+pub mod Outcome
+pub mod Own
+pub mod Pieces
 pub mod Take
 pub mod Text
 pub mod TextState

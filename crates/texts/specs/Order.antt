@@ -4,6 +4,7 @@ use Rattle.std.specs.Prelude.{slice_range}
 use Rattle.std.specs.List.{list_any}
 use Rattle.looks.specs.Sel.{Selection}
 use Rattle.looks.specs.declared.looks.Looks.{Looks}
+use Rattle.char_files.specs.Stretch.{Item}
 use Rattle.char_files.specs.declared.character.Char.{Char}
 use Rattle.char_files.specs.declared.name.Anchor.{Anchor}
 use Rattle.char_files.specs.declared.name.Anchor.TheVariants.{Root, At}
@@ -26,6 +27,12 @@ chars_of site at looks [] = []
 chars_of site at looks (b ∷ bs) =
     record { name = record { site = site; off = at }; byte = b; looks = looks }
     ∷ chars_of site (at + 1) looks bs
+
+-- characters of any looks, behind at bytes of the site's file
+abbrev pub chars_from : (site at : ℕ) → List Item → List Char
+chars_from site at [] = []
+chars_from site at (i ∷ items) =
+    record { name = record { site = site; off = at }; byte = i.0; looks = i.1 } ∷ chars_from site (at + 1) items
 
 -- the old looks, with those that are selected replaced
 abbrev pub with_selected : Selection → Looks → Looks → Looks

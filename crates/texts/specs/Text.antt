@@ -1,7 +1,9 @@
 -- What every replica is, as a fact of what is seen of it: its characters are those that its operations define.
 use Rattle.std.specs.Prelude.{◌≡◌, List, All}
+use Rattle.char_files.specs.CharName.{CharName}
 use Rattle.char_files.specs.declared.name.Anchor.{Anchor}
 use Rattle.char_files.specs.declared.name.Anchor.TheVariants.{Root, At}
+use Rattle.operations.specs.NameSet.{Range, IsAmong}
 use Rattle.operations.specs.Operation.{Operation}
 use Rattle.tree_order.specs.Good.{Good}
 use Rattle.tree_order.specs.Shown.{AreChars}
@@ -9,12 +11,18 @@ use Rattle.tree_order.specs.Tree.{IsChar}
 use Rattle.set_laws.specs.Sets.{AreIdentified}
 use Rattle.texts.specs.TextState.{TextState}
 
--- the operations taken in are good and of this text, seqs count from 1, and the characters are theirs
+-- each name of the set is that of a character, which may be hidden
+abbrev pub AreCharNames : List Operation → List Range → Type 0
+AreCharNames ops names = (c : CharName) → IsAmong names c → IsChar ops c
+
+-- the operations taken in are good and of this text, seqs count from 1, the characters are theirs, and so is
+-- what was deleted last
 pub record IsText (t : TextState) : Type 0 where
   pub good : Good t.operations
   pub identified : AreIdentified t.operations
   pub of_text : All (λ op. op.text ≡ t.text) t.operations
   pub chars : AreChars t.operations t.order
+  pub kept : AreCharNames t.operations t.last_set
 
 -- the anchor is the root or a character
 abbrev pub IsAnchor : List Operation → Anchor → Type 0

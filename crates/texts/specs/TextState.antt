@@ -20,8 +20,8 @@ pub record Change : Type 0 where
 
 -- The text and the site; the operations taken in, in the order of taking; all characters in order, deleted
 -- ones too, each with its byte and the looks that hold; the operations that wait, in order of arrival; the
--- stretch that was deleted last, and the set of its names; the changes noted since they were last asked for.
--- No call makes anything wait, deletes, or notes a change yet: these parts are empty.
+-- stretch that the site deleted last, and the set of its names; the changes noted since they were last asked
+-- for. No call makes anything wait or notes a change yet: these parts are empty.
 pub record TextState : Type 0 where
   pub text : ℕ
   pub site : ℕ
@@ -32,22 +32,22 @@ pub record TextState : Type 0 where
   pub last_set : List Range
   pub changes : List Change
 
--- a text of these operations and characters, in which nothing waits, was deleted, or was noted
-abbrev pub state_of : (text site : ℕ) → List Operation → List Char → TextState
-state_of text site operations order = record {
+-- a text of these operations and characters, and this deleted last, in which nothing waits or was noted
+abbrev pub state_of : (text site : ℕ) → List Operation → List Char → List Item → List Range → TextState
+state_of text site operations order stretch set = record {
   text = text;
   site = site;
   operations = operations;
   order = order;
   waiting_room = [];
-  last_stretch = [];
-  last_set = [];
+  last_stretch = stretch;
+  last_set = set;
   changes = [];
 }
 
 -- a text that nothing has changed
 abbrev pub empty_text : (text site : ℕ) → TextState
-empty_text text site = state_of text site [] []
+empty_text text site = state_of text site [] [] [] []
 
 -- what is shown: the visible ones of all characters, in their order
 abbrev pub shown_of : TextState → List Char

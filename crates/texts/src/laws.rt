@@ -7,11 +7,16 @@ ghost use Rattle.set_laws.specs.Sets.{AreIdentified};
 ghost use Rattle.texts.specs.Laws.{ShowsTheDefinition, OperationsTellTheText, FrontsTellTheText};
 ghost use Rattle.texts.specs.Laws.{OwnInsertIsPlain, HasOneTextWith};
 ghost use Rattle.texts.specs.Laws.{OwnDeleteHides, OwnRestoreShows, OwnLooksAreGiven};
-ghost use Rattle.texts.specs.Laws.{OwnDeleteIsPlain, OwnLooksArePlain};
+ghost use Rattle.texts.specs.Laws.{OwnDeleteIsPlain, OwnLooksArePlain, ADeleteKeepsItsStretch};
+ghost use Rattle.texts.specs.Laws.{OwnEditsArePlain};
 ghost use Rattle.texts.specs.Text.{IsText};
 ghost use Rattle.texts.specs.TextState.{TextState};
 
-use set_laws::growing::{counts_tell_what_is_here, good_sets_grow_by_verdict, own_next_is_ready};
+use char_files::runs_are_maximal;
+use operations::sets_are_told_by_their_names;
+use set_laws::growing::{
+    counts_go_on, counts_tell_what_is_here, good_sets_grow_by_verdict, own_next_is_ready,
+};
 use set_laws::unions::{equal_fronts_tell_equal_sets, front_is_held};
 use tree_order::laws::registers::{
     registers_are_offered, registers_tell_what_is_shown, the_order_stays,
@@ -109,6 +114,27 @@ pub fn own_looks_are_plain()
     ensures { OwnLooksArePlain }
 {
     own_looks_are_given();
+}
+
+/// A law: the set of the names shown from beg to end names this stretch and no others; an own Delete of it keeps
+/// the stretch.
+pub fn a_delete_keeps_its_stretch()
+    ensures { ADeleteKeepsItsStretch }
+{
+    sets_are_told_by_their_names();
+}
+
+/// A law: own edits are plain edits, however many of their operations stand.
+pub fn own_edits_are_plain()
+    ensures { OwnEditsArePlain }
+{
+    counts_go_on();
+    an_own_insert_is_plain();
+    an_own_delete_is_plain();
+    own_looks_are_plain();
+    an_own_restore_shows();
+    a_delete_keeps_its_stretch();
+    runs_are_maximal();
 }
 
 /// A law: one operation more, of this text, of which the set with it is good, leaves one text and no other.

@@ -11,13 +11,18 @@ ghost use Rattle.texts.specs.Take.{HasTaken, IsJudged};
 ghost use Rattle.texts.specs.Text.{IsAnchor, IsText};
 ghost use Rattle.texts.specs.TextState.{empty_text, shown_of};
 
+mod deleting;
+mod dressing;
+mod editing;
 mod inserting;
+mod own;
+mod pieces;
 mod taking;
 
 use crate::laws::the_fronts_tell_the_text;
-use char_files::{Anchor, SiteNo, TextNo};
+use char_files::{Anchor, Buffer, SiteNo, TextNo};
 use looks::{Looks, Refusal};
-use operations::Op;
+use operations::{NameSet, Op};
 use std::alloc::Global;
 use std::marker::Model;
 use taken_text::{Shown, TakenText};
@@ -28,18 +33,23 @@ pub struct Replica {
     text: TextNo,
     site: SiteNo,
     taken: TakenText,
+    // The stretch that the site deleted last, and its names; empty before that.
+    stretch: Buffer,
+    set: NameSet,
     alloc: Global,
 }
 
 impl Model for Replica {
     ghost use Rattle.std.specs.Prelude.{◌≡◌, All};
+    ghost use Rattle.texts.specs.Text.{AreCharNames};
     ghost use Rattle.texts.specs.TextState.{TextState, state_of};
 
     ghost Value = { TextState };
 
-    ghost view = { λ r. state_of r.text r.site r.taken.operations r.taken.chars };
+    ghost view = { λ r. state_of r.text r.site r.taken.operations r.taken.chars r.stretch r.set };
 
-    ghost invariant = { λ r. All (λ op. op.text ≡ r.text) r.taken.operations };
+    ghost invariant = { λ r. All (λ op. op.text ≡ r.text) r.taken.operations
+        × AreCharNames r.taken.operations r.set };
 }
 
 impl Replica {
@@ -52,6 +62,8 @@ impl Replica {
             text,
             site,
             taken: TakenText::new(alloc)?,
+            stretch: Buffer::new(alloc),
+            set: NameSet::new(alloc),
             alloc,
         })
     }

@@ -1,15 +1,49 @@
 use std::io;
 
-// A reader that fails behind its bytes.
-#[derive(Drop)]
-pub(super) struct FailsBehind<'a>(pub &'a [u8]);
+// A reader that gives at most `step` bytes at a time; behind its bytes it ends, or fails.
+#[derive(Clone, Copy, Drop)]
+pub(super) struct Reader<'a> {
+    bytes: &'a [u8],
+    step: usize,
+    fails: bool,
+}
 
-impl io::Read for FailsBehind<'_> {
-    fn read(&mut self, buf: &mut [u8]) -> io::Result<usize> {
-        match self.0.read(buf) {
-            Ok(0) => Err(io::ErrorKind::Other.into()),
-            taken => taken,
+impl<'a> Reader<'a> {
+    pub(super) fn at_once(bytes: &'a [u8]) -> Reader<'a> {
+        Reader {
+            bytes,
+            step: bytes.len(),
+            fails: false,
         }
+    }
+
+    pub(super) fn byte_by_byte(bytes: &'a [u8]) -> Reader<'a> {
+        Reader {
+            bytes,
+            step: 1,
+            fails: false,
+        }
+    }
+
+    pub(super) fn failing_behind(bytes: &'a [u8]) -> Reader<'a> {
+        Reader {
+            bytes,
+            step: bytes.len(),
+            fails: true,
+        }
+    }
+}
+
+impl io::Read for Reader<'_> {
+    fn read(&mut self, buf: &mut [u8]) -> io::Result<usize> {
+        if self.fails && self.bytes.is_empty() {
+            return Err(io::ErrorKind::Other.into());
+        }
+        let len = self.bytes.len().min(self.step).min(buf.len());
+        let (given, left) = self.bytes.split_at(len);
+        buf[..len].copy_from_slice(given);
+        self.bytes = left;
+        Ok(len)
     }
 }
 
@@ -22,14 +56,15 @@ pub(super) enum Fault {
 }
 
 // A writer that takes at most `step` bytes at a time and fails behind `room` bytes, or when it was flushed
-// `flushes` times.
+// `flushes` times. Of its bytes `flushed` are flushed.
 #[derive(Drop)]
 pub(super) struct Limited {
     pub out: Vec<u8>,
+    pub fault: Fault,
     pub step: usize,
     pub room: usize,
     pub flushes: usize,
-    pub fault: Fault,
+    pub flushed: usize,
 }
 
 impl io::Write for Limited {
@@ -51,45 +86,7 @@ impl io::Write for Limited {
             return Err(io::ErrorKind::Other.into());
         }
         self.flushes -= 1;
+        self.flushed = self.out.len();
         Ok(())
-    }
-}
-
-// A writer whose bytes are out when they are flushed; it counts how often that is.
-#[derive(Drop)]
-pub(super) struct Buffered {
-    pub held: Vec<u8>,
-    pub out: Vec<u8>,
-    pub flushes: usize,
-}
-
-impl io::Write for Buffered {
-    fn write(&mut self, buf: &[u8]) -> io::Result<usize> {
-        self.held.extend_from_slice(buf)?;
-        Ok(buf.len())
-    }
-
-    fn flush(&mut self) -> io::Result<()> {
-        self.out.extend_from_slice(&self.held)?;
-        self.held.clear();
-        self.flushes = self.flushes.saturating_add(1);
-        Ok(())
-    }
-}
-
-// A reader that gives one byte a read.
-#[derive(Drop)]
-pub(super) struct ByteByByte<'a>(pub &'a [u8]);
-
-impl io::Read for ByteByByte<'_> {
-    fn read(&mut self, buf: &mut [u8]) -> io::Result<usize> {
-        match (self.0.split_first(), buf.first_mut()) {
-            (Some((first, rest)), Some(place)) => {
-                *place = *first;
-                self.0 = rest;
-                Ok(1)
-            }
-            _ => Ok(0),
-        }
     }
 }

@@ -1,74 +1,98 @@
-use super::fakes::{Buffered, ByteByByte, FailsBehind, Fault, Limited};
-use super::messages::spelled;
-use super::{Played, play};
+use super::fakes::{Fault, Limited, Reader};
+use super::messages::{spell, spelled};
+use super::{Ending, WELL, answers, compare, is, play};
 use looks::Refusal;
-use script_runs::status_of;
+use script_runs::{Settings, status_of};
 use std::alloc::Global;
-use std::io;
 use std::test::Fail;
 
-// Lines, each with its answer, in which `<Oberon>` stands for the message's hex.
-const LINES: &[(&[u8], &str)] = &[
-    (b"1 type 1 0 Oberon\n", "send m1 <Oberon>\nok\n"),
-    (b"1 text 1\n", "text 6 Oberon\n"),
-    (b"1 typo\n", "refused 20\n"),
-    (b"# a comment\n", ""),
+pub(super) const READ_FAULT: Ending = Ending {
+    result: Err(Refusal::ReadFault),
+    read_failed: true,
+    write_failed: false,
+    flushed: true,
+};
+
+const WRITE_FAULT: Ending = Ending {
+    result: Err(Refusal::WriteFault),
+    read_failed: false,
+    write_failed: true,
+    flushed: false,
+};
+
+const SCRIPT: &[u8] = b"1 type 1 0 Oberon\n1 text 1\n1 typo\n# a comment\n";
+
+// The answers to its lines.
+const ANSWERS: &[&str] = &[
+    "send m1 <Oberon>\nok\n",
+    "text 6 Oberon\n",
+    "refused 20\n",
+    "",
 ];
 
-#[test]
-fn the_reader_fails_at_each_byte(rt: HostRuntime) -> Result<(), Fail> {
-    let mut script = Vec::new(rt.alloc());
-    let mut answered = Vec::new(rt.alloc());
-    for (line, answer) in LINES {
-        for cut in 0..line.len() {
-            let mut given = Vec::from_slice(rt.alloc(), &script)?;
-            given.extend_from_slice(&line[..cut])?;
-            let mut want = Vec::from_slice(rt.alloc(), &answered)?;
-            want.extend_from_slice(b"refused 21\n")?;
-            let played = play(rt.alloc(), FailsBehind(&given), Vec::new(rt.alloc()))?;
-            assert_eq!(rt; played.writer.as_slice(), want.as_slice());
-            assert_eq!(rt; played.ended, Err(Refusal::ReadFault));
-            assert!(rt; played.read_failed && !played.write_failed && played.flushed);
+// The answers to the lines that ended.
+fn add_answers(answers: &mut Vec<u8>, given: &[u8]) -> Result<(), Fail> {
+    let mut left = ANSWERS.iter();
+    for byte in given {
+        if *byte == b'\n' {
+            spell(answers, left.next().ok_or("a line")?)?;
         }
-        script.extend_from_slice(line)?;
-        answered.extend_from_slice(&spelled(rt.alloc(), answer)?)?;
     }
     Ok(())
 }
 
-// A run into such a writer.
-fn play_into<R: io::Read + Drop>(
-    alloc: Global,
-    reader: R,
-    step: usize,
-    room: usize,
-    fault: Fault,
-) -> Result<Played<Limited>, Refusal> {
-    let writer = Limited {
-        out: Vec::new(alloc),
-        step,
-        room,
-        flushes: 100,
-        fault,
-    };
-    play(alloc, reader, writer)
+// A script whose reader fails behind it.
+fn cut_off(alloc: Global, given: &[u8]) -> Result<(), Fail> {
+    let mut want = Vec::new(alloc);
+    add_answers(&mut want, given)?;
+    want.extend_from_slice(b"refused 21\n")?;
+    let reader = Reader::failing_behind(given);
+    answers(
+        alloc,
+        "cut off",
+        Settings::default(),
+        reader,
+        (&want, READ_FAULT),
+    )
 }
 
-// Whether a run into such a writer leaves these bytes and ends so, where the writer failed or not.
+#[test]
+fn the_reader_fails_at_each_byte(rt: HostRuntime) -> Result<(), Fail> {
+    for len in 0..SCRIPT.len() {
+        cut_off(rt.alloc(), &SCRIPT[..len])?;
+    }
+    Ok(())
+}
+
+// How a writer fails, how many bytes it takes at a time, behind how many, and when it was flushed how often.
+type How = (Fault, usize, usize, usize);
+
+// Plays a script into such a writer, which is to have these bytes in the end, all flushed where the run says so.
+// How often it was flushed.
 fn leaves(
     alloc: Global,
-    script: &[u8],
-    (step, room, fault): (usize, usize, Fault),
-    want: &[u8],
-    ended: Result<(), Refusal>,
-) -> Result<bool, Refusal> {
-    let played = play_into(alloc, script, step, room, fault)?;
-    Ok(
-        played.writer.out.as_slice() == want
-            && played.ended == ended
-            && played.write_failed == ended.is_err()
-            && (played.flushed || ended.is_err())
-            && !played.read_failed,
+    reader: Reader<'_>,
+    (fault, step, room, flushes): How,
+    want: (&[u8], Ending),
+) -> Result<usize, Fail> {
+    let writer = Limited {
+        out: Vec::new(alloc),
+        fault,
+        step,
+        room,
+        flushes,
+        flushed: 0,
+    };
+    let (writer, ended) = play(alloc, reader, writer, Settings::default())?;
+    holds(&writer, ended, want)?;
+    Ok(flushes.saturating_sub(writer.flushes))
+}
+
+fn holds(writer: &Limited, ended: Ending, want: (&[u8], Ending)) -> Result<(), Fail> {
+    compare("a writer", (&writer.out, ended), want)?;
+    is(
+        !ended.flushed || writer.flushed == writer.out.len(),
+        "a flush",
     )
 }
 
@@ -84,41 +108,54 @@ const HOW: &[(Fault, usize)] = &[
     (Fault::TakesNothing, 1000),
 ];
 
-#[test]
-fn the_writer_fails_at_each_byte(rt: HostRuntime) -> Result<(), Fail> {
-    let mut script = Vec::new(rt.alloc());
-    let mut want = Vec::new(rt.alloc());
-    for (line, answer) in LINES {
-        script.extend_from_slice(line)?;
-        want.extend_from_slice(&spelled(rt.alloc(), answer)?)?;
+fn fails_at_each_byte(
+    alloc: Global,
+    (fault, step): (Fault, usize),
+    want: &[u8],
+) -> Result<(), Fail> {
+    let reader = Reader::at_once(SCRIPT);
+    for room in 0..want.len() {
+        leaves(
+            alloc,
+            reader,
+            (fault, step, room, 100),
+            (&want[..room], WRITE_FAULT),
+        )?;
     }
-    for (fault, step) in HOW {
-        for room in 0..want.len() {
-            let cut = Err(Refusal::WriteFault);
-            let how = (*step, room, *fault);
-            assert!(rt;
-                leaves(rt.alloc(), &script, how, &want[..room], cut)?,
-                "{fault:?}, {step}, {room}"
-            );
-        }
-        let how = (*step, want.len(), *fault);
-        assert!(rt;
-            leaves(rt.alloc(), &script, how, &want, Ok(()))?,
-            "{fault:?}, {step}"
-        );
+    leaves(alloc, reader, (fault, step, want.len(), 100), (want, WELL))?;
+    Ok(())
+}
+
+fn each_fails(alloc: Global, want: &[u8]) -> Result<(), Fail> {
+    for how in HOW {
+        fails_at_each_byte(alloc, *how, want)?;
     }
     Ok(())
+}
+
+#[test]
+fn the_writer_fails_at_each_byte(rt: HostRuntime) -> Result<(), Fail> {
+    let mut want = Vec::new(rt.alloc());
+    add_answers(&mut want, SCRIPT)?;
+    each_fails(rt.alloc(), &want)
 }
 
 #[test]
 fn reader_and_writer_fail(rt: HostRuntime) -> Result<(), Fail> {
     let want = b"text 0\nrefused 21\n".as_slice();
     for room in 0..want.len() {
-        let reader = FailsBehind(b"1 text 1\n2 text 1");
-        let played = play_into(rt.alloc(), reader, 3, room, Fault::Fails)?;
-        assert_eq!(rt; played.writer.out.as_slice(), &want[..room]);
-        assert_eq!(rt; played.ended, Err(Refusal::WriteFault));
-        assert!(rt; played.write_failed);
+        // The reader is asked again behind the first answer.
+        let end = Ending {
+            read_failed: 7 <= room,
+            ..WRITE_FAULT
+        };
+        let reader = Reader::failing_behind(b"1 text 1\n2 text 1");
+        leaves(
+            rt.alloc(),
+            reader,
+            (Fault::Fails, 3, room, 100),
+            (&want[..room], end),
+        )?;
     }
     Ok(())
 }
@@ -126,34 +163,29 @@ fn reader_and_writer_fail(rt: HostRuntime) -> Result<(), Fail> {
 #[test]
 fn a_flush_fails(rt: HostRuntime) -> Result<(), Fail> {
     // Two lines that come byte by byte: a flush ahead of each, one before the end is found, and one at the end.
-    let wants: [(usize, &[u8]); 4] = [
-        (0, b""),
-        (1, b"text 0\n"),
-        (2, b"text 0\nrefused 20\n"),
-        (3, b"text 0\nrefused 20\n"),
+    let wants: [&[u8]; 4] = [
+        b"",
+        b"text 0\n",
+        b"text 0\nrefused 20\n",
+        b"text 0\nrefused 20\n",
     ];
-    for (flushes, want) in wants {
-        let writer = Limited {
-            out: Vec::new(rt.alloc()),
-            step: 1000,
-            room: 1000,
-            flushes,
-            fault: Fault::Fails,
-        };
-        let played = play(rt.alloc(), ByteByByte(b"1 text 1\n1 typo\n"), writer)?;
-        assert_eq!(rt; played.writer.out.as_slice(), want);
-        assert_eq!(rt; played.ended, Err(Refusal::WriteFault));
-        assert!(rt; played.write_failed && !played.flushed);
+    for flushes in 0..4 {
+        let reader = Reader::byte_by_byte(b"1 text 1\n1 typo\n");
+        let how = (Fault::Fails, 1000, 1000, flushes);
+        leaves(rt.alloc(), reader, how, (wants[flushes], WRITE_FAULT))?;
     }
     Ok(())
 }
 
-fn buffered(alloc: Global) -> Buffered {
-    Buffered {
-        held: Vec::new(alloc),
-        out: Vec::new(alloc),
-        flushes: 0,
-    }
+fn is_flushed(
+    alloc: Global,
+    reader: Reader<'_>,
+    want: &[u8],
+    end: Ending,
+    times: usize,
+) -> Result<(), Fail> {
+    let flushes = leaves(alloc, reader, (Fault::Fails, 1000, 1000, 100), (want, end))?;
+    is(flushes == times, "how often")
 }
 
 #[test]
@@ -161,29 +193,23 @@ fn answers_are_flushed(rt: HostRuntime) -> Result<(), Fail> {
     let script = b"1 text 1\n2 text 1\n1 typo\n".as_slice();
     let want = b"text 0\ntext 0\nrefused 20\n".as_slice();
     // All lines are held but the first, and what follows the last: a flush ahead of each, and one at the end.
-    let played = play(rt.alloc(), script, buffered(rt.alloc()))?;
-    assert_eq!(rt; played.ended, Ok(()));
-    assert_eq!(rt; played.writer.out.as_slice(), want);
-    assert_eq!(rt; played.writer.flushes, 3);
+    is_flushed(rt.alloc(), Reader::at_once(script), want, WELL, 3)?;
     // No line is held before it is asked for: a flush ahead of each of the four asks, and one at the end.
-    let played = play(rt.alloc(), ByteByByte(script), buffered(rt.alloc()))?;
-    assert_eq!(rt; played.writer.out.as_slice(), want);
-    assert_eq!(rt; played.writer.flushes, 5);
-    let played = play(rt.alloc(), FailsBehind(b"1 text 1"), buffered(rt.alloc()))?;
-    assert_eq!(rt; played.ended, Err(Refusal::ReadFault));
-    assert_eq!(rt; played.writer.out.as_slice(), b"refused 21\n".as_slice());
-    Ok(())
+    is_flushed(rt.alloc(), Reader::byte_by_byte(script), want, WELL, 5)?;
+    // One ahead of the only ask, and one behind the answer.
+    let reader = Reader::failing_behind(b"1 text 1");
+    is_flushed(rt.alloc(), reader, b"refused 21\n", READ_FAULT, 2)
 }
 
 #[test]
 fn statuses(rt: HostRuntime) -> Result<(), Fail> {
-    assert_eq!(rt; status_of(&Ok(())), 0);
+    is(status_of(&Ok(())) == 0, "a run that ended well")?;
     for why in [
         Refusal::OutOfMemory,
         Refusal::ReadFault,
         Refusal::WriteFault,
     ] {
-        assert_eq!(rt; status_of(&Err(why)), 1);
+        is(status_of(&Err(why)) == 1, "a run that didn't")?;
     }
     Ok(())
 }

@@ -1,17 +1,13 @@
-use super::{play, with_tail};
-use looks::Refusal;
+use super::fakes::Reader;
+use super::faults::READ_FAULT;
+use super::messages::spelled;
+use super::{Ending, WELL, answers};
 use script_io::MAX_LINE;
-use script_runs::{MAX_FIRST, MAX_HEIGHT, MAX_LINES, MAX_SITES, MAX_WIDTH, MIN_HEIGHT, MIN_WIDTH};
+use script_runs::{
+    MAX_FIRST, MAX_HEIGHT, MAX_LINES, MAX_SITES, MAX_WIDTH, MIN_HEIGHT, MIN_WIDTH, Settings,
+};
 use std::alloc::Global;
-use std::io;
 use std::test::Fail;
-
-// A line of `len` bytes, a comment, between two others.
-fn long_comment(alloc: Global, len: usize) -> io::Result<Vec<u8>> {
-    let mut script = with_tail(alloc, b"1 text 1\n", b'#', len)?;
-    script.extend_from_slice(b"\n1 text 1\n")?;
-    Ok(script)
-}
 
 // Clauses name these limits.
 #[test]
@@ -23,53 +19,52 @@ fn limits_are_as_told(rt: HostRuntime) -> Result<(), Fail> {
     Ok(())
 }
 
-#[test]
-fn the_longest_line(rt: HostRuntime) -> Result<(), Fail> {
-    let script = long_comment(rt.alloc(), 32768)?;
-    let played = play(rt.alloc(), script.as_slice(), Vec::new(rt.alloc()))?;
-    assert_eq!(rt; played.writer.as_slice(), b"text 0\ntext 0\n".as_slice());
-    assert_eq!(rt; played.ended, Ok(()));
-    let script = long_comment(rt.alloc(), 32769)?;
-    let played = play(rt.alloc(), script.as_slice(), Vec::new(rt.alloc()))?;
-    assert_eq!(rt;
-        played.writer.as_slice(),
-        b"text 0\nrefused 21\n".as_slice()
-    );
-    assert_eq!(rt; played.ended, Err(Refusal::ReadFault));
-    assert!(rt; !played.read_failed);
-    Ok(())
+// The reader didn't fail, but what it gave passes a limit.
+const PASSED: Ending = Ending {
+    read_failed: false,
+    ..READ_FAULT
+};
+
+// What, a script for the sites 1 and 2, all its answers, and how it ends.
+const ROWS: &[(&str, &str, &str, Ending)] = &[
+    (
+        "the longest line",
+        "1 text 1\n<32768*#>\n1 text 1\n",
+        "text 0\ntext 0\n",
+        WELL,
+    ),
+    (
+        "a line too long",
+        "1 text 1\n<32769*#>\n1 text 1\n",
+        "text 0\nrefused 21\n",
+        PASSED,
+    ),
+    ("the most lines", "1 text 1\n<1048575*\n>", "text 0\n", WELL),
+    (
+        "a byte behind them",
+        "1 text 1\n<1048575*\n>#",
+        "text 0\nrefused 21\n",
+        PASSED,
+    ),
+    (
+        "the longest insert",
+        "1 type 1 0 <4096*x>",
+        "send m1 4f5401010001000100000001000000000000000100000000000000000000104f6265726f6e31302e53636e2e466e7401001000<4096*78>\nok\n",
+        WELL,
+    ),
+];
+
+fn ends(alloc: Global, (what, script, want, end): &(&str, &str, &str, Ending)) -> Result<(), Fail> {
+    let script = spelled(alloc, script)?;
+    let want = spelled(alloc, want)?;
+    let reader = Reader::at_once(&script);
+    answers(alloc, what, Settings::default(), reader, (&want, *end))
 }
 
 #[test]
-fn the_most_lines(rt: HostRuntime) -> Result<(), Fail> {
-    let mut script = with_tail(rt.alloc(), b"1 text 1\n", b'\n', (1 << 20) - 1)?;
-    let played = play(rt.alloc(), script.as_slice(), Vec::new(rt.alloc()))?;
-    assert_eq!(rt; played.writer.as_slice(), b"text 0\n".as_slice());
-    assert_eq!(rt; played.ended, Ok(()));
-    script.push(b'#')?;
-    let played = play(rt.alloc(), script.as_slice(), Vec::new(rt.alloc()))?;
-    assert_eq!(rt;
-        played.writer.as_slice(),
-        b"text 0\nrefused 21\n".as_slice()
-    );
-    assert_eq!(rt; played.ended, Err(Refusal::ReadFault));
-    assert!(rt; !played.read_failed);
-    Ok(())
-}
-
-#[test]
-fn the_longest_insert(rt: HostRuntime) -> Result<(), Fail> {
-    let script = with_tail(rt.alloc(), b"1 type 1 0 ", b'x', 4096)?;
-    let played = play(rt.alloc(), script.as_slice(), Vec::new(rt.alloc()))?;
-    let head = b"send m1 4f5401010001000100000001000000000000000100000000000000000000\
-        104f6265726f6e31302e53636e2e466e7401001000";
-    assert_eq!(rt; played.writer.len(), head.len() + 2 * 4096 + 4);
-    assert!(rt; played.writer.as_slice().starts_with(head));
-    assert!(rt; played.writer.as_slice().ends_with(b"7878\nok\n"));
-    assert_eq!(rt; played.ended, Ok(()));
-    let script = with_tail(rt.alloc(), b"1 type 1 0 ", b'x', 4097)?;
-    let played = play(rt.alloc(), script.as_slice(), Vec::new(rt.alloc()))?;
-    assert_eq!(rt; played.writer.as_slice(), b"refused 20\n".as_slice());
-    assert_eq!(rt; played.ended, Ok(()));
+fn rows(rt: HostRuntime) -> Result<(), Fail> {
+    for row in ROWS {
+        ends(rt.alloc(), row)?;
+    }
     Ok(())
 }

@@ -1,10 +1,9 @@
 //! Messages that spell no operation.
-use super::messages::{hex_of, spelled};
-use super::{plays, sites};
+use super::messages::{hex_of, spell};
+use super::{SITE_3, plays, settings_of};
+use std::alloc::Global;
+use std::io;
 use std::test::Fail;
-
-// The one site of a run.
-const SITE_3: (u16, u16) = (3, 1);
 
 const MALFORMED: &[(&str, &str)] = &[
     (
@@ -110,37 +109,53 @@ const MALFORMED: &[(&str, &str)] = &[
     ),
 ];
 
-// Whatever they are, the text takes nothing in.
+// Whatever it is, the text takes nothing in.
+fn is_refused(alloc: Global, what: &str, hex: &str) -> Result<(), Fail> {
+    let mut script = Vec::new(alloc);
+    for part in ["3 take 1 ", hex, "\n3 front 1\n3 text 1\n"] {
+        script.extend_from_slice(part.as_bytes())?;
+    }
+    let want = b"refused 1\nwaiting 0\ntext 0\n";
+    plays(alloc, what, settings_of(SITE_3)?, &script, want)
+}
+
 #[test]
 fn they_are_refused(rt: HostRuntime) -> Result<(), Fail> {
     for (what, hex) in MALFORMED {
-        let mut script = Vec::from_slice(rt.alloc(), b"3 take 1 ")?;
-        script.extend_from_slice(hex.as_bytes())?;
-        script.extend_from_slice(b"\n3 front 1\n3 text 1\n")?;
-        let want = b"refused 1\nwaiting 0\ntext 0\n";
-        plays(rt.alloc(), what, sites(SITE_3)?, &script, want)?;
+        is_refused(rt.alloc(), what, hex)?;
     }
     Ok(())
 }
 
 // A prefix of a message is refused for what it spells; one of an odd number of digits spells no bytes.
-#[test]
-fn prefixes_are_refused(rt: HostRuntime) -> Result<(), Fail> {
-    let (mut script, mut want) = (Vec::new(rt.alloc()), Vec::new(rt.alloc()));
+fn add_prefix(script: &mut Vec<u8>, want: &mut Vec<u8>, prefix: &[u8]) -> io::Result<()> {
+    script.extend_from_slice(b"3 take 1 ")?;
+    script.extend_from_slice(prefix)?;
+    script.extend_from_slice(b"\n")?;
+    let malformed = 0 < prefix.len() && prefix.len() % 2 == 0;
+    let answer = if malformed {
+        b"refused 1\n".as_slice()
+    } else {
+        b"refused 20\n"
+    };
+    want.extend_from_slice(answer)?;
+    Ok(())
+}
+
+// A script of the prefixes of a message, and then the whole message.
+fn add_prefixes(script: &mut Vec<u8>, want: &mut Vec<u8>) -> Result<(), Fail> {
     let hex = hex_of("Oberon")?.as_bytes();
     for len in 0..hex.len() {
-        script.extend_from_slice(b"3 take 1 ")?;
-        script.extend_from_slice(&hex[..len])?;
-        script.extend_from_slice(b"\n")?;
-        let malformed = 0 < len && len % 2 == 0;
-        let answer = if malformed {
-            b"refused 1\n".as_slice()
-        } else {
-            b"refused 20\n"
-        };
-        want.extend_from_slice(answer)?;
+        add_prefix(script, want, &hex[..len])?;
     }
-    script.extend_from_slice(&spelled(rt.alloc(), "3 take 1 <Oberon>\n3 text 1\n")?)?;
-    want.extend_from_slice(b"taken 0 0\ntext 6 Oberon\n")?;
-    plays(rt.alloc(), "prefixes", sites(SITE_3)?, &script, &want)
+    spell(script, "3 take 1 <Oberon>\n3 text 1\n")?;
+    spell(want, "taken 0 0\ntext 6 Oberon\n")
+}
+
+#[test]
+fn prefixes_are_refused(rt: HostRuntime) -> Result<(), Fail> {
+    let settings = settings_of(SITE_3)?;
+    let (mut script, mut want) = (Vec::new(rt.alloc()), Vec::new(rt.alloc()));
+    add_prefixes(&mut script, &mut want)?;
+    plays(rt.alloc(), "prefixes", settings, &script, &want)
 }

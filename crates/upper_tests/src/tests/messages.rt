@@ -4,6 +4,7 @@ use std::test::Fail;
 
 // Messages by the names that scripts have for them, worked out by hand from the format's description.
 const MESSAGES: &[(&str, &str)] = &[
+    ("no message", ""),
     // Typed first in a text; another one under the same identity; the first one in capitals.
     (
         "Oberon",
@@ -39,6 +40,19 @@ const MESSAGES: &[(&str, &str)] = &[
     (
         "colour O",
         "4f540103000100010000000200000000000000020207000100010000000000000001",
+    ),
+    // Then the `r` and the `o` move, and the `n` has another font, by site 1; behind that site 2 types.
+    (
+        "offset of r and o",
+        "4f5401030001000100000003000000000000000304fd000100010000000300000002",
+    ),
+    (
+        "font of n",
+        "4f5401030001000100000004000000000000000401084d6f6e6f2e466e74000100010000000500000001",
+    ),
+    (
+        "y behind O",
+        "4f5401010001000200000001000000000000000500010000000000000000104f6265726f6e31302e53636e2e466e740100000179",
     ),
     // The greatest stamp, by site 2; the one before it, and the greatest by site 1.
     (
@@ -162,26 +176,137 @@ const MESSAGES: &[(&str, &str)] = &[
         "colour 5",
         "4f540103000100020000000100000000000000020205000100010000000000000001",
     ),
+    // What was cut is typed at the start, twice; a stretch, in another text.
+    (
+        "bc at the start",
+        "4f5401010001000100000004000000000000000400000000000000000006104f6265726f6e31302e53636e2e466e74010000026263",
+    ),
+    (
+        "bc at the start again",
+        "4f5401010001000100000005000000000000000500000000000000000008104f6265726f6e31302e53636e2e466e74010000026263",
+    ),
+    (
+        "bc of text 2",
+        "4f5401010002000100000001000000000000000100000000000000000000104f6265726f6e31302e53636e2e466e74010000026263",
+    ),
+    // The `Q` moves, and then changes in all.
+    (
+        "offset -128",
+        "4f540103000100010000000200000000000000020480000100010000000000000001",
+    ),
+    (
+        "Mono, colour 15 and offset 127",
+        "4f5401030001000100000003000000000000000307084d6f6e6f2e466e740f7f000100010000000000000001",
+    ),
+    // What stands ahead of the bytes of a long insert, by site 1; one byte more.
+    (
+        "4096 at the start",
+        "4f5401010001000100000001000000000000000100000000000000000000104f6265726f6e31302e53636e2e466e7401001000",
+    ),
+    (
+        "y behind 4096",
+        "4f54010100010001000000020000000000000002000100000fff00001000104f6265726f6e31302e53636e2e466e740100000179",
+    ),
+    (
+        "4096 of the greatest stamp",
+        "4f54010100010001000000010000ffffffffffff00000000000000000000104f6265726f6e31302e53636e2e466e7401001000",
+    ),
+    (
+        "2050 at the start",
+        "4f5401010001000100000001000000000000000100000000000000000000104f6265726f6e31302e53636e2e466e7401000802",
+    ),
+    // What stands ahead of the ranges of a Delete.
+    (
+        "cut of 1024 ranges",
+        "4f540102000100010000040300000000000004030400",
+    ),
+    // What was cut is typed at the start, twice; a stretch, in another text.
+    (
+        "bc at the start",
+        "4f5401010001000100000004000000000000000400000000000000000006104f6265726f6e31302e53636e2e466e74010000026263",
+    ),
+    (
+        "bc at the start again",
+        "4f5401010001000100000005000000000000000500000000000000000008104f6265726f6e31302e53636e2e466e74010000026263",
+    ),
+    (
+        "bc of text 2",
+        "4f5401010002000100000001000000000000000100000000000000000000104f6265726f6e31302e53636e2e466e74010000026263",
+    ),
+    // The `Q` moves, and then changes in all.
+    (
+        "offset -128",
+        "4f540103000100010000000200000000000000020480000100010000000000000001",
+    ),
+    (
+        "Mono, colour 15 and offset 127",
+        "4f5401030001000100000003000000000000000307084d6f6e6f2e466e740f7f000100010000000000000001",
+    ),
+    // What stands ahead of the bytes of a long insert, by site 1; one byte more.
+    (
+        "4096 at the start",
+        "4f5401010001000100000001000000000000000100000000000000000000104f6265726f6e31302e53636e2e466e7401001000",
+    ),
+    (
+        "y behind 4096",
+        "4f54010100010001000000020000000000000002000100000fff00001000104f6265726f6e31302e53636e2e466e740100000179",
+    ),
+    (
+        "4096 of the greatest stamp",
+        "4f54010100010001000000010000ffffffffffff00000000000000000000104f6265726f6e31302e53636e2e466e7401001000",
+    ),
+    (
+        "2050 at the start",
+        "4f5401010001000100000001000000000000000100000000000000000000104f6265726f6e31302e53636e2e466e7401000802",
+    ),
+    // What stands ahead of the ranges of a Delete.
+    (
+        "cut of 1024 ranges",
+        "4f540102000100010000040300000000000004030400",
+    ),
 ];
 
 // The message of this name, in hex.
 pub(super) fn hex_of(name: &str) -> Result<&'static str, Fail> {
-    let found = MESSAGES.iter().find(|(known, _)| *known == name);
-    Ok(found.ok_or("a message of this name")?.1)
+    for (known, hex) in MESSAGES {
+        if *known == name {
+            return Ok(*hex);
+        }
+    }
+    Err("a message of this name".into())
 }
 
-// A script or its answers: a name between angle brackets stands for the hex of the message.
-pub(super) fn spelled(alloc: Global, text: &str) -> Result<Vec<u8>, Fail> {
-    let mut bytes = Vec::new(alloc);
+// What stands between angle brackets: a count and what stands there so often, or a message's name.
+fn spell_name(bytes: &mut Vec<u8>, name: &str) -> Result<(), Fail> {
+    let Some((count, unit)) = name.split_once('*') else {
+        bytes.extend_from_slice(hex_of(name)?.as_bytes())?;
+        return Ok(());
+    };
+    for _ in 0..count.parse::<usize>()? {
+        bytes.extend_from_slice(unit.as_bytes())?;
+    }
+    Ok(())
+}
+
+// Puts a script or its answers at the end, as `spelled`.
+pub(super) fn spell(bytes: &mut Vec<u8>, text: &str) -> Result<(), Fail> {
     for part in text.split('<') {
         let rest = match part.split_once('>') {
             Some((name, rest)) => {
-                bytes.extend_from_slice(hex_of(name)?.as_bytes())?;
+                spell_name(bytes, name)?;
                 rest
             }
             None => part,
         };
         bytes.extend_from_slice(rest.as_bytes())?;
     }
+    Ok(())
+}
+
+// A script or its answers: a name between angle brackets stands for the hex of the message, and `4*ab` there for
+// `abababab`.
+pub(super) fn spelled(alloc: Global, text: &str) -> Result<Vec<u8>, Fail> {
+    let mut bytes = Vec::new(alloc);
+    spell(&mut bytes, text)?;
     Ok(bytes)
 }

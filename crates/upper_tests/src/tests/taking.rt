@@ -1,14 +1,12 @@
 //! Replicas that take in messages.
-ghost use Rattle.std.specs.Prelude.{IfOk};
-ghost use Rattle.texts.specs.Edit.{IsOneInsert};
-
+use super::is;
 use super::messages::hex_of;
 use super::replicas::replica_of;
 use char_files::{Anchor, Buffer, Name, SiteNo};
 use looks::{Looks, Refusal};
 use std::alloc::Global;
 use std::test::Fail;
-use texts::{Outbox, Replica, Took};
+use texts::{Outbox, Replica, Shown, Took};
 
 const TAKEN: Result<Took, Refusal> = Ok(Took::Taken {
     drained: 0,
@@ -25,79 +23,71 @@ fn at((number, off): (u16, u32)) -> Result<Anchor, Fail> {
 }
 
 // Three characters of the default looks.
-fn word(alloc: Global, bytes: (u8, u8, u8)) -> Result<Buffer, Refusal>
-    ensures { IfOk result (λ buffer. IsOneInsert buffer) }
-{
+fn word(alloc: Global, bytes: (u8, u8, u8)) -> Result<Buffer, Refusal> {
     let mut buffer = Buffer::new(alloc);
-    buffer.push(bytes.0, Looks::plain())?;
-    buffer.push(bytes.1, Looks::plain())?;
-    buffer.push(bytes.2, Looks::plain())?;
+    buffer.push_all(&[bytes.0, bytes.1, bytes.2], &Looks::plain())?;
     Ok(buffer)
 }
 
-// A site's copy of text 1, in which it has typed at the start.
-fn typed(
+// Types a word at the start.
+fn type_word(
     alloc: Global,
-    site: u16,
+    replica: &mut Replica,
     bytes: (u8, u8, u8),
     outbox: &mut Outbox,
-) -> Result<Replica, Fail> {
+) -> Result<(), Fail> {
     let word = word(alloc, bytes)?;
-    let mut replica = replica_of(alloc, 1, site)?;
-    replica.insert(0, &word, outbox)?;
-    Ok(replica)
+    is(replica.insert(0, &word, outbox) == Ok(1), "one message")
 }
 
 // Takes in a message that was sent.
-fn take_sent(replica: &mut Replica, outbox: &Outbox, index: usize) -> Result<Took, Refusal> {
+fn take_sent(replica: &mut Replica, outbox: &Outbox, index: usize) -> Result<(), Fail> {
     if outbox.len() <= index {
-        return Err(Refusal::BadEvent);
+        return Err("a message".into());
     }
-    replica.take(outbox.message(index))
+    is(replica.take(outbox.message(index)) == TAKEN, "taken in")
 }
 
-// The copies of the sites 1 and 2, each of which typed at the start and took in the other's message.
-fn exchanged(alloc: Global) -> Result<(Replica, Replica), Fail> {
-    let mut outbox = Outbox::new(alloc);
-    let mut one = typed(alloc, 1, (b'o', b'n', b'e'), &mut outbox)?;
-    let mut two = typed(alloc, 2, (b't', b'w', b'o'), &mut outbox)?;
-    take_sent(&mut one, &outbox, 1)?;
-    take_sent(&mut two, &outbox, 0)?;
-    Ok((one, two))
+// Each types at the start, and takes in the other's message.
+fn exchange(
+    alloc: Global,
+    (one, two): (&mut Replica, &mut Replica),
+    outbox: &mut Outbox,
+) -> Result<(), Fail> {
+    type_word(alloc, one, (b'o', b'n', b'e'), outbox)?;
+    type_word(alloc, two, (b't', b'w', b'o'), outbox)?;
+    take_sent(one, outbox, 1)?;
+    take_sent(two, outbox, 0)
 }
 
-// The characters shown, each by its byte, its site and its place in the site's file, where all have the
-// default looks.
-fn shown_by(alloc: Global, replica: &Replica) -> Result<Vec<(u8, u16, u32)>, Fail> {
-    let mut shown = Vec::new(alloc);
-    for char in replica.shown() {
-        if char.looks != Looks::plain() {
-            return Err("other looks".into());
-        }
-        shown.push((char.byte, char.name.site().get(), char.name.off()))?;
+// The characters shown, each by its byte, its site and its place in the site's file. All have the default looks.
+const SHOWN: &[(u8, u16, u32)] = &[
+    (b't', 2, 0),
+    (b'w', 2, 1),
+    (b'o', 2, 2),
+    (b'o', 1, 0),
+    (b'n', 1, 1),
+    (b'e', 1, 2),
+];
+
+fn is_next(shown: &mut Shown<'_>, (byte, site, off): (u8, u16, u32)) -> Result<(), Fail> {
+    let char = shown.next().ok_or("a character")?;
+    is(
+        char.byte == byte && char.looks == Looks::plain(),
+        "a character",
+    )?;
+    is(
+        char.name.site().get() == site && char.name.off() == off,
+        "a name",
+    )
+}
+
+fn shows_all(replica: &Replica) -> Result<(), Fail> {
+    let mut shown = replica.shown();
+    for want in SHOWN {
+        is_next(&mut shown, *want)?;
     }
-    Ok(shown)
-}
-
-#[test]
-fn both_show_the_same(rt: HostRuntime) -> Result<(), Fail> {
-    let want = [
-        (b't', 2, 0),
-        (b'w', 2, 1),
-        (b'o', 2, 2),
-        (b'o', 1, 0),
-        (b'n', 1, 1),
-        (b'e', 1, 2),
-    ];
-    let (one, two) = exchanged(rt.alloc())?;
-    assert_eq!(rt; shown_by(rt.alloc(), &one)?.as_slice(), want.as_slice());
-    assert_eq!(rt; shown_by(rt.alloc(), &two)?.as_slice(), want.as_slice());
-    Ok(())
-}
-
-// Whatever ends a test early drops the replicas that it has, so those below are looked at in calls of their own.
-fn is(right: bool, what: &'static str) -> Result<(), Fail> {
-    if right { Ok(()) } else { Err(what.into()) }
+    is(shown.next().is_none(), "all of them")
 }
 
 // What a character hangs on that is typed at this position.
@@ -130,59 +120,68 @@ fn has_its_anchors(replica: &Replica) -> Result<(), Fail> {
     is(anchor_at(replica, 7).is_none(), "behind the end")
 }
 
-fn stands_as_defined(replica: &Replica) -> Result<(), Fail> {
-    has_its_places(replica)?;
-    has_its_anchors(replica)
-}
-
-#[test]
-fn places_and_anchors(rt: HostRuntime) -> Result<(), Fail> {
-    let (one, two) = exchanged(rt.alloc())?;
-    stands_as_defined(&one)?;
-    stands_as_defined(&two)
-}
+// Sites, and how many operations of each were taken in.
+const FRONTS: &[(u16, u32)] = &[(1, 1), (2, 1), (3, 0)];
 
 fn has_its_fronts(replica: &Replica) -> Result<(), Fail> {
-    for (number, front) in [(1, 1), (2, 1), (3, 0)] {
-        is(replica.front(site(number)?) == front, "a front")?;
+    for (number, front) in FRONTS {
+        is(replica.front(site(*number)?) == *front, "a front")?;
     }
-    let wants = [site(1)?, site(2)?];
-    is(replica.sites()?.as_slice() == wants.as_slice(), "the sites")?;
     is(replica.waiting() == 0, "none waits")
 }
 
-#[test]
-fn fronts_and_sites(rt: HostRuntime) -> Result<(), Fail> {
-    let (one, two) = exchanged(rt.alloc())?;
-    has_its_fronts(&one)?;
-    has_its_fronts(&two)
+fn has_its_sites(replica: &Replica) -> Result<(), Fail> {
+    let wants = [site(1)?, site(2)?];
+    let sites = replica.sites()?;
+    is(sites.as_slice() == wants.as_slice(), "the sites")
+}
+
+fn stands_as_told(replica: &Replica) -> Result<(), Fail> {
+    shows_all(replica)?;
+    has_its_places(replica)?;
+    has_its_anchors(replica)?;
+    has_its_fronts(replica)?;
+    has_its_sites(replica)
 }
 
 // Whether each tells that the other has its fronts.
-fn have_equal_fronts(one: &Replica, two: &Replica) -> bool {
-    one.has_fronts_of(two) && two.has_fronts_of(one)
+fn have_equal_fronts(one: &Replica, two: &Replica) -> (bool, bool) {
+    (one.has_fronts_of(two), two.has_fronts_of(one))
 }
 
-fn differ_in_fronts(one: &Replica, two: &Replica) -> bool {
-    !one.has_fronts_of(two) && !two.has_fronts_of(one)
+fn differs_from_an_empty_one(alloc: Global, replica: &Replica) -> Result<(), Fail> {
+    let empty = replica_of(alloc, 1, 3)?;
+    is(
+        have_equal_fronts(replica, &empty) == (false, false),
+        "none taken in",
+    )
+}
+
+fn stand_as_told(alloc: Global, one: &Replica, two: &Replica) -> Result<(), Fail> {
+    stands_as_told(one)?;
+    stands_as_told(two)?;
+    is(have_equal_fronts(one, two) == (true, true), "both took in")?;
+    differs_from_an_empty_one(alloc, one)
+}
+
+fn take_in_both(alloc: Global, one: &mut Replica, two: &mut Replica) -> Result<(), Fail> {
+    let mut outbox = Outbox::new(alloc);
+    exchange(alloc, (&mut *one, &mut *two), &mut outbox)?;
+    stand_as_told(alloc, one, two)
 }
 
 #[test]
-fn fronts_are_compared(rt: HostRuntime) -> Result<(), Fail> {
-    let (one, two) = exchanged(rt.alloc())?;
-    let empty = replica_of(rt.alloc(), 1, 3)?;
-    is(have_equal_fronts(&one, &two), "both took in")?;
-    is(differ_in_fronts(&one, &empty), "none taken in")
+fn both_stand_as_told(rt: HostRuntime) -> Result<(), Fail> {
+    let mut one = replica_of(rt.alloc(), 1, 1)?;
+    let mut two = replica_of(rt.alloc(), 1, 2)?;
+    take_in_both(rt.alloc(), &mut one, &mut two)
 }
 
-// Takes in a message by its name.
-fn take(alloc: Global, replica: &mut Replica, name: &str) -> Result<Result<Took, Refusal>, Fail> {
-    let message = hex::decode(alloc, hex_of(name)?)?;
-    Ok(replica.take(&message))
-}
+// A message by its name, and how it is answered.
+type Answer = (&'static str, Result<Took, Refusal>);
 
-// Messages, and how each is answered, one after the other; there is one for each refusal of a message.
-const ANSWERS: &[(&str, Result<Took, Refusal>)] = &[
+// Messages, one after the other; there is one for each refusal of a message.
+const ANSWERS: &[Answer] = &[
     ("X of its cause's stamp", Err(Refusal::RoomFull)),
     ("Oberon", TAKEN),
     ("Oberon", Ok(Took::Repeat)),
@@ -190,30 +189,36 @@ const ANSWERS: &[(&str, Result<Took, Refusal>)] = &[
     ("X of its cause's stamp", Err(Refusal::BadStamp)),
     ("Y behind what is missing", Err(Refusal::BadOffset)),
     ("cut O", TAKEN),
+    ("no message", Err(Refusal::Malformed)),
 ];
 
-fn answers(alloc: Global, replica: &mut Replica) -> Result<(), Fail> {
-    for (name, answer) in ANSWERS {
-        is(take(alloc, replica, name)? == *answer, "an answer")?;
+// The same of another text.
+const ANSWERS_OF_TEXT_2: &[Answer] = &[("Oberon", Err(Refusal::WrongText))];
+
+fn answers(alloc: Global, replica: &mut Replica, (name, answer): &Answer) -> Result<(), Fail> {
+    let message = hex::decode(alloc, hex_of(name)?)?;
+    is(replica.take(&message) == *answer, "an answer")
+}
+
+fn answers_all(
+    alloc: Global,
+    replica: &mut Replica,
+    wants: &[Answer],
+    shown: u64,
+) -> Result<(), Fail> {
+    for want in wants {
+        answers(alloc, replica, want)?;
     }
-    is(replica.take(b"") == Err(Refusal::Malformed), "no message")?;
-    is(replica.shown_len() == 5, "what is shown")
+    is(replica.shown_len() == shown, "what is shown")
+}
+
+fn site_3_answers(alloc: Global, text: u16, wants: &[Answer], shown: u64) -> Result<(), Fail> {
+    let mut replica = replica_of(alloc, text, 3)?;
+    answers_all(alloc, &mut replica, wants, shown)
 }
 
 #[test]
 fn messages_are_answered(rt: HostRuntime) -> Result<(), Fail> {
-    let mut replica = replica_of(rt.alloc(), 1, 3)?;
-    answers(rt.alloc(), &mut replica)
-}
-
-fn refuses_another_text(alloc: Global, replica: &mut Replica) -> Result<(), Fail> {
-    let answer = take(alloc, replica, "Oberon")?;
-    is(answer == Err(Refusal::WrongText), "of another text")?;
-    is(replica.shown_len() == 0, "what is shown")
-}
-
-#[test]
-fn a_message_of_another_text(rt: HostRuntime) -> Result<(), Fail> {
-    let mut replica = replica_of(rt.alloc(), 2, 3)?;
-    refuses_another_text(rt.alloc(), &mut replica)
+    site_3_answers(rt.alloc(), 1, ANSWERS, 5)?;
+    site_3_answers(rt.alloc(), 2, ANSWERS_OF_TEXT_2, 0)
 }

@@ -1,17 +1,12 @@
-use Rattle.std.proofs.Common.{◌≡◌, ◌<◌, ◌-◌, Some, length, refl, arith}
-use Rattle.std.specs.Prelude.{slice_get}
-use Rattle.std.proofs.lemmas.Option.{slice_get_read}
+use Rattle.std.proofs.Common.{map, arith}
 use Rattle.looks.specs.Looks.{plain_looks}
-use Rattle.texts.specs.Edit.{insert_run}
+use Rattle.texts.specs.Edit.{insertion}
 use Rattle.commands.specs.DeskState.{DeskState}
-use Rattle.commands.proofs.Lifting.{desk_edited}
+use Rattle.commands.proofs.Lifting.{desk_edited, text_read}
 use Rattle.commands.proofs.desk.Desk.type_in.Goals as goal
 
 pub returns : goal.returns
 returns c =
-    let texts = c.self.inside.texts.items in
-    let within : c.get.result - 1 < length texts = omega arith in
-    let at : slice_get texts (c.get.result - 1) ≡ Some c.index_mut-replica.result.now = slice_get_read texts (length texts) (c.get.result - 1) c.index_mut-replica.result.now refl within c.index_mut-replica.ensures.value in
-    let at_text = rw c.get.ensures.value at at in
-    let d : DeskState = record { site = c.self.inside.site; texts = texts } in
-    rw (← c.self.view_is, c.get.ensures.value) (desk_edited d c.args.text c.index_mut-replica.result.now c.type_into.new.replica (insert_run c.args.pos plain_looks c.args.bytes.now) c.type_into.result c.args.outbox.now c.type_into.new.outbox at_text c.type_into.ensures)
+    let d : DeskState = record { site = c.self.inside.site; texts = c.self.inside.texts.items } in
+    let at = text_read d c.args.text c.get.result c.index_mut-replica.result.now c.get.ensures.value (omega arith) c.index_mut-replica.ensures.value in
+    rw (← c.self.view_is, c.get.ensures.value) (desk_edited d c.args.text c.type_into.new.replica c.args.outbox.now c.type_into.new.outbox c.index_mut-replica.result.now (insertion c.args.pos (map (λ b. (b, plain_looks)) c.args.bytes.now)) c.type_into.result at c.type_into.ensures)

@@ -1,10 +1,10 @@
 use Rattle.std.proofs.Common.{sym, ◌∙◌, arith, ap, length}
-use Rattle.script_events.proofs.Spelling.{IsCounted-none, IsCounted-more, IsCounted-wrong, IsCounted-all, bytes_in-some}
+use Rattle.script_events.proofs.Spelling.{IsCounted-none, IsCounted-more, IsCounted-wrong, IsCounted-all, IsCounted-few, bytes_in-some, bytes_in-short}
 use Rattle.script_events.specs.Script.{bytes_in}
 use Rattle.script_events.proofs.escaped.Escaped.new.Goals as goal
 
-pub returns-in_err-rest : goal.returns-in_err-rest
-returns-in_err-rest c =
+pub returns-in_err-rest-clause-bytes : goal.returns-in_err-rest-clause-bytes
+returns-in_err-rest-clause-bytes c =
     c.from_residual.ensures ∙ sym (IsCounted-wrong c.in-Some.first.now c.in-Some.behind.now c.loop-first.invariant c.in-Some.ensures.cases.0 c.in_err-rest.ensures.value)
 
 pub overflow_add-len : goal.overflow_add-len
@@ -20,5 +20,9 @@ loop-first-preserved c =
 pub invariant_of-result : goal.invariant_of-result
 invariant_of-result c = IsCounted-all c.loop-first.invariant c.in_default.ensures.cases
 
-pub returns : goal.returns
-returns c = bytes_in-some (bytes_in c.args.raw.now) (IsCounted-all c.loop-first.invariant c.in_default.ensures.cases)
+pub returns-clause-bytes : goal.returns-clause-bytes
+returns-clause-bytes c = bytes_in-some (bytes_in c.args.raw.now) (IsCounted-all c.loop-first.invariant c.in_default.ensures.cases)
+
+pub returns-clause-shorter : goal.returns-clause-shorter
+returns-clause-shorter c =
+    bytes_in-short (bytes_in c.args.raw.now) (IsCounted-all c.loop-first.invariant c.in_default.ensures.cases) (IsCounted-few c.loop-first.invariant)

@@ -1,17 +1,27 @@
 use Rattle.std.proofs.Common.{◌≡◌, length, Ok, Err, ap, ◌∙◌}
-use Rattle.commands.specs.Machine.{State}
+use Rattle.commands.specs.Machine.{State, copy, edit}
 use Rattle.script_events.specs.EventView.{delivery_of, edit_of, query_of}
-use Rattle.script_runs.proofs.Replying.{edit_step, query_step, query_short, take_step}
+use Rattle.script_runs.proofs.Replying.{change_step, query_step, query_short, take_step}
 use Rattle.script_runs.proofs.sites.Sites.step.Goals as goal
 
 pub returns-in-Edits : goal.returns-in-Edits
 returns-in-Edits g c =
     let new = c.edit-outcome.new.self in
-    let step = edit_step c.args.self.now new c.in-Edits.desk c.in-Edits.text (edit_of c.in-Edits.edit) c.edit-outcome.result c.edit-outcome.ensures in
+    let step = change_step c.args.self.now new (edit c.in-Edits.desk c.in-Edits.text (edit_of c.in-Edits.edit)) c.edit-outcome.result tt c.edit-outcome.ensures in
     let before : c.len-sent.result ≡ length c.args.self.now.sent = c.len-sent.ensures ∙ ap (λ (x : State). length x.sent) c.self.view_is in
     let behind : c.self-in-Edits.inside.outbox ≡ new.sent = ap (λ (x : State). x.sent) c.self-in-Edits.view_is in
     let written = rw (before, behind) at c.put_edit.ensures in
     rw c.in-Edits.is (_, written, step)
+
+pub returns-in-Saves : goal.returns-in-Saves
+returns-in-Saves g c =
+    let new = c.save-outcome.new.self in
+    let save = c.in-Saves.save in
+    let step = change_step c.args.self.now new (copy c.in-Saves.desk c.in-Saves.text save.beg save.end save.other save.pos) c.save-outcome.result tt c.save-outcome.ensures in
+    let before : c.len-sent-in-Saves.result ≡ length c.args.self.now.sent = c.len-sent-in-Saves.ensures ∙ ap (λ (x : State). length x.sent) c.self-in-Saves.view_is in
+    let behind : c.self-in-Saves-2.inside.outbox ≡ new.sent = ap (λ (x : State). x.sent) c.self-in-Saves-2.view_is in
+    let written = rw (before, behind) at c.put_edit-in-Saves.ensures in
+    rw c.in-Saves.is (_, written, step)
 
 pub returns-in-Ok : goal.returns-in-Ok
 returns-in-Ok g c =

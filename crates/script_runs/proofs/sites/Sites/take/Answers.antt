@@ -2,7 +2,7 @@ use Rattle.std.proofs.Common.{◌≡◌, ◌++◌, ℕ, List, Some, length, refl
 use Rattle.std.specs.Prelude.{slice_get}
 use Rattle.std.proofs.lemmas.Option.{slice_get_read}
 use Rattle.commands.specs.Machine.{State, bytes}
-use Rattle.commands.proofs.Lifting.{take_lifted}
+use Rattle.script_runs.proofs.Lifting.{take_lifted}
 use Rattle.script_runs.proofs.sites.Sites.take.Goals as goal
 
 pub returns-in-Bytes : goal.returns-in-Bytes

@@ -1,0 +1,73 @@
+ghost use Rattle.std.specs.Prelude.{◌≡◌, ℕ, ◌≤◌, length, option_map, IfSome};
+ghost use Rattle.script_events.specs.EventView.{edit_of, IsShort};
+ghost use Rattle.script_events.specs.Script.{type_edit, cut_edit, looks_edit, recall_edit, edit_in};
+
+use crate::escaped::Escaped;
+use crate::event::Edit;
+use crate::event::looks_words::change_in;
+use crate::event::words::{cut_number, number_in};
+
+// What `type` goes on with behind its text: a position and the bytes.
+fn type_edit(rest: &[u8]) -> Option<Edit<'_>>
+    ensures edit { option_map edit_of result ≡ type_edit rest.now }
+    ensures short { IfSome result (λ edit. (len : ℕ) → length rest.now ≤ len → IsShort len edit) }
+{
+    let (pos, raw) = cut_number(rest)?;
+    Some(Edit::TypeIn {
+        pos,
+        bytes: Escaped::new(raw)?,
+    })
+}
+
+// `cut`: from where to where.
+fn cut_edit(rest: &[u8]) -> Option<Edit<'_>>
+    ensures edit { option_map edit_of result ≡ cut_edit rest.now }
+    ensures short { IfSome result (λ edit. (len : ℕ) → IsShort len edit) }
+{
+    let (beg, end) = cut_number(rest)?;
+    let end = u64::from(number_in(end)?);
+    Some(Edit::Cut { beg, end })
+}
+
+// `looks`: from where to where, and the attributes.
+fn looks_edit(rest: &[u8]) -> Option<Edit<'_>>
+    ensures edit { option_map edit_of result ≡ looks_edit rest.now }
+    ensures short { IfSome result (λ edit. (len : ℕ) → IsShort len edit) }
+{
+    let (beg, rest) = cut_number(rest)?;
+    let (end, words) = cut_number(rest)?;
+    let (sel, looks) = change_in(words)?;
+    Some(Edit::Looks {
+        beg,
+        end,
+        sel,
+        looks,
+    })
+}
+
+// `recall`: a position.
+fn recall_edit(rest: &[u8]) -> Option<Edit<'_>>
+    ensures edit { option_map edit_of result ≡ recall_edit rest.now }
+    ensures short { IfSome result (λ edit. (len : ℕ) → IsShort len edit) }
+{
+    let pos = u64::from(number_in(rest)?);
+    Some(Edit::Recall { pos })
+}
+
+// The edit that a verb asks for with what stands behind the text: a row for each verb.
+pub(crate) fn edit_in<'a>(verb: &[u8], rest: &'a [u8]) -> Option<Edit<'a>>
+    ensures edit { option_map edit_of result ≡ edit_in verb.now rest.now }
+    ensures short { IfSome result (λ edit. (len : ℕ) → length rest.now ≤ len → IsShort len edit) }
+{
+    if verb == b"type".as_slice() {
+        type_edit(rest)
+    } else if verb == b"cut".as_slice() {
+        cut_edit(rest)
+    } else if verb == b"looks".as_slice() {
+        looks_edit(rest)
+    } else if verb == b"recall".as_slice() {
+        recall_edit(rest)
+    } else {
+        None
+    }
+}

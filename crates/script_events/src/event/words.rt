@@ -1,0 +1,63 @@
+ghost use Rattle.std.specs.Prelude.{◌≡◌, ◌<◌, ◌≤◌, length, option_map, IfSome};
+ghost use Rattle.std.specs.Str.{all_ascii_digits};
+ghost use Rattle.script_events.specs.Words.{cut_word, number_in, cut_number, desk_in, text_in};
+
+use char_files::TextNo;
+use commands::MAX_TEXT;
+
+// The word up to the first blank, and what stands behind that blank.
+pub(crate) fn cut_word(bytes: &[u8]) -> Option<(&[u8], &[u8])>
+    ensures word { option_map (λ cut. (cut.0.now, cut.1.now)) result ≡ cut_word bytes.now }
+    ensures shorter { IfSome result (λ cut. length cut.1.now ≤ length bytes.now) }
+{
+    let end = bytes.iter().position(|byte| *byte == b' ')?;
+    Some((&bytes[..end], &bytes[end + 1..]))
+}
+
+// Whether each byte is a decimal digit.
+fn are_digits(word: &[u8]) -> bool
+    ensures { result ≡ all_ascii_digits word.now }
+{
+    word.iter().all(|byte| byte.is_ascii_digit())
+}
+
+// A number of 1 to 10 digits, to 2^32 - 1.
+pub(crate) fn number_in(word: &[u8]) -> Option<u32>
+    ensures { result ≡ number_in word.now }
+{
+    if word.is_empty() || 10 < word.len() || !are_digits(word) {
+        return None;
+    }
+    let text = std::str::from_utf8(word).ok()?;
+    text.parse().ok()
+}
+
+// The number up to the first blank, and what stands behind that blank.
+pub(crate) fn cut_number(bytes: &[u8]) -> Option<(u64, &[u8])>
+    ensures value { option_map (λ cut. (cut.0, cut.1.now)) result ≡ cut_number bytes.now }
+    ensures shorter { IfSome result (λ cut. length cut.1.now ≤ length bytes.now) }
+{
+    let (word, rest) = cut_word(bytes)?;
+    Some((u64::from(number_in(word)?), rest))
+}
+
+// The index among the run's sites of the site with this number.
+pub(crate) fn desk_in(first: u16, count: usize, word: &[u8]) -> Option<usize>
+    ensures index { result ≡ desk_in first count word.now }
+    ensures in_run { IfSome result (λ desk. desk < count) }
+{
+    let desk = number_in(word)?.checked_sub(u32::from(first))? as usize;
+    (desk < count).then_some(desk)
+}
+
+// A text of a desk, 1 to `MAX_TEXT`.
+pub(crate) fn text_in(word: &[u8]) -> Option<TextNo>
+    ensures value { result ≡ text_in word.now }
+    ensures on_desk { IfSome result (λ text. text ≤ MAX_TEXT) }
+{
+    let number = number_in(word)?;
+    if u32::from(MAX_TEXT) < number {
+        return None;
+    }
+    TextNo::new(number as u16)
+}

@@ -1,0 +1,50 @@
+-- What an own operation leaves, and what a Delete keeps.
+use Rattle.std.proofs.Common.{◌≡◌, ℕ, List, [], ◌∷◌, ◌++◌, map, refl}
+use Rattle.std.specs.Prelude.{slice_range}
+use Rattle.std.proofs.lemmas.List.{drop-map, take-map}
+use Rattle.std.proofs.lemmas.List.Elements.{Contains-append_left}
+use Rattle.char_files.specs.Stretch.{Item}
+use Rattle.char_files.specs.declared.character.Char.{Char}
+use Rattle.operations.specs.NameSet.{Range}
+use Rattle.operations.specs.Operation.{Operation}
+use Rattle.tree_order.specs.Good.{Good}
+use Rattle.set_laws.specs.Sets.{AreIdentified}
+use Rattle.texts.specs.Edit.{with_operation}
+use Rattle.texts.specs.Laws.{HasOneTextWith}
+use Rattle.texts.specs.Order.{order_after}
+use Rattle.texts.specs.Take.{HasTaken}
+use Rattle.texts.specs.Text.{AreCharNames, IsText}
+use Rattle.texts.specs.TextState.{TextState}
+use Rattle.texts.proofs.Taking.{taken_is_one}
+
+-- the items of a stretch are a stretch of the items
+pub items_between : (chars : List Char) (beg end : ℕ)
+    → ◌≡◌ {A = List Item} (map (λ c. (c.byte, c.looks)) (slice_range chars beg end))
+    (slice_range (map (λ c. (c.byte, c.looks)) chars) beg end)
+items_between chars beg end = simp (take-map, drop-map)
+
+-- names of characters stay that
+pub kept_grows : (ops : List Operation) (op : Operation) (names : List Range) → AreCharNames ops names
+    → AreCharNames (ops ++ op ∷ []) names
+kept_grows ops op names kept c among =
+    let (i, is) = kept c among in
+    (i, record { held = Contains-append_left ops (op ∷ []) i is.held; inserts = is.inserts })
+
+-- the law that an operation more leaves one text
+abbrev pub OneTextWith : Type 0
+OneTextWith = (t : TextState) (op : Operation) → IsText t → Good (t.operations ++ op ∷ [])
+    → AreIdentified (t.operations ++ op ∷ []) → op.text ≡ t.text → HasOneTextWith t op
+
+-- by it, taking an own operation in leaves its characters as they are defined
+pub taken_is_own : OneTextWith → (t : TextState) (op : Operation) → IsText t → op.text ≡ t.text
+    → IsText (with_operation t op) → (new : TextState) → HasTaken t op new
+    → new ≡ record t { operations = t.operations ++ op ∷ []; order = order_after t.order op }
+taken_is_own law t op is own with_own new taken =
+    taken_is_one law t op is own (record t { operations = t.operations ++ op ∷ []; order = order_after t.order op })
+    refl (record {
+      good = with_own.good;
+      identified = with_own.identified;
+      of_text = with_own.of_text;
+      chars = with_own.chars;
+      kept = kept_grows t.operations op t.last_set is.kept;
+    }) new taken

@@ -1,0 +1,14 @@
+use Rattle.std.proofs.Common.{subst}
+use Rattle.texts.specs.Text.{IsText}
+use Rattle.texts.proofs.replica.Replica.is_text.Goals as goal
+
+pub returns : goal.returns
+returns c =
+    let is = c.is_defined.ensures in
+    subst IsText c.self.view_is (record {
+      good = is.good;
+      identified = is.identified;
+      of_text = c.self.invariant.0;
+      chars = is.chars;
+      kept = c.self.invariant.1;
+    })

@@ -1,0 +1,15 @@
+-- The pieces of a stretch that are still to be inserted.
+use Rattle.std.specs.Prelude.{ℕ, ◌<◌, List, [], ◌∷◌, ◌++◌, length, drop}
+use Rattle.std.specs.List.{flat_map}
+use Rattle.char_files.specs.Stretch.{Stretch}
+use Rattle.texts.specs.Edit.{parts_of}
+
+-- the pieces of runs of whose first one so many bytes are read
+abbrev pub pieces_left : List Stretch → ℕ → List Stretch
+pieces_left [] read = []
+pieces_left (r ∷ runs) read = parts_of (record r { bytes = drop read r.bytes }) ++ flat_map parts_of runs
+
+-- a byte of the first run is left, and no other one is empty
+abbrev pub AreUnread : List Stretch → ℕ → Type 0
+AreUnread [] read = Unit {0}
+AreUnread (r ∷ runs) read = (read < length r.bytes) × AreUnread runs 0
