@@ -1,7 +1,7 @@
 -- Lists of operations as sets: parts, identities, unions, and the laws of unions.
-use Rattle.std.specs.Prelude.{◌≡◌, ℕ, ◌<◌, ◌≤◌, ◌↔◌, List, ◌++◌, Contains}
+use Rattle.std.specs.Prelude.{◌≡◌, ◌≢◌, ℕ, ◌<◌, ◌≤◌, ◌↔◌, List, ◌++◌, take, slice_get, Contains, Some}
 use Rattle.operations.specs.Operation.{Operation}
-use Rattle.tree_order.specs.Good.{Good}
+use Rattle.tree_order.specs.Good.{Good, IsCauseOf}
 use Rattle.tree_order.specs.Laws.{AreSameSet, SaysTheSame}
 use Rattle.set_laws.specs.Fronts.{front_of, IsHeld}
 
@@ -42,3 +42,17 @@ AreHeldToTheFront ops = (site seq : ℕ) → IsHeld ops site seq ↔ (0 < seq) �
 -- of operations that b has, a has those up to its fronts
 abbrev pub HasToTheFront : List Operation → List Operation → Type 0
 HasToTheFront a b = (op : Operation) → Contains b op → Contains a op ↔ (op.seq ≤ front_of a op.site)
+
+-- another operation of these has this one's identity
+abbrev pub IsInConflict : List Operation → Operation → Type 0
+IsInConflict ops op =
+    (other : Operation) × Contains ops other × (other.site ≡ op.site) × (other.seq ≡ op.seq) × (other ≢ op)
+
+-- the operations stand in an order that keeps causes: each first part of the list is good
+abbrev pub KeepsCauses : List Operation → Type 0
+KeepsCauses ops = (n : ℕ) → Good (take n ops)
+
+-- the causes that an operation has among the others stand ahead of it
+abbrev pub HasCausesAhead : List Operation → Type 0
+HasCausesAhead ops = (n : ℕ) (op p : Operation) → slice_get ops n ≡ Some op → Contains ops p → IsCauseOf p op
+    → Contains (take n ops) p

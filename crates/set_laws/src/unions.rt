@@ -1,4 +1,4 @@
-ghost use Rattle.std.specs.Prelude.{◌↔◌, List, ◌++◌};
+ghost use Rattle.std.specs.Prelude.{◌↔◌, List, [], ◌∷◌, ◌++◌};
 ghost use Rattle.char_files.specs.CharName.{CharName};
 ghost use Rattle.operations.specs.Operation.{Operation};
 ghost use Rattle.tree_order.specs.Good.{Good};
@@ -7,6 +7,7 @@ ghost use Rattle.tree_order.specs.Tree.{IsChar};
 ghost use Rattle.set_laws.specs.Fronts.{IsHere};
 ghost use Rattle.set_laws.specs.Sets.{AreIdentified, UnionIsGood, UnionsAreSets, UnionsShowSets};
 ghost use Rattle.set_laws.specs.Sets.{HaveEqualFronts, AreHeldToTheFront, HasToTheFront};
+ghost use Rattle.set_laws.specs.Sets.{HasCausesAhead, KeepsCauses};
 
 use tree_order::laws::only_the_set_counts;
 
@@ -49,4 +50,15 @@ pub fn names_here_are_the_characters()
 /// merge has to take are those past the fronts.
 pub fn front_tells_what_is_held()
     ensures { (a b : List Operation) → Good a → AreIdentified (a ++ b) → HasToTheFront a b }
+{}
+
+/// A law: in a list that keeps causes, each operation's causes stand ahead of it.
+pub fn causes_stand_ahead()
+    ensures { (ops : List Operation) → KeepsCauses ops → AreIdentified ops → HasCausesAhead ops }
+{}
+
+/// A law: a list that keeps causes goes on so with each operation with which it is good.
+pub fn lists_that_keep_causes_grow()
+    ensures { (ops : List Operation) (op : Operation) → KeepsCauses ops → Good (ops ++ op ∷ [])
+        → KeepsCauses (ops ++ op ∷ []) }
 {}

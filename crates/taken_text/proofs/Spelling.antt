@@ -80,6 +80,7 @@ pub defined : ((ops : List Operation) → Good ops → (k : Kept) → HasRegiste
     → (ops : List Operation) (items : List (ℕ × Piece)) (files : Files) → IsTaken ops items files → IsDefined (seen_in ops items files)
 defined tell ops items files t = record {
   good = t.good;
+  in_order = t.in_order;
   identified = t.identified;
   chars = chars_of_taken tell ops items files t;
 }
@@ -88,6 +89,7 @@ defined tell ops items files t = record {
 pub same_taken : (ops : List Operation) (items items' : List (ℕ × Piece)) (files files' : Files) → items' ≡ items → SameBytes files files' → IsTaken ops items files → IsTaken ops items' files'
 same_taken ops items items' files files' same bytes t = record {
   good = t.good;
+  in_order = t.in_order;
   identified = t.identified;
   kept = subst (λ (ps : List (ℕ × Piece)). AreKept ops (spelled ps)) (sym same) t.kept;
   bytes = record {

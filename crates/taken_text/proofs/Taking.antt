@@ -14,6 +14,7 @@ use Rattle.tree_order.specs.RegisterLaws.{InsertsNone, KeptAfter}
 use Rattle.tree_order.specs.Registers.{Kept, AreKept, kept_by, kept_after}
 use Rattle.set_laws.specs.Fronts.{file_len}
 use Rattle.set_laws.specs.Growing.{AreToldByCounts}
+use Rattle.set_laws.specs.Sets.{KeepsCauses}
 use Rattle.set_laws.specs.Verdict.{HasVerdict, IsNew, ready}
 use Rattle.piece_list.specs.Laws.{IsRunOf, PieceIsFirstKept, PlacedIsKept}
 use Rattle.piece_list.specs.Pieces.{chars_of, piece_of}
@@ -35,6 +36,10 @@ on_ok (Err e) P Q f h = tt
 module _ (lower : Lower) (ops : List Operation) (op : Operation) (items : List (ℕ × Piece)) (files : Files) (taken : IsTaken ops items files) (new : IsNew ops op) (is : HasVerdict ops op ready) where
   told : AreToldByCounts ops op
   told = lower.told ops op taken.good taken.identified new
+
+  -- causes stay ahead
+  larger_in_order : KeepsCauses (ops ++ op ∷ [])
+  larger_in_order = lower.causes ops op taken.in_order (larger_good lower ops op taken.good taken.identified new is)
 
   -- an Insert
   module _ (cause : Anchor) (at : ℕ) (looks : Looks) (bytes : List ℕ) (kind : op.kind ≡ insert cause at looks bytes) where
@@ -66,6 +71,7 @@ module _ (lower : Lower) (ops : List Operation) (op : Operation) (items : List (
         let there : IsPlaced (key_of op) cause (chars_of (piece_of run)) (spelled items) (spelled items') = subst (λ key. IsPlaced key cause (chars_of (piece_of run)) (spelled items) (spelled items')) key' put in
         record {
           good = larger_good lower ops op taken.good taken.identified new is;
+          in_order = larger_in_order;
           identified = larger_identified lower ops op taken.good taken.identified new is;
           kept = placed ops op cause (spelled items) (spelled items') (one_more lower ops op taken.good taken.identified new is) (subst (λ (k : OpKind). HasCauseBy k cause) (sym kind) refl) taken.kept
               (subst (λ (cs : List Kept). IsPlaced (key_of op) cause cs (spelled items) (spelled items')) chars there);
@@ -80,6 +86,7 @@ module _ (lower : Lower) (ops : List Operation) (op : Operation) (items : List (
       let larger = larger_good lower ops op taken.good taken.identified new is in
       record {
         good = larger;
+        in_order = larger_in_order;
         identified = larger_identified lower ops op taken.good taken.identified new is;
         kept = subst (AreKept (ops ++ op ∷ [])) (sym changed) (law ops op larger none (spelled items) taken.kept);
         bytes = hold_no_more ops op files (λ c h. (told.here c).0 h) (λ c h. (told.here c).1 h) (counted lower ops op taken.good taken.identified new is) taken.bytes none appended;

@@ -10,7 +10,7 @@ use Rattle.tree_order.specs.Registers.{Kept, AreKept, kept_looks}
 use Rattle.tree_order.specs.Shown.{AreChars, is_visible}
 use Rattle.tree_order.specs.Tree.{HasByte}
 use Rattle.set_laws.specs.Fronts.{file_len}
-use Rattle.set_laws.specs.Sets.{AreIdentified}
+use Rattle.set_laws.specs.Sets.{AreIdentified, KeepsCauses}
 use Rattle.piece_list.specs.Spelled.{spelled}
 use Rattle.piece_list.specs.declared.piece.Piece.{Piece}
 
@@ -19,9 +19,11 @@ pub record TakenSeen : Type 0 where
   pub operations : List Operation
   pub chars : List Char
 
--- the operations are good, seqs count from 1, and the characters are theirs
+-- the operations are good, and were taken in in an order that keeps causes; seqs count from 1, and the characters
+-- are theirs
 pub record IsDefined (t : TakenSeen) : Type 0 where
   pub good : Good t.operations
+  pub in_order : KeepsCauses t.operations
   pub identified : AreIdentified t.operations
   pub chars : AreChars t.operations t.chars
 
@@ -51,9 +53,11 @@ pub record HoldBytes (ops : List Operation) (files : Files) : Type 0 where
   pub bytes : (c : CharName) (byte : ℕ) → HasByte ops c byte
       → byte ≡ slice_index (bytes_of files c.site) c.off
 
--- the operations are good, the pieces spell their characters in order, and the files have the bytes
+-- the operations are good, and keep causes in their order; the pieces spell their characters in order, and the
+-- files have the bytes
 pub record IsTaken (ops : List Operation) (items : List (ℕ × Piece)) (files : Files) : Type 0 where
   pub good : Good ops
+  pub in_order : KeepsCauses ops
   pub identified : AreIdentified ops
   pub kept : AreKept ops (spelled items)
   pub bytes : HoldBytes ops files

@@ -19,7 +19,7 @@ use piece_list::laws::{a_piece_of_a_run_is_kept, a_placed_run_is_kept};
 use piece_list::{PieceList, Run};
 use set_laws::closures::nothing_is_good;
 use set_laws::growing::{counts_go_on, counts_tell_what_is_here, good_sets_grow_by_verdict};
-use set_laws::unions::{front_is_held, names_here_are_the_characters};
+use set_laws::unions::{front_is_held, lists_that_keep_causes_grow, names_here_are_the_characters};
 use std::alloc::Global;
 use std::marker::Model;
 use tree_order::laws::registers::{a_kept_list_is_offered, registers_tell_what_is_shown};
@@ -53,6 +53,7 @@ fn the_laws_of_sets()
     counts_tell_what_is_here();
     front_is_held();
     counts_go_on();
+    lists_that_keep_causes_grow();
 }
 
 // An operation's key.
@@ -144,8 +145,8 @@ impl TakenText {
         })
     }
 
-    /// A law: the operations are good, and the characters are those that the definition gives. A proof gets it
-    /// by calling this, at no cost.
+    /// A law: the operations are good, each behind its causes, and the characters are those that the definition
+    /// gives. A proof gets it by calling this, at no cost.
     pub fn is_defined(&self)
         ensures { IsDefined self.now }
     {

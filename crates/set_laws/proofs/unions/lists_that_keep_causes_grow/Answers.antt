@@ -1,0 +1,5 @@
+use Rattle.set_laws.proofs.Ahead.{causes_kept_with_one}
+use Rattle.set_laws.proofs.unions.lists_that_keep_causes_grow.Goals as goal
+
+pub returns : goal.returns
+returns c = causes_kept_with_one
