@@ -1,2 +1,6 @@
 pub mod Above
 pub mod Each
+pub mod Entries
+pub mod Past
+pub mod Some
+pub mod Unheld

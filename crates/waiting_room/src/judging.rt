@@ -8,6 +8,7 @@ ghost use Rattle.waiting_room.specs.Judged.{verdict_of, HasOwnNamesBelow, HasLow
 ghost use Rattle.waiting_room.specs.Judged.{IsAbovePredecessor};
 
 use crate::held::Held;
+use crate::mentions::mentions_past;
 use char_files::Name;
 use operations::{Kind, Op, named};
 use set_laws::growing::{counts_tell_what_is_here, one_stamp_a_name_is_enough};
@@ -50,7 +51,7 @@ fn begins(op: &Op, len: u32) -> bool
 fn has_own_names_below(op: &Op, len: u32) -> bool
     ensures { IsTrue result ↔ HasOwnNamesBelow op.now len }
 {
-    named(op).all(|name| name.site() != op.site() || name.off() < len)
+    !mentions_past(op, op.site(), len)
 }
 
 // Whether what the operation says of its own site's file is so.

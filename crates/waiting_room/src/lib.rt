@@ -1,10 +1,14 @@
-//! Which operations a replica may take in: the verdict on one that is handed in.
+//! Which operations a replica may take in: the verdict on one that is handed in, and the room in which those wait
+//! whose causes are missing.
 #![tactic(auto)]
 
 mod good_log;
 mod held;
 mod judging;
+mod mentions;
+mod room;
 
 pub use good_log::GoodLog;
 pub use held::Held;
 pub use judging::{Verdict, judge};
+pub use room::{MAX_WAITING, Offered, Room};
