@@ -17,7 +17,7 @@ use Rattle.set_laws.specs.Sets.{AreIdentified, HaveEqualFronts}
 use Rattle.texts.specs.Laws.{ShowsTheDefinition, OperationsTellTheText, FrontsTellTheText, HasOneTextWith}
 use Rattle.texts.specs.Text.{IsText}
 use Rattle.texts.specs.TextState.{TextState, shown_of}
-use Rattle.texts.proofs.OwnStep.{char_stays}
+use Rattle.texts.proofs.OwnStep.{CausesStayAhead, char_stays}
 
 -- the names of those that pass are the names that pass
 one_passes : (b : Bool) (c : Char) (xs : List Char) (names : List CharName) → map (λ s. s.name) xs ≡ names
@@ -78,19 +78,21 @@ module _ (laws : TellChars) (ops : List Operation) (good : Good ops) where
   one_chars a b p q = is_each a p ∙ sym (is_each b q)
 
 -- one operation more, of which the set with it is good, leaves one text
-pub one_text_with : TellChars → (t : TextState) (op : Operation) → IsText t → Good (t.operations ++ op ∷ [])
+pub one_text_with : TellChars → CausesStayAhead → (t : TextState) (op : Operation) → IsText t → Good (t.operations ++ op ∷ [])
     → AreIdentified (t.operations ++ op ∷ []) → op.text ≡ t.text → HasOneTextWith t op
-one_text_with laws t op is good known own =
+one_text_with laws causes t op is good known own =
     let with_one : List Operation = t.operations ++ op ∷ [] in
     let (chars, are) = has_chars laws with_one good in
     record {
       new = record t { operations = with_one; order = chars };
       is = record {
         good = good;
+        in_order = causes t.operations op is.in_order good;
         identified = known;
         of_text = All-push (λ (o : Operation). o.text ≡ t.text) t.operations op is.of_text own;
         chars = are;
         kept = λ c among. char_stays t.operations op c (is.kept c among);
+        waiting = is.waiting;
       };
       grown = refl;
       only = λ other is' e.

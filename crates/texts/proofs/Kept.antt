@@ -2,7 +2,6 @@
 use Rattle.std.proofs.Common.{◌≡◌, ℕ, List, [], ◌∷◌, ◌++◌, map, refl}
 use Rattle.std.specs.Prelude.{slice_range}
 use Rattle.std.proofs.lemmas.List.{drop-map, take-map}
-use Rattle.std.proofs.lemmas.List.Elements.{Contains-append_left}
 use Rattle.char_files.specs.Stretch.{Item}
 use Rattle.char_files.specs.declared.character.Char.{Char}
 use Rattle.operations.specs.NameSet.{Range}
@@ -12,9 +11,10 @@ use Rattle.set_laws.specs.Sets.{AreIdentified}
 use Rattle.texts.specs.Edit.{with_operation}
 use Rattle.texts.specs.Laws.{HasOneTextWith}
 use Rattle.texts.specs.Order.{order_after}
-use Rattle.texts.specs.Take.{HasTaken}
+use Rattle.texts.specs.Taking.{HasTaken}
 use Rattle.texts.specs.Text.{AreCharNames, IsText}
 use Rattle.texts.specs.TextState.{TextState}
+use Rattle.texts.proofs.OwnStep.{char_stays}
 use Rattle.texts.proofs.Taking.{taken_is_one}
 
 -- the items of a stretch are a stretch of the items
@@ -26,9 +26,7 @@ items_between chars beg end = simp (take-map, drop-map)
 -- names of characters stay that
 pub kept_grows : (ops : List Operation) (op : Operation) (names : List Range) → AreCharNames ops names
     → AreCharNames (ops ++ op ∷ []) names
-kept_grows ops op names kept c among =
-    let (i, is) = kept c among in
-    (i, record { held = Contains-append_left ops (op ∷ []) i is.held; inserts = is.inserts })
+kept_grows ops op names kept c among = char_stays ops op c (kept c among)
 
 -- the law that an operation more leaves one text
 abbrev pub OneTextWith : Type 0
@@ -43,8 +41,10 @@ taken_is_own law t op is own with_own new taken =
     taken_is_one law t op is own (record t { operations = t.operations ++ op ∷ []; order = order_after t.order op })
     refl (record {
       good = with_own.good;
+      in_order = with_own.in_order;
       identified = with_own.identified;
       of_text = with_own.of_text;
       chars = with_own.chars;
       kept = kept_grows t.operations op t.last_set is.kept;
+      waiting = with_own.waiting;
     }) new taken

@@ -1,9 +1,14 @@
 pub mod AllPass
 pub mod Causes
 pub mod Chars
+pub mod Draining
+pub mod Joined
 pub mod Kept
 pub mod KeptStretch
 pub mod Made
+pub mod Merging
+pub mod Messages
+pub mod News
 pub mod OwnChange
 pub mod OwnInsert
 pub mod OwnParts

@@ -4,27 +4,30 @@ use Rattle.std.proofs.Common.{length, take, drop, map, Some, None, Result, Ok, E
 use Rattle.std.specs.Prelude.{Contains, IfErr, IfNone, IfSome, nat_lt, IsErrAnd, OnOk, OnErr, slice_range}
 use Rattle.std.proofs.lemmas.Bool.{cond-false, le-ltb, lt-ltb, ltb-false}
 use Rattle.std.proofs.lemmas.List.{length-append, length-drop, length-map, length-take-le, take-append-drop}
+use Rattle.looks.specs.Sel.{Selection}
 use Rattle.looks.specs.declared.looks.Looks.{Looks}
 use Rattle.looks.specs.declared.refusal.Refusal.{Refusal}
-use Rattle.looks.specs.declared.refusal.Refusal.TheVariants.{SeqSpent, StampsSpent, FileSpent, OutOfMemory, Scattered}
+use Rattle.looks.specs.declared.refusal.Refusal.TheVariants.{Behind, SeqSpent, StampsSpent}
+use Rattle.looks.specs.declared.refusal.Refusal.TheVariants.{FileSpent, OutOfMemory, Scattered}
 use Rattle.char_files.specs.CharName.{CharName}
 use Rattle.char_files.specs.Stretch.{Item}
 use Rattle.char_files.specs.declared.character.Char.{Char}
 use Rattle.char_files.specs.declared.name.Anchor.{Anchor}
 use Rattle.operations.specs.NameSet.{Range, IsAmong}
-use Rattle.operations.specs.Operation.{Operation, OpKind, insert, delete}
+use Rattle.operations.specs.Operation.{Operation, OpKind, insert, delete, change_looks}
 use Rattle.operations.specs.Spelling.{spelling}
 use Rattle.operations.specs.declared.name_set.TheConstants.{MAX_RANGES}
 use Rattle.operations.specs.declared.op.TheConstants.{MAX_STAMP}
 use Rattle.char_files.specs.declared.TheConstants.{MAX_FILE}
 use Rattle.set_laws.specs.Fronts.{file_len, front_of, greatest_stamp}
+use Rattle.waiting_room.specs.Room.{is_behind}
 use Rattle.texts.specs.declared.TheConstants.{MAX_SEQ}
-use Rattle.texts.specs.Edit.{own_op, stretch_named, with_operation}
-use Rattle.texts.specs.Laws.{NamesStretch}
+use Rattle.texts.specs.Edit.{names_shown, own_op, stretch_named, with_operation}
+use Rattle.texts.specs.Laws.{ADeleteKeepsItsStretch, NamesStretch}
 use Rattle.texts.specs.Order.{chars_of, order_after, put}
 use Rattle.texts.specs.Outcome.{is_scattered, passes_file, refusal_for}
 use Rattle.texts.specs.Own.{IsWhyNot, SendsOne}
-use Rattle.texts.specs.Take.{HasTaken}
+use Rattle.texts.specs.Taking.{HasTaken}
 use Rattle.texts.specs.Text.{AreCharNames, IsText}
 use Rattle.texts.specs.TextState.{TextState, shown_items, shown_of}
 use Rattle.texts.proofs.Kept.{OneTextWith, taken_is_own}
@@ -57,12 +60,18 @@ made law t op is own with_own (Ok done) new sent sent' allowed ok memory err sam
 made law t op is own with_own (Err why) new sent sent' allowed ok memory err same =
     (inr (memory, inl allowed), err.0, err.1)
 
+-- operations of equal parts are equal
 pub same_insert : (cause cause' : Anchor) (at at' : ℕ) (looks looks' : Looks) (bytes bytes' : List ℕ)
     → cause ≡ cause' → at ≡ at' → looks ≡ looks' → bytes ≡ bytes'
     → insert cause at looks bytes ≡ insert cause' at' looks' bytes'
 same_insert cause cause' at at' looks looks' bytes bytes' a b c d =
     ap (λ (x : Anchor). insert x at looks bytes) a ∙ ap (λ (x : ℕ). insert cause' x looks bytes) b
     ∙ ap (λ (x : Looks). insert cause' at' x bytes) c ∙ ap (λ (x : List ℕ). insert cause' at' looks' x) d
+
+pub same_change : (sel : Selection) (looks looks' : Looks) (names names' : List Range) → looks ≡ looks'
+    → names ≡ names' → change_looks sel looks names ≡ change_looks sel looks' names'
+same_change sel looks looks' names names' a b =
+    ap (λ (x : Looks). change_looks sel x names) a ∙ ap (λ (x : List Range). change_looks sel looks' x) b
 
 -- a run makes the text longer by its bytes
 length-chars_of : (site at : ℕ) (looks : Looks) (bytes : List ℕ)
@@ -130,7 +139,9 @@ pub fits_in_file : (t : TextState) (cause : Anchor) (at : ℕ) (looks : Looks) (
 fits_in_file t cause at looks bytes allowed =
     let files = cond (ltb MAX_FILE (file_len t.operations t.site + length bytes)) (Some FileSpent) None in
     let stamps = cond (eqb (greatest_stamp t.operations) MAX_STAMP) (Some StampsSpent) files in
-    let a = rest_none (eqb (front_of t.operations t.site) MAX_SEQ) SeqSpent stamps allowed in
+    let seqs = cond (eqb (front_of t.operations t.site) MAX_SEQ) (Some SeqSpent) stamps in
+    let z = rest_none (is_behind t.operations t.waiting_room t.site) Behind seqs allowed in
+    let a = rest_none (eqb (front_of t.operations t.site) MAX_SEQ) SeqSpent stamps z.1 in
     let b = rest_none (eqb (greatest_stamp t.operations) MAX_STAMP) StampsSpent files a.1 in
     let c = rest_none (ltb MAX_FILE (file_len t.operations t.site + length bytes)) FileSpent None b.1 in
     ltb-false _ _ c.0
@@ -160,18 +171,26 @@ stretch_long t beg end within =
     let behind = length-drop beg (shown_items t) in
     length-take-le (end - beg) (drop beg (shown_items t)) (omega (arith, all, behind, within))
 
+-- so long a stretch does a Delete of it keep
+pub keeps_so_much : ADeleteKeepsItsStretch → (t : TextState) → IsText t → (beg end : ℕ) → end ≤ length (shown_of t)
+    → passes_file t (delete (names_shown t beg end)) ≡ nat_lt MAX_FILE (end - beg)
+keeps_so_much law t is beg end within =
+    ap (nat_lt MAX_FILE) (ap (length {A = Item}) (law t beg end is).1 ∙ stretch_long t beg end within)
+
 -- an Insert has no names that may be scattered
-one_of_three : (a b c : Bool)
-    → cond a (Some SeqSpent) (cond b (Some StampsSpent) (cond c (Some FileSpent) None)) ≡ Some Scattered → ⊥
-one_of_three true b c h = cc
-one_of_three false true c h = cc
-one_of_three false false true h = cc
-one_of_three false false false h = cc
+one_of_four : (a b c d : Bool)
+    → cond a (Some Behind) (cond b (Some SeqSpent) (cond c (Some StampsSpent) (cond d (Some FileSpent) None)))
+    ≡ Some Scattered → ⊥
+one_of_four true b c d h = cc
+one_of_four false true c d h = cc
+one_of_four false false true d h = cc
+one_of_four false false false true h = cc
+one_of_four false false false false h = cc
 
 pub never_scattered : (t : TextState) (cause : Anchor) (at : ℕ) (looks : Looks) (bytes : List ℕ)
     → refusal_for t (insert cause at looks bytes) ≡ Some Scattered → ⊥
 never_scattered t cause at looks bytes h =
-    one_of_three (eqb (front_of t.operations t.site) MAX_SEQ) (eqb (greatest_stamp t.operations) MAX_STAMP)
+    one_of_four (is_behind t.operations t.waiting_room t.site) (eqb (front_of t.operations t.site) MAX_SEQ) (eqb (greatest_stamp t.operations) MAX_STAMP)
     (ltb MAX_FILE (file_len t.operations t.site + length bytes)) h
 
 -- a stretch that isn't refused for its length isn't too long
@@ -180,20 +199,24 @@ pub fits_stretch : (t : TextState) (kind : OpKind) (len : ℕ) (names : List Ran
     → passes_file t kind ≡ nat_lt MAX_FILE len → MAX_FILE < len → ⊥
 fits_stretch t kind len names refused file long =
     let full : passes_file t kind ≡ true = file ∙ lt-ltb MAX_FILE len long in
-    not_refused (eqb (front_of t.operations t.site) MAX_SEQ) (eqb (greatest_stamp t.operations) MAX_STAMP)
-    (nat_lt MAX_RANGES (length names)) (cond (is_scattered kind) (Some Scattered) None)
-    (ap (λ (b : Bool). cond (eqb (front_of t.operations t.site) MAX_SEQ) (Some SeqSpent)
+    not_refused (is_behind t.operations t.waiting_room t.site) (eqb (front_of t.operations t.site) MAX_SEQ)
+    (eqb (greatest_stamp t.operations) MAX_STAMP) (nat_lt MAX_RANGES (length names))
+    (cond (is_scattered kind) (Some Scattered) None)
+    (ap (λ (b : Bool). cond (is_behind t.operations t.waiting_room t.site) (Some Behind)
+    (cond (eqb (front_of t.operations t.site) MAX_SEQ) (Some SeqSpent)
     (cond (eqb (greatest_stamp t.operations) MAX_STAMP) (Some StampsSpent)
-    (cond b (Some FileSpent) (cond (is_scattered kind) (Some Scattered) None)))) (sym full) ∙ refused) where
-      not_refused : (a b many : Bool) (rest : Option Refusal)
-          → cond a (Some SeqSpent) (cond b (Some StampsSpent) (cond true (Some FileSpent) rest))
+    (cond b (Some FileSpent) (cond (is_scattered kind) (Some Scattered) None))))) (sym full) ∙ refused) where
+      not_refused : (a b d many : Bool) (rest : Option Refusal)
+          → cond a (Some Behind) (cond b (Some SeqSpent) (cond d (Some StampsSpent) (cond true (Some FileSpent) rest)))
           ≡ cond many (Some Scattered) None → ⊥
-      not_refused true b true rest h = cc
-      not_refused true b false rest h = cc
-      not_refused false true true rest h = cc
-      not_refused false true false rest h = cc
-      not_refused false false true rest h = cc
-      not_refused false false false rest h = cc
+      not_refused true b d true rest h = cc
+      not_refused true b d false rest h = cc
+      not_refused false true d true rest h = cc
+      not_refused false true d false rest h = cc
+      not_refused false false true true rest h = cc
+      not_refused false false true false rest h = cc
+      not_refused false false false true rest h = cc
+      not_refused false false false false rest h = cc
 
 -- nothing was done where making it was refused
 pub not_made_then : (t : TextState) (op : Operation) (new : TextState) (sent sent' : List (List ℕ))

@@ -16,12 +16,17 @@ use Rattle.tree_order.specs.Shown.{AreChars}
 use Rattle.tree_order.specs.Tree.{HasByte, IsChar}
 use Rattle.set_laws.specs.Fronts.{greatest, front_of, greatest_stamp, file_len}
 use Rattle.set_laws.specs.Growing.{AreToldByCounts, GrowsByVerdict, IsOwnNext}
-use Rattle.set_laws.specs.Sets.{AreIdentified, AreHeldToTheFront}
+use Rattle.set_laws.specs.Sets.{AreIdentified, AreHeldToTheFront, KeepsCauses}
 use Rattle.set_laws.specs.Verdict.{HasVerdict, IsNew, ready}
 use Rattle.texts.specs.Edit.{own_op, set_after, with_operation}
 use Rattle.texts.specs.Order.{order_after}
 use Rattle.texts.specs.Text.{AreCharNames, IsText}
 use Rattle.texts.specs.TextState.{TextState}
+
+-- the law that a list that keeps causes goes on so
+abbrev pub CausesStayAhead : Type 0
+CausesStayAhead = (ops : List Operation) (op : Operation) → KeepsCauses ops → Good (ops ++ op ∷ [])
+    → KeepsCauses (ops ++ op ∷ [])
 
 -- the laws of good sets with one operation more
 pub record GrowthLaws : Type 0 where
@@ -32,6 +37,7 @@ pub record GrowthLaws : Type 0 where
       → HasVerdict ops op ready
   pub grows : (ops : List Operation) (op : Operation) → Good ops → AreIdentified ops → IsNew ops op
       → GrowsByVerdict ops op
+  pub causes : CausesStayAhead
 
 -- the operation may be taken in, is the latest, and leaves a text where its characters are those defined
 pub record IsOwnStep (t : TextState) (op : Operation) : Type 0 where
@@ -117,10 +123,12 @@ module _ (laws : GrowthLaws) (t : TextState) (kind : OpKind) (is : IsText t)
     latest = below (λ (op : Operation). op.stamp) ops (greatest_stamp ops + 1) (omega arith);
     text = λ chars. record {
       good = larger;
+      in_order = laws.causes ops own is.in_order larger;
       identified = identified;
       of_text = All-push (λ (o : Operation). o.text ≡ t.text) ops own is.of_text refl;
       chars = chars;
       kept = λ c among. char_stays ops own c (kept_names t kind old is.kept c among);
+      waiting = is.waiting;
     };
   }
 

@@ -1,6 +1,6 @@
 -- The laws of what replicas show: the operations taken in tell it, whatever their order.
 use Rattle.std.specs.Prelude.{◌≡◌, ℕ, ◌<◌, ◌≤◌, ◌↔◌, ◌||◌, not, List, [], ◌∷◌, ◌++◌, length, filter, map}
-use Rattle.std.specs.Prelude.{Contains, IsTrue, slice_range, take}
+use Rattle.std.specs.Prelude.{Contains, IsTrue, slice_range, take, Ok}
 use Rattle.looks.specs.Sel.{Selection}
 use Rattle.looks.specs.declared.looks.Looks.{Looks}
 use Rattle.char_files.specs.CharName.{CharName}
@@ -14,6 +14,7 @@ use Rattle.set_laws.specs.Verdict.{HasVerdict, IsNew, ready}
 use Rattle.set_laws.specs.Fronts.{file_len}
 use Rattle.texts.specs.Edit.{Edit, after, first_part, is_in_text, names_shown, own_insert, own_op, plan}
 use Rattle.texts.specs.Edit.{shown_after, stretch_named, with_operation}
+use Rattle.texts.specs.Merge.{IsUnionOf, Merges}
 use Rattle.texts.specs.Order.{chars_of, cut, dress, is_named, put, with_looks}
 use Rattle.texts.specs.Text.{AreCharNames, IsText}
 use Rattle.texts.specs.TextState.{TextState, shown_items, shown_of}
@@ -125,3 +126,8 @@ pub record HasOneTextWith (t : TextState) (op : Operation) : Type 0 where
   pub grown : new ≡ record t { operations = t.operations ++ op ∷ []; order = new.order }
   pub only : (other : TextState) → IsText other
       → other ≡ record t { operations = t.operations ++ op ∷ []; order = other.order } → other ≡ new
+
+-- a merge shows the text of the union
+abbrev pub MergesShowTheUnion : Type 0
+MergesShowTheUnion = (t other new : TextState) (count : ℕ) → IsText t → IsText other
+    → Merges t other (Ok count) new → IsUnionOf t other new

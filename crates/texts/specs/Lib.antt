@@ -1,9 +1,12 @@
+pub mod Draining
 pub mod Edit
 pub mod Laws
+pub mod Merge
 pub mod Order
 pub mod Outcome
 pub mod Own
 pub mod Pieces
 pub mod Take
+pub mod Taking
 pub mod Text
 pub mod TextState

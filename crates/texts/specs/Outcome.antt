@@ -4,13 +4,14 @@ use Rattle.std.specs.Prelude.{Option, Some, None, option_map, nat_lt, ◌==◌, 
 use Rattle.std.specs.Option.{option_map_or}
 use Rattle.looks.specs.declared.refusal.Refusal.{Refusal}
 use Rattle.looks.specs.declared.refusal.Refusal.TheVariants.{SeqSpent, StampsSpent, FileSpent, OutOfMemory}
-use Rattle.looks.specs.declared.refusal.Refusal.TheVariants.{Scattered}
+use Rattle.looks.specs.declared.refusal.Refusal.TheVariants.{Behind, Scattered}
 use Rattle.char_files.specs.declared.TheConstants.{MAX_FILE}
 use Rattle.operations.specs.Operation.{Operation, OpKind, insert, delete, restore, change_looks}
 use Rattle.operations.specs.Spelling.{spelling}
 use Rattle.operations.specs.declared.name_set.TheConstants.{MAX_RANGES}
 use Rattle.operations.specs.declared.op.TheConstants.{MAX_STAMP}
 use Rattle.set_laws.specs.Fronts.{front_of, greatest_stamp, file_len}
+use Rattle.waiting_room.specs.Room.{is_behind}
 use Rattle.texts.specs.Edit.{Edit, after, first_part, plan, shown_after, stretch_named, with_operation}
 use Rattle.texts.specs.TextState.{TextState, shown_of}
 use Rattle.texts.specs.declared.TheConstants.{MAX_SEQ}
@@ -34,10 +35,11 @@ is_scattered (change_looks sel looks names) = nat_lt MAX_RANGES (length names)
 -- why the site's next operation, of this kind, is refused whatever the memory: the first that holds
 abbrev pub refusal_for : TextState → OpKind → Option Refusal
 refusal_for t kind =
-    if front_of t.operations t.site == MAX_SEQ then Some SeqSpent
+    if is_behind t.operations t.waiting_room t.site then Some Behind
+    else (if front_of t.operations t.site == MAX_SEQ then Some SeqSpent
     else (if greatest_stamp t.operations == MAX_STAMP then Some StampsSpent
     else (if passes_file t kind then Some FileSpent
-    else (if is_scattered kind then Some Scattered else None)))
+    else (if is_scattered kind then Some Scattered else None))))
 
 -- the first operation's refusal, else what stops the later ones
 abbrev pub refusal_or : Option Refusal → Option (ℕ × Refusal) → Option (ℕ × Refusal)

@@ -5,8 +5,10 @@ pub enum Fate {
     OtherText,
     /// It is held already.
     Known,
-    /// Another operation is held under its identity.
+    /// Another operation is held or waits under its identity.
     Conflicting,
+    /// It waits already.
+    AlreadyWaits,
     /// A cause of it isn't held.
     Wait,
     /// It begins elsewhere than its site's file ends, or names an own character behind that end.

@@ -8,7 +8,7 @@ ghost use Rattle.texts.specs.Laws.{ShowsTheDefinition, OperationsTellTheText, Fr
 ghost use Rattle.texts.specs.Laws.{OwnInsertIsPlain, HasOneTextWith};
 ghost use Rattle.texts.specs.Laws.{OwnDeleteHides, OwnRestoreShows, OwnLooksAreGiven};
 ghost use Rattle.texts.specs.Laws.{OwnDeleteIsPlain, OwnLooksArePlain, ADeleteKeepsItsStretch};
-ghost use Rattle.texts.specs.Laws.{OwnEditsArePlain};
+ghost use Rattle.texts.specs.Laws.{MergesShowTheUnion, OwnEditsArePlain};
 ghost use Rattle.texts.specs.Text.{IsText};
 ghost use Rattle.texts.specs.TextState.{TextState};
 
@@ -17,7 +17,10 @@ use operations::sets_are_told_by_their_names;
 use set_laws::growing::{
     counts_go_on, counts_tell_what_is_here, good_sets_grow_by_verdict, own_next_is_ready,
 };
-use set_laws::unions::{equal_fronts_tell_equal_sets, front_is_held};
+use set_laws::unions::{
+    equal_fronts_tell_equal_sets, front_is_held, front_tells_what_is_held,
+    lists_that_keep_causes_grow,
+};
 use tree_order::laws::registers::{
     registers_are_offered, registers_tell_what_is_shown, the_order_stays,
 };
@@ -58,6 +61,7 @@ pub fn an_own_insert_is_plain()
     counts_tell_what_is_here();
     own_next_is_ready();
     good_sets_grow_by_verdict();
+    lists_that_keep_causes_grow();
     the_latest_goes_behind_its_cause();
     the_latest_is_a_plain_edit();
     registers_are_offered();
@@ -73,6 +77,7 @@ pub fn an_own_delete_hides()
     counts_tell_what_is_here();
     own_next_is_ready();
     good_sets_grow_by_verdict();
+    lists_that_keep_causes_grow();
     the_order_stays();
     the_last_switch_decides();
 }
@@ -85,6 +90,7 @@ pub fn an_own_restore_shows()
     counts_tell_what_is_here();
     own_next_is_ready();
     good_sets_grow_by_verdict();
+    lists_that_keep_causes_grow();
     the_order_stays();
     the_last_switch_decides();
 }
@@ -98,6 +104,7 @@ pub fn own_looks_are_given()
     counts_tell_what_is_here();
     own_next_is_ready();
     good_sets_grow_by_verdict();
+    lists_that_keep_causes_grow();
     the_order_stays();
 }
 
@@ -142,6 +149,16 @@ pub fn there_is_one_text_with_it()
     ensures { (t : TextState) (op : Operation) → IsText t → Good (t.operations ++ op ∷ [])
         → AreIdentified (t.operations ++ op ∷ []) → op.text ≡ t.text → HasOneTextWith t op }
 {
+    lists_that_keep_causes_grow();
     there_is_one_order();
     there_is_one_character_each();
+}
+
+/// A law: a merge leaves the operations of both texts, and shows what the definition gives from these.
+pub fn merges_show_the_union()
+    ensures { MergesShowTheUnion }
+{
+    front_tells_what_is_held();
+    a_text_shows_the_definition();
+    only_the_set_counts();
 }

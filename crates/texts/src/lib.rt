@@ -1,18 +1,23 @@
-//! Replicas: one site's copy of a text, the messages that its edits send, and those that it takes in.
+//! Replicas: one site's copy of a text, the messages that its edits send, those that it takes in or lets
+//! wait, and merges.
 #![tactic(auto)]
 
 mod edit_refusal;
 mod fate;
 pub mod laws;
+mod merge_refusal;
 mod outbox;
 mod replica;
+mod settled;
 mod source;
 mod took;
 
 pub use edit_refusal::EditRefusal;
 pub use fate::Fate;
+pub use merge_refusal::MergeRefusal;
 pub use outbox::Outbox;
 pub use replica::Replica;
+pub use settled::Settled;
 pub use taken_text::Shown;
 pub use took::Took;
 

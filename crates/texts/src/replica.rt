@@ -7,7 +7,7 @@ ghost use Rattle.set_laws.specs.Verdict.{ready};
 ghost use Rattle.tree_order.specs.Shown.{IsPlace};
 ghost use Rattle.texts.specs.Edit.{anchor_before};
 ghost use Rattle.texts.specs.Laws.{AreAlike};
-ghost use Rattle.texts.specs.Take.{HasTaken, IsJudged};
+ghost use Rattle.texts.specs.Taking.{HasTaken, IsJudged};
 ghost use Rattle.texts.specs.Text.{IsAnchor, IsText};
 ghost use Rattle.texts.specs.TextState.{empty_text, shown_of};
 
@@ -15,9 +15,11 @@ mod deleting;
 mod dressing;
 mod editing;
 mod inserting;
+mod merging;
 mod own;
 mod pieces;
 mod taking;
+mod waiting;
 
 use crate::laws::the_fronts_tell_the_text;
 use char_files::{Anchor, Buffer, SiteNo, TextNo};
@@ -26,6 +28,7 @@ use operations::{NameSet, Op};
 use std::alloc::Global;
 use std::marker::Model;
 use taken_text::{Shown, TakenText};
+use waiting_room::Room;
 
 /// One site's copy of a text. This project's own.
 #[derive(Drop)]
@@ -33,6 +36,8 @@ pub struct Replica {
     text: TextNo,
     site: SiteNo,
     taken: TakenText,
+    // The operations that wait for a cause.
+    room: Room,
     // The stretch that the site deleted last, and its names; empty before that.
     stretch: Buffer,
     set: NameSet,
@@ -46,10 +51,11 @@ impl Model for Replica {
 
     ghost Value = { TextState };
 
-    ghost view = { λ r. state_of r.text r.site r.taken.operations r.taken.chars r.stretch r.set };
+    ghost view = { λ r. state_of r.text r.site r.taken.operations r.taken.chars r.room
+        r.stretch r.set };
 
     ghost invariant = { λ r. All (λ op. op.text ≡ r.text) r.taken.operations
-        × AreCharNames r.taken.operations r.set };
+        × All (λ op. op.text ≡ r.text) r.room × AreCharNames r.taken.operations r.set };
 }
 
 impl Replica {
@@ -62,6 +68,7 @@ impl Replica {
             text,
             site,
             taken: TakenText::new(alloc)?,
+            room: Room::new(alloc),
             stretch: Buffer::new(alloc),
             set: NameSet::new(alloc),
             alloc,
@@ -82,12 +89,13 @@ impl Replica {
         self.site
     }
 
-    /// A law: the operations taken in are good, and all characters are theirs, in the order that is defined.
-    /// A proof gets it by calling this, at no cost.
+    /// A law: the operations taken in are good, all characters are theirs, in the order that is defined, and those
+    /// that wait are a room's. A proof gets it by calling this, at no cost.
     pub fn is_text(&self)
         ensures { IsText self.now }
     {
         self.taken.is_defined();
+        self.room.are_identified();
     }
 
     /// The greatest seq of a site's operations that were taken in, its front; 0 for none.
@@ -119,12 +127,11 @@ impl Replica {
         self.taken.log().has_fronts_of(other.taken.log())
     }
 
-    /// How many operations wait for a cause: none, as there is no waiting room yet.
+    /// How many operations wait for a cause, at most 64.
     pub fn waiting(&self) -> u32
         ensures { result ≡ length self.now.waiting_room }
     {
-        let _ = &self.taken;
-        0
+        self.room.len() as u32
     }
 
     /// How many characters are shown.

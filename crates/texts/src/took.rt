@@ -1,7 +1,7 @@
 /// What taking in a message did. This project's own.
 #[derive(Clone, Copy, Debug, PartialEq, Eq)]
 pub enum Took {
-    /// Its operation was taken in. There is no waiting room yet, so no other one is with it.
+    /// Its operation was taken in, and then those that waited for it.
     Taken {
         /// How many operations that waited were taken in behind it.
         drained: u32,
@@ -12,4 +12,6 @@ pub enum Took {
     },
     /// Its operation is held already. Nothing was changed.
     Repeat,
+    /// Its operation waits for a cause, from now on or already.
+    Waits,
 }

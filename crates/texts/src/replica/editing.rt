@@ -20,9 +20,10 @@ impl Replica {
     /// Puts a stretch behind the first `pos` characters shown: an Insert for each stretch of equal looks, and for
     /// each 4,096 bytes of it, each later one behind the one before it.
     ///
-    /// Answers how many messages it added to the Outbox. Each Insert is refused, in this order, `SeqSpent` after
-    /// the site's last seq, `StampsSpent` after the greatest stamp, `FileSpent` where the site's file would pass
-    /// 2^24 bytes, and `OutOfMemory`. An empty stretch sends nothing and is never refused.
+    /// Answers how many messages it added to the Outbox. Each Insert is refused, in this order, `Behind` where an
+    /// operation that waits shows that the site has gone further elsewhere, `SeqSpent` after the site's last seq,
+    /// `StampsSpent` after the greatest stamp, `FileSpent` where the site's file would pass 2^24 bytes, and
+    /// `OutOfMemory`. An empty stretch sends nothing and is never refused.
     pub fn insert(
         &mut self,
         pos: u64,
@@ -46,10 +47,10 @@ impl Replica {
     /// Takes the characters shown from `beg` to `end` out of what is shown, by one Delete. The stretch is kept
     /// for `recall`, and its names for `restore`; a refused one leaves those kept before.
     ///
-    /// Answers how many messages it added to the Outbox. Refused, in this order, `SeqSpent`, `StampsSpent`,
-    /// `FileSpent` where the stretch has more than 2^24 characters, `Scattered` where its names make more than
-    /// 1,024 ranges, and `OutOfMemory`, which may come ahead of `Scattered`. An empty stretch sends nothing and
-    /// is never refused.
+    /// Answers how many messages it added to the Outbox. Refused, in this order, `Behind`, `SeqSpent` and
+    /// `StampsSpent` as in `insert`, `FileSpent` where the stretch has more than 2^24 characters, `Scattered` where
+    /// its names make more than 1,024 ranges, and `OutOfMemory`, which may come ahead of `Scattered`. An empty
+    /// stretch sends nothing and is never refused.
     pub fn delete(&mut self, beg: u64, end: u64, outbox: &mut Outbox) -> Result<u32, EditRefusal>
         requires range { beg ≤ end }
         requires in_text { end ≤ length (shown_of self.old) }
@@ -65,9 +66,9 @@ impl Replica {
 
     /// Gives the characters shown from `beg` to `end` the looks that are selected, by one ChangeLooks.
     ///
-    /// Answers how many messages it added to the Outbox. Refused, in this order, `SeqSpent`, `StampsSpent`,
-    /// `Scattered` where the names make more than 1,024 ranges, and `OutOfMemory`, which may come ahead of
-    /// `Scattered`. An empty stretch sends nothing and is never refused.
+    /// Answers how many messages it added to the Outbox. Refused, in this order, `Behind`, `SeqSpent` and
+    /// `StampsSpent` as in `insert`, `Scattered` where the names make more than 1,024 ranges, and `OutOfMemory`,
+    /// which may come ahead of `Scattered`. An empty stretch sends nothing and is never refused.
     pub fn change_looks(
         &mut self,
         beg: u64,
@@ -90,9 +91,9 @@ impl Replica {
 
     /// Shows again what was deleted last, under its own names, by one Restore. What was deleted last stays so.
     ///
-    /// Answers how many messages it added to the Outbox. Refused, in this order, `SeqSpent`, `StampsSpent` and
-    /// `OutOfMemory`. Where nothing was deleted yet, or all of it is shown, it sends nothing and is never
-    /// refused.
+    /// Answers how many messages it added to the Outbox. Refused, in this order, `Behind`, `SeqSpent` and
+    /// `StampsSpent` as in `insert`, and `OutOfMemory`. Where nothing was deleted yet, or all of it is shown, it
+    /// sends nothing and is never refused.
     pub fn restore(&mut self, outbox: &mut Outbox) -> Result<u32, EditRefusal>
         ensures { EditsSending self.old restoration result self.new outbox.old outbox.new }
     {

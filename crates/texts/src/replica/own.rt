@@ -9,10 +9,11 @@ ghost use Rattle.operations.specs.Operation.{OpKind};
 ghost use Rattle.operations.specs.Seen.{kind_of};
 ghost use Rattle.operations.specs.Spelling.{IsKind, spelling};
 ghost use Rattle.set_laws.specs.Verdict.{ready};
+ghost use Rattle.waiting_room.specs.Room.{is_behind};
 ghost use Rattle.texts.specs.Edit.{own_op};
 ghost use Rattle.texts.specs.Outcome.{is_scattered, passes_file, refusal_for};
 ghost use Rattle.texts.specs.Own.{answer_of_one, refused_behind};
-ghost use Rattle.texts.specs.Take.{HasTaken, IsJudged};
+ghost use Rattle.texts.specs.Taking.{HasTaken, IsJudged};
 
 use super::Replica;
 use crate::MAX_SEQ;
@@ -21,6 +22,7 @@ use crate::outbox::Outbox;
 use char_files::MAX_FILE;
 use looks::Refusal;
 use operations::{Kind, MAX_RANGES, MAX_STAMP, NameSet, Op, encode};
+use waiting_room::GoodLog;
 
 // What an edit of one operation answers.
 pub(crate) fn answer_of_one(made: Result<(), Refusal>) -> Result<u32, EditRefusal>
@@ -52,6 +54,14 @@ pub(crate) fn may_be_named(names: &NameSet)
 }
 
 impl Replica {
+    // Whether a waiting operation shows that the site has gone further than is known here.
+    fn is_behind(&self) -> bool
+        ensures { result ≡ is_behind self.now.operations self.now.waiting_room self.now.site }
+    {
+        self.is_text();
+        self.room.behind(self.site, &GoodLog::new(self.taken.log()))
+    }
+
     // Why the site's next operation is refused, whatever the memory and its ranges, where the site's file, or the
     // stretch that it keeps, would have so many bytes.
     pub(crate) fn refusal_for(&self, len: u64) -> Option<Refusal>
@@ -61,7 +71,9 @@ impl Replica {
             → refusal_for self.now kind ≡ (if is_scattered kind then Some Refusal.Scattered else None)) }
     {
         let log = self.taken.log();
-        if log.front(self.site) == MAX_SEQ {
+        if self.is_behind() {
+            Some(Refusal::Behind)
+        } else if log.front(self.site) == MAX_SEQ {
             Some(Refusal::SeqSpent)
         } else if log.stamp() == MAX_STAMP {
             Some(Refusal::StampsSpent)

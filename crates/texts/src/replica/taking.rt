@@ -1,40 +1,24 @@
-//! Messages of all sites are taken in.
+//! Messages of all sites are taken in, or wait for their causes.
 
-ghost use Rattle.std.specs.Prelude.{◌≡◌, ◌⊎◌};
+ghost use Rattle.std.specs.Prelude.{◌≡◌, ◌⊎◌, Err, false, true};
+ghost use Rattle.set_laws.specs.Fronts.{IsHeld};
 ghost use Rattle.set_laws.specs.Verdict.{IsNew};
-ghost use Rattle.texts.specs.Take.{answer_to, HasFate, Takes, TakesShort};
+ghost use Rattle.texts.specs.Take.{Enters, HasFate, Stays, Takes, TakesIn, TakesShort};
 
 use super::Replica;
 use crate::fate::Fate;
+use crate::settled::Settled;
 use crate::took::Took;
 use looks::Refusal;
 use operations::{Op, decode};
 use waiting_room::{GoodLog, Verdict, judge};
 
-// How a message is answered of whose operation becomes this.
-fn answer_to(fate: Fate) -> Result<Took, Refusal>
-    ensures { result ≡ answer_to fate }
-{
-    match fate {
-        Fate::OtherText => Err(Refusal::WrongText),
-        Fate::Known => Ok(Took::Repeat),
-        Fate::Conflicting => Err(Refusal::Conflict),
-        Fate::Wait => Err(Refusal::RoomFull),
-        Fate::WrongOffset => Err(Refusal::BadOffset),
-        Fate::LowStamp => Err(Refusal::BadStamp),
-        Fate::Ready => Ok(Took::Taken {
-            drained: 0,
-            dropped: 0,
-            stopped: false,
-        }),
-    }
-}
-
 impl Replica {
-    // What becomes of an operation of this text whose identity isn't held.
+    // What becomes of an operation of this text whose identity isn't held, and under which none waits.
     fn judged(&self, op: &Op) -> Fate
         requires text { op.now.text ≡ self.now.text }
         requires new { IsNew self.now.operations op.now }
+        requires unheard { ¬ IsHeld self.now.waiting_room op.now.site op.now.seq }
         ensures { HasFate self.now op.now result }
     {
         self.taken.is_defined();
@@ -43,6 +27,19 @@ impl Replica {
             Verdict::BadOffset => Fate::WrongOffset,
             Verdict::BadStamp => Fate::LowStamp,
             Verdict::Ready => Fate::Ready,
+        }
+    }
+
+    // What becomes of an operation of this text whose identity isn't held.
+    fn fate_of_new(&self, op: &Op) -> Fate
+        requires text { op.now.text ≡ self.now.text }
+        requires new { IsNew self.now.operations op.now }
+        ensures { HasFate self.now op.now result }
+    {
+        match self.room.waits(op) {
+            Some(true) => Fate::AlreadyWaits,
+            Some(false) => Fate::Conflicting,
+            None => self.judged(op),
         }
     }
 
@@ -57,24 +54,59 @@ impl Replica {
         match self.taken.log().get(op.site(), op.seq()) {
             Some(held) if held.is_same(op) => Fate::Known,
             Some(_) => Fate::Conflicting,
-            None => self.judged(op),
+            None => self.fate_of_new(op),
         }
     }
 
-    /// Takes in a message of any site.
+    // Lets an operation wait, if there is a place.
+    fn let_wait(&mut self, op: Op) -> Result<Took, Refusal>
+        requires { HasFate self.old op Fate.Wait }
+        ensures { Enters self.old op result self.new ⊎ Stays self.old (Err Refusal.OutOfMemory) result self.new }
+    {
+        self.room.offer(op)?;
+        Ok(Took::Waits)
+    }
+
+    // Takes in an operation that is ready, and drains the room.
+    fn take_in(&mut self, op: Op) -> Result<Took, Refusal>
+        requires { HasFate self.old op Fate.Ready }
+        ensures { TakesIn self.old op false result self.new
+            ⊎ (TakesIn self.old op true result self.new
+            ⊎ Stays self.old (Err Refusal.OutOfMemory) result self.new) }
+    {
+        self.add(op)?;
+        let Settled {
+            drained,
+            dropped,
+            stopped,
+        } = self.settle();
+        Ok(Took::Taken {
+            drained,
+            dropped,
+            stopped,
+        })
+    }
+
+    /// Takes in a message of any site, or lets it wait for its causes. What waited for it is taken in behind it.
     ///
     /// Refused, in this order, `Malformed` where it tells no operation, `WrongText`, `Conflict` where another
-    /// operation is held under its identity, `RoomFull` where it would have to wait for a cause, `BadOffset`,
-    /// `BadStamp`, and `OutOfMemory`. A repeat is answered so, and changes nothing.
+    /// operation is held or waits under its identity; then, by the verdict, `RoomFull` where it would have to wait
+    /// and 64 wait already, `BadOffset`, `BadStamp`; and `OutOfMemory`. A repeat is answered so, and changes nothing,
+    /// whether its operation is held or waits.
     pub fn take(&mut self, message: &[u8]) -> Result<Took, Refusal>
         ensures { Takes self.old message.now result self.new ⊎ TakesShort self.old message.now result self.new }
     {
         let op = decode(self.alloc, message)?;
         op.has_spelling();
-        let fate = self.fate_of(&op);
-        if let Fate::Ready = fate {
-            self.add(op)?;
+        match self.fate_of(&op) {
+            Fate::OtherText => Err(Refusal::WrongText),
+            Fate::Known => Ok(Took::Repeat),
+            Fate::Conflicting => Err(Refusal::Conflict),
+            Fate::AlreadyWaits => Ok(Took::Waits),
+            Fate::Wait => self.let_wait(op),
+            Fate::WrongOffset => Err(Refusal::BadOffset),
+            Fate::LowStamp => Err(Refusal::BadStamp),
+            Fate::Ready => self.take_in(op),
         }
-        answer_to(fate)
     }
 }

@@ -8,6 +8,7 @@ returns c = is_plain (record {
     counts = c.counts_tell_what_is_here.ensures;
     ready = c.own_next_is_ready.ensures;
     grows = c.good_sets_grow_by_verdict.ensures;
+    causes = c.lists_that_keep_causes_grow.ensures;
   };
   behind = c.the_latest_goes_behind_its_cause.ensures;
   plain = c.the_latest_is_a_plain_edit.ensures;

@@ -6,4 +6,4 @@ returns c =
     one_text_with (record {
       order = c.there_is_one_order.ensures;
       each = c.there_is_one_character_each.ensures;
-    })
+    }) c.lists_that_keep_causes_grow.ensures

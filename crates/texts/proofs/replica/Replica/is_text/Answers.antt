@@ -7,8 +7,14 @@ returns c =
     let is = c.is_defined.ensures in
     subst IsText c.self.view_is (record {
       good = is.good;
+      in_order = is.in_order;
       identified = is.identified;
       of_text = c.self.invariant.0;
       chars = is.chars;
-      kept = c.self.invariant.1;
+      kept = c.self.invariant.2;
+      waiting = record {
+        of_text = c.self.invariant.1;
+        identified = c.are_identified.ensures.identified;
+        few = c.are_identified.ensures.few;
+      };
     })

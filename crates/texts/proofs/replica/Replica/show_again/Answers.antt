@@ -6,7 +6,7 @@ use Rattle.operations.specs.Spelling.{spelling}
 use Rattle.set_laws.specs.Verdict.{ready}
 use Rattle.texts.specs.Edit.{own_op}
 use Rattle.texts.specs.Outcome.{refusal_for}
-use Rattle.texts.specs.Take.{HasTaken, IsJudged}
+use Rattle.texts.specs.Taking.{HasTaken, IsJudged}
 use Rattle.texts.specs.TextState.{TextState}
 use Rattle.texts.proofs.Made.{made, not_made}
 use Rattle.texts.proofs.replica.Replica.show_again.Goals as goal

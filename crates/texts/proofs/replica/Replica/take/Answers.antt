@@ -1,29 +1,34 @@
-use Rattle.std.proofs.Common.{sym, subst}
-use Rattle.texts.specs.Take.{HasFate, IsAfter}
-use Rattle.texts.specs.declared.fate.Fate.{Fate}
-use Rattle.texts.specs.TextState.{TextState}
-use Rattle.texts.proofs.Taking.{answered, unchanged, unread}
+use Rattle.std.proofs.Common.{inl, inr}
+use Rattle.texts.specs.declared.fate.Fate.TheVariants.{Ready, Wait}
+use Rattle.texts.proofs.Messages.{answered, short, stopped_behind}
 use Rattle.texts.proofs.replica.Replica.take.Goals as goal
-use Rattle.texts.proofs.replica.Replica.take.Goals.{in-Ready+in_ok-add, in_default}
 
-pub returns-in_err-op : goal.returns-in_err-op
-returns-in_err-op c =
-    unread c.args.self.now c.args.message.now c.from_residual.result c.in_err-op.field-0.0 c.from_residual.ensures.1
-    c.in_err-op.ensures.malformed c.in_err-op.ensures.errors
-
-pub add-requires : goal.add-requires
-add-requires c = subst (HasFate c.args.self.now c.in_ok-op.op) c.in-Ready.is c.fate_of-fate.ensures
-
-pub returns : goal.returns
-returns c =
+pub returns-in-Wait : goal.returns-in-Wait
+returns-in-Wait c =
     let t = c.args.self.now in
+    let message = c.args.message.now in
     let op = c.in_ok-op.op in
-    let fate = c.fate_of-fate.result in
-    answered t c.args.message.now op fate c.match-fate.self c.answer_to.result c.has_spelling.ensures
-    c.in_ok-op.ensures.ok c.fate_of-fate.ensures c.answer_to.ensures (elim c.match-fate.branch [
-      | in-Ready+in_ok-add w ↦
-          subst (λ (new : TextState). IsAfter t op fate new) (sym w.self-is)
-          (subst (λ (f : Fate). IsAfter t op f w.add.new.self) (sym w.in-Ready.is) w.in_ok-add.ensures.ok)
-      | in_default w ↦
-          subst (λ (new : TextState). IsAfter t op fate new) (sym w.self-is) (unchanged t op fate w.in_default.not-Ready)
-    ])
+    let valid = c.has_spelling.ensures in
+    let spelled = c.in_ok-op.ensures.ok in
+    let new = c.let_wait.new.self in
+    elim c.let_wait.ensures [
+      | inl enters ↦ answered t message op Wait c.let_wait.result new valid spelled c.in-Wait.ensures enters
+      | inr stays ↦ short t message op c.let_wait.result new valid spelled stays
+    ]
+
+pub returns-in-Ready : goal.returns-in-Ready
+returns-in-Ready c =
+    let t = c.args.self.now in
+    let message = c.args.message.now in
+    let op = c.in_ok-op.op in
+    let valid = c.has_spelling.ensures in
+    let spelled = c.in_ok-op.ensures.ok in
+    let result = c.take_in.result in
+    let new = c.take_in.new.self in
+    elim c.take_in.ensures [
+      | inl takes ↦ answered t message op Ready result new valid spelled c.in-Ready.ensures takes
+      | inr other ↦ elim other [
+        | inl stops ↦ stopped_behind t message op result new valid spelled c.in-Ready.ensures stops
+        | inr stays ↦ short t message op result new valid spelled stays
+      ]
+    ]

@@ -1,0 +1,132 @@
+-- What of a list of operations isn't held yet, and what a merge of it shows.
+use Rattle.std.proofs.Common.{◌≡◌, ℕ, zero, suc, ◌+◌, inl, inr, ◌⊎◌, Bool, true, false, cond, List, [], ◌∷◌, ◌++◌, take}
+use Rattle.std.proofs.Common.{drop, Some, Result, Ok, Err, sym, ap, subst, ◌∙◌, arith}
+use Rattle.std.specs.Prelude.{Contains, OnOk, filter, slice_get}
+use Rattle.std.proofs.lemmas.Bool.{cases_Bool, cond-false, cond-true, ltb-false}
+use Rattle.std.proofs.lemmas.List.{append-nil, take-append-drop}
+use Rattle.std.proofs.lemmas.List.Elements.{All-contains, All-contains_itself, All-filter, Contains-append_cases}
+use Rattle.std.proofs.lemmas.List.Elements.{Contains-append_left, Contains-append_right, filter-append, filter_more}
+use Rattle.std.proofs.lemmas.Option.{get_or_from_slice_get, slice_get_within}
+use Rattle.operations.specs.Operation.{Operation}
+use Rattle.tree_order.specs.Good.{Good}
+use Rattle.tree_order.specs.Laws.{AreSameSet, SaysTheSame}
+use Rattle.set_laws.specs.Growing.{HoldsCausesAmong}
+use Rattle.set_laws.specs.Sets.{AreIdentified, HasToTheFront, IsPartOf}
+use Rattle.set_laws.specs.Verdict.{HasVerdict, IsNew, ready}
+use Rattle.texts.specs.Laws.{MergesShowTheUnion, ShowsTheDefinition}
+use Rattle.texts.specs.Merge.{IsUnionOf, Merges, MergesShort, is_past_front, news}
+use Rattle.texts.specs.Text.{IsText}
+use Rattle.texts.specs.TextState.{TextState, shown_of}
+use Rattle.texts.specs.declared.merge_refusal.MergeRefusal.{MergeRefusal}
+
+-- what passes is kept
+kept_if_it_passes : (p : Operation → Bool) (ops : List Operation) (op : Operation) → Contains ops op → p op ≡ true
+    → Contains (filter p ops) op
+kept_if_it_passes p [] op (k, lt, is) passes = absurd (omega arith)
+kept_if_it_passes p (o ∷ ops) op (zero, lt, is) passes =
+    subst (λ (xs : List Operation). Contains xs op) (sym (cond-true _ _ _ (ap p is ∙ passes)))
+    (0, omega arith, is)
+kept_if_it_passes p (o ∷ ops) op (suc k, lt, is) passes =
+    let rest = kept_if_it_passes p ops op (k, omega arith, is) passes in
+    elim (cases_Bool (p o)) [
+      | inl is_so ↦
+          let (n, within, at) = rest in
+          subst (λ (xs : List Operation). Contains xs op) (sym (cond-true _ _ _ is_so)) (suc n, omega arith, at)
+      | inr isnt ↦ subst (λ (xs : List Operation). Contains xs op) (sym (cond-false _ _ _ isnt)) rest
+    ]
+
+-- what is kept was there
+there_before_filter : (p : Operation → Bool) (ops : List Operation) → IsPartOf (filter p ops) ops
+there_before_filter p ops op held =
+    All-contains (Contains ops) (filter p ops) op (All-filter p (Contains ops) ops (All-contains_itself ops)) held
+
+-- a first part is a part
+pub first_part : (ops : List Operation) (n : ℕ) → IsPartOf (take n ops) ops
+first_part ops n op held =
+    subst (λ (xs : List Operation). Contains xs op) (take-append-drop n ops)
+    (Contains-append_left (take n ops) (drop n ops) op held)
+
+-- a filter passes the next element, or drops it
+next_filtered : (p : Operation → Bool) (ops : List Operation) (i : ℕ) (op : Operation) → slice_get ops i ≡ Some op
+    → filter p (take (i + 1) ops) ≡ filter p (take i ops) ++ cond (p op) (op ∷ []) []
+next_filtered p ops i op at =
+    filter_more p ops i op (slice_get_within ops i op at)
+    ∙ ap (λ (o : Operation). filter p (take i ops) ++ cond (p o) (o ∷ []) []) (get_or_from_slice_get ops i op op at)
+
+pub next_passes : (p : Operation → Bool) (ops : List Operation) (i : ℕ) (op : Operation) → slice_get ops i ≡ Some op
+    → p op ≡ true → filter p (take (i + 1) ops) ≡ filter p (take i ops) ++ op ∷ []
+next_passes p ops i op at passes =
+    next_filtered p ops i op at ∙ ap (λ (xs : List Operation). filter p (take i ops) ++ xs) (cond-true _ _ _ passes)
+
+pub next_fails : (p : Operation → Bool) (ops : List Operation) (i : ℕ) (op : Operation) → slice_get ops i ≡ Some op
+    → p op ≡ false → filter p (take (i + 1) ops) ≡ filter p (take i ops)
+next_fails p ops i op at fails =
+    next_filtered p ops i op at
+    ∙ ap (λ (xs : List Operation). filter p (take i ops) ++ xs) (cond-false _ _ _ fails)
+    ∙ append-nil (filter p (take i ops))
+
+-- what passes of a list passes of its first part, and then of the rest
+pub parts_filtered : (p : Operation → Bool) (ops : List Operation) (i : ℕ)
+    → filter p ops ≡ filter p (take i ops) ++ filter p (drop i ops)
+parts_filtered p ops i =
+    ap (filter p) (sym (take-append-drop i ops)) ∙ filter-append p (take i ops) (drop i ops)
+
+-- of operations that b has, a has those up to its fronts
+abbrev pub FrontsTell : Type 0
+FrontsTell = (a b : List Operation) → Good a → AreIdentified (a ++ b) → HasToTheFront a b
+
+-- an operation of another good set is ready where its causes among those are held
+abbrev pub AreReady : Type 0
+AreReady = (ops others : List Operation) (op : Operation) → Good ops → Good others → AreIdentified (ops ++ others)
+    → Contains others op → IsNew ops op → HoldsCausesAmong ops others op → HasVerdict ops op ready
+
+-- those of a list that aren't held here
+abbrev pub news_of : TextState → List Operation → List Operation
+news_of t ops = filter (is_past_front t) ops
+
+-- a list's operations are held here, or are news
+pub held_or_new : (t : TextState) (all ops : List Operation) → HasToTheFront t.operations all → IsPartOf ops all
+    → IsPartOf ops (t.operations ++ news_of t ops)
+held_or_new t all ops told part op held =
+    elim (cases_Bool (is_past_front t op)) [
+      | inl past ↦
+          Contains-append_right t.operations (news_of t ops) op (kept_if_it_passes (is_past_front t) ops op held past)
+      | inr not_past ↦
+          Contains-append_left t.operations (news_of t ops) op
+          ((told op (part op held)).1 (ltb-false _ _ not_past))
+    ]
+
+-- and what is held with the news is held here, or is of the list
+pub held_with_news : (t : TextState) (ops : List Operation) → IsPartOf (t.operations ++ news_of t ops) (t.operations ++ ops)
+held_with_news t ops op h =
+    elim (Contains-append_cases t.operations (news_of t ops) op h) [
+      | inl here ↦ Contains-append_left t.operations ops op here
+      | inr new ↦ Contains-append_right t.operations ops op (there_before_filter (is_past_front t) ops op new)
+    ]
+
+-- a merge shows the union
+pub shows_the_union : FrontsTell → ShowsTheDefinition
+    → ((a b : List Operation) → AreSameSet a b → Good a → SaysTheSame a b) → MergesShowTheUnion
+shows_the_union fronts shows counts t other new count is is' (can, number, taken) =
+    let both : List Operation = t.operations ++ other.operations in
+    let told = fronts t.operations other.operations is.good can.identified in
+    let now : new.operations ≡ t.operations ++ news t other = ap (λ (u : TextState). u.operations) taken.grown in
+    let same : AreSameSet new.operations both = λ op. (
+      λ h. held_with_news t other.operations op (subst (λ (ops : List Operation). Contains ops op) now h),
+      λ h. subst (λ (ops : List Operation). Contains ops op) (sym now)
+          (elim (Contains-append_cases t.operations other.operations op h) [
+            | inl here ↦ Contains-append_left t.operations (news t other) op here
+            | inr there ↦ held_or_new t other.operations other.operations told (λ o g. g) op there
+          ]),
+    ) in
+    record {
+      operations = same;
+      shown = (counts new.operations both same taken.is.good).shown (shown_of new) (shows new taken.is);
+    }
+
+-- where a merge was done, the text shows the union
+pub union_where_done : MergesShowTheUnion → (t other new : TextState) (result : Result ℕ MergeRefusal) → IsText t
+    → IsText other → Merges t other result new ⊎ MergesShort t other result new → OnOk result (IsUnionOf t other new)
+union_where_done law t other new (Ok count) is is' (inl merges) = law t other new count is is' merges
+union_where_done law t other new (Ok count) is is' (inr short) = absurd short
+union_where_done law t other new (Err why) is is' merges = tt

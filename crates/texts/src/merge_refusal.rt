@@ -1,0 +1,13 @@
+use looks::Refusal;
+
+/// Why a merge was refused. This project's own.
+#[derive(Clone, Copy, Debug, PartialEq, Eq, Hash)]
+pub enum MergeRefusal {
+    /// Nothing was changed.
+    Whole(Refusal),
+    /// Memory was refused behind so many takings, which stand.
+    Stopped {
+        /// How many operations were taken in.
+        done: u64,
+    },
+}
