@@ -1,0 +1,11 @@
+pub mod Alike
+pub mod Fates
+pub mod Kept
+pub mod Messages
+pub mod OneEdit
+pub mod OneMerge
+pub mod OneWay
+pub mod OtherSites
+pub mod OwnOperations
+pub mod Staying
+pub mod Unmentioned

@@ -1,0 +1,6 @@
+use Rattle.convergence.proofs.Kept.{kept_draining}
+use Rattle.convergence.proofs.keeping.draining_keeps.Goals as goal
+
+pub returns : goal.returns
+returns c = λ t new drained dropped stopped all text keeps drains.
+    kept_draining c.kept_goes_on.ensures all text keeps drains

@@ -1,0 +1,3 @@
+pub mod Headline
+pub mod Keeping
+pub mod Outcomes

@@ -1,0 +1,62 @@
+//! What becomes of all that was handed in to a replica.
+
+ghost use Rattle.convergence.specs.Keeping.{KeptByDraining, KeptByEdits, KeptByForgetting, KeptByMerging};
+ghost use Rattle.convergence.specs.Keeping.{KeptByTaking, NothingIsKept, StayWaiting, WhatIsKeptIsClosed};
+
+use operations::one_spelling;
+use set_laws::closures::{kept_and_waiting_is_closed, kept_goes_on};
+use texts::laws::own_edits_are_plain;
+
+/// A law: a new text keeps nothing.
+pub fn nothing_is_kept()
+    ensures { NothingIsKept }
+{}
+
+/// A law: draining the room leaves all kept that was handed in.
+pub fn draining_keeps()
+    ensures { KeptByDraining }
+{
+    kept_goes_on();
+}
+
+/// A law: a message is kept with all that was handed in before it; one that is malformed, of another text, in
+/// conflict, or refused for want of a place or of memory, leaves that as it was.
+pub fn taking_keeps()
+    ensures { KeptByTaking }
+{
+    draining_keeps();
+    kept_goes_on();
+    one_spelling();
+}
+
+/// A law: the operations of an own edit that stand are kept with all that was handed in before them.
+pub fn own_edits_keep()
+    ensures { KeptByEdits }
+{
+    kept_goes_on();
+    own_edits_are_plain();
+}
+
+/// A law: what a merge took in is kept with all that was handed in before it.
+pub fn merging_keeps()
+    ensures { KeptByMerging }
+{
+    kept_goes_on();
+}
+
+/// A law: where the room is emptied, all else that was handed in is kept.
+pub fn forgetting_keeps()
+    ensures { KeptByForgetting }
+{}
+
+/// A law: where all that waits waits for a cause, what is taken in is the closure of all that was handed in.
+pub fn what_is_kept_is_closed()
+    ensures { WhatIsKeptIsClosed }
+{
+    kept_and_waiting_is_closed();
+}
+
+/// A law: all that waits waits for a cause, after every call but a merge and a draining that was stopped.
+pub fn what_waits_stays_waiting()
+    ensures { StayWaiting }
+{}
