@@ -1,5 +1,11 @@
 pub mod Counted
 pub mod CountingRuns
+pub mod FrontLines
 pub mod Lifting
+pub mod Numbered
+pub mod OneReply
 pub mod Reaching
+pub mod RisingSites
+pub mod Rooms
+pub mod ShownLines
 pub mod TextEdits

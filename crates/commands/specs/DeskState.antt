@@ -18,8 +18,12 @@ new_desk site =
 abbrev pub IsTextOf : DeskState → ℕ → TextState → Type 0
 IsTextOf d text t = slice_get d.texts (text - 1) ≡ Some t
 
+-- the desk with this text of this number, and all others as they are
+abbrev pub with_text : DeskState → ℕ → TextState → DeskState
+with_text d text t = record d { texts = slice_set d.texts (text - 1) t }
+
 -- The lift from a text to a desk: the text of this number does so, and all other texts stay.
 abbrev pub InText : (TextState → TextState → Type 0) → DeskState → ℕ → DeskState → Type 0
 InText Does d text new =
     (t t' : TextState) × IsTextOf d text t × Does t t'
-    × (new ≡ record d { texts = slice_set d.texts (text - 1) t' })
+    × (new ≡ with_text d text t')

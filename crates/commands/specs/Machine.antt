@@ -1,20 +1,24 @@
 -- The machine of events: what the run's sites may reply to an event, and the state after it.
-use Rattle.std.specs.Prelude.{◌≡◌, ◌≢◌, ℕ, ◌-◌, ◌<◌, ◌⊎◌, List, [], ◌∷◌, ◌++◌, map, Result, Ok, Err, IfOk}
+use Rattle.std.specs.Prelude.{◌≡◌, ◌≢◌, ℕ, ◌-◌, ◌⊎◌, List, [], ◌∷◌, ◌++◌, map, Result, Ok, Err, IfOk}
 use Rattle.std.specs.Prelude.{Option, Some, None, MatchOption, MatchBool, IsTrue, ◌==◌, if◌then◌else◌, length}
-use Rattle.std.specs.Prelude.{◌≤◌, ◌&&◌, Bool, nat_lt, slice_get, slice_range, slice_set}
+use Rattle.std.specs.Prelude.{◌≤◌, ◌&&◌, Bool, true, false, nat_lt, slice_get, slice_range, slice_set}
 use Rattle.std.specs.List.{range_with_len}
 use Rattle.looks.specs.declared.refusal.Refusal.{Refusal}
 use Rattle.looks.specs.declared.refusal.Refusal.TheVariants.{BadEvent, FileSpent, OutOfMemory, OutOfRange}
-use Rattle.char_files.specs.Stretch.{Stretch}
+use Rattle.char_files.specs.Stretch.{Item, Stretch}
 use Rattle.char_files.specs.declared.TheConstants.{MAX_FILE}
-use Rattle.operations.specs.Reading.{SpellsNone}
 use Rattle.set_laws.specs.Fronts.{AreSites}
-use Rattle.texts.specs.Edit.{Edit, first_part, insertion, is_in_text, is_range_in, plan, shown_after}
-use Rattle.texts.specs.Outcome.{Edits, Shows, Stand, count_standing}
-use Rattle.texts.specs.Take.{Takes}
-use Rattle.texts.specs.TextState.{TextState, shown_items, shown_of}
+use Rattle.texts.specs.Draining.{Drains}
+use Rattle.texts.specs.Edit.{Edit, insertion, deletion, looks_change, restoration, recalling, is_in_text}
+use Rattle.texts.specs.Edit.{is_range_in, plan}
+use Rattle.texts.specs.Merge.{Merges, MergesShort}
+use Rattle.texts.specs.Outcome.{Edits, EditsShort, Shows}
+use Rattle.texts.specs.Take.{Takes, TakesShort}
+use Rattle.texts.specs.TextState.{TextState, shown_items}
 use Rattle.texts.specs.declared.edit_refusal.EditRefusal.{EditRefusal}
 use Rattle.texts.specs.declared.edit_refusal.EditRefusal.TheVariants.{Whole, Partial}
+use Rattle.texts.specs.declared.merge_refusal.MergeRefusal.{MergeRefusal}
+use Rattle.texts.specs.declared.merge_refusal.MergeRefusal.TheVariants.{Whole as MergesNothing, Stopped}
 use Rattle.texts.specs.declared.took.Took.{Took}
 use Rattle.commands.specs.DeskState.{DeskState, InText, IsTextOf, new_desk}
 use Rattle.commands.specs.Printing.{AreRunsOf, text_lines, front_lines, run_lines}
@@ -39,21 +43,26 @@ pub data Delivery : Type 0 where
 
 -- What may happen, by classes. A desk is told by its index among the run's. An edit is a site's own, of one
 -- of its texts; a copy puts what is shown from beg to end of one of its texts into another one, or the same; a
--- taking hands a message to one of its texts; a query prints a part of the state; what else a line asks is
+-- taking hands a message to one of its texts; a settling drains what waits there; a merge takes in what the text of
+-- this number on another desk, or on the same, holds; a query prints a part of the state; what else a line asks is
 -- nothing that there is.
 pub data Event : Type 0 where
   edit : (desk text : ℕ) (e : Edit) → Event
   copy : (desk text beg end other pos : ℕ) → Event
   take : (desk text : ℕ) (d : Delivery) → Event
+  settle : (desk text : ℕ) → Event
+  merge : (desk text other : ℕ) → Event
   query : (desk text : ℕ) (q : Query) → Event
   unknown : Event
 
--- What is replied: the messages that an edit of which all operations stand sent; what taking a message did; a
--- query's lines; why nothing was done; or the messages of an edit's first operations, how many stand, and why
--- the next one doesn't.
+-- What is replied: the messages that an edit of which all operations stand sent; what taking a message did; what
+-- draining did; how many operations a merge took in; a query's lines; why nothing was done; or the messages of the
+-- first operations of an edit or a merge, how many stand, and why the next one doesn't.
 pub data Reply : Type 0 where
   sends : (messages : List (List ℕ)) → Reply
   takes : (took : Took) → Reply
+  settles : (drained dropped : ℕ) (stopped : Bool) → Reply
+  merges : (count : ℕ) → Reply
   prints : (lines : List ℕ) → Reply
   refuses : (why : Refusal) → Reply
   stops : (messages : List (List ℕ)) (done : ℕ) (why : Refusal) → Reply
@@ -69,10 +78,18 @@ abbrev pub take_reply : Result Took Refusal → Reply
 take_reply (Ok took) = takes took
 take_reply (Err why) = refuses why
 
+-- the reply to a merge that was answered so; a merge sends no messages
+abbrev pub merge_reply : Result ℕ MergeRefusal → Reply
+merge_reply (Ok count) = merges count
+merge_reply (Err (MergesNothing why)) = refuses why
+merge_reply (Err (Stopped done)) = stops [] done OutOfMemory
+
 -- the messages that a reply tells
 abbrev pub messages_of : Reply → List (List ℕ)
 messages_of (sends messages) = messages
 messages_of (takes took) = []
+messages_of (settles drained dropped stopped) = []
+messages_of (merges count) = []
 messages_of (prints lines) = []
 messages_of (refuses why) = []
 messages_of (stops messages done why) = messages
@@ -102,6 +119,24 @@ EditsText e r t new =
     × Shows t e result new × (r ≡ edit_reply result messages))
     ((r ≡ refuses OutOfRange) × (new ≡ t))
 
+-- The stretch that an edit puts in, which is made outside the text first, and takes memory where it isn't empty;
+-- other edits make none.
+abbrev pub stretch_of : TextState → Edit → List Item
+stretch_of t (insertion pos items) = items
+stretch_of t (deletion beg end) = []
+stretch_of t (looks_change beg end sel looks) = []
+stretch_of t restoration = []
+stretch_of t (recalling pos) = t.last_stretch
+
+-- The same where memory was refused: to one of its operations, and those ahead of it stand; or to its stretch, and
+-- nothing was done.
+abbrev pub EditsTextShort : Edit → Reply → TextState → TextState → Type 0
+EditsTextShort e r t new =
+    IsTrue (is_in_text t e)
+    × (((result : Result ℕ EditRefusal) × (messages : List (List ℕ)) × EditsShort t (plan t e) result new messages
+    × Shows t e result new × (r ≡ edit_reply result messages))
+    ⊎ ((stretch_of t e ≢ []) × (r ≡ refuses OutOfMemory) × (new ≡ t)))
+
 -- what a copy puts in, behind the first pos characters shown: what t shows from beg to end
 abbrev pub copied : TextState → (beg end pos : ℕ) → Edit
 copied t beg end pos = insertion pos (slice_range (shown_items t) beg end)
@@ -109,10 +144,6 @@ copied t beg end pos = insertion pos (slice_range (shown_items t) beg end)
 -- whether the positions of a copy lie in the two texts
 abbrev pub is_copy_in : TextState → TextState → (beg end pos : ℕ) → Bool
 is_copy_in t u beg end pos = is_range_in t beg end && is_in_text u (copied t beg end pos)
-
--- what t shows from beg to end can be copied: it lies in the text, and is no longer than a stretch may be
-abbrev pub CanBeCopied : TextState → (beg end : ℕ) → Type 0
-CanBeCopied t beg end = IsTrue (is_range_in t beg end) × (end - beg ≤ MAX_FILE)
 
 -- A copy out of t, where memory is there: refused for its positions, or where it is longer than a stretch may be;
 -- else an edit of the other text.
@@ -123,6 +154,11 @@ CopiesText t beg end pos r u new =
     (EditsText (copied t beg end pos) r u new))
     ((r ≡ refuses OutOfRange) × (new ≡ u))
 
+-- The same where memory was refused.
+abbrev pub CopiesTextShort : TextState → (beg end pos : ℕ) → Reply → TextState → TextState → Type 0
+CopiesTextShort t beg end pos r u new =
+    IsTrue (is_copy_in t u beg end pos) × (end - beg ≤ MAX_FILE) × EditsTextShort (copied t beg end pos) r u new
+
 -- the message that is told; none where that number wasn't sent yet
 abbrev pub message_in : State → Delivery → Option (List ℕ)
 message_in s (sent k) = if k == 0 then None else slice_get s.sent (k - 1)
@@ -132,6 +168,25 @@ message_in s (bytes message) = Some message
 abbrev pub TakesText : List ℕ → Reply → TextState → TextState → Type 0
 TakesText message r t new =
     (result : Result Took Refusal) × Takes t message result new × (r ≡ take_reply result)
+
+-- the same where memory was refused
+abbrev pub TakesTextShort : List ℕ → Reply → TextState → TextState → Type 0
+TakesTextShort message r t new =
+    (result : Result Took Refusal) × TakesShort t message result new × (r ≡ take_reply result)
+
+-- a settling of a text, which was stopped where memory was refused
+abbrev pub SettlesText : (stopped : Bool) → Reply → TextState → TextState → Type 0
+SettlesText stopped r t new =
+    (drained dropped : ℕ) × Drains t drained dropped stopped new × (r ≡ settles drained dropped stopped)
+
+-- a merge of the text u into another, where memory is there
+abbrev pub MergesText : TextState → Reply → TextState → TextState → Type 0
+MergesText u r t new = (result : Result ℕ MergeRefusal) × Merges t u result new × (r ≡ merge_reply result)
+
+-- the same where memory was refused
+abbrev pub MergesTextShort : TextState → Reply → TextState → TextState → Type 0
+MergesTextShort u r t new =
+    (result : Result ℕ MergeRefusal) × MergesShort t u result new × (r ≡ merge_reply result)
 
 -- a query prints these lines of a text
 abbrev pub Prints : Query → TextState → List ℕ → Type 0
@@ -150,50 +205,29 @@ Does s (copy i text beg end other pos) r new =
 Does s (take i text d) r new =
     MatchOption (message_in s d) ((new ≡ s) × (r ≡ refuses BadEvent))
     (λ message. InDesk (λ d d'. InText (TakesText message r) d text d') s i [] new)
+Does s (settle i text) r new = InDesk (λ d d'. InText (SettlesText false r) d text d') s i [] new
+Does s (merge i text j) r new =
+    (u : TextState) × IsTextAt s j text u × InDesk (λ d d'. InText (MergesText u r) d text d') s i [] new
 Does s (query i text q) r new =
     (new ≡ s)
     × ((t : TextState) × (lines : List ℕ) × IsTextAt s i text t × Prints q t lines × (r ≡ prints lines))
 Does s unknown r new = (new ≡ s) × (r ≡ refuses BadEvent)
 
--- whether an event asks for memory: an edit that makes an operation does, a copy of something that isn't too long,
--- a message that spells an operation, and a query
-abbrev pub AsksForMemory : State → Event → Type 0
-AsksForMemory s (edit i text e) =
-    (t : TextState) × IsTextAt s i text t × IsTrue (is_in_text t e) × (plan t e ≢ [])
-AsksForMemory s (copy i text beg end other pos) =
-    (t u : TextState) × IsTextAt s i text t × IsTextAt s i other u × IsTrue (is_copy_in t u beg end pos)
-    × (beg < end) × (end - beg ≤ MAX_FILE)
-AsksForMemory s (take i text d) =
-    (message : List ℕ) × (message_in s d ≡ Some message) × (¬ SpellsNone message)
-AsksForMemory s (query i text q) = Unit {0}
-AsksForMemory s unknown = ⊥
-
--- the first done operations of an edit stand, one at least and not all that would stand, and these messages tell
--- them
-abbrev pub EditsInPart : Edit → ℕ → List (List ℕ) → TextState → TextState → Type 0
-EditsInPart e done messages t new =
-    IsTrue (is_in_text t e) × (0 < done) × (done < count_standing t (plan t e))
-    × Stand t (plan t e) done new messages × (shown_of new ≡ shown_after t (first_part t done e))
-
--- so it is with an event
-abbrev pub StandsInPart : State → Event → ℕ → List (List ℕ) → State → Type 0
-StandsInPart s (edit i text e) done messages new =
-    InDesk (λ d d'. InText (EditsInPart e done messages) d text d') s i messages new
-StandsInPart s (copy i text beg end other pos) done messages new =
-    (t : TextState) × IsTextAt s i text t × CanBeCopied t beg end
-    × InDesk (λ d d'. InText (EditsInPart (copied t beg end pos) done messages) d other d') s i messages new
-StandsInPart s (take i text d) done messages new = ⊥
-StandsInPart s (query i text q) done messages new = ⊥
-StandsInPart s unknown done messages new = ⊥
-
--- What an event does where memory was refused, in the shapes that all events share: nothing was done; or its
--- first operations stand.
+-- What an event does where memory was refused, in the shapes that all events share: nothing was done; or the first
+-- operations of an edit or a merge stand; or a draining was stopped.
 abbrev pub Short : State → Event → Reply → State → Type 0
-Short s e (refuses why) new = (why ≡ OutOfMemory) × AsksForMemory s e × (new ≡ s)
-Short s e (stops messages done why) new = (why ≡ OutOfMemory) × StandsInPart s e done messages new
-Short s e (sends messages) new = ⊥
-Short s e (takes took) new = ⊥
-Short s e (prints lines) new = ⊥
+Short s (edit i text e) r new = InDesk (λ d d'. InText (EditsTextShort e r) d text d') s i (messages_of r) new
+Short s (copy i text beg end other pos) r new =
+    (t : TextState) × IsTextAt s i text t
+    × InDesk (λ d d'. InText (CopiesTextShort t beg end pos r) d other d') s i (messages_of r) new
+Short s (take i text d) r new =
+    (message : List ℕ) × (message_in s d ≡ Some message)
+    × InDesk (λ d d'. InText (TakesTextShort message r) d text d') s i [] new
+Short s (settle i text) r new = InDesk (λ d d'. InText (SettlesText true r) d text d') s i [] new
+Short s (merge i text j) r new =
+    (u : TextState) × IsTextAt s j text u × InDesk (λ d d'. InText (MergesTextShort u r) d text d') s i [] new
+Short s (query i text q) r new = (new ≡ s) × (r ≡ refuses OutOfMemory)
+Short s unknown r new = ⊥
 
 -- the machine may reply so to the event, and go on to new
 abbrev pub Replies : State → Event → Reply → State → Type 0
@@ -216,6 +250,18 @@ abbrev pub TakesDesk : DeskState → ℕ → List ℕ → Result Took Refusal �
 TakesDesk d text message result new =
     (before : List (List ℕ))
     → Replies (alone d before) (take 0 text (bytes message)) (take_reply result) (alone new before)
+
+-- the same of a settling
+abbrev pub SettlesDesk : DeskState → ℕ → (drained dropped : ℕ) → (stopped : Bool) → DeskState → Type 0
+SettlesDesk d text drained dropped stopped new =
+    (before : List (List ℕ))
+    → Replies (alone d before) (settle 0 text) (settles drained dropped stopped) (alone new before)
+
+-- the same of a merge of another desk's text of this number
+abbrev pub MergesDesk : DeskState → ℕ → DeskState → Result ℕ MergeRefusal → DeskState → Type 0
+MergesDesk d text other result new =
+    (u : TextState) × IsTextOf other text u
+    × InText (λ t t'. Merges t u result t' ⊎ MergesShort t u result t') d text new
 
 -- the same of a query: these are its lines
 abbrev pub QueriesDesk : DeskState → ℕ → Query → List ℕ → Type 0

@@ -1,25 +1,14 @@
 -- What a desk's private calls do to one of its texts.
-use Rattle.std.specs.Prelude.{◌≡◌, ◌≢◌, ℕ, ◌-◌, ◌<◌, ◌≤◌, ◌⊎◌, List, [], ◌++◌, length, slice_range}
+use Rattle.std.specs.Prelude.{◌≡◌, ℕ, ◌-◌, ◌≤◌, ◌⊎◌, List, ◌++◌, length, slice_range}
 use Rattle.std.specs.Prelude.{Result, Ok, Err, IfOk, IsTrue}
 use Rattle.looks.specs.declared.refusal.Refusal.{Refusal}
-use Rattle.looks.specs.declared.refusal.Refusal.TheVariants.{OutOfMemory}
 use Rattle.char_files.specs.Stretch.{Item}
 use Rattle.char_files.specs.declared.TheConstants.{MAX_FILE}
-use Rattle.texts.specs.Edit.{Edit, is_in_text, plan}
+use Rattle.texts.specs.Edit.{Edit}
 use Rattle.texts.specs.TextState.{TextState, shown_items}
 use Rattle.texts.specs.declared.edit_refusal.EditRefusal.{EditRefusal}
-use Rattle.commands.specs.Machine.{CanBeCopied, CopiesText, EditsInPart, EditsText, Reply, copied, edit_reply}
-use Rattle.commands.specs.Machine.{is_copy_in, messages_of, prints, refuses, sends, stops, takes}
-
--- an edit of a text where memory was refused
-abbrev pub EditsTextShort : Edit → Reply → TextState → TextState → Type 0
-EditsTextShort e (refuses why) t new =
-    (why ≡ OutOfMemory) × IsTrue (is_in_text t e) × (plan t e ≢ []) × (new ≡ t)
-EditsTextShort e (stops messages done why) t new =
-    (why ≡ OutOfMemory) × EditsInPart e done messages t new
-EditsTextShort e (sends messages) t new = ⊥
-EditsTextShort e (takes took) t new = ⊥
-EditsTextShort e (prints lines) t new = ⊥
+use Rattle.commands.specs.Machine.{CopiesText, CopiesTextShort, EditsText, EditsTextShort, Reply, edit_reply}
+use Rattle.commands.specs.Machine.{is_copy_in, messages_of, refuses}
 
 -- a text is changed and answers so, and its messages were put behind those that were sent
 abbrev pub Sending : (Reply → TextState → TextState → Type 0) → (Reply → TextState → TextState → Type 0)
@@ -33,16 +22,6 @@ Sending Does Short t result new sent sent' =
 abbrev pub EditsTextSending : TextState → Edit → Result ℕ EditRefusal → TextState
     → (sent sent' : List (List ℕ)) → Type 0
 EditsTextSending t e = Sending (EditsText e) (EditsTextShort e) t
-
--- a copy out of t where memory was refused
-abbrev pub CopiesTextShort : TextState → (beg end pos : ℕ) → Reply → TextState → TextState → Type 0
-CopiesTextShort t beg end pos (refuses why) u new =
-    (why ≡ OutOfMemory) × IsTrue (is_copy_in t u beg end pos) × (beg < end) × (end - beg ≤ MAX_FILE) × (new ≡ u)
-CopiesTextShort t beg end pos (stops messages done why) u new =
-    (why ≡ OutOfMemory) × CanBeCopied t beg end × EditsInPart (copied t beg end pos) done messages u new
-CopiesTextShort t beg end pos (sends messages) u new = ⊥
-CopiesTextShort t beg end pos (takes took) u new = ⊥
-CopiesTextShort t beg end pos (prints lines) u new = ⊥
 
 -- so it is with a copy out of t
 abbrev pub CopiesTextSending : TextState → (beg end pos : ℕ) → TextState → Result ℕ EditRefusal → TextState

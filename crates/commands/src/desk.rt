@@ -1,11 +1,16 @@
+ghost use Rattle.std.specs.Borrow.{Lends, sem};
 ghost use Rattle.std.specs.Prelude.{◌≡◌, ◌≤◌, map, length, IfOk};
 ghost use Rattle.looks.specs.Looks.{plain_looks};
 ghost use Rattle.looks.specs.Refusal.{RefusedForMemoryAlone};
 ghost use Rattle.texts.specs.Edit.{deletion, insertion, looks_change, recalling, restoration};
-ghost use Rattle.commands.specs.DeskState.{IsTextOf, new_desk};
+ghost use Rattle.texts.specs.Text.{IsText};
+ghost use Rattle.texts.specs.TextState.{TextState};
+ghost use Rattle.texts.specs.contracts.replica.Replica.{the_row as replica_row};
+ghost use Rattle.commands.specs.DeskState.{IsTextOf, new_desk, with_text};
 ghost use Rattle.commands.specs.Machine.{copy, edit};
-ghost use Rattle.commands.specs.Machine.{EditsDesk, QueriesDesk, TakesDesk, print_fronts, print_runs};
-ghost use Rattle.commands.specs.Machine.{print_text};
+ghost use Rattle.commands.specs.Machine.{EditsDesk, MergesDesk, QueriesDesk, SettlesDesk, TakesDesk};
+ghost use Rattle.commands.specs.Machine.{print_fronts, print_runs, print_text};
+ghost use Rattle.commands.specs.contracts.desk.Desk.{the_row};
 
 use crate::MAX_TEXT;
 use crate::editing::{change_looks_in, copy_out_of, cut_out_of, recall_into, type_into};
@@ -15,7 +20,7 @@ use char_files::{MAX_FILE, SiteNo, TextNo};
 use looks::{Looks, Refusal, Sel};
 use std::alloc::Global;
 use std::marker::Model;
-use texts::{EditRefusal, Outbox, Replica, Took};
+use texts::{EditRefusal, MergeRefusal, Outbox, Replica, Settled, Took};
 
 /// One site's texts, 1 to 16, each empty until it is first changed. This project's own.
 #[derive(Drop)]
@@ -68,7 +73,7 @@ impl Desk {
             result self.new outbox.old outbox.new }
     {
         let alloc = *self.texts.allocator();
-        let replica = &mut self.texts[text.get() as usize - 1];
+        let replica = self.replica_mut(text);
         type_into(alloc, replica, pos, bytes, outbox)
     }
 
@@ -83,7 +88,7 @@ impl Desk {
         requires on_desk { text ≤ MAX_TEXT }
         ensures { EditsDesk self.old (edit 0 text (deletion beg end)) result self.new outbox.old outbox.new }
     {
-        let replica = &mut self.texts[text.get() as usize - 1];
+        let replica = self.replica_mut(text);
         cut_out_of(replica, beg, end, outbox)
     }
 
@@ -101,7 +106,7 @@ impl Desk {
         ensures { EditsDesk self.old (edit 0 text (looks_change beg end sel looks.now)) result
             self.new outbox.old outbox.new }
     {
-        let replica = &mut self.texts[text.get() as usize - 1];
+        let replica = self.replica_mut(text);
         change_looks_in(replica, beg, end, sel, looks, outbox)
     }
 
@@ -115,7 +120,7 @@ impl Desk {
         requires on_desk { text ≤ MAX_TEXT }
         ensures { EditsDesk self.old (edit 0 text (recalling pos)) result self.new outbox.old outbox.new }
     {
-        let replica = &mut self.texts[text.get() as usize - 1];
+        let replica = self.replica_mut(text);
         recall_into(replica, pos, outbox)
     }
 
@@ -124,7 +129,7 @@ impl Desk {
         requires on_desk { text ≤ MAX_TEXT }
         ensures { EditsDesk self.old (edit 0 text restoration) result self.new outbox.old outbox.new }
     {
-        self.texts[text.get() as usize - 1].restore(outbox)
+        self.replica_mut(text).restore(outbox)
     }
 
     /// Puts a copy of the characters from `beg` to `end` of a text into another one, or into itself, at a
@@ -143,7 +148,7 @@ impl Desk {
         ensures { EditsDesk self.old (copy 0 text beg end other pos) result self.new outbox.old outbox.new }
     {
         match copy_out_of(self.replica(text), beg, end, self.replica(other), pos) {
-            Ok(buffer) => self.texts[other.get() as usize - 1].insert(pos, &buffer, outbox),
+            Ok(buffer) => self.replica_mut(other).insert(pos, &buffer, outbox),
             Err(why) => Err(EditRefusal::Whole(why)),
         }
     }
@@ -153,7 +158,32 @@ impl Desk {
         requires on_desk { text ≤ MAX_TEXT }
         ensures { TakesDesk self.old text message.now result self.new }
     {
-        self.texts[text.get() as usize - 1].take(message)
+        self.replica_mut(text).take(message)
+    }
+
+    /// Drains what waits for a text, as its replica does.
+    pub fn settle(&mut self, text: TextNo) -> Settled
+        requires on_desk { text ≤ MAX_TEXT }
+        ensures { SettlesDesk self.old text result.drained result.dropped result.stopped self.new }
+    {
+        self.replica_mut(text).settle()
+    }
+
+    /// Takes in what another desk's text of this number holds, as its replica does.
+    pub fn merge(&mut self, text: TextNo, other: &Desk) -> Result<u64, MergeRefusal>
+        requires on_desk { text ≤ MAX_TEXT }
+        ensures { MergesDesk self.old text other.now result self.new }
+    {
+        self.replica_mut(text).merge_from(other.replica(text))
+    }
+
+    /// A law: the desk has a text of this number, and it is what its operations define. A proof gets it by calling
+    /// this, at no cost.
+    pub fn has_text(&self, text: TextNo)
+        requires { text ≤ MAX_TEXT }
+        ensures { (t : TextState) × IsTextOf self.now text t × IsText t }
+    {
+        self.replica(text).is_text();
     }
 
     /// The line that prints a text: its length and its characters. Refused `OutOfMemory` alone.
@@ -191,5 +221,14 @@ impl Desk {
         ensures { IsTextOf self.now text result.now }
     {
         &self.texts[text.get() as usize - 1]
+    }
+
+    // The same, to be changed.
+    fn replica_mut(&mut self, text: TextNo) -> &mut Replica
+        requires { text ≤ MAX_TEXT }
+        ensures* writes_back { sem 𝓛 (Lends the_row replica_row self.entry result (with_text self.old text)) }
+        ensures value { IsTextOf self.old text result.now }
+    {
+        &mut self.texts[text.get() as usize - 1]
     }
 }

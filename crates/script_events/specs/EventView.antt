@@ -1,7 +1,8 @@
 -- Events as the code has them, seen as the machine's.
 use Rattle.std.specs.Prelude.{ℕ, ◌<◌, ◌≤◌, Option, length, option_map, unwrap_or}
 use Rattle.texts.specs.Edit.{Edit as AskedEdit, deletion, looks_change, recalling, restoration}
-use Rattle.commands.specs.Machine.{copy, edit, take, query, unknown, print_text, print_fronts, print_runs, sent}
+use Rattle.commands.specs.Machine.{copy, edit, take, settle, merge, query, unknown, print_text, print_fronts}
+use Rattle.commands.specs.Machine.{print_runs, sent}
 use Rattle.commands.specs.Machine.{bytes}
 use Rattle.commands.specs.Machine.{Event as AskedEvent, Query as AskedQuery, Delivery as AskedDelivery}
 use Rattle.commands.specs.declared.TheConstants.{MAX_TEXT}
@@ -12,7 +13,7 @@ use Rattle.script_events.specs.declared.event.Edit.TheVariants.{TypeIn, Cut, Loo
 use Rattle.script_events.specs.declared.event.Query.{Query}
 use Rattle.script_events.specs.declared.event.Query.TheVariants.{Text, Front, Runs}
 use Rattle.script_events.specs.declared.event.Event.{Event}
-use Rattle.script_events.specs.declared.event.Event.TheVariants.{Edits, Saves, Takes, Queries}
+use Rattle.script_events.specs.declared.event.Event.TheVariants.{Edits, Saves, Takes, Settles, Merges, Queries}
 use Rattle.script_events.specs.Script.{typing}
 
 -- an edit, with its bytes decoded
@@ -39,17 +40,21 @@ abbrev pub event_of : Event → AskedEvent
 event_of (Edits desk text e) = edit desk text (edit_of e)
 event_of (Saves desk text save) = copy desk text save.beg save.end save.other save.pos
 event_of (Takes desk text d) = take desk text (delivery_of d)
+event_of (Settles desk text) = settle desk text
+event_of (Merges desk text other) = merge desk text other
 event_of (Queries desk text q) = query desk text (query_of q)
 
 -- what was parsed, or nothing that there is
 abbrev pub event_or_unknown : Option Event → AskedEvent
 event_or_unknown parsed = unwrap_or (option_map event_of parsed) unknown
 
--- its desk is one of the run's count, and its texts are a desk's
+-- its desks are of the run's count, and its texts are a desk's
 abbrev pub IsInRun : ℕ → Event → Type 0
 IsInRun count (Edits desk text e) = (desk < count) × (text ≤ MAX_TEXT)
 IsInRun count (Saves desk text save) = (desk < count) × (text ≤ MAX_TEXT) × (save.other ≤ MAX_TEXT)
 IsInRun count (Takes desk text d) = (desk < count) × (text ≤ MAX_TEXT)
+IsInRun count (Settles desk text) = (desk < count) × (text ≤ MAX_TEXT)
+IsInRun count (Merges desk text other) = (desk < count) × (text ≤ MAX_TEXT) × (other < count)
 IsInRun count (Queries desk text q) = (desk < count) × (text ≤ MAX_TEXT)
 
 -- what an edit types has so many bytes at most
@@ -70,4 +75,6 @@ abbrev pub IsOfLine : ℕ → Event → Type 0
 IsOfLine len (Edits desk text e) = IsShort len e
 IsOfLine len (Saves desk text save) = Unit {0}
 IsOfLine len (Takes desk text d) = IsWithin len d
+IsOfLine len (Settles desk text) = Unit {0}
+IsOfLine len (Merges desk text other) = Unit {0}
 IsOfLine len (Queries desk text q) = Unit {0}

@@ -5,7 +5,8 @@ use Rattle.std.specs.Option.{option_map_or}
 use Rattle.hex.specs.Hex.{hex_digit_value}
 use Rattle.looks.specs.Looks.{plain_looks}
 use Rattle.texts.specs.Edit.{Edit, insertion, deletion, looks_change, recalling, restoration}
-use Rattle.commands.specs.Machine.{Delivery, Event, Query, copy, edit, query, unknown, print_text, print_fronts}
+use Rattle.commands.specs.Machine.{Delivery, Event, Query, copy, edit, merge, query, settle, unknown}
+use Rattle.commands.specs.Machine.{print_text, print_fronts}
 use Rattle.commands.specs.Machine.{print_runs, take as taking, sent as by_number, bytes as by_bytes}
 use Rattle.script_events.specs.Words.{◌>>=◌, is_word, cut_word, number_in, cut_number, desk_in, text_in}
 use Rattle.script_events.specs.LooksWords.{change_in}
@@ -105,23 +106,29 @@ query_in verb =
     else (if is_word verb (codes "front") then Some print_fronts
     else (if is_word verb (codes "runs") then Some print_runs else None))
 
--- what a verb asks of a text that ends the line: to restore, or a query
+-- what a verb asks of a text that ends the line: to restore, to settle, or a query
 abbrev pub short_event : List ℕ → (desk text : ℕ) → Option Event
 short_event verb desk text =
     if is_word verb (codes "restore") then Some (edit desk text restoration)
-    else option_map (λ q. query desk text q) (query_in verb)
+    else (if is_word verb (codes "settle") then Some (settle desk text)
+    else option_map (λ q. query desk text q) (query_in verb))
 
--- what a verb asks of a text with what stands behind it: to take a message, to save, or another edit
-abbrev pub long_event : List ℕ → (desk text : ℕ) → List ℕ → Option Event
-long_event verb desk text rest =
+-- `merge`: the site whose text is taken over
+abbrev pub merge_event : (first count desk text : ℕ) → List ℕ → Option Event
+merge_event first count desk text rest = option_map (λ other. merge desk text other) (desk_in first count rest)
+
+-- what a verb asks of a text with what stands behind it: to take a message, to merge, to save, or another edit
+abbrev pub long_event : (first count : ℕ) → List ℕ → (desk text : ℕ) → List ℕ → Option Event
+long_event first count verb desk text rest =
     if is_word verb (codes "take") then option_map (λ message. taking desk text message) (delivery_in rest)
+    else (if is_word verb (codes "merge") then merge_event first count desk text rest
     else (if is_word verb (codes "save") then save_event desk text rest
-    else option_map (λ e. edit desk text e) (edit_in verb rest))
+    else option_map (λ e. edit desk text e) (edit_in verb rest)))
 
 -- what a verb goes on with: a text, which ends the line or has a blank and more behind it
-abbrev pub verb_event : List ℕ → ℕ → List ℕ → Option Event
-verb_event verb desk rest =
-    option_map_or (λ cut. text_in cut.0 >>= λ text. long_event verb desk text cut.1) (cut_word rest)
+abbrev pub verb_event : (first count : ℕ) → List ℕ → ℕ → List ℕ → Option Event
+verb_event first count verb desk rest =
+    option_map_or (λ cut. text_in cut.0 >>= λ text. long_event first count verb desk text cut.1) (cut_word rest)
     (text_in rest >>= λ text. short_event verb desk text)
 
 -- the event that a line spells, if it spells one: a site, a verb, and what the verb goes on with
@@ -130,7 +137,7 @@ spelled_event first count line = do
   site ← cut_word line
   verb ← cut_word site.1
   desk ← desk_in first count site.0
-  verb_event verb.0 desk verb.1
+  verb_event first count verb.0 desk verb.1
 
 -- what a line asks of the run's sites
 abbrev pub event_in : (first count : ℕ) → List ℕ → Event

@@ -1,7 +1,7 @@
 ghost use Rattle.std.specs.Prelude.{◌≡◌, ℕ, ◌<◌, ◌≤◌, length, option_map, IfSome};
 ghost use Rattle.script_events.specs.EventView.{delivery_of, event_of, query_of, event_or_unknown};
 ghost use Rattle.script_events.specs.EventView.{IsInRun, IsOfLine, IsWithin};
-ghost use Rattle.script_events.specs.Script.{delivery_in, query_in, save_event, short_event, long_event};
+ghost use Rattle.script_events.specs.Script.{delivery_in, query_in, merge_event, save_event, short_event, long_event};
 ghost use Rattle.script_events.specs.Script.{verb_event, event_in};
 
 mod edits;
@@ -38,6 +38,17 @@ pub enum Event<'a> {
         desk: usize,
         text: TextNo,
         message: Delivery<'a>,
+    },
+    /// A draining of what waits for a desk's text.
+    Settles {
+        desk: usize,
+        text: TextNo,
+    },
+    /// A merge of another desk's text of this number into a desk's.
+    Merges {
+        desk: usize,
+        text: TextNo,
+        other: usize,
     },
     /// A print of a desk's text.
     Queries {
@@ -104,6 +115,13 @@ pub enum Query {
     Runs,
 }
 
+// The number of the run's first site, and how many there are.
+#[derive(Clone, Copy)]
+struct Run {
+    first: u16,
+    count: usize,
+}
+
 // How a message is told.
 fn delivery_in(word: &[u8]) -> Option<Delivery<'_>>
     ensures delivery { option_map delivery_of result ≡ delivery_in word.now }
@@ -149,7 +167,7 @@ fn save_event(desk: usize, text: TextNo, rest: &[u8]) -> Option<Event<'_>>
     Some(Event::Saves { desk, text, save })
 }
 
-// What a verb asks of a text that ends the line: to restore, or a query.
+// What a verb asks of a text that ends the line: to restore, to settle, or a query.
 fn short_event(verb: &[u8], desk: usize, text: TextNo) -> Option<Event<'static>>
     requires { text ≤ MAX_TEXT }
     ensures event { option_map event_of result ≡ short_event verb.now desk text }
@@ -160,15 +178,35 @@ fn short_event(verb: &[u8], desk: usize, text: TextNo) -> Option<Event<'static>>
         let edit = Edit::Restore;
         return Some(Event::Edits { desk, text, edit });
     }
+    if verb == b"settle".as_slice() {
+        return Some(Event::Settles { desk, text });
+    }
     let query = query_in(verb)?;
     Some(Event::Queries { desk, text, query })
 }
 
-// What a verb asks of a text with what stands behind it: to take a message, to save, or another edit.
-fn long_event<'a>(verb: &[u8], desk: usize, text: TextNo, rest: &'a [u8]) -> Option<Event<'a>>
+// `merge`: the site whose text is taken over.
+fn merge_event(run: Run, desk: usize, text: TextNo, rest: &[u8]) -> Option<Event<'static>>
     requires { text ≤ MAX_TEXT }
-    ensures event { option_map event_of result ≡ long_event verb.now desk text rest.now }
-    ensures in_run { IfSome result (λ event. (count : ℕ) → desk < count → IsInRun count event) }
+    ensures event { option_map event_of result ≡ merge_event run.first run.count desk text rest.now }
+    ensures in_run { IfSome result (λ event. desk < run.count → IsInRun run.count event) }
+    ensures within { IfSome result (λ event. (len : ℕ) → IsOfLine len event) }
+{
+    let other = desk_in(run.first, run.count, rest)?;
+    Some(Event::Merges { desk, text, other })
+}
+
+// What a verb asks of a text with what stands behind it: to take a message, to merge, to save, or another edit.
+fn long_event<'a>(
+    run: Run,
+    verb: &[u8],
+    desk: usize,
+    text: TextNo,
+    rest: &'a [u8],
+) -> Option<Event<'a>>
+    requires { text ≤ MAX_TEXT }
+    ensures event { option_map event_of result ≡ long_event run.first run.count verb.now desk text rest.now }
+    ensures in_run { IfSome result (λ event. desk < run.count → IsInRun run.count event) }
     ensures within { IfSome result (λ event. (len : ℕ) → length rest.now ≤ len → IsOfLine len event) }
 {
     if verb == b"take".as_slice() {
@@ -178,6 +216,8 @@ fn long_event<'a>(verb: &[u8], desk: usize, text: TextNo, rest: &'a [u8]) -> Opt
             text,
             message,
         })
+    } else if verb == b"merge".as_slice() {
+        merge_event(run, desk, text, rest)
     } else if verb == b"save".as_slice() {
         save_event(desk, text, rest)
     } else {
@@ -187,13 +227,13 @@ fn long_event<'a>(verb: &[u8], desk: usize, text: TextNo, rest: &'a [u8]) -> Opt
 }
 
 // What a verb goes on with: a text, which ends the line or has a blank and more behind it.
-fn verb_event<'a>(verb: &[u8], desk: usize, rest: &'a [u8]) -> Option<Event<'a>>
-    ensures event { option_map event_of result ≡ verb_event verb.now desk rest.now }
-    ensures in_run { IfSome result (λ event. (count : ℕ) → desk < count → IsInRun count event) }
+fn verb_event<'a>(run: Run, verb: &[u8], desk: usize, rest: &'a [u8]) -> Option<Event<'a>>
+    ensures event { option_map event_of result ≡ verb_event run.first run.count verb.now desk rest.now }
+    ensures in_run { IfSome result (λ event. desk < run.count → IsInRun run.count event) }
     ensures within { IfSome result (λ event. (len : ℕ) → length rest.now ≤ len → IsOfLine len event) }
 {
     match cut_word(rest) {
-        Some((text, rest)) => long_event(verb, desk, text_in(text)?, rest),
+        Some((text, rest)) => long_event(run, verb, desk, text_in(text)?, rest),
         None => short_event(verb, desk, text_in(rest)?),
     }
 }
@@ -207,5 +247,10 @@ pub fn event_in<'a>(first: u16, count: usize, line: &'a [u8]) -> Option<Event<'a
 {
     let (site, rest) = cut_word(line)?;
     let (verb, rest) = cut_word(rest)?;
-    verb_event(verb, desk_in(first, count, site)?, rest)
+    verb_event(
+        Run { first, count },
+        verb,
+        desk_in(first, count, site)?,
+        rest,
+    )
 }

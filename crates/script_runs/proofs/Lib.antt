@@ -1,4 +1,5 @@
 pub mod Lifting
+pub mod Merging
 pub mod Printing
 pub mod Reaching
 pub mod Replying

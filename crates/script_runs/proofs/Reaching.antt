@@ -1,14 +1,15 @@
 -- What a script comes to, and what its texts answer.
-use Rattle.std.proofs.Common.{◌≡◌, ℕ, ◌-◌, true, false, Bool, List, [], length, sym, ap, subst, ◌∙◌, inl, inr}
+use Rattle.std.proofs.Common.{◌≡◌, ◌≢◌, ℕ, ◌-◌, true, false, Bool, List, [], length, sym, ap, subst, ◌∙◌, inl, inr}
 use Rattle.std.specs.Prelude.{MatchBool, slice_get}
 use Rattle.std.proofs.lemmas.Option.{same_Some}
 use Rattle.texts.specs.TextState.{TextState}
 use Rattle.commands.specs.DeskState.{DeskState}
-use Rattle.commands.specs.Laws.{Reached, begins, goes_on}
-use Rattle.commands.specs.Machine.{Event, IsTextAt, Prints, Replies, Reply, State, new_state, prints, print_text, query, refuses, sends, stops, takes}
-use Rattle.commands.specs.Printing.{text_lines}
+use Rattle.looks.specs.declared.refusal.Refusal.{Refusal}
+use Rattle.commands.specs.Laws.{IsReachedText, PrintTheSame, Reached, begins, goes_on}
+use Rattle.commands.specs.Machine.{Event, IsTextAt, Prints, Query, Replies, Reply, State, merges, new_state, prints, query, refuses, sends, settles, stops, takes}
 use Rattle.script_events.specs.Script.{event_in}
 use Rattle.script_io.specs.Lines.{without_return}
+use Rattle.script_runs.specs.Laws.{AreAnsweredTheSame, EachTraceIsReached, IsTraced}
 use Rattle.script_runs.specs.Trace.{Step, Trace, is_silent}
 use Rattle.script_runs.specs.Trace.{begins as starts, goes_on as follows}
 
@@ -34,6 +35,8 @@ lines_in : Reply → List ℕ
 lines_in (prints lines) = lines
 lines_in (sends messages) = []
 lines_in (takes took) = []
+lines_in (settles drained dropped stopped) = []
+lines_in (merges count) = []
 lines_in (refuses why) = []
 lines_in (stops messages done why) = []
 
@@ -41,8 +44,21 @@ same_lines : (a b : List ℕ) → prints a ≡ prints b → a ≡ b
 unfolding lines_in
 same_lines a b e = ap lines_in e
 
--- what is replied to `text` is what is printed of the text there
-pub text_replied : (s new : State) (i text : ℕ) (t : TextState) (a : List ℕ) → IsTextAt s i text t → Replies s (query i text print_text) (prints a) new → Prints print_text t a
-text_replied s new i text t a there (inl (same, (u, lines, at, is, replied))) =
-    same_lines a lines replied ∙ is ∙ ap text_lines (one_text s i text u t at there)
-text_replied s new i text t a there (inr short) = absurd short
+-- a reply that prints refuses nothing
+prints_refuses : (lines : List ℕ) (why : Refusal) → prints lines ≢ refuses why
+prints_refuses lines why e = cc
+
+-- what is replied to a query is what it prints of the text there
+pub query_replied : (s new : State) (i text : ℕ) (t : TextState) (q : Query) (lines : List ℕ) → IsTextAt s i text t → Replies s (query i text q) (prints lines) new → Prints q t lines
+query_replied s new i text t q lines there (inl (same, (u, said, at, is, replied))) =
+    subst (λ (x : TextState). Prints q x lines) (one_text s i text u t at there) (subst (Prints q u) (sym (same_lines lines said replied)) is)
+query_replied s new i text t q lines there (inr short) = absurd (prints_refuses lines _ short.1)
+
+-- a text behind some lines of a script is one that a run can come to
+pub traced : EachTraceIsReached → (first count : ℕ) (s : State) (i text : ℕ) (t : TextState) → IsTraced first count s i text t → IsReachedText first count s i text t
+traced each first count s i text t at = record { reached = each first count at.lines at.script at.answers s at.trace; there = at.there }
+
+-- texts that print the same are answered the same
+pub answered : (s s' : State) (i j text text' : ℕ) (t u : TextState) → IsTextAt s i text t → IsTextAt s' j text' u → PrintTheSame t u → AreAnsweredTheSame s s' i j text text'
+answered s s' i j text text' t u at_t at_u same q a b new new' of_shown asked asked' =
+    same q a b of_shown (query_replied s new i text t q a at_t asked) (query_replied s' new' j text' u q b at_u asked')

@@ -9,15 +9,14 @@ use Rattle.texts.specs.declared.edit_refusal.EditRefusal.{EditRefusal}
 use Rattle.texts.specs.declared.edit_refusal.EditRefusal.TheVariants.{Whole, Partial}
 use Rattle.texts.specs.declared.took.Took.{Took}
 use Rattle.commands.specs.DeskState.{DeskState}
-use Rattle.commands.specs.Machine.{Delivery, Does, Event, InDesk, Query, QueriesDesk, Replies, Reply, StandsInPart, State, IsTextAt, Prints, copy, edit, query, edit_reply, message_in, messages_of, prints, refuses, sent, take, take_reply, unknown}
+use Rattle.commands.specs.Machine.{Delivery, Event, InDesk, Query, QueriesDesk, Replies, Reply, State, IsTextAt, Prints, copy, edit, merge, query, edit_reply, message_in, messages_of, prints, refuses, sent, settle, take, take_reply, unknown}
 use Rattle.script_events.specs.EventView.{IsOfLine}
 use Rattle.script_events.specs.declared.event.Event.{Event as Parsed}
-use Rattle.script_events.specs.declared.event.Event.TheVariants.{Edits, Saves, Takes, Queries}
+use Rattle.script_events.specs.declared.event.Event.TheVariants.{Edits, Saves, Takes, Settles, Merges, Queries}
 use Rattle.script_events.specs.declared.event.Edit.TheVariants.{TypeIn, Cut, Looks, Recall, Restore}
 use Rattle.script_events.specs.declared.event.Delivery.TheVariants.{Sent, Bytes}
 use Rattle.script_runs.specs.Answers.{refused_line, reply_lines}
 use Rattle.script_runs.specs.Trace.{Step}
-use Rattle.script_runs.proofs.Lifting.{IsChange}
 
 -- what was sent behind the messages before
 sent_behind : (s new : State) (messages : List (List ℕ)) → new.sent ≡ s.sent ++ messages → drop (length s.sent) new.sent ≡ messages
@@ -26,28 +25,33 @@ sent_behind s new messages is = ap (drop (length s.sent)) is ∙ drop_at s.sent 
 sent_in_desk : (Goes : DeskState → DeskState → Type 0) (s new : State) (i : ℕ) (messages : List (List ℕ)) → InDesk Goes s i messages new → drop (length s.sent) new.sent ≡ messages
 sent_in_desk Goes s new i messages (d, d', at, goes, is) = sent_behind s new messages (ap (λ (x : State). x.sent) is)
 
-sent_by_all : (s new : State) (e : Event) (r : Reply) → IsChange e → Does s e r new → drop (length s.sent) new.sent ≡ messages_of r
-sent_by_all s new (edit i text e) r change does = sent_in_desk _ s new i (messages_of r) does
-sent_by_all s new (copy i text beg end other pos) r change (t, at, does) = sent_in_desk _ s new i (messages_of r) does
-sent_by_all s new (take i text d) r change does = absurd change
-sent_by_all s new (query i text q) r change does = absurd change
-sent_by_all s new unknown r change does = absurd change
+-- an event that is answered as an edit is: an edit or a copy
+abbrev pub IsChange : Event → Type 0
+IsChange (edit desk text e) = Unit {0}
+IsChange (copy desk text beg end other pos) = Unit {0}
+IsChange (take desk text d) = ⊥
+IsChange (settle desk text) = ⊥
+IsChange (merge desk text other) = ⊥
+IsChange (query desk text q) = ⊥
+IsChange unknown = ⊥
 
-sent_by_part : (s new : State) (e : Event) (done : ℕ) (messages : List (List ℕ)) → StandsInPart s e done messages new → drop (length s.sent) new.sent ≡ messages
-sent_by_part s new (edit i text e) done messages stands = sent_in_desk _ s new i messages stands
-sent_by_part s new (copy i text beg end other pos) done messages (t, at, in_text, stands) = sent_in_desk _ s new i messages stands
-sent_by_part s new (take i text d) done messages stands = absurd stands
-sent_by_part s new (query i text q) done messages stands = absurd stands
-sent_by_part s new unknown done messages stands = absurd stands
+sent_by_all : (s new : State) (e : Event) (r : Reply) → IsChange e → Replies s e r new → drop (length s.sent) new.sent ≡ messages_of r
+sent_by_all s new (edit i text e) r change (inl does) = sent_in_desk _ s new i (messages_of r) does
+sent_by_all s new (edit i text e) r change (inr short) = sent_in_desk _ s new i (messages_of r) short
+sent_by_all s new (copy i text beg end other pos) r change (inl (t, at, does)) = sent_in_desk _ s new i (messages_of r) does
+sent_by_all s new (copy i text beg end other pos) r change (inr (t, at, short)) = sent_in_desk _ s new i (messages_of r) short
+sent_by_all s new (take i text d) r change replies = absurd change
+sent_by_all s new (settle i text) r change replies = absurd change
+sent_by_all s new (merge i text j) r change replies = absurd change
+sent_by_all s new (query i text q) r change replies = absurd change
+sent_by_all s new unknown r change replies = absurd change
 
 -- the reply to an edit or a copy tells what was sent behind the messages before
 told : (s new : State) (e : Event) (result : Result ℕ EditRefusal) (messages : List (List ℕ)) → IsChange e → Replies s e (edit_reply result messages) new
     → edit_reply result (drop (length s.sent) new.sent) ≡ edit_reply result messages
-told s new e (Ok n) messages change (inl does) = ap (edit_reply (Ok n)) (sent_by_all s new e (edit_reply (Ok n) messages) change does)
-told s new e (Ok n) messages change (inr short) = absurd short
+told s new e (Ok n) messages change replies = ap (edit_reply (Ok n)) (sent_by_all s new e (edit_reply (Ok n) messages) change replies)
 told s new e (Err (Whole why)) messages change replies = refl
-told s new e (Err (Partial done why)) messages change (inl does) = ap (edit_reply (Err (Partial done why))) (sent_by_all s new e (edit_reply (Err (Partial done why)) messages) change does)
-told s new e (Err (Partial done why)) messages change (inr short) = ap (edit_reply (Err (Partial done why))) (sent_by_part s new e done messages short.1)
+told s new e (Err (Partial done why)) messages change replies = ap (edit_reply (Err (Partial done why))) (sent_by_all s new e (edit_reply (Err (Partial done why)) messages) change replies)
 
 -- the step of an edit or a copy, answered with the messages that came behind those before
 pub change_step : (s new : State) (e : Event) (result : Result ℕ EditRefusal) → IsChange e → (messages : List (List ℕ)) × Replies s e (edit_reply result messages) new
@@ -60,7 +64,7 @@ query_step s i text q lines (t, at, is) = (prints lines, refl, inl (refl, (t, li
 
 -- a query for which memory was refused
 pub query_short : (s : State) (i text : ℕ) (q : Query) (why : Refusal) → why ≡ OutOfMemory → Step s (query i text q) (reply_lines (length s.sent) (refuses why)) s
-query_short s i text q why is = (refuses why, refl, inr (is, tt, refl))
+query_short s i text q why is = (refuses why, refl, inr (refl, ap refuses is))
 
 -- a taking's step, answered with what it did
 pub take_step : (s new : State) (i text : ℕ) (told : Delivery) (result : Result Took Refusal) → Replies s (take i text told) (take_reply result) new → Step s (take i text told) (reply_lines (length s.sent) (take_reply result)) new
@@ -87,6 +91,8 @@ IsOfLine-weaker (Edits desk text Restore) len longer le h = tt
 IsOfLine-weaker (Saves desk text save) len longer le h = tt
 IsOfLine-weaker (Takes desk text (Sent k)) len longer le h = tt
 IsOfLine-weaker (Takes desk text (Bytes message)) len longer le h = omega arith
+IsOfLine-weaker (Settles desk text) len longer le h = tt
+IsOfLine-weaker (Merges desk text other) len longer le h = tt
 IsOfLine-weaker (Queries desk text q) len longer le h = tt
 
 -- what asks nothing that there is

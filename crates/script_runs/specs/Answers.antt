@@ -1,12 +1,12 @@
 -- How replies are printed: the answer lines.
-use Rattle.std.specs.Prelude.{ℕ, ◌+◌, List, [], ◌∷◌, ◌++◌, codes, if◌then◌else◌}
+use Rattle.std.specs.Prelude.{ℕ, ◌+◌, List, [], ◌∷◌, ◌++◌, Bool, codes, if◌then◌else◌}
 use Rattle.std.specs.Fmt.{decimal}
 use Rattle.hex.specs.Hex.{encode_lower}
 use Rattle.looks.specs.declared.refusal.Refusal.{Refusal}
 use Rattle.looks.specs.Refusal.{number_of}
 use Rattle.texts.specs.declared.took.Took.{Took}
-use Rattle.texts.specs.declared.took.Took.TheVariants.{Taken, Repeat}
-use Rattle.commands.specs.Machine.{Reply, sends, takes, prints, refuses, stops}
+use Rattle.texts.specs.declared.took.Took.TheVariants.{Taken, Repeat, Waits}
+use Rattle.commands.specs.Machine.{Reply, sends, takes, settles, merges, prints, refuses, stops}
 use Rattle.commands.specs.Printing.{line}
 
 -- the k-th message of the run goes out
@@ -22,11 +22,24 @@ send_lines k (message ∷ messages) = send_line (k + 1) message ++ send_lines (k
 abbrev pub ok_line : List ℕ
 ok_line = line (codes "ok")
 
--- a message was taken in, with how many that waited were taken in and thrown away; or it was held already
+-- how many that waited were taken in and thrown away, and whether that was stopped
+abbrev pub drained_line : (word : List ℕ) → (drained dropped : ℕ) → (stopped : Bool) → List ℕ
+drained_line word drained dropped stopped =
+    line (word ++ decimal drained ++ 32 ∷ decimal dropped ++ (if stopped then codes " stopped" else []))
+
+-- a message was taken in, with how many that waited; or it was held already; or it waits
 abbrev pub took_line : Took → List ℕ
-took_line (Taken drained dropped stopped) =
-    line (codes "taken " ++ decimal drained ++ 32 ∷ decimal dropped ++ (if stopped then codes " stopped" else []))
+took_line (Taken drained dropped stopped) = drained_line (codes "taken ") drained dropped stopped
 took_line Repeat = line (codes "repeat")
+took_line Waits = line (codes "waits")
+
+-- the room was drained
+abbrev pub settled_line : (drained dropped : ℕ) → (stopped : Bool) → List ℕ
+settled_line drained dropped stopped = drained_line (codes "settled ") drained dropped stopped
+
+-- so many operations of another site were taken in
+abbrev pub merged_line : ℕ → List ℕ
+merged_line count = line (codes "merged " ++ decimal count)
 
 -- nothing was done
 abbrev pub refused_line : Refusal → List ℕ
@@ -40,6 +53,8 @@ partial_line done why = line (codes "partial " ++ decimal done ++ 32 ∷ decimal
 abbrev pub reply_lines : ℕ → Reply → List ℕ
 reply_lines k (sends messages) = send_lines k messages ++ ok_line
 reply_lines k (takes took) = took_line took
+reply_lines k (settles drained dropped stopped) = settled_line drained dropped stopped
+reply_lines k (merges count) = merged_line count
 reply_lines k (prints lines) = lines
 reply_lines k (refuses why) = refused_line why
 reply_lines k (stops messages done why) = send_lines k messages ++ partial_line done why

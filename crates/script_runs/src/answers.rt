@@ -1,15 +1,15 @@
-ghost use Rattle.std.specs.Prelude.{◌∷◌, [], ◌++◌, drop};
+ghost use Rattle.std.specs.Prelude.{ℕ, ◌∷◌, [], ◌++◌, drop};
 ghost use Rattle.std.specs.Fmt.{decimal};
 ghost use Rattle.hex.specs.Hex.{encode_lower};
-ghost use Rattle.commands.specs.Machine.{edit_reply};
-ghost use Rattle.script_runs.specs.Answers.{refused_line, partial_line, reply_lines, send_line, send_lines};
-ghost use Rattle.script_runs.specs.Answers.{took_line};
+ghost use Rattle.commands.specs.Machine.{edit_reply, merge_reply};
+ghost use Rattle.script_runs.specs.Answers.{drained_line, partial_line, refused_line, reply_lines, send_line};
+ghost use Rattle.script_runs.specs.Answers.{send_lines, settled_line, took_line};
 ghost use Rattle.script_runs.specs.Writing.{Puts};
 
 use looks::Refusal;
 use script_io::Output;
 use std::io::Write;
-use texts::{EditRefusal, Outbox, Took};
+use texts::{EditRefusal, MergeRefusal, Outbox, Settled, Took};
 
 /// Writes the bytes. Refused `WriteFault` where the writer fails, is interrupted or takes nothing.
 pub fn put<W: Write>(output: &mut Output<W>, bytes: &[u8]) -> Result<(), Refusal>
@@ -84,11 +84,11 @@ fn put_sends<W: Write>(output: &mut Output<W>, outbox: &Outbox, from: usize) -> 
     Ok(())
 }
 
-// The last line of an edit of which the first messages stand.
-fn put_partial<W: Write>(output: &mut Output<W>, done: u32, why: Refusal) -> Result<(), Refusal>
+// The last line of an edit, or of a merge, of which the first operations stand.
+fn put_partial<W: Write>(output: &mut Output<W>, done: u64, why: Refusal) -> Result<(), Refusal>
     ensures { Puts result output.old output.new (partial_line done why) }
 {
-    put_numbered(output, b"partial ", u64::from(done))?;
+    put_numbered(output, b"partial ", done)?;
     put_numbered(output, b" ", u64::from(why.number()))?;
     put(output, b"\n")
 }
@@ -111,21 +111,22 @@ pub fn put_edit<W: Write>(
         Err(EditRefusal::Whole(why)) => put_refused(output, why),
         Err(EditRefusal::Partial { done, why }) => {
             put_sends(output, outbox, from)?;
-            put_partial(output, done, why)
+            put_partial(output, u64::from(done), why)
         }
     }
 }
 
-// Counts of the operations that waited, and whether that ended early.
-fn put_taken<W: Write>(
+// Counts of the operations that waited, and whether that ended early, behind a word.
+fn put_drained<W: Write>(
     output: &mut Output<W>,
+    word: &[u8],
     drained: u32,
     dropped: u32,
     stopped: bool,
 ) -> Result<(), Refusal>
-    ensures { Puts result output.old output.new (took_line (Took.Taken drained dropped stopped)) }
+    ensures { Puts result output.old output.new (drained_line word.now drained dropped stopped) }
 {
-    put_numbered(output, b"taken ", u64::from(drained))?;
+    put_numbered(output, word, u64::from(drained))?;
     put_numbered(output, b" ", u64::from(dropped))?;
     if stopped {
         put(output, b" stopped\n")
@@ -143,7 +144,37 @@ pub fn put_took<W: Write>(output: &mut Output<W>, took: Took) -> Result<(), Refu
             drained,
             dropped,
             stopped,
-        } => put_taken(output, drained, dropped, stopped),
+        } => put_drained(output, b"taken ", drained, dropped, stopped),
         Took::Repeat => put(output, b"repeat\n"),
+        Took::Waits => put(output, b"waits\n"),
+    }
+}
+
+/// Writes the line of a room that was drained.
+pub fn put_settled<W: Write>(output: &mut Output<W>, settled: Settled) -> Result<(), Refusal>
+    ensures { Puts result output.old output.new (settled_line settled.drained settled.dropped settled.stopped) }
+{
+    let Settled {
+        drained,
+        dropped,
+        stopped,
+    } = settled;
+    put_drained(output, b"settled ", drained, dropped, stopped)
+}
+
+/// Writes the line of a merge.
+pub fn put_merged<W: Write>(
+    output: &mut Output<W>,
+    outcome: Result<u64, MergeRefusal>,
+) -> Result<(), Refusal>
+    ensures { (k : ℕ) → Puts result output.old output.new (reply_lines k (merge_reply outcome)) }
+{
+    match outcome {
+        Ok(count) => {
+            put_numbered(output, b"merged ", count)?;
+            put(output, b"\n")
+        }
+        Err(MergeRefusal::Whole(why)) => put_refused(output, why),
+        Err(MergeRefusal::Stopped { done }) => put_partial(output, done, Refusal::OutOfMemory),
     }
 }

@@ -1,25 +1,26 @@
 ghost use Rattle.std.specs.Prelude.{◌≡◌, ◌≤◌, ◌<◌, List, ℕ, length, IfOk};
 ghost use Rattle.looks.specs.Refusal.{RefusedForMemoryAlone};
 ghost use Rattle.texts.specs.TextState.{TextState};
-ghost use Rattle.commands.specs.Machine.{IsTextAt, Prints, Replies, copy, edit, edit_reply, new_state, sent};
-ghost use Rattle.commands.specs.Machine.{take, take_reply};
+ghost use Rattle.commands.specs.Machine.{IsTextAt, Prints, Replies, copy, edit, edit_reply, merge, merge_reply};
+ghost use Rattle.commands.specs.Machine.{new_state, sent, settle, settles, take, take_reply};
 ghost use Rattle.script_events.specs.EventView.{delivery_of, edit_of, event_of, query_of, IsInRun, IsOfLine};
 ghost use Rattle.script_events.specs.EventView.{IsShort, IsWithin};
 ghost use Rattle.script_events.specs.Script.{typing};
 ghost use Rattle.script_runs.specs.Trace.{Answers, Step, is_silent};
 ghost use Rattle.script_runs.specs.Writing.{Puts};
 
-use crate::answers::{put, put_edit, put_refused, put_took};
+use crate::answers::{put, put_edit, put_merged, put_refused, put_settled, put_took};
 use crate::settings::{MAX_FIRST, MAX_SITES};
 use char_files::{SiteNo, TextNo};
 use commands::{Desk, MAX_TEXT};
 use looks::Refusal;
 use script_events::{Delivery, Edit, Escaped, Event, Query, Save, event_in};
 use script_io::{MAX_LINE, Output};
+use set_laws::unions::front_is_held;
 use std::alloc::Global;
 use std::io::Write;
 use std::marker::Model;
-use texts::{EditRefusal, Outbox, Took};
+use texts::{EditRefusal, MergeRefusal, Outbox, Settled, Took};
 
 /// The desks of a run's sites, and the messages that they sent.
 #[derive(Drop)]
@@ -116,6 +117,14 @@ impl Sites {
                 Ok(took) => put_took(output, took),
                 Err(why) => put_refused(output, why),
             },
+            Event::Settles { desk, text } => {
+                let settled = self.settle(desk, text);
+                put_settled(output, settled)
+            }
+            Event::Merges { desk, text, other } => {
+                let outcome = self.merge(desk, text, other);
+                put_merged(output, outcome)
+            }
             Event::Queries { desk, text, query } => match self.query(desk, text, query) {
                 Ok(lines) => put(output, &lines),
                 Err(why) => put_refused(output, why),
@@ -210,6 +219,36 @@ impl Sites {
         }
         let message = self.outbox.message(k - 1);
         self.desks[desk].take(text, message)
+    }
+
+    // Drains what waits for a desk's text.
+    fn settle(&mut self, desk: usize, text: TextNo) -> Settled
+        requires in_run { desk < length self.old.desks }
+        requires on_desk { text ≤ MAX_TEXT }
+        ensures { Replies self.old (settle desk text) (settles result.drained result.dropped result.stopped)
+            self.new }
+    {
+        self.desks[desk].settle(text)
+    }
+
+    // Merges another desk's text into a desk's. Into itself it brings nothing new.
+    fn merge(&mut self, desk: usize, text: TextNo, other: usize) -> Result<u64, MergeRefusal>
+        requires in_run { desk < length self.old.desks }
+        requires other_in_run { other < length self.old.desks }
+        requires on_desk { text ≤ MAX_TEXT }
+        ensures { Replies self.old (merge desk text other) (merge_reply result) self.new }
+    {
+        if other < desk {
+            let (front, back) = self.desks.split_at_mut(desk);
+            back[0].merge(text, &front[other])
+        } else if desk < other {
+            let (front, back) = self.desks.split_at_mut(other);
+            front[desk].merge(text, &back[0])
+        } else {
+            front_is_held();
+            self.desks[desk].has_text(text);
+            Ok(0)
+        }
     }
 
     // The lines that a query prints of a desk's text.

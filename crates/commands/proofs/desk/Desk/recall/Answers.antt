@@ -1,11 +1,9 @@
-use Rattle.std.proofs.Common.{arith}
 use Rattle.texts.specs.Edit.{recalling}
-use Rattle.commands.specs.DeskState.{DeskState}
-use Rattle.commands.proofs.Lifting.{desk_edited, text_read}
+use Rattle.commands.proofs.Lifting.{desk_edited}
 use Rattle.commands.proofs.desk.Desk.recall.Goals as goal
 
 pub returns : goal.returns
 returns c =
-    let d : DeskState = record { site = c.self.inside.site; texts = c.self.inside.texts.items } in
-    let at = text_read d c.args.text c.get.result c.index_mut-replica.result.now c.get.ensures.value (omega arith) c.index_mut-replica.ensures.value in
-    rw (← c.self.view_is, c.get.ensures.value) (desk_edited d c.args.text c.recall_into.new.replica c.args.outbox.now c.recall_into.new.outbox c.index_mut-replica.result.now (recalling c.args.pos) c.recall_into.result at c.recall_into.ensures)
+    desk_edited c.args.self.now c.args.text c.recall_into.new.replica c.args.outbox.now c.recall_into.new.outbox
+    c.replica_mut-replica.result.now (recalling c.args.pos) c.recall_into.result
+    c.replica_mut-replica.ensures.value c.recall_into.ensures

@@ -1,5 +1,5 @@
-use Rattle.std.proofs.Common.{◌≡◌, length, Ok, Err, ap, ◌∙◌}
-use Rattle.commands.specs.Machine.{State, copy, edit}
+use Rattle.std.proofs.Common.{◌≡◌, length, Ok, Err, refl, ap, ◌∙◌}
+use Rattle.commands.specs.Machine.{State, copy, edit, merge_reply, settles}
 use Rattle.script_events.specs.EventView.{delivery_of, edit_of, query_of}
 use Rattle.script_runs.proofs.Replying.{change_step, query_step, query_short, take_step}
 use Rattle.script_runs.proofs.sites.Sites.step.Goals as goal
@@ -43,3 +43,12 @@ pub returns-in-Err-query : goal.returns-in-Err-query
 returns-in-Err-query g c =
     let step = query_short c.args.self.now c.in-Queries.desk c.in-Queries.text (query_of c.in-Queries.query) c.in-Err-query.why c.in-Err-query.ensures.errors in
     rw c.in-Queries.is (_, c.put_refused-in-Err-query.ensures, step)
+
+pub returns-in-Settles : goal.returns-in-Settles
+returns-in-Settles g c =
+    let settled = c.settle-settled.result in
+    rw c.in-Settles.is (_, c.put_settled.ensures, (settles settled.drained settled.dropped settled.stopped, refl, c.settle-settled.ensures))
+
+pub returns-in-Merges : goal.returns-in-Merges
+returns-in-Merges g c =
+    rw c.in-Merges.is (_, c.put_merged.ensures (length c.args.self.now.sent), (merge_reply c.merge-outcome.result, refl, c.merge-outcome.ensures))

@@ -4,7 +4,7 @@ use Rattle.std.specs.Fmt.{decimal}
 use Rattle.looks.specs.declared.refusal.Refusal.{Refusal}
 use Rattle.script_runs.specs.Writing.{Writes}
 use Rattle.script_runs.proofs.WriteLemmas.{writes_after, writes_stopped, writes_regrouped}
-use Rattle.script_runs.proofs.answers.put_taken.Goals as goal
+use Rattle.script_runs.proofs.answers.put_drained.Goals as goal
 
 -- four parts, the latter ones taken together
 regrouped : (result : Result (Unit {0}) Refusal) (failed : Bool) (old new : Option (List ℕ)) (a b c d : List ℕ) → Writes result failed old new (a ++ (b ++ (c ++ d))) → Writes result failed old new (((a ++ b) ++ c) ++ d)
@@ -13,23 +13,23 @@ regrouped result failed old new a b c d w = writes_regrouped result failed old n
 pub returns-in_err-put_numbered : goal.returns-in_err-put_numbered
 returns-in_err-put_numbered g c =
     let stopped = rw c.from.ensures at c.in_err-put_numbered.ensures in
-    regrouped _ _ _ _ (codes "taken " ++ decimal c.args.drained) (32 ∷ decimal c.args.dropped) (if c.args.stopped then codes " stopped" else []) (10 ∷ []) (writes_stopped _ _ _ _ _ _ _ c.from_residual.ensures.1 stopped)
+    regrouped _ _ _ _ (c.args.word.now ++ decimal c.args.drained) (32 ∷ decimal c.args.dropped) (if c.args.stopped then codes " stopped" else []) (10 ∷ []) (writes_stopped _ _ _ _ _ _ _ c.from_residual.ensures.1 stopped)
 
 pub returns-in_err-put_numbered-2 : goal.returns-in_err-put_numbered-2
 returns-in_err-put_numbered-2 g c =
     let drained = rw c.from.ensures at c.in_ok-put_numbered.ensures in
     let stopped = rw c.from-2.ensures at c.in_err-put_numbered-2.ensures in
-    regrouped _ _ _ _ (codes "taken " ++ decimal c.args.drained) (32 ∷ decimal c.args.dropped) (if c.args.stopped then codes " stopped" else []) (10 ∷ [])
+    regrouped _ _ _ _ (c.args.word.now ++ decimal c.args.drained) (32 ∷ decimal c.args.dropped) (if c.args.stopped then codes " stopped" else []) (10 ∷ [])
     (writes_after _ _ _ _ _ _ _ drained (writes_stopped _ _ _ _ _ _ _ c.from_residual-in_err-put_numbered-2.ensures.1 stopped))
 
 pub returns-then-stopped : goal.returns-then-stopped
 returns-then-stopped g c =
     let drained = rw c.from.ensures at c.in_ok-put_numbered.ensures in
     let dropped = rw c.from-2.ensures at c.in_ok-put_numbered-2.ensures in
-    rw c.if-stopped.true (regrouped _ _ _ _ (codes "taken " ++ decimal c.args.drained) (32 ∷ decimal c.args.dropped) (codes " stopped") (10 ∷ []) (writes_after _ _ _ _ _ _ _ drained (writes_after _ _ _ _ _ _ _ dropped c.put.ensures)))
+    rw c.if-stopped.true (regrouped _ _ _ _ (c.args.word.now ++ decimal c.args.drained) (32 ∷ decimal c.args.dropped) (codes " stopped") (10 ∷ []) (writes_after _ _ _ _ _ _ _ drained (writes_after _ _ _ _ _ _ _ dropped c.put.ensures)))
 
 pub returns-else-stopped : goal.returns-else-stopped
 returns-else-stopped g c =
     let drained = rw c.from.ensures at c.in_ok-put_numbered.ensures in
     let dropped = rw c.from-2.ensures at c.in_ok-put_numbered-2.ensures in
-    rw c.if-stopped.false (regrouped _ _ _ _ (codes "taken " ++ decimal c.args.drained) (32 ∷ decimal c.args.dropped) [] (10 ∷ []) (writes_after _ _ _ _ _ _ _ drained (writes_after _ _ _ _ _ _ _ dropped c.put-else-stopped.ensures)))
+    rw c.if-stopped.false (regrouped _ _ _ _ (c.args.word.now ++ decimal c.args.drained) (32 ∷ decimal c.args.dropped) [] (10 ∷ []) (writes_after _ _ _ _ _ _ _ drained (writes_after _ _ _ _ _ _ _ dropped c.put-else-stopped.ensures)))
