@@ -19,12 +19,15 @@ mod fakes;
 mod faults;
 mod limits;
 mod malformed;
+mod merging;
 mod messages;
 mod own_edits;
+mod random_orders;
 mod replicas;
 mod rows;
 mod sharing;
 mod taking;
+mod waiting;
 
 /// How a run ended.
 #[derive(Clone, Copy, Debug, PartialEq, Eq)]
@@ -47,7 +50,15 @@ type Sites = [u16; 4];
 
 const ONE_AND_TWO: Sites = [1, 2, 80, 24];
 
+const ONE_TO_THREE: Sites = [1, 3, 80, 24];
+
+const SITE_1: Sites = [1, 1, 80, 24];
+
+const SITE_2: Sites = [2, 1, 80, 24];
+
 const SITE_3: Sites = [3, 1, 80, 24];
+
+const SITES_3_AND_4: Sites = [3, 2, 80, 24];
 
 /// What it shows, the sites, a script, and all its answers. A message's name between angle brackets stands for its
 /// hex, and `4*ab` there for `abababab`.

@@ -71,8 +71,8 @@ const ROWS: &[Row] = &[
     (
         "what was cut comes back under its own name",
         ONE_AND_TWO,
-        "1 type 1 0 abc\n1 cut 1 1 2\n1 restore 1\n1 text 1\n1 restore 1\n2 take 1 m1\n2 take 1 m2\n2 take 1 m3\n2 text 1\n",
-        "send m1 <abc>\nok\nsend m2 <cut b>\nok\nsend m3 <restore b>\nok\ntext 3 abc\nok\ntaken 0 0\ntaken 0 0\ntaken 0 0\ntext 3 abc\n",
+        "1 type 1 0 abc\n1 cut 1 1 2\n1 restore 1\n1 text 1\n1 restore 1\n2 take 1 m1\n2 take 1 m3\n2 take 1 m2\n2 text 1\n",
+        "send m1 <abc>\nok\nsend m2 <cut b>\nok\nsend m3 <restore b>\nok\ntext 3 abc\nok\ntaken 0 0\nwaits\ntaken 1 0\ntext 3 abc\n",
     ),
     (
         "one site cuts what the other brings back",

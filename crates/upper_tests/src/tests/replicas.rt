@@ -23,14 +23,14 @@ fn is_as_it_begins(replica: &Replica, outbox: &Outbox) -> Result<(), Fail> {
 }
 
 // A character of the default looks, alone.
-fn alone(alloc: Global, byte: u8) -> Result<Buffer, Refusal> {
+pub(super) fn alone(alloc: Global, byte: u8) -> Result<Buffer, Refusal> {
     let mut buffer = Buffer::new(alloc);
     buffer.push(byte, Looks::plain())?;
     Ok(buffer)
 }
 
 // Types a character, which one message sends.
-fn put(
+pub(super) fn put(
     alloc: Global,
     replica: &mut Replica,
     (pos, byte): (u64, u8),

@@ -18,7 +18,7 @@ const ROWS: &[Row] = &[
     (
         "verbs that are not there yet",
         ONE_AND_TWO,
-        "2 settle 1\n1 show\n",
+        "1 open user 1\n1 show\n",
         "refused 20\nrefused 20\n",
     ),
     (

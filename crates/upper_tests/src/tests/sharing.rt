@@ -1,5 +1,5 @@
 //! Sites that take in each other's messages.
-use super::{ONE_AND_TWO, Row, SITE_3, plays_rows};
+use super::{ONE_AND_TWO, ONE_TO_THREE, Row, SITE_3, SITES_3_AND_4, plays_rows};
 use std::test::Fail;
 
 const ROWS: &[Row] = &[
@@ -40,10 +40,10 @@ const ROWS: &[Row] = &[
         "taken 0 0\ntaken 0 0\ntaken 0 0\ntaken 0 0\ntaken 0 0\ntaken 0 0\nrun Mono.Fnt 5 0 1\nok\nrun Mono.Fnt 5 0 1\nok\n",
     ),
     (
-        "a message ahead of its cause is refused; a stamp is above all that were taken in",
+        "a message ahead of its cause waits; a stamp is above all that were taken in",
         ONE_AND_TWO,
         "1 type 1 0 ab\n1 type 1 2 c\n2 take 1 m3\n2 take 1 m2\n2 text 1\n2 take 1 m1\n2 take 1 m2\n2 text 1\n2 type 1 3 d\n1 take 1 m3\n1 text 1\n",
-        "send m1 <ab>\nok\nsend m2 <c>\nok\nrefused 20\nrefused 6\ntext 0\ntaken 0 0\ntaken 0 0\ntext 3 abc\nsend m3 <d>\nok\ntaken 0 0\ntext 4 abcd\n",
+        "send m1 <ab>\nok\nsend m2 <c>\nok\nrefused 20\nwaits\ntext 0\ntaken 1 0\nrepeat\ntext 3 abc\nsend m3 <d>\nok\ntaken 0 0\ntext 4 abcd\n",
     ),
     (
         "a tie of stamps",
@@ -59,7 +59,7 @@ const ROWS: &[Row] = &[
     ),
     (
         "what was typed behind a character stays with it",
-        [1, 3, 80, 24],
+        ONE_TO_THREE,
         "1 type 1 0 AC\n2 take 1 m1\n3 take 1 m1\n1 type 1 1 B\n2 type 1 1 X\n2 type 1 2 Y\n3 take 1 m3\n3 take 1 m4\n3 take 1 m2\n3 text 1\n3 front 1\n1 take 1 m3\n1 front 1\n1 take 1 m4\n1 text 1\n1 front 1\n2 front 1\n3 front 2\n",
         "send m1 <AC>\nok\ntaken 0 0\ntaken 0 0\nsend m2 <B>\nok\nsend m3 <X>\nok\nsend m4 <Y behind X>\nok\ntaken 0 0\ntaken 0 0\ntaken 0 0\ntext 5 AXYBC\nfront 1 2\nfront 2 2\nwaiting 0\ntaken 0 0\nfront 1 2\nfront 2 1\nwaiting 0\ntaken 0 0\ntext 5 AXYBC\nfront 1 2\nfront 2 2\nwaiting 0\nfront 1 1\nfront 2 2\nwaiting 0\nwaiting 0\n",
     ),
@@ -85,13 +85,13 @@ const ROWS: &[Row] = &[
         "a stamp that isn't above its cause's",
         SITE_3,
         "3 take 1 <X of its cause's stamp>\n3 take 1 <Oberon>\n3 take 1 <X of its cause's stamp>\n3 text 1\n3 front 1\n",
-        "refused 6\ntaken 0 0\nrefused 5\ntext 6 Oberon\nfront 1 1\nwaiting 0\n",
+        "waits\ntaken 0 1\nrefused 5\ntext 6 Oberon\nfront 1 1\nwaiting 0\n",
     ),
     (
         "a message that begins elsewhere than its site's file ends",
         SITE_3,
         "3 take 1 <Oberon>\n3 take 1 <Y behind what is missing>\n3 take 1 <a second Y>\n3 text 1\n",
-        "taken 0 0\nrefused 4\nrefused 6\ntext 6 Oberon\n",
+        "taken 0 0\nrefused 4\nwaits\ntext 6 Oberon\n",
     ),
     (
         "the greatest stamp was taken in",
@@ -109,7 +109,7 @@ const ROWS: &[Row] = &[
         "a character goes, another colour, and a character that is shown comes back",
         SITE_3,
         "3 take 1 <cut O>\n3 take 1 <Oberon>\n3 take 1 <cut O>\n3 text 1\n3 take 1 <colour O>\n3 take 1 <restore b>\n3 text 1\n3 front 1\n",
-        "refused 6\ntaken 0 0\ntaken 0 0\ntext 5 beron\ntaken 0 0\ntaken 0 0\ntext 5 beron\nfront 1 3\nfront 2 1\nwaiting 0\n",
+        "waits\ntaken 1 0\nrepeat\ntext 5 beron\ntaken 0 0\ntaken 0 0\ntext 5 beron\nfront 1 3\nfront 2 1\nwaiting 0\n",
     ),
     (
         "a site goes on behind its own messages, taken in",
@@ -127,17 +127,17 @@ const ROWS: &[Row] = &[
         "what was cut is typed anew, under new names",
         ONE_AND_TWO,
         "1 type 1 0 abcd\n2 take 1 m1\n1 take 1 <cut bc>\n1 text 1\n1 type 1 2 bc\n1 text 1\n2 take 1 <bc>\n2 take 1 <cut bc>\n2 take 1 m2\n2 take 1 <bc>\n2 text 1\n",
-        "send m1 <abcd>\nok\ntaken 0 0\ntaken 0 0\ntext 2 ad\nsend m2 <bc>\nok\ntext 4 adbc\nrefused 6\ntaken 0 0\ntaken 0 0\nrepeat\ntext 4 adbc\n",
+        "send m1 <abcd>\nok\ntaken 0 0\ntaken 0 0\ntext 2 ad\nsend m2 <bc>\nok\ntext 4 adbc\nwaits\ntaken 1 0\nrepeat\nrepeat\ntext 4 adbc\n",
     ),
     (
         "what was cut comes back under its own name",
         SITE_3,
         "3 take 1 <abc>\n3 take 1 <restore b>\n3 take 1 <cut b>\n3 text 1\n3 take 1 <restore b>\n3 text 1\n",
-        "taken 0 0\nrefused 6\ntaken 0 0\ntext 2 ac\ntaken 0 0\ntext 3 abc\n",
+        "taken 0 0\nwaits\ntaken 1 0\ntext 3 abc\nrepeat\ntext 3 abc\n",
     ),
     (
         "of those that cut and restore a character the greatest key holds, in whatever order",
-        [3, 2, 80, 24],
+        SITES_3_AND_4,
         "3 take 1 <abc>\n3 take 1 <cut b>\n3 take 1 <restore b>\n3 take 1 <x>\n3 text 1\n3 take 1 <cut b at site 2>\n3 text 1\n4 take 1 <abc>\n4 take 1 <x>\n4 take 1 <cut b at site 2>\n4 take 1 <cut b>\n4 take 1 <restore b>\n4 text 1\n3 take 1 <restore b again>\n4 take 1 <restore b again>\n3 text 1\n4 text 1\n",
         "taken 0 0\ntaken 0 0\ntaken 0 0\ntaken 0 0\ntext 4 abcx\ntaken 0 0\ntext 3 acx\ntaken 0 0\ntaken 0 0\ntaken 0 0\ntaken 0 0\ntaken 0 0\ntext 3 acx\ntaken 0 0\ntaken 0 0\ntext 4 abcx\ntext 4 abcx\n",
     ),

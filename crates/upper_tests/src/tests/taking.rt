@@ -8,13 +8,20 @@ use std::alloc::Global;
 use std::test::Fail;
 use texts::{Outbox, Replica, Shown, Took};
 
-const TAKEN: Result<Took, Refusal> = Ok(Took::Taken {
+pub(super) const TAKEN: Result<Took, Refusal> = Ok(Took::Taken {
     drained: 0,
     dropped: 0,
     stopped: false,
 });
 
-fn site(number: u16) -> Result<SiteNo, Fail> {
+// The same, and one that waited is thrown away.
+const ONE_DROPPED: Result<Took, Refusal> = Ok(Took::Taken {
+    drained: 0,
+    dropped: 1,
+    stopped: false,
+});
+
+pub(super) fn site(number: u16) -> Result<SiteNo, Fail> {
     Ok(SiteNo::new(number).ok_or("a site")?)
 }
 
@@ -178,12 +185,13 @@ fn both_stand_as_told(rt: HostRuntime) -> Result<(), Fail> {
 }
 
 // A message by its name, and how it is answered.
-type Answer = (&'static str, Result<Took, Refusal>);
+pub(super) type Answer = (&'static str, Result<Took, Refusal>);
 
-// Messages, one after the other; there is one for each refusal of a message.
+// Messages, one after the other; there is one for each refusal of a message but `RoomFull`.
 const ANSWERS: &[Answer] = &[
-    ("X of its cause's stamp", Err(Refusal::RoomFull)),
-    ("Oberon", TAKEN),
+    ("X of its cause's stamp", Ok(Took::Waits)),
+    ("X of its cause's stamp", Ok(Took::Waits)),
+    ("Oberon", ONE_DROPPED),
     ("Oberon", Ok(Took::Repeat)),
     ("Oberoo", Err(Refusal::Conflict)),
     ("X of its cause's stamp", Err(Refusal::BadStamp)),
@@ -200,7 +208,7 @@ fn answers(alloc: Global, replica: &mut Replica, (name, answer): &Answer) -> Res
     is(replica.take(&message) == *answer, "an answer")
 }
 
-fn answers_all(
+pub(super) fn answers_all(
     alloc: Global,
     replica: &mut Replica,
     wants: &[Answer],

@@ -1,0 +1,472 @@
+//! Messages of four sites, handed to a fifth in many orders, with repeats and merges.
+use super::is;
+use super::replicas::replica_of;
+use super::taking::{TAKEN, site};
+use char_files::{Buffer, Char};
+use looks::{Colour, FontName, Looks, Refusal, Sel};
+use operations::{Op, decode};
+use std::alloc::Global;
+use std::test::Fail;
+use texts::{Outbox, Replica, Settled, Took};
+use tree_order::{is_good, slow_shown};
+
+const SITES: u16 = 4;
+
+const EDITS: u32 = 300;
+
+// In so many orders half of the messages come, and then merges; in as many all of them.
+const ORDERS: usize = 25;
+
+// In most orders a message comes at most so many places from its turn, so that no room is full.
+const WINDOW: usize = 50;
+
+// Numbers that are the same in each run: a linear congruential generator.
+#[derive(Drop)]
+struct Dice {
+    state: u64,
+}
+
+impl Dice {
+    // A number below this one; 0 below 0.
+    fn below(&mut self, end: u64) -> u64 {
+        self.state = self
+            .state
+            .wrapping_mul(6_364_136_223_846_793_005)
+            .wrapping_add(1_442_695_040_888_963_407);
+        (self.state >> 33).checked_rem(end).unwrap_or(0)
+    }
+
+    // The same, of an index.
+    fn index_below(&mut self, end: usize) -> usize {
+        self.below(end as u64) as usize
+    }
+
+    // The same, of a byte.
+    fn byte_below(&mut self, end: u8) -> u8 {
+        (self.below(u64::from(end)) % 256) as u8
+    }
+
+    // A stretch of 1 to 5 characters of a text that has so many, or what is left of it.
+    fn stretch(&mut self, len: u64) -> (u64, u64) {
+        let beg = self.below(len.saturating_add(1));
+        let end = beg.saturating_add(1).saturating_add(self.below(5));
+        (beg, end.min(len))
+    }
+}
+
+// One of those who write, and how many of the messages sent it went through.
+#[derive(Drop)]
+struct Writer {
+    replica: Replica,
+    seen: usize,
+}
+
+// Some letters, in one of two looks.
+fn letters(alloc: Global, dice: &mut Dice) -> Result<Buffer, Fail> {
+    let beg = dice.index_below(10);
+    let end = beg.saturating_add(1).saturating_add(dice.index_below(3));
+    let letters = b"etaoin shrdlu".get(beg..end).ok_or("letters")?;
+    let looks = if dice.below(4) == 0 {
+        dressed(dice)?
+    } else {
+        Looks::plain()
+    };
+    let mut buffer = Buffer::new(alloc);
+    buffer.push_all(letters, &looks)?;
+    Ok(buffer)
+}
+
+const OFFSETS: [i8; 4] = [0, -128, 127, -3];
+
+fn dressed(dice: &mut Dice) -> Result<Looks, Fail> {
+    Ok(Looks {
+        font: FontName::new(b"Mono.Fnt").ok_or("a font")?,
+        colour: Colour::new(dice.byte_below(16)).ok_or("a colour")?,
+        offset: *OFFSETS.get(dice.index_below(4)).ok_or("an offset")?,
+    })
+}
+
+fn types(
+    alloc: Global,
+    dice: &mut Dice,
+    replica: &mut Replica,
+    outbox: &mut Outbox,
+) -> Result<(), Fail> {
+    let letters = letters(alloc, dice)?;
+    let pos = dice.below(replica.shown_len().saturating_add(1));
+    if replica.shown_len() < pos {
+        return Err("a position".into());
+    }
+    is(replica.insert(pos, &letters, outbox) == Ok(1), "an Insert")
+}
+
+fn deletes(dice: &mut Dice, replica: &mut Replica, outbox: &mut Outbox) -> Result<(), Fail> {
+    let (beg, end) = dice.stretch(replica.shown_len());
+    if end < beg || replica.shown_len() < end {
+        return Err("a stretch".into());
+    }
+    is(replica.delete(beg, end, outbox).is_ok(), "a Delete")
+}
+
+fn dresses(dice: &mut Dice, replica: &mut Replica, outbox: &mut Outbox) -> Result<(), Fail> {
+    let sel = Sel::new(dice.byte_below(7).saturating_add(1)).ok_or("a selection")?;
+    let looks = dressed(dice)?;
+    let (beg, end) = dice.stretch(replica.shown_len());
+    if end < beg || replica.shown_len() < end {
+        return Err("a stretch".into());
+    }
+    is(
+        replica.change_looks(beg, end, sel, &looks, outbox).is_ok(),
+        "a ChangeLooks",
+    )
+}
+
+// Makes an edit of any kind.
+fn edits(
+    alloc: Global,
+    dice: &mut Dice,
+    replica: &mut Replica,
+    outbox: &mut Outbox,
+) -> Result<(), Fail> {
+    match dice.below(10) {
+        0..=4 => types(alloc, dice, replica, outbox),
+        5 | 6 => deletes(dice, replica, outbox),
+        7 | 8 => dresses(dice, replica, outbox),
+        _ => is(replica.restore(outbox).is_ok(), "a Restore"),
+    }
+}
+
+// Takes in a message that was sent, all of whose causes are here, or that is an own one.
+fn takes_next(writer: &mut Writer, outbox: &Outbox) -> Result<(), Fail> {
+    if outbox.len() <= writer.seen {
+        return Err("a message".into());
+    }
+    let took = writer.replica.take(outbox.message(writer.seen));
+    writer.seen = writer.seen.saturating_add(1);
+    is(took == TAKEN || took == Ok(Took::Repeat), "taken in")
+}
+
+// Takes in some of the messages that were sent since, in turn; or none, most of the time.
+fn catches_up(dice: &mut Dice, writer: &mut Writer, outbox: &Outbox) -> Result<(), Fail> {
+    if dice.below(4) != 0 {
+        return Ok(());
+    }
+    let left = outbox.len().saturating_sub(writer.seen);
+    for _ in 0..dice.index_below(left.saturating_add(1)) {
+        takes_next(writer, outbox)?;
+    }
+    Ok(())
+}
+
+fn writer_of(alloc: Global, site: u16) -> Result<Writer, Fail> {
+    Ok(Writer {
+        replica: replica_of(alloc, 1, site)?,
+        seen: 0,
+    })
+}
+
+fn add_writers(alloc: Global, writers: &mut Vec<Writer>) -> Result<(), Fail> {
+    for site in 1..=SITES {
+        writers.push(writer_of(alloc, site)?)?;
+    }
+    Ok(())
+}
+
+// One of them catches up and makes an edit.
+fn writes(
+    alloc: Global,
+    dice: &mut Dice,
+    writers: &mut [Writer],
+    outbox: &mut Outbox,
+) -> Result<(), Fail> {
+    let index = dice.index_below(writers.len());
+    let writer = writers.get_mut(index).ok_or("a writer")?;
+    catches_up(dice, writer, outbox)?;
+    edits(alloc, dice, &mut writer.replica, outbox)
+}
+
+fn all_write(
+    alloc: Global,
+    dice: &mut Dice,
+    writers: &mut [Writer],
+    outbox: &mut Outbox,
+) -> Result<(), Fail> {
+    for _ in 0..EDITS {
+        writes(alloc, dice, writers, outbox)?;
+    }
+    Ok(())
+}
+
+fn add_operations(alloc: Global, ops: &mut Vec<Op>, outbox: &Outbox) -> Result<(), Fail> {
+    for index in 0..outbox.len() {
+        ops.push(decode(alloc, outbox.message(index))?)?;
+    }
+    Ok(())
+}
+
+// What the operations show, by definition.
+fn defined(alloc: Global, outbox: &Outbox) -> Result<Vec<Char>, Fail> {
+    let mut ops = Vec::new(alloc);
+    add_operations(alloc, &mut ops, outbox)?;
+    if !is_good(alloc, &ops)? {
+        return Err("a good set".into());
+    }
+    Ok(slow_shown(alloc, &ops)?)
+}
+
+fn is_same(one: &Char, other: &Char) -> Result<(), Fail> {
+    is(
+        one.name == other.name && one.byte == other.byte && one.looks == other.looks,
+        "a character",
+    )
+}
+
+fn shows(replica: &Replica, want: &[Char]) -> Result<(), Fail> {
+    is(
+        replica.shown_len() == want.len() as u64,
+        "how much is shown",
+    )?;
+    let mut shown = replica.shown();
+    for char in want {
+        is_same(&shown.next().ok_or("a character")?, char)?;
+    }
+    is(shown.next().is_none(), "all of them")
+}
+
+// How many of the messages were taken in.
+fn taken_in(replica: &Replica) -> Result<u64, Fail> {
+    let mut count: u64 = 0;
+    for number in 1..=SITES {
+        count = count.saturating_add(u64::from(replica.front(site(number)?)));
+    }
+    Ok(count)
+}
+
+fn shuffle(dice: &mut Dice, order: &mut [usize]) {
+    for index in 0..order.len() {
+        let other = dice.index_below(order.len());
+        if other < order.len() {
+            order.swap(index, other);
+        }
+    }
+}
+
+// Shuffles each stretch of so many by itself.
+fn shuffle_within(dice: &mut Dice, order: &mut [usize], window: usize) {
+    for round in 0..order.len() {
+        let beg = round.saturating_mul(window);
+        if order.len() <= beg {
+            return;
+        }
+        let end = beg.saturating_add(window).min(order.len());
+        shuffle(dice, &mut order[beg..end]);
+    }
+}
+
+// So many messages by their numbers, some of them twice.
+fn add_numbers(dice: &mut Dice, order: &mut Vec<usize>, count: usize) -> Result<(), Fail> {
+    for index in 0..count {
+        order.push(index)?;
+        if dice.below(4) == 0 {
+            order.push(index)?;
+        }
+    }
+    Ok(())
+}
+
+// Hands a message in. Whether it was refused for want of a place.
+fn hands(replica: &mut Replica, outbox: &Outbox, index: usize) -> Result<bool, Fail> {
+    if outbox.len() <= index {
+        return Err("a message".into());
+    }
+    match replica.take(outbox.message(index)) {
+        Ok(_) => Ok(false),
+        Err(Refusal::RoomFull) => Ok(true),
+        Err(why) => Err(why.into()),
+    }
+}
+
+// Hands all in. How many were refused for want of a place.
+fn hands_all(replica: &mut Replica, outbox: &Outbox, order: &[usize]) -> Result<usize, Fail> {
+    let mut refused: usize = 0;
+    for index in order {
+        if hands(replica, outbox, *index)? {
+            refused = refused.saturating_add(1);
+        }
+    }
+    Ok(refused)
+}
+
+// Hands all in, and again until none is refused. Whether one was.
+fn hands_again(replica: &mut Replica, outbox: &Outbox, order: &[usize]) -> Result<bool, Fail> {
+    for turn in 0..order.len() {
+        if hands_all(replica, outbox, order)? == 0 {
+            return Ok(turn != 0);
+        }
+    }
+    Err("all taken in".into())
+}
+
+// Takes another's operations over, and counts them.
+fn merges(one: &mut Replica, other: &Replica) -> Result<u64, Fail> {
+    let before = taken_in(one)?;
+    let Ok(new) = one.merge_from(other) else {
+        return Err("a merge".into());
+    };
+    let after = taken_in(one)?;
+    is(before.saturating_add(new) == after, "how many are new")?;
+    Ok(new)
+}
+
+fn merges_all(replica: &mut Replica, writers: &[Writer]) -> Result<(), Fail> {
+    for writer in writers {
+        merges(replica, &writer.replica)?;
+    }
+    Ok(())
+}
+
+// All that waited is held by now.
+fn settles(replica: &mut Replica) -> Result<(), Fail> {
+    let none_left = Settled {
+        drained: 0,
+        dropped: replica.waiting(),
+        stopped: false,
+    };
+    is(replica.settle() == none_left, "what waited")?;
+    is(replica.waiting() == 0, "none waits")
+}
+
+// What was sent, and what it shows.
+#[derive(Clone, Copy)]
+struct Sent<'a> {
+    outbox: &'a Outbox,
+    shown: &'a [Char],
+}
+
+// In which order messages come, and whether all come near their turn.
+#[derive(Clone, Copy)]
+struct Order<'a> {
+    numbers: &'a [usize],
+    is_near: bool,
+}
+
+// Half of the messages come in this order, and then what each of those who wrote has.
+fn hears_half(
+    reader: &mut Replica,
+    writers: &[Writer],
+    sent: Sent<'_>,
+    order: Order<'_>,
+) -> Result<(), Fail> {
+    let half = order.numbers.len() / 2;
+    let first = order.numbers.get(..half).ok_or("a half")?;
+    let refused = hands_all(reader, sent.outbox, first)?;
+    is(order.is_near != (refused != 0), "a full room")?;
+    is(reader.waiting() != 0, "some wait")?;
+    merges_all(reader, writers)?;
+    settles(reader)?;
+    shows(reader, sent.shown)
+}
+
+fn are_alike(one: &Replica, two: &Replica, want: &[Char]) -> Result<(), Fail> {
+    is(one.has_fronts_of(two), "equal fronts")?;
+    is(two.has_fronts_of(one), "equal fronts")?;
+    shows(one, want)?;
+    shows(two, want)
+}
+
+// All messages come in this order, and then two merge both ways.
+fn hears_all(
+    reader: &mut Replica,
+    writer: &mut Replica,
+    sent: Sent<'_>,
+    order: Order<'_>,
+) -> Result<(), Fail> {
+    let was_full = hands_again(reader, sent.outbox, order.numbers)?;
+    is(order.is_near != was_full, "a full room")?;
+    is(reader.waiting() == 0, "none waits")?;
+    is(taken_in(reader)? == sent.outbox.len() as u64, "all of them")?;
+    is(merges(reader, writer)? == 0, "nothing new")?;
+    merges(writer, reader)?;
+    are_alike(reader, writer, sent.shown)
+}
+
+// A reader that comes by this order to what was sent: by half of it, or by all.
+fn comes_to_it(
+    alloc: Global,
+    round: usize,
+    writers: &mut [Writer],
+    sent: Sent<'_>,
+    order: Order<'_>,
+) -> Result<(), Fail> {
+    let mut reader = replica_of(alloc, 1, SITES + 1)?;
+    if round < ORDERS {
+        return hears_half(&mut reader, writers, sent, order);
+    }
+    let writer = writers
+        .get_mut(round % usize::from(SITES))
+        .ok_or("a writer")?;
+    hears_all(&mut reader, &mut writer.replica, sent, order)
+}
+
+// One order more; in each fifth messages come far from their turns.
+fn comes_once(
+    alloc: Global,
+    dice: &mut Dice,
+    round: usize,
+    writers: &mut [Writer],
+    sent: Sent<'_>,
+) -> Result<(), Fail> {
+    let is_near = round % 5 != 0;
+    let mut numbers = Vec::new(alloc);
+    add_numbers(dice, &mut numbers, sent.outbox.len())?;
+    let window = if is_near { WINDOW } else { numbers.len() };
+    shuffle_within(dice, &mut numbers, window);
+    let order = Order {
+        numbers: &numbers,
+        is_near,
+    };
+    comes_to_it(alloc, round, writers, sent, order)
+}
+
+fn come_in_all_orders(
+    alloc: Global,
+    dice: &mut Dice,
+    writers: &mut [Writer],
+    sent: Sent<'_>,
+) -> Result<(), Fail> {
+    for round in 0..2 * ORDERS {
+        comes_once(alloc, dice, round, writers, sent)?;
+    }
+    Ok(())
+}
+
+fn all_show_it(writers: &[Writer], sent: Sent<'_>) -> Result<(), Fail> {
+    for writer in writers {
+        shows(&writer.replica, sent.shown)?;
+    }
+    Ok(())
+}
+
+fn write_and_read(
+    alloc: Global,
+    writers: &mut Vec<Writer>,
+    outbox: &mut Outbox,
+) -> Result<(), Fail> {
+    let mut dice = Dice { state: 1 };
+    add_writers(alloc, writers)?;
+    all_write(alloc, &mut dice, writers, outbox)?;
+    let shown = defined(alloc, outbox)?;
+    let sent = Sent {
+        outbox,
+        shown: &shown,
+    };
+    come_in_all_orders(alloc, &mut dice, writers, sent)?;
+    all_show_it(writers, sent)
+}
+
+// Whatever order messages come in, all show what is defined.
+#[test]
+fn all_orders_show_the_same(rt: HostRuntime) -> Result<(), Fail> {
+    let mut writers = Vec::new(rt.alloc());
+    write_and_read(rt.alloc(), &mut writers, &mut Outbox::new(rt.alloc()))
+}
