@@ -1,0 +1,64 @@
+"""Runs a command that answers scripts: what it answers, how long it takes, and how much memory."""
+import ctypes
+import dataclasses
+import os
+import pathlib
+import signal
+import subprocess
+import sys
+import tempfile
+import time
+
+PR_SET_CHILD_SUBREAPER = 36
+STARTED = """
+    folder=$1; shift
+    exec 3<&0
+    { read -r go <&3 && exec "$@" <"$folder/script" >"$folder/answers" 3<&-; } & echo $!
+"""
+
+
+@dataclasses.dataclass
+class Run:
+    """The answer lines, the seconds, and the bytes that were resident at the peak."""
+
+    answers: list
+    seconds: float
+    peak: int
+
+
+def started(command, folder):
+    """The number of a process that is to answer the folder's script, and the pipe on whose first line it begins.
+
+    A process takes over the peak of the one that starts it. So a small one starts it here, a shell, and leaves it to us."""
+    ctypes.CDLL(None).prctl(PR_SET_CHILD_SUBREAPER, 1, 0, 0, 0)
+    words = ["sh", "-c", STARTED, "sh", folder, *command]
+    reading, writing = os.pipe()
+    with subprocess.Popen(words, stdin=reading, stdout=subprocess.PIPE) as shell:
+        number = int(shell.stdout.readline())
+    os.close(reading)
+    return number, os.fdopen(writing, "w")
+
+
+def run(command, script, busy=False):
+    """The run of a command over a script of bytes. On a busy machine its seconds are those of processors, and not the clock's."""
+    with tempfile.TemporaryDirectory() as folder:
+        (pathlib.Path(folder) / "script").write_bytes(script)
+        number, pipe = started(command, folder)
+        begin = time.perf_counter()
+        print("go", file=pipe, flush=True)
+        try:
+            _, status, used = os.wait4(number, 0)
+        except KeyboardInterrupt:
+            os.kill(number, signal.SIGKILL)
+            raise
+        seconds = used.ru_utime + used.ru_stime if busy else time.perf_counter() - begin
+        pipe.close()
+        if code := os.waitstatus_to_exitcode(status):
+            sys.exit(f"{' '.join(command)} ended with {code}")
+        answers = (pathlib.Path(folder) / "answers").read_text().splitlines()
+    return Run(answers, seconds, used.ru_maxrss * 1024)
+
+
+def quickest(command, script, runs, busy=False):
+    """The quickest of so many runs."""
+    return min((run(command, script, busy) for _ in range(runs)), key=lambda one: one.seconds)
