@@ -2,5 +2,6 @@
 mod changing;
 mod pieces;
 mod placing;
+mod random_edits;
 mod shown;
 mod told;

@@ -3,7 +3,7 @@ ghost use Rattle.operations.specs.NameSet.{with_name};
 ghost use Rattle.piece_list.specs.Changing.{AreHere};
 ghost use Rattle.piece_list.specs.Spelled.{spelled};
 
-use super::told::{Names, Told, has, name, new_list, try_place};
+use super::told::{Names, Told, has, is, name, new_list, try_place};
 use char_files::{Anchor, Name};
 use looks::{Colour, FontName, Key, Looks, Refusal, Sel};
 use operations::NameSet;
@@ -21,7 +21,7 @@ fn all_look(list: &PieceList, want: &Looks) -> bool {
     true
 }
 
-fn key(stamp: u64, site: u16) -> Key {
+pub(super) fn key(stamp: u64, site: u16) -> Key {
     Key { stamp, site }
 }
 
@@ -36,7 +36,12 @@ fn insert(names: &mut NameSet, name: Name) -> Result<(), Fail>
 }
 
 // Puts a name that is in the list into the set.
-fn add(list: &mut PieceList, names: &mut NameSet, site: u16, off: u32) -> Result<(), Fail>
+pub(super) fn add(
+    list: &mut PieceList,
+    names: &mut NameSet,
+    site: u16,
+    off: u32,
+) -> Result<(), Fail>
     requires { AreHere names.old (spelled list.old.items) }
     ensures { OnOk result (AreHere names.new (spelled list.new.items)) }
 {
@@ -63,13 +68,13 @@ fn named(list: &mut PieceList, alloc: Global, names: Names) -> Result<NameSet, F
 
 // What a call does to the characters of a set of names.
 #[derive(Drop)]
-enum Does {
+pub(super) enum Does {
     Hide(Key),
     Reveal(Key),
     Relook(Sel, Looks, Key),
 }
 
-fn call(list: &mut PieceList, names: &NameSet, does: &Does) -> Result<(), Refusal>
+pub(super) fn call(list: &mut PieceList, names: &NameSet, does: &Does) -> Result<(), Refusal>
     requires { AreHere names.now (spelled list.old.items) }
 {
     match does {
@@ -77,6 +82,16 @@ fn call(list: &mut PieceList, names: &NameSet, does: &Does) -> Result<(), Refusa
         Does::Reveal(key) => list.reveal(names, *key),
         Does::Relook(sel, looks, key) => list.relook(names, *sel, looks, *key),
     }
+}
+
+fn try_change(
+    list: &mut PieceList,
+    alloc: Global,
+    names: Names,
+    does: &Does,
+) -> Result<Result<(), Refusal>, Fail> {
+    let set = named(list, alloc, names)?;
+    Ok(call(list, &set, does))
 }
 
 // Changes the characters of these names. Where memory is refused, the list is as it was, and the next try
@@ -88,15 +103,13 @@ fn change(
     does: &Does,
     before: &[Told],
 ) -> Result<(), Fail> {
-    let set = named(list, alloc, names)?;
-    let Err(refusal) = call(list, &set, does) else {
+    let Err(refusal) = try_change(list, alloc, names, does)? else {
         return Ok(());
     };
     if refusal != Refusal::OutOfMemory || !has(list, before) {
         return Err("a refused change changed the list".into());
     }
-    let set = named(list, alloc, names)?;
-    Ok(call(list, &set, does)?)
+    Ok(try_change(list, alloc, names, does)??)
 }
 
 // Places a run behind a cause, at the second try where memory is refused once.
@@ -123,43 +136,47 @@ const ABCX: [Told; 4] = [
     ((2, 0, 1), false),
 ];
 
+const AC: [Told; 3] = [((1, 0, 1), false), ((1, 1, 1), true), ((1, 2, 1), false)];
+
+const B: Names = (1, 1, 1);
+
 // Site 1 types abc and deletes b, and shows it again under the key (3, 1). Site 2 saw only abc: it types x
 // behind c, and deletes b under the key (3, 2), which is greater.
+fn restores_at_site_1(list: &mut PieceList, alloc: Global) -> Result<(), Fail> {
+    type_in(list, (1, 0, 3), 1, Anchor::Root)?;
+    change(list, alloc, B, &Does::Hide(key(2, 1)), &ABC)?;
+    is(has(list, &AC), "b is deleted")?;
+    change(list, alloc, B, &Does::Reveal(key(3, 1)), &AC)?;
+    type_in(list, (2, 0, 1), 2, Anchor::At(name(1, 2)?))?;
+    is(has(list, &ABCX), "b is shown again")?;
+    change(list, alloc, B, &Does::Hide(key(3, 2)), &ABCX)?;
+    is(has(list, &ACX), "site 2 deleted b")?;
+    change(list, alloc, B, &Does::Reveal(key(4, 1)), &ACX)?;
+    is(has(list, &ABCX), "b is shown again above both")
+}
+
 #[test]
 fn a_restore_against_a_delete_at_site_1(rt: HostRuntime) -> Result<(), Fail> {
-    let alloc = rt.alloc();
-    let mut list = new_list(&rt)?;
-    let b = (1, 1, 1);
-    type_in(&mut list, (1, 0, 3), 1, Anchor::Root)?;
-    change(&mut list, alloc, b, &Does::Hide(key(2, 1)), &ABC)?;
-    let ac = [((1, 0, 1), false), ((1, 1, 1), true), ((1, 2, 1), false)];
-    assert!(rt; has(&mut list, &ac));
-    change(&mut list, alloc, b, &Does::Reveal(key(3, 1)), &ac)?;
-    type_in(&mut list, (2, 0, 1), 2, Anchor::At(name(1, 2)?))?;
-    assert!(rt; has(&mut list, &ABCX));
-    change(&mut list, alloc, b, &Does::Hide(key(3, 2)), &ABCX)?;
-    assert!(rt; has(&mut list, &ACX));
-    change(&mut list, alloc, b, &Does::Reveal(key(4, 1)), &ACX)?;
-    assert!(rt; has(&mut list, &ABCX));
-    Ok(())
+    restores_at_site_1(&mut new_list(&rt)?, rt.alloc())
+}
+
+const WHOLE: [Told; 2] = [((1, 0, 3), false), ((2, 0, 1), false)];
+
+fn restores_at_site_2(list: &mut PieceList, alloc: Global) -> Result<(), Fail> {
+    type_in(list, (1, 0, 3), 1, Anchor::Root)?;
+    type_in(list, (2, 0, 1), 2, Anchor::At(name(1, 2)?))?;
+    change(list, alloc, B, &Does::Hide(key(3, 2)), &WHOLE)?;
+    is(has(list, &ACX), "b is deleted")?;
+    change(list, alloc, B, &Does::Hide(key(2, 1)), &ACX)?;
+    change(list, alloc, B, &Does::Reveal(key(3, 1)), &ACX)?;
+    is(has(list, &ACX), "both keys are less")?;
+    change(list, alloc, B, &Does::Reveal(key(4, 1)), &ACX)?;
+    is(has(list, &ABCX), "b is shown again above both")
 }
 
 #[test]
 fn a_restore_against_a_delete_at_site_2(rt: HostRuntime) -> Result<(), Fail> {
-    let alloc = rt.alloc();
-    let mut list = new_list(&rt)?;
-    let b = (1, 1, 1);
-    type_in(&mut list, (1, 0, 3), 1, Anchor::Root)?;
-    type_in(&mut list, (2, 0, 1), 2, Anchor::At(name(1, 2)?))?;
-    let whole = [((1, 0, 3), false), ((2, 0, 1), false)];
-    change(&mut list, alloc, b, &Does::Hide(key(3, 2)), &whole)?;
-    assert!(rt; has(&mut list, &ACX));
-    change(&mut list, alloc, b, &Does::Hide(key(2, 1)), &ACX)?;
-    change(&mut list, alloc, b, &Does::Reveal(key(3, 1)), &ACX)?;
-    assert!(rt; has(&mut list, &ACX));
-    change(&mut list, alloc, b, &Does::Reveal(key(4, 1)), &ACX)?;
-    assert!(rt; has(&mut list, &ABCX));
-    Ok(())
+    restores_at_site_2(&mut new_list(&rt)?, rt.alloc())
 }
 
 fn looks(font: &[u8], colour: u8) -> Result<Looks, Fail> {
@@ -172,28 +189,53 @@ fn looks(font: &[u8], colour: u8) -> Result<Looks, Fail> {
 
 const Q: Names = (1, 0, 1);
 
-// Whether a character, hidden or not, looks like this after both changes.
-fn looks_so(
-    rt: &HostRuntime,
-    first: &Does,
-    second: &Does,
+// What is changed at first and then of a character, hidden or not.
+#[derive(Clone, Copy)]
+struct Twice<'a> {
+    first: &'a Does,
+    second: &'a Does,
     hidden: bool,
+}
+
+// Types a character and makes both changes. Looks are told of what is shown alone: what is hidden is shown again.
+fn change_twice(list: &mut PieceList, alloc: Global, twice: Twice<'_>) -> Result<(), Fail> {
+    let stands = [(Q, twice.hidden)];
+    type_in(list, Q, 1, Anchor::Root)?;
+    if twice.hidden {
+        change(list, alloc, Q, &Does::Hide(key(2, 1)), &[(Q, false)])?;
+    }
+    change(list, alloc, Q, twice.first, &stands)?;
+    change(list, alloc, Q, twice.second, &stands)?;
+    is(has(list, &stands), "it is hidden as before")?;
+    if twice.hidden {
+        change(list, alloc, Q, &Does::Reveal(key(3, 1)), &stands)?;
+    }
+    is(has(list, &[(Q, false)]), "it is shown")
+}
+
+fn look_so(
+    list: &mut PieceList,
+    alloc: Global,
+    twice: Twice<'_>,
     want: &Looks,
-) -> Result<bool, Fail> {
-    let alloc = rt.alloc();
-    let mut list = new_list(rt)?;
-    type_in(&mut list, Q, 1, Anchor::Root)?;
-    if hidden {
-        change(&mut list, alloc, Q, &Does::Hide(key(2, 1)), &[(Q, false)])?;
+) -> Result<(), Fail> {
+    change_twice(list, alloc, twice)?;
+    is(all_look(list, want), "its looks")
+}
+
+// In both orders, hidden or not.
+fn all_look_so(rt: &HostRuntime, one: &Does, two: &Does, want: &Looks) -> Result<(), Fail> {
+    for hidden in [false, true] {
+        for (first, second) in [(one, two), (two, one)] {
+            let twice = Twice {
+                first,
+                second,
+                hidden,
+            };
+            look_so(&mut new_list(rt)?, rt.alloc(), twice, want)?;
+        }
     }
-    change(&mut list, alloc, Q, first, &[(Q, hidden)])?;
-    change(&mut list, alloc, Q, second, &[(Q, hidden)])?;
-    let stands = has(&mut list, &[(Q, hidden)]);
-    // Looks are told of what is shown alone.
-    if hidden {
-        change(&mut list, alloc, Q, &Does::Reveal(key(3, 1)), &[(Q, true)])?;
-    }
-    Ok(stands && has(&mut list, &[(Q, false)]) && all_look(&list, want))
+    Ok(())
 }
 
 // Site 1 sets font and colour under the key (2, 1), site 2 the colour under (2, 2): each attribute takes the
@@ -204,101 +246,96 @@ fn looks_go_by_attribute(rt: HostRuntime) -> Result<(), Fail> {
     let colour = Sel::new(2).ok_or("a selection")?;
     let mono = Does::Relook(font_and_colour, looks(b"Mono.Fnt", 3)?, key(2, 1));
     let five = Does::Relook(colour, looks(b"Oberon10.Scn.Fnt", 5)?, key(2, 2));
-    let want = looks(b"Mono.Fnt", 5)?;
-    assert!(rt; looks_so(&rt, &mono, &five, false, &want)?);
-    assert!(rt; looks_so(&rt, &five, &mono, false, &want)?);
-    assert!(rt; looks_so(&rt, &mono, &five, true, &want)?);
-    assert!(rt; looks_so(&rt, &five, &mono, true, &want)?);
-    Ok(())
+    all_look_so(&rt, &mono, &five, &looks(b"Mono.Fnt", 5)?)
 }
 
+const ABCDEF: [Told; 1] = [((1, 0, 6), false)];
+
+const ABDEF: [Told; 3] = [((1, 0, 2), false), ((1, 2, 1), true), ((1, 3, 3), false)];
+
+const AF: [Told; 5] = [
+    ((1, 0, 1), false),
+    ((1, 1, 1), true),
+    ((1, 2, 1), true),
+    ((1, 3, 2), true),
+    ((1, 5, 1), false),
+];
+
+const ALL_AGAIN: [Told; 5] = [
+    ((1, 0, 1), false),
+    ((1, 1, 1), false),
+    ((1, 2, 1), false),
+    ((1, 3, 2), false),
+    ((1, 5, 1), false),
+];
+
 // Of abcdef, c goes and then all from b to e: five pieces, of which the names between are hidden.
+fn hides_over_pieces(list: &mut PieceList, alloc: Global) -> Result<(), Fail> {
+    type_in(list, (1, 0, 6), 1, Anchor::Root)?;
+    change(list, alloc, (1, 2, 1), &Does::Hide(key(2, 1)), &ABCDEF)?;
+    is(has(list, &ABDEF), "c goes")?;
+    change(list, alloc, (1, 1, 4), &Does::Hide(key(3, 1)), &ABDEF)?;
+    is(has(list, &AF), "all from b to e go")?;
+    change(list, alloc, (1, 0, 6), &Does::Reveal(key(2, 9)), &AF)?;
+    is(has(list, &AF), "the key is less")?;
+    change(list, alloc, (1, 0, 6), &Does::Reveal(key(4, 1)), &AF)?;
+    is(has(list, &ALL_AGAIN), "all are shown again")
+}
+
 #[test]
 fn a_range_goes_over_pieces(rt: HostRuntime) -> Result<(), Fail> {
-    let alloc = rt.alloc();
-    let mut list = new_list(&rt)?;
-    type_in(&mut list, (1, 0, 6), 1, Anchor::Root)?;
-    change(
-        &mut list,
-        alloc,
-        (1, 2, 1),
-        &Does::Hide(key(2, 1)),
-        &[((1, 0, 6), false)],
-    )?;
-    let without_c = [((1, 0, 2), false), ((1, 2, 1), true), ((1, 3, 3), false)];
-    assert!(rt; has(&mut list, &without_c));
-    change(
-        &mut list,
-        alloc,
-        (1, 1, 4),
-        &Does::Hide(key(3, 1)),
-        &without_c,
-    )?;
-    let af = [
-        ((1, 0, 1), false),
-        ((1, 1, 1), true),
-        ((1, 2, 1), true),
-        ((1, 3, 2), true),
-        ((1, 5, 1), false),
-    ];
-    assert!(rt; has(&mut list, &af));
-    change(&mut list, alloc, (1, 0, 6), &Does::Reveal(key(2, 9)), &af)?;
-    assert!(rt; has(&mut list, &af));
-    change(&mut list, alloc, (1, 0, 6), &Does::Reveal(key(4, 1)), &af)?;
-    assert!(rt;
-        has(
-            &mut list,
-            &[
-                ((1, 0, 1), false),
-                ((1, 1, 1), false),
-                ((1, 2, 1), false),
-                ((1, 3, 2), false),
-                ((1, 5, 1), false)
-            ]
-        )
-    );
-    Ok(())
+    hides_over_pieces(&mut new_list(&rt)?, rt.alloc())
+}
+
+// The set of these names and of another one of site 1, each of which is in the list.
+fn named_and(list: &mut PieceList, alloc: Global, names: Names, off: u32) -> Result<NameSet, Fail>
+    ensures { IfOk result (λ set. AreHere set (spelled list.new.items)) }
+{
+    let mut set = named(list, alloc, names)?;
+    add(list, &mut set, 1, off)?;
+    Ok(set)
 }
 
 // A set of two ranges, a and e f, of abcdef.
-#[test]
-fn two_ranges_go(rt: HostRuntime) -> Result<(), Fail> {
-    let mut list = new_list(&rt)?;
-    type_in(&mut list, (1, 0, 6), 1, Anchor::Root)?;
-    let mut names = named(&mut list, rt.alloc(), (1, 4, 2))?;
-    add(&mut list, &mut names, 1, 0)?;
+fn hides_two_ranges(list: &mut PieceList, alloc: Global) -> Result<(), Fail> {
+    type_in(list, (1, 0, 6), 1, Anchor::Root)?;
+    let names = named_and(list, alloc, (1, 4, 2), 0)?;
     if list.hide(&names, key(2, 1)).is_err() {
-        assert!(rt; has(&mut list, &[((1, 0, 6), false)]));
-        return Ok(());
+        return is(has(list, &ABCDEF), "a refused change changed the list");
     }
-    assert!(rt;
-        has(
-            &mut list,
-            &[((1, 0, 1), true), ((1, 1, 3), false), ((1, 4, 2), true)]
-        )
-    );
-    Ok(())
+    let bcd = [((1, 0, 1), true), ((1, 1, 3), false), ((1, 4, 2), true)];
+    is(has(list, &bcd), "both ranges go")
 }
 
-// Of abcdef, c is hidden: sets of neighbours, and a set of a and c.
+#[test]
+fn two_ranges_go(rt: HostRuntime) -> Result<(), Fail> {
+    hides_two_ranges(&mut new_list(&rt)?, rt.alloc())
+}
+
+// Of abcdef, c is hidden: sets of neighbours, and whether one of them is hidden.
+const HIDDEN: &[(Names, bool)] = &[
+    ((1, 0, 2), false),
+    ((1, 1, 2), true),
+    ((1, 0, 6), true),
+    ((1, 3, 3), false),
+];
+
+fn has_hidden(list: &mut PieceList, alloc: Global, names: Names) -> Result<bool, Fail> {
+    let set = named(list, alloc, names)?;
+    Ok(list.has_hidden(&set))
+}
+
+fn asks_for_hidden_ones(list: &mut PieceList, alloc: Global) -> Result<(), Fail> {
+    type_in(list, (1, 0, 6), 1, Anchor::Root)?;
+    change(list, alloc, (1, 2, 1), &Does::Hide(key(2, 1)), &ABCDEF)?;
+    for (names, hidden) in HIDDEN {
+        is(has_hidden(list, alloc, *names)? == *hidden, "neighbours")?;
+    }
+    let a_and_c = named_and(list, alloc, (1, 0, 1), 2)?;
+    is(list.has_hidden(&a_and_c), "a and c")
+}
+
 #[test]
 fn sets_are_asked_for_hidden_characters(rt: HostRuntime) -> Result<(), Fail> {
-    let alloc = rt.alloc();
-    let mut list = new_list(&rt)?;
-    type_in(&mut list, (1, 0, 6), 1, Anchor::Root)?;
-    let whole = [((1, 0, 6), false)];
-    change(&mut list, alloc, (1, 2, 1), &Does::Hide(key(2, 1)), &whole)?;
-    for (names, hidden) in [
-        ((1, 0, 2), false),
-        ((1, 1, 2), true),
-        ((1, 0, 6), true),
-        ((1, 3, 3), false),
-    ] {
-        let set = named(&mut list, alloc, names)?;
-        assert_eq!(rt; list.has_hidden(&set), hidden);
-    }
-    let mut two = named(&mut list, alloc, (1, 0, 1))?;
-    add(&mut list, &mut two, 1, 2)?;
-    assert!(rt; list.has_hidden(&two));
-    Ok(())
+    asks_for_hidden_ones(&mut new_list(&rt)?, rt.alloc())
 }

@@ -1,7 +1,7 @@
 ghost use Rattle.std.specs.Prelude.{◌≡◌, IfOk};
 ghost use Rattle.piece_list.specs.Held.{HasPlace};
 
-use super::told::{Names, Told, has, name, new_list, try_place};
+use super::told::{Names, Told, has, is, name, new_list, try_place};
 use char_files::Anchor;
 use looks::Refusal;
 use piece_list::{PieceList, Place};
@@ -33,7 +33,7 @@ fn place(
     Err("refused twice".into())
 }
 
-fn find(list: &mut PieceList, site: u16, off: u32) -> Result<Place, Fail>
+pub(super) fn find(list: &mut PieceList, site: u16, off: u32) -> Result<Place, Fail>
     ensures items { list.new.items ≡ list.old.items }
     ensures place { IfOk result (λ place. HasPlace list.new.items place) }
 {
@@ -58,133 +58,161 @@ fn split(list: &mut PieceList, site: u16, off: u32, before: &[Told]) -> Result<P
     Err("refused twice".into())
 }
 
-fn shown(site: u16, off: u32, len: u32) -> Told {
-    ((site, off, len), false)
-}
+// A run that is placed, its stamp and its cause, the steps that it takes, and the pieces that stand then.
+type Placing = (Names, u64, Option<(u16, u32)>, u64, &'static [Told]);
 
-#[test]
-fn runs_of_one_stamp(rt: HostRuntime) -> Result<(), Fail> {
-    let mut list = new_list(&rt)?;
-    place(&mut list, (1, 0, 2), 1, None, &[])?;
-    assert_eq!(rt; list.steps(), 0);
-    assert!(rt; has(&mut list, &[shown(1, 0, 2)]));
-    place(&mut list, (1, 2, 1), 2, Some((1, 0)), &[shown(1, 0, 2)])?;
-    assert!(rt; list.steps() <= 2);
-    assert!(rt; has(&mut list, &[shown(1, 0, 1), shown(1, 2, 1), shown(1, 1, 1)]));
-    place(
-        &mut list,
-        (2, 0, 1),
-        2,
-        Some((1, 0)),
-        &[shown(1, 0, 1), shown(1, 2, 1), shown(1, 1, 1)],
-    )?;
-    assert!(rt;
-        has(
-            &mut list,
-            &[
-                shown(1, 0, 1),
-                shown(2, 0, 1),
-                shown(1, 2, 1),
-                shown(1, 1, 1)
-            ]
-        )
-    );
+const A_TO_B: &[Told] = &[((1, 0, 2), false)];
+
+const A_X_B: &[Told] = &[((1, 0, 1), false), ((2, 0, 1), false), ((1, 1, 1), false)];
+
+const A_X_C_B: &[Told] = &[
+    ((1, 0, 1), false),
+    ((2, 0, 1), false),
+    ((1, 2, 1), false),
+    ((1, 1, 1), false),
+];
+
+// Site 1 types ab; behind the a, site 1 types c and site 2 x under one stamp.
+const PLACINGS: &[(&str, &[Placing])] = &[
+    (
+        "two of one stamp",
+        &[
+            ((1, 0, 2), 1, None, 0, A_TO_B),
+            (
+                (1, 2, 1),
+                2,
+                Some((1, 0)),
+                2,
+                &[((1, 0, 1), false), ((1, 2, 1), false), ((1, 1, 1), false)],
+            ),
+            ((2, 0, 1), 2, Some((1, 0)), 2, A_X_C_B),
+        ],
+    ),
+    (
+        "the same the other way round",
+        &[
+            ((1, 0, 2), 1, None, 0, A_TO_B),
+            ((2, 0, 1), 2, Some((1, 0)), 2, A_X_B),
+            ((1, 2, 1), 2, Some((1, 0)), 3, A_X_C_B),
+        ],
+    ),
+    (
+        "the subtree of a greater key is skipped",
+        &[
+            ((1, 0, 2), 1, None, 0, A_TO_B),
+            ((2, 0, 1), 2, Some((1, 0)), 2, A_X_B),
+            (
+                (2, 1, 1),
+                3,
+                Some((2, 0)),
+                2,
+                &[
+                    ((1, 0, 1), false),
+                    ((2, 0, 1), false),
+                    ((2, 1, 1), false),
+                    ((1, 1, 1), false),
+                ],
+            ),
+            (
+                (1, 2, 1),
+                2,
+                Some((1, 0)),
+                4,
+                &[
+                    ((1, 0, 1), false),
+                    ((2, 0, 1), false),
+                    ((2, 1, 1), false),
+                    ((1, 2, 1), false),
+                    ((1, 1, 1), false),
+                ],
+            ),
+        ],
+    ),
+];
+
+fn places(list: &mut PieceList, what: &'static str, placings: &[Placing]) -> Result<(), Fail> {
+    let mut before: &[Told] = &[];
+    for (names, stamp, cause, steps, after) in placings {
+        place(list, *names, *stamp, *cause, before)?;
+        is(list.steps() == *steps && has(list, after), what)?;
+        before = after;
+    }
     Ok(())
 }
 
 #[test]
-fn runs_of_one_stamp_the_other_way_round(rt: HostRuntime) -> Result<(), Fail> {
-    let mut list = new_list(&rt)?;
-    place(&mut list, (1, 0, 2), 1, None, &[])?;
-    place(&mut list, (2, 0, 1), 2, Some((1, 0)), &[shown(1, 0, 2)])?;
-    assert!(rt; has(&mut list, &[shown(1, 0, 1), shown(2, 0, 1), shown(1, 1, 1)]));
-    place(
-        &mut list,
-        (1, 2, 1),
-        2,
-        Some((1, 0)),
-        &[shown(1, 0, 1), shown(2, 0, 1), shown(1, 1, 1)],
-    )?;
-    assert!(rt;
-        has(
-            &mut list,
-            &[
-                shown(1, 0, 1),
-                shown(2, 0, 1),
-                shown(1, 2, 1),
-                shown(1, 1, 1)
-            ]
-        )
-    );
+fn runs_are_placed(rt: HostRuntime) -> Result<(), Fail> {
+    for (what, placings) in PLACINGS {
+        places(&mut new_list(&rt)?, what, placings)?;
+    }
     Ok(())
 }
 
-#[test]
-fn the_subtree_of_a_greater_key_is_skipped(rt: HostRuntime) -> Result<(), Fail> {
-    let mut list = new_list(&rt)?;
-    place(&mut list, (1, 0, 2), 1, None, &[])?;
-    place(&mut list, (2, 0, 1), 2, Some((1, 0)), &[shown(1, 0, 2)])?;
-    place(
-        &mut list,
-        (2, 1, 1),
-        3,
-        Some((2, 0)),
-        &[shown(1, 0, 1), shown(2, 0, 1), shown(1, 1, 1)],
-    )?;
-    let before = [
-        shown(1, 0, 1),
-        shown(2, 0, 1),
-        shown(2, 1, 1),
-        shown(1, 1, 1),
-    ];
-    assert!(rt; has(&mut list, &before));
-    place(&mut list, (1, 2, 1), 2, Some((1, 0)), &before)?;
-    assert!(rt; list.steps() <= 6);
-    assert!(rt;
-        has(
-            &mut list,
-            &[
-                shown(1, 0, 1),
-                shown(2, 0, 1),
-                shown(2, 1, 1),
-                shown(1, 2, 1),
-                shown(1, 1, 1)
-            ]
-        )
-    );
-    Ok(())
+const WHOLE: &[Told] = &[((1, 0, 6), false)];
+
+const HALVES: &[Told] = &[((1, 0, 3), false), ((1, 3, 3), false)];
+
+const THREE: &[Told] = &[((1, 0, 3), false), ((1, 3, 2), false), ((1, 5, 1), false)];
+
+fn cuts_ahead_of_names(list: &mut PieceList) -> Result<(), Fail> {
+    place(list, (1, 0, 6), 1, None, &[])?;
+    let first = find(list, 1, 0)?;
+    is(split(list, 1, 0, WHOLE)? == first, "nothing to cut")?;
+    is(has(list, WHOLE), "one piece")?;
+    let middle = split(list, 1, 3, WHOLE)?;
+    is(has(list, HALVES) && find(list, 1, 3)? == middle, "two")?;
+    let last = split(list, 1, 5, HALVES)?;
+    is(has(list, THREE) && find(list, 1, 5)? == last, "three")?;
+    is(find(list, 1, 0)? == first, "the first piece's place")?;
+    let fifth = find(list, 1, 4)?;
+    is(
+        (fifth.piece, fifth.within) == (middle.piece, 1),
+        "within the middle one",
+    )
 }
 
 #[test]
 fn a_piece_is_cut_ahead_of_a_name(rt: HostRuntime) -> Result<(), Fail> {
-    let mut list = new_list(&rt)?;
-    place(&mut list, (1, 0, 6), 1, None, &[])?;
-    let first = find(&mut list, 1, 0)?;
-    assert_eq!(rt; split(&mut list, 1, 0, &[shown(1, 0, 6)])?, first);
-    assert!(rt; has(&mut list, &[shown(1, 0, 6)]));
-    let middle = split(&mut list, 1, 3, &[shown(1, 0, 6)])?;
-    assert!(rt; has(&mut list, &[shown(1, 0, 3), shown(1, 3, 3)]));
-    assert_eq!(rt; find(&mut list, 1, 3)?, middle);
-    let last = split(&mut list, 1, 5, &[shown(1, 0, 3), shown(1, 3, 3)])?;
-    assert!(rt; has(&mut list, &[shown(1, 0, 3), shown(1, 3, 2), shown(1, 5, 1)]));
-    assert_eq!(rt; find(&mut list, 1, 5)?, last);
-    assert_eq!(rt; find(&mut list, 1, 0)?, first);
-    let fourth = find(&mut list, 1, 4)?;
-    assert_eq!(rt; (fourth.piece, fourth.within), (middle.piece, 1));
+    cuts_ahead_of_names(&mut new_list(&rt)?)
+}
+
+// A run of one character behind the other, each under a greater key.
+fn types_in_turn(list: &mut PieceList, count: u32) -> Result<(), Fail> {
+    let mut cause = Anchor::Root;
+    for off in 0..count {
+        try_place(list, (1, off, 1), u64::from(off) + 1, cause)??;
+        cause = Anchor::At(name(1, off)?);
+    }
+    Ok(())
+}
+
+// Each of so many characters is the first of its piece, and found by one comparison.
+fn finds_in_turn(list: &mut PieceList, count: u32) -> Result<(), Fail> {
+    for off in 0..count {
+        let place = find(list, 1, off)?;
+        is((place.within, list.steps()) == (0, 1), "one comparison")?;
+    }
     Ok(())
 }
 
 #[test]
 fn a_thousand_pieces_are_found_by_one_comparison_each(rt: HostRuntime) -> Result<(), Fail> {
     let mut list = PieceList::new(rt.alloc())?;
-    let mut cause = Anchor::Root;
-    for off in 0u32..1000 {
-        try_place(&mut list, (1, off, 1), u64::from(off) + 1, cause)??;
-        cause = Anchor::At(name(1, off)?);
+    types_in_turn(&mut list, 1000)?;
+    finds_in_turn(&mut list, 1000)
+}
+
+fn types_a_million(list: &mut PieceList) -> Result<(), Fail> {
+    for i in 0u32..250 {
+        try_place(list, (1, i * 4000, 4000), u64::from(i) + 1, Anchor::Root)??;
     }
-    for off in 0u32..1000 {
-        find(&mut list, 1, off)?;
-        assert_eq!(rt; list.steps(), 1);
+    Ok(())
+}
+
+fn splits_a_million(list: &mut PieceList) -> Result<(), Fail> {
+    for off in (0u32..1_000_000).rev() {
+        let place = find(list, 1, off)?;
+        list.split(place)?;
     }
     Ok(())
 }
@@ -192,21 +220,7 @@ fn a_thousand_pieces_are_found_by_one_comparison_each(rt: HostRuntime) -> Result
 #[test]
 fn a_million_pieces(rt: HostRuntime) -> Result<(), Fail> {
     let mut list = PieceList::new(rt.alloc())?;
-    for i in 0u32..250 {
-        try_place(
-            &mut list,
-            (1, i * 4000, 4000),
-            u64::from(i) + 1,
-            Anchor::Root,
-        )??;
-    }
-    for off in (0u32..1_000_000).rev() {
-        let place = find(&mut list, 1, off)?;
-        list.split(place)?;
-    }
-    for i in 0u32..1000 {
-        let place = find(&mut list, 1, i * 1000)?;
-        assert_eq!(rt; (place.within, list.steps()), (0, 1));
-    }
-    Ok(())
+    types_a_million(&mut list)?;
+    splits_a_million(&mut list)?;
+    finds_in_turn(&mut list, 1_000_000)
 }

@@ -1,17 +1,18 @@
-ghost use Rattle.std.specs.Prelude.{◌≡◌, ◌≤◌, [], ◌∷◌};
+ghost use Rattle.std.specs.Prelude.{◌≡◌, [], ◌∷◌};
 ghost use Rattle.operations.specs.NameSet.{of_name};
 
-use super::told::{first_run, name};
+use super::told::{is, name, try_place};
 use char_files::{Anchor, Name};
 use looks::{Key, Looks};
 use operations::NameSet;
 use piece_list::{PieceList, Place};
+use std::alloc::Global;
 use std::test::Fail;
 
 #[test]
 fn a_new_list_has_no_names(rt: HostRuntime) -> Result<(), Fail> {
-    let mut list = PieceList::new(rt.alloc())?;
     let first = name(1, 0)?;
+    let mut list = PieceList::new(rt.alloc())?;
     assert!(rt; list.locate(first).is_none());
     assert_eq!(rt; list.steps(), 0);
     Ok(())
@@ -19,8 +20,8 @@ fn a_new_list_has_no_names(rt: HostRuntime) -> Result<(), Fail> {
 
 #[test]
 fn a_new_list_shows_nothing(rt: HostRuntime) -> Result<(), Fail> {
-    let list = PieceList::new(rt.alloc())?;
     let first = name(1, 0)?;
+    let list = PieceList::new(rt.alloc())?;
     assert_eq!(rt; list.shown_len(), 0);
     assert!(rt; list.shown_to(first).is_none());
     assert!(rt; list.key_of(first).is_none());
@@ -38,57 +39,91 @@ fn hide_one(list: &mut PieceList, names: &NameSet, name: Name) -> Result<(), Fai
     Ok(())
 }
 
-#[test]
-fn what_is_hidden_is_passed_over(rt: HostRuntime) -> Result<(), Fail> {
-    let mut list = PieceList::new(rt.alloc())?;
-    list.place(first_run(6)?, Anchor::Root)?;
-    let third = name(1, 2)?;
-    let mut names = NameSet::new(rt.alloc());
-    names.insert(third)?;
-    hide_one(&mut list, &names, third)?;
-    let n = list.shown_len();
-    assert_eq!(rt; n, 5);
-    assert_eq!(rt; list.shown_to(third), Some(2));
-    for (pos, within, off) in [(1, 1, 1), (2, 0, 3), (4, 2, 5)] {
-        if pos < n {
-            assert_eq!(rt; list.locate_pos(pos).within, within);
-            let (name, looks) = list.shown_at(pos);
-            assert_eq!(rt; name.off(), off);
-            assert_eq!(rt; looks, Looks::plain());
+// Types six characters, and hides the one of this name.
+fn hides_one_of_six(list: &mut PieceList, alloc: Global, name: Name) -> Result<(), Fail> {
+    try_place(list, (1, 0, 6), 1, Anchor::Root)??;
+    let mut names = NameSet::new(alloc);
+    names.insert(name)?;
+    hide_one(list, &names, name)
+}
+
+// Whether all that is shown are these runs, by their offsets and lengths.
+fn walks_all(list: &PieceList, runs: &[(u32, u32)]) -> bool {
+    let mut wants = runs.iter();
+    for run in list.walk() {
+        if wants.next() != Some(&(run.off, run.len)) {
+            return false;
         }
     }
-    let mut walk = list.walk();
-    for (off, len) in [(0, 2), (3, 3)] {
-        let run = walk.next().ok_or("a run")?;
-        assert_eq!(rt; (run.off, run.len), (off, len));
+    wants.next().is_none()
+}
+
+// The position tells the character of this offset, behind so many others of its piece.
+fn tells(list: &PieceList, pos: u64, within: u32, off: u32) -> Result<(), Fail> {
+    if list.shown_len() <= pos {
+        return Err("a position".into());
     }
-    assert!(rt; walk.next().is_none());
+    is(list.locate_pos(pos).within == within, "where it stands")?;
+    let (name, looks) = list.shown_at(pos);
+    is(
+        name.off() == off && looks == Looks::plain(),
+        "what is shown there",
+    )
+}
+
+fn tells_of_five(list: &PieceList, third: Name) -> Result<(), Fail> {
+    is(list.shown_len() == 5, "how many are shown")?;
+    is(list.shown_to(third) == Some(2), "how many ahead of it")?;
+    for (pos, within, off) in [(1, 1, 1), (2, 0, 3), (4, 2, 5)] {
+        tells(list, pos, within, off)?;
+    }
+    is(walks_all(list, &[(0, 2), (3, 3)]), "what is shown")
+}
+
+#[test]
+fn what_is_hidden_is_passed_over(rt: HostRuntime) -> Result<(), Fail> {
+    let third = name(1, 2)?;
+    let mut list = PieceList::new(rt.alloc())?;
+    hides_one_of_six(&mut list, rt.alloc(), third)?;
+    tells_of_five(&list, third)
+}
+
+// Types six characters, and cuts them in two ahead of the one of this name.
+fn splits_six(list: &mut PieceList, name: Name) -> Result<(), Fail> {
+    try_place(list, (1, 0, 6), 1, Anchor::Root)??;
+    let place = list.locate(name).ok_or("a place")?;
+    list.split(place)?;
     Ok(())
+}
+
+// The place of the character that is shown at this position.
+fn place_at(list: &PieceList, pos: u64) -> Option<Place> {
+    if list.shown_len() <= pos {
+        return None;
+    }
+    Some(list.locate_pos(pos))
+}
+
+fn tells_of_six(list: &PieceList, third: Name) -> Result<(), Fail> {
+    is(list.shown_len() == 6, "how many are shown")?;
+    is(list.shown_to(third) == Some(3), "how many up to it")?;
+    let key = Some(Key { stamp: 1, site: 1 });
+    is(list.key_of(third) == key, "its key")?;
+    for (pos, piece, within) in [(0, 0, 0), (1, 0, 1), (2, 1, 0), (5, 1, 3)] {
+        is(
+            place_at(list, pos) == Some(Place { piece, within }),
+            "a place",
+        )?;
+    }
+    is(walks_all(list, &[(0, 2), (2, 4)]), "what is shown")
 }
 
 #[test]
 fn what_is_shown_is_told(rt: HostRuntime) -> Result<(), Fail> {
-    let mut list = PieceList::new(rt.alloc())?;
-    list.place(first_run(6)?, Anchor::Root)?;
     let third = name(1, 2)?;
-    let place = list.locate(third).ok_or("a place")?;
-    list.split(place)?;
-    let n = list.shown_len();
-    assert_eq!(rt; n, 6);
-    assert_eq!(rt; list.shown_to(third), Some(3));
-    assert_eq!(rt; list.key_of(third), Some(Key { stamp: 1, site: 1 }));
-    for (pos, piece, within) in [(0, 0, 0), (1, 0, 1), (2, 1, 0), (5, 1, 3)] {
-        if pos < n {
-            assert_eq!(rt; list.locate_pos(pos), Place { piece, within });
-        }
-    }
-    let mut walk = list.walk();
-    for (off, len) in [(0, 2), (2, 4)] {
-        let run = walk.next().ok_or("a run")?;
-        assert_eq!(rt; (run.off, run.len), (off, len));
-    }
-    assert!(rt; walk.next().is_none());
-    Ok(())
+    let mut list = PieceList::new(rt.alloc())?;
+    splits_six(&mut list, third)?;
+    tells_of_six(&list, third)
 }
 
 // Of six characters the third is hidden: stretches of those that are shown, as runs by their offsets and lengths.
@@ -104,32 +139,29 @@ const STRETCHES: &[(u64, u64, &[(u32, u32)])] = &[
 ];
 
 // Whether what is shown between the positions are these runs.
-fn walks(list: &PieceList, beg: u64, end: u64, runs: &[(u32, u32)]) -> bool
-    requires { beg ≤ end }
-{
-    let mut walk = list.walk_between(beg, end);
-    for want in runs {
-        let Some(run) = walk.next() else {
-            return false;
-        };
-        if (run.off, run.len) != *want {
+fn walks(list: &PieceList, beg: u64, end: u64, runs: &[(u32, u32)]) -> bool {
+    if end < beg {
+        return false;
+    }
+    let mut wants = runs.iter();
+    for run in list.walk_between(beg, end) {
+        if wants.next() != Some(&(run.off, run.len)) {
             return false;
         }
     }
-    walk.next().is_none()
+    wants.next().is_none()
+}
+
+fn walks_stretches(list: &PieceList) -> Result<(), Fail> {
+    for (beg, end, runs) in STRETCHES {
+        is(walks(list, *beg, *end, runs), "a stretch")?;
+    }
+    Ok(())
 }
 
 #[test]
 fn stretches_are_walked(rt: HostRuntime) -> Result<(), Fail> {
     let mut list = PieceList::new(rt.alloc())?;
-    list.place(first_run(6)?, Anchor::Root)?;
-    let third = name(1, 2)?;
-    let mut names = NameSet::new(rt.alloc());
-    names.insert(third)?;
-    hide_one(&mut list, &names, third)?;
-    for (beg, end, runs) in STRETCHES {
-        assert!(rt; *beg <= *end);
-        assert!(rt; walks(&list, *beg, *end, runs));
-    }
-    Ok(())
+    hides_one_of_six(&mut list, rt.alloc(), name(1, 2)?)?;
+    walks_stretches(&list)
 }

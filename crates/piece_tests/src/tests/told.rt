@@ -18,6 +18,11 @@ pub(super) type Names = (u16, u32, u32);
 // A piece as a test writes it: its names, and whether it is hidden.
 pub(super) type Told = (Names, bool);
 
+// A failure that tells what isn't right.
+pub(super) fn is(right: bool, what: &'static str) -> Result<(), Fail> {
+    if right { Ok(()) } else { Err(what.into()) }
+}
+
 fn name_of(site: u16, off: u32) -> Option<Name> {
     Name::new(SiteNo::new(site)?, off)
 }
