@@ -1,0 +1,96 @@
+-- What a change at a place does to the members.
+use Rattle.std.proofs.Common.{◌≡◌, ℕ, ◌+◌, ◌<◌, ◌==◌, Bool, false, cond, [], ◌∷◌, ◌++◌, Some, length}
+use Rattle.std.proofs.Common.{get_or, take, drop, set, refl, sym, ap, ◌∙◌, subst, arith}
+use Rattle.std.proofs.Common.{append_assoc, eq-eqb, ne_eqb}
+use Rattle.std.specs.List.{AllByRecursion, IsDistinct, insert}
+use Rattle.std.proofs.lemmas.Bool.{eqb-false}
+use Rattle.std.proofs.lemmas.List.{take-append-drop, take_at, length-append}
+use Rattle.std.proofs.lemmas.List.Sums.{sum-map, sum_by-set}
+use Rattle.std.proofs.Math.Seq.{get_or-append_seam, set-append_seam}
+use Rattle.piece_raw.specs.Ring.{HasTag, last_tag, tags, with_value}
+use Rattle.rank_index.specs.Places.{IsPlace}
+use Rattle.rank_index.specs.Ranked.{weight_of}
+use Rattle.rank_index.proofs.ChunkRank.{Members, weight_of-append, weight_of-cut}
+
+-- a member of a tag is among the members
+pub has_place : (xs : Members) (tag place : ℕ) → IsPlace xs tag place → HasTag xs tag
+has_place xs tag place (ahead, behind, weight, cut, at) = (weight, (ahead, behind, cut))
+
+last_tag-push : (xs : Members) (m : ℕ × ℕ) → last_tag (xs ++ m ∷ []) ≡ Some m.0
+last_tag-push [] m = refl
+last_tag-push (n ∷ []) m = refl
+last_tag-push (n ∷ k ∷ xs) m = last_tag-push (k ∷ xs) m
+
+pub place_within : (xs : Members) (tag place : ℕ) → IsPlace xs tag place → place < length xs
+place_within xs tag place (ahead, behind, weight, cut, at) =
+    omega (arith, ap length cut, length-append ahead ((tag, weight) ∷ behind))
+
+-- the last one up to the place behind a tag's is the one of this tag
+pub last_behind : (xs : Members) (tag place : ℕ) → IsPlace xs tag place
+    → last_tag (take (place + 1) xs) ≡ Some tag
+last_behind xs tag place (ahead, behind, weight, cut, at) =
+    let m : ℕ × ℕ = (tag, weight) in
+    let count : length (ahead ++ m ∷ []) ≡ place + 1 = omega (arith, length-append ahead (m ∷ [])) in
+    let front : take (place + 1) xs ≡ ahead ++ m ∷ [] =
+    ap (take (place + 1)) (cut ∙ sym (append_assoc ahead (m ∷ []) behind))
+    ∙ take_at (ahead ++ m ∷ []) behind (place + 1) count in
+    ap last_tag front ∙ last_tag-push ahead m
+
+-- what one member more weighs
+pub weight_of-insert : (xs : Members) (at : ℕ) (m : ℕ × ℕ) → weight_of (insert xs at m) ≡ weight_of xs + m.1
+weight_of-insert xs at m =
+    omega (
+      arith,
+      ap weight_of (take-append-drop at xs),
+      weight_of-append (take at xs) (drop at xs),
+      weight_of-cut (take at xs) m (drop at xs),
+    )
+
+-- what the members weigh after a write
+pub weight_of-set : (xs : Members) (i : ℕ) (m d : ℕ × ℕ) → i < length xs
+    → weight_of (set xs i m) + (get_or xs i d).1 ≡ weight_of xs + m.1
+weight_of-set xs i m d lt =
+    let f : ℕ × ℕ → ℕ = λ (n : ℕ × ℕ). n.1 in
+    omega (arith, sum-map f (set xs i m), sum-map f xs, sum_by-set f xs i m d lt)
+
+module _ (P : ℕ → Type 0) where
+  at_cut : (xs : Members) (m : ℕ × ℕ) (ys : Members) → AllByRecursion P (tags (xs ++ m ∷ ys)) → P m.0
+  at_cut [] m ys all = all.0
+  at_cut (n ∷ xs) m ys all = at_cut xs m ys all.1
+
+-- a tag's weight changes nothing where the tag isn't
+others_stay : (tag w : ℕ) (xs : Members) → AllByRecursion (λ t. (tag == t) ≡ false) (tags xs)
+    → with_value tag w xs ≡ xs
+others_stay tag w [] others = refl
+others_stay tag w (m ∷ xs) others =
+    let other : (m.0 == tag) ≡ false = ne_eqb m.0 tag (λ e. eqb-false tag m.0 others.0 (sym e)) in
+    ap (λ (b : Bool). (m.0, cond b w m.1) ∷ with_value tag w xs) other
+    ∙ ap (λ (l : Members). m ∷ l) (others_stay tag w xs others.1)
+
+written : (xs ys : Members) (tag v w : ℕ) → IsDistinct ◌==◌ (tags (xs ++ (tag, v) ∷ ys))
+    → with_value tag w (xs ++ (tag, v) ∷ ys) ≡ xs ++ (tag, w) ∷ ys
+unfolding IsDistinct
+written [] ys tag v w distinct =
+    ap (λ (b : Bool). (tag, cond b w v) ∷ with_value tag w ys) (eq-eqb tag tag refl)
+    ∙ ap (λ (l : Members). (tag, w) ∷ l) (others_stay tag w ys distinct.0)
+written (m ∷ xs) ys tag v w distinct =
+    ap (λ (b : Bool). (m.0, cond b w m.1) ∷ with_value tag w (xs ++ (tag, v) ∷ ys))
+    (at_cut (λ t. (m.0 == t) ≡ false) xs (tag, v) ys distinct.0)
+    ∙ ap (λ (l : Members). m ∷ l) (written xs ys tag v w distinct.1)
+
+-- a weight written at a tag's place
+pub set_at : (items xs : Members) (tag place w : ℕ) (m : ℕ × ℕ) → items ≡ xs → m ≡ get_or items place m
+    → IsPlace xs tag place → IsDistinct ◌==◌ (tags xs) → set items place (m.0, w) ≡ with_value tag w xs
+set_at items xs tag place w m same read (ahead, behind, v, cut, at) distinct =
+    let n : ℕ × ℕ = (tag, v) in
+    let whole : items ≡ ahead ++ n ∷ behind = same ∙ cut in
+    let kept : m.0 ≡ tag =
+    ap (λ (k : ℕ × ℕ). k.0) read ∙ ap (λ (l : Members). (get_or l place m).0) whole
+    ∙ ap (λ (k : ℕ). (get_or (ahead ++ n ∷ behind) k m).0) at
+    ∙ ap (λ (k : ℕ × ℕ). k.0) (get_or-append_seam ahead n behind m) in
+    ap (λ (t : ℕ). set items place (t, w)) kept
+    ∙ ap (λ (l : Members). set l place (tag, w)) whole
+    ∙ ap (λ (k : ℕ). set (ahead ++ n ∷ behind) k (tag, w)) at
+    ∙ set-append_seam ahead n behind (tag, w)
+    ∙ sym (written ahead behind tag v w (subst (λ (l : Members). IsDistinct ◌==◌ (tags l)) cut distinct))
+    ∙ sym (ap (with_value tag w) cut)

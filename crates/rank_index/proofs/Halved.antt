@@ -1,0 +1,217 @@
+-- Chunks, one of which gave its second half to a chunk of its own.
+use Rattle.std.proofs.Common.{◌≡◌, ℕ, ◌+◌, ◌*◌, ◌<◌, ◌≤◌, List, [], ◌∷◌, ◌++◌, length, get_or, slice_get, All}
+use Rattle.std.proofs.Common.{Some, ◌⊎◌, inl, inr, sym, ap, subst, ◌∙◌, arith, append_assoc}
+use Rattle.std.proofs.Common.{length-append}
+use Rattle.std.proofs.lemmas.List.Elements.{All-cons, All-nil, All-head, All-tail}
+use Rattle.std.proofs.lemmas.Option.{same_Some}
+use Rattle.piece_raw.specs.Ring.{HasTag, AreTags}
+use Rattle.rank_index.specs.declared.chunk.TheConstants.{MOST, HALF}
+use Rattle.rank_index.specs.Chunks.{Stretch, members_of, AreEntered, AreHomes, AreHalfFull, AreTied, IsHalved}
+use Rattle.rank_index.specs.Chunks.{IsPlaceOf, HasRoom}
+use Rattle.rank_index.proofs.Homes.{homes_kept}
+use Rattle.std.specs.List.{insert}
+use Rattle.std.proofs.Math.ListN.{set}
+use Rattle.rank_index.proofs.Pieces.{all_parts, all_whole, get-seam, cut_at, seam_at, insert-behind, is_read}
+use Rattle.rank_index.proofs.Stretches.{members_of-seam, not_ahead, not_behind}
+use Rattle.rank_index.proofs.Tagged.{Members, AreApart, HasTag-append, HasTag-left, HasTag-right, no_tag_twice}
+use Rattle.rank_index.proofs.Tagged.{apart_left, apart_right}
+
+-- half full chunks have many members
+half_full : (chunks : List Stretch) → All (λ c. HALF ≤ length c.members) chunks
+    → HALF * length chunks ≤ length (members_of chunks)
+half_full [] all = omega arith
+half_full (c ∷ chunks) all =
+    let P : Stretch → Type 0 = λ (d : Stretch). HALF ≤ length d.members in
+    let here : HALF ≤ length c.members = All-head P c chunks all in
+    omega (
+      arith,
+      here,
+      half_full chunks (All-tail P c chunks all),
+      length-append c.members (members_of chunks),
+    )
+
+-- a full chunk among them tells of half a chunk more
+pub full_among : (chunks : List Stretch) (place : ℕ) (c : Stretch) → AreHalfFull chunks
+    → slice_get chunks place ≡ Some c → MOST ≤ length c.members
+    → HALF * (length chunks + 1) ≤ length (members_of chunks)
+full_among chunks place c half at full =
+    let (ahead, behind, cut, there) = cut_at chunks place c at in
+    let count : length chunks ≡ length ahead + length (c ∷ behind) =
+    ap length cut ∙ length-append ahead (c ∷ behind) in
+    let members : length (members_of chunks)
+    ≡ length (members_of ahead) + (length c.members + length (members_of behind)) =
+    ap (λ (l : List Stretch). length (members_of l)) cut ∙ ap length (members_of-seam ahead c behind)
+    ∙ length-append (members_of ahead) (c.members ++ members_of behind)
+    ∙ ap (λ (n : ℕ). length (members_of ahead) + n) (length-append c.members (members_of behind)) in
+    elim half [
+      | inl one ↦ omega (arith, members, full, one)
+      | inr all ↦
+          let P : Stretch → Type 0 = λ (d : Stretch). HALF ≤ length d.members in
+          let (left, here, right) = all_parts P ahead c behind (subst (All P) cut all) in
+          omega (arith, members, full, count, half_full ahead left, half_full behind right)
+    ]
+
+none : (xs : List Stretch) → length xs ≡ 0 → All (λ c. HALF ≤ length c.members) xs
+none [] e = All-nil (λ (c : Stretch). HALF ≤ length c.members)
+none (x ∷ xs) e = absurd (omega arith)
+
+-- the same chunks, with one of them in two parts
+module _ (ahead : List Stretch) (whole front rest : Stretch) (behind : List Stretch)
+    (parts : whole.members ≡ front.members ++ rest.members)
+  where
+    abbrev old : List Stretch
+    old = ahead ++ whole ∷ behind
+
+    abbrev new : List Stretch
+    new = ahead ++ front ∷ rest ∷ behind
+
+    members_halved : members_of new ≡ members_of old
+    members_halved =
+        members_of-seam ahead front (rest ∷ behind)
+        ∙ ap (λ (l : Members). members_of ahead ++ l)
+        (sym (append_assoc front.members rest.members (members_of behind))
+        ∙ ap (λ (l : Members). l ++ members_of behind) (sym parts))
+        ∙ sym (members_of-seam ahead whole behind)
+
+    homes_halved : (before after : List ℕ) → AreApart (members_of old) → AreHomes before old
+        → front.home ≡ whole.home → AreEntered after rest.home rest.members
+        → ((tag : ℕ) → (HasTag rest.members tag → ⊥) → slice_get after tag ≡ slice_get before tag)
+        → AreHomes after new
+    homes_halved before after apart are same entered others =
+        let P : Stretch → Type 0 = λ (c : Stretch). AreEntered before c.home c.members in
+        let Q : Stretch → Type 0 = λ (c : Stretch). AreEntered after c.home c.members in
+        let in_whole : (tag : ℕ) → HasTag rest.members tag → HasTag whole.members tag =
+        λ (tag : ℕ) (h : HasTag rest.members tag).
+        subst (λ (l : Members). HasTag l tag) (sym parts) (HasTag-right front.members rest.members tag h) in
+        let (left, here, right) = all_parts P ahead whole behind are in
+        let left' : All Q ahead =
+        homes_kept before after rest.members others ahead (λ (tag : ℕ) (h : HasTag rest.members tag)
+        (g : HasTag (members_of ahead) tag). not_ahead ahead whole behind tag apart (in_whole tag h) g) left in
+        let right' : All Q behind =
+        homes_kept before after rest.members others behind (λ (tag : ℕ) (h : HasTag rest.members tag)
+        (g : HasTag (members_of behind) tag). not_behind ahead whole behind tag apart (in_whole tag h) g) right in
+        let two : AreApart (front.members ++ rest.members) =
+        subst AreApart parts (apart_left whole.members (members_of behind)
+        (apart_right (members_of ahead) (whole.members ++ members_of behind)
+        (subst AreApart (members_of-seam ahead whole behind) apart))) in
+        let here' : Q front = λ (tag : ℕ) (has : HasTag front.members tag).
+        others tag (λ (h : HasTag rest.members tag). no_tag_twice front.members rest.members tag two has h)
+        ∙ here tag (subst (λ (l : Members). HasTag l tag) (sym parts)
+        (HasTag-left front.members rest.members tag has))
+        ∙ ap Some (sym same) in
+        all_whole Q ahead front (rest ∷ behind) left' here' (All-cons Q rest behind entered right')
+
+    halves_halved : AreHalfFull old → length front.members ≡ HALF → length rest.members ≡ HALF → AreHalfFull new
+    halves_halved half first second =
+        let P : Stretch → Type 0 = λ (c : Stretch). HALF ≤ length c.members in
+        let count : length old ≡ length ahead + length (whole ∷ behind) = length-append ahead (whole ∷ behind) in
+        let both : All P ahead × All P behind = elim half [
+          | inl one ↦ (none ahead (omega (arith, count, one)), none behind (omega (arith, count, one)))
+          | inr all ↦ let (left, here, right) = all_parts P ahead whole behind all in (left, right)
+        ] in
+        inr (all_whole P ahead front (rest ∷ behind) both.0 (omega (arith, first))
+        (All-cons P rest behind (omega (arith, second)) both.1))
+
+    tied_halved : (before after : List ℕ) → AreTied before old → length after ≡ length before
+        → front.home ≡ whole.home → (length front.members ≡ HALF) × (length rest.members ≡ HALF)
+        → AreEntered after rest.home rest.members
+        → ((tag : ℕ) → (HasTag rest.members tag → ⊥) → slice_get after tag ≡ slice_get before tag)
+        → AreTied after new
+    tied_halved before after tied same_length same halves entered others = record {
+      tags = subst AreTags (sym members_halved) tied.tags;
+      counted = same_length ∙ tied.counted ∙ ap length (sym members_halved);
+      entered = homes_halved before after tied.tags.0 tied.entered same entered others;
+      halves = halves_halved tied.halves halves.0 halves.1;
+      some = omega (arith, length-append ahead (front ∷ rest ∷ behind));
+    }
+
+-- where a member of the whole is now
+module _ (at : ℕ) (was now : List Stretch) (halved : IsHalved at was now) where
+  pub at_front : slice_get now at ≡ Some halved.front
+  at_front =
+      subst (λ (l : List Stretch). slice_get l at ≡ Some halved.front) (sym halved.is)
+      (ap (slice_get (halved.ahead ++ halved.front ∷ halved.rest ∷ halved.behind)) halved.place
+      ∙ get-seam halved.ahead halved.front (halved.rest ∷ halved.behind))
+
+  pub at_rest : slice_get now (at + 1) ≡ Some halved.rest
+  at_rest =
+      let longer : List Stretch = halved.ahead ++ halved.front ∷ [] in
+      let is : now ≡ longer ++ halved.rest ∷ halved.behind =
+      halved.is ∙ sym (append_assoc halved.ahead (halved.front ∷ []) (halved.rest ∷ halved.behind)) in
+      let next : at + 1 ≡ length longer =
+      omega (arith, halved.place, length-append halved.ahead (halved.front ∷ [])) in
+      subst (λ (l : List Stretch). slice_get l (at + 1) ≡ Some halved.rest) (sym is)
+      (ap (slice_get (longer ++ halved.rest ∷ halved.behind)) next ∙ get-seam longer halved.rest halved.behind)
+
+  pub room_at_front : HasRoom now at
+  room_at_front = (halved.front, at_front, omega (arith, halved.halves.0))
+
+  pub room_at_rest : HasRoom now (at + 1)
+  room_at_rest = (halved.rest, at_rest, omega (arith, halved.halves.1))
+
+  in_a_half : (tag : ℕ) → IsPlaceOf was at tag → HasTag halved.front.members tag ⊎ HasTag halved.rest.members tag
+  in_a_half tag (c, there, has) =
+      let whole : slice_get was at ≡ Some halved.whole =
+      subst (λ (l : List Stretch). slice_get l at ≡ Some halved.whole) (sym halved.was)
+      (ap (slice_get (halved.ahead ++ halved.whole ∷ halved.behind)) halved.place
+      ∙ get-seam halved.ahead halved.whole halved.behind) in
+      let same : c ≡ halved.whole = same_Some c halved.whole (sym there ∙ whole) in
+      HasTag-append halved.front.members halved.rest.members tag
+      (subst (λ (l : Members). HasTag l tag) (ap (λ (d : Stretch). d.members) same ∙ halved.parts) has)
+
+  pub behind_in_rest : (tag : ℕ) → IsPlaceOf was at tag → (HasTag halved.front.members tag → ⊥)
+      → IsPlaceOf now (at + 1) tag
+  behind_in_rest tag there absent = elim (in_a_half tag there) [
+    | inl first ↦ absurd (absent first)
+    | inr second ↦ (halved.rest, at_rest, second)
+  ]
+
+  -- what the code reads at the place is the front
+  pub in_front : (tag : ℕ) (c : Stretch) → c ≡ get_or now at c → HasTag c.members tag
+      → HasTag halved.front.members tag
+  in_front tag c is has =
+      subst (λ (d : Stretch). HasTag d.members tag) (is_read now at halved.front c at_front is) has
+
+  pub from_front : (tag : ℕ) → HasTag halved.front.members tag → (c : Stretch) → c ≡ get_or now at c
+      → HasTag c.members tag
+  from_front tag has c is =
+      subst (λ (d : Stretch). HasTag d.members tag) (sym (is_read now at halved.front c at_front is)) has
+
+-- what the code makes of the chunk that it reads at a place
+module _ (chunks : List Stretch) (at : ℕ) (whole front rest : Stretch) (lt : at < length chunks)
+    (is_read : whole ≡ get_or chunks at whole) (parts : whole.members ≡ front.members ++ rest.members)
+    (halves : (length front.members ≡ HALF) × (length rest.members ≡ HALF))
+  where
+    abbrev made : List Stretch
+    made = insert (set chunks at front) (at + 1) rest
+
+    made_of : (ahead behind : List Stretch) → at ≡ length ahead → set chunks at front ≡ ahead ++ front ∷ behind
+        → made ≡ ahead ++ front ∷ rest ∷ behind
+    made_of ahead behind place e =
+        (λ i. insert (e i) (place i + 1) rest) ∙ insert-behind ahead front rest behind
+
+    pub halved_here : IsHalved at chunks made
+    halved_here =
+        let (ahead, behind, cut, place, changed) = seam_at chunks at whole lt is_read in
+        record {
+          ahead = ahead;
+          whole = whole;
+          behind = behind;
+          front = front;
+          rest = rest;
+          place = place;
+          was = cut;
+          is = made_of ahead behind place (changed front);
+          parts = parts;
+          halves = halves;
+        }
+
+    pub tied_here : (before after : List ℕ) → AreTied before chunks → length after ≡ length before
+        → front.home ≡ whole.home → AreEntered after rest.home rest.members
+        → ((tag : ℕ) → (HasTag rest.members tag → ⊥) → slice_get after tag ≡ slice_get before tag)
+        → AreTied after made
+    tied_here before after tied same_length same entered others =
+        let (ahead, behind, cut, place, changed) = seam_at chunks at whole lt is_read in
+        subst (AreTied after) (sym (made_of ahead behind place (changed front)))
+        (tied_halved ahead whole front rest behind parts before after (subst (AreTied before) cut tied)
+        same_length same halves entered others)

@@ -1,0 +1,12 @@
+pub mod ChunkHalves
+pub mod ChunkPlace
+pub mod ChunkRank
+pub mod Halved
+pub mod Homes
+pub mod Inserted
+pub mod Light
+pub mod Pieces
+pub mod Reweighed
+pub mod Stretches
+pub mod Tagged
+pub mod Weights

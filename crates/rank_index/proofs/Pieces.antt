@@ -1,0 +1,81 @@
+-- Lists that are cut at one element.
+use Rattle.std.proofs.Common.{◌≡◌, ℕ, zero, suc, ◌+◌, ◌<◌, List, [], ◌∷◌, ◌++◌, length, get_or, take, drop}
+use Rattle.std.proofs.Common.{Some, refl, sym, ap, subst, ◌∙◌, arith}
+use Rattle.std.proofs.Common.{slice_get, All, drop-cons}
+use Rattle.std.specs.List.{insert}
+use Rattle.std.proofs.Math.ListN.{set}
+use Rattle.std.proofs.Math.Seq.{set-append_seam}
+use Rattle.std.proofs.lemmas.List.{take-append-drop}
+use Rattle.std.proofs.lemmas.List.Elements.{All-append, All-cons, All-head, All-tail, All-nil}
+use Rattle.std.proofs.lemmas.Option.{same_Some, slice_get_read, get_or_from_slice_get}
+
+module _ {X : Type 0} where
+  pub cut_at : (xs : List X) (k : ℕ) (x : X) → slice_get xs k ≡ Some x
+      → (ahead : List X) × (behind : List X) × (xs ≡ ahead ++ x ∷ behind) × (k ≡ length ahead)
+  cut_at [] k x e = absurd cc
+  cut_at (y ∷ xs) zero x e =
+      let same : y ≡ x = same_Some y x e in
+      ([], xs, ap (λ (z : X). z ∷ xs) same, refl)
+  cut_at (y ∷ xs) (suc k) x e =
+      let (ahead, behind, cut, at) = cut_at xs k x e in
+      let more : length (y ∷ ahead) ≡ suc (length ahead) = omega arith in
+      (y ∷ ahead, behind, ap (λ (l : List X). y ∷ l) cut, ap suc at ∙ sym more)
+
+  pub get-seam : (ahead : List X) (x : X) (behind : List X)
+      → slice_get (ahead ++ x ∷ behind) (length ahead) ≡ Some x
+  get-seam [] x behind = refl
+  get-seam (y ∷ ahead) x behind =
+      let more : length (y ∷ ahead) ≡ suc (length ahead) = omega arith in
+      ap (slice_get (y ∷ ahead ++ x ∷ behind)) more ∙ get-seam ahead x behind
+
+  pub get-left : (xs ys : List X) (k : ℕ) (x : X) → slice_get xs k ≡ Some x → slice_get (xs ++ ys) k ≡ Some x
+  get-left [] ys k x e = absurd cc
+  get-left (z ∷ xs) ys zero x e = e
+  get-left (z ∷ xs) ys (suc k) x e = get-left xs ys k x e
+
+  -- the element that the code reads at a place
+  pub is_read : (xs : List X) (k : ℕ) (x r : X) → slice_get xs k ≡ Some x → r ≡ get_or xs k r → r ≡ x
+  is_read xs k x r e is = is ∙ get_or_from_slice_get xs k x r e
+
+  pub insert-behind : (ahead : List X) (x y : X) (behind : List X)
+      → insert (ahead ++ x ∷ behind) (length ahead + 1) y ≡ ahead ++ x ∷ y ∷ behind
+  insert-behind [] x y behind = refl
+  insert-behind (z ∷ ahead) x y behind =
+      let more : length (z ∷ ahead) + 1 ≡ suc (length ahead + 1) = omega arith in
+      ap (λ (n : ℕ). insert (z ∷ ahead ++ x ∷ behind) n y) more
+      ∙ ap (λ (l : List X). z ∷ l) (insert-behind ahead x y behind)
+
+  -- a list is what stands ahead of an index, the element there, and the rest
+  pub cut_read : (xs : List X) (k : ℕ) (x : X) → k < length xs → x ≡ get_or xs k x
+      → xs ≡ take k xs ++ x ∷ drop (suc k) xs
+  cut_read xs k x lt is =
+      sym (take-append-drop k xs) ∙ ap (λ (l : List X). take k xs ++ l) (drop-cons xs k x lt)
+      ∙ ap (λ (y : X). take k xs ++ y ∷ drop (suc k) xs) (sym is)
+
+  -- and the same with another element there
+  pub seam_at : (xs : List X) (k : ℕ) (x : X) → k < length xs → x ≡ get_or xs k x
+      → (ahead : List X) × (behind : List X) × (xs ≡ ahead ++ x ∷ behind) × (k ≡ length ahead)
+      × ((y : X) → set xs k y ≡ ahead ++ y ∷ behind)
+  seam_at xs k x lt is =
+      let (ahead, behind, cut, at) = cut_at xs k x (slice_get_read xs (length xs) k x refl lt is) in (
+        ahead,
+        behind,
+        cut,
+        at,
+        λ (y : X). (λ i. set (cut i) (at i) y) ∙ set-append_seam ahead x behind y,
+      )
+
+  module _ (P : X → Type 0) where
+    pub all_parts : (xs : List X) (x : X) (ys : List X) → All P (xs ++ x ∷ ys) → All P xs × P x × All P ys
+    all_parts [] x ys all = (All-nil P, All-head P x ys all, All-tail P x ys all)
+    all_parts (z ∷ xs) x ys all =
+        let (left, here, right) = all_parts xs x ys (All-tail P z (xs ++ x ∷ ys) all) in
+        (All-cons P z xs (All-head P z (xs ++ x ∷ ys) all) left, here, right)
+
+    pub all_whole : (xs : List X) (x : X) (ys : List X) → All P xs → P x → All P ys → All P (xs ++ x ∷ ys)
+    all_whole xs x ys left here right = All-append P xs (x ∷ ys) left (All-cons P x ys here right)
+
+    pub all_at : (xs : List X) (k : ℕ) (x : X) → All P xs → slice_get xs k ≡ Some x → P x
+    all_at xs k x all e =
+        let (ahead, behind, cut, at) = cut_at xs k x e in
+        (all_parts ahead x behind (subst (All P) cut all)).1

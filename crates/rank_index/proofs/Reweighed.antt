@@ -1,0 +1,115 @@
+-- Chunks, a member of which has another weight.
+use Rattle.std.proofs.Common.{◌≡◌, ℕ, ◌+◌, ◌<◌, ◌==◌, cond, List, [], ◌∷◌, ◌++◌, length, inl, inr, take, drop, suc}
+use Rattle.std.proofs.Common.{refl, sym, ap, subst, ◌∙◌, arith, length-append, slice_get, Some}
+use Rattle.std.specs.List.{AllByRecursion, IsDistinct}
+use Rattle.std.proofs.Math.ListN.{set, get_or}
+use Rattle.std.proofs.lemmas.List.{map-append, length-map}
+use Rattle.piece_raw.specs.Ring.{HasTag, AreTags, tags, with_value}
+use Rattle.rank_index.specs.Chunks.{Stretch, members_of, AreEntered, AreTied}
+use Rattle.rank_index.specs.Ranked.{weight_of}
+use Rattle.rank_index.proofs.Inserted.{half_full}
+use Rattle.rank_index.proofs.Pieces.{all_parts, all_whole, cut_read, seam_at}
+use Rattle.rank_index.proofs.Stretches.{members_of-seam, apart_here, not_ahead, not_behind}
+use Rattle.rank_index.proofs.Tagged.{Members, HasTag-cons, HasTag-first, HasTag-right}
+use Rattle.rank_index.proofs.Tagged.{with_value-elsewhere, AreApart}
+use Rattle.rank_index.proofs.Weights.{weight_at}
+
+tags-with_value : (tag w : ℕ) (xs : Members) → tags (with_value tag w xs) ≡ tags xs
+tags-with_value tag w [] = refl
+tags-with_value tag w (x ∷ xs) = ap (λ (l : List ℕ). x.0 ∷ l) (tags-with_value tag w xs)
+
+pub length-with_value : (tag w : ℕ) (xs : Members) → length (with_value tag w xs) ≡ length xs
+length-with_value tag w xs = length-map xs (λ (m : ℕ × ℕ). (m.0, cond (m.0 == tag) w m.1))
+
+AreTags-with_value : (tag w : ℕ) (xs : Members) → AreTags xs → AreTags (with_value tag w xs)
+AreTags-with_value tag w xs are =
+    let P : List ℕ → ℕ → Type 0 = λ (ks : List ℕ) (n : ℕ). IsDistinct ◌==◌ ks × AllByRecursion (λ k. k < n) ks in
+    subst (λ (n : ℕ). P (tags (with_value tag w xs)) n) (sym (length-with_value tag w xs))
+    (subst (λ (ks : List ℕ). P ks (length xs)) (sym (tags-with_value tag w xs)) are)
+
+-- other weights, the same tags
+tag_stays : (tag w : ℕ) (xs : Members) (t : ℕ) → HasTag (with_value tag w xs) t → HasTag xs t
+tag_stays tag w [] t h = h
+tag_stays tag w (x ∷ xs) t h = elim (HasTag-cons (x.0, cond (x.0 == tag) w x.1) (with_value tag w xs) t h) [
+  | inl e ↦ HasTag-first x xs t e
+  | inr rest ↦ HasTag-right (x ∷ []) xs t (tag_stays tag w xs t rest)
+]
+
+module _ (ahead : List Stretch) (c d : Stretch) (behind : List Stretch) (tag w : ℕ)
+    (is : d.members ≡ with_value tag w c.members)
+  where
+    pub reweighed_in_all : AreTags (members_of (ahead ++ c ∷ behind)) → HasTag c.members tag
+        → members_of (ahead ++ d ∷ behind) ≡ with_value tag w (members_of (ahead ++ c ∷ behind))
+    reweighed_in_all are here =
+        let change : ℕ × ℕ → ℕ × ℕ = λ (m : ℕ × ℕ). (m.0, cond (m.0 == tag) w m.1) in
+        let left : with_value tag w (members_of ahead) ≡ members_of ahead =
+        with_value-elsewhere tag w (members_of ahead) (not_ahead ahead c behind tag are.0 here) in
+        let right : with_value tag w (members_of behind) ≡ members_of behind =
+        with_value-elsewhere tag w (members_of behind) (not_behind ahead c behind tag are.0 here) in
+        let whole : with_value tag w (members_of (ahead ++ c ∷ behind))
+        ≡ with_value tag w (members_of ahead)
+        ++ (with_value tag w c.members ++ with_value tag w (members_of behind)) =
+        ap (with_value tag w) (members_of-seam ahead c behind)
+        ∙ map-append change (members_of ahead) (c.members ++ members_of behind)
+        ∙ ap (λ (l : Members). with_value tag w (members_of ahead) ++ l)
+        (map-append change c.members (members_of behind)) in
+        members_of-seam ahead d behind
+        ∙ (λ i. sym left i ++ (is i ++ sym right i))
+        ∙ sym whole
+
+    pub tied_reweighed : (homes : List ℕ) → d.home ≡ c.home → HasTag c.members tag
+        → AreTied homes (ahead ++ c ∷ behind) → AreTied homes (ahead ++ d ∷ behind)
+    tied_reweighed homes same here tied =
+        let P : Stretch → Type 0 = λ (e : Stretch). AreEntered homes e.home e.members in
+        let (left, entered, right) = all_parts P ahead c behind tied.entered in
+        let all : members_of (ahead ++ d ∷ behind) ≡ with_value tag w (members_of (ahead ++ c ∷ behind)) =
+        reweighed_in_all tied.tags here in
+        let entered' : P d = λ (t : ℕ) (has : HasTag d.members t).
+        subst (λ (n : ℕ). slice_get homes t ≡ Some n) (sym same)
+        (entered t (tag_stays tag w c.members t (subst (λ (l : Members). HasTag l t) is has))) in
+        record {
+          tags = subst AreTags (sym all) (AreTags-with_value tag w (members_of (ahead ++ c ∷ behind)) tied.tags);
+          counted = tied.counted ∙ sym (ap length all
+              ∙ length-with_value tag w (members_of (ahead ++ c ∷ behind)));
+          entered = all_whole P ahead d behind left entered' right;
+          halves = half_full ahead c d behind (omega (arith, ap length is, length-with_value tag w c.members))
+              tied.halves;
+          some = omega (arith, length-append ahead (d ∷ behind));
+        }
+
+-- the members of the chunk that the code reads stand apart
+pub apart_read : (chunks : List Stretch) (place : ℕ) (c : Stretch) → place < length chunks
+    → c ≡ get_or chunks place c → AreApart (members_of chunks) → AreApart c.members
+apart_read chunks place c lt is_read apart =
+    apart_here (take place chunks) c (drop (suc place) chunks)
+    (subst (λ (l : List Stretch). AreApart (members_of l)) (cut_read chunks place c lt is_read) apart)
+
+-- the same of the chunk that the code reads at a place and changes there
+module _ (chunks : List Stretch) (place : ℕ) (c d : Stretch) (lt : place < length chunks)
+    (is_read : c ≡ get_or chunks place c) (tag w : ℕ) (is : d.members ≡ with_value tag w c.members)
+    (here : HasTag c.members tag)
+  where
+    pub reweighed_here : AreTags (members_of chunks)
+        → members_of (set chunks place d) ≡ with_value tag w (members_of chunks)
+    reweighed_here are =
+        let (ahead, behind, cut, at, changed) = seam_at chunks place c lt is_read in
+        let old : List Stretch → Members = λ (l : List Stretch). with_value tag w (members_of l) in
+        ap members_of (changed d)
+        ∙ reweighed_in_all ahead c d behind tag w is
+        (subst (λ (l : List Stretch). AreTags (members_of l)) cut are) here
+        ∙ ap old (sym cut)
+
+    pub tied_reweighed_here : (homes : List ℕ) → d.home ≡ c.home → AreTied homes chunks
+        → AreTied homes (set chunks place d)
+    tied_reweighed_here homes same tied =
+        let (ahead, behind, cut, at, changed) = seam_at chunks place c lt is_read in
+        subst (AreTied homes) (sym (changed d))
+        (tied_reweighed ahead c d behind tag w is homes same here (subst (AreTied homes) cut tied))
+
+    -- what it weighs beside the other chunks
+    pub weighs_here : AreTags (members_of chunks)
+        → (rest : ℕ) × (weight_of (members_of chunks) ≡ weight_of c.members + rest)
+        × (weight_of (with_value tag w (members_of chunks)) ≡ weight_of d.members + rest)
+    weighs_here are =
+        let (rest, was, changed) = weight_at chunks place c lt is_read in
+        (rest, was, sym (ap weight_of (reweighed_here are)) ∙ changed d)

@@ -1,0 +1,115 @@
+-- Sums of weights, and what is found by them.
+use Rattle.std.proofs.Common.{◌≡◌, ℕ, ◌+◌, ◌<◌, ◌≤◌, List, [], ◌∷◌, ◌++◌, length, get_or, take, drop, suc}
+use Rattle.std.proofs.Common.{sym, ap, subst, ◌∙◌, arith, append_assoc, append-nil}
+use Rattle.std.proofs.lemmas.List.Sums.{sum-map, sum_by-append}
+use Rattle.std.proofs.lemmas.List.{take_more, take-append-drop}
+use Rattle.rank_index.specs.Chunks.{Stretch, members_of}
+use Rattle.rank_index.specs.Ranked.{weight_of, IsRank, IsFound}
+use Rattle.std.proofs.Math.ListN.{set}
+use Rattle.rank_index.proofs.Pieces.{cut_read, seam_at}
+use Rattle.rank_index.proofs.Stretches.{members_of-append, members_of-seam}
+use Rattle.rank_index.proofs.Tagged.{Members}
+
+pub weight_of-append : (xs ys : Members) → weight_of (xs ++ ys) ≡ weight_of xs + weight_of ys
+weight_of-append xs ys =
+    let weight : ℕ × ℕ → ℕ = λ (m : ℕ × ℕ). m.1 in
+    sum-map weight (xs ++ ys) ∙ sum_by-append weight xs ys
+    ∙ (λ i. sym (sum-map weight xs) i + sym (sum-map weight ys) i)
+
+pub weight_of-seam : (ahead : List Stretch) (c : Stretch) (behind : List Stretch)
+    → weight_of (members_of (ahead ++ c ∷ behind))
+    ≡ weight_of (members_of ahead) + (weight_of c.members + weight_of (members_of behind))
+weight_of-seam ahead c behind =
+    ap weight_of (members_of-seam ahead c behind)
+    ∙ weight_of-append (members_of ahead) (c.members ++ members_of behind)
+    ∙ ap (λ (n : ℕ). weight_of (members_of ahead) + n) (weight_of-append c.members (members_of behind))
+
+-- one chunk more is passed
+pub weight_passed : (chunks : List Stretch) (k : ℕ) (c : Stretch) → k < length chunks → c ≡ get_or chunks k c
+    → weight_of (members_of (take (k + 1) chunks)) ≡ weight_of (members_of (take k chunks)) + weight_of c.members
+weight_passed chunks k c lt is =
+    ap (λ (l : List Stretch). weight_of (members_of l)) (take_more chunks k c lt
+    ∙ ap (λ (d : Stretch). take k chunks ++ d ∷ []) (sym is))
+    ∙ ap weight_of (members_of-append (take k chunks) (c ∷ []))
+    ∙ weight_of-append (members_of (take k chunks)) (c.members ++ [])
+    ∙ ap (λ (l : Members). weight_of (members_of (take k chunks)) + weight_of l) (append-nil c.members)
+
+-- the chunks ahead weigh no more than all
+pub weight_ahead : (chunks : List Stretch) (k : ℕ)
+    → weight_of (members_of (take k chunks)) ≤ weight_of (members_of chunks)
+weight_ahead chunks k =
+    omega (
+      arith,
+      ap (λ (l : List Stretch). weight_of (members_of l)) (take-append-drop k chunks),
+      ap weight_of (members_of-append (take k chunks) (drop k chunks)),
+      weight_of-append (members_of (take k chunks)) (members_of (drop k chunks)),
+    )
+
+pub rank_within : (items : Members) (tag n : ℕ) → IsRank items tag n → n ≤ weight_of items
+rank_within items tag n (us, vs, weight, e, is) =
+    omega (arith, is, ap weight_of e, weight_of-append us ((tag, weight) ∷ vs))
+
+-- and what is passed is a part of the whole
+pub weight_within : (chunks : List Stretch) (k : ℕ) (c : Stretch) → k < length chunks → c ≡ get_or chunks k c
+    → weight_of (members_of (take k chunks)) + weight_of c.members ≤ weight_of (members_of chunks)
+weight_within chunks k c lt is =
+    let all : weight_of (members_of chunks) ≡ weight_of (members_of (take k chunks ++ c ∷ drop (suc k) chunks)) =
+    ap (λ (l : List Stretch). weight_of (members_of l)) (cut_read chunks k c lt is) in
+    omega (arith, all, weight_of-seam (take k chunks) c (drop (suc k) chunks))
+
+-- a chunk's weight in the whole, also when it changes
+pub weight_at : (chunks : List Stretch) (k : ℕ) (c : Stretch) → k < length chunks → c ≡ get_or chunks k c
+    → (rest : ℕ) × (weight_of (members_of chunks) ≡ weight_of c.members + rest)
+    × ((d : Stretch) → weight_of (members_of (set chunks k d)) ≡ weight_of d.members + rest)
+weight_at chunks k c lt is =
+    let (ahead, behind, cut, at, changed) = seam_at chunks k c lt is in
+    let weight : List Stretch → ℕ = λ (l : List Stretch). weight_of (members_of l) in (
+      weight ahead + weight behind,
+      omega (arith, ap weight cut, weight_of-seam ahead c behind),
+      λ (d : Stretch). omega (arith, ap weight (changed d), weight_of-seam ahead d behind),
+    )
+
+-- where a member stands in a chunk tells where it stands in the whole
+module _ (ahead : List Stretch) (c : Stretch) (behind : List Stretch) where
+  placed : (us vs : Members) (m : ℕ × ℕ) → c.members ≡ us ++ m ∷ vs
+      → members_of (ahead ++ c ∷ behind) ≡ (members_of ahead ++ us) ++ m ∷ (vs ++ members_of behind)
+  placed us vs m e =
+      members_of-seam ahead c behind
+      ∙ ap (λ (l : Members). members_of ahead ++ (l ++ members_of behind)) e
+      ∙ ap (λ (l : Members). members_of ahead ++ l) (append_assoc us (m ∷ vs) (members_of behind))
+      ∙ sym (append_assoc (members_of ahead) us (m ∷ (vs ++ members_of behind)))
+
+  pub rank_in_all : (tag n : ℕ) → IsRank c.members tag n
+      → IsRank (members_of (ahead ++ c ∷ behind)) tag (weight_of (members_of ahead) + n)
+  rank_in_all tag n (us, vs, weight, e, is) = (
+    members_of ahead ++ us,
+    vs ++ members_of behind,
+    weight,
+    placed us vs (tag, weight) e,
+    ap (λ (k : ℕ). weight_of (members_of ahead) + k) is ∙ sym (weight_of-append (members_of ahead) us),
+  )
+
+  pub found_in_all : (pos left tag within : ℕ) → pos ≡ weight_of (members_of ahead) + left
+      → IsFound c.members left tag within → IsFound (members_of (ahead ++ c ∷ behind)) pos tag within
+  found_in_all pos left tag within at (us, vs, weight, e, is, lt) = (
+    members_of ahead ++ us,
+    vs ++ members_of behind,
+    weight,
+    placed us vs (tag, weight) e,
+    omega (arith, at, is, weight_of-append (members_of ahead) us),
+    lt,
+  )
+
+-- the same of the chunk that the code reads at a place
+module _ (chunks : List Stretch) (k : ℕ) (c : Stretch) (lt : k < length chunks) (is : c ≡ get_or chunks k c) where
+  pub rank_here : (tag n : ℕ) → IsRank c.members tag n
+      → IsRank (members_of chunks) tag (weight_of (members_of (take k chunks)) + n)
+  rank_here tag n rank =
+      subst (λ (l : List Stretch). IsRank (members_of l) tag (weight_of (members_of (take k chunks)) + n))
+      (sym (cut_read chunks k c lt is)) (rank_in_all (take k chunks) c (drop (suc k) chunks) tag n rank)
+
+  pub found_here : (pos left tag within : ℕ) → pos ≡ weight_of (members_of (take k chunks)) + left
+      → IsFound c.members left tag within → IsFound (members_of chunks) pos tag within
+  found_here pos left tag within at found =
+      subst (λ (l : List Stretch). IsFound (members_of l) pos tag within) (sym (cut_read chunks k c lt is))
+      (found_in_all (take k chunks) c (drop (suc k) chunks) pos left tag within at found)

@@ -1,0 +1,72 @@
+use Rattle.std.proofs.Common.{◌≡◌, ℕ, ◌+◌, ◌<◌, ◌++◌, [], ◌∷◌, List, length, drop, ap, sym, subst, ◌∙◌, arith}
+use Rattle.std.proofs.Math.ListN.{set}
+use Rattle.std.proofs.lemmas.List.{take_at}
+use Rattle.std.proofs.lemmas.Option.{slice_get_within}
+use Rattle.piece_raw.specs.Ring.{IsPushed}
+use Rattle.rank_index.specs.Chunks.{Stretch, members_of, AreTied}
+use Rattle.rank_index.specs.Ranked.{Ranked, weight_of}
+use Rattle.rank_index.proofs.Inserted.{pushed_here, tied_pushed_here, weight_pushed}
+use Rattle.rank_index.proofs.Tagged.{Members}
+use Rattle.rank_index.proofs.Weights.{weight_within}
+use Rattle.rank_index.proofs.index.RankIndex.insert_after.Goals as goal
+
+pub insert_after-requires-clause-total : goal.insert_after-requires-clause-total
+insert_after-requires-clause-total c =
+    let chunks : List Stretch = c.place_behind-place.new.chunks.items in
+    let place : ℕ = c.place_behind-place.result in
+    let (there, at, room) = c.place_behind-place.ensures.room in
+    let same : members_of chunks ≡ c.args.self.now.items =
+    c.place_behind-place.ensures.members ∙ ap (λ (r : Ranked). r.items) c.self.view_is in
+    omega (
+      arith,
+      weight_within chunks place c.index_mut-chunk.result.now (slice_get_within chunks place there at)
+          c.index_mut-chunk.ensures.value,
+      ap weight_of same,
+      c.requires.total,
+    )
+
+pub invariant_of-self : goal.invariant_of-self
+invariant_of-self c =
+    let chunks : List Stretch = c.place_behind-place.new.chunks.items in
+    let homes : List ℕ = c.place_behind-place.new.homes in
+    let place : ℕ = c.place_behind-place.result in
+    let chunk : Stretch = c.insert_after.new.self in
+    let (there, at, room) = c.place_behind-place.ensures.room in
+    let lt : place < length chunks = slice_get_within chunks place there at in
+    let same : members_of chunks ≡ c.args.self.now.items =
+    c.place_behind-place.ensures.members ∙ ap (λ (r : Ranked). r.items) c.self.view_is in
+    let put : IsPushed (members_of chunks) c.args.after c.args.tag c.args.weight (members_of (set chunks place chunk)) =
+    pushed_here chunks place c.index_mut-chunk.result.now chunk lt c.index_mut-chunk.ensures.value c.args.after
+    c.args.tag c.args.weight c.place_behind-place.ensures.place c.insert_after.ensures.inserted in
+    let weight : weight_of (members_of (set chunks place chunk)) ≡ weight_of (members_of chunks) + c.args.weight =
+    weight_pushed (members_of chunks) (members_of (set chunks place chunk)) c.args.after c.args.tag c.args.weight
+    put in
+    let count : length homes ≡ c.self.inside.homes.len =
+    omega (arith, c.place_behind-place.auto.homes, c.deref_mut.ensures.len) in
+    let entered : c.push_reserved.new.self.items ≡ homes ++ chunk.home ∷ [] =
+    c.push_reserved.ensures.items
+    ∙ ap (λ (l : List ℕ). l ++ c.home.result ∷ [])
+    (take_at homes (drop (length homes) c.self.inside.homes.items) c.self.inside.homes.len count)
+    ∙ ap (λ (n : ℕ). homes ++ n ∷ []) c.home.ensures in (
+      subst (λ (l : List ℕ). AreTied l (set chunks place chunk)) (sym entered) (tied_pushed_here chunks place
+          c.index_mut-chunk.result.now chunk lt c.index_mut-chunk.ensures.value c.args.after c.args.tag
+          c.args.weight c.place_behind-place.ensures.place c.insert_after.ensures.inserted homes
+          c.insert_after.ensures.home (c.requires.tag ∙ sym (ap length same)) c.place_behind-place.ensures.tied),
+      c.place_behind-place.ensures.empty,
+      omega (arith, c.place_behind-place.ensures.count, c.place_behind-place.ensures.places, c.self.invariant.2),
+      omega (arith, weight, ap weight_of c.place_behind-place.ensures.members, c.self.invariant.3),
+      omega (arith, weight, ap weight_of same, c.requires.total),
+    )
+
+pub returns-clause-inserted : goal.returns-clause-inserted
+returns-clause-inserted c =
+    let chunks : List Stretch = c.place_behind-place.new.chunks.items in
+    let place : ℕ = c.place_behind-place.result in
+    let (there, at, room) = c.place_behind-place.ensures.room in
+    let same : members_of chunks ≡ c.args.self.now.items =
+    c.place_behind-place.ensures.members ∙ ap (λ (r : Ranked). r.items) c.self.view_is in
+    subst (λ (l : Members). IsPushed l c.args.after c.args.tag c.args.weight
+    (members_of (set chunks place c.insert_after.new.self))) same
+    (pushed_here chunks place c.index_mut-chunk.result.now c.insert_after.new.self
+    (slice_get_within chunks place there at) c.index_mut-chunk.ensures.value c.args.after c.args.tag c.args.weight
+    c.place_behind-place.ensures.place c.insert_after.ensures.inserted)

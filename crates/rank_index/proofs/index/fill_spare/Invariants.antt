@@ -1,0 +1,14 @@
+use Rattle.std.proofs.Common.{◌≡◌, ◌+◌, ◌-◌, ◌≤◌, vec_len, vec_capacity}
+use Rattle.rank_index.specs.Chunks.{AreEmpty}
+use Rattle.rank_index.proofs.index.fill_spare.Given as goal
+
+abbrev pub invariant-loop-alloc : goal.invariant-loop-alloc
+invariant-loop-alloc l = record {
+  empty : AreEmpty l.spare.items;
+  places : vec_len l.chunks + vec_len l.spare ≤ vec_capacity l.chunks;
+  same : l.chunks.items ≡ l.initial.chunks.items;
+  spare : vec_len l.initial.spare ≤ vec_len l.spare;
+}
+
+abbrev pub decreases-loop-alloc : goal.decreases-loop-alloc
+decreases-loop-alloc l = l.wanted - (vec_len l.chunks + vec_len l.spare)

@@ -1,0 +1,53 @@
+use Rattle.std.proofs.Common.{◌≡◌, [], List, Some, length, slice_get, refl, sym, subst, arith}
+use Rattle.std.proofs.lemmas.List.Elements.{All-pop}
+use Rattle.std.proofs.lemmas.Option.{slice_get_read, slice_get_within}
+use Rattle.rank_index.specs.Chunks.{Stretch, AreTied, IsHalved}
+use Rattle.rank_index.proofs.Halved.{halved_here, tied_here}
+use Rattle.rank_index.proofs.Homes.{part_within}
+use Rattle.rank_index.proofs.index.halve.Goals as goal
+
+pub enter-requires : goal.enter-requires
+enter-requires c =
+    let chunks : List Stretch = c.args.chunks.now.items in
+    let whole : Stretch = c.index_mut.result.now in
+    let (full, at, most) = c.requires.full in
+    let there : slice_get chunks c.args.place ≡ Some whole =
+    slice_get_read chunks (length chunks) c.args.place whole refl (slice_get_within chunks c.args.place full at)
+    c.index_mut.ensures.value in
+    part_within c.args.homes.now chunks c.args.place whole c.halve.new.self.members c.halve.new.rest.members
+    c.requires.tied.entered there c.halve.ensures.parts
+
+pub overflow_add-place : goal.overflow_add-place
+overflow_add-place c =
+    let chunks = c.args.chunks.now in
+    let (full, at, most) = c.requires.full in
+    omega (arith, slice_get_within chunks.items c.args.place full at, chunks.ok.0, chunks.ok.1, chunks.small)
+
+pub insert-requires : goal.insert-requires
+insert-requires c =
+    let chunks = c.args.chunks.now in
+    let (full, at, most) = c.requires.full in
+    omega (arith, slice_get_within chunks.items c.args.place full at, chunks.ok.0)
+
+pub returns-clause-halved : goal.returns-clause-halved
+returns-clause-halved c =
+    let chunks : List Stretch = c.args.chunks.now.items in
+    let (full, at, most) = c.requires.full in
+    subst (IsHalved c.args.place chunks) (sym c.in-Ok.ensures.items) (halved_here chunks c.args.place
+    c.index_mut.result.now c.halve.new.self c.halve.new.rest (slice_get_within chunks c.args.place full at)
+    c.index_mut.ensures.value c.halve.ensures.parts c.halve.ensures.halves)
+
+pub returns-clause-empty : goal.returns-clause-empty
+returns-clause-empty c =
+    (All-pop (λ (d : Stretch). d.members ≡ []) c.args.spare.now.items c.pop.new.self.items c.pop.result
+    c.pop.ensures.items c.requires.empty).0
+
+pub returns-clause-tied : goal.returns-clause-tied
+returns-clause-tied c =
+    let chunks : List Stretch = c.args.chunks.now.items in
+    let (full, at, most) = c.requires.full in
+    subst (AreTied c.enter.new.homes) (sym c.in-Ok.ensures.items) (tied_here chunks c.args.place
+    c.index_mut.result.now c.halve.new.self c.halve.new.rest (slice_get_within chunks c.args.place full at)
+    c.index_mut.ensures.value c.halve.ensures.parts c.halve.ensures.halves c.args.homes.now c.enter.new.homes
+    c.requires.tied (omega (arith, c.enter.auto.homes)) c.halve.ensures.homes.0 c.enter.ensures.entered
+    c.enter.ensures.others)

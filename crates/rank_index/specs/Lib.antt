@@ -1,0 +1,4 @@
+pub mod Chunks
+pub mod Places
+pub mod Ranked
+pub mod Tests

@@ -1,0 +1,24 @@
+-- What a contract sees of an index.
+use Rattle.std.specs.Prelude.{◌≡◌, ℕ, ◌+◌, ◌<◌, List, ◌∷◌, ◌++◌, map, sum}
+
+-- the members in order, each its tag and its weight; and how many insertions take no memory
+pub record Ranked : Type 0 where
+  pub items : List (ℕ × ℕ)
+  pub room : ℕ
+
+abbrev pub ranked : List (ℕ × ℕ) → ℕ → Ranked
+ranked items room = record { items = items; room = room }
+
+-- the sum of the members' weights
+abbrev pub weight_of : List (ℕ × ℕ) → ℕ
+weight_of items = sum (map (λ m. m.1) items)
+
+-- so much weight stands ahead of the member of this tag
+abbrev pub IsRank : List (ℕ × ℕ) → ℕ → ℕ → Type 0
+IsRank items tag n = (ahead : List (ℕ × ℕ)) × (behind : List (ℕ × ℕ)) × (weight : ℕ)
+    × (items ≡ ahead ++ (tag, weight) ∷ behind) × (n ≡ weight_of ahead)
+
+-- the member of this tag is the one whose stretch of the sum holds a position, so far behind the stretch's start
+abbrev pub IsFound : List (ℕ × ℕ) → ℕ → ℕ → ℕ → Type 0
+IsFound items pos tag within = (ahead : List (ℕ × ℕ)) × (behind : List (ℕ × ℕ)) × (weight : ℕ)
+    × (items ≡ ahead ++ (tag, weight) ∷ behind) × (pos ≡ weight_of ahead + within) × (within < weight)

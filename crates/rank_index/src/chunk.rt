@@ -1,0 +1,206 @@
+// A stretch of the list that is looked through as a whole.
+ghost use Rattle.std.specs.Prelude.{◌≡◌, ◌+◌, ◌<◌, ◌≤◌, ◌^◌, ◌↔◌, ◌==◌, [], ◌∷◌, ◌++◌, length, take};
+ghost use Rattle.std.specs.Prelude.{IfOk, IfSome, IsSome, IsTrue};
+ghost use Rattle.looks.specs.Refusal.{RefusedForMemoryAlone};
+ghost use Rattle.piece_raw.specs.Ring.{HasTag, IsPushed, last_tag, with_value, tags};
+ghost use Rattle.std.specs.List.{IsDistinct};
+ghost use Rattle.rank_index.specs.Places.{IsPlace};
+ghost use Rattle.rank_index.specs.Ranked.{weight_of, IsRank, IsFound};
+
+use looks::Refusal;
+use std::alloc::Global;
+use std::marker::Model;
+
+// How many members a chunk has at most.
+pub const MOST: usize = 512;
+
+// Half of it.
+pub const HALF: usize = 256;
+
+// Up to 512 neighbouring members, with the sum of their weights.
+#[derive(Drop)]
+pub struct Chunk {
+    members: Vec<(u64, u64)>,
+    sum: u64,
+    home: usize,
+}
+
+impl Model for Chunk {
+    ghost use Rattle.std.specs.Prelude.{◌≡◌, ◌<◌, ◌≤◌, ◌^◌, vec_len, vec_capacity};
+    ghost use Rattle.rank_index.specs.Chunks.{Stretch};
+    ghost use Rattle.rank_index.specs.declared.chunk.TheConstants.{MOST};
+    ghost use Rattle.rank_index.specs.Ranked.{weight_of};
+
+    ghost Value = { Stretch };
+
+    ghost view = { λ c. record { members = c.members.items; home = c.home } };
+
+    ghost invariant = { λ c. (c.sum ≡ weight_of c.members.items) × (weight_of c.members.items < 2 ^ 64)
+        × (vec_len c.members ≤ MOST) × (MOST ≤ vec_capacity c.members) };
+}
+
+// At which place a member of this tag stands, if one is here.
+fn place_in(members: &[(u64, u64)], tag: u64) -> Option<usize>
+    ensures place { IfSome result (IsPlace members.now tag) }
+    ensures here { IsSome result ↔ HasTag members.now tag }
+{
+    for (place, member) in members.iter().enumerate() {
+        if member.0 == tag {
+            return Some(place);
+        }
+    }
+    None
+}
+
+impl Chunk {
+    // No members, and memory for all that come.
+    pub fn new(alloc: Global, home: usize) -> Result<Chunk, Refusal>
+        ensures ok { IfOk result (λ c. c ≡ record { members = []; home = home }) }
+        ensures errors { RefusedForMemoryAlone result }
+    {
+        Ok(Chunk {
+            members: Vec::with_capacity(alloc, MOST)?,
+            sum: 0,
+            home,
+        })
+    }
+
+    // The number under which its members are entered.
+    pub fn home(&self) -> usize
+        ensures { result ≡ self.now.home }
+    {
+        self.home
+    }
+
+    pub fn sum(&self) -> u64
+        ensures { result ≡ weight_of self.now.members }
+    {
+        self.sum
+    }
+
+    pub fn members(&self) -> &[(u64, u64)]
+        ensures members { result.now ≡ self.now.members }
+        ensures most { length self.now.members ≤ MOST }
+    {
+        &self.members
+    }
+
+    // At which place the member of this tag stands, if it is here.
+    fn place_of(&self, tag: u64) -> Option<usize>
+        ensures place { IfSome result (IsPlace self.now.members tag) }
+        ensures here { IsSome result ↔ HasTag self.now.members tag }
+    {
+        place_in(self.members(), tag)
+    }
+
+    pub fn has(&self, tag: u64) -> bool
+        ensures { IsTrue result ↔ HasTag self.now.members tag }
+    {
+        self.place_of(tag).is_some()
+    }
+
+    // How much stands ahead of the member of this tag.
+    pub fn rank(&self, tag: u64) -> u64
+        requires { HasTag self.now.members tag }
+        ensures { IsRank self.now.members tag result }
+    {
+        let mut ahead = 0;
+        for member in &self.members {
+            if member.0 == tag {
+                return ahead;
+            }
+            ahead += member.1;
+        }
+        unreachable!()
+    }
+
+    // The member whose stretch of the sum holds this position, and how far inside.
+    pub fn find(&self, pos: u64) -> (u64, u64)
+        requires { pos < weight_of self.now.members }
+        ensures { IsFound self.now.members pos result.0 result.1 }
+    {
+        let mut left = pos;
+        for member in &self.members {
+            if left < member.1 {
+                return (member.0, left);
+            }
+            left -= member.1;
+        }
+        unreachable!()
+    }
+
+    // The place directly behind the member of a tag, the front for `None`.
+    fn place_behind(&self, after: Option<u64>) -> usize
+        requires after { IfSome after (HasTag self.now.members) }
+        requires room { length self.now.members < MOST }
+        ensures within { result ≤ length self.now.members }
+        ensures last { last_tag (take result self.now.members) ≡ after }
+    {
+        match after {
+            Some(tag) => match self.place_of(tag) {
+                Some(place) => place + 1,
+                None => unreachable!(),
+            },
+            None => 0,
+        }
+    }
+
+    // Puts a member directly behind that of a tag, at the front for `None`.
+    pub fn insert_after(&mut self, after: Option<u64>, tag: u64, weight: u64)
+        requires after { IfSome after (HasTag self.old.members) }
+        requires room { length self.old.members < MOST }
+        requires total { weight_of self.old.members + weight < 2 ^ 64 }
+        ensures inserted { IsPushed self.old.members after tag weight self.new.members }
+        ensures home { self.new.home ≡ self.old.home }
+    {
+        let place = self.place_behind(after);
+        match self.members.insert(place, (tag, weight)) {
+            Ok(()) => self.sum += weight,
+            Err(_) => unreachable!(),
+        }
+    }
+
+    // Gives the member of this tag another weight.
+    pub fn set_weight(&mut self, tag: u64, weight: u64)
+        requires here { HasTag self.old.members tag }
+        requires once { IsDistinct ◌==◌ (tags self.old.members) }
+        requires total { weight_of (with_value tag weight self.old.members) < 2 ^ 64 }
+        ensures members { self.new.members ≡ with_value tag weight self.old.members }
+        ensures home { self.new.home ≡ self.old.home }
+    {
+        match self.place_of(tag) {
+            Some(place) => {
+                let others = self.sum - self.members[place].1;
+                self.members[place].1 = weight;
+                self.sum = others + weight;
+            }
+            None => unreachable!(),
+        }
+    }
+
+    // Puts a member at the end.
+    fn push(&mut self, member: (u64, u64))
+        requires room { length self.old.members < MOST }
+        requires total { weight_of self.old.members + member.1 < 2 ^ 64 }
+        ensures members { self.new.members ≡ self.old.members ++ member ∷ [] }
+        ensures home { self.new.home ≡ self.old.home }
+    {
+        self.members.push_reserved(member);
+        self.sum += member.1;
+    }
+
+    // Gives its second half to a chunk that has no members.
+    pub fn halve(&mut self, rest: &mut Chunk)
+        requires full { length self.old.members ≡ MOST }
+        requires empty { rest.old.members ≡ [] }
+        ensures parts { self.old.members ≡ self.new.members ++ rest.new.members }
+        ensures halves { (length self.new.members ≡ HALF) × (length rest.new.members ≡ HALF) }
+        ensures homes { (self.new.home ≡ self.old.home) × (rest.new.home ≡ rest.old.home) }
+    {
+        for member in &self.members[HALF..] {
+            rest.push(*member);
+        }
+        self.members.truncate(HALF);
+        self.sum -= rest.sum();
+    }
+}

@@ -1,0 +1,277 @@
+ghost use Rattle.std.specs.Prelude.{◌≡◌, ℕ, ◌+◌, ◌*◌, ◌<◌, ◌≤◌, ◌^◌, [], length, IfOk, IfSome, OnOk, slice_get};
+ghost use Rattle.std.specs.Prelude.{vec_len, vec_capacity};
+ghost use Rattle.looks.specs.Refusal.{RefusedForMemoryAlone};
+ghost use Rattle.piece_raw.specs.Ring.{HasTag, IsPushed, AreTags, with_value};
+ghost use Rattle.rank_index.specs.Chunks.{Stretch, members_of, AreEntered, AreHomes, AreTied, AreEmpty};
+ghost use Rattle.rank_index.specs.Chunks.{IsPlaceOf, IsPlaceBehind, HasRoom, IsHalved};
+ghost use Rattle.rank_index.specs.Ranked.{weight_of, IsRank, IsFound};
+
+use crate::chunk::{Chunk, HALF, MOST};
+use looks::Refusal;
+use std::alloc::Global;
+use std::marker::Model;
+
+/// A list of members, each a tag and a weight, that tells how much weight stands ahead of a member, and which
+/// member holds a position in the sum of all weights. Tags count from 0 in the order of insertion.
+///
+/// This project's own: chunks of at most 512 neighbours with their sums, and a table from a tag to its chunk.
+#[derive(Drop)]
+pub struct RankIndex {
+    // In order; at least one.
+    chunks: Vec<Chunk>,
+    // By tag, the number of the member's chunk.
+    homes: Vec<usize>,
+    // Chunks without members.
+    spare: Vec<Chunk>,
+    total: u64,
+    alloc: Global,
+}
+
+impl Model for RankIndex {
+    ghost use Rattle.std.specs.Prelude.{◌≡◌, ◌+◌, ◌-◌, ◌<◌, ◌≤◌, ◌^◌, vec_len, vec_capacity};
+    ghost use Rattle.rank_index.specs.Chunks.{members_of, AreTied, AreEmpty, room_of};
+    ghost use Rattle.rank_index.specs.Ranked.{Ranked, ranked, weight_of};
+
+    ghost Value = { Ranked };
+
+    ghost view = { λ r. ranked (members_of r.chunks.items)
+        (room_of (vec_capacity r.homes - vec_len r.homes) (vec_len r.chunks + vec_len r.spare) (vec_len r.homes)) };
+
+    ghost invariant = { λ r. AreTied r.homes.items r.chunks.items
+        × AreEmpty r.spare.items
+        × (vec_len r.chunks + vec_len r.spare ≤ vec_capacity r.chunks)
+        × (r.total ≡ weight_of (members_of r.chunks.items))
+        × (weight_of (members_of r.chunks.items) < 2 ^ 64) };
+}
+
+// The place of the chunk that has the member of this tag.
+fn chunk_of(chunks: &[Chunk], homes: &[usize], tag: u64) -> usize
+    requires here { HasTag (members_of chunks.now) tag }
+    requires homes { AreHomes homes.now chunks.now }
+    ensures { IsPlaceOf chunks.now result tag }
+{
+    let home = homes[tag as usize];
+    for (place, chunk) in chunks.iter().enumerate() {
+        if chunk.home() == home && chunk.has(tag) {
+            return place;
+        }
+    }
+    unreachable!()
+}
+
+// The sum of the weights in these chunks.
+fn weight_in(chunks: &[Chunk]) -> u64
+    requires { weight_of (members_of chunks.now) < 2 ^ 64 }
+    ensures { result ≡ weight_of (members_of chunks.now) }
+{
+    let mut weight = 0;
+    for chunk in chunks {
+        weight += chunk.sum();
+    }
+    weight
+}
+
+// The member whose stretch of the sum in these chunks holds the position, and how far inside.
+fn found_in(chunks: &[Chunk], pos: u64) -> (u64, u64)
+    requires { pos < weight_of (members_of chunks.now) }
+    ensures { IsFound (members_of chunks.now) pos result.0 result.1 }
+{
+    let mut left = pos;
+    for chunk in chunks {
+        if left < chunk.sum() {
+            return chunk.find(left);
+        }
+        left -= chunk.sum();
+    }
+    unreachable!()
+}
+
+// Enters the members of the chunk as being in it.
+fn enter(homes: &mut [usize], chunk: &Chunk)
+    requires { (tag : ℕ) → HasTag chunk.now.members tag → tag < length homes.old }
+    ensures entered { AreEntered homes.new chunk.now.home chunk.now.members }
+    ensures others { (tag : ℕ) → (HasTag chunk.now.members tag → ⊥)
+        → slice_get homes.new tag ≡ slice_get homes.old tag }
+{
+    let home = chunk.home();
+    let members = chunk.members();
+    for member in members {
+        homes[member.0 as usize] = home;
+    }
+}
+
+// Halves the full chunk at this place.
+fn halve(chunks: &mut Vec<Chunk>, spare: &mut Vec<Chunk>, homes: &mut [usize], place: usize)
+    requires full { (c : Stretch) × (slice_get chunks.old.items place ≡ Some c) × (length c.members ≡ MOST) }
+    requires spare { 0 < vec_len spare.old }
+    requires empty { AreEmpty spare.old.items }
+    requires tied { AreTied homes.old chunks.old.items }
+    requires places { vec_len chunks.old + vec_len spare.old ≤ vec_capacity chunks.old }
+    ensures halved { IsHalved place chunks.old.items chunks.new.items }
+    ensures empty { AreEmpty spare.new.items }
+    ensures tied { AreTied homes.new chunks.new.items }
+    ensures count { vec_len chunks.new + vec_len spare.new ≡ vec_len chunks.old + vec_len spare.old }
+    ensures places { vec_capacity chunks.old ≤ vec_capacity chunks.new }
+{
+    match spare.pop() {
+        Some(mut rest) => {
+            chunks[place].halve(&mut rest);
+            enter(homes, &rest);
+            match chunks.insert(place + 1, rest) {
+                Ok(()) => {}
+                Err(_) => unreachable!(),
+            }
+        }
+        None => unreachable!(),
+    }
+}
+
+// The place of a chunk with room for one more behind this member, at the front for `None`. A full one is halved.
+fn place_behind(
+    chunks: &mut Vec<Chunk>,
+    spare: &mut Vec<Chunk>,
+    homes: &mut [usize],
+    after: Option<u64>,
+) -> usize
+    requires after { IfSome after (HasTag (members_of chunks.old.items)) }
+    requires room { length (members_of chunks.old.items) < HALF * (vec_len chunks.old + vec_len spare.old + 1) }
+    requires empty { AreEmpty spare.old.items }
+    requires tied { AreTied homes.old chunks.old.items }
+    requires places { vec_len chunks.old + vec_len spare.old ≤ vec_capacity chunks.old }
+    ensures place { IsPlaceBehind chunks.new.items result after }
+    ensures room { HasRoom chunks.new.items result }
+    ensures members { members_of chunks.new.items ≡ members_of chunks.old.items }
+    ensures empty { AreEmpty spare.new.items }
+    ensures tied { AreTied homes.new chunks.new.items }
+    ensures count { vec_len chunks.new + vec_len spare.new ≡ vec_len chunks.old + vec_len spare.old }
+    ensures places { vec_capacity chunks.old ≤ vec_capacity chunks.new }
+{
+    let place = match after {
+        Some(tag) => chunk_of(chunks, homes, tag),
+        None => 0,
+    };
+    if chunks[place].members().len() < MOST {
+        return place;
+    }
+    halve(chunks, spare, homes, place);
+    match after {
+        Some(tag) if !chunks[place].has(tag) => place + 1,
+        _ => place,
+    }
+}
+
+// Makes chunks without members, until there are so many chunks in all.
+fn fill_spare(
+    chunks: &mut Vec<Chunk>,
+    spare: &mut Vec<Chunk>,
+    alloc: Global,
+    wanted: usize,
+) -> Result<(), Refusal>
+    requires empty { AreEmpty spare.old.items }
+    requires places { vec_len chunks.old + vec_len spare.old ≤ vec_capacity chunks.old }
+    ensures ok { OnOk result (wanted ≤ vec_len chunks.new + vec_len spare.new) }
+    ensures errors { RefusedForMemoryAlone result }
+    ensures chunks { chunks.new.items ≡ chunks.old.items }
+    ensures spare { vec_len spare.old ≤ vec_len spare.new }
+    ensures empty { AreEmpty spare.new.items }
+    ensures places { vec_len chunks.new + vec_len spare.new ≤ vec_capacity chunks.new }
+{
+    while chunks.len() + spare.len() < wanted {
+        chunks.reserve(spare.len() + 1)?;
+        let number = chunks.len() + spare.len();
+        spare.push(Chunk::new(alloc, number)?)?;
+    }
+    Ok(())
+}
+
+impl RankIndex {
+    /// No members. Refused `OutOfMemory` alone.
+    pub fn new(alloc: Global) -> Result<RankIndex, Refusal>
+        ensures ok { IfOk result (λ r. r.items ≡ []) }
+        ensures errors { RefusedForMemoryAlone result }
+    {
+        let mut chunks = Vec::new(alloc);
+        chunks.push(Chunk::new(alloc, 0)?)?;
+        Ok(RankIndex {
+            chunks,
+            homes: Vec::new(alloc),
+            spare: Vec::new(alloc),
+            total: 0,
+            alloc,
+        })
+    }
+
+    /// Makes room for n more members: so many insertions take no memory. Refused `OutOfMemory` alone.
+    pub fn reserve(&mut self, n: usize) -> Result<(), Refusal>
+        ensures ok { OnOk result (n ≤ self.new.room) }
+        ensures errors { RefusedForMemoryAlone result }
+        ensures items { self.new.items ≡ self.old.items }
+        ensures room { self.old.room ≤ self.new.room }
+    {
+        self.homes.reserve(n)?;
+        let members = self.homes.len() + n;
+        fill_spare(
+            &mut self.chunks,
+            &mut self.spare,
+            self.alloc,
+            members / HALF,
+        )
+    }
+
+    /// The sum of all weights.
+    pub fn total(&self) -> u64
+        ensures total { result ≡ weight_of self.now.items }
+        ensures tags { AreTags self.now.items }
+    {
+        self.total
+    }
+
+    /// Puts a member directly behind that of another tag, at the front for `None`. Its tag is the next one; the
+    /// sum of all weights stays below 2^64.
+    pub fn insert_after(&mut self, after: Option<u64>, tag: u64, weight: u64)
+        requires after { IfSome after (HasTag self.old.items) }
+        requires tag { tag ≡ length self.old.items }
+        requires room { 0 < self.old.room }
+        requires total { weight_of self.old.items + weight < 2 ^ 64 }
+        ensures inserted { IsPushed self.old.items after tag weight self.new.items }
+        ensures room { self.old.room ≤ self.new.room + 1 }
+    {
+        let place = place_behind(&mut self.chunks, &mut self.spare, &mut self.homes, after);
+        let chunk = &mut self.chunks[place];
+        chunk.insert_after(after, tag, weight);
+        self.homes.push_reserved(chunk.home());
+        self.total += weight;
+    }
+
+    /// Gives a member another weight. The sum of all weights stays below 2^64.
+    pub fn set_weight(&mut self, tag: u64, weight: u64)
+        requires here { HasTag self.old.items tag }
+        requires total { weight_of (with_value tag weight self.old.items) < 2 ^ 64 }
+        ensures items { self.new.items ≡ with_value tag weight self.old.items }
+        ensures room { self.new.room ≡ self.old.room }
+    {
+        let place = chunk_of(&self.chunks, &self.homes, tag);
+        let chunk = &mut self.chunks[place];
+        let others = self.total - chunk.sum();
+        chunk.set_weight(tag, weight);
+        self.total = others + chunk.sum();
+    }
+
+    /// How much weight stands ahead of a member.
+    pub fn rank(&self, tag: u64) -> u64
+        requires here { HasTag self.now.items tag }
+        ensures rank { IsRank self.now.items tag result }
+    {
+        let place = chunk_of(&self.chunks, &self.homes, tag);
+        weight_in(&self.chunks[..place]) + self.chunks[place].rank(tag)
+    }
+
+    /// The member whose stretch of the sum of all weights holds this position, and how far behind the
+    /// stretch's start it lies.
+    pub fn find(&self, pos: u64) -> (u64, u64)
+        requires within { pos < weight_of self.now.items }
+        ensures found { IsFound self.now.items pos result.0 result.1 }
+    {
+        found_in(&self.chunks, pos)
+    }
+}

@@ -1,0 +1,11 @@
+//! A list of numbered members, each with a weight, that finds a member by a position in the sum of the weights
+//! and tells how much stands ahead of one.
+#![tactic(auto)]
+
+mod chunk;
+mod index;
+
+pub use index::RankIndex;
+
+#[cfg(test)]
+mod tests;
