@@ -14,12 +14,12 @@ use Rattle.rank_index.proofs.Tagged.{Members, HasTag-append, HasTag-cons, HasTag
 use Rattle.rank_index.proofs.Tagged.{HasTag-first}
 
 module _ {X : Type 0} where
-  get-set_same : (xs : List X) (k : ℕ) (x : X) → k < length xs → slice_get (set xs k x) k ≡ Some x
+  pub get-set_same : (xs : List X) (k : ℕ) (x : X) → k < length xs → slice_get (set xs k x) k ≡ Some x
   get-set_same [] k x lt = absurd (omega arith)
   get-set_same (y ∷ xs) zero x lt = refl
   get-set_same (y ∷ xs) (suc k) x lt = get-set_same xs k x (omega arith)
 
-  get-set_other : (xs : List X) (k j : ℕ) (x : X) → j ≢ k → slice_get (set xs k x) j ≡ slice_get xs j
+  pub get-set_other : (xs : List X) (k j : ℕ) (x : X) → j ≢ k → slice_get (set xs k x) j ≡ slice_get xs j
   get-set_other [] k j x ne = refl
   get-set_other (y ∷ xs) zero zero x ne = absurd (ne refl)
   get-set_other (y ∷ xs) zero (suc j) x ne = refl

@@ -6,6 +6,7 @@ pub mod Homes
 pub mod Inserted
 pub mod Light
 pub mod Pieces
+pub mod Placed
 pub mod Reweighed
 pub mod Stretches
 pub mod Tagged

@@ -22,6 +22,21 @@ AreEntered homes home members = (tag : ℕ) → HasTag members tag → slice_get
 abbrev pub AreHomes : List ℕ → List Stretch → Type 0
 AreHomes homes chunks = All (λ c. AreEntered homes c.home c.members) chunks
 
+-- the table tells the places of the first chunks, so many of them, by their homes
+abbrev pub AreToldTo : List ℕ → List Stretch → ℕ → Type 0
+AreToldTo places chunks most = (place : ℕ) (c : Stretch) → place < most → slice_get chunks place ≡ Some c
+    → slice_get places c.home ≡ Some place
+
+-- no two chunks have one home
+abbrev pub HomesDiffer : List Stretch → Type 0
+HomesDiffer chunks = (j k : ℕ) (c d : Stretch) → slice_get chunks j ≡ Some c → slice_get chunks k ≡ Some d
+    → c.home ≡ d.home → j ≡ k
+
+-- the table tells the place of each chunk, by its home, and of none beside them
+pub record ArePlaced (places : List ℕ) (chunks : List Stretch) : Type 0 where
+  pub told : AreToldTo places chunks (length chunks)
+  pub counted : length places ≡ length chunks
+
 -- no chunk is half empty, but for the only one
 abbrev pub AreHalfFull : List Stretch → Type 0
 AreHalfFull chunks = (length chunks ≡ 1) ⊎ All (λ c. HALF ≤ length c.members) chunks

@@ -39,29 +39,31 @@ impl Model for Chunk {
         × (vec_len c.members ≤ MOST) × (MOST ≤ vec_capacity c.members) };
 }
 
-// At which place a member of this tag stands, if one is here.
+// At which place a member of this tag stands, if one is here. It looks from the back, where one who types on puts members.
 fn place_in(members: &[(u64, u64)], tag: u64) -> Option<usize>
     ensures place { IfSome result (IsPlace members.now tag) }
     ensures here { IsSome result ↔ HasTag members.now tag }
 {
-    for (place, member) in members.iter().enumerate() {
-        if member.0 == tag {
-            return Some(place);
+    let mut left = members.len();
+    while 0 < left {
+        left -= 1;
+        if members[left].0 == tag {
+            return Some(left);
         }
     }
     None
 }
 
 impl Chunk {
-    // No members, and memory for all that come.
-    pub fn new(alloc: Global, home: usize) -> Result<Chunk, Refusal>
-        ensures ok { IfOk result (λ c. c ≡ record { members = []; home = home }) }
+    // No members, and memory for all that come. Its home is 0 until it is given another one.
+    pub fn new(alloc: Global) -> Result<Chunk, Refusal>
+        ensures ok { IfOk result (λ c. c ≡ record { members = []; home = 0 }) }
         ensures errors { RefusedForMemoryAlone result }
     {
         Ok(Chunk {
             members: Vec::with_capacity(alloc, MOST)?,
             sum: 0,
-            home,
+            home: 0,
         })
     }
 
@@ -70,6 +72,14 @@ impl Chunk {
         ensures { result ≡ self.now.home }
     {
         self.home
+    }
+
+    // Gives it another home.
+    pub fn move_to(&mut self, home: usize)
+        ensures members { self.new.members ≡ self.old.members }
+        ensures home { self.new.home ≡ home }
+    {
+        self.home = home;
     }
 
     pub fn sum(&self) -> u64

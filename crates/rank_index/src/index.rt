@@ -1,9 +1,9 @@
-ghost use Rattle.std.specs.Prelude.{◌≡◌, ℕ, ◌+◌, ◌*◌, ◌<◌, ◌≤◌, ◌^◌, [], length, IfOk, IfSome, OnOk, slice_get};
+ghost use Rattle.std.specs.Prelude.{◌≡◌, ℕ, ◌+◌, ◌*◌, ◌<◌, ◌≤◌, ◌^◌, [], length, IfOk, IfSome, OnOk, slice_get, All};
 ghost use Rattle.std.specs.Prelude.{vec_len, vec_capacity};
 ghost use Rattle.looks.specs.Refusal.{RefusedForMemoryAlone};
 ghost use Rattle.piece_raw.specs.Ring.{HasTag, IsPushed, AreTags, with_value};
 ghost use Rattle.rank_index.specs.Chunks.{Stretch, members_of, AreEntered, AreHomes, AreTied, AreEmpty};
-ghost use Rattle.rank_index.specs.Chunks.{IsPlaceOf, IsPlaceBehind, HasRoom, IsHalved};
+ghost use Rattle.rank_index.specs.Chunks.{AreToldTo, ArePlaced, HomesDiffer, IsPlaceOf, IsPlaceBehind, HasRoom, IsHalved};
 ghost use Rattle.rank_index.specs.Ranked.{weight_of, IsRank, IsFound};
 
 use crate::chunk::{Chunk, HALF, MOST};
@@ -19,8 +19,10 @@ use std::marker::Model;
 pub struct RankIndex {
     // In order; at least one.
     chunks: Vec<Chunk>,
-    // By tag, the number of the member's chunk.
+    // By tag, the home of the member's chunk.
     homes: Vec<usize>,
+    // By home, the place of the chunk in the list of all.
+    places: Vec<usize>,
     // Chunks without members.
     spare: Vec<Chunk>,
     total: u64,
@@ -29,7 +31,7 @@ pub struct RankIndex {
 
 impl Model for RankIndex {
     ghost use Rattle.std.specs.Prelude.{◌≡◌, ◌+◌, ◌-◌, ◌<◌, ◌≤◌, ◌^◌, vec_len, vec_capacity};
-    ghost use Rattle.rank_index.specs.Chunks.{members_of, AreTied, AreEmpty, room_of};
+    ghost use Rattle.rank_index.specs.Chunks.{members_of, ArePlaced, AreTied, AreEmpty, room_of};
     ghost use Rattle.rank_index.specs.Ranked.{Ranked, ranked, weight_of};
 
     ghost Value = { Ranked };
@@ -41,22 +43,21 @@ impl Model for RankIndex {
         × AreEmpty r.spare.items
         × (vec_len r.chunks + vec_len r.spare ≤ vec_capacity r.chunks)
         × (r.total ≡ weight_of (members_of r.chunks.items))
-        × (weight_of (members_of r.chunks.items) < 2 ^ 64) };
+        × (weight_of (members_of r.chunks.items) < 2 ^ 64)
+        × ArePlaced r.places.items r.chunks.items
+        × (vec_len r.chunks + vec_len r.spare ≤ vec_capacity r.places) };
 }
 
-// The place of the chunk that has the member of this tag.
-fn chunk_of(chunks: &[Chunk], homes: &[usize], tag: u64) -> usize
+// The place of the chunk that has the member of this tag, as the tables tell it: the chunks aren't read.
+fn chunk_of(chunks: &[Chunk], places: &[usize], homes: &[usize], tag: u64) -> usize
     requires here { HasTag (members_of chunks.now) tag }
     requires homes { AreHomes homes.now chunks.now }
+    requires placed { ArePlaced places.now chunks.now }
     ensures { IsPlaceOf chunks.now result tag }
 {
+    let _ = chunks;
     let home = homes[tag as usize];
-    for (place, chunk) in chunks.iter().enumerate() {
-        if chunk.home() == home && chunk.has(tag) {
-            return place;
-        }
-    }
-    unreachable!()
+    places[home]
 }
 
 // The sum of the weights in these chunks.
@@ -100,27 +101,53 @@ fn enter(homes: &mut [usize], chunk: &Chunk)
     }
 }
 
+// Tells the places of the chunks from this one on anew, as those ahead of it are told.
+fn renumber(places: &mut [usize], chunks: &[Chunk], from: usize)
+    requires ahead { AreToldTo places.old chunks.now from }
+    requires homes { HomesDiffer chunks.now }
+    requires within { (place : ℕ) (c : Stretch) → slice_get chunks.now place ≡ Some c → c.home < length places.old }
+    ensures { AreToldTo places.new chunks.now (length chunks.now) }
+{
+    for place in from..chunks.len() {
+        places[chunks[place].home()] = place;
+    }
+}
+
 // Halves the full chunk at this place.
-fn halve(chunks: &mut Vec<Chunk>, spare: &mut Vec<Chunk>, homes: &mut [usize], place: usize)
+fn halve(
+    chunks: &mut Vec<Chunk>,
+    spare: &mut Vec<Chunk>,
+    places: &mut Vec<usize>,
+    homes: &mut [usize],
+    place: usize,
+)
     requires full { (c : Stretch) × (slice_get chunks.old.items place ≡ Some c) × (length c.members ≡ MOST) }
     requires spare { 0 < vec_len spare.old }
     requires empty { AreEmpty spare.old.items }
     requires tied { AreTied homes.old chunks.old.items }
-    requires places { vec_len chunks.old + vec_len spare.old ≤ vec_capacity chunks.old }
+    requires placed { ArePlaced places.old.items chunks.old.items }
+    requires room { vec_len chunks.old + vec_len spare.old ≤ vec_capacity chunks.old }
+    requires places_room { vec_len chunks.old + vec_len spare.old ≤ vec_capacity places.old }
     ensures halved { IsHalved place chunks.old.items chunks.new.items }
     ensures empty { AreEmpty spare.new.items }
     ensures tied { AreTied homes.new chunks.new.items }
+    ensures placed { ArePlaced places.new.items chunks.new.items }
     ensures count { vec_len chunks.new + vec_len spare.new ≡ vec_len chunks.old + vec_len spare.old }
-    ensures places { vec_capacity chunks.old ≤ vec_capacity chunks.new }
+    ensures room { vec_capacity chunks.old ≤ vec_capacity chunks.new }
+    ensures places_room { vec_capacity places.old ≤ vec_capacity places.new }
 {
     match spare.pop() {
         Some(mut rest) => {
+            let home = places.len();
+            rest.move_to(home);
             chunks[place].halve(&mut rest);
             enter(homes, &rest);
             match chunks.insert(place + 1, rest) {
                 Ok(()) => {}
                 Err(_) => unreachable!(),
             }
+            places.push_reserved(home);
+            renumber(places, chunks, place + 1);
         }
         None => unreachable!(),
     }
@@ -130,6 +157,7 @@ fn halve(chunks: &mut Vec<Chunk>, spare: &mut Vec<Chunk>, homes: &mut [usize], p
 fn place_behind(
     chunks: &mut Vec<Chunk>,
     spare: &mut Vec<Chunk>,
+    places: &mut Vec<usize>,
     homes: &mut [usize],
     after: Option<u64>,
 ) -> usize
@@ -137,23 +165,27 @@ fn place_behind(
     requires room { length (members_of chunks.old.items) < HALF * (vec_len chunks.old + vec_len spare.old + 1) }
     requires empty { AreEmpty spare.old.items }
     requires tied { AreTied homes.old chunks.old.items }
-    requires places { vec_len chunks.old + vec_len spare.old ≤ vec_capacity chunks.old }
+    requires placed { ArePlaced places.old.items chunks.old.items }
+    requires chunks_room { vec_len chunks.old + vec_len spare.old ≤ vec_capacity chunks.old }
+    requires places_room { vec_len chunks.old + vec_len spare.old ≤ vec_capacity places.old }
     ensures place { IsPlaceBehind chunks.new.items result after }
     ensures room { HasRoom chunks.new.items result }
     ensures members { members_of chunks.new.items ≡ members_of chunks.old.items }
     ensures empty { AreEmpty spare.new.items }
     ensures tied { AreTied homes.new chunks.new.items }
+    ensures placed { ArePlaced places.new.items chunks.new.items }
     ensures count { vec_len chunks.new + vec_len spare.new ≡ vec_len chunks.old + vec_len spare.old }
-    ensures places { vec_capacity chunks.old ≤ vec_capacity chunks.new }
+    ensures chunks_room { vec_capacity chunks.old ≤ vec_capacity chunks.new }
+    ensures places_room { vec_capacity places.old ≤ vec_capacity places.new }
 {
     let place = match after {
-        Some(tag) => chunk_of(chunks, homes, tag),
+        Some(tag) => chunk_of(chunks, places, homes, tag),
         None => 0,
     };
     if chunks[place].members().len() < MOST {
         return place;
     }
-    halve(chunks, spare, homes, place);
+    halve(chunks, spare, places, homes, place);
     match after {
         Some(tag) if !chunks[place].has(tag) => place + 1,
         _ => place,
@@ -164,22 +196,27 @@ fn place_behind(
 fn fill_spare(
     chunks: &mut Vec<Chunk>,
     spare: &mut Vec<Chunk>,
+    places: &mut Vec<usize>,
     alloc: Global,
     wanted: usize,
 ) -> Result<(), Refusal>
     requires empty { AreEmpty spare.old.items }
-    requires places { vec_len chunks.old + vec_len spare.old ≤ vec_capacity chunks.old }
+    requires counted { vec_len places.old ≡ vec_len chunks.old }
+    requires room { vec_len chunks.old + vec_len spare.old ≤ vec_capacity chunks.old }
+    requires places_room { vec_len chunks.old + vec_len spare.old ≤ vec_capacity places.old }
     ensures ok { OnOk result (wanted ≤ vec_len chunks.new + vec_len spare.new) }
     ensures errors { RefusedForMemoryAlone result }
     ensures chunks { chunks.new.items ≡ chunks.old.items }
     ensures spare { vec_len spare.old ≤ vec_len spare.new }
     ensures empty { AreEmpty spare.new.items }
-    ensures places { vec_len chunks.new + vec_len spare.new ≤ vec_capacity chunks.new }
+    ensures places { places.new.items ≡ places.old.items }
+    ensures room { vec_len chunks.new + vec_len spare.new ≤ vec_capacity chunks.new }
+    ensures places_room { vec_len chunks.new + vec_len spare.new ≤ vec_capacity places.new }
 {
     while chunks.len() + spare.len() < wanted {
         chunks.reserve(spare.len() + 1)?;
-        let number = chunks.len() + spare.len();
-        spare.push(Chunk::new(alloc, number)?)?;
+        places.reserve(spare.len() + 1)?;
+        spare.push(Chunk::new(alloc)?)?;
     }
     Ok(())
 }
@@ -191,10 +228,13 @@ impl RankIndex {
         ensures errors { RefusedForMemoryAlone result }
     {
         let mut chunks = Vec::new(alloc);
-        chunks.push(Chunk::new(alloc, 0)?)?;
+        chunks.push(Chunk::new(alloc)?)?;
+        let mut places = Vec::new(alloc);
+        places.push(0)?;
         Ok(RankIndex {
             chunks,
             homes: Vec::new(alloc),
+            places,
             spare: Vec::new(alloc),
             total: 0,
             alloc,
@@ -213,6 +253,7 @@ impl RankIndex {
         fill_spare(
             &mut self.chunks,
             &mut self.spare,
+            &mut self.places,
             self.alloc,
             members / HALF,
         )
@@ -236,7 +277,13 @@ impl RankIndex {
         ensures inserted { IsPushed self.old.items after tag weight self.new.items }
         ensures room { self.old.room ≤ self.new.room + 1 }
     {
-        let place = place_behind(&mut self.chunks, &mut self.spare, &mut self.homes, after);
+        let place = place_behind(
+            &mut self.chunks,
+            &mut self.spare,
+            &mut self.places,
+            &mut self.homes,
+            after,
+        );
         let chunk = &mut self.chunks[place];
         chunk.insert_after(after, tag, weight);
         self.homes.push_reserved(chunk.home());
@@ -250,7 +297,7 @@ impl RankIndex {
         ensures items { self.new.items ≡ with_value tag weight self.old.items }
         ensures room { self.new.room ≡ self.old.room }
     {
-        let place = chunk_of(&self.chunks, &self.homes, tag);
+        let place = chunk_of(&self.chunks, &self.places, &self.homes, tag);
         let chunk = &mut self.chunks[place];
         let others = self.total - chunk.sum();
         chunk.set_weight(tag, weight);
@@ -262,7 +309,7 @@ impl RankIndex {
         requires here { HasTag self.now.items tag }
         ensures rank { IsRank self.now.items tag result }
     {
-        let place = chunk_of(&self.chunks, &self.homes, tag);
+        let place = chunk_of(&self.chunks, &self.places, &self.homes, tag);
         weight_in(&self.chunks[..place]) + self.chunks[place].rank(tag)
     }
 

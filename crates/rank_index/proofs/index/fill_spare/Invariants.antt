@@ -5,7 +5,10 @@ use Rattle.rank_index.proofs.index.fill_spare.Given as goal
 abbrev pub invariant-loop-alloc : goal.invariant-loop-alloc
 invariant-loop-alloc l = record {
   empty : AreEmpty l.spare.items;
-  places : vec_len l.chunks + vec_len l.spare ≤ vec_capacity l.chunks;
+  room : vec_len l.chunks + vec_len l.spare ≤ vec_capacity l.chunks;
+  counted : vec_len l.places ≡ vec_len l.chunks;
+  places_room : vec_len l.chunks + vec_len l.spare ≤ vec_capacity l.places;
+  places : l.places.items ≡ l.initial.places.items;
   same : l.chunks.items ≡ l.initial.chunks.items;
   spare : vec_len l.initial.spare ≤ vec_len l.spare;
 }

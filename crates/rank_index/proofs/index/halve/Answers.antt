@@ -1,9 +1,10 @@
-use Rattle.std.proofs.Common.{◌≡◌, [], List, Some, length, slice_get, refl, sym, subst, arith}
+use Rattle.std.proofs.Common.{◌≡◌, ℕ, [], List, Some, length, slice_get, refl, sym, subst, arith}
 use Rattle.std.proofs.lemmas.List.Elements.{All-pop}
 use Rattle.std.proofs.lemmas.Option.{slice_get_read, slice_get_within}
 use Rattle.rank_index.specs.Chunks.{Stretch, AreTied, IsHalved}
 use Rattle.rank_index.proofs.Halved.{halved_here, tied_here}
 use Rattle.rank_index.proofs.Homes.{part_within}
+use Rattle.rank_index.proofs.Placed.{told_behind, within_behind, differ_behind}
 use Rattle.rank_index.proofs.index.halve.Goals as goal
 
 pub enter-requires : goal.enter-requires
@@ -28,6 +29,41 @@ insert-requires c =
     let chunks = c.args.chunks.now in
     let (full, at, most) = c.requires.full in
     omega (arith, slice_get_within chunks.items c.args.place full at, chunks.ok.0)
+
+pub renumber-requires-clause-ahead : goal.renumber-requires-clause-ahead
+renumber-requires-clause-ahead c =
+    let chunks : List Stretch = c.args.chunks.now.items in
+    let places : List ℕ = c.args.places.now.items in
+    let (full, at, most) = c.requires.full in
+    let fresh : c.halve.new.rest.home ≡ length places =
+    omega (arith, c.halve.ensures.homes.1, c.move_to.ensures.home, c.len-home.ensures, c.args.places.now.ok.0) in
+    rw (c.deref_mut.ensures.value, c.push_reserved.ensures.items, c.deref.ensures.value, c.in-Ok.ensures.items)
+    (told_behind places chunks c.requires.placed c.args.place c.index_mut.result.now c.halve.new.self
+    c.halve.new.rest (slice_get_within chunks c.args.place full at) c.index_mut.ensures.value
+    c.halve.ensures.homes.0 fresh c.len-home.result)
+
+pub renumber-requires-clause-homes : goal.renumber-requires-clause-homes
+renumber-requires-clause-homes c =
+    let chunks : List Stretch = c.args.chunks.now.items in
+    let places : List ℕ = c.args.places.now.items in
+    let (full, at, most) = c.requires.full in
+    let fresh : c.halve.new.rest.home ≡ length places =
+    omega (arith, c.halve.ensures.homes.1, c.move_to.ensures.home, c.len-home.ensures, c.args.places.now.ok.0) in
+    rw (c.deref.ensures.value, c.in-Ok.ensures.items) (differ_behind places chunks c.requires.placed c.args.place c.index_mut.result.now c.halve.new.self
+    c.halve.new.rest (slice_get_within chunks c.args.place full at) c.index_mut.ensures.value
+    c.halve.ensures.homes.0 fresh)
+
+pub renumber-requires-clause-within : goal.renumber-requires-clause-within
+renumber-requires-clause-within c =
+    let chunks : List Stretch = c.args.chunks.now.items in
+    let places : List ℕ = c.args.places.now.items in
+    let (full, at, most) = c.requires.full in
+    let fresh : c.halve.new.rest.home ≡ length places =
+    omega (arith, c.halve.ensures.homes.1, c.move_to.ensures.home, c.len-home.ensures, c.args.places.now.ok.0) in
+    rw (c.deref_mut.ensures.value, c.push_reserved.ensures.items, c.deref.ensures.value, c.in-Ok.ensures.items)
+    (within_behind places chunks c.requires.placed c.args.place c.index_mut.result.now c.halve.new.self
+    c.halve.new.rest (slice_get_within chunks c.args.place full at) c.index_mut.ensures.value
+    c.halve.ensures.homes.0 fresh c.len-home.result)
 
 pub returns-clause-halved : goal.returns-clause-halved
 returns-clause-halved c =

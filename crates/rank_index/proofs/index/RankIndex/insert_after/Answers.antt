@@ -6,6 +6,7 @@ use Rattle.piece_raw.specs.Ring.{IsPushed}
 use Rattle.rank_index.specs.Chunks.{Stretch, members_of, AreTied}
 use Rattle.rank_index.specs.Ranked.{Ranked, weight_of}
 use Rattle.rank_index.proofs.Inserted.{pushed_here, tied_pushed_here, weight_pushed}
+use Rattle.rank_index.proofs.Placed.{placed_set}
 use Rattle.rank_index.proofs.Tagged.{Members}
 use Rattle.rank_index.proofs.Weights.{weight_within}
 use Rattle.rank_index.proofs.index.RankIndex.insert_after.Goals as goal
@@ -53,9 +54,17 @@ invariant_of-self c =
           c.args.weight c.place_behind-place.ensures.place c.insert_after.ensures.inserted homes
           c.insert_after.ensures.home (c.requires.tag ∙ sym (ap length same)) c.place_behind-place.ensures.tied),
       c.place_behind-place.ensures.empty,
-      omega (arith, c.place_behind-place.ensures.count, c.place_behind-place.ensures.places, c.self.invariant.2),
+      omega (arith, c.place_behind-place.ensures.count, c.place_behind-place.ensures.chunks_room, c.self.invariant.2),
       omega (arith, weight, ap weight_of c.place_behind-place.ensures.members, c.self.invariant.3),
       omega (arith, weight, ap weight_of same, c.requires.total),
+      placed_set c.place_behind-place.new.places.items chunks place c.index_mut-chunk.result.now chunk lt
+          c.index_mut-chunk.ensures.value c.insert_after.ensures.home c.place_behind-place.ensures.placed,
+      omega (
+        arith,
+        c.place_behind-place.ensures.count,
+        c.place_behind-place.ensures.places_room,
+        c.self.invariant.6,
+      ),
     )
 
 pub returns-clause-inserted : goal.returns-clause-inserted

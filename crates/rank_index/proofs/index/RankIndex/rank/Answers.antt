@@ -10,8 +10,8 @@ pub weight_in-requires : goal.weight_in-requires
 weight_in-requires c =
     omega (
       arith,
-      weight_ahead c.deref-3.result.now c.chunk_of-place.result,
-      ap (λ (l : List Stretch). weight_of (members_of l)) c.deref-3.ensures.value,
+      weight_ahead c.deref-4.result.now c.chunk_of-place.result,
+      ap (λ (l : List Stretch). weight_of (members_of l)) c.deref-4.ensures.value,
       c.self.invariant.4,
     )
 
@@ -39,7 +39,7 @@ overflow_add-result c =
     omega (
       arith,
       c.weight_in.ensures,
-      ap (λ (l : List Stretch). weight_of (members_of (take place l))) c.deref-3.ensures.value,
+      ap (λ (l : List Stretch). weight_of (members_of (take place l))) c.deref-4.ensures.value,
       rank_within c.index.result.now.members c.args.tag c.rank.result c.rank.ensures,
       weight_within
           chunks place c.index.result.now (is_within chunks place c.args.tag is_place) c.index.ensures,
@@ -54,7 +54,7 @@ returns c =
     subst (λ (l : List Stretch). IsPlaceOf l place c.args.tag) c.deref.ensures.value c.chunk_of-place.ensures in
     let ahead : c.weight_in.result ≡ weight_of (members_of (take place chunks)) =
     c.weight_in.ensures
-    ∙ ap (λ (l : List Stretch). weight_of (members_of (take place l))) c.deref-3.ensures.value in
+    ∙ ap (λ (l : List Stretch). weight_of (members_of (take place l))) c.deref-4.ensures.value in
     let in_chunks : IsRank (members_of chunks) c.args.tag
     (weight_of (members_of (take place chunks)) + c.rank.result) =
     rank_here chunks place c.index.result.now (is_within chunks place c.args.tag is_place) c.index.ensures

@@ -3,6 +3,7 @@ use Rattle.piece_raw.specs.Ring.{with_value}
 use Rattle.rank_index.specs.Chunks.{Stretch, members_of, IsPlaceOf}
 use Rattle.rank_index.specs.Ranked.{Ranked, weight_of}
 use Rattle.rank_index.proofs.Reweighed.{apart_read, reweighed_here, tied_reweighed_here, weighs_here}
+use Rattle.rank_index.proofs.Placed.{placed_set}
 use Rattle.rank_index.proofs.Stretches.{is_within, has_here}
 use Rattle.rank_index.proofs.Tagged.{Members}
 use Rattle.rank_index.proofs.Weights.{weight_within}
@@ -111,6 +112,8 @@ invariant_of-self c =
       c.self.invariant.2,
       omega (arith, was, is, whole, c.sum.ensures, c.sum-2.ensures, c.self.invariant.3),
       omega (arith, whole, ap (λ (l : Members). weight_of (with_value c.args.tag c.args.weight l)) same, c.requires.total),
+      placed_set c.self.inside.places.items chunks place old new lt read c.set_weight.ensures.home c.self.invariant.5,
+      c.self.invariant.6,
     )
 
 pub returns-clause-items : goal.returns-clause-items

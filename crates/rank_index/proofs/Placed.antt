@@ -1,0 +1,209 @@
+-- The table of the chunks' places.
+use Rattle.std.proofs.Common.{◌≡◌, ℕ, zero, suc, ◌+◌, ◌<◌, ◌≤◌, List, [], ◌∷◌, ◌++◌, length, get_or, take, drop}
+use Rattle.std.proofs.Common.{Some, ◌⊎◌, inl, inr, refl, sym, ap, subst, ◌∙◌, arith, slice_get}
+use Rattle.std.proofs.Common.{length-append, length-set}
+use Rattle.std.specs.List.{insert}
+use Rattle.std.proofs.Math.ListN.{set}
+use Rattle.std.proofs.lemmas.Bool.Decides.{eqb_tells}
+use Rattle.std.proofs.lemmas.List.{take-append-drop, length-take-le}
+use Rattle.std.proofs.lemmas.Option.{same_Some, slice_get_within, slice_get_read, get_or_from_slice_get}
+use Rattle.piece_raw.specs.Ring.{HasTag}
+use Rattle.rank_index.specs.Chunks.{Stretch, members_of, AreHomes, ArePlaced, AreToldTo, HomesDiffer, IsPlaceOf}
+use Rattle.rank_index.proofs.Homes.{get-set_same, get-set_other, home_at}
+use Rattle.rank_index.proofs.Pieces.{get-left}
+use Rattle.rank_index.proofs.Stretches.{chunk_with}
+
+-- an element of a list with one more is that one, or stands where it stood or one place behind
+module _ {X : Type 0} (x d : X) (ys : List X) where
+  pub around_seam : (xs : List X) (k : ℕ) → slice_get (xs ++ x ∷ ys) k ≡ Some d
+      → ((k < length xs) × (slice_get (xs ++ ys) k ≡ Some d))
+      ⊎ (((k ≡ length xs) × (d ≡ x)) ⊎ ((j : ℕ) × (k ≡ suc j) × (length xs ≤ j) × (slice_get (xs ++ ys) j ≡ Some d)))
+  around_seam [] zero e = inr (inl (refl, sym (same_Some x d e)))
+  around_seam [] (suc k) e = inr (inr (k, refl, omega arith, e))
+  around_seam (z ∷ xs) zero e = inl (omega arith, e)
+  around_seam (z ∷ xs) (suc k) e = elim (around_seam xs k e) [
+    | inl w ↦ inl (omega (arith, w.0), w.1)
+    | inr more ↦ elim more [
+      | inl w ↦ inr (inl (omega (arith, w.0), w.1))
+      | inr w ↦ inr (inr (suc w.0, ap suc w.1, omega (arith, w.2), w.3))
+    ]
+  ]
+
+-- the tables tell the chunk of a member
+module _ (chunks : List Stretch) (places homes : List ℕ) (tag : ℕ) (are : AreHomes homes chunks)
+    (placed : ArePlaced places chunks) (here : HasTag (members_of chunks) tag)
+  where
+    told_home : (d : ℕ) → (c : Stretch) × (slice_get homes tag ≡ Some c.home) × (get_or homes tag d ≡ c.home)
+        × (place : ℕ) × (slice_get places c.home ≡ Some place) × (slice_get chunks place ≡ Some c) × HasTag c.members tag
+    told_home d =
+        let (place, (c, at, has)) = chunk_with chunks tag here in
+        let home : slice_get homes tag ≡ Some c.home = home_at homes chunks place c tag are at has in (
+          c,
+          home,
+          get_or_from_slice_get homes tag c.home d home,
+          place,
+          placed.told place c (slice_get_within chunks place c at) at,
+          at,
+          has,
+        )
+
+    pub home_within : (d : ℕ) → get_or homes tag d < length places
+    home_within d =
+        let (c, home, is, place, at, there, has) = told_home d in
+        subst (λ (n : ℕ). n < length places) (sym is) (slice_get_within places c.home place at)
+
+    pub place_told : (d e : ℕ) → IsPlaceOf chunks (get_or places (get_or homes tag d) e) tag
+    place_told d e =
+        let (c, home, is, place, at, there, has) = told_home d in
+        let told : get_or places (get_or homes tag d) e ≡ place =
+        ap (λ (n : ℕ). get_or places n e) is ∙ get_or_from_slice_get places c.home place e at in
+        (c, ap (slice_get chunks) told ∙ there, has)
+
+-- a chunk changed at its place, under the same home
+pub placed_set : (places : List ℕ) (chunks : List Stretch) (at : ℕ) (c d : Stretch) → at < length chunks
+    → c ≡ get_or chunks at c → d.home ≡ c.home → ArePlaced places chunks → ArePlaced places (set chunks at d)
+placed_set places chunks at c d lt is same placed =
+    let long : length (set chunks at d) ≡ length chunks = length-set chunks at d in
+    let was : slice_get places c.home ≡ Some at =
+    placed.told at c lt (slice_get_read chunks (length chunks) at c refl lt is) in
+    record {
+      told = λ k e below there. elim (eqb_tells k at) [
+        | inl here ↦
+            let there' : slice_get (set chunks at d) at ≡ Some e =
+            subst (λ (n : ℕ). slice_get (set chunks at d) n ≡ Some e) here.1 there in
+            let is_d : d ≡ e = same_Some d e (sym (get-set_same chunks at d lt) ∙ there') in
+            ap (slice_get places) (ap (λ (s : Stretch). s.home) (sym is_d) ∙ same) ∙ was ∙ ap Some (sym here.1)
+        | inr other ↦
+            placed.told k e (omega (arith, below, long)) (sym (get-set_other chunks at k d other.1) ∙ there)
+      ];
+      counted = placed.counted ∙ sym long;
+    }
+
+-- a chunk more, under the next home
+module _ (places : List ℕ) (chunks : List Stretch) (placed : ArePlaced places chunks) (at : ℕ)
+    (le : at ≤ length chunks) (rest : Stretch) (fresh : rest.home ≡ length places)
+  where
+    abbrev made : List Stretch
+    made = insert chunks at rest
+
+    -- where the table has the chunk at a place: there, nowhere, or one place ahead
+    abbrev WasAt : ℕ → Stretch → Type 0
+    WasAt k d = ((k < at) × (slice_get places d.home ≡ Some k))
+        ⊎ (((k ≡ at) × (d.home ≡ length places))
+        ⊎ ((j : ℕ) × (k ≡ suc j) × (at ≤ j) × (slice_get places d.home ≡ Some j)))
+
+    was_at : (k : ℕ) (d : Stretch) → slice_get made k ≡ Some d → WasAt k d
+    was_at k d there =
+        let long : length (take at chunks) ≡ at = length-take-le at chunks le in
+        let whole : (n : ℕ) → slice_get (take at chunks ++ drop at chunks) n ≡ Some d
+        → slice_get places d.home ≡ Some n = λ n e.
+        let is : slice_get chunks n ≡ Some d =
+        subst (λ (l : List Stretch). slice_get l n ≡ Some d) (take-append-drop at chunks) e in
+        placed.told n d (slice_get_within chunks n d is) is in
+        elim (around_seam rest d (drop at chunks) (take at chunks) k there) [
+          | inl w ↦ inl (omega (arith, w.0, long), whole k w.1)
+          | inr more ↦ elim more [
+            | inl w ↦ inr (inl (omega (arith, w.0, long), ap (λ (s : Stretch). s.home) w.1 ∙ fresh))
+            | inr w ↦ inr (inr (w.0, w.1, omega (arith, w.2, long), whole w.0 w.3))
+          ]
+        ]
+
+    pub told_ahead : (v : ℕ) → AreToldTo (places ++ v ∷ []) made at
+    told_ahead v k d below there = elim (was_at k d there) [
+      | inl w ↦ get-left places (v ∷ []) d.home k w.1
+      | inr more ↦ elim more [
+        | inl w ↦ absurd (omega (arith, w.0, below))
+        | inr w ↦ absurd (omega (arith, w.1, w.2, below))
+      ]
+    ]
+
+    pub homes_within : (v k : ℕ) (d : Stretch) → slice_get made k ≡ Some d → d.home < length (places ++ v ∷ [])
+    homes_within v k d there =
+        let long : length (places ++ v ∷ []) ≡ length places + 1 = length-append places (v ∷ []) in
+        elim (was_at k d there) [
+          | inl w ↦ omega (arith, long, slice_get_within places d.home k w.1)
+          | inr more ↦ elim more [
+            | inl w ↦ omega (arith, long, w.1)
+            | inr w ↦ omega (arith, long, slice_get_within places d.home w.0 w.3)
+          ]
+        ]
+
+    one_place : (c d : Stretch) (j k : ℕ) → c.home ≡ d.home → slice_get places c.home ≡ Some j
+        → slice_get places d.home ≡ Some k → j ≡ k
+    one_place c d j k same at_j at_k = same_Some j k (sym at_j ∙ ap (slice_get places) same ∙ at_k)
+
+    pub homes_differ : HomesDiffer made
+    homes_differ j k c d there_j there_k same = elim (was_at j c there_j) [
+      | inl v ↦ elim (was_at k d there_k) [
+        | inl w ↦ one_place c d j k same v.1 w.1
+        | inr more ↦ elim more [
+          | inl w ↦ absurd (omega (arith, w.1, same, slice_get_within places c.home j v.1))
+          | inr w ↦ absurd (omega (arith, one_place c d j w.0 same v.1 w.3, v.0, w.2))
+        ]
+      ]
+      | inr other ↦ elim other [
+        | inl v ↦ elim (was_at k d there_k) [
+          | inl w ↦ absurd (omega (arith, v.1, same, slice_get_within places d.home k w.1))
+          | inr more ↦ elim more [
+            | inl w ↦ omega (arith, v.0, w.0)
+            | inr w ↦ absurd (omega (arith, v.1, same, slice_get_within places d.home w.0 w.3))
+          ]
+        ]
+        | inr v ↦ elim (was_at k d there_k) [
+          | inl w ↦ absurd (omega (arith, one_place c d v.0 k same v.3 w.1, v.2, w.0))
+          | inr more ↦ elim more [
+            | inl w ↦ absurd (omega (arith, w.1, same, slice_get_within places c.home v.0 v.3))
+            | inr w ↦ omega (arith, one_place c d v.0 w.0 same v.3 w.3, v.1, w.1)
+          ]
+        ]
+      ]
+    ]
+
+    pub count_made : length made ≡ length chunks + 1
+    count_made = omega (
+      arith,
+      length-append (take at chunks) (rest ∷ drop at chunks),
+      length-append (take at chunks) (drop at chunks),
+      ap length (take-append-drop at chunks),
+    )
+
+-- a chunk that is changed under its home, and a new one directly behind it, under the next home
+module _ (places : List ℕ) (chunks : List Stretch) (placed : ArePlaced places chunks) (at : ℕ) (c d rest : Stretch)
+    (lt : at < length chunks) (is : c ≡ get_or chunks at c) (same : d.home ≡ c.home)
+    (fresh : rest.home ≡ length places)
+  where
+    abbrev changed : List Stretch
+    changed = set chunks at d
+
+    le : at + 1 ≤ length changed
+    le = omega (arith, lt, length-set chunks at d)
+
+    pub told_behind : (v : ℕ) → AreToldTo (places ++ v ∷ []) (insert changed (at + 1) rest) (at + 1)
+    told_behind = told_ahead places changed (placed_set places chunks at c d lt is same placed) (at + 1) le rest fresh
+
+    pub within_behind : (v k : ℕ) (e : Stretch) → slice_get (insert changed (at + 1) rest) k ≡ Some e
+        → e.home < length (places ++ v ∷ [])
+    within_behind =
+        homes_within places changed (placed_set places chunks at c d lt is same placed) (at + 1) le rest fresh
+
+    pub differ_behind : HomesDiffer (insert changed (at + 1) rest)
+    differ_behind =
+        homes_differ places changed (placed_set places chunks at c d lt is same placed) (at + 1) le rest fresh
+
+    pub count_behind : length (insert changed (at + 1) rest) ≡ length places + 1
+    count_behind = omega (
+      arith,
+      count_made places changed (placed_set places chunks at c d lt is same placed) (at + 1) le rest fresh,
+      length-set chunks at d,
+      placed.counted,
+    )
+
+-- one chunk alone
+pub placed_alone : (c : Stretch) → c.home ≡ 0 → ArePlaced (0 ∷ []) (c ∷ [])
+placed_alone c first = record {
+  told = λ k d below there.
+      let front : k ≡ 0 = omega (arith, below) in
+      let is : c ≡ d = same_Some c d (subst (λ (n : ℕ). slice_get (c ∷ []) n ≡ Some d) front there) in
+      ap (slice_get (0 ∷ [])) (ap (λ (s : Stretch). s.home) (sym is) ∙ first) ∙ ap Some (sym front);
+  counted = refl;
+}
