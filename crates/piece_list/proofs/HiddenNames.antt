@@ -18,7 +18,7 @@ use Rattle.piece_list.specs.Tables.{Tables}
 use Rattle.piece_list.proofs.CharOf.{char_of_place}
 use Rattle.piece_list.proofs.ChangedNames.{range}
 use Rattle.piece_list.proofs.Found.{one_value, member_at}
-use Rattle.piece_list.proofs.Walked.{Items}
+use Rattle.piece_list.proofs.Positions.{Items}
 
 -- a piece that holds a name, from the name's place on
 module _ (items : Items) (tables : Tables) (are : AreTags items) (entered : AreEntered items tables)

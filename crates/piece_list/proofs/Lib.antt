@@ -3,7 +3,6 @@ pub mod ChangedNames
 pub mod ChangedPiece
 pub mod Changes
 pub mod CharOf
-pub mod Counts
 pub mod Cut
 pub mod CutList
 pub mod Cutting
@@ -17,9 +16,12 @@ pub mod Names
 pub mod Order
 pub mod Parts
 pub mod Placing
+pub mod Positions
+pub mod Ranks
 pub mod RunCuts
 pub mod Shown
 pub mod ShownAt
 pub mod ShownTo
 pub mod Tables
 pub mod Walked
+pub mod Weighed

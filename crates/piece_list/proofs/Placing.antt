@@ -401,12 +401,18 @@ pub stood : (r : Ring Piece) (items new : Items) (last : Option ℕ) (room u : �
 stood r items new last room u v e put = subst (λ (s : Ring Piece). IsPushed s.items s.cursor u v new) e put
 
 -- the piece stands behind the number, whichever way the pieces are parted there
+pub pushed_there : (old new : Items) → AreTags old → (last : Option ℕ) (u : ℕ) (v : Piece)
+    → IsPushed old last u v new → (ahead behind : Items) → IsParted old last ahead behind
+    → new ≡ ahead ++ (u, v) ∷ behind
+pushed_there old new are last u v (xs, ys, is, at, new_is) ahead behind parted =
+    let (front, back) = one_part old are last xs ys ahead behind (is, at) parted in
+    new_is ∙ ap (λ (l : Items). l ++ (u, v) ∷ ys) front ∙ ap (λ (l : Items). ahead ++ (u, v) ∷ l) back
+
 pub pushed_part : (old new : Items) → AreTags old → (last : Option ℕ) (u : ℕ) (v : Piece)
     → IsPushed old last u v new → (ahead behind : Items) → IsParted old last ahead behind
     → (tag : ℕ) × (new ≡ ahead ++ (tag, v) ∷ behind)
-pushed_part old new are last u v (xs, ys, is, at, new_is) ahead behind parted =
-    let (front, back) = one_part old are last xs ys ahead behind (is, at) parted in
-    (u, new_is ∙ ap (λ (l : Items). l ++ (u, v) ∷ ys) front ∙ ap (λ (l : Items). ahead ++ (u, v) ∷ l) back)
+pushed_part old new are last u v put ahead behind parted =
+    (u, pushed_there old new are last u v put ahead behind parted)
 
 -- the anchor
 

@@ -1,9 +1,9 @@
 -- Runs that are cut at both ends tell of a stretch of the characters.
 use Rattle.std.proofs.Common.{◌≡◌, ℕ, ◌+◌, ◌-◌, ◌<◌, ◌≤◌, min, inl, inr, List, [], ◌∷◌, ◌++◌, zero, suc, length, map}
-use Rattle.std.proofs.Common.{take, drop, All, refl, sym, ap, ◌∙◌, arith}
+use Rattle.std.proofs.Common.{take, drop, refl, sym, ap, ◌∙◌, arith}
 use Rattle.std.specs.List.{flat_map, range_with_len}
 use Rattle.std.proofs.Math.Nat.{min-eq_left, min-eq_right}
-use Rattle.std.proofs.Math.Seq.{drop-append-add, take-append-add, take-nil}
+use Rattle.std.proofs.Math.Seq.{take-append-add, take-nil}
 use Rattle.std.proofs.lemmas.Bool.{cases_lt}
 use Rattle.std.proofs.lemmas.List.{append-nil, drop-append-le, drop-map, length-map, take-append-le, take-map}
 use Rattle.std.proofs.lemmas.List.Elements.{All-cons, All-head, All-nil, All-tail}
@@ -142,14 +142,7 @@ first_within (suc n) (r ∷ runs) all =
     ])
     (first_within (suc n - r.len) runs (All-tail Is r runs all))
 
--- a whole run is left out
-pub skips_one : (n : ℕ) (r : Run) (runs : List Run) → r.len ≤ n → drop n (told (r ∷ runs)) ≡ drop (n - r.len) (told runs)
-skips_one n r runs le =
-    let own : List Appearance = appearances_in r in
-    let all : n ≡ length own + (n - r.len) = omega (arith, told_len r) in
-    ap (λ (k : ℕ). drop k (own ++ told runs)) all ∙ drop-append-add own (told runs) (n - r.len)
-
--- or a run's front
+-- a run's front is left out
 pub skips_front : (n : ℕ) (r : Run) (runs : List Run) → n < r.len
     → told (run_from n r ∷ runs) ≡ drop n (told (r ∷ runs))
 skips_front n r runs lt =
@@ -163,11 +156,3 @@ front_within n r runs lt all =
     let Is : Run → Type 0 = λ (run : Run). (0 < run.len) × (run.off + run.len ≤ MAX_FILE) in
     let here : Is r = All-head Is r runs all in
     All-cons Is (run_from n r) runs (omega arith, omega (arith, here.1)) (All-tail Is r runs all)
-
-pub rest_within : (r : Run) (runs : List Run) → AreWithin (r ∷ runs) → AreWithin runs
-rest_within r runs all = All-tail (λ (run : Run). (0 < run.len) × (run.off + run.len ≤ MAX_FILE)) r runs all
-
--- what both of two clauses say of runs
-pub both_within : (runs : List Run) → All (λ run. 0 < run.len) runs
-    → All (λ run. run.off + run.len ≤ MAX_FILE) runs → AreWithin runs
-both_within runs some within = λ i d lt. (some i d lt, within i d lt)

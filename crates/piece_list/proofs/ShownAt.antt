@@ -18,7 +18,7 @@ use Rattle.piece_list.specs.Spelled.{spelled, shown_chars}
 use Rattle.piece_list.specs.Tables.{Tables}
 use Rattle.piece_list.proofs.CharOf.{char_of_place}
 use Rattle.piece_list.proofs.Found.{one_value, member_at}
-use Rattle.piece_list.proofs.Walked.{Items, shown_in}
+use Rattle.piece_list.proofs.Positions.{Items, shown_in}
 
 -- what is shown at a position is one of the characters
 one_of_shown : (ks : List Kept) (pos : ℕ) (k : Kept) → slice_get (shown_chars ks) pos ≡ Some k → Contains ks k

@@ -1,5 +1,5 @@
--- What a contract sees of a list of pieces, and what its tables keep.
-use Rattle.std.specs.Prelude.{◌≡◌, ℕ, ◌+◌, ◌<◌, List, ◌∷◌, ◌++◌, Some, All}
+-- What a contract sees of a list of pieces, and what its tables and its index keep.
+use Rattle.std.specs.Prelude.{◌≡◌, ℕ, ◌+◌, ◌<◌, if◌then◌else◌, List, ◌∷◌, ◌++◌, map, Some, All}
 use Rattle.char_files.specs.CharName.{CharName}
 use Rattle.operations.specs.NameSet.{IsIn}
 use Rattle.piece_raw.specs.Ring.{IsMember, HasTag}
@@ -8,6 +8,10 @@ use Rattle.piece_list.specs.declared.place.Place.{Place}
 use Rattle.piece_list.specs.Pieces.{range_of, front_of, rest_of}
 use Rattle.piece_list.specs.Spelled.{ArePieces}
 use Rattle.piece_list.specs.Tables.{Tables, tag_at}
+
+-- how many characters a piece shows: none where they are hidden
+abbrev pub shown_weight : Piece → ℕ
+shown_weight p = if p.hidden.value then 0 else p.len
 
 -- the pieces in order, each under its number, and how many steps the last `locate` or `place` took
 pub record PiecesSeen : Type 0 where
@@ -24,6 +28,10 @@ pub record AreEntered (items : List (ℕ × Piece)) (tables : Tables) : Type 0 w
   pub pieces : ArePieces items
   pub entered : All (λ m. (c : CharName) → IsIn (range_of m.1) c → tag_at tables c ≡ Some m.0) items
   pub held : (c : CharName) (tag : ℕ) → tag_at tables c ≡ Some tag → HasTag items tag
+
+-- the pieces' numbers, each with how many characters the piece shows
+abbrev pub weighed : List (ℕ × Piece) → List (ℕ × ℕ)
+weighed items = map (λ m. (m.0, shown_weight m.1)) items
 
 -- there is a piece of this number, with more characters than so many
 abbrev pub HasPlace : List (ℕ × Piece) → Place → Type 0

@@ -14,6 +14,11 @@ first_chars n [] = []
 first_chars zero (r ∷ runs) = []
 first_chars (suc n) (r ∷ runs) = record r { len = min r.len (suc n) } ∷ first_chars (suc n - r.len) runs
 
+-- there are no runs, or the first has more than n characters
+abbrev pub HasFront : ℕ → List Run → Type 0
+HasFront n [] = Unit {0}
+HasFront n (r ∷ runs) = n < r.len
+
 -- none of the runs is empty, or past its site's file
 abbrev pub AreWithin : List Run → Type 0
 AreWithin runs = All (λ run. (0 < run.len) × (run.off + run.len ≤ MAX_FILE)) runs

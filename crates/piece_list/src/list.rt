@@ -3,7 +3,7 @@ ghost use Rattle.std.specs.Prelude.{IfSome, IsSome};
 ghost use Rattle.looks.specs.Refusal.{RefusedForMemoryAlone};
 ghost use Rattle.piece_raw.specs.Ring.{AreTags, HasTag};
 ghost use Rattle.char_files.specs.CharName.{CharName};
-ghost use Rattle.piece_list.specs.Held.{IsPlaceOf, HasPlace, IsCut, AreEntered};
+ghost use Rattle.piece_list.specs.Held.{IsPlaceOf, HasPlace, IsCut, AreEntered, weighed};
 ghost use Rattle.piece_list.specs.Spelled.{spelled, HasName};
 ghost use Rattle.piece_list.specs.Tables.{table_of};
 
@@ -21,9 +21,11 @@ pub use between::Between;
 use char_files::Name;
 use looks::Refusal;
 use piece_raw::Ring;
+use rank_index::RankIndex;
 use std::alloc::Global;
 use std::marker::Model;
 pub use walking::Walk;
+use walking::shown_of;
 
 /// All characters of a text in order, hidden ones too, as a list of pieces (Project Oberon, chapter 5).
 ///
@@ -32,22 +34,21 @@ pub use walking::Walk;
 pub struct PieceList {
     pieces: Ring<Piece>,
     tags: TagTables,
-    // How many characters are shown.
-    shown: u64,
+    // How many characters each piece shows, under its number.
+    index: RankIndex,
     steps: u64,
 }
 
 impl Model for PieceList {
-    ghost use Rattle.std.specs.Prelude.{◌≡◌, length};
-    ghost use Rattle.piece_list.specs.Held.{PiecesSeen, AreEntered};
-    ghost use Rattle.piece_list.specs.Spelled.{spelled, shown_chars};
+    ghost use Rattle.std.specs.Prelude.{◌≡◌};
+    ghost use Rattle.piece_list.specs.Held.{PiecesSeen, AreEntered, weighed};
 
     ghost Value = { PiecesSeen };
 
     ghost view = { λ l. record { items = l.pieces.items; steps = l.steps } };
 
     ghost invariant = { λ l. AreEntered l.pieces.items l.tags
-        × (l.shown ≡ length (shown_chars (spelled l.pieces.items))) };
+        × (l.index.items ≡ weighed l.pieces.items) };
 }
 
 // A law of rings: no number is used twice. A proof gets it by calling this, at no cost.
@@ -58,27 +59,42 @@ fn numbers_differ(pieces: &Ring<Piece>)
 }
 
 // Cuts the piece of this number behind its first `n` characters. The rest gets the number that is answered.
-fn cut(pieces: &mut Ring<Piece>, tags: &mut TagTables, tag: u64, n: u32) -> u64
+fn cut(
+    pieces: &mut Ring<Piece>,
+    tags: &mut TagTables,
+    index: &mut RankIndex,
+    tag: u64,
+    n: u32,
+) -> u64
     requires entered { AreEntered pieces.old.items tags.old }
+    requires indexed { index.old.items ≡ weighed pieces.old.items }
     requires some { 0 < n }
     requires place { HasPlace pieces.old.items (record { piece = tag; within = n }) }
     requires room { 0 < pieces.old.room }
+    requires index_room { 0 < index.old.room }
     ensures cut { IsCut tag n result pieces.old.items pieces.new.items }
     ensures place { (c : CharName) → IsPlaceOf pieces.old.items (record { piece = tag; within = n }) c
         → IsPlaceOf pieces.new.items (record { piece = result; within = 0 }) c }
     ensures entered { AreEntered pieces.new.items tags.new }
+    ensures indexed { index.new.items ≡ weighed pieces.new.items }
     ensures others { (other : Place) (c : CharName) → IsPlaceOf pieces.old.items other c
         → (other.piece ≢ tag) ⊎ (other.within < n) → IsPlaceOf pieces.new.items other c }
     ensures room { pieces.old.room ≤ pieces.new.room + 1 }
+    ensures index_room { index.old.room ≤ index.new.room + 1 }
     ensures long { (site : ℕ) → length (table_of tags.new site) ≡ length (table_of tags.old site) }
 {
     numbers_differ(pieces);
     pieces.seek(tag);
-    let rest = pieces.value_mut().split_off(n);
+    let front = pieces.value_mut();
+    let rest = front.split_off(n);
+    let ahead = shown_of(front, n);
+    let behind = shown_of(&rest, rest.len);
     let (site, off, len) = (rest.site, rest.off, rest.len);
     match pieces.push_after(rest) {
         Ok(number) => {
             tags.fill(site, off, len, number);
+            index.set_weight(tag, ahead);
+            index.insert_after(Some(tag), number, behind);
             number
         }
         Err(_) => unreachable!(),
@@ -94,7 +110,7 @@ impl PieceList {
         Ok(PieceList {
             pieces: Ring::new(alloc)?,
             tags: TagTables::new(alloc),
-            shown: 0,
+            index: RankIndex::new(alloc)?,
             steps: 0,
         })
     }
@@ -158,7 +174,14 @@ impl PieceList {
             return Ok(place);
         }
         self.pieces.reserve(1)?;
-        let rest = cut(&mut self.pieces, &mut self.tags, place.piece, place.within);
+        self.index.reserve(1)?;
+        let rest = cut(
+            &mut self.pieces,
+            &mut self.tags,
+            &mut self.index,
+            place.piece,
+            place.within,
+        );
         Ok(Place {
             piece: rest,
             within: 0,

@@ -4,7 +4,7 @@ ghost use Rattle.std.specs.Prelude.{◌≡◌, ◌+◌, ◌<◌, ◌≤◌, map,
 ghost use Rattle.std.specs.Iterator.{YieldsFirst, item_count};
 ghost use Rattle.std.specs.List.{flat_map};
 ghost use Rattle.char_files.specs.declared.TheConstants.{MAX_FILE};
-ghost use Rattle.piece_list.specs.RunCuts.{AreWithin, with_first};
+ghost use Rattle.piece_list.specs.RunCuts.{AreWithin, HasFront, with_first};
 ghost use Rattle.piece_list.specs.Shown.{appearance_of, appearances_in};
 ghost use Rattle.piece_list.specs.Spelled.{spelled, shown_chars};
 
@@ -58,31 +58,24 @@ impl<'a> Iterator for Between<'a> {
     }
 }
 
-// Leaves out the first `n` characters of a walk. What is left of the run that they end in comes ahead of the
-// walk.
-fn skip_chars(walk: &mut Walk<'_>, n: u64) -> Option<Run>
-    requires { AreWithin walk.old }
+// Takes the first run of a walk, which has more than `n` characters, and leaves its first `n` out.
+fn cut_front(walk: &mut Walk<'_>, n: u64) -> Option<Run>
+    requires within { AreWithin walk.old }
+    requires front { HasFront n walk.old }
     ensures left { flat_map appearances_in (with_first result walk.new)
         ≡ drop n (flat_map appearances_in walk.old) }
     ensures within { AreWithin (with_first result walk.new) }
 {
-    let mut ahead = n;
-    while let Some(mut run) = walk.next() {
-        let len = u64::from(run.len);
-        if ahead < len {
-            run.off += ahead as u32;
-            run.len -= ahead as u32;
-            return Some(run);
-        }
-        ahead -= len;
-    }
-    None
+    let mut run = walk.next()?;
+    run.off += n as u32;
+    run.len -= n as u32;
+    Some(run)
 }
 
 impl PieceList {
     /// Walks the stretches that are shown from `beg` to `end`, in order: each a run that isn't empty. It takes
-    /// no memory. The pieces ahead of `beg` are gone through once, and then each step reads on to the next
-    /// piece that is shown.
+    /// no memory. It begins at the piece that is shown at `beg`, which is found without reading those ahead of
+    /// it, and then each step reads on to the next piece that is shown.
     pub fn walk_between(&self, beg: u64, end: u64) -> Between<'_>
         requires range { beg ≤ end }
         ensures shown { flat_map appearances_in result
@@ -90,8 +83,8 @@ impl PieceList {
         ensures some { All (λ run. 0 < run.len) result }
         ensures within { All (λ run. run.off + run.len ≤ MAX_FILE) result }
     {
-        let mut walk = self.walk();
-        let first = skip_chars(&mut walk, beg);
+        let (mut walk, ahead) = self.walk_from(beg);
+        let first = cut_front(&mut walk, ahead);
         Between {
             first,
             walk,

@@ -5,8 +5,8 @@ ghost use Rattle.looks.specs.Refusal.{RefusedForMemoryAlone};
 ghost use Rattle.operations.specs.NameSet.{IsSet};
 ghost use Rattle.tree_order.specs.Registers.{if_named, switched, relooked};
 ghost use Rattle.piece_list.specs.Changing.{changed_piece, changed_char, AreHere, IsEdge};
-ghost use Rattle.piece_list.specs.Held.{AreEntered};
-ghost use Rattle.piece_list.specs.Spelled.{spelled, shown_chars, HasName};
+ghost use Rattle.piece_list.specs.Held.{AreEntered, weighed};
+ghost use Rattle.piece_list.specs.Spelled.{spelled, HasName};
 
 use crate::list::walking::shown_of;
 use crate::list::{PieceList, cut, numbers_differ};
@@ -16,6 +16,7 @@ use char_files::{Name, SiteNo};
 use looks::{Key, Looks, Refusal, Sel};
 use operations::{NameRange, NameSet};
 use piece_raw::Ring;
+use rank_index::RankIndex;
 
 // What is done to each character of a set of names.
 #[derive(Drop)]
@@ -38,14 +39,24 @@ impl Change {
 }
 
 // Cuts the piece in two that reaches across this offset of the site's file, if one does.
-fn cut_at(pieces: &mut Ring<Piece>, tags: &mut TagTables, site: SiteNo, off: u32)
+fn cut_at(
+    pieces: &mut Ring<Piece>,
+    tags: &mut TagTables,
+    index: &mut RankIndex,
+    site: SiteNo,
+    off: u32,
+)
     requires entered { AreEntered pieces.old.items tags.old }
+    requires indexed { index.old.items ≡ weighed pieces.old.items }
     requires room { 0 < pieces.old.room }
+    requires index_room { 0 < index.old.room }
     ensures spells { spelled pieces.new.items ≡ spelled pieces.old.items }
     ensures edge { IsEdge site off pieces.new.items }
     ensures edges { (other at : ℕ) → IsEdge other at pieces.old.items → IsEdge other at pieces.new.items }
     ensures entered { AreEntered pieces.new.items tags.new }
+    ensures indexed { index.new.items ≡ weighed pieces.new.items }
     ensures room { pieces.old.room ≤ pieces.new.room + 1 }
+    ensures index_room { index.old.room ≤ index.new.room + 1 }
     ensures few { length pieces.new.items ≤ length pieces.old.items + 1 }
 {
     numbers_differ(pieces);
@@ -58,7 +69,7 @@ fn cut_at(pieces: &mut Ring<Piece>, tags: &mut TagTables, site: SiteNo, off: u32
     let piece = pieces.value_at(tag);
     if piece.off < off && piece.holds(name) {
         let within = off - piece.off;
-        cut(pieces, tags, tag, within);
+        cut(pieces, tags, index, tag, within);
         numbers_differ(pieces);
     }
 }
@@ -67,12 +78,12 @@ fn cut_at(pieces: &mut Ring<Piece>, tags: &mut TagTables, site: SiteNo, off: u32
 fn change_piece(
     pieces: &mut Ring<Piece>,
     tags: &TagTables,
-    shown: &mut u64,
+    index: &mut RankIndex,
     name: Name,
     change: &Change,
 ) -> u32
     requires entered { AreEntered pieces.old.items tags.now }
-    requires counted { shown.old ≡ length (shown_chars (spelled pieces.old.items)) }
+    requires indexed { index.old.items ≡ weighed pieces.old.items }
     requires here { HasName (spelled pieces.old.items) name }
     requires begins { IsEdge name.site name.off pieces.old.items }
     ensures some { name.off < result }
@@ -83,8 +94,9 @@ fn change_piece(
     ensures ends { IsEdge name.site result pieces.new.items }
     ensures edges { (other at : ℕ) → IsEdge other at pieces.old.items → IsEdge other at pieces.new.items }
     ensures entered { AreEntered pieces.new.items tags.now }
-    ensures counted { shown.new ≡ length (shown_chars (spelled pieces.new.items)) }
+    ensures indexed { index.new.items ≡ weighed pieces.new.items }
     ensures room { pieces.new.room ≡ pieces.old.room }
+    ensures index_room { index.new.room ≡ index.old.room }
     ensures many { length pieces.new.items ≡ length pieces.old.items }
 {
     numbers_differ(pieces);
@@ -92,13 +104,10 @@ fn change_piece(
         Some(tag) => {
             pieces.seek(tag);
             let piece = pieces.value_mut();
-            let was = shown_of(piece, piece.len);
             change.apply(piece);
-            let is = shown_of(piece, piece.len);
-            let end = piece.off + piece.len;
-            let others = *shown - was;
-            *shown = others + is;
-            end
+            let weight = shown_of(piece, piece.len);
+            index.set_weight(tag, weight);
+            piece.off + piece.len
         }
         None => unreachable!(),
     }
@@ -108,27 +117,28 @@ fn change_piece(
 fn change_range(
     pieces: &mut Ring<Piece>,
     tags: &TagTables,
-    shown: &mut u64,
+    index: &mut RankIndex,
     range: NameRange,
     change: &Change,
 )
     requires entered { AreEntered pieces.old.items tags.now }
-    requires counted { shown.old ≡ length (shown_chars (spelled pieces.old.items)) }
+    requires indexed { index.old.items ≡ weighed pieces.old.items }
     requires here { AreHere (range ∷ []) (spelled pieces.old.items) }
     requires begins { IsEdge range.site range.at pieces.old.items }
     requires ends { IsEdge range.site (range.at + range.len) pieces.old.items }
     ensures changed { spelled pieces.new.items
         ≡ map (if_named (range ∷ []) (changed_char change.now)) (spelled pieces.old.items) }
     ensures entered { AreEntered pieces.new.items tags.now }
-    ensures counted { shown.new ≡ length (shown_chars (spelled pieces.new.items)) }
+    ensures indexed { index.new.items ≡ weighed pieces.new.items }
     ensures room { pieces.new.room ≡ pieces.old.room }
+    ensures index_room { index.new.room ≡ index.old.room }
     ensures many { length pieces.new.items ≡ length pieces.old.items }
 {
     let end = range.at() + range.len();
     let mut at = range.at();
     while at < end {
         match Name::new(range.site(), at) {
-            Some(name) => at = change_piece(pieces, tags, shown, name, change),
+            Some(name) => at = change_piece(pieces, tags, index, name, change),
             None => unreachable!(),
         }
     }
@@ -138,25 +148,26 @@ fn change_range(
 fn change_ranges(
     pieces: &mut Ring<Piece>,
     tags: &mut TagTables,
-    shown: &mut u64,
+    index: &mut RankIndex,
     ranges: &[NameRange],
     change: &Change,
 )
     requires entered { AreEntered pieces.old.items tags.old }
-    requires counted { shown.old ≡ length (shown_chars (spelled pieces.old.items)) }
+    requires indexed { index.old.items ≡ weighed pieces.old.items }
     requires here { AreHere ranges.now (spelled pieces.old.items) }
     requires set { IsSet ranges.now }
     requires room { 2 * length ranges.now ≤ pieces.old.room }
+    requires index_room { 2 * length ranges.now ≤ index.old.room }
     ensures changed { spelled pieces.new.items
         ≡ map (if_named ranges.now (changed_char change.now)) (spelled pieces.old.items) }
-    ensures counted { shown.new ≡ length (shown_chars (spelled pieces.new.items)) }
+    ensures indexed { index.new.items ≡ weighed pieces.new.items }
     ensures entered { AreEntered pieces.new.items tags.new }
     ensures few { length pieces.new.items ≤ length pieces.old.items + 2 * length ranges.now }
 {
     for range in ranges {
-        cut_at(pieces, tags, range.site(), range.at());
-        cut_at(pieces, tags, range.site(), range.at() + range.len());
-        change_range(pieces, tags, shown, *range, change);
+        cut_at(pieces, tags, index, range.site(), range.at());
+        cut_at(pieces, tags, index, range.site(), range.at() + range.len());
+        change_range(pieces, tags, index, *range, change);
     }
 }
 
@@ -173,10 +184,11 @@ impl PieceList {
     {
         let ranges = names.ranges();
         self.pieces.reserve(2 * ranges.len())?;
+        self.index.reserve(2 * ranges.len())?;
         change_ranges(
             &mut self.pieces,
             &mut self.tags,
-            &mut self.shown,
+            &mut self.index,
             ranges,
             change,
         );

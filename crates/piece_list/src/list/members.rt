@@ -1,6 +1,7 @@
-ghost use Rattle.std.specs.Prelude.{◌≡◌};
+ghost use Rattle.std.specs.Prelude.{◌≡◌, IfSome};
 ghost use Rattle.std.specs.Iterator.{YieldsFirstBy, item_count};
-ghost use Rattle.piece_raw.specs.Ring.{AreTags};
+ghost use Rattle.piece_raw.specs.Ring.{HasTag};
+ghost use Rattle.piece_list.specs.Along.{left_from};
 
 use super::numbers_differ;
 use crate::piece::Piece;
@@ -45,14 +46,18 @@ impl<'a> Iterator for Members<'a> {
 }
 
 impl<'a> Members<'a> {
-    // All pieces of a list, no two of one number.
-    pub(crate) fn of(pieces: &'a Ring<Piece>) -> Members<'a>
-        ensures all { result ≡ pieces.now.items }
-        ensures tags { AreTags pieces.now.items }
+    // The pieces from that of a number on; none for `None`.
+    pub(crate) fn left_from(pieces: &'a Ring<Piece>, at: Option<u64>) -> Members<'a>
+        requires { IfSome at (HasTag pieces.now.items) }
+        ensures { result ≡ left_from at pieces.now.items }
     {
-        Members {
-            pieces,
-            at: pieces.first(),
-        }
+        Members { pieces, at }
+    }
+
+    // All pieces of a list.
+    pub(crate) fn of(pieces: &'a Ring<Piece>) -> Members<'a>
+        ensures { result ≡ pieces.now.items }
+    {
+        Members::left_from(pieces, pieces.first())
     }
 }

@@ -1,20 +1,21 @@
 // How a run's piece goes into the list: behind its cause and the pieces of greater key that follow.
 ghost use Rattle.std.specs.Prelude.{◌≡◌, ℕ, ◌+◌, ◌<◌, ◌≤◌, List, ◌∷◌, ◌++◌, length, min, IfSome, OnOk, OnErr};
-ghost use Rattle.std.specs.Prelude.{if◌then◌else◌, Some as Just, None as Nothing};
+ghost use Rattle.std.specs.Prelude.{Some as Just, None as Nothing};
 ghost use Rattle.looks.specs.Refusal.{RefusedForMemoryAlone};
 ghost use Rattle.looks.specs.Key.{is_below};
 ghost use Rattle.char_files.specs.CharName.{CharName};
 ghost use Rattle.operations.specs.NameSet.{IsIn};
 ghost use Rattle.piece_raw.specs.Ring.{ring, IsMember, HasTag, Follows};
 ghost use Rattle.piece_list.specs.Pieces.{range_of, chars_of, IsPiece, piece_of};
-ghost use Rattle.piece_list.specs.Held.{HasPlace, AreEntered};
+ghost use Rattle.piece_list.specs.Held.{HasPlace, AreEntered, weighed};
 ghost use Rattle.piece_list.specs.Laws.{BeginNotAbove};
 ghost use Rattle.piece_list.specs.Placed.{IsPlaced};
 ghost use Rattle.piece_list.specs.Placing.{HasAnchor, compared, IsAnchorPlace, IsParted, HasPart, IsPartedAt};
 ghost use Rattle.piece_list.specs.Placing.{IsCounted, IsNext, IsSkip, IsPutInGap, last_look};
-ghost use Rattle.piece_list.specs.Spelled.{spelled, shown_chars, HasName};
+ghost use Rattle.piece_list.specs.Spelled.{spelled, HasName};
 ghost use Rattle.piece_list.specs.Tables.{table_of};
 
+use crate::list::walking::shown_of;
 use crate::list::{PieceList, cut, numbers_differ};
 use crate::piece::Piece;
 use crate::place::Place;
@@ -23,6 +24,7 @@ use crate::tags::TagTables;
 use char_files::Anchor;
 use looks::{Key, Refusal};
 use piece_raw::Ring;
+use rank_index::RankIndex;
 
 // Whether this piece's key is greater: one look, which is counted.
 fn is_above(pieces: &Ring<Piece>, steps: &mut u64, tag: u64, key: Key) -> bool
@@ -80,38 +82,51 @@ fn skip(pieces: &Ring<Piece>, steps: &mut u64, from: Option<u64>, key: Key) -> O
 }
 
 // Makes the character of this place the last of its piece, which keeps its number.
-fn cut_behind(pieces: &mut Ring<Piece>, tags: &mut TagTables, place: Place)
+fn cut_behind(pieces: &mut Ring<Piece>, tags: &mut TagTables, index: &mut RankIndex, place: Place)
     requires entered { AreEntered pieces.old.items tags.old }
+    requires indexed { index.old.items ≡ weighed pieces.old.items }
     requires place { HasPlace pieces.old.items place }
     requires room { 0 < pieces.old.room }
+    requires index_room { 0 < index.old.room }
     ensures parted { (cause : Anchor) → IsAnchorPlace pieces.old.items cause (Just place)
         → IsPartedAt pieces.old.items pieces.new.items (Just place.piece) cause }
     ensures entered { AreEntered pieces.new.items tags.new }
+    ensures indexed { index.new.items ≡ weighed pieces.new.items }
     ensures room { pieces.old.room ≤ pieces.new.room + 1 }
+    ensures index_room { index.old.room ≤ index.new.room + 1 }
     ensures long { (site : ℕ) → length (table_of tags.new site) ≡ length (table_of tags.old site) }
 {
     numbers_differ(pieces);
     let len = pieces.value_at(place.piece).len;
     let n = place.within + 1;
     if n < len {
-        cut(pieces, tags, place.piece, n);
+        cut(pieces, tags, index, place.piece, n);
     }
 }
 
 // The same for an anchor's place, and answers the piece's number; `None` for the root.
-fn end_at(pieces: &mut Ring<Piece>, tags: &mut TagTables, place: Option<Place>) -> Option<u64>
+fn end_at(
+    pieces: &mut Ring<Piece>,
+    tags: &mut TagTables,
+    index: &mut RankIndex,
+    place: Option<Place>,
+) -> Option<u64>
     requires entered { AreEntered pieces.old.items tags.old }
+    requires indexed { index.old.items ≡ weighed pieces.old.items }
     requires place { IfSome place (λ at. HasPlace pieces.old.items at) }
     requires room { 0 < pieces.old.room }
+    requires index_room { 0 < index.old.room }
     ensures parted { (cause : Anchor) → IsAnchorPlace pieces.old.items cause place
         → IsPartedAt pieces.old.items pieces.new.items result cause }
     ensures entered { AreEntered pieces.new.items tags.new }
+    ensures indexed { index.new.items ≡ weighed pieces.new.items }
     ensures room { pieces.old.room ≤ pieces.new.room + 1 }
+    ensures index_room { index.old.room ≤ index.new.room + 1 }
     ensures long { (site : ℕ) → length (table_of tags.new site) ≡ length (table_of tags.old site) }
 {
     match place {
         Some(at) => {
-            cut_behind(pieces, tags, at);
+            cut_behind(pieces, tags, index, at);
             Some(at.piece)
         }
         None => None,
@@ -130,24 +145,35 @@ fn stand_on(pieces: &mut Ring<Piece>, last: Option<u64>)
 }
 
 // Puts a piece directly behind the one of this number, at the front for `None`, and enters its names.
-fn put(pieces: &mut Ring<Piece>, tags: &mut TagTables, last: Option<u64>, piece: Piece)
+fn put(
+    pieces: &mut Ring<Piece>,
+    tags: &mut TagTables,
+    index: &mut RankIndex,
+    last: Option<u64>,
+    piece: Piece,
+)
     requires entered { AreEntered pieces.old.items tags.old }
+    requires indexed { index.old.items ≡ weighed pieces.old.items }
     requires part { HasPart pieces.old.items last }
     requires piece { IsPiece piece }
     requires new { (c : CharName) → IsIn (range_of piece) c → ¬ HasName (spelled pieces.old.items) c }
     requires fits { piece.off + piece.len ≤ length (table_of tags.old piece.site) }
     requires room { 0 < pieces.old.room }
+    requires index_room { 0 < index.old.room }
     ensures put { (ahead behind : List (ℕ × Piece)) → IsParted pieces.old.items last ahead behind
         → (tag : ℕ) × (pieces.new.items ≡ ahead ++ (tag, piece) ∷ behind) }
     ensures entered { AreEntered pieces.new.items tags.new }
-    ensures count { length (shown_chars (spelled pieces.new.items))
-        ≡ length (shown_chars (spelled pieces.old.items)) + (if piece.hidden.value then 0 else piece.len) }
+    ensures indexed { index.new.items ≡ weighed pieces.new.items }
 {
     numbers_differ(pieces);
     stand_on(pieces, last);
     let (site, off, len) = (piece.site, piece.off, piece.len);
+    let weight = shown_of(&piece, len);
     match pieces.push_after(piece) {
-        Ok(number) => tags.fill(site, off, len, number),
+        Ok(number) => {
+            tags.fill(site, off, len, number);
+            index.insert_after(last, number, weight);
+        }
         Err(_) => unreachable!(),
     }
 }
@@ -189,13 +215,17 @@ impl PieceList {
     {
         let found = self.find(cause);
         self.pieces.reserve(2)?;
+        self.index.reserve(2)?;
         self.tags.reserve(run.site, run.off + run.len)?;
-        let end = end_at(&mut self.pieces, &mut self.tags, found);
+        let end = end_at(&mut self.pieces, &mut self.tags, &mut self.index, found);
         let last = skip(&self.pieces, &mut self.steps, end, run.key);
-        let len = u64::from(run.len);
-        put(&mut self.pieces, &mut self.tags, last, Piece::of_run(run));
-        numbers_differ(&self.pieces);
-        self.shown += len;
+        put(
+            &mut self.pieces,
+            &mut self.tags,
+            &mut self.index,
+            last,
+            Piece::of_run(run),
+        );
         Ok(())
     }
 }

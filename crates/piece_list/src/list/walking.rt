@@ -1,12 +1,13 @@
 //! What is shown, and where.
 
-ghost use Rattle.std.specs.Prelude.{◌≡◌, ◌+◌, ◌<◌, ◌≤◌, ◌↔◌, if◌then◌else◌, length, map, All, Contains};
+ghost use Rattle.std.specs.Prelude.{◌≡◌, ◌+◌, ◌<◌, ◌≤◌, ◌↔◌, if◌then◌else◌, length, map, drop, All, Contains};
 ghost use Rattle.std.specs.Prelude.{IsSome, IfSome, slice_get};
 ghost use Rattle.std.specs.Iterator.{YieldsFirst, item_count};
 ghost use Rattle.std.specs.List.{flat_map};
 ghost use Rattle.tree_order.specs.Registers.{Kept, kept_looks};
 ghost use Rattle.char_files.specs.declared.TheConstants.{MAX_FILE};
 ghost use Rattle.piece_list.specs.Held.{IsPlaceOf};
+ghost use Rattle.piece_list.specs.RunCuts.{AreWithin, HasFront};
 ghost use Rattle.piece_list.specs.Shown.{AreShownTo, appearance_of, appearances_in, looks_of, run_of, shown_runs};
 ghost use Rattle.piece_list.specs.Spelled.{spelled, shown_chars, HasName};
 
@@ -120,7 +121,7 @@ impl PieceList {
     pub fn shown_len(&self) -> u64
         ensures { result ≡ length (shown_chars (spelled self.now.items)) }
     {
-        self.shown
+        self.index.total()
     }
 
     /// How many shown characters stand at or ahead of the character of this name, which may be hidden; `None`
@@ -130,14 +131,10 @@ impl PieceList {
         ensures count { IfSome result (AreShownTo (spelled self.now.items) name) }
     {
         let place = self.place_of(name)?;
-        let mut shown = 0;
-        for (tag, piece) in Members::of(&self.pieces) {
-            if tag == place.piece {
-                return Some(shown + shown_of(piece, place.within + 1));
-            }
-            shown += shown_of(piece, piece.len);
-        }
-        unreachable!()
+        numbers_differ(&self.pieces);
+        let piece = self.pieces.value_at(place.piece);
+        let ahead = self.index.rank(place.piece);
+        Some(ahead + shown_of(piece, place.within + 1))
     }
 
     /// The place of the character that is shown at this position, from 0.
@@ -146,18 +143,11 @@ impl PieceList {
         ensures { IfSome (slice_get (shown_chars (spelled self.now.items)) pos)
             (λ k. IsPlaceOf self.now.items result k.name) }
     {
-        let mut left = pos;
-        for (tag, piece) in Members::of(&self.pieces) {
-            let len = shown_of(piece, piece.len);
-            if left < len {
-                return Place {
-                    piece: tag,
-                    within: left as u32,
-                };
-            }
-            left -= len;
+        let (piece, within) = self.index.find(pos);
+        Place {
+            piece,
+            within: within as u32,
         }
-        unreachable!()
     }
 
     /// The name and the looks of the character that is shown at this position, from 0.
@@ -173,6 +163,24 @@ impl PieceList {
             Some(name) => (name, looks(piece)),
             None => unreachable!(),
         }
+    }
+
+    // Walks on from the piece that is shown at this position, and tells how many of its characters stand ahead
+    // of the position. Behind the end there is nothing.
+    pub(super) fn walk_from(&self, pos: u64) -> (Walk<'_>, u64)
+        ensures shown { drop result.1 (flat_map appearances_in result.0)
+            ≡ drop pos (map appearance_of (shown_chars (spelled self.now.items))) }
+        ensures front { HasFront result.1 result.0 }
+        ensures within { AreWithin result.0 }
+    {
+        if self.shown_len() <= pos {
+            let none = Members::left_from(&self.pieces, None);
+            return (Walk { members: none }, 0);
+        }
+        numbers_differ(&self.pieces);
+        let (tag, ahead) = self.index.find(pos);
+        let members = Members::left_from(&self.pieces, Some(tag));
+        (Walk { members }, ahead)
     }
 
     /// Walks the stretches that are shown, in order: each a run that isn't empty.

@@ -1,8 +1,8 @@
-use Rattle.std.proofs.Common.{◌≡◌, ℕ, List, length, sym, ap, subst, ◌∙◌}
+use Rattle.std.proofs.Common.{◌≡◌, ℕ, List, sym, ap, subst, ◌∙◌}
 use Rattle.operations.specs.NameSet.{Range, IsAmong}
 use Rattle.piece_list.specs.declared.piece.Piece.{Piece}
 use Rattle.piece_list.specs.Held.{PiecesSeen}
-use Rattle.piece_list.specs.Spelled.{spelled, shown_chars, HasName}
+use Rattle.piece_list.specs.Spelled.{spelled, HasName}
 use Rattle.piece_list.proofs.list.PieceList.change.Goals as goal
 
 pub change_ranges-requires-clause-here : goal.change_ranges-requires-clause-here
@@ -11,8 +11,3 @@ change_ranges-requires-clause-here c = λ d is.
     c.reserve.ensures.unchanged.0 ∙ ap (λ (v : PiecesSeen). v.items) c.self.view_is in
     subst (λ (l : List (ℕ × Piece)). HasName (spelled l) d) (sym same)
     (c.requires d (subst (λ (rs : List Range). IsAmong rs d) c.ranges-ranges.ensures.value is))
-
-pub change_ranges-requires-clause-counted : goal.change_ranges-requires-clause-counted
-change_ranges-requires-clause-counted c =
-    c.self.invariant.1
-    ∙ sym (ap (λ (l : List (ℕ × Piece)). length (shown_chars (spelled l))) c.reserve.ensures.unchanged.0)

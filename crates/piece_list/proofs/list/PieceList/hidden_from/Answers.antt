@@ -4,7 +4,7 @@ use Rattle.piece_list.specs.declared.piece.Piece.{Piece}
 use Rattle.piece_list.specs.Held.{PiecesSeen, IsPlaceOf}
 use Rattle.piece_list.specs.Spelled.{spelled}
 use Rattle.piece_list.proofs.HiddenNames.{ends_behind, end_fits, alike}
-use Rattle.piece_list.proofs.Walked.{Items}
+use Rattle.piece_list.proofs.Positions.{Items}
 use Rattle.piece_list.proofs.list.PieceList.hidden_from.Goals as goal
 
 pub overflow_add-result : goal.overflow_add-result

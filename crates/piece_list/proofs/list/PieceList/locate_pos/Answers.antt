@@ -1,34 +1,39 @@
-use Rattle.std.proofs.Common.{◌≡◌, ℕ, [], ◌∷◌, ◌++◌, sym, ap, subst, ◌∙◌}
+use Rattle.std.proofs.Common.{◌≡◌, ◌<◌, ap, subst, arith}
 use Rattle.std.specs.Prelude.{IfSome, slice_get}
-use Rattle.piece_list.specs.declared.piece.Piece.{Piece}
 use Rattle.piece_list.specs.declared.place.Place.{Place}
 use Rattle.piece_list.specs.Held.{PiecesSeen, IsPlaceOf}
 use Rattle.piece_list.specs.Spelled.{spelled, shown_chars}
-use Rattle.piece_list.proofs.Walked.{Items, step_on, position, position_on}
+use Rattle.piece_list.proofs.Positions.{Items, shown_in, position}
+use Rattle.piece_list.proofs.Ranks.{IsFoundAt, found_at, found_is_small}
+use Rattle.piece_list.proofs.Weighed.{total_is_shown}
 use Rattle.piece_list.proofs.list.PieceList.locate_pos.Goals as goal
 
-pub returns-then-left-len : goal.returns-then-left-len
-returns-then-left-len c =
+pub find-piece-requires : goal.find-piece-requires
+find-piece-requires c =
     let items : Items = c.self.inside.pieces.items in
-    let whole : items ≡ c.into_iter-tag-iterator.result =
-    sym c.of-tag-items.ensures.all ∙ sym c.into_iter-tag-iterator.ensures.into_iter_gives in
+    let seen : shown_in items ≡ shown_in c.args.self.now.items =
+    ap (λ (v : PiecesSeen). shown_in v.items) c.self.view_is in
+    record { within = omega (arith, total_is_shown items c.self.inside.index.items c.self.invariant.1, seen, c.requires) }
+
+pub overflow_cast-result : goal.overflow_cast-result
+overflow_cast-result c =
+    let items : Items = c.self.inside.pieces.items in
+    let found : IsFoundAt items c.args.pos c.find-piece.result.0 c.find-piece.result.1 =
+    found_at items c.self.inside.index.items c.args.pos c.find-piece.result.0 c.find-piece.result.1
+    c.self.invariant.1 c.find-piece.ensures.found in
+    let small : c.find-piece.result.1 < 4096 =
+    found_is_small items c.args.pos c.find-piece.result.0 c.find-piece.result.1 c.self.invariant.0.pieces found in
+    omega (arith, small)
+
+pub returns : goal.returns
+returns c =
+    let items : Items = c.self.inside.pieces.items in
     let seen : items ≡ c.args.self.now.items = ap (λ (v : PiecesSeen). v.items) c.self.view_is in
-    let (xs, is, at) = c.loop-tag.invariant in
-    let p : Piece = c.in-Some.piece.now in
-    let next : c.loop-tag.tag-iterator ≡ (c.in-Some.tag, p) ∷ c.next.new.self = c.in-Some.ensures.steps in
-    let place : Place = record { piece = c.in-Some.tag; within = c.loop-tag.left } in
+    let place : Place = record { piece = c.find-piece.result.0; within = c.find-piece.result.1 } in
+    let found : IsFoundAt items c.args.pos place.piece place.within =
+    found_at items c.self.inside.index.items c.args.pos place.piece place.within c.self.invariant.1
+    c.find-piece.ensures.found in
     subst (λ (l : Items). IfSome (slice_get (shown_chars (spelled l)) c.args.pos)
     (λ k. IsPlaceOf l place k.name)) seen
-    (position items xs c.loop-tag.tag-iterator c.next.new.self c.in-Some.tag p c.args.pos c.loop-tag.left
-    c.shown_of-len.result (whole ∙ is) next at c.shown_of-len.ensures c.if-left-len.true)
-
-pub loop-tag-preserved : goal.loop-tag-preserved
-loop-tag-preserved c =
-    let (xs, is, at) = c.loop-tag.invariant in
-    let m : ℕ × Piece = (c.in-Some.tag, c.in-Some.piece.now) in
-    let next : c.loop-tag.tag-iterator ≡ m ∷ c.next.new.self = c.in-Some.ensures.steps in (
-      xs ++ m ∷ [],
-      step_on c.into_iter-tag-iterator.result xs c.loop-tag.tag-iterator c.next.new.self m is next,
-      position_on xs m c.args.pos c.loop-tag.left c.shown_of-len.result at c.shown_of-len.ensures
-          c.if-left-len.false,
-    )
+    (position items found.front found.behind place.piece found.piece found.whole c.args.pos place.within
+    found.at found.inside)

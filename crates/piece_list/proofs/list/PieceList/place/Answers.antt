@@ -1,12 +1,11 @@
-use Rattle.std.proofs.Common.{◌≡◌, ℕ, ◌+◌, ◌^◌, ◌<◌, List, ◌∷◌, ◌++◌, Option, sym, ap, subst, ◌∙◌, arith}
+use Rattle.std.proofs.Common.{◌≡◌, ℕ, List, ◌∷◌, ◌++◌, Option, ap, subst, ◌∙◌}
 use Rattle.operations.specs.NameSet.{IsIn}
 use Rattle.tree_order.specs.Registers.{Kept}
 use Rattle.piece_list.specs.declared.piece.Piece.{Piece}
 use Rattle.piece_list.specs.Held.{PiecesSeen}
 use Rattle.piece_list.specs.Pieces.{range_of, piece_of}
 use Rattle.piece_list.specs.Placing.{compared, IsAnchorPlace, IsParted, IsPartedAt, IsSkip}
-use Rattle.piece_list.specs.Spelled.{spelled, HasName}
-use Rattle.piece_list.proofs.Counts.{run_fits, run_counts}
+use Rattle.piece_list.specs.Spelled.{HasName}
 use Rattle.piece_list.proofs.Placing.{parted_spells, skip_part, put_in_gap, placed_in_gap}
 use Rattle.piece_list.proofs.list.PieceList.place.Goals as goal
 
@@ -64,43 +63,3 @@ pub returns-clause-placed : goal.returns-clause-placed
 returns-clause-placed c =
     placed_in_gap c.args.self.now.items c.put.new.pieces.items c.args.cause (piece_of c.args.run)
     c.skip-last.new.steps c.put.ensures.entered.pieces (returns-clause-steps c)
-
-pub overflow_add-self : goal.overflow_add-self
-overflow_add-self c =
-    let old : Items = c.args.self.now.items in
-    let items : Items = c.end_at-end.new.pieces.items in
-    let seen : c.self.inside.pieces.items ≡ old =
-    ap (λ (v : PiecesSeen). v.items) (c.self.view_is ∙ c.find-found.ensures.seen) in
-    let same : c.reserve.new.self.items ≡ old = c.reserve.ensures.unchanged.0 ∙ seen in
-    let parted : IsPartedAt old items c.end_at-end.result c.args.cause =
-    subst (λ (l : Items). IsAnchorPlace l c.args.cause c.find-found.result
-    → IsPartedAt l items c.end_at-end.result c.args.cause) same (c.end_at-end.ensures.parted c.args.cause)
-    c.find-found.ensures.place in
-    let spells : spelled items ≡ spelled c.self.inside.pieces.items =
-    parted_spells old items c.end_at-end.result c.args.cause parted ∙ sym (ap spelled seen) in
-    let fits : c.self.inside.shown + c.args.run.len < 2 ^ 64 =
-    run_fits c.self.inside.pieces.items c.end_at-end.new.pieces.items c.put.new.pieces.items c.put.new.tags
-    c.args.run c.of_run.result c.self.inside.shown c.numbers_differ.ensures c.put.ensures.entered
-    c.self.invariant.1 spells c.of_run.ensures c.put.ensures.count in
-    omega (arith, fits)
-
-pub invariant_of-self-2 : goal.invariant_of-self-2
-invariant_of-self-2 c =
-    let old : Items = c.args.self.now.items in
-    let items : Items = c.end_at-end.new.pieces.items in
-    let seen : c.self.inside.pieces.items ≡ old =
-    ap (λ (v : PiecesSeen). v.items) (c.self.view_is ∙ c.find-found.ensures.seen) in
-    let same : c.reserve.new.self.items ≡ old = c.reserve.ensures.unchanged.0 ∙ seen in
-    let parted : IsPartedAt old items c.end_at-end.result c.args.cause =
-    subst (λ (l : Items). IsAnchorPlace l c.args.cause c.find-found.result
-    → IsPartedAt l items c.end_at-end.result c.args.cause) same (c.end_at-end.ensures.parted c.args.cause)
-    c.find-found.ensures.place in
-    let spells : spelled items ≡ spelled c.self.inside.pieces.items =
-    parted_spells old items c.end_at-end.result c.args.cause parted ∙ sym (ap spelled seen) in
-    let len : c.from-len.result ≡ c.args.run.len = omega arith in (
-      c.put.ensures.entered,
-      ap (λ (n : ℕ). c.self.inside.shown + n) len
-          ∙ run_counts c.self.inside.pieces.items c.end_at-end.new.pieces.items
-          c.put.new.pieces.items c.args.run c.of_run.result c.self.inside.shown c.self.invariant.1 spells
-          c.of_run.ensures c.put.ensures.count,
-    )

@@ -4,7 +4,7 @@ use Rattle.char_files.specs.declared.TheConstants.{MAX_FILE}
 use Rattle.piece_list.specs.Held.{PiecesSeen}
 use Rattle.piece_list.proofs.Found.{no_some}
 use Rattle.piece_list.proofs.ShownAt.{has_tag, name_fits, is_shown}
-use Rattle.piece_list.proofs.Walked.{Items}
+use Rattle.piece_list.proofs.Positions.{Items}
 use Rattle.piece_list.proofs.list.PieceList.shown_at.Goals as goal
 
 pub value_at-piece-requires : goal.value_at-piece-requires

@@ -3,7 +3,6 @@ use Rattle.char_files.specs.CharName.{CharName}
 use Rattle.piece_list.specs.declared.piece.Piece.{Piece}
 use Rattle.piece_list.specs.Held.{PiecesSeen, IsPlaceOf}
 use Rattle.piece_list.specs.Spelled.{spelled}
-use Rattle.piece_list.proofs.Counts.{same_count}
 use Rattle.piece_list.proofs.CutList.{cut_spells}
 use Rattle.piece_list.proofs.list.PieceList.split.Goals as goal
 
@@ -28,12 +27,3 @@ returns-clause-others c =
     λ other d is ahead.
     let at : List (ℕ × Piece) → Type 0 = λ (l : List (ℕ × Piece)). IsPlaceOf l other d in
     c.cut-rest.ensures.others other d (subst at (sym same) is) ahead
-
-pub invariant_of-self-2 : goal.invariant_of-self-2
-invariant_of-self-2 c =
-    let same : c.reserve.new.self.items ≡ c.self.inside.pieces.items = c.reserve.ensures.unchanged.0 in (
-      c.cut-rest.ensures.entered,
-      c.self.invariant.1 ∙ sym (same_count c.self.inside.pieces.items
-          c.cut-rest.new.pieces.items (cut_spells c.reserve.new.self.items c.cut-rest.new.pieces.items
-          c.args.place.piece c.args.place.within c.cut-rest.result c.cut-rest.ensures.cut ∙ ap spelled same)),
-    )

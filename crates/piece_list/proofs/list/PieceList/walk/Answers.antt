@@ -12,17 +12,17 @@ pub returns-clause-shown : goal.returns-clause-shown
 returns-clause-shown c =
     let items : List (ℕ × Piece) = c.self.inside.pieces.items in
     let seen : items ≡ c.args.self.now.items = ap (λ (v : PiecesSeen). v.items) c.self.view_is in
-    ap (λ (l : List (ℕ × Piece)). flat_map appearances_in (shown_runs l)) (c.of.ensures.all ∙ seen)
+    ap (λ (l : List (ℕ × Piece)). flat_map appearances_in (shown_runs l)) (c.of.ensures ∙ seen)
     ∙ runs_tell c.args.self.now.items
 
 pub returns-clause-some : goal.returns-clause-some
 returns-clause-some c =
     let Some : Run → Type 0 = λ (run : Run). 0 < run.len in
-    subst (λ (l : List (ℕ × Piece)). All Some (shown_runs l)) (sym c.of.ensures.all)
+    subst (λ (l : List (ℕ × Piece)). All Some (shown_runs l)) (sym c.of.ensures)
     (runs_are Some (λ p is. is.0) c.self.inside.pieces.items c.self.invariant.0.pieces)
 
 pub returns-clause-within : goal.returns-clause-within
 returns-clause-within c =
     let Within : Run → Type 0 = λ (run : Run). run.off + run.len ≤ MAX_FILE in
-    subst (λ (l : List (ℕ × Piece)). All Within (shown_runs l)) (sym c.of.ensures.all)
+    subst (λ (l : List (ℕ × Piece)). All Within (shown_runs l)) (sym c.of.ensures)
     (runs_are Within (λ p is. is.2) c.self.inside.pieces.items c.self.invariant.0.pieces)

@@ -1,20 +1,22 @@
-use Rattle.std.proofs.Common.{ℕ, ◌<◌, ◌^◌, ◌-◌, ◌+◌, ◌≤◌, List, [], ◌∷◌, length, map, sym, ap, subst, ◌∙◌, arith}
+use Rattle.std.proofs.Common.{◌≡◌, ℕ, ◌^◌, ◌+◌, ◌≤◌, List, [], ◌∷◌, length, map, sym, ap, subst, ◌∙◌, arith}
 use Rattle.operations.specs.NameSet.{Range}
 use Rattle.tree_order.specs.Registers.{if_named}
-use Rattle.piece_raw.specs.Ring.{with_value_at}
+use Rattle.piece_raw.specs.Ring.{with_value}
+use Rattle.rank_index.specs.Ranked.{weight_of}
 use Rattle.piece_list.specs.declared.piece.Piece.{Piece}
 use Rattle.piece_list.specs.Changing.{IsEdge, changed_char}
-use Rattle.piece_list.specs.Held.{AreEntered}
+use Rattle.piece_list.specs.Held.{AreEntered, weighed}
 use Rattle.piece_list.specs.Spelled.{spelled}
 use Rattle.piece_list.proofs.ChangedPiece.{turn, put_at_cursor, as_many, same_names}
 use Rattle.piece_list.proofs.ChangedPiece.{edges_after, entered_after, changed_there}
-use Rattle.piece_list.proofs.Counts.{change_sub, change_fits, change_counts}
+use Rattle.piece_list.proofs.CutList.{is_piece}
 use Rattle.piece_list.proofs.Edges.{is_entered, edge_behind, edge_of}
 use Rattle.piece_list.proofs.Found.{none_is_not}
+use Rattle.piece_list.proofs.Weighed.{has_weight, set_weighed, set_fits}
 use Rattle.piece_list.proofs.list.changing.change_piece.Goals as goal
 
-pub overflow_add-end : goal.overflow_add-end
-overflow_add-end c =
+pub overflow_add-result : goal.overflow_add-result
+overflow_add-result c =
     let t = turn c.args.change.now c.seek.new.self c.args.pieces.now.items c.args.tags.now c.in-Some.tag
     c.args.pieces.now.room c.value_mut-piece.result.now c.apply.new.piece c.args.name
     c.numbers_differ.ensures c.requires.entered c.requires.here c.requires.begins c.seek.ensures
@@ -106,44 +108,40 @@ returns-clause-entered c =
     c.value_mut-piece.result.now c.apply.new.piece c.numbers_differ.ensures c.requires.entered t.member
     c.apply.ensures)
 
-pub overflow_sub-others : goal.overflow_sub-others
-overflow_sub-others c =
+pub set_weight-requires-clause-total : goal.set_weight-requires-clause-total
+set_weight-requires-clause-total c =
     let t = turn c.args.change.now c.seek.new.self c.args.pieces.now.items c.args.tags.now c.in-Some.tag
     c.args.pieces.now.room c.value_mut-piece.result.now c.apply.new.piece c.args.name
     c.numbers_differ.ensures c.requires.entered c.requires.here c.requires.begins c.seek.ensures
     c.value_mut-piece.ensures.value c.in-Some.ensures c.apply.ensures in
-    let le : c.shown_of-was.result ≤ c.args.shown.now =
-    change_sub c.args.pieces.now.items c.in-Some.tag c.value_mut-piece.result.now c.apply.new.piece
-    c.args.shown.now c.shown_of-was.result c.shown_of-is.result t.member c.requires.counted
-    c.shown_of-was.ensures in
-    omega (arith, le)
-
-pub overflow_add-shown : goal.overflow_add-shown
-overflow_add-shown c =
-    let t = turn c.args.change.now c.seek.new.self c.args.pieces.now.items c.args.tags.now c.in-Some.tag
-    c.args.pieces.now.room c.value_mut-piece.result.now c.apply.new.piece c.args.name
-    c.numbers_differ.ensures c.requires.entered c.requires.here c.requires.begins c.seek.ensures
-    c.value_mut-piece.ensures.value c.in-Some.ensures c.apply.ensures in
-    let fits : c.args.shown.now - c.shown_of-was.result + c.shown_of-is.result < 2 ^ 64 =
-    change_fits c.args.pieces.now.items c.in-Some.tag c.value_mut-piece.result.now c.apply.new.piece
-    c.args.shown.now c.shown_of-was.result c.shown_of-is.result t.member c.requires.counted
-    c.shown_of-was.ensures c.args.tags.now c.numbers_differ.ensures c.requires.entered t.same
-    c.shown_of-is.ensures in
+    let w : Piece = c.apply.new.piece in
+    let len : w.len ≡ c.value_mut-piece.result.now.len = ap (λ (r : Range). r.len) t.same in
+    let few : w.len ≤ 4096 =
+    omega (
+      arith,
+      len,
+      (is_piece c.args.pieces.now.items c.in-Some.tag c.value_mut-piece.result.now c.requires.entered.pieces
+          t.member).1,
+    ) in
+    let fits : weight_of (with_value c.in-Some.tag c.shown_of-weight.result c.args.index.now.items)
+    ≤ 2 ^ 40 + 4096 =
+    set_fits c.args.pieces.now.items c.args.index.now.items c.in-Some.tag c.shown_of-weight.result
+    c.value_mut-piece.result.now w c.requires.indexed t.member c.shown_of-weight.ensures c.args.tags.now
+    c.numbers_differ.ensures c.requires.entered few in
     omega (arith, fits)
 
-pub returns-clause-counted : goal.returns-clause-counted
-returns-clause-counted c =
+pub returns-clause-indexed : goal.returns-clause-indexed
+returns-clause-indexed c =
     let t = turn c.args.change.now c.seek.new.self c.args.pieces.now.items c.args.tags.now c.in-Some.tag
     c.args.pieces.now.room c.value_mut-piece.result.now c.apply.new.piece c.args.name
     c.numbers_differ.ensures c.requires.entered c.requires.here c.requires.begins c.seek.ensures
     c.value_mut-piece.ensures.value c.in-Some.ensures c.apply.ensures in
-    let new : List (ℕ × Piece) =
-    with_value_at c.seek.new.self.cursor c.apply.new.piece c.seek.new.self.items in
-    change_counts c.args.pieces.now.items c.in-Some.tag c.value_mut-piece.result.now c.apply.new.piece
-    c.args.shown.now c.shown_of-was.result c.shown_of-is.result t.member c.requires.counted
-    c.shown_of-was.ensures new c.numbers_differ.ensures
-    (put_at_cursor c.seek.new.self c.args.pieces.now.items c.in-Some.tag c.args.pieces.now.room
-    c.apply.new.piece c.seek.ensures) c.shown_of-is.ensures
+    let w : Piece = c.apply.new.piece in
+    c.set_weight.ensures.items
+    ∙ set_weighed c.args.pieces.now.items c.args.index.now.items c.in-Some.tag c.shown_of-weight.result
+    c.value_mut-piece.result.now w c.requires.indexed t.member c.shown_of-weight.ensures
+    ∙ ap weighed (sym (put_at_cursor c.seek.new.self c.args.pieces.now.items c.in-Some.tag
+    c.args.pieces.now.room w c.seek.ensures))
 
 pub returns-clause-many : goal.returns-clause-many
 returns-clause-many c =
@@ -151,3 +149,12 @@ returns-clause-many c =
     let w : Piece = c.apply.new.piece in
     ap length (put_at_cursor c.seek.new.self items c.in-Some.tag c.args.pieces.now.room w c.seek.ensures)
     ∙ as_many c.in-Some.tag w items
+
+pub set_weight-requires-clause-here : goal.set_weight-requires-clause-here
+set_weight-requires-clause-here c =
+    let t = turn c.args.change.now c.seek.new.self c.args.pieces.now.items c.args.tags.now c.in-Some.tag
+    c.args.pieces.now.room c.value_mut-piece.result.now c.apply.new.piece c.args.name
+    c.numbers_differ.ensures c.requires.entered c.requires.here c.requires.begins c.seek.ensures
+    c.value_mut-piece.ensures.value c.in-Some.ensures c.apply.ensures in
+    has_weight c.args.pieces.now.items c.args.index.now.items c.in-Some.tag c.requires.indexed
+    (c.value_mut-piece.result.now, t.member)

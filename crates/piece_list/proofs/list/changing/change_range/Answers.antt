@@ -26,10 +26,11 @@ loop-at-init c =
           c.requires.begins;
       ends = subst (λ (o : ℕ). IsEdge site o c.args.pieces.now.items) end c.requires.ends;
       entered = c.requires.entered;
-      counted = c.requires.counted;
+      indexed = c.requires.indexed;
       changed = sym (ap (λ (n : ℕ). map (if_named (range site from n ∷ []) each) old) none
           ∙ no_range each (keeps_name c.args.change.now) site from old);
       room = refl;
+      index_room = refl;
       many = refl;
     }
 
@@ -66,11 +67,12 @@ loop-at-preserved c =
       begins = subst (λ (s : ℕ). IsEdge s to new) site c.change_piece-at.ensures.ends;
       ends = c.change_piece-at.ensures.edges c.args.range.site end c.loop-at.invariant.ends;
       entered = c.change_piece-at.ensures.entered;
-      counted = c.change_piece-at.ensures.counted;
+      indexed = c.change_piece-at.ensures.indexed;
       changed = range_grows (changed_char c.args.change.now) (keeps_name c.args.change.now)
           c.args.range.site c.args.range.at c.loop-at.at to name (spelled c.args.pieces.now.items)
           (spelled c.loop-at.pieces.items) (spelled new) is c.loop-at.invariant.low
           (omega arith) c.loop-at.invariant.changed c.change_piece-at.ensures.changed;
       room = c.change_piece-at.ensures.room ∙ c.loop-at.invariant.room;
+      index_room = c.change_piece-at.ensures.index_room ∙ c.loop-at.invariant.index_room;
       many = c.change_piece-at.ensures.many ∙ c.loop-at.invariant.many;
     }

@@ -1,10 +1,9 @@
 use Rattle.std.proofs.Common.{◌-◌, ◌≡◌, ◌+◌, ◌≤◌, [], ◌∷◌, length, map}
 use Rattle.tree_order.specs.Registers.{if_named}
 use Rattle.piece_list.specs.Changing.{changed_char, IsEdge}
-use Rattle.piece_list.specs.Held.{AreEntered}
+use Rattle.piece_list.specs.Held.{AreEntered, weighed}
 use Rattle.piece_list.specs.Spelled.{spelled}
 use Rattle.piece_list.proofs.ChangedNames.{range}
-use Rattle.piece_list.proofs.Walked.{shown_in}
 use Rattle.piece_list.proofs.list.changing.change_range.Given as goal
 
 abbrev pub invariant-loop-at : goal.invariant-loop-at
@@ -15,11 +14,12 @@ invariant-loop-at l = record {
   begins : IsEdge l.range.site l.at l.pieces.items;
   ends : IsEdge l.range.site l.end l.pieces.items;
   entered : AreEntered l.pieces.items l.tags;
-  counted : l.shown ≡ shown_in l.pieces.items;
+  indexed : l.index.items ≡ weighed l.pieces.items;
   changed : spelled l.pieces.items
       ≡ map (if_named (range l.range.site l.range.at (l.at - l.range.at) ∷ []) (changed_char l.change))
       (spelled l.initial.pieces.items);
   room : l.pieces.room ≡ l.initial.pieces.room;
+  index_room : l.index.room ≡ l.initial.index.room;
   many : length l.pieces.items ≡ length l.initial.pieces.items;
 }
 

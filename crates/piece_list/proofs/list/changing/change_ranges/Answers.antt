@@ -6,14 +6,14 @@ use Rattle.piece_list.specs.Changing.{changed_char, IsEdge}
 use Rattle.piece_list.specs.Spelled.{spelled}
 use Rattle.piece_list.proofs.ChangedNames.{unchanged, one_more, range_here}
 use Rattle.piece_list.proofs.ChangedPiece.{keeps_name}
-use Rattle.piece_list.proofs.Counts.{same_count}
 use Rattle.piece_list.proofs.list.changing.change_ranges.Goals as goal
 
 pub loop-range-init : goal.loop-range-init
 loop-range-init c = record {
   entered = c.requires.entered;
-  counted = c.requires.counted;
+  indexed = c.requires.indexed;
   room = omega (arith, c.requires.room);
+  index_room = omega (arith, c.requires.index_room);
   few = omega arith;
   changed = sym (unchanged (changed_char c.args.change.now) (keeps_name c.args.change.now) [] (λ d. refl)
       (spelled c.args.pieces.now.items));
@@ -41,13 +41,20 @@ loop-range-preserved c =
     let r : Range = c.range-item.result in
     record {
       entered = c.change_range.ensures.entered;
-      counted = c.change_range.ensures.counted;
+      indexed = c.change_range.ensures.indexed;
       room = omega (
         arith,
         c.change_range.ensures.room,
         c.cut_at-in-loop-range.ensures.room,
         c.cut_at.ensures.room,
         c.loop-range.invariant.room,
+      );
+      index_room = omega (
+        arith,
+        c.change_range.ensures.index_room,
+        c.cut_at-in-loop-range.ensures.index_room,
+        c.cut_at.ensures.index_room,
+        c.loop-range.invariant.index_room,
       );
       few = omega (
         arith,
@@ -62,10 +69,3 @@ loop-range-preserved c =
           ∙ one_more each (keeps_name c.args.change.now) c.args.ranges.now c.loop-range.range-index r
           c.requires.set c.loop-range-test.true c.range-item.is (spelled c.args.pieces.now.items);
     }
-
-pub change_range-requires-clause-counted : goal.change_range-requires-clause-counted
-change_range-requires-clause-counted c =
-    c.loop-range.invariant.counted
-    ∙ sym (same_count c.loop-range.pieces.items c.cut_at.new.pieces.items c.cut_at.ensures.spells)
-    ∙ sym (same_count c.cut_at.new.pieces.items c.cut_at-in-loop-range.new.pieces.items
-    c.cut_at-in-loop-range.ensures.spells)
