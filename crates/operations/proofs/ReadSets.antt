@@ -1,20 +1,22 @@
 -- Sets of names that are read are the sets that were written, and what was written is read again.
-use Rattle.std.proofs.Common.{◌≡◌, ℕ, zero, suc, ◌+◌, ◌-◌, ◌^◌, ◌<◌, ◌≤◌, ◌⊎◌, inl, inr, Bool, true, false}
+use Rattle.std.proofs.Common.{◌≡◌, ℕ, zero, suc, ◌+◌, ◌-◌, ◌^◌, ◌<◌, ◌≤◌, Bool, true, false}
 use Rattle.std.proofs.Common.{cond, ltb, List, [], ◌∷◌, ◌++◌, length, Option, Some, None, refl, sym, ap}
-use Rattle.std.proofs.Common.{subst, ◌∙◌, append_assoc, length-append, arith}
-use Rattle.std.specs.Prelude.{slice_get}
+use Rattle.std.proofs.Common.{subst, ◌∙◌, append_assoc, length-append, arith, option_map}
+use Rattle.std.specs.Prelude.{IsSome}
 use Rattle.std.specs.List.{flat_map}
+use Rattle.std.specs.Option.{option_map_or}
 use Rattle.std.specs.Int.{w16, w32}
 use Rattle.std.proofs.lemmas.Bool.{ltb-false, le-ltb}
 use Rattle.std.proofs.lemmas.List.{append-nil}
+use Rattle.std.proofs.lemmas.Option.{none-some}
 use Rattle.std.proofs.lemmas.List.Concat.{flat_map-cons}
 use Rattle.char_files.specs.declared.TheConstants.{MAX_FILE}
 use Rattle.operations.specs.declared.name_set.TheConstants.{MAX_RANGES}
 use Rattle.operations.specs.NameSet.{Range, IsRange, IsAhead, IsNamed}
-use Rattle.operations.specs.Reading.{◌>>=◌, range_at, is_behind, next_at, ranges_at, set_at}
+use Rattle.operations.specs.Reading.{◌>>=◌, range_at, is_behind, ranges_at, ranges_in, set_at}
 use Rattle.operations.specs.Spelling.{number_spelling, range_spelling, set_spelling}
 use Rattle.operations.proofs.WithName.{First, IsRising, ahead, is_ahead_true, rising, ranges_of, pairs_of}
-use Rattle.operations.proofs.Readers.{IsBytes, Took, Reads, step, bind_some, some_is, passed, not_stopped}
+use Rattle.operations.proofs.Readers.{IsBytes, Took, Reads, step, bind_some, some_is, not_stopped}
 use Rattle.operations.proofs.Readers.{wide16, wide32, number_reads, positive_reads}
 
 -- ---- ranges
@@ -163,117 +165,161 @@ set_reads =
           (ranges_again None x rest behind);
     }
 
--- ---- one range after the other, as a loop reads them
+-- ---- one range after the other, as loops read them
 
-abbrev pub last_of : List Range → Option Range
-last_of ranges = slice_get ranges (length ranges - 1)
+-- what is left behind the ranges that were read
+abbrev pub rest_of : Option (List Range × List ℕ) → Option (List ℕ)
+rest_of read = option_map (λ x. x.1) read
 
 -- what was read before, and what is still read
-abbrev pub with_front : List Range → Option (List Range × List ℕ) → Option (List Range × List ℕ)
+abbrev with_front : List Range → Option (List Range × List ℕ) → Option (List Range × List ℕ)
 with_front front read = read >>= λ x. Some (front ++ x.0, x.1)
 
--- what the loop keeps: the ranges so far, and how the rest will go on
-pub record IsRead (front : List Range) (count i : ℕ) (bytes : List ℕ) (total : Option (List Range
-    × List ℕ)) : Type 0 where
-  pub total_is : with_front front (ranges_at (last_of front) (count - i) bytes) ≡ total
+more : (last : Option Range) (n : ℕ) (bytes : List ℕ) (r : Range) (after : List ℕ)
+    → range_at bytes ≡ Some (r, after) → is_behind last r ≡ true
+    → ranges_at last (suc n) bytes ≡ with_front (r ∷ []) (ranges_at (Some r) n after)
+unfolding ranges_at
+more last n bytes r after there behind = rw (there, behind) refl
+
+missing : (last : Option Range) (n : ℕ) (bytes : List ℕ) → range_at bytes ≡ None
+    → ranges_at last (suc n) bytes ≡ None
+unfolding ranges_at
+missing last n bytes none = rw none refl
+
+not_behind : (last : Option Range) (n : ℕ) (bytes : List ℕ) (r : Range) (after : List ℕ)
+    → range_at bytes ≡ Some (r, after) → is_behind last r ≡ false → ranges_at last (suc n) bytes ≡ None
+unfolding ranges_at
+not_behind last n bytes r after there not = rw (there, not) refl
+
+one_left : (count i : ℕ) → i < count → count - i ≡ suc (count - (i + 1))
+one_left count i lt = omega arith
+
+rest_of-more : (front : List Range) (read : Option (List Range × List ℕ))
+    → rest_of (with_front front read) ≡ rest_of read
+rest_of-more front None = refl
+rest_of-more front (Some x) = refl
+
+pub rest_goes_on : (last : Option Range) (count i : ℕ) (bytes : List ℕ) (r : Range) (after : List ℕ)
+    (total : Option (List ℕ)) → i < count → range_at bytes ≡ Some (r, after) → is_behind last r ≡ true
+    → rest_of (ranges_at last (count - i) bytes) ≡ total
+    → rest_of (ranges_at (Some r) (count - (i + 1)) after) ≡ total
+rest_goes_on last count i bytes r after total lt there behind so_far =
+    let left : ℕ = count - (i + 1) in
+    sym (rest_of-more (r ∷ []) (ranges_at (Some r) left after))
+    ∙ ap rest_of (sym (more last left bytes r after there behind))
+    ∙ ap (λ (n : ℕ). rest_of (ranges_at last n bytes)) (sym (one_left count i lt)) ∙ so_far
+
+pub rest_missing : (last : Option Range) (count i : ℕ) (bytes : List ℕ) (total : Option (List ℕ)) → i < count
+    → range_at bytes ≡ None → rest_of (ranges_at last (count - i) bytes) ≡ total → total ≡ None
+rest_missing last count i bytes total lt none so_far =
+    sym so_far ∙ ap (λ (n : ℕ). rest_of (ranges_at last n bytes)) (one_left count i lt)
+    ∙ ap rest_of (missing last (count - (i + 1)) bytes none)
+
+pub rest_not_behind : (last : Option Range) (count i : ℕ) (bytes : List ℕ) (r : Range) (after : List ℕ)
+    (total : Option (List ℕ)) → i < count → range_at bytes ≡ Some (r, after) → is_behind last r ≡ false
+    → rest_of (ranges_at last (count - i) bytes) ≡ total → total ≡ None
+rest_not_behind last count i bytes r after total lt there not so_far =
+    sym so_far ∙ ap (λ (n : ℕ). rest_of (ranges_at last n bytes)) (one_left count i lt)
+    ∙ ap rest_of (not_behind last (count - (i + 1)) bytes r after there not)
+
+-- no ranges are left
+ranges_end : (last : Option Range) (n : ℕ) (bytes : List ℕ) → n ≡ 0 → ranges_at last n bytes ≡ Some ([], bytes)
+unfolding ranges_at
+ranges_end last n bytes none = rw none refl
+
+pub rest_is : (last : Option Range) (count i : ℕ) (bytes : List ℕ) (total : Option (List ℕ)) → count ≤ i
+    → rest_of (ranges_at last (count - i) bytes) ≡ total → total ≡ Some bytes
+rest_is last count i bytes total le so_far =
+    sym so_far ∙ ap rest_of (ranges_end last (count - i) bytes (omega arith))
+
+-- what was read, and what is still read, are all
+pub record IsRead (all front : List Range) (count i : ℕ) (bytes : List ℕ) : Type 0 where
+  pub last : Option Range
+  pub rest : List ℕ
+  pub all_is : with_front front (ranges_at last (count - i) bytes) ≡ Some (all, rest)
   pub counted : length front ≡ i
 
+nothing_ahead : (read : Option (List Range × List ℕ)) → with_front [] read ≡ read
+nothing_ahead None = refl
+nothing_ahead (Some x) = refl
+
+read_there : (read : Option (List Range × List ℕ)) → IsSome read
+    → (rest : List ℕ) × (read ≡ Some (option_map_or (λ x. x.0) read [], rest))
+read_there None there = absurd cc
+read_there (Some x) there = (x.1, refl)
+
+pub none_read : (count : ℕ) (bytes : List ℕ) → IsSome (ranges_at None count bytes)
+    → IsRead (ranges_in count bytes) [] count 0 bytes
+none_read count bytes there =
+    let is = read_there (ranges_at None count bytes) there in
+    record {
+      last = None;
+      rest = is.0;
+      all_is =
+          ap (λ (n : ℕ). with_front [] (ranges_at None n bytes)) (omega arith)
+          ∙ nothing_ahead (ranges_at None count bytes) ∙ is.1;
+      counted = refl;
+    }
+
+-- the next range, which stands behind the last
+record Next (last : Option Range) (bytes : List ℕ) : Type 0 where
+  r : Range
+  after : List ℕ
+  there : range_at bytes ≡ Some (r, after)
+  behind : is_behind last r ≡ true
+
+next_is : (last : Option Range) (n : ℕ) (bytes : List ℕ) (x : List Range × List ℕ)
+    → ranges_at last (suc n) bytes ≡ Some x → Next last bytes
+unfolding ranges_at
+next_is last n bytes x e =
+    let s = bind_some (range_at bytes) _ x e in
+    let others = bind_some (cond (is_behind last s.0.0) (ranges_at (Some s.0.0) n s.0.1) None) _ x s.2 in
+    let g = went_on (is_behind last s.0.0) (ranges_at (Some s.0.0) n s.0.1) others.0 others.1 in
+    record { r = s.0.0; after = s.0.1; there = s.1; behind = g.0 }
+
+next_in : (all front : List Range) (count i : ℕ) (bytes : List ℕ) → i < count
+    → (so_far : IsRead all front count i bytes) → Next so_far.last bytes
+next_in all front count i bytes lt so_far =
+    let s = bind_some (ranges_at so_far.last (count - i) bytes) _ (all, so_far.rest) so_far.all_is in
+    next_is so_far.last (count - (i + 1)) bytes s.0
+    (ap (λ (n : ℕ). ranges_at so_far.last n bytes) (sym (one_left count i lt)) ∙ s.1)
+
+pub one_is_there : (all front : List Range) (count i : ℕ) (bytes : List ℕ) → i < count
+    → range_at bytes ≡ None → IsRead all front count i bytes → ⊥
+one_is_there all front count i bytes lt none so_far =
+    none-some _ (sym none ∙ (next_in all front count i bytes lt so_far).there)
+
 regroup : (front : List Range) (r : Range) (read : Option (List Range × List ℕ))
-    → with_front front (read >>= λ x. Some (r ∷ x.0, x.1)) ≡ with_front (front ++ r ∷ []) read
+    → with_front front (with_front (r ∷ []) read) ≡ with_front (front ++ r ∷ []) read
 regroup front r None = refl
 regroup front r (Some x) = ap (λ (ranges : List Range). Some (ranges, x.1)) (simp append_assoc)
 
-pushed_length : (front : List Range) (r : Range) → length (front ++ r ∷ []) ≡ length front + 1
-pushed_length front r = omega (arith, length-append front (r ∷ []))
-
-last_there : (front : List Range) (r : Range) → slice_get (front ++ r ∷ []) (length front) ≡ Some r
-last_there [] r = refl
-last_there (x ∷ front) r = last_there front r
-
-last_pushed : (front : List Range) (r : Range) → last_of (front ++ r ∷ []) ≡ Some r
-last_pushed front r =
-    let at : length (front ++ r ∷ []) - 1 ≡ length front = omega (arith, pushed_length front r) in
-    ap (slice_get (front ++ r ∷ [])) at ∙ last_there front r
-
--- a test that let no value through
-stopped : {A : Type 0} (b : Bool) (x : A) → cond b (Some x) None ≡ None → b ≡ false
-stopped true x e = absurd cc
-stopped false x e = refl
-
--- what a step of the loop found
-record Next (front : List Range) (bytes : List ℕ) (new : List Range) (after : List ℕ) : Type 0 where
-  r : Range
-  there : range_at bytes ≡ Some (r, after)
-  behind : is_behind (last_of front) r ≡ true
-  pushed : new ≡ front ++ r ∷ []
-
-next_found : (front new : List Range) (bytes after : List ℕ) → next_at front bytes ≡ Some (new, after)
-    → Next front bytes new after
-unfolding next_at
-next_found front new bytes after e =
-    let s = bind_some (range_at bytes) _ (new, after) e in
-    let g = passed (is_behind (last_of front) s.0.0) (front ++ s.0.0 ∷ [], s.0.1) (new, after) s.2 in
-    let rest : s.0.1 ≡ after = ap (λ (p : List Range × List ℕ). p.1) g.1 in
-    record {
-      r = s.0.0;
-      there = s.1 ∙ ap (λ (x : List ℕ). Some (s.0.0, x)) rest;
-      behind = g.0;
-      pushed =
-          sym (ap (λ (p : List Range × List ℕ). p.0) g.1);
-    }
-
-goes_on_with : (front : List Range) (r : Range) (count i : ℕ) (bytes after : List ℕ)
-    (total : Option (List Range × List ℕ)) → i < count → range_at bytes ≡ Some (r, after)
-    → is_behind (last_of front) r ≡ true
-    → IsRead front count i bytes total → IsRead (front ++ r ∷ []) count (i + 1) after total
-unfolding ranges_at
-goes_on_with front r count i bytes after total lt there behind so_far =
+-- the next range is pushed
+pub goes_on : (all front : List Range) (count i : ℕ) (bytes : List ℕ) (r : Range) (after : List ℕ) → i < count
+    → range_at bytes ≡ Some (r, after) → IsRead all front count i bytes
+    → IsRead all (front ++ r ∷ []) count (i + 1) after
+goes_on all front count i bytes r after lt there so_far =
     let left : ℕ = count - (i + 1) in
-    let k : count - i ≡ suc left = omega arith in
-    let one : with_front front (ranges_at (last_of front) (count - i) bytes)
-    ≡ with_front (front ++ r ∷ []) (ranges_at (Some r) left after) =
-    rw (k, there, behind) (regroup front r (ranges_at (Some r) left after)) in
+    let next = next_in all front count i bytes lt so_far in
+    let same : next.r ≡ r = ap (λ (x : Range × List ℕ). x.0) (some_is _ _ (sym next.there ∙ there)) in
+    let behind : is_behind so_far.last r ≡ true =
+    subst (λ (x : Range). is_behind so_far.last x ≡ true) same next.behind in
+    let one : ranges_at so_far.last (count - i) bytes ≡ with_front (r ∷ []) (ranges_at (Some r) left after) =
+    ap (λ (n : ℕ). ranges_at so_far.last n bytes) (one_left count i lt)
+    ∙ more so_far.last left bytes r after there behind in
     record {
-      total_is = ap (λ (last : Option Range). with_front (front ++ r ∷ []) (ranges_at last left after))
-          (last_pushed front r) ∙ sym one ∙ so_far.total_is;
-      counted = omega (arith, pushed_length front r, so_far.counted);
+      last = Some r;
+      rest = so_far.rest;
+      all_is =
+          sym (regroup front r (ranges_at (Some r) left after)) ∙ ap (with_front front) (sym one)
+          ∙ so_far.all_is;
+      counted = omega (arith, length-append front (r ∷ []), so_far.counted);
     }
 
-pub goes_on : (front new : List Range) (count i : ℕ) (bytes after : List ℕ) (total : Option (List Range
-    × List ℕ)) → i < count → next_at front bytes ≡ Some (new, after) → IsRead front count i bytes total
-    → IsRead new count (i + 1) after total
-goes_on front new count i bytes after total lt next so_far =
-    let n = next_found front new bytes after next in
-    subst (λ (ranges : List Range). IsRead ranges count (i + 1) after total) (sym n.pushed)
-    (goes_on_with front n.r count i bytes after total lt n.there n.behind so_far)
-
-next_missing : (front : List Range) (bytes : List ℕ) → next_at front bytes ≡ None → (range_at bytes ≡ None)
-    ⊎ ((x : Range × List ℕ) × (range_at bytes ≡ Some x) × (is_behind (last_of front) x.0 ≡ false))
-unfolding next_at
-next_missing front bytes e = go (range_at bytes) refl e
-  where
-    go : (o : Option (Range × List ℕ)) → range_at bytes ≡ o → ◌>>=◌ {B =
-        List Range × List ℕ} o (λ next. cond (is_behind (last_of front) next.0)
-        (Some (front ++ next.0 ∷ [], next.1)) None) ≡ None
-        → (range_at bytes ≡ None) ⊎ ((x : Range × List ℕ) × (range_at bytes ≡ Some x)
-        × (is_behind (last_of front) x.0 ≡ false))
-    go None is h = inl is
-    go (Some x) is h = inr (x, is, stopped (is_behind (last_of front) x.0) _ h)
-
-pub stops : (front : List Range) (count i : ℕ) (bytes : List ℕ) (total : Option (List Range × List ℕ))
-    → i < count → next_at front bytes ≡ None → IsRead front count i bytes total → total ≡ None
-unfolding ranges_at
-stops front count i bytes total lt next so_far =
-    let k : count - i ≡ suc (count - (i + 1)) = omega arith in
-    let one : with_front front (ranges_at (last_of front) (count - i) bytes) ≡ None =
-    elim (next_missing front bytes next) [ inl h ↦ rw (k, h) refl | inr h ↦ rw (k, h.1, h.2) refl ] in
-    sym so_far.total_is ∙ one
-
-pub is_done : (front : List Range) (count i : ℕ) (bytes : List ℕ) (total : Option (List Range × List ℕ))
-    → count ≤ i → IsRead front count i bytes total → total ≡ Some (front, bytes)
-unfolding ranges_at
-is_done front count i bytes total le so_far =
-    let k : count - i ≡ 0 = omega arith in
-    let one : with_front front (ranges_at (last_of front) (count - i) bytes) ≡ Some (front, bytes) =
-    rw k (ap (λ (ranges : List Range). Some (ranges, bytes)) (append-nil front)) in
-    sym so_far.total_is ∙ one
+pub all_read : (all front : List Range) (count i : ℕ) (bytes : List ℕ) → count ≤ i
+    → IsRead all front count i bytes → front ≡ all
+all_read all front count i bytes le so_far =
+    let end : with_front front (ranges_at so_far.last (count - i) bytes) ≡ Some (front ++ [], bytes) =
+    ap (with_front front) (ranges_end so_far.last (count - i) bytes (omega arith)) in
+    sym (append-nil front)
+    ∙ ap (λ (x : List Range × List ℕ). x.0) (some_is _ _ (sym end ∙ so_far.all_is))

@@ -13,9 +13,9 @@ view_header h = record { kind = h.kind; text = h.text; site = h.site; seq = h.se
 -- what a kind has to itself, without where it lies in memory
 abbrev pub view_parts : Parts → OpKind
 view_parts (parts.Insert cause at looks bytes) = insert cause at looks bytes.now
-view_parts (parts.Delete names) = delete names.items
-view_parts (parts.Restore names) = restore names.items
-view_parts (parts.ChangeLooks sel looks names) = change_looks sel looks names.items
+view_parts (parts.Delete names) = delete names
+view_parts (parts.Restore names) = restore names
+view_parts (parts.ChangeLooks sel looks names) = change_looks sel looks names
 
 -- what is named is what a message may name
 abbrev pub NamesFew : OpKind → Type 0

@@ -2,10 +2,11 @@
 -- behind it.
 use Rattle.std.specs.Prelude.{◌≡◌, ℕ, ℤ, zero, suc, ◌+◌, ◌-◌, ◌/◌, ◌%◌, ◌^◌, ◌⊎◌, Bool, true, nat_lt}
 use Rattle.std.specs.Prelude.{nat_le, ◌==◌, ◌&&◌, ◌||◌, not, if◌then◌else◌, List, [], ◌∷◌, ◌++◌, length}
-use Rattle.std.specs.Prelude.{take, drop, slice_get, slice_index, Option, Some, None, IsSome, Result, Ok}
+use Rattle.std.specs.Prelude.{take, drop, slice_index, Option, Some, None, IsSome, Result, Ok}
 use Rattle.std.specs.Prelude.{Err}
 use Rattle.std.specs.Char.{is_ascii_alphabetic}
 use Rattle.std.specs.List.{list_all}
+use Rattle.std.specs.Option.{option_map_or}
 use Rattle.std.specs.Int.{Width, w8, w16, w32, w64, byte_len, from_be_bytes, cast_signed}
 use Rattle.looks.specs.declared.refusal.Refusal.{Refusal}
 use Rattle.looks.specs.declared.refusal.Refusal.TheVariants.{Malformed, OutOfMemory}
@@ -160,12 +161,9 @@ ranges_at last (suc n) bytes = do
   others ← if is_behind last first.0 then ranges_at (Some first.0) n first.1 else None
   Some (first.0 ∷ others.0, others.1)
 
--- these ranges and the next one, which stands behind their last
-unfoldable pub next_at : List Range → List ℕ → Option (List Range × List ℕ)
-next_at ranges bytes = do
-  next ← range_at bytes
-  if is_behind (slice_get ranges (length ranges - 1)) next.0 then Some (ranges ++ next.0 ∷ [], next.1)
-      else None
+-- so many ranges; none where the bytes don't begin with so many
+abbrev pub ranges_in : ℕ → List ℕ → List Range
+ranges_in count bytes = option_map_or (λ x. x.0) (ranges_at None count bytes) []
 
 -- a set of names: 1 to 1,024 ranges behind their count
 unfoldable pub set_at : List ℕ → Option (List Range × List ℕ)

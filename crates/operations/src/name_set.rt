@@ -36,17 +36,6 @@ impl Model for NameRange {
     ghost inverse = { λ r. record { site = r.site; at = r.at; len = r.len } };
 }
 
-impl Default for NameRange {
-    /// The first name of site 1: some value to fill an array with.
-    fn default() -> NameRange {
-        NameRange {
-            site: SiteNo::new(1).unwrap(),
-            at: 0,
-            len: 1,
-        }
-    }
-}
-
 impl NameRange {
     // The name alone.
     pub(crate) fn of(name: Name) -> NameRange
@@ -281,7 +270,9 @@ impl NameSet {
         ensures ok { IfOk result (λ set. set ≡ self.now) }
         ensures errors { RefusedForMemoryAlone result }
     {
-        NameSet::of_ranges(*self.ranges.allocator(), &self.ranges)
+        Ok(NameSet {
+            ranges: Vec::from_slice(*self.ranges.allocator(), &self.ranges)?,
+        })
     }
 
     /// Whether both have the same names.
@@ -350,15 +341,12 @@ impl NameSet {
         Ok(NameSet { ranges })
     }
 
-    // The set of these ranges. Refused `OutOfMemory` alone.
-    pub(crate) fn of_ranges(alloc: Global, ranges: &[NameRange]) -> Result<NameSet, Refusal>
-        requires set { IsSet ranges.now }
-        requires few { length ranges.now ≤ MAX_RANGES }
-        ensures ok { IfOk result (λ set. set ≡ ranges.now) }
-        ensures errors { RefusedForMemoryAlone result }
+    // The set of these ranges.
+    pub(crate) fn of_ranges(ranges: Vec<NameRange>) -> NameSet
+        requires set { IsSet ranges.items }
+        requires few { length ranges.items ≤ MAX_RANGES }
+        ensures { result ≡ ranges.items }
     {
-        Ok(NameSet {
-            ranges: Vec::from_slice(alloc, ranges)?,
-        })
+        NameSet { ranges }
     }
 }

@@ -18,7 +18,6 @@ mod sets;
 use crate::kind::{
     CHANGE_LOOKS, DELETE, INSERT, Kind, RESTORE, fits_in_file, is_cause, version_of,
 };
-use crate::name_set::NameSet;
 use crate::op::{MAX_STAMP, Op};
 use char_files::{Anchor, SiteNo, TextNo};
 use fields::{
@@ -49,15 +48,15 @@ enum Parts<'a> {
         bytes: &'a [u8],
     },
     Delete {
-        names: Ranges,
+        names: Ranges<'a>,
     },
     Restore {
-        names: Ranges,
+        names: Ranges<'a>,
     },
     ChangeLooks {
         sel: Sel,
         looks: Looks,
-        names: Ranges,
+        names: Ranges<'a>,
     },
 }
 
@@ -220,15 +219,15 @@ fn kind_from(alloc: Global, parts: Parts<'_>) -> Result<Kind, Refusal>
             bytes: Vec::from_slice(alloc, bytes)?,
         },
         Parts::Delete { names } => Kind::Delete {
-            names: NameSet::of_ranges(alloc, names.as_slice())?,
+            names: names.set(alloc)?,
         },
         Parts::Restore { names } => Kind::Restore {
-            names: NameSet::of_ranges(alloc, names.as_slice())?,
+            names: names.set(alloc)?,
         },
         Parts::ChangeLooks { sel, looks, names } => Kind::ChangeLooks {
             sel,
             looks,
-            names: NameSet::of_ranges(alloc, names.as_slice())?,
+            names: names.set(alloc)?,
         },
     })
 }

@@ -1,15 +1,57 @@
-//! Sets of names, read without memory.
+//! Sets of names, checked without memory, and made when they are used.
 
-ghost use Rattle.std.specs.Prelude.{◌≡◌, ◌-◌, ◌<◌, ◌≤◌, None, slice_get, length};
-ghost use Rattle.operations.specs.Reading.{Finds, range_at, is_behind, next_at, ranges_at, set_at};
+ghost use Rattle.std.specs.Prelude.{◌≡◌, ◌<◌, ◌≤◌, None, length, option_map, IfOk};
+ghost use Rattle.looks.specs.Refusal.{RefusedForMemoryAlone};
+ghost use Rattle.operations.specs.NameSet.{IsSet};
+ghost use Rattle.operations.specs.Reading.{Finds, range_at, is_behind, ranges_at, set_at};
 
 use super::fields::{positive_u16_at, positive_u32_at, site_at, u32_at};
-use crate::name_set::{MAX_RANGES, NameRange};
-use arrayvec::ArrayVec;
+use crate::name_set::{MAX_RANGES, NameRange, NameSet};
 use char_files::MAX_FILE;
+use looks::Refusal;
+use std::alloc::Global;
+use std::marker::Model;
 
-/// Room for as many ranges as a set may have.
-pub(super) type Ranges = ArrayVec<NameRange, MAX_RANGES>;
+/// Ranges as a message spells them, each behind the one before. They are checked when they are read, and made
+/// a set when all of the message was.
+#[derive(Drop)]
+pub(super) struct Ranges<'a> {
+    raw: &'a [u8],
+    count: u16,
+}
+
+impl<'a> Model for Ranges<'a> {
+    ghost use Rattle.std.specs.Prelude.{List, None, IsSome};
+    ghost use Rattle.operations.specs.NameSet.{Range};
+    ghost use Rattle.operations.specs.Reading.{ranges_at, ranges_in};
+
+    ghost Value = { List Range };
+
+    ghost view = { λ r. ranges_in r.count r.raw.now };
+
+    ghost invariant = { λ r. IsSome (ranges_at None r.count r.raw.now) };
+}
+
+impl<'a> Ranges<'a> {
+    // The set of these ranges. Refused `OutOfMemory` alone.
+    pub(super) fn set(&self, alloc: Global) -> Result<NameSet, Refusal>
+        requires set { IsSet self.now }
+        requires few { length self.now ≤ MAX_RANGES }
+        ensures ok { IfOk result (λ set. set ≡ self.now) }
+        ensures errors { RefusedForMemoryAlone result }
+    {
+        let mut ranges = Vec::with_capacity(alloc, usize::from(self.count))?;
+        let mut raw = self.raw;
+        for _ in 0..self.count {
+            let Some(next) = range_at(raw) else {
+                unreachable!()
+            };
+            ranges.push_reserved(next.0);
+            raw = next.1;
+        }
+        Ok(NameSet::of_ranges(ranges))
+    }
+}
 
 #[tactic(auto, unfolding(crate::specs::Reading::range_at), using(crate::proofs::Readers::positive_is))]
 fn range_at(bytes: &[u8]) -> Option<(NameRange, &[u8])>
@@ -26,51 +68,43 @@ fn range_at(bytes: &[u8]) -> Option<(NameRange, &[u8])>
     Some((NameRange::new(site, at, len), rest))
 }
 
-// Whether the range stands behind the last of these, if there is one, and doesn't touch it.
-fn is_behind_last(ranges: &[NameRange], range: NameRange) -> bool
-    ensures { result ≡ is_behind (slice_get ranges.now (length ranges.now - 1)) range }
+// Whether the range stands behind the last one, if there is one, and doesn't touch it.
+fn is_behind(last: Option<NameRange>, range: NameRange) -> bool
+    ensures { result ≡ is_behind last range }
 {
-    match ranges.last() {
+    match last {
         None => true,
         Some(last) => last.is_ahead(range),
     }
 }
 
-// Puts the next range at the end, where it stands behind the others.
-#[tactic(auto, unfolding(crate::specs::Reading::next_at))]
-fn push_next<'a>(ranges: &mut Ranges, bytes: &'a [u8]) -> Option<&'a [u8]>
-    requires { length ranges.old.items < MAX_RANGES }
-    ensures { Finds (λ rest. (ranges.new.items, rest.now)) result (next_at ranges.old.items bytes.now) }
+// The bytes behind so many ranges, each of which stands behind the one before.
+fn behind_ranges(count: u16, bytes: &[u8]) -> Option<&[u8]>
+    ensures { Finds (λ rest. rest.now) result (option_map (λ x. x.1) (ranges_at None count bytes.now)) }
 {
-    let Some((range, rest)) = range_at(bytes) else {
-        return None;
-    };
-    if !is_behind_last(ranges.as_slice(), range) {
-        return None;
+    let mut last = None;
+    let mut rest = bytes;
+    for _ in 0..count {
+        let Some(next) = range_at(rest) else {
+            return None;
+        };
+        if !is_behind(last, next.0) {
+            return None;
+        }
+        last = Some(next.0);
+        rest = next.1;
     }
-    ranges.push(range);
     Some(rest)
 }
 
-fn counted_ranges_at(count: u16, bytes: &[u8]) -> Option<(Ranges, &[u8])>
-    requires { count ≤ MAX_RANGES }
-    ensures { Finds (λ x. (x.0.items, x.1.now)) result (ranges_at None count bytes.now) }
-{
-    let mut ranges = ArrayVec::new();
-    let mut rest = bytes;
-    for _ in 0..count {
-        rest = push_next(&mut ranges, rest)?;
-    }
-    Some((ranges, rest))
-}
-
 #[tactic(auto, unfolding(crate::specs::Reading::set_at))]
-pub(super) fn set_at(bytes: &[u8]) -> Option<(Ranges, &[u8])>
-    ensures { Finds (λ x. (x.0.items, x.1.now)) result (set_at bytes.now) }
+pub(super) fn set_at(bytes: &[u8]) -> Option<(Ranges<'_>, &[u8])>
+    ensures { Finds (λ x. (x.0, x.1.now)) result (set_at bytes.now) }
 {
-    let (count, rest) = positive_u16_at(bytes)?;
+    let (count, raw) = positive_u16_at(bytes)?;
     if MAX_RANGES < usize::from(count) {
         return None;
     }
-    counted_ranges_at(count, rest)
+    let rest = behind_ranges(count, raw)?;
+    Some((Ranges { raw, count }, rest))
 }
