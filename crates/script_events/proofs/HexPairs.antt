@@ -1,8 +1,18 @@
 -- The bytes of two hex digits each, one more at a time.
-use Rattle.std.proofs.Common.{◌≡◌, ℕ, ◌+◌, ◌<◌, ◌≤◌, List, [], ◌∷◌, length, true, false, ◌==◌, Option, Some, None, option_map, refl, sym, ap, ◌∙◌, arith}
-use Rattle.std.specs.Prelude.{IfSome, IsSome, is_some, option_and_then, unwrap_or}
+use Rattle.std.proofs.Common.{◌≡◌, ℕ, ◌+◌, ◌*◌, ◌/◌, ◌%◌, ◌<◌, ◌≤◌, inl, inr, List, [], ◌∷◌, length, true, false, ◌==◌, Option, Some, None, option_map, refl, sym, ap, ◌∙◌, arith}
+use Rattle.std.specs.Prelude.{Bool, IfSome, MatchBool, IsSome, is_some, option_and_then, unwrap_or}
+use Rattle.std.specs.Bool.{then_some}
+use Rattle.std.specs.Char.{IsAsciiHexdigit, IsNotAsciiHexdigit}
 use Rattle.std.proofs.lemmas.Option.{same_Some}
+use Rattle.hex.specs.Hex.{hex_digit_value}
 use Rattle.script_events.specs.Script.{byte_of_digits, cut_hex_byte, hex_in, hex_pairs}
+
+-- a digit's value is the low half of its code, and 9 more for a letter
+pub hex_digit-bits : (digit : Bool) (c : ℕ) → MatchBool digit (IsAsciiHexdigit c) (IsNotAsciiHexdigit c) → then_some digit (c % 16 + 9 * (c / 64)) ≡ hex_digit_value c
+hex_digit-bits true c (inl (inl in_range)) = grind (arith, in_range.0, in_range.1)
+hex_digit-bits true c (inl (inr in_range)) = grind (arith, in_range.0, in_range.1)
+hex_digit-bits true c (inr in_range) = grind (arith, in_range.0, in_range.1)
+hex_digit-bits false c out_of_ranges = grind (arith, out_of_ranges.0.0, out_of_ranges.0.1, out_of_ranges.1)
 
 -- the bytes behind the first
 abbrev behind : List ℕ → ℕ → Option (List ℕ)

@@ -1,6 +1,8 @@
 -- The bytes that a line spells, one more at a time.
 use Rattle.std.proofs.Common.{◌≡◌, ℕ, ◌+◌, ◌≤◌, List, [], ◌∷◌, ◌++◌, length, Bool, true, false, ◌==◌, cond, Option, Some, None, option_map, refl, sym, ap, ◌∙◌, arith, append_assoc, length-append, zero-add, add-zero}
-use Rattle.std.specs.Prelude.{IsSome, option_and_then, unwrap_or}
+use Rattle.std.specs.Prelude.{◌||◌, not, IfSome, IsSome, option_and_then, unwrap_or}
+use Rattle.std.specs.Bool.{then_some}
+use Rattle.std.specs.List.{list_any}
 use Rattle.std.proofs.lemmas.List.{append-nil}
 use Rattle.std.proofs.lemmas.Option.{same_Some}
 use Rattle.script_events.specs.Script.{byte_of_digits, cut_hex_byte, cut_byte, bytes_in}
@@ -120,3 +122,25 @@ IsDecoded-within {whole} {front} {spelled} d = within front whole spelled d.same
 pub IsDecoded-all : {whole front : List ℕ} {spelled : Option (List ℕ)} → IsDecoded whole front spelled → spelled ≡ Some [] → front ≡ whole
 IsDecoded-all {whole} {front} {spelled} d none =
     same_Some front whole (ap Some (sym (append-nil front)) ∙ ap (option_map (λ (bytes : List ℕ). front ++ bytes)) (sym none) ∙ d.same)
+
+neither : (a b : Bool) → (a || b) ≡ false → (a ≡ false) × (b ≡ false)
+neither true b e = absurd cc
+neither false b e = (refl, e)
+
+-- where no backslash stands, each byte stands for itself
+pub bytes_in-plain : (raw : List ℕ) → list_any (λ b. b == 92) raw ≡ false → bytes_in raw ≡ Some raw
+unfolding bytes_in
+bytes_in-plain [] none = refl
+bytes_in-plain (b ∷ []) none = let itself : (b == 92) ≡ false = (neither (b == 92) false none).0 in rw itself refl
+bytes_in-plain (b ∷ c ∷ []) none =
+    let (itself, behind) = neither (b == 92) (list_any (λ b. b == 92) (c ∷ [])) none in
+    rw itself (ap (option_map (λ (bytes : List ℕ). b ∷ bytes)) (bytes_in-plain (c ∷ []) behind))
+bytes_in-plain (b ∷ c ∷ d ∷ raw) none =
+    let (itself, behind) = neither (b == 92) (list_any (λ b. b == 92) (c ∷ d ∷ raw)) none in
+    rw itself (ap (option_map (λ (bytes : List ℕ). b ∷ bytes)) (bytes_in-plain (c ∷ d ∷ raw) behind))
+
+-- so they are lent as they stand
+pub lent_plain : {X : Type 0} (now : X → List ℕ) (found : Bool) (raw : X) (lent : Option X) → found ≡ list_any (λ b. b == 92) (now raw) → lent ≡ then_some (not found) raw
+    → IfSome lent (λ plain. now plain ≡ unwrap_or (bytes_in (now raw)) [])
+lent_plain now true raw lent found is = rw is tt
+lent_plain now false raw lent found is = rw (is, bytes_in-plain (now raw) (sym found)) refl

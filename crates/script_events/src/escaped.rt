@@ -33,6 +33,12 @@ impl<'a> Escaped<'a> {
         ensures bytes { result ≡ bytes_in raw.now }
         ensures shorter { IfSome result (λ bytes. length bytes ≤ length raw.now) }
     {
+        if !raw.contains(&b'\\') {
+            return Some(Escaped {
+                raw,
+                len: raw.len(),
+            });
+        }
         let mut len = 0;
         let mut rest = raw;
         while let Some((first, behind)) = rest.split_first() {
@@ -47,6 +53,13 @@ impl<'a> Escaped<'a> {
         ensures { result ≡ length self.now }
     {
         self.len
+    }
+
+    /// The bytes as they stand in the line, where no backslash is among them: they need no decoding.
+    pub fn as_plain(&self) -> Option<&'a [u8]>
+        ensures { IfSome result (λ plain. plain.now ≡ self.now) }
+    {
+        (!self.raw.contains(&b'\\')).then_some(self.raw)
     }
 
     /// Puts the bytes behind those that `out` has, which has the room.

@@ -66,10 +66,11 @@ pub(crate) fn cut_hex_byte(raw: &[u8]) -> Option<(u8, &[u8])>
     Some((16 * hex_digit(*high)? + hex_digit(*low)?, rest))
 }
 
-// The value of a hex digit of either case.
+// The value of a hex digit of either case, from the bits of its code: no branch hangs on which digit it is.
 fn hex_digit(byte: u8) -> Option<u8>
     ensures value { result ≡ hex_digit_value byte }
     ensures small { IfSome result (λ digit. digit < 16) }
 {
-    Some(char::from(byte).to_digit(16)? as u8)
+    byte.is_ascii_hexdigit()
+        .then_some(byte % 16 + 9 * (byte / 64))
 }

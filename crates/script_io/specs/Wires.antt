@@ -1,5 +1,6 @@
--- What contracts see of the input and the output of a run, and what taking a byte answers.
-use Rattle.std.specs.Prelude.{◌≡◌, ℕ, List, [], ◌∷◌, Option, Some, None, Bool, Result, Ok, Err}
+-- What contracts see of the input and the output of a run, what taking a byte answers, and what is held of a line.
+use Rattle.std.specs.Prelude.{◌≡◌, ℕ, ◌==◌, List, [], ◌∷◌, length, take, Option, Some, None, unwrap_or, Bool, Result, Ok, Err}
+use Rattle.std.specs.List.{position}
 use Rattle.std.specs.Io.KnownBytes.{Consumes, Keeps, IsAtEnd}
 use Rattle.looks.specs.declared.refusal.Refusal.{Refusal}
 use Rattle.looks.specs.declared.refusal.Refusal.TheVariants.{ReadFault}
@@ -23,3 +24,9 @@ abbrev pub TakesByte : Option (List ℕ) → Option (List ℕ) → Result (Optio
 TakesByte old new (Ok (Some byte)) = Consumes old new (byte ∷ [])
 TakesByte old new (Ok None) = Consumes old new [] × IsAtEnd new
 TakesByte old new (Err why) = (why ≡ ReadFault) × Keeps old new
+
+-- what is held of a line: up to its newline, or all, and so many bytes at most
+abbrev pub line_front : (most : ℕ) → List ℕ → List ℕ
+line_front most held =
+    let near = take most held in
+    take (unwrap_or (position (λ b. b == 10) near) (length near)) near

@@ -1,11 +1,18 @@
-ghost use Rattle.std.specs.Prelude.{◌≡◌, ◌↔◌, ◌||◌, false, is_err, ℕ, List, ◌∷◌, Ok, Some, Contains, IfOk, IsTrue};
+ghost use Rattle.std.specs.Prelude.{◌≡◌, ◌↔◌, ◌≤◌, ◌-◌, ◌||◌, false, is_err, ℕ, List, ◌∷◌, ◌++◌, length, drop, Ok, Some, Contains, IfOk, IsTrue};
+ghost use Rattle.std.specs.Prelude.{vec_capacity, vec_len};
+ghost use Rattle.std.specs.Io.KnownBytes.{Consumes};
 ghost use Rattle.looks.specs.Refusal.{RefusedForMemoryAlone};
-ghost use Rattle.script_io.specs.Wires.{TakesByte};
+ghost use Rattle.script_io.specs.Wires.{line_front, TakesByte};
 
+use crate::lines::MAX_LINE;
 use looks::Refusal;
 use std::alloc::Global;
 use std::io::{BufRead, BufReader, Read};
 use std::marker::Model;
+
+// How many bytes are held at most: two of the longest lines with their newlines. So a script that is at hand isn't put
+// out line by line.
+const HELD: usize = 2 * (MAX_LINE + 1);
 
 /// The reader of a run, and whether a call of it failed. No other code calls the reader, or says of it that
 /// it failed.
@@ -35,7 +42,7 @@ impl<R: Read + Drop> Input<R> {
         ensures failed { IfOk result (λ input. input.failed ≡ false) }
         ensures errors { RefusedForMemoryAlone result }
     {
-        match BufReader::new(alloc, reader) {
+        match BufReader::with_capacity(alloc, HELD, reader) {
             Ok(reader) => Ok(Input {
                 reader,
                 failed: false,
@@ -76,6 +83,29 @@ impl<R: Read + Drop> Input<R> {
                 Err(Refusal::ReadFault)
             }
         }
+    }
+
+    /// Moves what is held of a line, ahead of its newline, behind `line`, until that has `most` bytes. The reader
+    /// isn't asked.
+    pub(crate) fn move_held(&mut self, line: &mut Vec<u8>, most: usize)
+        requires short { vec_len line.old ≤ most }
+        requires room { most ≤ vec_capacity line.old }
+        ensures moved { line.new.items ≡ line.old.items ++ line_front (most - vec_len line.old) self.old.held }
+        ensures left { Consumes self.old.left self.new.left (line_front (most - vec_len line.old) self.old.held) }
+        ensures held { self.new.held
+            ≡ drop (length (line_front (most - vec_len line.old) self.old.held)) self.old.held }
+        ensures failed { self.new.failed ≡ self.old.failed }
+        ensures room { vec_capacity line.old ≤ vec_capacity line.new }
+    {
+        let held = self.reader.buffer();
+        let near = &held[..(most - line.len()).min(held.len())];
+        let count = near
+            .iter()
+            .position(|byte| *byte == b'\n')
+            .unwrap_or(near.len());
+        // There is room for them.
+        let _ = line.extend_from_slice(&near[..count]);
+        self.reader.consume(count);
     }
 
     /// Whether a whole line is at hand, for which the reader isn't asked.

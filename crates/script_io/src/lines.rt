@@ -57,7 +57,10 @@ pub fn take_line<R: Read + Drop, W: Write>(
                 strip_return(line);
                 return Ok(NextLine::Line);
             }
-            Some(byte) if line.len() < MAX_LINE => line.push_reserved(byte),
+            Some(byte) if line.len() < MAX_LINE => {
+                line.push_reserved(byte);
+                input.move_held(line, MAX_LINE);
+            }
             Some(_) => return Err(Refusal::ReadFault),
         }
     }

@@ -24,20 +24,16 @@ unfolding encode_with
 encode_lower-append [] ys = refl
 encode_lower-append (x ∷ xs) ys = ap (λ (r : List ℕ). get_or lower_digits (x / 16) 0 ∷ get_or lower_digits (x % 16) 0 ∷ r) (encode_lower-append xs ys)
 
--- the hex of one byte more
-pub hex_more : (a b c : Option (List ℕ)) (bytes : List ℕ) (i d : ℕ) → i < length bytes → Appends a b (encode_lower (take i bytes)) → Appends b c (encode_lower (get_or bytes i d ∷ [])) → Appends a c (encode_lower (take (i + 1) bytes))
-hex_more a b c bytes i d lt p q =
-    let more = ap encode_lower (take_more bytes i d lt) ∙ encode_lower-append (take i bytes) (get_or bytes i d ∷ []) in
-    subst (Appends a c) (sym more) (Appends-trans a b c (encode_lower (take i bytes)) (encode_lower (get_or bytes i d ∷ [])) p q)
+-- the hex of one stretch more
+pub hex_more : (a b c : Option (List ℕ)) (done stretch : List ℕ) → Appends a b (encode_lower done) → Appends b c (encode_lower stretch) → Appends a c (encode_lower (done ++ stretch))
+hex_more a b c done stretch p q = subst (Appends a c) (sym (encode_lower-append done stretch)) (Appends-trans a b c (encode_lower done) (encode_lower stretch) p q)
 
--- a fault in the hex of a byte
-pub hex_stopped : (result : Result (Unit {0}) Refusal) (failed : Bool) (why : Refusal) (old mid new : Option (List ℕ)) (bytes : List ℕ) (i d : ℕ) → i < length bytes → Appends old mid (encode_lower (take i bytes))
-    → IsErrAnd result (λ e. e ≡ why) → Writes (Err why) failed mid new (encode_lower (get_or bytes i d ∷ [])) → Writes result failed old new (encode_lower bytes)
-hex_stopped result failed why old mid new bytes i d lt p e w =
-    let byte = get_or bytes i d ∷ [] in
-    let behind = drop (i + 1) bytes in
-    let whole = ap encode_lower (split_at bytes i d lt) ∙ encode_lower-append (take i bytes) (byte ++ behind) ∙ ap (λ (r : List ℕ). encode_lower (take i bytes) ++ r) (encode_lower-append byte behind) in
-    subst (Writes result failed old new) (sym whole) (writes_after result failed old mid new (encode_lower (take i bytes)) (encode_lower byte ++ encode_lower behind) p (writes_stopped result failed why mid new (encode_lower byte) (encode_lower behind) e w))
+-- a fault in the hex of a stretch
+pub hex_stopped : (result : Result (Unit {0}) Refusal) (failed : Bool) (why : Refusal) (old mid new : Option (List ℕ)) (done stretch behind : List ℕ) → Appends old mid (encode_lower done)
+    → IsErrAnd result (λ e. e ≡ why) → Writes (Err why) failed mid new (encode_lower stretch) → Writes result failed old new (encode_lower (done ++ (stretch ++ behind)))
+hex_stopped result failed why old mid new done stretch behind p e w =
+    let whole = encode_lower-append done (stretch ++ behind) ∙ ap (λ (r : List ℕ). encode_lower done ++ r) (encode_lower-append stretch behind) in
+    subst (Writes result failed old new) (sym whole) (writes_after result failed old mid new (encode_lower done) (encode_lower stretch ++ encode_lower behind) p (writes_stopped result failed why mid new (encode_lower stretch) (encode_lower behind) e w))
 
 send_lines-append : (k : ℕ) (xs ys : List (List ℕ)) → send_lines k (xs ++ ys) ≡ send_lines k xs ++ send_lines (k + length xs) ys
 send_lines-append k [] ys =

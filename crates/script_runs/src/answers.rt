@@ -1,15 +1,19 @@
-ghost use Rattle.std.specs.Prelude.{ℕ, ◌∷◌, [], ◌++◌, drop};
+ghost use Rattle.std.specs.Prelude.{ℕ, ◌≤◌, ◌++◌, drop, length};
 ghost use Rattle.std.specs.Fmt.{decimal};
 ghost use Rattle.hex.specs.Hex.{encode_lower};
 ghost use Rattle.commands.specs.Machine.{edit_reply, merge_reply};
 ghost use Rattle.script_runs.specs.Answers.{drained_line, partial_line, refused_line, reply_lines, send_line};
 ghost use Rattle.script_runs.specs.Answers.{send_lines, settled_line, took_line};
 ghost use Rattle.script_runs.specs.Writing.{Puts};
+ghost use Rattle.script_runs.specs.declared.answers.TheConstants.{STRETCH};
 
 use looks::Refusal;
 use script_io::Output;
 use std::io::Write;
 use texts::{EditRefusal, MergeRefusal, Outbox, Settled, Took};
+
+// How many bytes are written in hex at once.
+const STRETCH: usize = 128;
 
 /// Writes the bytes. Refused `WriteFault` where the writer fails, is interrupted or takes nothing.
 pub fn put<W: Write>(output: &mut Output<W>, bytes: &[u8]) -> Result<(), Refusal>
@@ -38,20 +42,22 @@ fn put_numbered<W: Write>(output: &mut Output<W>, front: &[u8], number: u64) -> 
     put_number(output, number)
 }
 
-// From an array, so that no answer needs a growth after its edit stands.
-fn put_hex_byte<W: Write>(output: &mut Output<W>, byte: u8) -> Result<(), Refusal>
-    ensures { Puts result output.old output.new (encode_lower (byte ∷ [])) }
+// A stretch of bytes. Its digits go into an array, so that no answer needs a growth after its edit stands.
+fn put_hex_stretch<W: Write>(output: &mut Output<W>, stretch: &[u8]) -> Result<(), Refusal>
+    requires { length stretch.now ≤ STRETCH }
+    ensures { Puts result output.old output.new (encode_lower stretch.now) }
 {
-    let mut digits = [0; 2];
-    let _ = hex::encode_to_slice([byte].as_slice(), &mut digits);
-    put(output, &digits)
+    let mut room = [0; 2 * STRETCH];
+    let digits = &mut room[..2 * stretch.len()];
+    let _ = hex::encode_to_slice(stretch, digits);
+    put(output, digits)
 }
 
 fn put_hex<W: Write>(output: &mut Output<W>, bytes: &[u8]) -> Result<(), Refusal>
     ensures { Puts result output.old output.new (encode_lower bytes.now) }
 {
-    for byte in bytes {
-        put_hex_byte(output, *byte)?;
+    for stretch in bytes.chunks(STRETCH) {
+        put_hex_stretch(output, stretch)?;
     }
     Ok(())
 }

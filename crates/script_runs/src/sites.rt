@@ -168,9 +168,14 @@ impl Sites {
         ensures { (messages : List (List ℕ)) × Replies self.old
             (edit desk text (typing pos bytes.now)) (edit_reply result messages) self.new }
     {
-        self.bytes.clear();
-        bytes.decode(&mut self.bytes);
-        self.desks[desk].type_in(text, pos, &self.bytes, &mut self.outbox)
+        match bytes.as_plain() {
+            Some(plain) => self.desks[desk].type_in(text, pos, plain, &mut self.outbox),
+            None => {
+                self.bytes.clear();
+                bytes.decode(&mut self.bytes);
+                self.desks[desk].type_in(text, pos, &self.bytes, &mut self.outbox)
+            }
+        }
     }
 
     // Copies a part of a desk's text into another one.

@@ -13,6 +13,9 @@ use std::{env, io};
 // The status where the words can't be had: that of a wrong command line.
 const NO_WORDS: u8 = 2;
 
+// How many bytes of answers wait at most, where the script is at hand.
+const KEPT_BACK: usize = 1 << 16;
+
 fn gathered(alloc: Global, words: env::Args) -> io::Result<Vec<String>> {
     Ok(words.collect(alloc)?)
 }
@@ -37,7 +40,7 @@ fn main(rt: HostRuntime) -> io::Result<ExitCode> {
             return Ok(ExitCode::from(error_status(&error)));
         }
     };
-    let mut output = Output::new(BufWriter::new(alloc, io::writer(&rt))?);
+    let mut output = Output::new(BufWriter::with_capacity(alloc, KEPT_BACK, io::writer(&rt))?);
     let ended = match Input::new(alloc, rt.reader()) {
         Ok(mut input) => run(alloc, &mut input, &mut output, settings),
         Err(why) => Err(why),

@@ -1,7 +1,13 @@
-use Rattle.std.proofs.Common.{take}
+use Rattle.std.proofs.Common.{◌≡◌, ℕ, List, ◌++◌}
 use Rattle.std.specs.Io.KnownBytes.{Appends}
+use Rattle.std.specs.Slice.Iter.{chunks_rest, chunks_size}
 use Rattle.hex.specs.Hex.{encode_lower}
+use Rattle.script_runs.specs.declared.answers.TheConstants.{STRETCH}
 use Rattle.script_runs.proofs.answers.put_hex.Given as goal
 
-abbrev pub invariant-loop-byte : goal.invariant-loop-byte
-invariant-loop-byte g l = Appends l.fn.output.contents l.output.contents (encode_lower (take l.byte-index l.bytes))
+abbrev pub invariant-loop-stretch : goal.invariant-loop-stretch
+invariant-loop-stretch g l =
+    (goal.iterator-loop-stretch g).can_next l.stretch-iterator
+    × (goal.iterator-loop-stretch g).is_finite l.stretch-iterator
+    × (chunks_size l.stretch-iterator ≡ STRETCH)
+    × ((done : List ℕ) × (l.fn.bytes ≡ done ++ chunks_rest l.stretch-iterator) × Appends l.fn.output.contents l.output.contents (encode_lower done))

@@ -1,0 +1,84 @@
+-- What is taken of the bytes that a reader holds.
+use Rattle.std.proofs.Common.{◌≡◌, ◌≢◌, ℕ, min, ◌<◌, ◌≤◌, List, ◌++◌, length, take, drop, Bool, true, false, ◌==◌, cond, Option, Some, None, Result, Ok, Err, inl, inr, refl, sym, ap, subst, ◌∙◌, arith, take-append-drop, length-take}
+use Rattle.std.specs.Prelude.{All, IsOk, is_ok, if◌then◌else◌, nat_lt, unwrap_or}
+use Rattle.std.specs.List.{position, position_or_len}
+use Rattle.std.specs.Io.BufRead.{DropsConsumable}
+use Rattle.std.specs.Io.Buffered.{reader_buffer, reader_capacity, reader_remaining}
+use Rattle.std.specs.Io.KnownBytes.{Consumes, prepend_known}
+use Rattle.std.specs.declared.io.buffered.BufReader.{BufReader}
+use Rattle.script_io.specs.Wires.{line_front}
+use Rattle.std.proofs.lemmas.Bool.{cases_lt, eqb-false, lt-ltb, le-ltb}
+use Rattle.std.proofs.lemmas.List.{get_or-take, take-append-le, take_min}
+use Rattle.std.proofs.lemmas.List.Sums.{fails_before_first}
+
+front_known : (none : Bool) (behind new : Option (List ℕ)) (held : List ℕ) (n : ℕ) → n ≤ length held → DropsConsumable (cond none None (prepend_known held behind)) new (Some (length held)) n
+    → Consumes (cond none None (prepend_known held behind)) new (take n held)
+front_known true behind new held n le drops = tt
+front_known false None new held n le drops = tt
+front_known false (Some ys) new held n le drops =
+    let split : held ++ ys ≡ take n held ++ drop n (held ++ ys) = sym (take-append-drop n (held ++ ys)) ∙ ap (λ (front : List ℕ). front ++ drop n (held ++ ys)) (take-append-le n held ys le) in
+    subst (λ (o : Option (List ℕ)). Consumes (Some (held ++ ys)) o (take n held)) (sym (drops le)) split
+
+-- what is consumed of the bytes that are held is their front
+pub front_consumed : {R A : Type 0} (remaining : R → Option (List ℕ)) (reader : BufReader R A) (new : Option (List ℕ)) (n : ℕ) → n ≤ length (reader_buffer reader)
+    → DropsConsumable (reader_remaining remaining reader) new (Some (length (reader_buffer reader))) n → Consumes (reader_remaining remaining reader) new (take n (reader_buffer reader))
+front_consumed remaining reader new n le drops = front_known (reader_capacity reader == 0) (remaining reader.inner) new (reader_buffer reader) n le drops
+
+-- so many bytes are ahead of the first newline, or all where there is none
+pub record IsAhead (xs : List ℕ) (n : ℕ) : Type 0 where
+  pub first : n ≤ position_or_len (λ b. b == 10) xs
+  pub within : n ≤ length xs
+
+ahead_or_all : (p n : ℕ) → (unwrap_or (cond (nat_lt p n) (Some p) None) n ≤ p) × (unwrap_or (cond (nat_lt p n) (Some p) None) n ≤ n)
+ahead_or_all p n =
+    elim (cases_lt p n) [
+      | inl lt ↦ let test : nat_lt p n ≡ true = lt-ltb _ _ lt in rw test (omega arith, omega arith)
+      | inr le ↦ let test : nat_lt p n ≡ false = le-ltb _ _ le in rw test (omega arith, omega arith)
+    ]
+
+pub IsAhead-found : (xs : List ℕ) (found : Option ℕ) → found ≡ position (λ b. b == 10) xs → IsAhead xs (unwrap_or found (length xs))
+IsAhead-found xs found is =
+    let p = position_or_len (λ (b : ℕ). b == 10) xs in
+    let at = ap (λ (o : Option ℕ). unwrap_or o (length xs)) is in
+    let both = ahead_or_all p (length xs) in
+    record { first = omega (arith, at, both.0); within = omega (arith, at, both.1) }
+
+-- no newline is among them
+pub IsAhead-none : {xs : List ℕ} {n : ℕ} → IsAhead xs n → All (λ b. b ≢ 10) (take n xs)
+IsAhead-none {xs} {n} ahead k d lt =
+    let near : k < n = omega (arith, length-take n xs) in
+    let fails = fails_before_first (λ b. b == 10) xs k d (omega (arith, ahead.first)) in
+    rw (get_or-take n xs k d near) (eqb-false _ _ fails)
+
+-- so it is of what is held of a line
+module _ (most : ℕ) (held : List ℕ) where
+  abbrev near : List ℕ
+  near = take most held
+
+  is_ahead : IsAhead near (unwrap_or (position (λ b. b == 10) near) (length near))
+  is_ahead = IsAhead-found near (position (λ b. b == 10) near) refl
+
+  pub line_front-none : All (λ b. b ≢ 10) (line_front most held)
+  line_front-none = IsAhead-none is_ahead
+
+  pub line_front-few : length (line_front most held) ≤ most
+  line_front-few = omega (
+    arith,
+    length-take (unwrap_or (position (λ b. b == 10) near) (length near)) near,
+    length-take most held,
+  )
+
+-- what the code finds so of a buffer is what is held of a line
+pub front_is : (most : ℕ) (held buffer : List ℕ) (n count : ℕ) (found : Option ℕ) → buffer ≡ held
+    → n ≡ min most (length buffer) → found ≡ position (λ b. b == 10) (take n buffer)
+    → count ≡ unwrap_or found (length (take n buffer)) → take count (take n buffer) ≡ line_front most held
+front_is most held buffer n count found same least first is =
+    let near : take n buffer ≡ take most held =
+    ap (λ (k : ℕ). take k buffer) least ∙ take_min most buffer ∙ ap (take most) same in
+    ap (λ (k : ℕ). take k (take n buffer)) (is ∙ ap (λ (o : Option ℕ). unwrap_or o (length (take n buffer))) first)
+    ∙ ap (λ (l : List ℕ). take (unwrap_or (position (λ b. b == 10) l) (length l)) l) near
+
+-- bytes for which there is room are appended
+pub extended : {E : Type 0} (result : Result (Unit {0}) E) (old new part : List ℕ) → new ≡ (if is_ok result then old ++ part else old) → IsOk result → new ≡ old ++ part
+extended (Ok done) old new part is ok = is
+extended (Err why) old new part is ok = absurd cc
