@@ -24,6 +24,9 @@ use looks::Refusal;
 use operations::{Kind, MAX_RANGES, MAX_STAMP, NameSet, Op, encode};
 use waiting_room::GoodLog;
 
+// The bytes of a message of few names, or of few characters: with so many it grows no more.
+const SHORT: usize = 64;
+
 // What an edit of one operation answers.
 pub(crate) fn answer_of_one(made: Result<(), Refusal>) -> Result<u32, EditRefusal>
     ensures { result ≡ answer_of_one made }
@@ -108,7 +111,7 @@ impl Replica {
         ensures err { OnErr result ((self.new ≡ self.old) × (outbox.new ≡ outbox.old)) }
     {
         let op = self.next_op(kind);
-        let mut message = Vec::new(self.alloc);
+        let mut message = Vec::with_capacity(self.alloc, SHORT)?;
         encode(&op, &mut message)?;
         outbox.push(message)?;
         if let Err(why) = self.add(op) {

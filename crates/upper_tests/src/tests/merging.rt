@@ -66,13 +66,17 @@ fn a_merge_leaves_what_waits(rt: HostRuntime) -> Result<(), Fail> {
     merges_and_settles(rt.alloc(), &mut one, &mut two)
 }
 
-// Two replicas that typed a character each don't merge, and stay as they were.
-fn is_refused(
-    one: &mut Replica,
-    two: &Replica,
-    why: Refusal,
-    fronts: (u32, u32),
-) -> Result<(), Fail> {
+// A replica's text and site, and the fronts of the sites 1 and 2 once it typed a character.
+type Typed = (u16, u16, (u32, u32));
+
+// Pairs that don't merge, and why: they are of two texts, or both typed under one site's number.
+const APART: &[(Typed, Typed, Refusal)] = &[
+    ((1, 1, (1, 0)), (2, 2, (0, 1)), Refusal::WrongText),
+    ((1, 1, (1, 0)), (1, 1, (1, 0)), Refusal::Conflict),
+];
+
+// One doesn't take the other's operations over, and stays as it was.
+fn refuses(one: &mut Replica, two: &Replica, fronts: (u32, u32), why: Refusal) -> Result<(), Fail> {
     is(
         one.merge_from(two) == Err(MergeRefusal::Whole(why)),
         "a refusal",
@@ -81,36 +85,32 @@ fn is_refused(
     has(one, (fronts.0, fronts.1, 0))
 }
 
-// Each types a character: they are of two texts.
-fn of_two_texts(alloc: Global, one: &mut Replica, two: &mut Replica) -> Result<(), Fail> {
+// Each types a character; then neither takes the other's operations over.
+fn stay_apart(
+    alloc: Global,
+    one: &mut Replica,
+    two: &mut Replica,
+    (fronts, others, why): ((u32, u32), (u32, u32), Refusal),
+) -> Result<(), Fail> {
     let mut outbox = Outbox::new(alloc);
     put(alloc, one, (0, b'a'), &mut outbox)?;
     put(alloc, two, (0, b'b'), &mut outbox)?;
-    is_refused(one, two, Refusal::WrongText, (1, 0))?;
-    is_refused(two, one, Refusal::WrongText, (0, 1))
+    refuses(one, two, fronts, why)?;
+    refuses(two, one, others, why)
+}
+
+fn do_not_mix(alloc: Global, (left, right, why): (Typed, Typed, Refusal)) -> Result<(), Fail> {
+    let mut one = replica_of(alloc, left.0, left.1)?;
+    let mut two = replica_of(alloc, right.0, right.1)?;
+    stay_apart(alloc, &mut one, &mut two, (left.2, right.2, why))
 }
 
 #[test]
-fn texts_do_not_mix(rt: HostRuntime) -> Result<(), Fail> {
-    let mut one = replica_of(rt.alloc(), 1, 1)?;
-    let mut two = replica_of(rt.alloc(), 2, 2)?;
-    of_two_texts(rt.alloc(), &mut one, &mut two)
-}
-
-// Each types another character, under one site's number.
-fn of_one_number(alloc: Global, one: &mut Replica, two: &mut Replica) -> Result<(), Fail> {
-    let mut outbox = Outbox::new(alloc);
-    put(alloc, one, (0, b'a'), &mut outbox)?;
-    put(alloc, two, (0, b'b'), &mut outbox)?;
-    is_refused(one, two, Refusal::Conflict, (1, 0))?;
-    is_refused(two, one, Refusal::Conflict, (1, 0))
-}
-
-#[test]
-fn identities_do_not_mix(rt: HostRuntime) -> Result<(), Fail> {
-    let mut one = replica_of(rt.alloc(), 1, 1)?;
-    let mut two = replica_of(rt.alloc(), 1, 1)?;
-    of_one_number(rt.alloc(), &mut one, &mut two)
+fn some_do_not_mix(rt: HostRuntime) -> Result<(), Fail> {
+    for pair in APART {
+        do_not_mix(rt.alloc(), *pair)?;
+    }
+    Ok(())
 }
 
 // Site 2 has a text and deletes in it; then it hears of a character of its own that isn't here.

@@ -54,13 +54,6 @@ impl Dice {
     }
 }
 
-// One of those who write, and how many of the messages sent it went through.
-#[derive(Drop)]
-struct Writer {
-    replica: Replica,
-    seen: usize,
-}
-
 // Some letters, in one of two looks.
 fn letters(alloc: Global, dice: &mut Dice) -> Result<Buffer, Fail> {
     let beg = dice.index_below(10);
@@ -136,63 +129,73 @@ fn edits(
     }
 }
 
-// Takes in a message that was sent, all of whose causes are here, or that is an own one.
-fn takes_next(writer: &mut Writer, outbox: &Outbox) -> Result<(), Fail> {
-    if outbox.len() <= writer.seen {
-        return Err("a message".into());
-    }
-    let took = writer.replica.take(outbox.message(writer.seen));
-    writer.seen = writer.seen.saturating_add(1);
-    is(took == TAKEN || took == Ok(Took::Repeat), "taken in")
+// Whether a message came in that was sent in turn: all of its causes were here, or it is an own one.
+fn came_in(took: Result<Took, Refusal>) -> bool {
+    took == TAKEN || took == Ok(Took::Repeat)
 }
 
-// Takes in some of the messages that were sent since, in turn; or none, most of the time.
-fn catches_up(dice: &mut Dice, writer: &mut Writer, outbox: &Outbox) -> Result<(), Fail> {
+// Hands a message in.
+fn hand(
+    replica: &mut Replica,
+    outbox: &Outbox,
+    index: usize,
+) -> Result<Result<Took, Refusal>, Fail> {
+    if outbox.len() <= index {
+        return Err("a message".into());
+    }
+    Ok(replica.take(outbox.message(index)))
+}
+
+// Takes in a stretch of the messages, in turn.
+fn takes_all(replica: &mut Replica, outbox: &Outbox, beg: usize, end: usize) -> Result<(), Fail> {
+    for index in beg..end {
+        is(came_in(hand(replica, outbox, index)?), "taken in")?;
+    }
+    Ok(())
+}
+
+// Takes in some of the messages that were sent since, in turn; or none, most of the time. `seen` counts those
+// that it went through.
+fn catches_up(
+    dice: &mut Dice,
+    replica: &mut Replica,
+    seen: &mut usize,
+    outbox: &Outbox,
+) -> Result<(), Fail> {
     if dice.below(4) != 0 {
         return Ok(());
     }
-    let left = outbox.len().saturating_sub(writer.seen);
-    for _ in 0..dice.index_below(left.saturating_add(1)) {
-        takes_next(writer, outbox)?;
-    }
+    let left = outbox.len().saturating_sub(*seen);
+    let end = seen.saturating_add(dice.index_below(left.saturating_add(1)));
+    takes_all(replica, outbox, *seen, end)?;
+    *seen = end;
     Ok(())
 }
 
-fn writer_of(alloc: Global, site: u16) -> Result<Writer, Fail> {
-    Ok(Writer {
-        replica: replica_of(alloc, 1, site)?,
-        seen: 0,
-    })
-}
-
-fn add_writers(alloc: Global, writers: &mut Vec<Writer>) -> Result<(), Fail> {
-    for site in 1..=SITES {
-        writers.push(writer_of(alloc, site)?)?;
-    }
-    Ok(())
-}
-
-// One of them catches up and makes an edit.
+// One of the writers catches up and makes an edit.
 fn writes(
     alloc: Global,
     dice: &mut Dice,
-    writers: &mut [Writer],
+    writers: &mut [Replica],
+    seen: &mut [usize],
     outbox: &mut Outbox,
 ) -> Result<(), Fail> {
     let index = dice.index_below(writers.len());
     let writer = writers.get_mut(index).ok_or("a writer")?;
-    catches_up(dice, writer, outbox)?;
-    edits(alloc, dice, &mut writer.replica, outbox)
+    let seen = seen.get_mut(index).ok_or("a writer")?;
+    catches_up(dice, writer, seen, outbox)?;
+    edits(alloc, dice, writer, outbox)
 }
 
 fn all_write(
     alloc: Global,
     dice: &mut Dice,
-    writers: &mut [Writer],
+    writers: &mut [Replica],
     outbox: &mut Outbox,
 ) -> Result<(), Fail> {
+    let mut seen = [0; SITES as usize];
     for _ in 0..EDITS {
-        writes(alloc, dice, writers, outbox)?;
+        writes(alloc, dice, writers, &mut seen, outbox)?;
     }
     Ok(())
 }
@@ -274,14 +277,11 @@ fn add_numbers(dice: &mut Dice, order: &mut Vec<usize>, count: usize) -> Result<
     Ok(())
 }
 
-// Hands a message in. Whether it was refused for want of a place.
-fn hands(replica: &mut Replica, outbox: &Outbox, index: usize) -> Result<bool, Fail> {
-    if outbox.len() <= index {
-        return Err("a message".into());
-    }
-    match replica.take(outbox.message(index)) {
+// Whether a message was refused for want of a place, the only reason that there can be.
+fn was_full(took: Result<Took, Refusal>) -> Result<bool, Fail> {
+    match took {
         Ok(_) => Ok(false),
-        Err(Refusal::RoomFull) => Ok(true),
+        Err(why) if why == Refusal::RoomFull => Ok(true),
         Err(why) => Err(why.into()),
     }
 }
@@ -290,7 +290,7 @@ fn hands(replica: &mut Replica, outbox: &Outbox, index: usize) -> Result<bool, F
 fn hands_all(replica: &mut Replica, outbox: &Outbox, order: &[usize]) -> Result<usize, Fail> {
     let mut refused: usize = 0;
     for index in order {
-        if hands(replica, outbox, *index)? {
+        if was_full(hand(replica, outbox, *index)?)? {
             refused = refused.saturating_add(1);
         }
     }
@@ -318,9 +318,9 @@ fn merges(one: &mut Replica, other: &Replica) -> Result<u64, Fail> {
     Ok(new)
 }
 
-fn merges_all(replica: &mut Replica, writers: &[Writer]) -> Result<(), Fail> {
+fn merges_all(replica: &mut Replica, writers: &[Replica]) -> Result<(), Fail> {
     for writer in writers {
-        merges(replica, &writer.replica)?;
+        merges(replica, writer)?;
     }
     Ok(())
 }
@@ -353,7 +353,7 @@ struct Order<'a> {
 // Half of the messages come in this order, and then what each of those who wrote has.
 fn hears_half(
     reader: &mut Replica,
-    writers: &[Writer],
+    writers: &[Replica],
     sent: Sent<'_>,
     order: Order<'_>,
 ) -> Result<(), Fail> {
@@ -394,7 +394,7 @@ fn hears_all(
 fn comes_to_it(
     alloc: Global,
     round: usize,
-    writers: &mut [Writer],
+    writers: &mut [Replica],
     sent: Sent<'_>,
     order: Order<'_>,
 ) -> Result<(), Fail> {
@@ -405,7 +405,7 @@ fn comes_to_it(
     let writer = writers
         .get_mut(round % usize::from(SITES))
         .ok_or("a writer")?;
-    hears_all(&mut reader, &mut writer.replica, sent, order)
+    hears_all(&mut reader, writer, sent, order)
 }
 
 // One order more; in each fifth messages come far from their turns.
@@ -413,7 +413,7 @@ fn comes_once(
     alloc: Global,
     dice: &mut Dice,
     round: usize,
-    writers: &mut [Writer],
+    writers: &mut [Replica],
     sent: Sent<'_>,
 ) -> Result<(), Fail> {
     let is_near = round % 5 != 0;
@@ -431,7 +431,7 @@ fn comes_once(
 fn come_in_all_orders(
     alloc: Global,
     dice: &mut Dice,
-    writers: &mut [Writer],
+    writers: &mut [Replica],
     sent: Sent<'_>,
 ) -> Result<(), Fail> {
     for round in 0..2 * ORDERS {
@@ -440,20 +440,15 @@ fn come_in_all_orders(
     Ok(())
 }
 
-fn all_show_it(writers: &[Writer], sent: Sent<'_>) -> Result<(), Fail> {
+fn all_show_it(writers: &[Replica], sent: Sent<'_>) -> Result<(), Fail> {
     for writer in writers {
-        shows(&writer.replica, sent.shown)?;
+        shows(writer, sent.shown)?;
     }
     Ok(())
 }
 
-fn write_and_read(
-    alloc: Global,
-    writers: &mut Vec<Writer>,
-    outbox: &mut Outbox,
-) -> Result<(), Fail> {
+fn write_and_read(alloc: Global, writers: &mut [Replica], outbox: &mut Outbox) -> Result<(), Fail> {
     let mut dice = Dice { state: 1 };
-    add_writers(alloc, writers)?;
     all_write(alloc, &mut dice, writers, outbox)?;
     let shown = defined(alloc, outbox)?;
     let sent = Sent {
@@ -464,9 +459,17 @@ fn write_and_read(
     all_show_it(writers, sent)
 }
 
+fn add_writers(alloc: Global, writers: &mut Vec<Replica>) -> Result<(), Fail> {
+    for site in 1..=SITES {
+        writers.push(replica_of(alloc, 1, site)?)?;
+    }
+    Ok(())
+}
+
 // Whatever order messages come in, all show what is defined.
 #[test]
 fn all_orders_show_the_same(rt: HostRuntime) -> Result<(), Fail> {
     let mut writers = Vec::new(rt.alloc());
+    add_writers(rt.alloc(), &mut writers)?;
     write_and_read(rt.alloc(), &mut writers, &mut Outbox::new(rt.alloc()))
 }
