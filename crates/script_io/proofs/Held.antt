@@ -1,5 +1,5 @@
 -- What is taken of the bytes that a reader holds.
-use Rattle.std.proofs.Common.{◌≡◌, ◌≢◌, ℕ, min, ◌<◌, ◌≤◌, List, ◌++◌, length, take, drop, Bool, true, false, ◌==◌, cond, Option, Some, None, Result, Ok, Err, inl, inr, refl, sym, ap, subst, ◌∙◌, arith, take-append-drop, length-take}
+use Rattle.std.proofs.Common.{◌≡◌, ◌≢◌, ℕ, min, ◌<◌, ◌≤◌, ◌-◌, List, ◌++◌, length, take, drop, Bool, true, false, ◌==◌, cond, Option, Some, None, Result, Ok, Err, inl, inr, refl, sym, ap, subst, ◌∙◌, arith, take-append-drop, length-take}
 use Rattle.std.specs.Prelude.{All, IsOk, is_ok, if◌then◌else◌, nat_lt, unwrap_or}
 use Rattle.std.specs.List.{position, position_or_len}
 use Rattle.std.specs.Io.BufRead.{DropsConsumable}
@@ -8,7 +8,7 @@ use Rattle.std.specs.Io.KnownBytes.{Consumes, prepend_known}
 use Rattle.std.specs.declared.io.buffered.BufReader.{BufReader}
 use Rattle.script_io.specs.Wires.{line_front}
 use Rattle.std.proofs.lemmas.Bool.{cases_lt, eqb-false, lt-ltb, le-ltb}
-use Rattle.std.proofs.lemmas.List.{get_or-take, take-append-le, take_min}
+use Rattle.std.proofs.lemmas.List.{get_or-take, take-append-le, take-take, take_min}
 use Rattle.std.proofs.lemmas.List.Sums.{fails_before_first}
 
 front_known : (none : Bool) (behind new : Option (List ℕ)) (held : List ℕ) (n : ℕ) → n ≤ length held → DropsConsumable (cond none None (prepend_known held behind)) new (Some (length held)) n
@@ -68,15 +68,28 @@ module _ (most : ℕ) (held : List ℕ) where
     length-take most held,
   )
 
--- what the code finds so of a buffer is what is held of a line
-pub front_is : (most : ℕ) (held buffer : List ℕ) (n count : ℕ) (found : Option ℕ) → buffer ≡ held
-    → n ≡ min most (length buffer) → found ≡ position (λ b. b == 10) (take n buffer)
-    → count ≡ unwrap_or found (length (take n buffer)) → take count (take n buffer) ≡ line_front most held
-front_is most held buffer n count found same least first is =
-    let near : take n buffer ≡ take most held =
-    ap (λ (k : ℕ). take k buffer) least ∙ take_min most buffer ∙ ap (take most) same in
-    ap (λ (k : ℕ). take k (take n buffer)) (is ∙ ap (λ (o : Option ℕ). unwrap_or o (length (take n buffer))) first)
+  -- it is so many of the bytes that are held
+  pub line_front-take : take (length (line_front most held)) held ≡ line_front most held
+  line_front-take =
+      let count = unwrap_or (position (λ b. b == 10) near) (length near) in
+      let long : length (line_front most held) ≡ count = omega (arith, length-take count near, is_ahead.within) in
+      ap (λ (n : ℕ). take n held) long
+      ∙ sym (take-take count most held (omega (arith, is_ahead.within, length-take most held)))
+
+-- what the code finds so is what is held of a line
+pub front_is : (most : ℕ) (held : List ℕ) (n count : ℕ) (found : Option ℕ) → n ≡ min most (length held)
+    → found ≡ position (λ b. b == 10) (take n held) → count ≡ unwrap_or found (length (take n held))
+    → take count (take n held) ≡ line_front most held
+front_is most held n count found least first is =
+    let near : take n held ≡ take most held = ap (λ (k : ℕ). take k held) least ∙ take_min most held in
+    ap (λ (k : ℕ). take k (take n held)) (is ∙ ap (λ (o : Option ℕ). unwrap_or o (length (take n held))) first)
     ∙ ap (λ (l : List ℕ). take (unwrap_or (position (λ b. b == 10) l) (length l)) l) near
+
+-- what is found so of the same bytes is the same
+pub line_front-of : (most : ℕ) {n len : ℕ} {front buffer held : List ℕ} → front ≡ line_front (most - n) buffer → n ≡ len
+    → buffer ≡ held → front ≡ line_front (most - len) held
+line_front-of most {n} {len} {front} {buffer} {held} is many same =
+    is ∙ ap (λ (k : ℕ). line_front (most - k) buffer) many ∙ ap (line_front (most - len)) same
 
 -- bytes for which there is room are appended
 pub extended : {E : Type 0} (result : Result (Unit {0}) E) (old new part : List ℕ) → new ≡ (if is_ok result then old ++ part else old) → IsOk result → new ≡ old ++ part

@@ -14,6 +14,18 @@ use std::marker::Model;
 // out line by line.
 const HELD: usize = 2 * (MAX_LINE + 1);
 
+// What is held of a line, ahead of its newline: `most` bytes at most.
+fn front_of_line(held: &[u8], most: usize) -> &[u8]
+    ensures { result.now ≡ line_front most held.now }
+{
+    let near = &held[..most.min(held.len())];
+    let count = near
+        .iter()
+        .position(|byte| *byte == b'\n')
+        .unwrap_or(near.len());
+    &near[..count]
+}
+
 /// The reader of a run, and whether a call of it failed. No other code calls the reader, or says of it that
 /// it failed.
 #[derive(Drop)]
@@ -97,14 +109,10 @@ impl<R: Read + Drop> Input<R> {
         ensures failed { self.new.failed ≡ self.old.failed }
         ensures room { vec_capacity line.old ≤ vec_capacity line.new }
     {
-        let held = self.reader.buffer();
-        let near = &held[..(most - line.len()).min(held.len())];
-        let count = near
-            .iter()
-            .position(|byte| *byte == b'\n')
-            .unwrap_or(near.len());
+        let front = front_of_line(self.reader.buffer(), most - line.len());
+        let count = front.len();
         // There is room for them.
-        let _ = line.extend_from_slice(&near[..count]);
+        let _ = line.extend_from_slice(front);
         self.reader.consume(count);
     }
 
