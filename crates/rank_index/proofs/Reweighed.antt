@@ -9,7 +9,7 @@ use Rattle.rank_index.specs.Chunks.{Stretch, members_of, AreEntered, AreTied}
 use Rattle.rank_index.specs.Ranked.{weight_of}
 use Rattle.rank_index.proofs.Inserted.{half_full}
 use Rattle.rank_index.proofs.Pieces.{all_parts, all_whole, cut_read, seam_at}
-use Rattle.rank_index.proofs.Stretches.{members_of-seam, apart_here, not_ahead, not_behind}
+use Rattle.rank_index.proofs.Stretches.{IsReadFor, members_of-seam, apart_here, not_ahead, not_behind}
 use Rattle.rank_index.proofs.Tagged.{Members, HasTag-cons, HasTag-first, HasTag-right}
 use Rattle.rank_index.proofs.Tagged.{with_value-elsewhere, AreApart}
 use Rattle.rank_index.proofs.Weights.{weight_at}
@@ -84,32 +84,41 @@ apart_read chunks place c lt is_read apart =
     apart_here (take place chunks) c (drop (suc place) chunks)
     (subst (λ (l : List Stretch). AreApart (members_of l)) (cut_read chunks place c lt is_read) apart)
 
+-- what the members weigh and will weigh: those of the one chunk, and the rest
+pub record Weighs (chunks : List Stretch) (c : Stretch) (tag w : ℕ) : Type 0 where
+  pub rest : ℕ
+  pub was : weight_of (members_of chunks) ≡ weight_of c.members + rest
+  pub is : weight_of (with_value tag w (members_of chunks)) ≡ weight_of (with_value tag w c.members) + rest
+
 -- the same of the chunk that the code reads at a place and changes there
-module _ (chunks : List Stretch) (place : ℕ) (c d : Stretch) (lt : place < length chunks)
-    (is_read : c ≡ get_or chunks place c) (tag w : ℕ) (is : d.members ≡ with_value tag w c.members)
-    (here : HasTag c.members tag)
+module _ (chunks : List Stretch) (place tag : ℕ) (c : Stretch) (read : IsReadFor chunks place tag c) (d : Stretch)
+    (w : ℕ) (is : d.members ≡ with_value tag w c.members)
   where
     pub reweighed_here : AreTags (members_of chunks)
         → members_of (set chunks place d) ≡ with_value tag w (members_of chunks)
     reweighed_here are =
-        let (ahead, behind, cut, at, changed) = seam_at chunks place c lt is_read in
+        let (ahead, behind, cut, at, changed) = seam_at chunks place c read.within read.is in
         let old : List Stretch → Members = λ (l : List Stretch). with_value tag w (members_of l) in
         ap members_of (changed d)
         ∙ reweighed_in_all ahead c d behind tag w is
-        (subst (λ (l : List Stretch). AreTags (members_of l)) cut are) here
+        (subst (λ (l : List Stretch). AreTags (members_of l)) cut are) read.here
         ∙ ap old (sym cut)
 
     pub tied_reweighed_here : (homes : List ℕ) → d.home ≡ c.home → AreTied homes chunks
         → AreTied homes (set chunks place d)
     tied_reweighed_here homes same tied =
-        let (ahead, behind, cut, at, changed) = seam_at chunks place c lt is_read in
+        let (ahead, behind, cut, at, changed) = seam_at chunks place c read.within read.is in
         subst (AreTied homes) (sym (changed d))
-        (tied_reweighed ahead c d behind tag w is homes same here (subst (AreTied homes) cut tied))
+        (tied_reweighed ahead c d behind tag w is homes same read.here (subst (AreTied homes) cut tied))
 
-    -- what it weighs beside the other chunks
-    pub weighs_here : AreTags (members_of chunks)
-        → (rest : ℕ) × (weight_of (members_of chunks) ≡ weight_of c.members + rest)
-        × (weight_of (with_value tag w (members_of chunks)) ≡ weight_of d.members + rest)
-    weighs_here are =
-        let (rest, was, changed) = weight_at chunks place c lt is_read in
-        (rest, was, sym (ap weight_of (reweighed_here are)) ∙ changed d)
+-- what it weighs beside the other chunks
+pub weighs_here : (chunks : List Stretch) (place tag : ℕ) (c : Stretch) → IsReadFor chunks place tag c → (w : ℕ)
+    → AreTags (members_of chunks) → Weighs chunks c tag w
+weighs_here chunks place tag c read w are =
+    let d : Stretch = record { members = with_value tag w c.members; home = c.home } in
+    let (rest, was, changed) = weight_at chunks place c read.within read.is in
+    record {
+      rest = rest;
+      was = was;
+      is = sym (ap weight_of (reweighed_here chunks place tag c read d w refl are)) ∙ changed d;
+    }

@@ -30,9 +30,26 @@ module _ (chunks : List Stretch) (place tag : ℕ) (found : IsPlaceOf chunks pla
   pub is_within : place < length chunks
   is_within = slice_get_within chunks place found.0 found.1
 
-  pub has_here : (c : Stretch) → c ≡ get_or chunks place c → HasTag c.members tag
+  has_here : (c : Stretch) → c ≡ get_or chunks place c → HasTag c.members tag
   has_here c is =
       subst (λ (d : Stretch). HasTag d.members tag) (sym (is_read chunks place found.0 c found.1 is)) found.2
+
+-- the chunk at this place is read, and has the member of this tag
+pub record IsReadFor (chunks : List Stretch) (place tag : ℕ) (c : Stretch) : Type 0 where
+  pub within : place < length chunks
+  pub is : c ≡ get_or chunks place c
+  pub here : HasTag c.members tag
+
+-- so is the chunk at the place that the tables tell, of the chunks that were seen there
+pub read_for : (seen chunks : List Stretch) (place tag : ℕ) (c : Stretch) → seen ≡ chunks
+    → IsPlaceOf seen place tag → c ≡ get_or chunks place c → IsReadFor chunks place tag c
+read_for seen chunks place tag c same told is =
+    let found : IsPlaceOf chunks place tag = subst (λ (l : List Stretch). IsPlaceOf l place tag) same told in
+    record {
+      within = is_within chunks place tag found;
+      is = is;
+      here = has_here chunks place tag found c is;
+    }
 
 -- the members of one chunk stand apart from the others
 pub apart_here : (ahead : List Stretch) (c : Stretch) (behind : List Stretch)

@@ -1,10 +1,25 @@
 use Rattle.std.proofs.Common.{◌≡◌, ℕ, ◌+◌, List, take, sym, ap, subst, ◌∙◌, arith}
-use Rattle.rank_index.specs.Chunks.{Stretch, members_of, IsPlaceOf}
+use Rattle.rank_index.specs.Chunks.{Stretch, members_of}
 use Rattle.rank_index.specs.Ranked.{Ranked, weight_of, IsRank}
-use Rattle.rank_index.proofs.Stretches.{is_within, has_here}
+use Rattle.rank_index.proofs.Stretches.{IsReadFor, is_within, read_for}
 use Rattle.rank_index.proofs.Tagged.{Members}
 use Rattle.rank_index.proofs.Weights.{weight_ahead, weight_within, rank_within, rank_here}
 use Rattle.rank_index.proofs.index.RankIndex.rank.Goals as goal
+use Rattle.rank_index.proofs.index.RankIndex.rank.Goals.{After-index}
+
+-- the chunk that is read has the member
+is_read : (c : After-index)
+    → IsReadFor c.self.inside.chunks.items c.chunk_of-place.result c.args.tag c.index.result.now
+is_read c =
+    read_for c.deref.result.now c.self.inside.chunks.items c.chunk_of-place.result c.args.tag c.index.result.now
+    c.deref.ensures.value c.chunk_of-place.ensures c.index.ensures
+
+-- what was added up is what stands in the chunks ahead of it
+ahead : (c : After-index)
+    → c.weight_in.result ≡ weight_of (members_of (take c.chunk_of-place.result c.self.inside.chunks.items))
+ahead c =
+    c.weight_in.ensures
+    ∙ ap (λ (l : List Stretch). weight_of (members_of (take c.chunk_of-place.result l))) c.deref-4.ensures.value
 
 pub weight_in-requires : goal.weight_in-requires
 weight_in-requires c =
@@ -24,43 +39,32 @@ index-requires c =
     )
 
 pub rank-requires : goal.rank-requires
-rank-requires c =
-    let place = c.chunk_of-place.result in
-    has_here c.self.inside.chunks.items place c.args.tag
-    (subst (λ (l : List Stretch). IsPlaceOf l place c.args.tag) c.deref.ensures.value c.chunk_of-place.ensures)
-    c.index.result.now c.index.ensures
+rank-requires c = (is_read c).here
 
 pub overflow_add-result : goal.overflow_add-result
 overflow_add-result c =
-    let chunks = c.self.inside.chunks.items in
-    let place = c.chunk_of-place.result in
-    let is_place : IsPlaceOf chunks place c.args.tag =
-    subst (λ (l : List Stretch). IsPlaceOf l place c.args.tag) c.deref.ensures.value c.chunk_of-place.ensures in
+    let at = (goal.at.overflow_add-result c).After-index in
+    let read = is_read at in
     omega (
       arith,
-      c.weight_in.ensures,
-      ap (λ (l : List Stretch). weight_of (members_of (take place l))) c.deref-4.ensures.value,
+      ahead at,
       rank_within c.index.result.now.members c.args.tag c.rank.result c.rank.ensures,
       weight_within
-          chunks place c.index.result.now (is_within chunks place c.args.tag is_place) c.index.ensures,
+          c.self.inside.chunks.items c.chunk_of-place.result c.index.result.now read.within read.is,
       c.self.invariant.4,
     )
 
 pub returns : goal.returns
 returns c =
+    let at = (goal.at.returns c).After-index in
     let chunks = c.self.inside.chunks.items in
     let place = c.chunk_of-place.result in
-    let is_place : IsPlaceOf chunks place c.args.tag =
-    subst (λ (l : List Stretch). IsPlaceOf l place c.args.tag) c.deref.ensures.value c.chunk_of-place.ensures in
-    let ahead : c.weight_in.result ≡ weight_of (members_of (take place chunks)) =
-    c.weight_in.ensures
-    ∙ ap (λ (l : List Stretch). weight_of (members_of (take place l))) c.deref-4.ensures.value in
+    let read = is_read at in
     let in_chunks : IsRank (members_of chunks) c.args.tag
     (weight_of (members_of (take place chunks)) + c.rank.result) =
-    rank_here chunks place c.index.result.now (is_within chunks place c.args.tag is_place) c.index.ensures
-    c.args.tag c.rank.result c.rank.ensures in
+    rank_here chunks place c.index.result.now read.within read.is c.args.tag c.rank.result c.rank.ensures in
     record {
       rank = subst (λ (l : Members). IsRank l c.args.tag (c.weight_in.result + c.rank.result))
           (ap (λ (r : Ranked). r.items) c.self.view_is)
-          (subst (λ (n : ℕ). IsRank (members_of chunks) c.args.tag (n + c.rank.result)) (sym ahead) in_chunks);
+          (subst (λ (n : ℕ). IsRank (members_of chunks) c.args.tag (n + c.rank.result)) (sym (ahead at)) in_chunks);
     }
