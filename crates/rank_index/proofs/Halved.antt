@@ -3,7 +3,7 @@ use Rattle.std.proofs.Common.{◌≡◌, ℕ, ◌+◌, ◌*◌, ◌<◌, ◌≤�
 use Rattle.std.proofs.Common.{Some, ◌⊎◌, inl, inr, sym, ap, subst, ◌∙◌, arith, append_assoc}
 use Rattle.std.proofs.Common.{length-append}
 use Rattle.std.proofs.lemmas.List.Elements.{All-cons, All-nil, All-head, All-tail}
-use Rattle.std.proofs.lemmas.Option.{same_Some}
+use Rattle.std.proofs.lemmas.Option.{same_Some, slice_get_within}
 use Rattle.piece_raw.specs.Ring.{HasTag, AreTags}
 use Rattle.rank_index.specs.declared.chunk.TheConstants.{MOST, HALF}
 use Rattle.rank_index.specs.Chunks.{Stretch, members_of, AreEntered, AreHomes, AreHalfFull, AreTied, IsHalved}
@@ -50,6 +50,11 @@ full_among chunks place c half at full =
           let (left, here, right) = all_parts P ahead c behind (subst (All P) cut all) in
           omega (arith, members, full, count, half_full ahead left, half_full behind right)
     ]
+
+-- its place is that of one of them
+pub full_within : (chunks : List Stretch) (place : ℕ)
+    → (c : Stretch) × (slice_get chunks place ≡ Some c) × (length c.members ≡ MOST) → place < length chunks
+full_within chunks place (c, at, full) = slice_get_within chunks place c at
 
 none : (xs : List Stretch) → length xs ≡ 0 → All (λ c. HALF ≤ length c.members) xs
 none [] e = All-nil (λ (c : Stretch). HALF ≤ length c.members)

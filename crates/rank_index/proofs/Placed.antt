@@ -79,6 +79,12 @@ placed_set places chunks at c d lt is same placed =
       counted = placed.counted ∙ sym long;
     }
 
+-- the table tells the chunks ahead of this place, and has room to tell each, under a home of its own
+pub record IsToldTo (places : List ℕ) (chunks : List Stretch) (from : ℕ) : Type 0 where
+  pub ahead : AreToldTo places chunks from
+  pub homes : HomesDiffer chunks
+  pub within : (k : ℕ) (c : Stretch) → slice_get chunks k ≡ Some c → c.home < length places
+
 -- a chunk more, under the next home
 module _ (places : List ℕ) (chunks : List Stretch) (placed : ArePlaced places chunks) (at : ℕ)
     (le : at ≤ length chunks) (rest : Stretch) (fresh : rest.home ≡ length places)
@@ -108,7 +114,7 @@ module _ (places : List ℕ) (chunks : List Stretch) (placed : ArePlaced places 
           ]
         ]
 
-    pub told_ahead : (v : ℕ) → AreToldTo (places ++ v ∷ []) made at
+    told_ahead : (v : ℕ) → AreToldTo (places ++ v ∷ []) made at
     told_ahead v k d below there = elim (was_at k d there) [
       | inl w ↦ get-left places (v ∷ []) d.home k w.1
       | inr more ↦ elim more [
@@ -117,7 +123,7 @@ module _ (places : List ℕ) (chunks : List Stretch) (placed : ArePlaced places 
       ]
     ]
 
-    pub homes_within : (v k : ℕ) (d : Stretch) → slice_get made k ≡ Some d → d.home < length (places ++ v ∷ [])
+    homes_within : (v k : ℕ) (d : Stretch) → slice_get made k ≡ Some d → d.home < length (places ++ v ∷ [])
     homes_within v k d there =
         let long : length (places ++ v ∷ []) ≡ length places + 1 = length-append places (v ∷ []) in
         elim (was_at k d there) [
@@ -132,7 +138,7 @@ module _ (places : List ℕ) (chunks : List Stretch) (placed : ArePlaced places 
         → slice_get places d.home ≡ Some k → j ≡ k
     one_place c d j k same at_j at_k = same_Some j k (sym at_j ∙ ap (slice_get places) same ∙ at_k)
 
-    pub homes_differ : HomesDiffer made
+    homes_differ : HomesDiffer made
     homes_differ j k c d there_j there_k same = elim (was_at j c there_j) [
       | inl v ↦ elim (was_at k d there_k) [
         | inl w ↦ one_place c d j k same v.1 w.1
@@ -159,14 +165,6 @@ module _ (places : List ℕ) (chunks : List Stretch) (placed : ArePlaced places 
       ]
     ]
 
-    pub count_made : length made ≡ length chunks + 1
-    count_made = omega (
-      arith,
-      length-append (take at chunks) (rest ∷ drop at chunks),
-      length-append (take at chunks) (drop at chunks),
-      ap length (take-append-drop at chunks),
-    )
-
 -- a chunk that is changed under its home, and a new one directly behind it, under the next home
 module _ (places : List ℕ) (chunks : List Stretch) (placed : ArePlaced places chunks) (at : ℕ) (c d rest : Stretch)
     (lt : at < length chunks) (is : c ≡ get_or chunks at c) (same : d.home ≡ c.home)
@@ -178,25 +176,15 @@ module _ (places : List ℕ) (chunks : List Stretch) (placed : ArePlaced places 
     le : at + 1 ≤ length changed
     le = omega (arith, lt, length-set chunks at d)
 
-    pub told_behind : (v : ℕ) → AreToldTo (places ++ v ∷ []) (insert changed (at + 1) rest) (at + 1)
-    told_behind = told_ahead places changed (placed_set places chunks at c d lt is same placed) (at + 1) le rest fresh
+    was_placed : ArePlaced places changed
+    was_placed = placed_set places chunks at c d lt is same placed
 
-    pub within_behind : (v k : ℕ) (e : Stretch) → slice_get (insert changed (at + 1) rest) k ≡ Some e
-        → e.home < length (places ++ v ∷ [])
-    within_behind =
-        homes_within places changed (placed_set places chunks at c d lt is same placed) (at + 1) le rest fresh
-
-    pub differ_behind : HomesDiffer (insert changed (at + 1) rest)
-    differ_behind =
-        homes_differ places changed (placed_set places chunks at c d lt is same placed) (at + 1) le rest fresh
-
-    pub count_behind : length (insert changed (at + 1) rest) ≡ length places + 1
-    count_behind = omega (
-      arith,
-      count_made places changed (placed_set places chunks at c d lt is same placed) (at + 1) le rest fresh,
-      length-set chunks at d,
-      placed.counted,
-    )
+    pub told_behind : (v : ℕ) → IsToldTo (places ++ v ∷ []) (insert changed (at + 1) rest) (at + 1)
+    told_behind v = record {
+      ahead = told_ahead places changed was_placed (at + 1) le rest fresh v;
+      homes = homes_differ places changed was_placed (at + 1) le rest fresh;
+      within = homes_within places changed was_placed (at + 1) le rest fresh v;
+    }
 
 -- one chunk alone
 pub placed_alone : (c : Stretch) → c.home ≡ 0 → ArePlaced (0 ∷ []) (c ∷ [])

@@ -1,19 +1,33 @@
-use Rattle.std.proofs.Common.{◌≡◌, ℕ, [], List, Some, length, slice_get, refl, sym, subst, arith}
+use Rattle.std.proofs.Common.{◌≡◌, ◌+◌, ◌++◌, [], ◌∷◌, List, Some, length, slice_get, refl, sym, subst, arith}
+use Rattle.std.specs.List.{insert}
+use Rattle.std.proofs.Math.ListN.{set}
 use Rattle.std.proofs.lemmas.List.Elements.{All-pop}
-use Rattle.std.proofs.lemmas.Option.{slice_get_read, slice_get_within}
+use Rattle.std.proofs.lemmas.Option.{slice_get_read}
 use Rattle.rank_index.specs.Chunks.{Stretch, AreTied, IsHalved}
-use Rattle.rank_index.proofs.Halved.{halved_here, tied_here}
+use Rattle.rank_index.proofs.Halved.{full_within, halved_here, tied_here}
 use Rattle.rank_index.proofs.Homes.{part_within}
-use Rattle.rank_index.proofs.Placed.{told_behind, within_behind, differ_behind}
+use Rattle.rank_index.proofs.Placed.{IsToldTo, told_behind}
 use Rattle.rank_index.proofs.index.halve.Goals as goal
+use Rattle.rank_index.proofs.index.halve.Goals.{After-halve}
+
+-- the table is told up to the new chunk, which stands behind the other under the next home
+told : (c : After-halve) → IsToldTo (c.args.places.now.items ++ c.len-home.result ∷ [])
+    (insert (set c.args.chunks.now.items c.args.place c.halve.new.self) (c.args.place + 1) c.halve.new.rest)
+    (c.args.place + 1)
+told c =
+    let chunks : List Stretch = c.args.chunks.now.items in
+    let fresh : c.halve.new.rest.home ≡ length c.args.places.now.items =
+    omega (arith, c.halve.ensures.homes.1, c.move_to.ensures.home, c.len-home.ensures, c.args.places.now.ok.0) in
+    told_behind c.args.places.now.items chunks c.requires.placed c.args.place c.index_mut.result.now c.halve.new.self
+    c.halve.new.rest (full_within chunks c.args.place c.requires.full) c.index_mut.ensures.value
+    c.halve.ensures.homes.0 fresh c.len-home.result
 
 pub enter-requires : goal.enter-requires
 enter-requires c =
     let chunks : List Stretch = c.args.chunks.now.items in
     let whole : Stretch = c.index_mut.result.now in
-    let (full, at, most) = c.requires.full in
     let there : slice_get chunks c.args.place ≡ Some whole =
-    slice_get_read chunks (length chunks) c.args.place whole refl (slice_get_within chunks c.args.place full at)
+    slice_get_read chunks (length chunks) c.args.place whole refl (full_within chunks c.args.place c.requires.full)
     c.index_mut.ensures.value in
     part_within c.args.homes.now chunks c.args.place whole c.halve.new.self.members c.halve.new.rest.members
     c.requires.tied.entered there c.halve.ensures.parts
@@ -21,56 +35,33 @@ enter-requires c =
 pub overflow_add-place : goal.overflow_add-place
 overflow_add-place c =
     let chunks = c.args.chunks.now in
-    let (full, at, most) = c.requires.full in
-    omega (arith, slice_get_within chunks.items c.args.place full at, chunks.ok.0, chunks.ok.1, chunks.small)
+    omega (arith, full_within chunks.items c.args.place c.requires.full, chunks.ok.0, chunks.ok.1, chunks.small)
 
 pub insert-requires : goal.insert-requires
 insert-requires c =
     let chunks = c.args.chunks.now in
-    let (full, at, most) = c.requires.full in
-    omega (arith, slice_get_within chunks.items c.args.place full at, chunks.ok.0)
+    omega (arith, full_within chunks.items c.args.place c.requires.full, chunks.ok.0)
 
 pub renumber-requires-clause-ahead : goal.renumber-requires-clause-ahead
 renumber-requires-clause-ahead c =
-    let chunks : List Stretch = c.args.chunks.now.items in
-    let places : List ℕ = c.args.places.now.items in
-    let (full, at, most) = c.requires.full in
-    let fresh : c.halve.new.rest.home ≡ length places =
-    omega (arith, c.halve.ensures.homes.1, c.move_to.ensures.home, c.len-home.ensures, c.args.places.now.ok.0) in
     rw (c.deref_mut.ensures.value, c.push_reserved.ensures.items, c.deref.ensures.value, c.in-Ok.ensures.items)
-    (told_behind places chunks c.requires.placed c.args.place c.index_mut.result.now c.halve.new.self
-    c.halve.new.rest (slice_get_within chunks c.args.place full at) c.index_mut.ensures.value
-    c.halve.ensures.homes.0 fresh c.len-home.result)
+    (told (goal.at.renumber-requires-clause-ahead c).After-halve).ahead
 
 pub renumber-requires-clause-homes : goal.renumber-requires-clause-homes
 renumber-requires-clause-homes c =
-    let chunks : List Stretch = c.args.chunks.now.items in
-    let places : List ℕ = c.args.places.now.items in
-    let (full, at, most) = c.requires.full in
-    let fresh : c.halve.new.rest.home ≡ length places =
-    omega (arith, c.halve.ensures.homes.1, c.move_to.ensures.home, c.len-home.ensures, c.args.places.now.ok.0) in
-    rw (c.deref.ensures.value, c.in-Ok.ensures.items) (differ_behind places chunks c.requires.placed c.args.place c.index_mut.result.now c.halve.new.self
-    c.halve.new.rest (slice_get_within chunks c.args.place full at) c.index_mut.ensures.value
-    c.halve.ensures.homes.0 fresh)
+    rw (c.deref.ensures.value, c.in-Ok.ensures.items)
+    (told (goal.at.renumber-requires-clause-homes c).After-halve).homes
 
 pub renumber-requires-clause-within : goal.renumber-requires-clause-within
 renumber-requires-clause-within c =
-    let chunks : List Stretch = c.args.chunks.now.items in
-    let places : List ℕ = c.args.places.now.items in
-    let (full, at, most) = c.requires.full in
-    let fresh : c.halve.new.rest.home ≡ length places =
-    omega (arith, c.halve.ensures.homes.1, c.move_to.ensures.home, c.len-home.ensures, c.args.places.now.ok.0) in
     rw (c.deref_mut.ensures.value, c.push_reserved.ensures.items, c.deref.ensures.value, c.in-Ok.ensures.items)
-    (within_behind places chunks c.requires.placed c.args.place c.index_mut.result.now c.halve.new.self
-    c.halve.new.rest (slice_get_within chunks c.args.place full at) c.index_mut.ensures.value
-    c.halve.ensures.homes.0 fresh c.len-home.result)
+    (told (goal.at.renumber-requires-clause-within c).After-halve).within
 
 pub returns-clause-halved : goal.returns-clause-halved
 returns-clause-halved c =
     let chunks : List Stretch = c.args.chunks.now.items in
-    let (full, at, most) = c.requires.full in
     subst (IsHalved c.args.place chunks) (sym c.in-Ok.ensures.items) (halved_here chunks c.args.place
-    c.index_mut.result.now c.halve.new.self c.halve.new.rest (slice_get_within chunks c.args.place full at)
+    c.index_mut.result.now c.halve.new.self c.halve.new.rest (full_within chunks c.args.place c.requires.full)
     c.index_mut.ensures.value c.halve.ensures.parts c.halve.ensures.halves)
 
 pub returns-clause-empty : goal.returns-clause-empty
@@ -81,9 +72,8 @@ returns-clause-empty c =
 pub returns-clause-tied : goal.returns-clause-tied
 returns-clause-tied c =
     let chunks : List Stretch = c.args.chunks.now.items in
-    let (full, at, most) = c.requires.full in
     subst (AreTied c.enter.new.homes) (sym c.in-Ok.ensures.items) (tied_here chunks c.args.place
-    c.index_mut.result.now c.halve.new.self c.halve.new.rest (slice_get_within chunks c.args.place full at)
+    c.index_mut.result.now c.halve.new.self c.halve.new.rest (full_within chunks c.args.place c.requires.full)
     c.index_mut.ensures.value c.halve.ensures.parts c.halve.ensures.halves c.args.homes.now c.enter.new.homes
     c.requires.tied (omega (arith, c.enter.auto.homes)) c.halve.ensures.homes.0 c.enter.ensures.entered
     c.enter.ensures.others)
