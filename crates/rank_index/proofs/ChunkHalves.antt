@@ -2,7 +2,8 @@
 use Rattle.std.proofs.Common.{◌≡◌, ℕ, ◌+◌, ◌≤◌, length, take, drop, sym, ap, ◌∙◌}
 use Rattle.std.proofs.lemmas.List.{take-append-drop, take_all}
 use Rattle.rank_index.specs.Ranked.{weight_of}
-use Rattle.rank_index.proofs.ChunkRank.{Members, weight_of-append}
+use Rattle.rank_index.proofs.ChunkRank.{weight_of-append}
+use Rattle.rank_index.proofs.Tagged.{Members}
 
 -- all are moved
 pub all_moved : (xs moved rest : Members) (i : ℕ) → length xs ≤ i → moved ≡ take i xs → xs ≡ rest → moved ≡ rest

@@ -10,7 +10,8 @@ use Rattle.std.proofs.Math.Seq.{get_or-append_seam, set-append_seam}
 use Rattle.piece_raw.specs.Ring.{HasTag, last_tag, tags, with_value}
 use Rattle.rank_index.specs.Places.{IsPlace}
 use Rattle.rank_index.specs.Ranked.{weight_of}
-use Rattle.rank_index.proofs.ChunkRank.{Members, weight_of-append, weight_of-cut}
+use Rattle.rank_index.proofs.ChunkRank.{weight_of-append, weight_of-cut}
+use Rattle.rank_index.proofs.Tagged.{Members}
 
 -- a member of a tag is among the members
 pub has_place : (xs : Members) (tag place : ℕ) → IsPlace xs tag place → HasTag xs tag

@@ -1,5 +1,5 @@
 -- What stands ahead of a member, and what a part of the members weighs.
-use Rattle.std.proofs.Common.{◌≡◌, ◌≢◌, ℕ, ◌+◌, ◌<◌, ◌≤◌, List, [], ◌∷◌, ◌++◌, length, get_or, take, drop, All}
+use Rattle.std.proofs.Common.{◌≡◌, ◌≢◌, ℕ, ◌+◌, ◌<◌, ◌≤◌, [], ◌∷◌, ◌++◌, length, get_or, take, drop, All}
 use Rattle.std.proofs.Common.{sym, ap, ◌∙◌, subst, arith}
 use Rattle.std.proofs.lemmas.List.{take-append-drop, take_all, drop_more, take_more, length-append, length-take-le}
 use Rattle.std.proofs.lemmas.List.Elements.{All-cons, All-more}
@@ -8,9 +8,7 @@ use Rattle.std.proofs.Math.Seq.{get_or-append_seam}
 use Rattle.piece_raw.specs.Ring.{HasTag}
 use Rattle.rank_index.specs.Places.{IsPlace}
 use Rattle.rank_index.specs.Ranked.{weight_of, IsRank, IsFound}
-
-abbrev pub Members : Type 0
-Members = List (ℕ × ℕ)
+use Rattle.rank_index.proofs.Tagged.{Members}
 
 pub weight_of-append : (xs ys : Members) → weight_of (xs ++ ys) ≡ weight_of xs + weight_of ys
 weight_of-append xs ys =

@@ -1,20 +1,14 @@
 -- Sums of weights, and what is found by them.
 use Rattle.std.proofs.Common.{◌≡◌, ℕ, ◌+◌, ◌<◌, ◌≤◌, List, [], ◌∷◌, ◌++◌, length, get_or, take, drop, suc}
 use Rattle.std.proofs.Common.{sym, ap, subst, ◌∙◌, arith, append_assoc, append-nil}
-use Rattle.std.proofs.lemmas.List.Sums.{sum-map, sum_by-append}
 use Rattle.std.proofs.lemmas.List.{take_more, take-append-drop}
 use Rattle.rank_index.specs.Chunks.{Stretch, members_of}
 use Rattle.rank_index.specs.Ranked.{weight_of, IsRank, IsFound}
 use Rattle.std.proofs.Math.ListN.{set}
+use Rattle.rank_index.proofs.ChunkRank.{weight_of-append}
 use Rattle.rank_index.proofs.Pieces.{cut_read, seam_at}
 use Rattle.rank_index.proofs.Stretches.{members_of-append, members_of-seam}
 use Rattle.rank_index.proofs.Tagged.{Members}
-
-pub weight_of-append : (xs ys : Members) → weight_of (xs ++ ys) ≡ weight_of xs + weight_of ys
-weight_of-append xs ys =
-    let weight : ℕ × ℕ → ℕ = λ (m : ℕ × ℕ). m.1 in
-    sum-map weight (xs ++ ys) ∙ sum_by-append weight xs ys
-    ∙ (λ i. sym (sum-map weight xs) i + sym (sum-map weight ys) i)
 
 pub weight_of-seam : (ahead : List Stretch) (c : Stretch) (behind : List Stretch)
     → weight_of (members_of (ahead ++ c ∷ behind))

@@ -22,14 +22,8 @@ bounds-homes-member c =
 
 pub offset_bounds-homes-member : goal.offset_bounds-homes-member
 offset_bounds-homes-member c =
-    let members : Members = c.members-members.result.now in
-    let k : ℕ = c.loop-member.member-index in
-    let here : HasTag members (get_or members k (0, 0)).0 =
-    HasTag-read members k (0, 0) c.loop-member-test.true in
-    let in_chunk : HasTag c.args.chunk.now.members (get_or members k (0, 0)).0 =
-    subst (λ (l : Members). HasTag l (get_or members k (0, 0)).0) c.members-members.ensures.members here in
-    let lt : (get_or members k (0, 0)).0 < length c.args.homes.now =
-    c.requires (get_or members k (0, 0)).0 in_chunk in
+    let lt : (get_or c.members-members.result.now c.loop-member.member-index (0, 0)).0 < length c.args.homes.now =
+    omega (arith, bounds-homes-member c, c.loop-member.auto.homes) in
     first_of (search rules, omega arith)
 
 pub loop-member-preserved : goal.loop-member-preserved

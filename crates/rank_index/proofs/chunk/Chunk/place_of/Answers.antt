@@ -1,7 +1,7 @@
 use Rattle.std.proofs.Common.{◌↔◌, IfSome, IsSome, subst}
 use Rattle.piece_raw.specs.Ring.{HasTag}
 use Rattle.rank_index.specs.Places.{IsPlace}
-use Rattle.rank_index.proofs.ChunkRank.{Members}
+use Rattle.rank_index.proofs.Tagged.{Members}
 use Rattle.rank_index.proofs.chunk.Chunk.place_of.Goals as goal
 
 pub returns-clause-place : goal.returns-clause-place

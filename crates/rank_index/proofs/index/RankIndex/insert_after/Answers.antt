@@ -10,38 +10,50 @@ use Rattle.rank_index.proofs.Placed.{placed_set}
 use Rattle.rank_index.proofs.Tagged.{Members}
 use Rattle.rank_index.proofs.Weights.{weight_within}
 use Rattle.rank_index.proofs.index.RankIndex.insert_after.Goals as goal
+use Rattle.rank_index.proofs.index.RankIndex.insert_after.Goals.{After-index_mut-chunk, After-insert_after}
+
+-- the chunk's place is that of one of the chunks
+within : (c : After-index_mut-chunk) → c.place_behind-place.result < length c.place_behind-place.new.chunks.items
+within c =
+    let (there, at, room) = c.place_behind-place.ensures.room in
+    slice_get_within c.place_behind-place.new.chunks.items c.place_behind-place.result there at
+
+-- these have the members that were there
+same : (c : After-index_mut-chunk) → members_of c.place_behind-place.new.chunks.items ≡ c.args.self.now.items
+same c = c.place_behind-place.ensures.members ∙ ap (λ (r : Ranked). r.items) c.self.view_is
+
+-- what was put into the chunk was put among all members
+put : (c : After-insert_after) → c.place_behind-place.result < length c.place_behind-place.new.chunks.items
+    → IsPushed (members_of c.place_behind-place.new.chunks.items) c.args.after c.args.tag c.args.weight
+    (members_of (set c.place_behind-place.new.chunks.items c.place_behind-place.result c.insert_after.new.self))
+put c lt =
+    pushed_here c.place_behind-place.new.chunks.items c.place_behind-place.result c.index_mut-chunk.result.now
+    c.insert_after.new.self lt c.index_mut-chunk.ensures.value c.args.after c.args.tag c.args.weight
+    c.place_behind-place.ensures.place c.insert_after.ensures.inserted
 
 pub insert_after-requires-clause-total : goal.insert_after-requires-clause-total
 insert_after-requires-clause-total c =
-    let chunks : List Stretch = c.place_behind-place.new.chunks.items in
-    let place : ℕ = c.place_behind-place.result in
-    let (there, at, room) = c.place_behind-place.ensures.room in
-    let same : members_of chunks ≡ c.args.self.now.items =
-    c.place_behind-place.ensures.members ∙ ap (λ (r : Ranked). r.items) c.self.view_is in
+    let at = (goal.at.insert_after-requires-clause-total c).After-index_mut-chunk in
     omega (
       arith,
-      weight_within chunks place c.index_mut-chunk.result.now (slice_get_within chunks place there at)
-          c.index_mut-chunk.ensures.value,
-      ap weight_of same,
+      weight_within c.place_behind-place.new.chunks.items c.place_behind-place.result c.index_mut-chunk.result.now
+          (within at) c.index_mut-chunk.ensures.value,
+      ap weight_of (same at),
       c.requires.total,
     )
 
 pub invariant_of-self : goal.invariant_of-self
 invariant_of-self c =
+    let at = goal.at.invariant_of-self c in
     let chunks : List Stretch = c.place_behind-place.new.chunks.items in
     let homes : List ℕ = c.place_behind-place.new.homes in
     let place : ℕ = c.place_behind-place.result in
     let chunk : Stretch = c.insert_after.new.self in
-    let (there, at, room) = c.place_behind-place.ensures.room in
-    let lt : place < length chunks = slice_get_within chunks place there at in
-    let same : members_of chunks ≡ c.args.self.now.items =
-    c.place_behind-place.ensures.members ∙ ap (λ (r : Ranked). r.items) c.self.view_is in
-    let put : IsPushed (members_of chunks) c.args.after c.args.tag c.args.weight (members_of (set chunks place chunk)) =
-    pushed_here chunks place c.index_mut-chunk.result.now chunk lt c.index_mut-chunk.ensures.value c.args.after
-    c.args.tag c.args.weight c.place_behind-place.ensures.place c.insert_after.ensures.inserted in
+    let lt : place < length chunks = within at.After-index_mut-chunk in
+    let is_same : members_of chunks ≡ c.args.self.now.items = same at.After-index_mut-chunk in
     let weight : weight_of (members_of (set chunks place chunk)) ≡ weight_of (members_of chunks) + c.args.weight =
     weight_pushed (members_of chunks) (members_of (set chunks place chunk)) c.args.after c.args.tag c.args.weight
-    put in
+    (put at.After-insert_after lt) in
     let count : length homes ≡ c.self.inside.homes.len =
     omega (arith, c.place_behind-place.auto.homes, c.deref_mut.ensures.len) in
     let entered : c.push_reserved.new.self.items ≡ homes ++ chunk.home ∷ [] =
@@ -52,11 +64,11 @@ invariant_of-self c =
       subst (λ (l : List ℕ). AreTied l (set chunks place chunk)) (sym entered) (tied_pushed_here chunks place
           c.index_mut-chunk.result.now chunk lt c.index_mut-chunk.ensures.value c.args.after c.args.tag
           c.args.weight c.place_behind-place.ensures.place c.insert_after.ensures.inserted homes
-          c.insert_after.ensures.home (c.requires.tag ∙ sym (ap length same)) c.place_behind-place.ensures.tied),
+          c.insert_after.ensures.home (c.requires.tag ∙ sym (ap length is_same)) c.place_behind-place.ensures.tied),
       c.place_behind-place.ensures.empty,
       omega (arith, c.place_behind-place.ensures.count, c.place_behind-place.ensures.chunks_room, c.self.invariant.2),
       omega (arith, weight, ap weight_of c.place_behind-place.ensures.members, c.self.invariant.3),
-      omega (arith, weight, ap weight_of same, c.requires.total),
+      omega (arith, weight, ap weight_of is_same, c.requires.total),
       placed_set c.place_behind-place.new.places.items chunks place c.index_mut-chunk.result.now chunk lt
           c.index_mut-chunk.ensures.value c.insert_after.ensures.home c.place_behind-place.ensures.placed,
       omega (
@@ -69,13 +81,7 @@ invariant_of-self c =
 
 pub returns-clause-inserted : goal.returns-clause-inserted
 returns-clause-inserted c =
-    let chunks : List Stretch = c.place_behind-place.new.chunks.items in
-    let place : ℕ = c.place_behind-place.result in
-    let (there, at, room) = c.place_behind-place.ensures.room in
-    let same : members_of chunks ≡ c.args.self.now.items =
-    c.place_behind-place.ensures.members ∙ ap (λ (r : Ranked). r.items) c.self.view_is in
+    let at = goal.at.returns-clause-inserted c in
     subst (λ (l : Members). IsPushed l c.args.after c.args.tag c.args.weight
-    (members_of (set chunks place c.insert_after.new.self))) same
-    (pushed_here chunks place c.index_mut-chunk.result.now c.insert_after.new.self
-    (slice_get_within chunks place there at) c.index_mut-chunk.ensures.value c.args.after c.args.tag c.args.weight
-    c.place_behind-place.ensures.place c.insert_after.ensures.inserted)
+    (members_of (set c.place_behind-place.new.chunks.items c.place_behind-place.result c.insert_after.new.self)))
+    (same at.After-index_mut-chunk) (put at.After-insert_after (within at.After-index_mut-chunk))
