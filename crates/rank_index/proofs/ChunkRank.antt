@@ -2,7 +2,7 @@
 use Rattle.std.proofs.Common.{◌≡◌, ◌≢◌, ℕ, ◌+◌, ◌<◌, ◌≤◌, [], ◌∷◌, ◌++◌, length, get_or, take, drop, All}
 use Rattle.std.proofs.Common.{sym, ap, ◌∙◌, subst, arith}
 use Rattle.std.proofs.lemmas.List.{take-append-drop, take_all, drop_more, take_more, length-append, length-take-le}
-use Rattle.std.proofs.lemmas.List.Elements.{All-cons, All-more}
+use Rattle.std.proofs.lemmas.List.Elements.{All-more}
 use Rattle.std.proofs.lemmas.List.Sums.{sum-map, sum_by-append, sum_by-cons}
 use Rattle.std.proofs.Math.Seq.{get_or-append_seam}
 use Rattle.piece_raw.specs.Ring.{HasTag}
@@ -35,12 +35,6 @@ module _ (xs : Members) (i : ℕ) (d : ℕ × ℕ) (lt : i < length xs) where
   pub weight_of-more_le : weight_of (take i xs) + (get_or xs i d).1 ≤ weight_of xs
   weight_of-more_le =
       omega (arith, ap weight_of cut_at, weight_of-cut (take i xs) (get_or xs i d) (drop (i + 1) xs))
-
-  pub others_behind : (tag : ℕ) → All (λ n. n.0 ≢ tag) (drop (i + 1) xs) → (get_or xs i d).0 ≢ tag
-      → All (λ n. n.0 ≢ tag) (drop i xs)
-  others_behind tag others other =
-      let P : ℕ × ℕ → Type 0 = λ (n : ℕ × ℕ). n.0 ≢ tag in
-      subst (All P) (sym (drop_more xs i d lt)) (All-cons P (get_or xs i d) (drop (i + 1) xs) other others)
 
   pub others_more : (tag : ℕ) → All (λ n. n.0 ≢ tag) (take i xs) → (get_or xs i d).0 ≢ tag
       → All (λ n. n.0 ≢ tag) (take (i + 1) xs)

@@ -1,7 +1,7 @@
 -- Sums of weights, and what is found by them.
-use Rattle.std.proofs.Common.{◌≡◌, ℕ, ◌+◌, ◌<◌, ◌≤◌, List, [], ◌∷◌, ◌++◌, length, get_or, take, drop, suc}
-use Rattle.std.proofs.Common.{sym, ap, subst, ◌∙◌, arith, append_assoc, append-nil}
-use Rattle.std.proofs.lemmas.List.{take_more, take-append-drop}
+use Rattle.std.proofs.Common.{◌≡◌, ℕ, ◌+◌, ◌<◌, ◌≤◌, List, ◌∷◌, ◌++◌, length, get_or, take, drop, suc}
+use Rattle.std.proofs.Common.{sym, ap, subst, ◌∙◌, arith, append_assoc}
+use Rattle.std.proofs.lemmas.List.{take-append-drop}
 use Rattle.rank_index.specs.Chunks.{Stretch, members_of}
 use Rattle.rank_index.specs.Ranked.{weight_of, IsRank, IsFound}
 use Rattle.std.proofs.Math.ListN.{set}
@@ -17,16 +17,6 @@ weight_of-seam ahead c behind =
     ap weight_of (members_of-seam ahead c behind)
     ∙ weight_of-append (members_of ahead) (c.members ++ members_of behind)
     ∙ ap (λ (n : ℕ). weight_of (members_of ahead) + n) (weight_of-append c.members (members_of behind))
-
--- one chunk more is passed
-pub weight_passed : (chunks : List Stretch) (k : ℕ) (c : Stretch) → k < length chunks → c ≡ get_or chunks k c
-    → weight_of (members_of (take (k + 1) chunks)) ≡ weight_of (members_of (take k chunks)) + weight_of c.members
-weight_passed chunks k c lt is =
-    ap (λ (l : List Stretch). weight_of (members_of l)) (take_more chunks k c lt
-    ∙ ap (λ (d : Stretch). take k chunks ++ d ∷ []) (sym is))
-    ∙ ap weight_of (members_of-append (take k chunks) (c ∷ []))
-    ∙ weight_of-append (members_of (take k chunks)) (c.members ++ [])
-    ∙ ap (λ (l : Members). weight_of (members_of (take k chunks)) + weight_of l) (append-nil c.members)
 
 -- the chunks ahead weigh no more than all
 pub weight_ahead : (chunks : List Stretch) (k : ℕ)
