@@ -1,5 +1,6 @@
 pub mod Apart
 pub mod Blocks
+pub mod Left
 pub mod Matching
 pub mod Memory
 pub mod Pairs

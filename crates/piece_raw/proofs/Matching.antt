@@ -123,7 +123,7 @@ module _ {T : Type 0} where
       last_tag-members (x ∷ xs) h = last_tag-cons x xs h
 
   -- the node after x, around the ring
-  pub step_after : (t : N T) (ns xs : List (N T)) (x : N T) (ys : List (N T)) → t ∷ ns ≡ xs ++ x ∷ ys →
+  unfoldable pub step_after : (t : N T) (ns xs : List (N T)) (x : N T) (ys : List (N T)) → t ∷ ns ≡ xs ++ x ∷ ys →
       (y : N T) × (zs : List (N T)) × (t ∷ (ns ++ t ∷ []) ≡ xs ++ x ∷ y ∷ zs) × IsAmong (t ∷ ns) y
   step_after t ns xs x [] c = (
     t,
@@ -173,6 +173,14 @@ module _ {T : Type 0} where
     ap (λ l. t.at ∷ l) (sym (map-append (λ (n : N T). n.at) ns (t ∷ []))) ∙
         ap places e ∙ map-append (λ (n : N T). n.at) xs (x ∷ y ∷ zs),
   )
+
+  -- the pointer of the node after x comes directly after that of x
+  pub pointer_after : (t : N T) (ns xs : List (N T)) (x : N T) (ys : List (N T)) (c : t ∷ ns ≡ xs ++ x ∷ ys)
+      (p : Ptr) → p ≡ x.at → HasNext (round t ns) p (step_after t ns xs x ys c).0.at
+  pointer_after t ns xs x ys c p at =
+      let step = step_after t ns xs x ys c in
+      subst (λ (q : Ptr). HasNext (round t ns) q step.0.at) (sym at)
+      (round_step t ns xs x step.0 step.1 step.2)
 
   pub places_last : (t : N T) (xs : List (N T)) → last_from t.at (places xs) ≡ (last_from t xs).at
   places_last t [] = refl

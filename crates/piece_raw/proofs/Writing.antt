@@ -182,6 +182,12 @@ module _ {T : Type 0} where
   pub stop-trailer : (t : N T) (ns : List (N T)) → t.value ≡ None → IsStop (t ∷ ns) None
   stop-trailer t ns e = (t, ([], ns, refl), ap (option_map (λ (m : Member T). m.tag)) e)
 
+  -- where there is a member, or nothing is named, a cursor can stand
+  pub stop-member-if : (ps : List Ptr) (t : N T) (ns : List (N T)) → Matches ps ns → t.value ≡ None →
+      (stop : Option ℕ) → IfSome stop (HasTag (members ns)) → IsStop (t ∷ ns) stop
+  stop-member-if ps t ns h none None has = stop-trailer t ns none
+  stop-member-if ps t ns h none (Some tag) has = stop-member ps t ns h tag has
+
   at_stop : (ps : List Ptr) (t : N T) (ns : List (N T)) → AllByRecursion (IsHeld ps) ns → t.value ≡ None →
       (tag : ℕ) (xs : List (N T)) (x : N T) (ys : List (N T)) → t ∷ ns ≡ xs ++ x ∷ ys → stop_of x ≡ Some tag
       → (xs : List (N T)) × (x : N T) × (ys : List (N T)) × (m : Member T) × (ns ≡ xs ++ x ∷ ys)

@@ -46,6 +46,11 @@ module _ {T : Type 0} where
   last_tag (m ∷ []) = Some m.0
   last_tag (m ∷ n ∷ xs) = last_tag (n ∷ xs)
 
+  -- the first of xs has this tag; none where there is no member
+  abbrev pub first_tag : List (ℕ × T) → Option ℕ
+  first_tag [] = None
+  first_tag (m ∷ xs) = Some m.0
+
   -- new is old with one more member, directly after the cursor
   abbrev pub IsPushed : List (ℕ × T) → Option ℕ → ℕ → T → List (ℕ × T) → Type 0
   IsPushed old cursor tag value new = (xs : List (ℕ × T)) × (ys : List (ℕ × T)) × (old ≡ xs ++ ys)

@@ -1,9 +1,9 @@
 -- How the links and the table of a ring agree.
 use Rattle.std.specs.Prelude.{◌≡◌, ℕ, ◌<◌, List, [], ◌∷◌, ◌++◌, map, length, slice_get, Option, Some, None}
-use Rattle.std.specs.Prelude.{option_map}
+use Rattle.std.specs.Prelude.{option_map, cond}
 use Rattle.std.specs.List.{AllByRecursion}
 use denote.RawPtr.{Ptr}
-use Rattle.piece_raw.specs.Linked.{Linked}
+use Rattle.piece_raw.specs.Linked.{Linked, same_ptr}
 use Rattle.piece_raw.specs.declared.nodes.Member.{Member}
 use Rattle.piece_raw.specs.declared.nodes.Nodes.{Nodes}
 use Rattle.piece_raw.specs.declared.block.Block.{Block}
@@ -22,6 +22,11 @@ module _ {T : Type 0} where
   abbrev pub members : List (Linked (Held T)) → List (ℕ × T)
   members [] = []
   members (n ∷ ns) = item_of n.value ++ members ns
+
+  -- the nodes from the one on that lies there; none where none does
+  abbrev pub nodes_from : Ptr → List (Linked (Held T)) → List (Linked (Held T))
+  nodes_from p [] = []
+  nodes_from p (n ∷ ns) = cond (same_ptr n.at p) (n ∷ ns) (nodes_from p ns)
 
   -- where a cursor at the node stands
   abbrev pub stop_of : Linked (Held T) → Option ℕ

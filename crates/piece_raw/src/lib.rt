@@ -3,10 +3,12 @@
 
 mod block;
 mod links;
+mod members;
 mod nodes;
 mod ring;
 mod spares;
 
+pub use members::Members;
 pub use ring::Ring;
 
 #[cfg(test)]

@@ -1,9 +1,10 @@
-ghost use Rattle.std.specs.Prelude.{◌≡◌, ◌+◌, ◌<◌, ◌≤◌, [], length, Some as Just, None as Nothing};
+ghost use Rattle.std.specs.Prelude.{◌≡◌, ◌+◌, ◌<◌, ◌≤◌, List, ℕ, ◌++◌, [], length, Some as Just, None as Nothing};
 ghost use Rattle.std.specs.Prelude.{IsSome, IfSome, IfOk, IfErr, OnOk, OnErr, IsOk};
 ghost use Rattle.std.specs.Borrow.{sem};
 ghost use Rattle.looks.specs.Refusal.{RefusedForMemoryAlone};
-ghost use Rattle.piece_raw.specs.Ring.{ring, Follows, IsMember, HasTag, IsAtCursor, IsPushed, AreTags};
+ghost use Rattle.piece_raw.specs.Ring.{ring, Follows, IsMember, HasTag, IsAtCursor, IsPushed, AreTags, first_tag, last_tag};
 
+use crate::members::Members;
 use crate::nodes::Nodes;
 use crate::spares::{Spare, fill_up, free_all};
 use looks::Refusal;
@@ -78,6 +79,24 @@ impl<T> Ring<T> {
         ensures there { IfSome result (HasTag self.now.items) }
     {
         self.nodes.prev(Some(tag))
+    }
+
+    /// The members from the one of this tag on; none for `None`.
+    pub fn from(&self, at: Option<u64>) -> Members<'_, T>
+        requires { IfSome at (HasTag self.now.items) }
+        ensures { (ahead left : List (ℕ × T)) → self.now.items ≡ ahead ++ left → first_tag left ≡ at
+            → result ≡ left }
+    {
+        Members::from(&self.nodes, at)
+    }
+
+    /// The members behind the one of this tag; all for `None`.
+    pub fn behind(&self, last: Option<u64>) -> Members<'_, T>
+        requires { IfSome last (HasTag self.now.items) }
+        ensures { (ahead left : List (ℕ × T)) → self.now.items ≡ ahead ++ left → last_tag ahead ≡ last
+            → result ≡ left }
+    {
+        Members::behind(&self.nodes, last)
     }
 
     /// The value of the member of this tag.
