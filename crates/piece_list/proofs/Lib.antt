@@ -1,4 +1,3 @@
-pub mod Along
 pub mod ChangedNames
 pub mod ChangedPiece
 pub mod Changes

@@ -5,15 +5,12 @@ use Rattle.std.specs.List.{filter}
 use Rattle.std.proofs.lemmas.List.{length-map, map-append}
 use Rattle.std.proofs.Math.Seq.{drop-append-add}
 use Rattle.char_files.specs.declared.TheConstants.{MAX_FILE}
-use Rattle.piece_raw.specs.Ring.{AreTags}
 use Rattle.piece_list.specs.declared.piece.Piece.{Piece}
 use Rattle.piece_list.specs.declared.run.Run.{Run}
-use Rattle.piece_list.specs.Along.{left_from}
 use Rattle.piece_list.specs.Pieces.{IsPiece}
 use Rattle.piece_list.specs.RunCuts.{AreWithin, HasFront}
 use Rattle.piece_list.specs.Shown.{Appearance, appearance_of, run_of, shown_runs}
 use Rattle.piece_list.specs.Spelled.{spelled, shown_chars, ArePieces}
-use Rattle.piece_list.proofs.Along.{left_there}
 use Rattle.piece_list.proofs.Gap.{all_right}
 use Rattle.piece_list.proofs.Positions.{Items, shown_in, own, is_visible}
 use Rattle.piece_list.proofs.RunCuts.{told}
@@ -24,24 +21,21 @@ abbrev appear : Items → List Appearance
 appear items = map appearance_of (shown_chars (spelled items))
 
 -- from a piece on
-module _ (items xs ys : Items) (tag : ℕ) (p : Piece) (is : items ≡ xs ++ (tag, p) ∷ ys) (are : AreTags items) where
-  abbrev left : List Run
-  left = shown_runs (left_from (Some tag) items)
+module _ (items xs ys : Items) (tag : ℕ) (p : Piece) (is : items ≡ xs ++ (tag, p) ∷ ys) where
+  abbrev behind : Items
+  behind = (tag, p) ∷ ys
 
-  from_there : left ≡ shown_runs ((tag, p) ∷ ys)
-  from_there =
-      ap shown_runs (ap (left_from (Some tag)) is ∙ left_there xs ((tag, p) ∷ ys) (subst AreTags is are))
+  abbrev left : List Run
+  left = shown_runs behind
 
   pub tells_from : (pos within : ℕ) → pos ≡ shown_in xs + within
       → drop within (told left) ≡ drop pos (appear items)
   tells_from pos within at =
-      let behind : Items = (tag, p) ∷ ys in
       let ahead : shown_in xs ≡ length (appear xs) = sym (length-map (shown_chars (spelled xs)) appearance_of) in
       let whole : appear items ≡ appear xs ++ appear behind =
       ap appear is ∙ ap (map appearance_of) (shown_both xs behind)
       ∙ map-append appearance_of (shown_chars (spelled xs)) (shown_chars (spelled behind)) in
-      ap (λ (runs : List Run). drop within (told runs)) from_there
-      ∙ ap (drop within) (runs_tell behind)
+      ap (drop within) (runs_tell behind)
       ∙ sym (drop-append-add (appear xs) (appear behind) within)
       ∙ ap (λ (n : ℕ). drop (n + within) (appear xs ++ appear behind)) (sym ahead)
       ∙ ap (λ (n : ℕ). drop n (appear xs ++ appear behind)) (sym at)
@@ -52,13 +46,12 @@ module _ (items xs ys : Items) (tag : ℕ) (p : Piece) (is : items ≡ xs ++ (ta
       let (visible, small) = is_visible p within lt in
       let others : Items = filter (λ (m : ℕ × Piece). not m.1.hidden.value) ys in
       let first : left ≡ run_of p ∷ shown_runs ys =
-      from_there
-      ∙ ap (λ b. map (λ (m : ℕ × Piece). run_of m.1) (cond (not b) ((tag, p) ∷ others) others)) visible in
+      ap (λ b. map (λ (m : ℕ × Piece). run_of m.1) (cond (not b) ((tag, p) ∷ others) others)) visible in
       subst (HasFront within) (sym first) small
 
   pub within_from : ArePieces items → AreWithin left
   within_from pieces =
       let Is : Run → Type 0 = λ (run : Run). (0 < run.len) × (run.off + run.len ≤ MAX_FILE) in
-      let behind : ArePieces ((tag, p) ∷ ys) =
-      all_right (λ (m : ℕ × Piece). IsPiece m.1) xs ((tag, p) ∷ ys) (subst ArePieces is pieces) in
-      subst AreWithin (sym from_there) (runs_are Is (λ q piece. (piece.0, piece.2)) ((tag, p) ∷ ys) behind)
+      let those : ArePieces behind =
+      all_right (λ (m : ℕ × Piece). IsPiece m.1) xs behind (subst ArePieces is pieces) in
+      runs_are Is (λ q piece. (piece.0, piece.2)) behind those

@@ -1,4 +1,3 @@
-pub mod Along
 pub mod Changing
 pub mod Held
 pub mod Laws

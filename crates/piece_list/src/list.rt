@@ -10,7 +10,6 @@ ghost use Rattle.piece_list.specs.Tables.{table_of};
 mod between;
 mod changing;
 mod hidden;
-mod members;
 mod placing;
 mod walking;
 

@@ -22,6 +22,17 @@ fn has(ring: &Ring<u32>, members: &[(u64, u32)]) -> bool {
     tag.is_none()
 }
 
+// Whether these members are left, in this order.
+fn are_left(mut left: Members<'_, u32>, members: &[(u64, u32)]) -> bool {
+    for member in members {
+        match left.next() {
+            Some((tag, value)) if (tag, *value) == *member => {}
+            _ => return false,
+        }
+    }
+    left.next().is_none()
+}
+
 // The tag, where one of the first eight members has it.
 fn member(ring: &Ring<u32>, want: u64) -> Option<u64>
     ensures { IfSome result (HasTag ring.now.items) }
@@ -90,5 +101,9 @@ fn the_cursor_and_the_neighbours(rt: HostRuntime) -> Result<(), Fail> {
     let first = member(&ring, 3).ok_or("tag 3")?;
     assert_eq!(rt; (ring.first(), ring.before(first)), (Some(3), None));
     assert_eq!(rt; *ring.value_at(last), 20);
+    assert!(rt; are_left(ring.behind(None), &[(3, 5), (0, 10), (1, 15), (2, 20)]));
+    assert!(rt; are_left(ring.behind(Some(first)), &[(0, 10), (1, 15), (2, 20)]));
+    assert!(rt; are_left(ring.behind(Some(last)), &[]) && are_left(ring.from(None), &[]));
+    assert!(rt; are_left(ring.from(Some(last)), &[(2, 20)]));
     Ok(())
 }

@@ -1,11 +1,10 @@
 // How a run's piece goes into the list: behind its cause and the pieces of greater key that follow.
-ghost use Rattle.std.specs.Prelude.{◌≡◌, ℕ, ◌+◌, ◌<◌, ◌≤◌, List, ◌∷◌, ◌++◌, length, min, IfSome, OnOk, OnErr};
+ghost use Rattle.std.specs.Prelude.{◌≡◌, ℕ, ◌+◌, ◌<◌, ◌≤◌, List, ◌∷◌, ◌++◌, length, IfSome, OnOk, OnErr};
 ghost use Rattle.std.specs.Prelude.{Some as Just, None as Nothing};
 ghost use Rattle.looks.specs.Refusal.{RefusedForMemoryAlone};
-ghost use Rattle.looks.specs.Key.{is_below};
 ghost use Rattle.char_files.specs.CharName.{CharName};
 ghost use Rattle.operations.specs.NameSet.{IsIn};
-ghost use Rattle.piece_raw.specs.Ring.{ring, IsMember, HasTag, Follows};
+ghost use Rattle.piece_raw.specs.Ring.{ring};
 ghost use Rattle.piece_list.specs.Pieces.{range_of, chars_of, IsPiece, piece_of};
 ghost use Rattle.piece_list.specs.Held.{HasPlace, AreEntered, weighed};
 ghost use Rattle.piece_list.specs.Laws.{BeginNotAbove};
@@ -26,29 +25,7 @@ use looks::{Key, Refusal};
 use piece_raw::Ring;
 use rank_index::RankIndex;
 
-// Whether this piece's key is greater: one look, which is counted.
-fn is_above(pieces: &Ring<Piece>, steps: &mut u64, tag: u64, key: Key) -> bool
-    requires { HasTag pieces.now.items tag }
-    ensures key { (p : Piece) × IsMember pieces.now.items tag p × (result ≡ is_below key p.key) }
-    ensures steps { steps.new ≡ min (steps.old + 1) u64.MAX }
-{
-    *steps = steps.saturating_add(1);
-    key < pieces.value_at(tag).key
-}
-
-// The piece directly behind this one; the first one for `None`.
-fn following(pieces: &Ring<Piece>, last: Option<u64>) -> Option<u64>
-    requires { HasPart pieces.now.items last }
-    ensures follows { Follows pieces.now.items last result }
-    ensures there { IfSome result (HasTag pieces.now.items) }
-{
-    match last {
-        Some(tag) => pieces.after(tag),
-        None => pieces.first(),
-    }
-}
-
-// The same, if its key is greater.
+// The piece directly behind this one, if its key is greater: one look, which is counted. At the front for `None`.
 fn next_above(pieces: &Ring<Piece>, steps: &mut u64, last: Option<u64>, key: Key) -> Option<u64>
     requires { HasPart pieces.now.items last }
     ensures above { IfSome result (λ next. IsNext pieces.now.items key last next) }
@@ -57,13 +34,10 @@ fn next_above(pieces: &Ring<Piece>, steps: &mut u64, last: Option<u64>, key: Key
     ensures steps { (ahead behind : List (ℕ × Piece)) → IsParted pieces.now.items last ahead behind
         → IsCounted steps.old (last_look behind) steps.new }
 {
-    numbers_differ(pieces);
-    let next = following(pieces, last)?;
-    if is_above(pieces, steps, next, key) {
-        Some(next)
-    } else {
-        None
-    }
+    let mut behind = pieces.behind(last);
+    let (next, piece) = behind.next()?;
+    *steps = steps.saturating_add(1);
+    if key < piece.key { Some(next) } else { None }
 }
 
 // Walks past the pieces of greater key that follow this one, and answers the last of them: the piece itself

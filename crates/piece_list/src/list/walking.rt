@@ -11,13 +11,13 @@ ghost use Rattle.piece_list.specs.RunCuts.{AreWithin, HasFront};
 ghost use Rattle.piece_list.specs.Shown.{AreShownTo, appearance_of, appearances_in, looks_of, run_of, shown_runs};
 ghost use Rattle.piece_list.specs.Spelled.{spelled, shown_chars, HasName};
 
-use super::members::Members;
 use super::{PieceList, numbers_differ};
 use crate::piece::Piece;
 use crate::place::Place;
 use crate::run::Run;
 use char_files::Name;
 use looks::{Key, Looks};
+use piece_raw::Members;
 use std::marker::Model;
 
 // The looks of a piece's characters.
@@ -55,7 +55,7 @@ pub(crate) fn shown_of(piece: &Piece, n: u32) -> u64
 /// that are left. This project's own.
 #[derive(Drop)]
 pub struct Walk<'a> {
-    members: Members<'a>,
+    members: Members<'a, Piece>,
 }
 
 impl<'a> Model for Walk<'a> {
@@ -174,12 +174,11 @@ impl PieceList {
         ensures within { AreWithin result.0 }
     {
         if self.shown_len() <= pos {
-            let none = Members::left_from(&self.pieces, None);
+            let none = self.pieces.from(None);
             return (Walk { members: none }, 0);
         }
-        numbers_differ(&self.pieces);
         let (tag, ahead) = self.index.find(pos);
-        let members = Members::left_from(&self.pieces, Some(tag));
+        let members = self.pieces.from(Some(tag));
         (Walk { members }, ahead)
     }
 
@@ -192,7 +191,7 @@ impl PieceList {
         ensures within { All (λ run. run.off + run.len ≤ MAX_FILE) result }
     {
         Walk {
-            members: Members::of(&self.pieces),
+            members: self.pieces.behind(None),
         }
     }
 }

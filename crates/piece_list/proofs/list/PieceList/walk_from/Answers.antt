@@ -1,4 +1,4 @@
-use Rattle.std.proofs.Common.{◌≡◌, ◌≤◌, List, drop, map, length, ap, subst, sym, ◌∙◌, arith}
+use Rattle.std.proofs.Common.{◌≡◌, ◌≤◌, List, [], ◌∷◌, drop, map, length, refl, append-nil, ap, subst, sym, ◌∙◌, arith}
 use Rattle.std.proofs.lemmas.List.{length-map}
 use Rattle.std.proofs.Math.ListN.{drop_of_length-le}
 use Rattle.piece_list.specs.Held.{PiecesSeen}
@@ -27,8 +27,8 @@ find-tag-requires c =
       );
     }
 
-pub left_from-members-requires : goal.left_from-members-requires
-left_from-members-requires c =
+pub from-members-requires : goal.from-members-requires
+from-members-requires c =
     let found : IsFoundAt c.self.inside.pieces.items c.args.pos c.find-tag.result.0 c.find-tag.result.1 =
     found_at c.self.inside.pieces.items c.self.inside.index.items c.args.pos c.find-tag.result.0
     c.find-tag.result.1 c.self.invariant.1 c.find-tag.ensures.found in
@@ -40,9 +40,9 @@ returns-clause-shown c =
     let found : IsFoundAt items c.args.pos c.find-tag.result.0 c.find-tag.result.1 =
     found_at items c.self.inside.index.items c.args.pos c.find-tag.result.0 c.find-tag.result.1
     c.self.invariant.1 c.find-tag.ensures.found in
-    ap (λ (l : Items). drop c.find-tag.result.1 (told (shown_runs l))) c.left_from-members.ensures
+    ap (λ (l : Items). drop c.find-tag.result.1 (told (shown_runs l))) (c.from-members.ensures found.front ((c.find-tag.result.0, found.piece) ∷ found.behind) found.whole refl)
     ∙ tells_from items found.front found.behind c.find-tag.result.0 found.piece found.whole
-    c.numbers_differ.ensures c.args.pos c.find-tag.result.1 found.at
+    c.args.pos c.find-tag.result.1 found.at
     ∙ ap (λ (v : PiecesSeen). drop c.args.pos (map appearance_of (shown_chars (spelled v.items)))) c.self.view_is
 
 pub returns-clause-front : goal.returns-clause-front
@@ -51,9 +51,9 @@ returns-clause-front c =
     let found : IsFoundAt items c.args.pos c.find-tag.result.0 c.find-tag.result.1 =
     found_at items c.self.inside.index.items c.args.pos c.find-tag.result.0 c.find-tag.result.1
     c.self.invariant.1 c.find-tag.ensures.found in
-    subst (λ (l : Items). HasFront c.find-tag.result.1 (shown_runs l)) (sym c.left_from-members.ensures)
+    subst (λ (l : Items). HasFront c.find-tag.result.1 (shown_runs l)) (sym (c.from-members.ensures found.front ((c.find-tag.result.0, found.piece) ∷ found.behind) found.whole refl))
     (front_from items found.front found.behind c.find-tag.result.0 found.piece found.whole
-    c.numbers_differ.ensures c.find-tag.result.1 found.inside)
+    c.find-tag.result.1 found.inside)
 
 pub returns-clause-within : goal.returns-clause-within
 returns-clause-within c =
@@ -61,9 +61,9 @@ returns-clause-within c =
     let found : IsFoundAt items c.args.pos c.find-tag.result.0 c.find-tag.result.1 =
     found_at items c.self.inside.index.items c.args.pos c.find-tag.result.0 c.find-tag.result.1
     c.self.invariant.1 c.find-tag.ensures.found in
-    subst (λ (l : Items). AreWithin (shown_runs l)) (sym c.left_from-members.ensures)
+    subst (λ (l : Items). AreWithin (shown_runs l)) (sym (c.from-members.ensures found.front ((c.find-tag.result.0, found.piece) ∷ found.behind) found.whole refl))
     (within_from items found.front found.behind c.find-tag.result.0 found.piece found.whole
-    c.numbers_differ.ensures c.self.invariant.0.pieces)
+    c.self.invariant.0.pieces)
 
 pub returns-then-shown_len-pos-clause-shown : goal.returns-then-shown_len-pos-clause-shown
 returns-then-shown_len-pos-clause-shown c =
@@ -75,5 +75,16 @@ returns-then-shown_len-pos-clause-shown c =
       c.shown_len.ensures,
       c.if-shown_len-pos.true,
     ) in
-    ap (λ (l : Items). drop 0 (told (shown_runs l))) c.left_from-none.ensures
+    ap (λ (l : Items). drop 0 (told (shown_runs l))) (c.from-none.ensures c.self.inside.pieces.items [] (sym (append-nil c.self.inside.pieces.items)) refl)
     ∙ sym (drop_of_length-le shown past)
+
+pub returns-then-shown_len-pos-clause-front : goal.returns-then-shown_len-pos-clause-front
+returns-then-shown_len-pos-clause-front c =
+    subst (λ (l : Items). HasFront 0 (shown_runs l))
+    (sym (c.from-none.ensures c.self.inside.pieces.items [] (sym (append-nil c.self.inside.pieces.items)) refl)) tt
+
+pub returns-then-shown_len-pos-clause-within : goal.returns-then-shown_len-pos-clause-within
+returns-then-shown_len-pos-clause-within c =
+    subst (λ (l : Items). AreWithin (shown_runs l))
+    (sym (c.from-none.ensures c.self.inside.pieces.items [] (sym (append-nil c.self.inside.pieces.items)) refl))
+    (λ k d lt. absurd (omega arith))
