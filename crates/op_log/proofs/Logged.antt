@@ -2,7 +2,7 @@
 use Rattle.std.proofs.Common.{◌≡◌, ℕ, zero, suc, ◌-◌, ◌<◌, ◌≤◌, ◌↔◌, inl, inr, List, [], length}
 use Rattle.std.proofs.Common.{Option, Some, None, option_map, Contains, slice_get, get_or, refl, sym, ap, subst, ◌∙◌, arith}
 use Rattle.std.proofs.lemmas.Bool.{cases_lt}
-use Rattle.std.proofs.lemmas.Option.{slice_get-get_or, slice_get_past, slice_get_within, get_or_from_slice_get, none-some}
+use Rattle.std.proofs.lemmas.Option.{slice_get-get_or, slice_get_past, slice_get_within, none-some}
 use Rattle.std.specs.Option.{option_map_or}
 use Rattle.std.specs.List.Sorted.{IsNonDecreasingBy}
 use Rattle.char_files.specs.CharName.{CharName}
@@ -179,10 +179,6 @@ module _ {ops : List Operation} {tables : Tables} {stamp : ℕ} (logged : AreLog
     -- the entry that was found tells where an operation of the name's site stands
     pub entry : IsEntryOf ops name.site (suc first.at) e
     entry = (logged.by_site name.site).entries first.at e first.there
-
-    -- what is read at its index is that operation
-    pub read_entry : (op : Operation) → op ≡ get_or ops e.index op → op ≡ entry.op
-    read_entry op is = is ∙ get_or_from_slice_get ops e.index entry.op op entry.there
 
     held : Contains ops entry.op
     held = Contains-slice_get ops e.index entry.op entry.there

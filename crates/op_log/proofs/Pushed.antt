@@ -96,6 +96,7 @@ module _ (ops : List Operation) (op : Operation) (next : op.seq ≡ front_of ops
     on = entry.on;
     at = entry.at;
     ends = entry.ends ∙ sym (same_before ops op site (suc (suc k)) below);
+    stamped = entry.stamped;
   }
 
   -- so do other sites' tables
@@ -109,7 +110,7 @@ module _ (ops : List Operation) (op : Operation) (next : op.seq ≡ front_of ops
   }
 
   module _ (new : Entry) (index : new.index ≡ length ops)
-      (ends : new.end ≡ file_len ops op.site + appended_len op.kind) where
+      (ends : new.end ≡ file_len ops op.site + appended_len op.kind) (stamped : new.stamp ≡ op.stamp) where
     new_entry : (seq : ℕ) → op.seq ≡ seq → IsEntryOf (with_one ops op) op.site seq new
     new_entry seq at = subst (λ (s : ℕ). IsEntryOf (with_one ops op) op.site s new) at (record {
       op = op;
@@ -117,6 +118,7 @@ module _ (ops : List Operation) (op : Operation) (next : op.seq ≡ front_of ops
       on = refl;
       at = refl;
       ends = end;
+      stamped = stamped;
     })
       where
         end : new.end ≡ file_before (with_one ops op) op.site (suc op.seq)
@@ -162,15 +164,15 @@ module _ (ops : List Operation) (op : Operation) (next : op.seq ≡ front_of ops
 
 -- the tables of a log in which an operation was entered are those of the operations with that one
 pub pushed : {ops : List Operation} {tables : Tables} {stamp : ℕ} → AreLogged ops tables stamp
-    → (tables' : Tables) (op : Operation) (site new_stamp : ℕ) (new : Entry)
+    → (tables' : Tables) (op : Operation) (site : ℕ) (new : Entry)
     → op.seq ≡ front_of ops op.site + 1 → Begins op.kind (file_len ops op.site)
-    → op.stamp ≤ MAX_STAMP → site ≡ op.site → new_stamp ≡ op.stamp → new.index ≡ length ops
+    → op.stamp ≤ MAX_STAMP → site ≡ op.site → new.stamp ≡ op.stamp → new.index ≡ length ops
     → new.end ≡ end_of (table_of tables site).entries + appended_len op.kind
     → (table_of tables' site).entries ≡ (table_of tables site).entries ++ new ∷ []
-    → (table_of tables' site).stamp ≡ max new_stamp (table_of tables site).stamp
+    → (table_of tables' site).stamp ≡ max new.stamp (table_of tables site).stamp
     → ((other : ℕ) → other ≢ site → table_of tables' other ≡ table_of tables other)
-    → AreLogged (ops ++ op ∷ []) tables' (max new_stamp stamp)
-pushed {ops} {tables} {stamp} logged tables' op site new_stamp new next begin low on is index ends entries
+    → AreLogged (ops ++ op ∷ []) tables' (max new.stamp stamp)
+pushed {ops} {tables} {stamp} logged tables' op site new next begin low on is index ends entries
     stamps others =
     subst (λ (n : ℕ). AreLogged (ops ++ op ∷ []) tables' (max n stamp)) (sym is) (record {
       by_site = by_site;
@@ -192,12 +194,12 @@ pushed {ops} {tables} {stamp} logged tables' op site new_stamp new next begin lo
     stamps' : (table_of tables' op.site).stamp ≡ max op.stamp (table_of tables op.site).stamp
     stamps' =
         subst (λ (n : ℕ). (table_of tables' op.site).stamp ≡ max n (table_of tables op.site).stamp) is
-        (subst (λ (s : ℕ). (table_of tables' s).stamp ≡ max new_stamp (table_of tables s).stamp) on stamps)
+        (subst (λ (s : ℕ). (table_of tables' s).stamp ≡ max new.stamp (table_of tables s).stamp) on stamps)
 
     by_site : (s : ℕ) → IsTableOf (with_one ops op) s (table_of tables' s)
     by_site s = elim (cases_Bool (eqb op.site s)) [
       | inl e ↦ subst (λ (s : ℕ). IsTableOf (with_one ops op) s (table_of tables' s)) (eqb-true _ _ e)
-          (grown_table ops op next logged.known new index ends' (table_of tables op.site)
+          (grown_table ops op next logged.known new index ends' is (table_of tables op.site)
           (table_of tables' op.site) (logged.by_site op.site) entries' stamps')
       | inr e ↦ subst (IsTableOf (with_one ops op) s)
           (sym (others s (λ there. both_ways _ e (eq-eqb op.site s (sym on ∙ sym there)))))

@@ -8,13 +8,15 @@ use Rattle.set_laws.specs.Sets.{AreIdentified}
 use Rattle.op_log.specs.declared.site_log.Entry.{Entry}
 use Rattle.op_log.specs.Tables.{SiteSeen, Tables, table_of}
 
--- the entry tells where the site's operation of this seq stands, and where the site's file ends behind it
+-- the entry tells where the site's operation of this seq stands, where the site's file ends behind it, and the
+-- operation's stamp
 pub record IsEntryOf (ops : List Operation) (site seq : ℕ) (e : Entry) : Type 0 where
   pub op : Operation
   pub there : slice_get ops e.index ≡ Some op
   pub on : op.site ≡ site
   pub at : op.seq ≡ seq
   pub ends : e.end ≡ file_before ops site (suc seq)
+  pub stamped : e.stamp ≡ op.stamp
 
 -- the table has the site's operations up to its front, and its greatest stamp
 pub record IsTableOf (ops : List Operation) (site : ℕ) (t : SiteSeen) : Type 0 where

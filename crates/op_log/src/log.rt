@@ -151,8 +151,7 @@ impl Log {
         ensures found { (i : Operation) × IsInsertOf self.now.ops name i × (result ≡ i.stamp) }
         ensures only { (i : Operation) → IsInsertOf self.now.ops name i → result ≡ i.stamp }
     {
-        let entry = self.sites.find(name);
-        self.ops[entry.index].stamp()
+        self.sites.find(name).stamp
     }
 
     /// The sites that have operations, ascending. The time grows with the number of operations. Refused
@@ -202,6 +201,7 @@ impl Log {
         let entry = Entry {
             index: self.ops.len(),
             end: self.sites.file_len(site) + appended_bytes(&op),
+            stamp,
         };
         if self.ops.push(op).is_err() {
             unreachable!();

@@ -11,11 +11,12 @@ use operations::MAX_STAMP;
 use std::alloc::Global;
 use std::marker::Model;
 
-// Where an operation stands in the list of all, and where its site's file ends behind it.
+// Where an operation stands in the list of all, where its site's file ends behind it, and its stamp.
 #[derive(Clone, Copy)]
 pub(crate) struct Entry {
     pub(crate) index: usize,
     pub(crate) end: u32,
+    pub(crate) stamp: u64,
 }
 
 // What is known of a site: its operations by their numbers, from 1 on, and its greatest stamp.

@@ -17,10 +17,14 @@ pub const MOST: usize = 512;
 // Half of it.
 pub const HALF: usize = 256;
 
+// How many tags there are, each of 32 bits.
+pub const MOST_TAGS: usize = 4_294_967_296;
+
 // Up to 512 neighbouring members, with the sum of their weights.
 #[derive(Drop)]
 pub struct Chunk {
-    members: Vec<(u64, u64)>,
+    // A tag and a weight in eight bytes: a look along a chunk takes as long as its members are in memory.
+    members: Vec<(u32, u32)>,
     sum: u64,
     home: usize,
 }
@@ -40,14 +44,14 @@ impl Model for Chunk {
 }
 
 // At which place a member of this tag stands, if one is here. It looks from the back, where one who types on puts members.
-fn place_in(members: &[(u64, u64)], tag: u64) -> Option<usize>
+fn place_in(members: &[(u32, u32)], tag: u64) -> Option<usize>
     ensures place { IfSome result (IsPlace members.now tag) }
     ensures here { IsSome result ↔ HasTag members.now tag }
 {
     let mut left = members.len();
     while 0 < left {
         left -= 1;
-        if members[left].0 == tag {
+        if u64::from(members[left].0) == tag {
             return Some(left);
         }
     }
@@ -88,7 +92,7 @@ impl Chunk {
         self.sum
     }
 
-    pub fn members(&self) -> &[(u64, u64)]
+    pub fn members(&self) -> &[(u32, u32)]
         ensures members { result.now ≡ self.now.members }
         ensures most { length self.now.members ≤ MOST }
     {
@@ -116,10 +120,10 @@ impl Chunk {
     {
         let mut ahead = 0;
         for member in &self.members {
-            if member.0 == tag {
+            if u64::from(member.0) == tag {
                 return ahead;
             }
-            ahead += member.1;
+            ahead += u64::from(member.1);
         }
         unreachable!()
     }
@@ -131,10 +135,11 @@ impl Chunk {
     {
         let mut left = pos;
         for member in &self.members {
-            if left < member.1 {
-                return (member.0, left);
+            let weight = u64::from(member.1);
+            if left < weight {
+                return (u64::from(member.0), left);
             }
-            left -= member.1;
+            left -= weight;
         }
         unreachable!()
     }
@@ -156,22 +161,23 @@ impl Chunk {
     }
 
     // Puts a member directly behind that of a tag, at the front for `None`.
-    pub fn insert_after(&mut self, after: Option<u64>, tag: u64, weight: u64)
+    pub fn insert_after(&mut self, after: Option<u64>, tag: u64, weight: u32)
         requires after { IfSome after (HasTag self.old.members) }
+        requires tag { tag < MOST_TAGS }
         requires room { length self.old.members < MOST }
         requires total { weight_of self.old.members + weight < 2 ^ 64 }
         ensures inserted { IsPushed self.old.members after tag weight self.new.members }
         ensures home { self.new.home ≡ self.old.home }
     {
         let place = self.place_behind(after);
-        match self.members.insert(place, (tag, weight)) {
-            Ok(()) => self.sum += weight,
+        match self.members.insert(place, (tag as u32, weight)) {
+            Ok(()) => self.sum += u64::from(weight),
             Err(_) => unreachable!(),
         }
     }
 
     // Gives the member of this tag another weight.
-    pub fn set_weight(&mut self, tag: u64, weight: u64)
+    pub fn set_weight(&mut self, tag: u64, weight: u32)
         requires here { HasTag self.old.members tag }
         requires once { IsDistinct ◌==◌ (tags self.old.members) }
         requires total { weight_of (with_value tag weight self.old.members) < 2 ^ 64 }
@@ -180,23 +186,23 @@ impl Chunk {
     {
         match self.place_of(tag) {
             Some(place) => {
-                let others = self.sum - self.members[place].1;
+                let others = self.sum - u64::from(self.members[place].1);
                 self.members[place].1 = weight;
-                self.sum = others + weight;
+                self.sum = others + u64::from(weight);
             }
             None => unreachable!(),
         }
     }
 
     // Puts a member at the end.
-    fn push(&mut self, member: (u64, u64))
+    fn push(&mut self, member: (u32, u32))
         requires room { length self.old.members < MOST }
         requires total { weight_of self.old.members + member.1 < 2 ^ 64 }
         ensures members { self.new.members ≡ self.old.members ++ member ∷ [] }
         ensures home { self.new.home ≡ self.old.home }
     {
         self.members.push_reserved(member);
-        self.sum += member.1;
+        self.sum += u64::from(member.1);
     }
 
     // Gives its second half to a chunk that has no members.

@@ -6,7 +6,7 @@ ghost use Rattle.rank_index.specs.Chunks.{Stretch, members_of, AreEntered, AreHo
 ghost use Rattle.rank_index.specs.Chunks.{AreToldTo, ArePlaced, HomesDiffer, IsPlaceOf, IsPlaceBehind, HasRoom, IsHalved};
 ghost use Rattle.rank_index.specs.Ranked.{weight_of, IsRank, IsFound};
 
-use crate::chunk::{Chunk, HALF, MOST};
+use crate::chunk::{Chunk, HALF, MOST, MOST_TAGS};
 use looks::Refusal;
 use std::alloc::Global;
 use std::marker::Model;
@@ -30,14 +30,16 @@ pub struct RankIndex {
 }
 
 impl Model for RankIndex {
-    ghost use Rattle.std.specs.Prelude.{◌≡◌, ◌+◌, ◌-◌, ◌<◌, ◌≤◌, ◌^◌, vec_len, vec_capacity};
+    ghost use Rattle.std.specs.Prelude.{◌≡◌, ◌+◌, ◌-◌, ◌<◌, ◌≤◌, ◌^◌, min, vec_len, vec_capacity};
+    ghost use Rattle.rank_index.specs.declared.chunk.TheConstants.{MOST_TAGS};
     ghost use Rattle.rank_index.specs.Chunks.{members_of, ArePlaced, AreTied, AreEmpty, room_of};
     ghost use Rattle.rank_index.specs.Ranked.{Ranked, ranked, weight_of};
 
     ghost Value = { Ranked };
 
     ghost view = { λ r. ranked (members_of r.chunks.items)
-        (room_of (vec_capacity r.homes - vec_len r.homes) (vec_len r.chunks + vec_len r.spare) (vec_len r.homes)) };
+        (room_of (min (vec_capacity r.homes) MOST_TAGS - vec_len r.homes) (vec_len r.chunks + vec_len r.spare)
+        (vec_len r.homes)) };
 
     ghost invariant = { λ r. AreTied r.homes.items r.chunks.items
         × AreEmpty r.spare.items
@@ -241,7 +243,8 @@ impl RankIndex {
         })
     }
 
-    /// Makes room for n more members: so many insertions take no memory. Refused `OutOfMemory` alone.
+    /// Makes room for n more members: so many insertions take no memory. There are 2^32 members at most. Refused
+    /// `OutOfMemory` alone.
     pub fn reserve(&mut self, n: usize) -> Result<(), Refusal>
         ensures ok { OnOk result (n ≤ self.new.room) }
         ensures errors { RefusedForMemoryAlone result }
@@ -250,6 +253,9 @@ impl RankIndex {
     {
         self.homes.reserve(n)?;
         let members = self.homes.len() + n;
+        if MOST_TAGS < members {
+            return Err(Refusal::OutOfMemory);
+        }
         fill_spare(
             &mut self.chunks,
             &mut self.spare,
@@ -269,7 +275,7 @@ impl RankIndex {
 
     /// Puts a member directly behind that of another tag, at the front for `None`. Its tag is the next one; the
     /// sum of all weights stays below 2^64.
-    pub fn insert_after(&mut self, after: Option<u64>, tag: u64, weight: u64)
+    pub fn insert_after(&mut self, after: Option<u64>, tag: u64, weight: u32)
         requires after { IfSome after (HasTag self.old.items) }
         requires tag { tag ≡ length self.old.items }
         requires room { 0 < self.old.room }
@@ -287,11 +293,11 @@ impl RankIndex {
         let chunk = &mut self.chunks[place];
         chunk.insert_after(after, tag, weight);
         self.homes.push_reserved(chunk.home());
-        self.total += weight;
+        self.total += u64::from(weight);
     }
 
     /// Gives a member another weight. The sum of all weights stays below 2^64.
-    pub fn set_weight(&mut self, tag: u64, weight: u64)
+    pub fn set_weight(&mut self, tag: u64, weight: u32)
         requires here { HasTag self.old.items tag }
         requires total { weight_of (with_value tag weight self.old.items) < 2 ^ 64 }
         ensures items { self.new.items ≡ with_value tag weight self.old.items }

@@ -59,7 +59,7 @@ fn fill(index: &mut RankIndex, plain: &mut Vec<(u64, u64)>, n: u64) -> Result<()
         let behind = scattered(tag) % (tag + 1);
         let after = if behind == 0 { None } else { Some(behind - 1) };
         let weight = scattered(tag + 1) % 7;
-        index.insert_after(after, tag, weight);
+        index.insert_after(after, tag, weight as u32);
         put(plain, after, (tag, weight))?;
     }
     Ok(())
@@ -75,7 +75,7 @@ fn reweigh(index: &mut RankIndex, plain: &mut Vec<(u64, u64)>, n: u64)
 {
     for tag in 0..n {
         let weight = scattered(tag + 2) % 7;
-        index.set_weight(tag, weight);
+        index.set_weight(tag, weight as u32);
         for member in plain.iter_mut() {
             if member.0 == tag {
                 member.1 = weight;

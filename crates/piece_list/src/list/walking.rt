@@ -45,10 +45,10 @@ fn run(piece: &Piece) -> Run
 }
 
 // How many of a piece's first `n` characters are shown: all of them, or none.
-pub(crate) fn shown_of(piece: &Piece, n: u32) -> u64
+pub(crate) fn shown_of(piece: &Piece, n: u32) -> u32
     ensures { result ≡ (if piece.now.hidden.value then 0 else n) }
 {
-    if piece.hidden.value { 0 } else { u64::from(n) }
+    if piece.hidden.value { 0 } else { n }
 }
 
 /// The stretches of a text that are shown, one after the other, without memory: seen as the list of the runs
@@ -134,7 +134,7 @@ impl PieceList {
         numbers_differ(&self.pieces);
         let piece = self.pieces.value_at(place.piece);
         let ahead = self.index.rank(place.piece);
-        Some(ahead + shown_of(piece, place.within + 1))
+        Some(ahead + u64::from(shown_of(piece, place.within + 1)))
     }
 
     /// The place of the character that is shown at this position, from 0.

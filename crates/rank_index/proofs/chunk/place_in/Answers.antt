@@ -1,18 +1,19 @@
-use Rattle.std.proofs.Common.{◌<◌, ◌-◌, length, refl, arith}
+use Rattle.std.proofs.Common.{◌<◌, ◌-◌, length, refl, sym, ◌∙◌, arith}
 use Rattle.rank_index.proofs.ChunkPlace.{has_place}
 use Rattle.rank_index.proofs.ChunkRank.{none_behind, place_at}
 use Rattle.rank_index.proofs.chunk.place_in.Goals as goal
 
-pub returns-then-members-left-clause-place : goal.returns-then-members-left-clause-place
-returns-then-members-left-clause-place c =
+pub returns-then-from-tag-clause-place : goal.returns-then-from-tag-clause-place
+returns-then-from-tag-clause-place c =
     let lt : c.loop-left.left - 1 < length c.args.members.now =
     omega (arith, c.loop-left-test.true, c.loop-left.invariant.some) in
-    place_at c.args.members.now (c.loop-left.left - 1) (0, 0) lt c.args.tag c.if-members-left.true
+    place_at c.args.members.now (c.loop-left.left - 1) (0, 0) lt c.args.tag
+    (sym c.from.ensures ∙ c.if-from-tag.true)
 
-pub returns-then-members-left-clause-here : goal.returns-then-members-left-clause-here
-returns-then-members-left-clause-here c = (
+pub returns-then-from-tag-clause-here : goal.returns-then-from-tag-clause-here
+returns-then-from-tag-clause-here c = (
   λ _. has_place c.args.members.now c.args.tag (c.loop-left.left - 1)
-      (returns-then-members-left-clause-place c),
+      (returns-then-from-tag-clause-place c),
   λ _. refl,
 )
 

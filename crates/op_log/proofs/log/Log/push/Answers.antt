@@ -48,7 +48,9 @@ invariant_of-self c =
     ≡ end_of (table_of l.sites site).entries + appended_len op.kind = omega arith in
     subst (λ (xs : List Operation). AreLogged xs c.push-3.new.self c.max-self-inside.result) (sym items)
     (subst (λ (n : ℕ). AreLogged (l.ops.items ++ op ∷ []) c.push-3.new.self n) (sym most)
-    (pushed c.self.invariant c.push-3.new.self op site c.stamp-stamp.result
-    (record { index = c.len.result; end = c.file_len.result + c.appended_bytes.result }) next begins
-    c.has_spelling.ensures.stamp.1 c.site-site.ensures c.stamp-stamp.ensures index ends
-    c.push-3.ensures.entries c.push-3.ensures.stamp c.push-3.ensures.others))
+    (pushed c.self.invariant c.push-3.new.self op site (record {
+      index = c.len.result;
+      end = c.file_len.result + c.appended_bytes.result;
+      stamp = c.stamp-stamp.result;
+    }) next begins c.has_spelling.ensures.stamp.1 c.site-site.ensures c.stamp-stamp.ensures
+    index ends c.push-3.ensures.entries c.push-3.ensures.stamp c.push-3.ensures.others))

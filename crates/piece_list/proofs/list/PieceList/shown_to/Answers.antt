@@ -1,4 +1,4 @@
-use Rattle.std.proofs.Common.{◌≡◌, ◌+◌, ◌^◌, ◌<◌, sym, ap, subst, arith}
+use Rattle.std.proofs.Common.{◌≡◌, ℕ, ◌+◌, ◌^◌, ◌<◌, sym, ap, subst, arith}
 use Rattle.piece_list.specs.Held.{PiecesSeen, IsPlaceOf}
 use Rattle.piece_list.specs.Shown.{AreShownTo}
 use Rattle.piece_list.specs.Spelled.{spelled}
@@ -18,7 +18,7 @@ overflow_add-result c =
     c.value_at-piece.result.now c.rank-ahead.result c.shown_of.result c.numbers_differ.ensures
     c.self.invariant.0 c.self.invariant.1 at c.value_at-piece.ensures c.rank-ahead.ensures.rank
     c.shown_of.ensures in
-    omega (arith, fits)
+    omega (arith, fits, c.from.ensures)
 
 pub returns-clause-count : goal.returns-clause-count
 returns-clause-count c =
@@ -27,8 +27,10 @@ returns-clause-count c =
     let at : IsPlaceOf items c.in_ok-place.place c.args.name =
     subst (λ (l : Items). IsPlaceOf l c.in_ok-place.place c.args.name) (sym seen)
     c.in_ok-place.ensures.place in
-    subst (λ (l : Items). AreShownTo (spelled l) c.args.name (c.rank-ahead.result + c.shown_of.result)) seen
+    subst (λ (n : ℕ). AreShownTo (spelled c.args.self.now.items) c.args.name (c.rank-ahead.result + n))
+    (sym c.from.ensures)
+    (subst (λ (l : Items). AreShownTo (spelled l) c.args.name (c.rank-ahead.result + c.shown_of.result)) seen
     (rank_counts items c.self.inside.tags c.self.inside.index.items c.in_ok-place.place c.args.name
     c.value_at-piece.result.now c.rank-ahead.result c.shown_of.result c.numbers_differ.ensures
     c.self.invariant.0 c.self.invariant.1 at c.value_at-piece.ensures c.rank-ahead.ensures.rank
-    c.shown_of.ensures)
+    c.shown_of.ensures))

@@ -1,4 +1,4 @@
-use Rattle.std.proofs.Common.{ap, arith}
+use Rattle.std.proofs.Common.{sym, ap, ◌∙◌, arith}
 use Rattle.rank_index.specs.Ranked.{weight_of}
 use Rattle.rank_index.proofs.ChunkRank.{none_passed, others_more, rank_at, weight_of-more, weight_of-more_le}
 use Rattle.rank_index.proofs.chunk.Chunk.rank.Goals as goal
@@ -9,6 +9,7 @@ overflow_add-ahead c =
       arith,
       weight_of-more_le c.deref-member-items.result.now c.loop-member.member-index (0, 0) c.loop-member-test.true,
       c.loop-member.invariant.ahead,
+      c.from-ahead.ensures,
       ap weight_of c.deref-member-items.ensures.value,
       c.self.invariant.1,
     )
@@ -19,15 +20,16 @@ loop-member-preserved c =
     let i = c.loop-member.member-index in
     let so_far = c.loop-member.invariant in record {
       whole = so_far.whole;
-      ahead = omega (arith, so_far.ahead, weight_of-more xs i (0, 0) c.loop-member-test.true);
-      others = others_more xs i (0, 0) c.loop-member-test.true c.args.tag so_far.others c.if-member-tag.false;
+      ahead = omega (arith, so_far.ahead, c.from-ahead.ensures, weight_of-more xs i (0, 0) c.loop-member-test.true);
+      others = others_more xs i (0, 0) c.loop-member-test.true c.args.tag so_far.others (λ e. c.if-from-tag.false (c.from.ensures ∙ e));
     }
 
-pub returns-then-member-tag : goal.returns-then-member-tag
-returns-then-member-tag c =
+pub returns-then-from-tag : goal.returns-then-from-tag
+returns-then-from-tag c =
     let so_far = c.loop-member.invariant in
     rank_at c.deref-member-items.result.now c.loop-member.member-index (0, 0) c.loop-member-test.true
-    c.args.self.now.members c.args.tag c.loop-member.ahead so_far.whole c.if-member-tag.true so_far.ahead
+    c.args.self.now.members c.args.tag c.loop-member.ahead so_far.whole (sym c.from.ensures ∙ c.if-from-tag.true)
+    so_far.ahead
 
 pub unreachable-requires : goal.unreachable-requires
 unreachable-requires c =
