@@ -1,53 +1,74 @@
--- The first entry past an offset, by a point between those that end below it and the others.
-use Rattle.std.proofs.Common.{◌≡◌, ℕ, zero, suc, ◌-◌, ◌<◌, ◌≤◌, inl, inr, true, false, leb, List, length, get_or}
-use Rattle.std.proofs.Common.{None, slice_get, ap, ◌∙◌, arith}
-use Rattle.std.specs.Option.{option_map_or}
-use Rattle.std.specs.List.Sorted.{IsPartitionPoint}
+-- The first entry past an offset: it is looked for in a window of the entries.
+use Rattle.std.proofs.Common.{◌≡◌, ℕ, ◌+◌, ◌-◌, ◌<◌, ◌≤◌, inl, inr, true, false, leb, List, length, get_or, drop}
+use Rattle.std.proofs.Common.{ap, ◌∙◌, arith}
+use Rattle.std.specs.List.{slice_range}
+use Rattle.std.specs.List.Sorted.{IsNonDecreasingBy, IsPartitionPoint}
 use Rattle.std.proofs.lemmas.Bool.{cases_lt, leb-true, leb-false}
-use Rattle.std.proofs.lemmas.Option.{slice_get-get_or, slice_get_past, get_or_from_slice_get}
+use Rattle.std.proofs.lemmas.List.{get_or-take, get_or-drop, length-drop, length-take-le}
+use Rattle.std.proofs.lemmas.List.Sorted.{IsNonDecreasingBy-take, IsNonDecreasingBy-drop}
+use Rattle.std.proofs.lemmas.Option.{slice_get-get_or, get_or_from_slice_get}
 use Rattle.op_log.specs.declared.site_log.Entry.{Entry}
-use Rattle.op_log.specs.Tables.{end_of, IsFirstPast}
-use Rattle.op_log.proofs.Lists.{slice_get-some}
+use Rattle.op_log.specs.Tables.{EndBy, EndsPast, IsFirstPast}
 
 -- the entries below the point end at the offset at most, the others behind it
 abbrev pub IsPoint : List Entry → ℕ → ℕ → Type 0
 IsPoint entries off at = IsPartitionPoint (λ (e : Entry). leb e.end off ≡ true)
     (λ (e : Entry). leb e.end off ≡ false) entries at
 
--- the point is an entry's place
-pub point_within : (entries : List Entry) (off at : ℕ) → IsPoint entries off at → off < end_of entries
-    → at < length entries
-point_within entries off at point lt =
-    elim (cases_lt at (length entries)) [
-      | inl within ↦ within
-      | inr past ↦ absurd (by_length (length entries) (omega arith) past)
-    ]
-  where
-    by_length : (n : ℕ) → length entries ≡ n → length entries ≤ at → ⊥
-    by_length zero is past =
-        let none : slice_get entries (length entries - 1) ≡ None =
-        slice_get_past entries (length entries - 1) (omega arith) in
-        let ends : end_of entries ≡ 0 = ap (λ o. option_map_or (λ (e : Entry). e.end) o 0) none in
-        omega arith
-    by_length (suc k) is past =
-        let (e, there) = slice_get-some entries k (omega arith) in
-        let last : length entries - 1 ≡ k = omega arith in
-        let ends : end_of entries ≡ e.end =
-        ap (λ (i : ℕ). option_map_or (λ (d : Entry). d.end) (slice_get entries i) 0) last
-        ∙ ap (λ o. option_map_or (λ (d : Entry). d.end) o 0) there in
-        let le : (get_or entries k e).end ≤ off = leb-true _ _ (point.0 k e (omega arith) (omega arith)) in
-        let same = ap (λ (d : Entry). d.end) (get_or_from_slice_get entries k e e there) in
-        omega arith
+-- a window: all entries ahead of it end at the offset at most, and the one behind it past it
+module _ (entries : List Entry) (off from to : ℕ) (le : from ≤ to) (low : EndBy entries off from)
+    (high : EndsPast entries off to) where
+  abbrev pub window : List Entry
+  window = slice_range entries from to
 
--- and that entry is the first past the offset
-pub first_past : (entries : List Entry) (off at : ℕ) → IsPoint entries off at → at < length entries
-    → (d : Entry) → IsFirstPast entries off (get_or entries at d)
-first_past entries off at point lt d = record {
-  at = at;
-  there = slice_get-get_or entries at d lt;
-  past = leb-false _ _ (point.1 at d (omega arith) lt);
-  ahead = λ k e less is.
-      let le : (get_or entries k e).end ≤ off = leb-true _ _ (point.0 k e (omega arith) less) in
-      let same = ap (λ (x : Entry). x.end) (get_or_from_slice_get entries k e e is) in
-      omega arith;
-}
+  window_at : (k : ℕ) (d : Entry) → from + k < to → get_or window k d ≡ get_or entries (from + k) d
+  window_at k d lt =
+      get_or-take (to - from) (drop from entries) k d (omega arith) ∙ get_or-drop from entries k d
+
+  window_long : length window ≡ to - from
+  window_long =
+      length-take-le (to - from) (drop from entries) (omega (arith, length-drop from entries, high.0))
+
+  pub window_rises : IsNonDecreasingBy (λ (e : Entry). e.end) entries
+      → IsNonDecreasingBy (λ (e : Entry). e.end) window
+  window_rises rising =
+      IsNonDecreasingBy-take (λ (e : Entry). e.end) (to - from) (drop from entries)
+      (IsNonDecreasingBy-drop (λ (e : Entry). e.end) from entries rising)
+
+  module _ (behind : ℕ) (most : behind ≤ length window) (point : IsPoint window off behind) (d : Entry) where
+    below : (k : ℕ) (e : Entry) → k < from + behind → (get_or entries k e).end ≤ off
+    below k e lt = elim (cases_lt k from) [
+      | inl ahead ↦ low k e ahead
+      | inr inside ↦ (
+          let here : from + (k - from) < to = omega (arith, window_long) in
+          let ends : (get_or window (k - from) e).end ≤ off =
+          leb-true _ _ (point.0 (k - from) e (omega arith) (omega arith)) in
+          let back : from + (k - from) ≡ k = omega arith in
+          omega (
+            arith,
+            ends,
+            ap (λ (x : Entry). x.end) (window_at (k - from) e here),
+            ap (λ (i : ℕ). (get_or entries i e).end) back,
+          ))
+    ]
+
+    past : off < (get_or entries (from + behind) d).end
+    past = elim (cases_lt behind (to - from)) [
+      | inl inside ↦ (
+          let ends : off < (get_or window behind d).end =
+          leb-false _ _ (point.1 behind d (omega arith) (omega (arith, window_long))) in
+          omega (arith, ends, ap (λ (x : Entry). x.end) (window_at behind d (omega arith))))
+      | inr end ↦ (
+          let at : from + behind ≡ to = omega (arith, window_long) in
+          omega (arith, high.1 d, ap (λ (i : ℕ). (get_or entries i d).end) at))
+    ]
+
+    -- the window's point is the first entry past the offset
+    pub first_past : IsFirstPast entries off (get_or entries (from + behind) d)
+    first_past = record {
+      at = from + behind;
+      there = slice_get-get_or entries (from + behind) d (omega (arith, high.0, window_long));
+      past = past;
+      ahead = λ k e less is.
+          omega (arith, below k e less, ap (λ (x : Entry). x.end) (get_or_from_slice_get entries k e e is));
+    }

@@ -1,5 +1,5 @@
 -- The tables that say where a site's operations stand.
-use Rattle.std.specs.Prelude.{◌≡◌, ℕ, ◌-◌, ◌<◌, ◌≤◌, nat_eq, List, [], length, map, slice_get, Some, All}
+use Rattle.std.specs.Prelude.{◌≡◌, ℕ, ◌-◌, ◌<◌, ◌≤◌, nat_eq, List, [], length, map, slice_get, get_or, Some, All}
 use Rattle.std.specs.Option.{option_map_or}
 use Rattle.std.specs.Map.{lookup, keys_of}
 use Rattle.op_log.specs.declared.site_log.Entry.{Entry}
@@ -21,6 +21,14 @@ pub record IsFirstPast (entries : List Entry) (off : ℕ) (e : Entry) : Type 0 w
   pub there : slice_get entries at ≡ Some e
   pub past : off < e.end
   pub ahead : (k : ℕ) (d : Entry) → k < at → slice_get entries k ≡ Some d → d.end ≤ off
+
+-- the first n entries end their site's file at the offset or ahead of it
+abbrev pub EndBy : List Entry → ℕ → ℕ → Type 0
+EndBy entries off n = (k : ℕ) (d : Entry) → k < n → (get_or entries k d).end ≤ off
+
+-- the entry at this place ends its site's file behind the offset
+abbrev pub EndsPast : List Entry → ℕ → ℕ → Type 0
+EndsPast entries off place = (place < length entries) × ((d : Entry) → off < (get_or entries place d).end)
 
 -- tables by their sites' numbers
 abbrev pub Tables : Type 0

@@ -3,7 +3,7 @@ ghost use Rattle.std.specs.Prelude.{None as Nothing};
 ghost use Rattle.std.specs.Option.{option_map};
 ghost use Rattle.std.specs.List.Sorted.{IsNonDecreasingBy};
 ghost use Rattle.looks.specs.Refusal.{RefusedForMemoryAlone};
-ghost use Rattle.op_log.specs.Tables.{end_of, IsFirstPast};
+ghost use Rattle.op_log.specs.Tables.{end_of, EndBy, EndsPast, IsFirstPast};
 
 use char_files::MAX_FILE;
 use looks::Refusal;
@@ -42,6 +42,50 @@ impl Model for SiteLog {
 
     ghost invariant = { λ l. (vec_len l.entries < 2 ^ 32) × (end_of l.entries.items ≤ MAX_FILE)
         × (l.stamp ≤ MAX_STAMP) };
+}
+
+// Where to look first for the entry that ends past this offset: in proportion, as if all operations appended alike.
+fn guess(entries: &[Entry], off: u32, end: u32) -> usize
+    requires some { 0 < length entries.now }
+    requires end { 0 < end }
+    ensures { result < length entries.now }
+{
+    let last = entries.len() - 1;
+    let scaled = u64::from(off).saturating_mul(entries.len() as u64) / u64::from(end);
+    last.min(scaled as usize)
+}
+
+// A place up to which all entries end by this offset: this one, or one ahead of it. Each step is twice the one before.
+fn low_place(entries: &[Entry], from: usize, off: u32) -> usize
+    requires rising { IsNonDecreasingBy (λ e. e.end) entries.now }
+    requires within { from < length entries.now }
+    ensures low { EndBy entries.now off result }
+    ensures within { result ≤ from }
+{
+    let mut place = from;
+    let mut step = 1;
+    while 0 < place && off < entries[place - 1].end {
+        place = place.saturating_sub(step);
+        step = step.saturating_mul(2);
+    }
+    place
+}
+
+// The place of an entry that ends past this offset: this one, or one behind it. Each step is twice the one before.
+fn high_place(entries: &[Entry], from: usize, off: u32) -> usize
+    requires past { off < end_of entries.now }
+    requires within { from < length entries.now }
+    ensures high { EndsPast entries.now off result }
+    ensures within { from ≤ result }
+{
+    let last = entries.len() - 1;
+    let mut place = from;
+    let mut step = 1;
+    while entries[place].end <= off {
+        place = last.min(place.saturating_add(step));
+        step = step.saturating_mul(2);
+    }
+    place
 }
 
 impl SiteLog {
@@ -102,8 +146,11 @@ impl SiteLog {
         requires within { off < end_of self.now.entries }
         ensures { IsFirstPast self.now.entries off result }
     {
-        let at = self.entries.partition_point(|entry| entry.end <= off);
-        self.entries[at]
+        let entries = self.entries.as_slice();
+        let from = low_place(entries, guess(entries, off, self.file_len()), off);
+        let to = high_place(entries, from, off);
+        let behind = entries[from..to].partition_point(|entry| entry.end <= off);
+        entries[from + behind]
     }
 
     // Makes room for one operation more. Refused `OutOfMemory` alone.
