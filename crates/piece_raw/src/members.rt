@@ -7,8 +7,8 @@ use crate::block::NodePtr;
 use crate::nodes::{Member, Nodes};
 use std::marker::Model;
 
-/// The members that are left of a ring, in order, each with its tag: the one place that steps along the ring. It goes
-/// from node to node, and reads the table for the first one alone. This project's own.
+/// The members that are left of a ring, in order, each with its tag. It goes from node to node, and reads the table for
+/// the first one alone. This project's own.
 #[derive(Drop)]
 pub struct Members<'a, T> {
     nodes: &'a Nodes<T>,
