@@ -1,8 +1,8 @@
 -- What the tables of a log tell.
-use Rattle.std.proofs.Common.{◌≡◌, ℕ, zero, suc, ◌-◌, ◌<◌, ◌≤◌, ◌↔◌, inl, inr, List, [], length}
+use Rattle.std.proofs.Common.{◌≡◌, ℕ, zero, suc, ◌-◌, ◌<◌, ◌≤◌, ◌↔◌, inl, inr, List, length}
 use Rattle.std.proofs.Common.{Option, Some, None, option_map, Contains, slice_get, get_or, refl, sym, ap, subst, ◌∙◌, arith}
 use Rattle.std.proofs.lemmas.Bool.{cases_lt}
-use Rattle.std.proofs.lemmas.Option.{slice_get-get_or, slice_get_past, slice_get_within, none-some}
+use Rattle.std.proofs.lemmas.Option.{slice_get-get_or, slice_get_past, slice_get_within}
 use Rattle.std.specs.Option.{option_map_or}
 use Rattle.std.specs.List.Sorted.{IsNonDecreasingBy}
 use Rattle.char_files.specs.CharName.{CharName}
@@ -87,44 +87,6 @@ module _ {ops : List Operation} (known : AreIdentified ops) {site : ℕ} {t : Si
           let le : d.end ≤ off = first.ahead k d (omega arith) at in
           let ends = ends_at k d at in
           omega arith
-
--- no operations need no tables
-pub logged_none : (ops : List Operation) (tables : Tables) → ops ≡ [] → tables ≡ [] → AreLogged ops tables 0
-logged_none ops tables none empty =
-    subst (λ (xs : List Operation). AreLogged xs tables 0) (sym none)
-    (subst (λ (ts : Tables). AreLogged [] ts 0) (sym empty) all)
-  where
-    all : AreLogged [] [] 0
-    all = record {
-      by_site = λ site. record { entries = λ k e is. absurd (none-some e is); front = refl; stamp = refl };
-      greatest = refl;
-      low = omega arith;
-      known = record {
-        counted = λ op held. let lt = held.1 in absurd (omega arith);
-        unique = λ a b held other on at. let lt = held.1 in absurd (omega arith);
-      };
-      once = λ i j d less lt. absurd (omega arith);
-      begins = λ op held. let lt = held.1 in absurd (omega arith);
-    }
-
--- tables that tell the same are as good
-pub logged_kept : (ops : List Operation) (tables tables' : Tables) (stamp : ℕ) → AreLogged ops tables stamp
-    → ((site : ℕ) → (table_of tables' site).entries ≡ (table_of tables site).entries)
-    → ((site : ℕ) → (table_of tables' site).stamp ≡ (table_of tables site).stamp)
-    → AreLogged ops tables' stamp
-logged_kept ops tables tables' stamp logged entries stamps = record {
-  by_site = λ site. record {
-    entries = λ k e is. (logged.by_site site).entries k e
-        (ap (λ (es : List Entry). slice_get es k) (sym (entries site)) ∙ is);
-    front = ap (λ (es : List Entry). length es) (entries site) ∙ (logged.by_site site).front;
-    stamp = stamps site ∙ (logged.by_site site).stamp;
-  };
-  greatest = logged.greatest;
-  low = logged.low;
-  known = logged.known;
-  once = logged.once;
-  begins = logged.begins;
-}
 
 -- what the tables tell of an identity: where its operation stands, or that none is held
 abbrev pub Tells : List Operation → ℕ → ℕ → Option ℕ → Type 0

@@ -100,10 +100,8 @@ impl Log {
         ensures value { IfSome result (λ op.
             Contains self.now.ops op.now × (op.now.site ≡ site) × (op.now.seq ≡ seq)) }
     {
-        match self.sites.index(site, seq) {
-            Some(index) => Some(&self.ops[index]),
-            None => None,
-        }
+        let index = self.sites.index(site, seq)?;
+        Some(&self.ops[index])
     }
 
     /// The front of a site: the greatest seq of its operations, 0 for none.
@@ -197,16 +195,14 @@ impl Log {
         ensures { self.new.ops ≡ self.old.ops ++ op ∷ [] }
     {
         op.has_spelling();
-        let (site, stamp) = (op.site(), op.stamp());
+        let site = op.site();
         let entry = Entry {
             index: self.ops.len(),
             end: self.sites.file_len(site) + appended_bytes(&op),
-            stamp,
+            stamp: op.stamp(),
         };
-        if self.ops.push(op).is_err() {
-            unreachable!();
-        }
-        self.sites.push(site, entry, stamp);
-        self.stamp = stamp.max(self.stamp);
+        self.ops.push_reserved(op);
+        self.sites.push(site, entry);
+        self.stamp = entry.stamp.max(self.stamp);
     }
 }

@@ -134,10 +134,7 @@ impl SiteLog {
         if seq == 0 {
             return None;
         }
-        match self.entries.get(seq as usize - 1) {
-            Some(entry) => Some(entry.index),
-            None => None,
-        }
+        Some(self.entries.get(seq as usize - 1)?.index)
     }
 
     // The first operation behind which the site's file is longer than this.
@@ -166,17 +163,15 @@ impl SiteLog {
     }
 
     // Enters the next operation.
-    pub(crate) fn push(&mut self, entry: Entry, stamp: u64)
+    pub(crate) fn push(&mut self, entry: Entry)
         requires room { 0 < self.old.room }
         requires few { length self.old.entries + 1 < 2 ^ 32 }
         requires end { entry.end ≤ MAX_FILE }
-        requires stamp { stamp ≤ MAX_STAMP }
+        requires stamp { entry.stamp ≤ MAX_STAMP }
         ensures entries { self.new.entries ≡ self.old.entries ++ entry ∷ [] }
-        ensures stamp { self.new.stamp ≡ max stamp self.old.stamp }
+        ensures stamp { self.new.stamp ≡ max entry.stamp self.old.stamp }
     {
-        if self.entries.push(entry).is_err() {
-            unreachable!();
-        }
-        self.stamp = stamp.max(self.stamp);
+        self.entries.push_reserved(entry);
+        self.stamp = entry.stamp.max(self.stamp);
     }
 }

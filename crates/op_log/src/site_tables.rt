@@ -101,10 +101,7 @@ impl SiteTables {
         ensures value { 0 < seq → result
             ≡ option_map (λ e. e.index) (slice_get (table_of self.now site).entries (seq - 1)) }
     {
-        match self.sites.get(&site.get()) {
-            Some(table) => table.index(seq),
-            None => None,
-        }
+        self.sites.get(&site.get())?.index(seq)
     }
 
     // The first operation of the name's site behind which that one's file has the name.
@@ -138,17 +135,17 @@ impl SiteTables {
     }
 
     // Enters the site's next operation, for which there is room.
-    pub(crate) fn push(&mut self, site: SiteNo, entry: Entry, stamp: u64)
+    pub(crate) fn push(&mut self, site: SiteNo, entry: Entry)
         requires room { 0 < (table_of self.old site).room }
         requires few { length (table_of self.old site).entries + 1 < 2 ^ 32 }
         requires end { entry.end ≤ MAX_FILE }
-        requires stamp { stamp ≤ MAX_STAMP }
+        requires stamp { entry.stamp ≤ MAX_STAMP }
         ensures entries { (table_of self.new site).entries ≡ (table_of self.old site).entries ++ entry ∷ [] }
-        ensures stamp { (table_of self.new site).stamp ≡ max stamp (table_of self.old site).stamp }
+        ensures stamp { (table_of self.new site).stamp ≡ max entry.stamp (table_of self.old site).stamp }
         ensures others { (other : ℕ) → other ≢ site → table_of self.new other ≡ table_of self.old other }
     {
         match self.sites.get_mut(&site.get()) {
-            Some(table) => table.push(entry, stamp),
+            Some(table) => table.push(entry),
             None => unreachable!(),
         }
     }

@@ -1,6 +1,5 @@
-use Rattle.std.proofs.Common.{rules, ◌≡◌, ℕ, ◌+◌, ◌<◌, max, not, List, [], ◌∷◌, ◌++◌, length, sym, ap, subst, ◌∙◌}
+use Rattle.std.proofs.Common.{rules, ◌≡◌, ℕ, ◌+◌, ◌<◌, max, List, [], ◌∷◌, ◌++◌, length, sym, subst}
 use Rattle.std.proofs.Common.{arith}
-use Rattle.std.proofs.lemmas.Bool.{cond-true}
 use Rattle.operations.specs.Operation.{Operation, appended_len}
 use Rattle.tree_order.specs.Good.{Begins}
 use Rattle.set_laws.specs.Fronts.{file_len}
@@ -11,15 +10,15 @@ use Rattle.op_log.proofs.Pushed.{fits_by_table, pushed}
 use Rattle.op_log.proofs.Rooms.{room_told}
 use Rattle.op_log.proofs.log.Log.push.Goals as goal
 
-pub push-requires-2-clause-room : goal.push-requires-2-clause-room
-push-requires-2-clause-room c =
+pub push-requires-clause-room : goal.push-requires-clause-room
+push-requires-clause-room c =
     let tables = c.self.inside.sites in
     let room = rw (← c.self.view_is) at c.requires.reserved in
     subst (λ (s : ℕ). 0 < (table_of tables s).room) (sym c.site-site.ensures)
     (subst (λ (n : ℕ). 0 < n) (room_told tables c.args.op.site) room.1)
 
-pub push-requires-2-clause-end : goal.push-requires-2-clause-end
-push-requires-2-clause-end c =
+pub push-requires-clause-end : goal.push-requires-clause-end
+push-requires-clause-end c =
     let op = c.args.op in
     let begins : Begins op.kind (file_len c.self.inside.ops.items op.site) =
     subst (λ (seen : LogSeen). Begins op.kind (file_len seen.ops op.site)) (sym c.self.view_is)
@@ -38,19 +37,18 @@ invariant_of-self c =
     let begins : Begins op.kind (file_len l.ops.items op.site) =
     subst (λ (seen : LogSeen). Begins op.kind (file_len seen.ops op.site)) (sym c.self.view_is)
     c.requires.begins in
-    let items : c.push.new.self.items ≡ l.ops.items ++ op ∷ [] = c.push.ensures.items
-    ∙ cond-true _ _ _ (c.is_err.ensures.negation ∙ ap not c.if-is_err.false) in
-    let most : c.max-self-inside.result ≡ max c.stamp-stamp.result l.stamp = search rules in
+    let items : c.push_reserved.new.self.items ≡ l.ops.items ++ op ∷ [] = c.push_reserved.ensures.items in
+    let most : c.max-self-inside.result ≡ max c.stamp.result l.stamp = search rules in
     let index : c.len.result ≡ length l.ops.items = search rules in
     let file = c.file_len.ensures.value in
     let len = c.appended_bytes.ensures.value in
     let ends : c.file_len.result + c.appended_bytes.result
     ≡ end_of (table_of l.sites site).entries + appended_len op.kind = omega arith in
-    subst (λ (xs : List Operation). AreLogged xs c.push-3.new.self c.max-self-inside.result) (sym items)
-    (subst (λ (n : ℕ). AreLogged (l.ops.items ++ op ∷ []) c.push-3.new.self n) (sym most)
-    (pushed c.self.invariant c.push-3.new.self op site (record {
+    subst (λ (xs : List Operation). AreLogged xs c.push.new.self c.max-self-inside.result) (sym items)
+    (subst (λ (n : ℕ). AreLogged (l.ops.items ++ op ∷ []) c.push.new.self n) (sym most)
+    (pushed c.self.invariant c.push.new.self op site (record {
       index = c.len.result;
       end = c.file_len.result + c.appended_bytes.result;
-      stamp = c.stamp-stamp.result;
-    }) next begins c.has_spelling.ensures.stamp.1 c.site-site.ensures c.stamp-stamp.ensures
-    index ends c.push-3.ensures.entries c.push-3.ensures.stamp c.push-3.ensures.others))
+      stamp = c.stamp.result;
+    }) next begins c.has_spelling.ensures.stamp.1 c.site-site.ensures c.stamp.ensures
+    index ends c.push.ensures.entries c.push.ensures.stamp c.push.ensures.others))
