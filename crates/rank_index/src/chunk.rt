@@ -1,4 +1,5 @@
-// A stretch of the list that is looked through as a whole.
+//! A stretch of the list that is looked through as a whole.
+
 ghost use Rattle.std.specs.Prelude.{◌≡◌, ◌+◌, ◌<◌, ◌≤◌, ◌^◌, ◌↔◌, ◌==◌, [], ◌∷◌, ◌++◌, length, take};
 ghost use Rattle.std.specs.Prelude.{IfOk, IfSome, IsSome, IsTrue};
 ghost use Rattle.looks.specs.Refusal.{RefusedForMemoryAlone};
@@ -12,17 +13,17 @@ use std::alloc::Global;
 use std::marker::Model;
 
 // How many members a chunk has at most.
-pub const MOST: usize = 512;
+pub(crate) const MOST: usize = 512;
 
 // Half of it.
-pub const HALF: usize = 256;
+pub(crate) const HALF: usize = 256;
 
 // How many tags there are, each of 32 bits.
-pub const MOST_TAGS: usize = 4_294_967_296;
+pub(crate) const MOST_TAGS: usize = 4_294_967_296;
 
 // Up to 512 neighbouring members, with the sum of their weights.
 #[derive(Drop)]
-pub struct Chunk {
+pub(crate) struct Chunk {
     // A tag and a weight in eight bytes: a look along a chunk takes as long as its members are in memory.
     members: Vec<(u32, u32)>,
     sum: u64,
@@ -60,7 +61,7 @@ fn place_in(members: &[(u32, u32)], tag: u64) -> Option<usize>
 
 impl Chunk {
     // No members, and memory for all that come. Its home is 0 until it is given another one.
-    pub fn new(alloc: Global) -> Result<Chunk, Refusal>
+    pub(crate) fn new(alloc: Global) -> Result<Chunk, Refusal>
         ensures ok { IfOk result (λ c. c ≡ record { members = []; home = 0 }) }
         ensures errors { RefusedForMemoryAlone result }
     {
@@ -72,27 +73,27 @@ impl Chunk {
     }
 
     // The number under which its members are entered.
-    pub fn home(&self) -> usize
+    pub(crate) fn home(&self) -> usize
         ensures { result ≡ self.now.home }
     {
         self.home
     }
 
     // Gives it another home.
-    pub fn move_to(&mut self, home: usize)
+    pub(crate) fn move_to(&mut self, home: usize)
         ensures members { self.new.members ≡ self.old.members }
         ensures home { self.new.home ≡ home }
     {
         self.home = home;
     }
 
-    pub fn sum(&self) -> u64
+    pub(crate) fn sum(&self) -> u64
         ensures { result ≡ weight_of self.now.members }
     {
         self.sum
     }
 
-    pub fn members(&self) -> &[(u32, u32)]
+    pub(crate) fn members(&self) -> &[(u32, u32)]
         ensures members { result.now ≡ self.now.members }
         ensures most { length self.now.members ≤ MOST }
     {
@@ -107,14 +108,14 @@ impl Chunk {
         place_in(self.members(), tag)
     }
 
-    pub fn has(&self, tag: u64) -> bool
+    pub(crate) fn has(&self, tag: u64) -> bool
         ensures { IsTrue result ↔ HasTag self.now.members tag }
     {
         self.place_of(tag).is_some()
     }
 
     // How much stands ahead of the member of this tag.
-    pub fn rank(&self, tag: u64) -> u64
+    pub(crate) fn rank(&self, tag: u64) -> u64
         requires { HasTag self.now.members tag }
         ensures { IsRank self.now.members tag result }
     {
@@ -129,7 +130,7 @@ impl Chunk {
     }
 
     // The member whose stretch of the sum holds this position, and how far inside.
-    pub fn find(&self, pos: u64) -> (u64, u64)
+    pub(crate) fn find(&self, pos: u64) -> (u64, u64)
         requires { pos < weight_of self.now.members }
         ensures { IsFound self.now.members pos result.0 result.1 }
     {
@@ -161,7 +162,7 @@ impl Chunk {
     }
 
     // Puts a member directly behind that of a tag, at the front for `None`.
-    pub fn insert_after(&mut self, after: Option<u64>, tag: u64, weight: u32)
+    pub(crate) fn insert_after(&mut self, after: Option<u64>, tag: u64, weight: u32)
         requires after { IfSome after (HasTag self.old.members) }
         requires tag { tag < MOST_TAGS }
         requires room { length self.old.members < MOST }
@@ -177,7 +178,7 @@ impl Chunk {
     }
 
     // Gives the member of this tag another weight.
-    pub fn set_weight(&mut self, tag: u64, weight: u32)
+    pub(crate) fn set_weight(&mut self, tag: u64, weight: u32)
         requires here { HasTag self.old.members tag }
         requires once { IsDistinct ◌==◌ (tags self.old.members) }
         requires total { weight_of (with_value tag weight self.old.members) < 2 ^ 64 }
@@ -206,7 +207,7 @@ impl Chunk {
     }
 
     // Gives its second half to a chunk that has no members.
-    pub fn halve(&mut self, rest: &mut Chunk)
+    pub(crate) fn halve(&mut self, rest: &mut Chunk)
         requires full { length self.old.members ≡ MOST }
         requires empty { rest.old.members ≡ [] }
         ensures parts { self.old.members ≡ self.new.members ++ rest.new.members }

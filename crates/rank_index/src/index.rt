@@ -251,17 +251,16 @@ impl RankIndex {
         ensures items { self.new.items ≡ self.old.items }
         ensures room { self.old.room ≤ self.new.room }
     {
-        self.homes.reserve(n)?;
-        let members = self.homes.len() + n;
-        if MOST_TAGS < members {
+        if MOST_TAGS.saturating_sub(self.homes.len()) < n {
             return Err(Refusal::OutOfMemory);
         }
+        self.homes.reserve(n)?;
         fill_spare(
             &mut self.chunks,
             &mut self.spare,
             &mut self.places,
             self.alloc,
-            members / HALF,
+            (self.homes.len() + n) / HALF,
         )
     }
 
@@ -273,8 +272,8 @@ impl RankIndex {
         self.total
     }
 
-    /// Puts a member directly behind that of another tag, at the front for `None`. Its tag is the next one; the
-    /// sum of all weights stays below 2^64.
+    /// Puts a member directly behind that of another tag, at the front for `None`. A member has that tag, its own
+    /// is the next one, and there is room; the sum of all weights stays below 2^64.
     pub fn insert_after(&mut self, after: Option<u64>, tag: u64, weight: u32)
         requires after { IfSome after (HasTag self.old.items) }
         requires tag { tag ≡ length self.old.items }
@@ -296,7 +295,7 @@ impl RankIndex {
         self.total += u64::from(weight);
     }
 
-    /// Gives a member another weight. The sum of all weights stays below 2^64.
+    /// Gives a member another weight. A member has this tag; the sum of all weights stays below 2^64.
     pub fn set_weight(&mut self, tag: u64, weight: u32)
         requires here { HasTag self.old.items tag }
         requires total { weight_of (with_value tag weight self.old.items) < 2 ^ 64 }
@@ -310,7 +309,7 @@ impl RankIndex {
         self.total = others + chunk.sum();
     }
 
-    /// How much weight stands ahead of a member.
+    /// How much weight stands ahead of a member. A member has this tag.
     pub fn rank(&self, tag: u64) -> u64
         requires here { HasTag self.now.items tag }
         ensures rank { IsRank self.now.items tag result }
@@ -320,7 +319,7 @@ impl RankIndex {
     }
 
     /// The member whose stretch of the sum of all weights holds this position, and how far behind the
-    /// stretch's start it lies.
+    /// stretch's start it lies. The position is below that sum.
     pub fn find(&self, pos: u64) -> (u64, u64)
         requires within { pos < weight_of self.now.items }
         ensures found { IsFound self.now.items pos result.0 result.1 }
