@@ -18,12 +18,6 @@ use Rattle.piece_list.proofs.Shown.{char_at, count_chars}
 abbrev Items : Type 0
 Items = List (ℕ × Piece)
 
--- the place of a name that a piece holds
-pub place_of : (items : Items) (tag : ℕ) (p : Piece) (c : CharName) → IsMember items tag p
-    → IsIn (range_of p) c → (place : Place) × IsPlaceOf items place c
-place_of items tag p c is (site, from, to) =
-    (record { piece = tag; within = c.off - p.off }, (p, is, omega arith, site, omega arith))
-
 -- a character is one of a piece
 pub record IsOfPiece (items : Items) (k : Kept) : Type 0 where
   pub tag : ℕ

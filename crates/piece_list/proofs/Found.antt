@@ -1,5 +1,5 @@
 -- Which piece holds a name, by its number.
-use Rattle.std.proofs.Common.{◌≡◌, ◌≢◌, ℕ, ◌-◌, ◌<◌, ◌==◌, inl, inr, List, [], ◌∷◌, ◌++◌}
+use Rattle.std.proofs.Common.{◌≡◌, ◌≢◌, ℕ, ◌-◌, ◌<◌, ◌==◌, ◌↔◌, inl, inr, List, [], ◌∷◌, ◌++◌}
 use Rattle.std.proofs.Common.{Option, Some, None, length}
 use Rattle.std.proofs.Common.{get_or, AllPairs, Contains, refl, sym, ap, subst, ◌∙◌, arith}
 use Rattle.std.proofs.lemmas.Bool.{cases_lt}
@@ -140,3 +140,23 @@ pub found_is_here : (items : List (ℕ × Piece)) (tag : ℕ) (c : CharName) (r 
     → IfSome r (λ place. (place.piece ≡ tag) × IsPlaceOf items place c) → IsSome r → HasName (spelled items) c
 found_is_here items tag c None found some = absurd cc
 found_is_here items tag c (Some place) found some = place_has_name items place c found.1
+
+-- what isn't entered isn't spelled
+pub not_entered : (items : List (ℕ × Piece)) (tables : Tables) → AreEntered items tables → (c : CharName)
+    → tag_at tables c ≡ None → HasName (spelled items) c → ⊥
+not_entered items tables are c none here =
+    let (place, is) = name_has_place items c here in
+    none_is_not place.piece (sym none ∙ entry_of items tables are place c is)
+
+-- a name is spelled exactly where it is found in the piece that it is entered under
+pub found_where_entered : (items : List (ℕ × Piece)) (tables : Tables) → AreEntered items tables → (c : CharName)
+    (tag : ℕ) → tag_at tables c ≡ Some tag → (r : Option Place)
+    → IfSome r (λ place. (place.piece ≡ tag) × IsPlaceOf items place c)
+    → ((place : Place) → IsPlaceOf items place c → place.piece ≡ tag → IsSome r)
+    → IsSome r ↔ HasName (spelled items) c
+found_where_entered items tables are c tag entry r found held = (
+  λ some. found_is_here items tag c r found some,
+  λ here.
+      let (place, is) = name_has_place items c here in
+      held place is (some_is place.piece tag (sym (entry_of items tables are place c is) ∙ entry)),
+)

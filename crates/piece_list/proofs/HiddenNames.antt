@@ -63,16 +63,6 @@ char_named (k ∷ ks) c (suc i, lt, e) =
 abbrev pub NoneHidden : List Kept → Range → Type 0
 NoneHidden ks r = (k : Kept) → Contains ks k → IsIn r k.name → k.hidden.value ≡ false
 
--- a range, and one more piece of it
-pub more_shown : (ks : List Kept) (site from at to : ℕ) → from ≤ at → at < to
-    → NoneHidden ks (range site from (at - from)) → NoneHidden ks (range site at (to - at))
-    → NoneHidden ks (range site from (to - from))
-more_shown ks site from at to le lt shown more = λ k has (same, low, high).
-    elim (cases_lt k.name.off at) [
-      | inl less ↦ shown k has (same, low, omega arith)
-      | inr past ↦ more k has (same, past, omega arith)
-    ]
-
 -- where the character of a name is hidden, a range with the name has a hidden one
 pub one_hidden : (ks : List Kept) (r : Range) (c : CharName) → HasName ks c → IsIn r c
     → ((k : Kept) → Contains ks k → k.name ≡ c → k.hidden.value ≡ true)

@@ -1,5 +1,5 @@
 -- A piece is put into its gap: the walk to it, the cut ahead of it, and the tables afterwards.
-use Rattle.std.proofs.Common.{◌≡◌, ◌≢◌, ℕ, ◌+◌, ◌-◌, ◌^◌, ◌<◌, ◌≤◌, ◌⊎◌, min, Bool, true, false, inl, inr, List, [], ◌∷◌}
+use Rattle.std.proofs.Common.{◌≡◌, ◌≢◌, ℕ, ◌+◌, ◌<◌, ◌≤◌, ◌⊎◌, Bool, true, false, inl, inr, List, [], ◌∷◌}
 use Rattle.std.proofs.Common.{◌++◌, Option, Some, None, length, All, Contains, refl, sym, ap, subst, ◌∙◌, arith}
 use Rattle.std.proofs.Common.{append_assoc}
 use Rattle.std.proofs.lemmas.Bool.{cases_eq}
@@ -18,13 +18,13 @@ use Rattle.piece_raw.specs.Ring.{Ring, ring, AreTags, HasTag, IsMember, IsPushed
 use Rattle.piece_list.specs.declared.piece.Piece.{Piece}
 use Rattle.piece_list.specs.declared.place.Place.{Place}
 use Rattle.piece_list.specs.Pieces.{range_of, chars_of, front_of, rest_of, IsPiece}
-use Rattle.piece_list.specs.Held.{AreEntered, HasPlace, IsPlaceOf, IsCut}
+use Rattle.piece_list.specs.Held.{AreEntered, IsPlaceOf, IsCut}
 use Rattle.piece_list.specs.Laws.{Avoid, BeginNotAbove}
 use Rattle.piece_list.specs.Placed.{IsPlaced}
 use Rattle.piece_list.specs.Placing.{HasAnchor, compared, IsAnchorPlace, IsParted, HasPart, IsPartedAt, IsCutAt, IsCutThere}
 use Rattle.piece_list.specs.Placing.{IsCounted, IsNext, IsSkip, IsPutInGap, last_look}
 use Rattle.piece_list.specs.Spelled.{spelled, names_of_kept, HasName, ArePieces}
-use Rattle.piece_list.specs.Tables.{Tables, tag_in, table_of, tag_at}
+use Rattle.piece_list.specs.Tables.{Tables, table_of, tag_at}
 use Rattle.piece_list.proofs.Changes.{contained, is_contained}
 use Rattle.piece_list.proofs.Cut.{cut_spells_the_same}
 use Rattle.piece_list.proofs.Entered.{Held, held, has_tag}
@@ -40,9 +40,6 @@ Items = List (ℕ × Piece)
 
 pub counted_none : (from n : ℕ) → n ≡ 0 → IsCounted from n from
 counted_none from n e = (omega arith, omega arith)
-
-pub counted_one : (from n steps : ℕ) → n ≡ 1 → steps ≡ min (from + 1) (2 ^ 64 - 1) → IsCounted from n steps
-counted_one from n steps e is = (omega arith, omega arith)
 
 counted_more : (from n steps m more : ℕ) → IsCounted from n steps → IsCounted steps m more
     → IsCounted from (n + m) more
@@ -157,11 +154,6 @@ parted_at old xs ys tag p c site off there = (
   (xs, tag, p, refl, site, off),
   there,
 )
-
-pub parted_root : (items : Items) (cause : Anchor) → IsAnchorPlace items cause None
-    → IsPartedAt items items None cause
-parted_root items Root is = ([], items, (refl, refl), refl, inl refl)
-parted_root items (At c) (place, none, is) = absurd cc
 
 -- the cause is the last of its piece
 pub parted_there : (items : Items) → AreTags items → (place : Place) (v : Piece)
@@ -297,16 +289,6 @@ cut_others old new tag n u are cut other c (p, (xs, ys, is), within, site, off) 
 
 -- the tables
 
--- tables that say the same, and that are as long
-pub same_tables : (items : Items) (old new : Tables)
-    → ((site off : ℕ) → tag_in (table_of new site) off ≡ tag_in (table_of old site) off)
-    → AreEntered items old → AreEntered items new
-same_tables items old new same are = record {
-  pieces = are.pieces;
-  entered = λ i d lt c is. same c.site c.off ∙ are.entered i d lt c is;
-  held = λ c tag e. are.held c tag (sym (same c.site c.off) ∙ e);
-}
-
 pub same_lengths : (old new : Tables) (own : ℕ) → length (table_of new own) ≡ length (table_of old own)
     → ((site : ℕ) → site ≢ own → table_of new site ≡ table_of old site)
     → (site : ℕ) → length (table_of new site) ≡ length (table_of old site)
@@ -416,9 +398,6 @@ pushed_part old new are last u v put ahead behind parted =
 
 -- the anchor
 
-pub found_root : (items : Items) (cause : Anchor) → cause ≡ Root → IsAnchorPlace items cause None
-found_root items cause e = subst (λ (a : Anchor). IsAnchorPlace items a None) (sym e) refl
-
 pub found_char : (items : Items) (cause : Anchor) (c : CharName) (r : Option Place) → cause ≡ At c
     → IfSome r (λ place. IsPlaceOf items place c) → IsSome r → IsAnchorPlace items cause r
 found_char items cause c None e found some = absurd cc
@@ -428,13 +407,6 @@ found_char items cause c (Some place) e found some =
 pub has_char : (chars : List Kept) (cause : Anchor) (c : CharName) → cause ≡ At c → HasAnchor chars cause
     → HasName chars c
 has_char chars cause c e here = subst (HasAnchor chars) e here
-
--- the anchor's place is one
-pub anchor_has_place : (items : Items) (cause : Anchor) (r : Option Place) → IsAnchorPlace items cause r
-    → IfSome r (λ at. HasPlace items at)
-anchor_has_place items Root r none = subst (λ (o : Option Place). IfSome o (λ at. HasPlace items at)) (sym none) tt
-anchor_has_place items (At c) r (at, some, (p, member, within, site, off)) =
-    subst (λ (o : Option Place). IfSome o (λ at. HasPlace items at)) (sym some) (p, member, within)
 
 -- the whole
 

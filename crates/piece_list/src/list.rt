@@ -1,4 +1,4 @@
-ghost use Rattle.std.specs.Prelude.{◌≡◌, ◌≢◌, ℕ, ◌+◌, ◌<◌, ◌≤◌, ◌⊎◌, ◌↔◌, [], length, min, IfOk, OnOk, OnErr};
+ghost use Rattle.std.specs.Prelude.{◌≡◌, ◌≢◌, ℕ, ◌+◌, ◌<◌, ◌≤◌, ◌⊎◌, ◌↔◌, [], length, IfOk, OnOk, OnErr};
 ghost use Rattle.std.specs.Prelude.{IfSome, IsSome};
 ghost use Rattle.looks.specs.Refusal.{RefusedForMemoryAlone};
 ghost use Rattle.piece_raw.specs.Ring.{AreTags, HasTag};
@@ -24,7 +24,6 @@ use rank_index::RankIndex;
 use std::alloc::Global;
 use std::marker::Model;
 pub use walking::Walk;
-use walking::shown_of;
 
 /// All characters of a text in order, hidden ones too, as a list of pieces (Project Oberon, chapter 5).
 ///
@@ -86,8 +85,8 @@ fn cut(
     pieces.seek(tag);
     let front = pieces.value_mut();
     let rest = front.split_off(n);
-    let ahead = shown_of(front, n);
-    let behind = shown_of(&rest, rest.len);
+    let ahead = front.shown_of(n);
+    let behind = rest.shown_of(rest.len);
     let (site, off, len) = (rest.site, rest.off, rest.len);
     match pieces.push_after(rest) {
         Ok(number) => {
@@ -98,6 +97,24 @@ fn cut(
         }
         Err(_) => unreachable!(),
     }
+}
+
+// Where in the piece of this number the name stands, if it does: one comparison.
+fn place_in(pieces: &Ring<Piece>, tag: u64, name: Name) -> Option<Place>
+    requires { HasTag pieces.now.items tag }
+    ensures found { IfSome result (λ place. (place.piece ≡ tag) × IsPlaceOf pieces.now.items place name) }
+    ensures held { (place : Place) → IsPlaceOf pieces.now.items place name → place.piece ≡ tag
+        → IsSome result }
+{
+    numbers_differ(pieces);
+    let piece = pieces.value_at(tag);
+    if !piece.holds(name) {
+        return None;
+    }
+    Some(Place {
+        piece: tag,
+        within: name.off() - piece.off,
+    })
 }
 
 impl PieceList {
@@ -114,25 +131,14 @@ impl PieceList {
         })
     }
 
-    // Where in this piece the name stands, if it does: one comparison, which is counted.
-    fn compare(&mut self, tag: u64, name: Name) -> Option<Place>
-        requires { HasTag self.old.items tag }
-        ensures found { IfSome result (λ place. (place.piece ≡ tag) × IsPlaceOf self.old.items place name) }
-        ensures held { (place : Place) → IsPlaceOf self.old.items place name → place.piece ≡ tag
-            → IsSome result }
-        ensures items { self.new.items ≡ self.old.items }
-        ensures steps { self.new.steps ≡ min (self.old.steps + 1) u64.MAX }
+    // Where the character of this name stands. It reads one entry of a table, and compares the name with one
+    // piece at most.
+    fn place_of(&self, name: Name) -> Option<Place>
+        ensures place { IfSome result (λ place. IsPlaceOf self.now.items place name) }
+        ensures here { IsSome result ↔ HasName (spelled self.now.items) name }
     {
-        self.steps = self.steps.saturating_add(1);
-        numbers_differ(&self.pieces);
-        let piece = self.pieces.value_at(tag);
-        if !piece.holds(name) {
-            return None;
-        }
-        Some(Place {
-            piece: tag,
-            within: name.off() - piece.off,
-        })
+        let tag = self.tags.get(name)?;
+        place_in(&self.pieces, tag, name)
     }
 
     /// Where the character of this name stands; `None` for a name that isn't here.
@@ -147,12 +153,13 @@ impl PieceList {
     {
         self.steps = 0;
         let tag = self.tags.get(name)?;
-        self.compare(tag, name)
+        self.steps = 1;
+        place_in(&self.pieces, tag, name)
     }
 
-    /// Cuts a piece in two ahead of this place, and answers the place of the same character afterwards. The
-    /// piece keeps its number and what stands ahead, and every other piece stays. Nothing changes at a piece's
-    /// first character.
+    /// Cuts a piece in two ahead of this place, which is in the list, and answers the place of the same character
+    /// afterwards. The piece keeps its number and what stands ahead, and every other piece stays. Nothing changes
+    /// at a piece's first character.
     ///
     /// Refused `OutOfMemory` alone.
     pub fn split(&mut self, place: Place) -> Result<Place, Refusal>

@@ -1,7 +1,8 @@
-ghost use Rattle.std.specs.Prelude.{◌≡◌, ◌<◌, ◌↔◌, IsTrue};
+ghost use Rattle.std.specs.Prelude.{◌≡◌, ◌<◌, ◌↔◌, if◌then◌else◌, IsTrue};
 ghost use Rattle.operations.specs.NameSet.{IsIn};
 ghost use Rattle.piece_list.specs.Pieces.{range_of, IsPiece, front_of, rest_of, piece_of};
 ghost use Rattle.piece_list.specs.Pieces.{switched_piece, relooked_piece};
+ghost use Rattle.piece_list.specs.Shown.{looks_of, run_of};
 
 use crate::run::Run;
 use char_files::{Name, SiteNo};
@@ -18,7 +19,7 @@ pub const MAX_PIECE: u32 = 4096;
 #[derive(Debug, Drop, PartialEq, Eq)]
 pub struct Piece {
     pub site: SiteNo,
-    /// The first name's offset in the site's file.
+    /// The first name's offset in the site's file, below 2^24.
     pub off: u32,
     /// How many characters there are, 1 to 4,096.
     pub len: u32,
@@ -54,6 +55,37 @@ impl Piece {
         }
     }
 
+    // The looks of its characters.
+    pub(crate) fn looks(&self) -> Looks
+        ensures { result ≡ looks_of self.now }
+    {
+        Looks {
+            font: self.font.value.copy(),
+            colour: self.colour.value,
+            offset: self.offset.value,
+        }
+    }
+
+    // The run of all its characters.
+    pub(crate) fn run(&self) -> Run
+        ensures { result ≡ run_of self.now }
+    {
+        Run {
+            site: self.site,
+            off: self.off,
+            len: self.len,
+            key: self.key,
+            looks: self.looks(),
+        }
+    }
+
+    // How many of its first `n` characters are shown: all of them, or none.
+    pub(crate) fn shown_of(&self, n: u32) -> u32
+        ensures { result ≡ (if self.now.hidden.value then 0 else n) }
+    {
+        if self.hidden.value { 0 } else { n }
+    }
+
     /// Whether the name is that of one of its characters.
     pub fn holds(&self, name: Name) -> bool
         ensures { IsTrue result ↔ IsIn (range_of self.now) name }
@@ -62,7 +94,7 @@ impl Piece {
         self.site.get() == name.site().get() && self.off <= off && off - self.off < self.len
     }
 
-    /// Cuts off all behind the first `n` characters, and answers it as a piece of its own.
+    /// Cuts off all behind the first `n` characters, of more than so many, and answers it as a piece of its own.
     pub fn split_off(&mut self, n: u32) -> Piece
         requires piece { IsPiece self.old }
         requires within { n < self.old.len }

@@ -6,7 +6,7 @@ use looks::{Key, Looks};
 #[derive(Debug, Drop, PartialEq, Eq)]
 pub struct Run {
     pub site: SiteNo,
-    /// The first name's offset in the site's file.
+    /// The first name's offset in the site's file, below 2^24.
     pub off: u32,
     /// How many characters there are, one at least.
     pub len: u32,

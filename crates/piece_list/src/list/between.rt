@@ -73,9 +73,9 @@ fn cut_front(walk: &mut Walk<'_>, n: u64) -> Option<Run>
 }
 
 impl PieceList {
-    /// Walks the stretches that are shown from `beg` to `end`, in order: each a run that isn't empty. It takes
-    /// no memory. It begins at the piece that is shown at `beg`, which is found without reading those ahead of
-    /// it, and then each step reads on to the next piece that is shown.
+    /// Walks the stretches that are shown from `beg` to `end`, which isn't ahead of it, in order: each a run that
+    /// isn't empty. It takes no memory. It begins at the piece that is shown at `beg`, which is found without
+    /// reading those ahead of it, and then each step reads on to the next piece that is shown.
     pub fn walk_between(&self, beg: u64, end: u64) -> Between<'_>
         requires range { beg ≤ end }
         ensures shown { flat_map appearances_in result

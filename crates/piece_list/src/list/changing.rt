@@ -1,4 +1,5 @@
-// How the characters of a set of names are changed: piece by piece, between cuts at each range's ends.
+//! How the characters of a set of names are changed: piece by piece, between cuts at each range's ends.
+
 ghost use Rattle.std.specs.Prelude.{◌≡◌, ℕ, ◌+◌, ◌-◌, ◌*◌, ◌<◌, ◌≤◌, true, false, [], ◌∷◌, length, map, OnOk};
 ghost use Rattle.std.specs.Prelude.{OnErr};
 ghost use Rattle.looks.specs.Refusal.{RefusedForMemoryAlone};
@@ -8,7 +9,6 @@ ghost use Rattle.piece_list.specs.Changing.{changed_piece, changed_char, AreHere
 ghost use Rattle.piece_list.specs.Held.{AreEntered, weighed};
 ghost use Rattle.piece_list.specs.Spelled.{spelled, HasName};
 
-use crate::list::walking::shown_of;
 use crate::list::{PieceList, cut, numbers_differ};
 use crate::piece::Piece;
 use crate::tags::TagTables;
@@ -105,7 +105,7 @@ fn change_piece(
             pieces.seek(tag);
             let piece = pieces.value_mut();
             change.apply(piece);
-            let weight = shown_of(piece, piece.len);
+            let weight = piece.shown_of(piece.len);
             index.set_weight(tag, weight);
             piece.off + piece.len
         }
@@ -195,7 +195,8 @@ impl PieceList {
         Ok(())
     }
 
-    /// Hides the characters of these names, but for those that were shown or hidden under a greater key.
+    /// Hides the characters of these names, which are in the list, but for those that were shown or hidden under
+    /// a greater key.
     ///
     /// Refused `OutOfMemory` alone.
     pub fn hide(&mut self, names: &NameSet, key: Key) -> Result<(), Refusal>
@@ -210,8 +211,8 @@ impl PieceList {
         self.change(names, &Change::Switch { hidden: true, key })
     }
 
-    /// Shows the characters of these names again, but for those that were shown or hidden under a greater
-    /// key.
+    /// Shows the characters of these names, which are in the list, again, but for those that were shown or hidden
+    /// under a greater key.
     ///
     /// Refused `OutOfMemory` alone.
     pub fn reveal(&mut self, names: &NameSet, key: Key) -> Result<(), Refusal>
@@ -226,8 +227,8 @@ impl PieceList {
         self.change(names, &Change::Switch { hidden: false, key })
     }
 
-    /// Gives the characters of these names the looks that are selected, attribute by attribute, where they
-    /// weren't set under a greater key. A hidden character takes new looks, too.
+    /// Gives the characters of these names, which are in the list, the looks that are selected, attribute by
+    /// attribute, where they weren't set under a greater key. A hidden character takes new looks, too.
     ///
     /// Refused `OutOfMemory` alone.
     pub fn relook(

@@ -51,8 +51,8 @@ impl PieceList {
         false
     }
 
-    /// Whether a character of these names is hidden. One step a piece of the ranges, each found by one entry
-    /// of a table.
+    /// Whether a character of these names, which are in the list, is hidden. One step a piece of the ranges, each
+    /// found by one entry of a table.
     pub fn has_hidden(&self, names: &NameSet) -> bool
         requires { AreHere names.now (spelled self.now.items) }
         ensures { IsTrue result ↔ ((k : Kept) × Contains (spelled self.now.items) k × IsAmong names.now k.name

@@ -1,4 +1,5 @@
-// How a run's piece goes into the list: behind its cause and the pieces of greater key that follow.
+//! How a run's piece goes into the list: behind its cause and the pieces of greater key that follow.
+
 ghost use Rattle.std.specs.Prelude.{◌≡◌, ℕ, ◌+◌, ◌<◌, ◌≤◌, List, ◌∷◌, ◌++◌, length, IfSome, OnOk, OnErr};
 ghost use Rattle.std.specs.Prelude.{Some as Just, None as Nothing};
 ghost use Rattle.looks.specs.Refusal.{RefusedForMemoryAlone};
@@ -14,7 +15,6 @@ ghost use Rattle.piece_list.specs.Placing.{IsCounted, IsNext, IsSkip, IsPutInGap
 ghost use Rattle.piece_list.specs.Spelled.{spelled, HasName};
 ghost use Rattle.piece_list.specs.Tables.{table_of};
 
-use crate::list::walking::shown_of;
 use crate::list::{PieceList, cut, numbers_differ};
 use crate::piece::Piece;
 use crate::place::Place;
@@ -142,7 +142,7 @@ fn put(
     numbers_differ(pieces);
     stand_on(pieces, last);
     let (site, off, len) = (piece.site, piece.off, piece.len);
-    let weight = shown_of(&piece, len);
+    let weight = piece.shown_of(len);
     match pieces.push_after(piece) {
         Ok(number) => {
             tags.fill(site, off, len, number);

@@ -1,6 +1,6 @@
 //! What is shown, and where.
 
-ghost use Rattle.std.specs.Prelude.{◌≡◌, ◌+◌, ◌<◌, ◌≤◌, ◌↔◌, if◌then◌else◌, length, map, drop, All, Contains};
+ghost use Rattle.std.specs.Prelude.{◌≡◌, ◌+◌, ◌<◌, ◌≤◌, ◌↔◌, length, map, drop, All, Contains};
 ghost use Rattle.std.specs.Prelude.{IsSome, IfSome, slice_get};
 ghost use Rattle.std.specs.Iterator.{YieldsFirst, item_count};
 ghost use Rattle.std.specs.List.{flat_map};
@@ -8,7 +8,7 @@ ghost use Rattle.tree_order.specs.Registers.{Kept, kept_looks};
 ghost use Rattle.char_files.specs.declared.TheConstants.{MAX_FILE};
 ghost use Rattle.piece_list.specs.Held.{IsPlaceOf};
 ghost use Rattle.piece_list.specs.RunCuts.{AreWithin, HasFront};
-ghost use Rattle.piece_list.specs.Shown.{AreShownTo, appearance_of, appearances_in, looks_of, run_of, shown_runs};
+ghost use Rattle.piece_list.specs.Shown.{AreShownTo, appearance_of, appearances_in, shown_runs};
 ghost use Rattle.piece_list.specs.Spelled.{spelled, shown_chars, HasName};
 
 use super::{PieceList, numbers_differ};
@@ -19,37 +19,6 @@ use char_files::Name;
 use looks::{Key, Looks};
 use piece_raw::Members;
 use std::marker::Model;
-
-// The looks of a piece's characters.
-fn looks(piece: &Piece) -> Looks
-    ensures { result ≡ looks_of piece.now }
-{
-    Looks {
-        font: piece.font.value.copy(),
-        colour: piece.colour.value,
-        offset: piece.offset.value,
-    }
-}
-
-// The run of all characters of a piece.
-fn run(piece: &Piece) -> Run
-    ensures { result ≡ run_of piece.now }
-{
-    Run {
-        site: piece.site,
-        off: piece.off,
-        len: piece.len,
-        key: piece.key,
-        looks: looks(piece),
-    }
-}
-
-// How many of a piece's first `n` characters are shown: all of them, or none.
-pub(crate) fn shown_of(piece: &Piece, n: u32) -> u32
-    ensures { result ≡ (if piece.now.hidden.value then 0 else n) }
-{
-    if piece.hidden.value { 0 } else { n }
-}
 
 /// The stretches of a text that are shown, one after the other, without memory: seen as the list of the runs
 /// that are left. This project's own.
@@ -78,7 +47,7 @@ impl<'a> Iterator for Walk<'a> {
     fn next(&mut self) -> Option<Run> {
         while let Some((_, piece)) = self.members.next() {
             if !piece.hidden.value {
-                return Some(run(piece));
+                return Some(piece.run());
             }
         }
         None
@@ -86,24 +55,6 @@ impl<'a> Iterator for Walk<'a> {
 }
 
 impl PieceList {
-    // Where the character of this name stands. It reads one entry of a table, and compares the name with one
-    // piece at most.
-    pub(super) fn place_of(&self, name: Name) -> Option<Place>
-        ensures place { IfSome result (λ place. IsPlaceOf self.now.items place name) }
-        ensures here { IsSome result ↔ HasName (spelled self.now.items) name }
-    {
-        let tag = self.tags.get(name)?;
-        numbers_differ(&self.pieces);
-        let piece = self.pieces.value_at(tag);
-        if !piece.holds(name) {
-            return None;
-        }
-        Some(Place {
-            piece: tag,
-            within: name.off() - piece.off,
-        })
-    }
-
     /// The key of the character of this name, that of its Insert; `None` for a name that isn't here.
     ///
     /// It reads one entry of a table.
@@ -134,10 +85,10 @@ impl PieceList {
         numbers_differ(&self.pieces);
         let piece = self.pieces.value_at(place.piece);
         let ahead = self.index.rank(place.piece);
-        Some(ahead + u64::from(shown_of(piece, place.within + 1)))
+        Some(ahead + u64::from(piece.shown_of(place.within + 1)))
     }
 
-    /// The place of the character that is shown at this position, from 0.
+    /// The place of the character that is shown at this position, from 0. There is one.
     pub fn locate_pos(&self, pos: u64) -> Place
         requires { pos < length (shown_chars (spelled self.now.items)) }
         ensures { IfSome (slice_get (shown_chars (spelled self.now.items)) pos)
@@ -150,7 +101,7 @@ impl PieceList {
         }
     }
 
-    /// The name and the looks of the character that is shown at this position, from 0.
+    /// The name and the looks of the character that is shown at this position, from 0. There is one.
     pub fn shown_at(&self, pos: u64) -> (Name, Looks)
         requires { pos < length (shown_chars (spelled self.now.items)) }
         ensures { IfSome (slice_get (shown_chars (spelled self.now.items)) pos)
@@ -160,7 +111,7 @@ impl PieceList {
         numbers_differ(&self.pieces);
         let piece = self.pieces.value_at(place.piece);
         match Name::new(piece.site, piece.off + place.within) {
-            Some(name) => (name, looks(piece)),
+            Some(name) => (name, piece.looks()),
             None => unreachable!(),
         }
     }
