@@ -1,13 +1,13 @@
 -- What is left of a ring from a node on, and behind it.
-use Rattle.std.proofs.Common.{◌≡◌, ℕ, Bool, false, cond, List, [], ◌∷◌, ◌++◌, Option, Some, None, option_map}
-use Rattle.std.proofs.Common.{slice_get, refl, sym, ap, ◌∙◌, subst, append_assoc}
+use Rattle.std.proofs.Common.{◌≡◌, ℕ, Bool, false, cond, List, [], ◌∷◌, ◌++◌, Some, None, option_map}
+use Rattle.std.proofs.Common.{refl, sym, ap, ◌∙◌, subst, append_assoc}
 use Rattle.std.specs.List.{AllByRecursion}
 use denote.RawPtr.{Ptr}
 use Rattle.piece_raw.specs.declared.nodes.Member.{Member}
 use Rattle.piece_raw.specs.Linked.{same_ptr, places, IsApart}
 use Rattle.piece_raw.specs.Ring.{first_tag, last_tag}
 use Rattle.piece_raw.specs.Tied.{members, nodes_from, stop_of, IsHeld}
-use Rattle.piece_raw.proofs.Splits.{cons_head, cons_tail, cut_last, last_from-push, all_left, all_right, distinct_differs}
+use Rattle.piece_raw.proofs.Splits.{cons_head, cons_tail, cut_last, all_left, all_right, distinct_differs}
 use Rattle.piece_raw.proofs.Apart.{same_ptr_refl, same_ptr_symm, apart_places, same_node}
 use Rattle.piece_raw.proofs.Matching.{N, members-cons, stop-some, found, step_after, cut_behind, cut_members}
 

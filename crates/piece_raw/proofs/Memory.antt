@@ -13,7 +13,7 @@ use seplogic.Ra.Ura.{Ura}
 use base.Fraction.{full_share}
 use mir.Syntax.{Ty, Args, a_type, ty_ptr}
 use mir.Val.{Val, vstruct, vcons, vnil, of_list}
-use base.Logic.{SProp, ent, sep, emp, ex, guard, via, never, never_e, fst∗, snd∗, id⊢, mono_r}
+use base.Logic.{SProp, ent, sep, emp, ex, guard, via, never, never_e, fst∗, snd∗, id⊢}
 use base.Fml.{Fml, Lft, Share, ftrue, feq, fat, froom, flft}
 use prog.Model.{Model}
 use types.Logic.{Logic, sem}
@@ -203,17 +203,6 @@ module _ (i : ℕ) (Y : RattleType) (L : Laws Y) {M : Type 1} {𝓤 : Ura M} (�
   pub value_in : (x : Y.Denot) (b o : ℕ) (v : Val) → ent 𝓤 (sep 𝓤 (H.at full_share (layout Y) b o v)
       (sem 𝓛 (Y.own_val x (v ∷ [])))) (sem 𝓛 (part_at (param i Y) full_share x b o))
   value_in x b o v = part_in 𝓛 (param i Y) refl full_share x b o v
-
--- of a `requires`, the first fact alone
-pub first_fact : {M : Type 1} (𝓤 : Ura M) (φ : Type 0) (P R : SProp 𝓤) {Q : SProp 𝓤} → (φ → ent 𝓤 P Q) →
-    ent 𝓤 (sep 𝓤 P (sep 𝓤 (fact 𝓤 φ) R)) Q
-first_fact 𝓤 φ P R k =
-    let S : SProp 𝓤 = sep 𝓤 (fact 𝓤 φ) R in
-    fact_use 𝓤 φ (via 𝓤 S (snd∗ 𝓤 P S) (fst∗ 𝓤 (fact 𝓤 φ) R)) (λ x. via 𝓤 P (fst∗ 𝓤 P S) (k x))
-
-pub past_fact : {M : Type 1} (𝓤 : Ura M) (φ : Type 0) (P R : SProp 𝓤) {Q : SProp 𝓤} → ent 𝓤 (sep 𝓤 P R) Q →
-    ent 𝓤 (sep 𝓤 P (sep 𝓤 (fact 𝓤 φ) R)) Q
-past_fact 𝓤 φ P R k = via 𝓤 (sep 𝓤 P R) (mono_r 𝓤 P {Q = sep 𝓤 (fact 𝓤 φ) R} {Q' = R} (snd∗ 𝓤 (fact 𝓤 φ) R)) k
 
 alone : (τ : Ty) (vs : List Val) → Typed (τ ∷ []) vs → (v : Val) × ((vs ≡ v ∷ []) × Good τ v)
 alone τ [] t = absurd t

@@ -1,4 +1,5 @@
-// The block of one node, and the values that stand for who owns which part of it.
+//! The block of one node, and the values that stand for who owns which part of it.
+
 ghost use Rattle.std.specs.Prelude.{◌≡◌, IfOk, ⊤};
 ghost use base.Fml.{ftrue};
 ghost use denote.RawPtr.{Ptr};

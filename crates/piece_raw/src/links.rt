@@ -1,4 +1,5 @@
-// The links between the nodes, from the trailer around to the trailer.
+//! The links between the nodes, from the trailer around to the trailer.
+
 ghost use Rattle.std.specs.Prelude.{◌≡◌, List as Seq, [], ◌∷◌, ◌++◌};
 ghost use Rattle.std.specs.Borrow.{sem};
 ghost use Rattle.std.specs.Coded.{prop_coded};

@@ -1,4 +1,5 @@
-// The links and the table together. Each method keeps the two in step.
+//! The links and the table together. Each method keeps the two in step.
+
 ghost use Rattle.std.specs.Prelude.{◌≡◌, ◌+◌, ◌<◌, [], ◌∷◌, Some as Just, IfOk, vec_len, vec_capacity};
 ghost use Rattle.piece_raw.specs.Linked.{Linked};
 ghost use Rattle.piece_raw.specs.Ring.{Follows, IsMember, HasTag, IsPushed};

@@ -145,7 +145,7 @@ impl<T> Ring<T> {
         self.cursor
     }
 
-    /// The value of the member that the cursor stands on.
+    /// The value of the member that the cursor stands on, which isn't the trailer.
     pub fn value(&self) -> &T
         requires { IsSome self.now.cursor }
         ensures { IsAtCursor self.now result.now }
@@ -156,7 +156,7 @@ impl<T> Ring<T> {
         }
     }
 
-    /// The value of the member that the cursor stands on, to be changed.
+    /// The value of the member that the cursor stands on, which isn't the trailer, to be changed.
     pub fn value_mut(&mut self) -> &mut T
         requires { IsSome self.old.cursor }
         ensures* writes_back { sem 𝓛 (lends_value T.row self.entry result) }

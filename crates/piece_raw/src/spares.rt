@@ -1,4 +1,5 @@
-// Nodes in reserve: each has its memory, and nothing in it.
+//! Nodes in reserve: each has its memory, and nothing in it.
+
 ghost use Rattle.std.specs.Prelude.{◌≡◌, ◌≤◌, vec_len, OnOk, IsOk};
 ghost use Rattle.std.specs.List.{AllByRecursion};
 ghost use Rattle.piece_raw.specs.Spares.{IsSpare};
