@@ -1,4 +1,5 @@
-// Ranges of names in any order, made the ranges of a set in their place.
+//! Ranges of names in any order, made the ranges of a set in their place.
+
 ghost use Rattle.std.specs.Prelude.{◌≡◌, ◌+◌, ◌<◌, ◌≤◌, ◌↔◌, ◌⊎◌, length, take, drop, All, AllPairs};
 ghost use Rattle.std.specs.List.Sorted.{IsPermutation};
 ghost use Rattle.char_files.specs.CharName.{CharName};

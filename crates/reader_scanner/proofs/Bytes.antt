@@ -5,11 +5,6 @@ use Rattle.std.proofs.lemmas.List.{length-take, length-drop, length-map, get_or-
 use Rattle.char_files.specs.Stretch.{Item}
 use Rattle.reader_scanner.specs.Place.{bytes_of, bytes_from, bytes_between}
 
-pub between_none : (items : List Item) (beg : ℕ) → bytes_between items beg beg ≡ []
-between_none items beg =
-    let none : beg - beg ≡ 0 = omega arith in
-    ap (λ (n : ℕ). take n (bytes_from items beg)) none
-
 pub between_length : (items : List Item) (beg end : ℕ) → beg ≤ end → end ≤ length items
     → length (bytes_between items beg end) ≡ end - beg
 between_length items beg end le inside =
@@ -33,10 +28,3 @@ between_more items beg pos b le lt is =
     get_or-drop beg (bytes_of items) n 0 ∙ ap (λ (k : ℕ). get_or (bytes_of items) k 0) at ∙ sym is in
     ap (λ (k : ℕ). take k (bytes_from items beg)) next ∙ take_more (bytes_from items beg) n 0 within
     ∙ ap (λ (x : ℕ). bytes_between items beg pos ++ x ∷ []) here
-
--- one byte more, of which the last is known
-pub text_goes_on : (items : List Item) (beg pos b : ℕ) (text : List ℕ) → beg ≤ pos → pos < length items
-    → b ≡ get_or (bytes_of items) pos 0 → text ≡ bytes_between items beg pos
-    → text ++ b ∷ [] ≡ bytes_between items beg (pos + 1)
-text_goes_on items beg pos b text le lt is so_far =
-    ap (λ (t : List ℕ). t ++ b ∷ []) so_far ∙ sym (between_more items beg pos b le lt is)

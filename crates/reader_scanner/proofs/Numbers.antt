@@ -1,13 +1,13 @@
 -- The size that digits write, one more at a time, and what ends it early.
-use Rattle.std.proofs.Common.{◌≡◌, ℕ, ◌+◌, ◌-◌, ◌*◌, ◌<◌, ◌≤◌, Bool, true, false, cond, ltb, leb, ◌&&◌}
+use Rattle.std.proofs.Common.{◌≡◌, ℕ, ◌+◌, ◌-◌, ◌*◌, ◌<◌, ◌≤◌, Bool, true, false, ltb, leb, ◌&&◌}
 use Rattle.std.proofs.Common.{List, []}
-use Rattle.std.proofs.Common.{◌∷◌, ◌++◌, length, get_or, take, Some, None, refl}
+use Rattle.std.proofs.Common.{◌∷◌, ◌++◌, length, get_or, take, refl}
 use Rattle.std.proofs.Common.{sym, ap}
 use Rattle.std.proofs.Common.{subst, ◌∙◌, arith}
 use Rattle.std.specs.Char.{digit_value}
 use Rattle.std.specs.List.{list_all}
 use Rattle.std.specs.Str.Parse.{digits_value}
-use Rattle.std.proofs.lemmas.Bool.{and_from, lt-ltb, ltb-true, le-leb, leb-true}
+use Rattle.std.proofs.lemmas.Bool.{lt-ltb, ltb-true, leb-true}
 use Rattle.std.proofs.lemmas.Int.Digits.{digits_value_push}
 use Rattle.std.proofs.lemmas.Str.Parse.{digits_value-take-le}
 use Rattle.std.proofs.lemmas.List.{take-take, get_or-take, get_or-drop}
@@ -17,7 +17,7 @@ use Rattle.char_files.specs.Stretch.{Item}
 use Rattle.reader_scanner.specs.declared.token.TheConstants.{MAX_INT}
 use Rattle.reader_scanner.specs.Place.{bytes_of, bytes_from, bytes_between}
 use Rattle.reader_scanner.specs.Tokens.{is_size}
-use Rattle.reader_scanner.proofs.Bytes.{between_length, between_more, between_none}
+use Rattle.reader_scanner.proofs.Bytes.{between_length, between_more}
 
 abbrev pub is_digit_in : ℕ → ℕ → Bool
 is_digit_in radix d = ltb (digit_value d) radix
@@ -27,13 +27,6 @@ pub record IsSizeSoFar (radix : ℕ) (digits : List ℕ) (size : ℕ) : Type 0 w
   pub is : size ≡ digits_value radix digits
   pub each : list_all (is_digit_in radix) digits ≡ true
   pub few : size ≤ MAX_INT
-
-pub size_of_none : (radix : ℕ) (items : List Item) (beg : ℕ)
-    → IsSizeSoFar radix (bytes_between items beg beg) 0
-size_of_none radix items beg =
-    let none : bytes_between items beg beg ≡ [] = between_none items beg in
-    subst (λ (ds : List ℕ). IsSizeSoFar radix ds 0) (sym none)
-    (record { is = refl; each = refl; few = omega arith })
 
 pub size_goes_on : (radix : ℕ) (items : List Item) (beg pos b size next : ℕ) → beg ≤ pos
     → pos < length items → b ≡ get_or (bytes_of items) pos 0 → digit_value b < radix
@@ -108,13 +101,3 @@ too_large radix items beg pos end b size next some le lt inside is next_is large
     bool_cases (leb (digits_value radix ds) MAX_INT) (λ e.
     absurd (omega (arith, leb-true (digits_value radix ds) MAX_INT e))) in
     and_false (list_all (is_digit_in radix) ds) (leb (digits_value radix ds) MAX_INT) past
-
-pub size_is : (radix : ℕ) (digits : List ℕ) (size : ℕ) → IsSizeSoFar radix digits size
-    → Some size ≡ cond (is_size radix digits) (Some (digits_value radix digits)) None
-size_is radix digits size so_far =
-    let few : leb (digits_value radix digits) MAX_INT ≡ true =
-    le-leb (digits_value radix digits) MAX_INT (omega (arith, so_far.is, so_far.few)) in
-    let test : is_size radix digits ≡ true =
-    and_from (list_all (is_digit_in radix) digits) (leb (digits_value radix digits) MAX_INT) so_far.each
-    few in
-    rw test (ap (λ (n : ℕ). Some n) so_far.is)

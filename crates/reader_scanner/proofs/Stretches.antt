@@ -7,8 +7,7 @@ use Rattle.std.proofs.lemmas.List.{length-take, length-drop, length-map, get_or-
 use Rattle.std.proofs.lemmas.List.{get_or_past}
 use Rattle.std.proofs.lemmas.List.{get_or_append_left, get_or-append-add}
 use Rattle.std.proofs.lemmas.List.Sums.{prefix_len_is, prefix_len_passes, prefix_len_stops}
-use Rattle.std.proofs.lemmas.List.Sums.{prefix_len-le-length, prefix_len-drop_yes, prefix_len-drop_no}
-use Rattle.std.proofs.lemmas.List.Sums.{prefix_len-drop_all}
+use Rattle.std.proofs.lemmas.List.Sums.{prefix_len-le-length, prefix_len-drop_yes}
 use Rattle.char_files.specs.Stretch.{Item}
 use Rattle.reader_scanner.specs.Place.{bytes_of, bytes_from}
 use Rattle.reader_scanner.specs.Tokens.{StopsAt, IsLongest}
@@ -81,22 +80,6 @@ goes_on p items from pos b lt is passes so_far =
     let within : pos < length (bytes_of items) = omega (arith, length-map items (λ (i : Item). i.0)) in
     let here : p (get_or (bytes_of items) pos 0) ≡ true = rw (← is) passes in
     omega (arith, prefix_len-drop_yes p (bytes_of items) pos 0 within here)
-
-pub ends_here : (p : ℕ → Bool) (items : List Item) (from pos b : ℕ) → pos < length items
-    → b ≡ get_or (bytes_of items) pos 0 → p b ≡ false
-    → pos + prefix_len p (bytes_from items pos) ≡ from + prefix_len p (bytes_from items from)
-    → pos ≡ from + prefix_len p (bytes_from items from)
-ends_here p items from pos b lt is fails so_far =
-    let within : pos < length (bytes_of items) = omega (arith, length-map items (λ (i : Item). i.0)) in
-    let here : p (get_or (bytes_of items) pos 0) ≡ false = rw (← is) fails in
-    omega (arith, prefix_len-drop_no p (bytes_of items) pos 0 within here)
-
-pub ends_at_end : (p : ℕ → Bool) (items : List Item) (from pos : ℕ) → length items ≤ pos
-    → pos + prefix_len p (bytes_from items pos) ≡ from + prefix_len p (bytes_from items from)
-    → pos ≡ from + prefix_len p (bytes_from items from)
-ends_at_end p items from pos le so_far =
-    let past : length (bytes_of items) ≤ pos = omega (arith, length-map items (λ (i : Item). i.0)) in
-    omega (arith, prefix_len-drop_all p (bytes_of items) pos past)
 
 -- where a stretch ends, the source goes that far
 pub stretch_within : (p : ℕ → Bool) (items : List Item) (from : ℕ) → from ≤ length items

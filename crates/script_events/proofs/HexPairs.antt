@@ -108,7 +108,3 @@ hex_in-short raw some = rw (hex_in-some raw some) (shorter_there (hex_pairs raw)
 pub there_is_some : (o : Option (List ℕ)) → Some (unwrap_or o []) ≡ o → IsSome o
 there_is_some None e = absurd cc
 there_is_some (Some bytes) e = refl
-
-pub some_is_there : (o : Option (List ℕ)) → IsSome o → Some (unwrap_or o []) ≡ o
-some_is_there None e = absurd cc
-some_is_there (Some bytes) e = refl

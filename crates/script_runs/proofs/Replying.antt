@@ -1,5 +1,5 @@
 -- Replies as steps of the machine, and their lines.
-use Rattle.std.proofs.Common.{◌≡◌, ℕ, zero, suc, ◌-◌, ◌<◌, ◌≤◌, ◌==◌, false, List, ◌++◌, length, drop, Some, Result, Ok, Err, refl, ap, ◌∙◌, inl, inr, arith}
+use Rattle.std.proofs.Common.{◌≡◌, ℕ, zero, suc, ◌-◌, ◌<◌, ◌==◌, false, List, ◌++◌, length, drop, Some, Result, Ok, Err, refl, ap, ◌∙◌, inl, inr, arith}
 use Rattle.std.specs.Prelude.{IfOk, slice_get}
 use Rattle.std.proofs.lemmas.List.{drop_at}
 use Rattle.looks.specs.declared.refusal.Refusal.{Refusal}
@@ -10,11 +10,7 @@ use Rattle.texts.specs.declared.edit_refusal.EditRefusal.TheVariants.{Whole, Par
 use Rattle.texts.specs.declared.took.Took.{Took}
 use Rattle.commands.specs.DeskState.{DeskState}
 use Rattle.commands.specs.Machine.{Delivery, Event, InDesk, Query, QueriesDesk, Replies, Reply, State, IsTextAt, Prints, copy, edit, merge, query, edit_reply, message_in, messages_of, prints, refuses, sent, settle, take, take_reply, unknown}
-use Rattle.script_events.specs.EventView.{IsOfLine}
 use Rattle.script_events.specs.declared.event.Event.{Event as Parsed}
-use Rattle.script_events.specs.declared.event.Event.TheVariants.{Edits, Saves, Takes, Settles, Merges, Queries}
-use Rattle.script_events.specs.declared.event.Edit.TheVariants.{TypeIn, Cut, Looks, Recall, Restore}
-use Rattle.script_events.specs.declared.event.Delivery.TheVariants.{Sent, Bytes}
 use Rattle.script_runs.specs.Answers.{refused_line, reply_lines}
 use Rattle.script_runs.specs.Trace.{Step}
 
@@ -80,20 +76,6 @@ pub query_asked : {X : Type 0} (s : State) (i text : ℕ) (d : DeskState) (q : Q
     → IfOk r (λ x. (t : TextState) × IsTextAt s i text t × Prints q t (lines x))
 query_asked s i text d q (Ok x) lines at_i (t, there, is) = (t, (d, at_i, there), is)
 query_asked s i text d q (Err why) lines at_i asked = tt
-
--- the bytes that an event tells are no more than those of a longer line
-pub IsOfLine-weaker : (event : Parsed) (len longer : ℕ) → len ≤ longer → IsOfLine len event → IsOfLine longer event
-IsOfLine-weaker (Edits desk text (TypeIn pos typed)) len longer le h = omega arith
-IsOfLine-weaker (Edits desk text (Cut beg end)) len longer le h = tt
-IsOfLine-weaker (Edits desk text (Looks beg end sel looks)) len longer le h = tt
-IsOfLine-weaker (Edits desk text (Recall pos)) len longer le h = tt
-IsOfLine-weaker (Edits desk text Restore) len longer le h = tt
-IsOfLine-weaker (Saves desk text save) len longer le h = tt
-IsOfLine-weaker (Takes desk text (Sent k)) len longer le h = tt
-IsOfLine-weaker (Takes desk text (Bytes message)) len longer le h = omega arith
-IsOfLine-weaker (Settles desk text) len longer le h = tt
-IsOfLine-weaker (Merges desk text other) len longer le h = tt
-IsOfLine-weaker (Queries desk text q) len longer le h = tt
 
 -- what asks nothing that there is
 pub unknown_step : (s : State) (e : Event) → e ≡ unknown → Step s e (refused_line BadEvent) s

@@ -3,14 +3,14 @@ use Rattle.std.proofs.Common.{◌≡◌, ℕ, Bool, true, false, not, cond, List
 use Rattle.std.specs.Prelude.{slice_index}
 use Rattle.std.specs.List.{filter}
 use Rattle.std.proofs.lemmas.List.Elements.{All-head, All-tail, All-cons, All-nil, All-map}
-use Rattle.char_files.specs.CharFiles.{Files, bytes_of, SameBytes}
+use Rattle.char_files.specs.CharFiles.{Files, SameBytes}
 use Rattle.char_files.specs.CharName.{CharName}
 use Rattle.char_files.specs.declared.character.Char.{Char}
 use Rattle.operations.specs.Operation.{Operation}
 use Rattle.tree_order.specs.Good.{Good}
 use Rattle.tree_order.specs.Looks.{HasLooks}
 use Rattle.tree_order.specs.Order.{IsOrder}
-use Rattle.tree_order.specs.Registers.{Kept, HasRegisters, AreKept, kept_looks}
+use Rattle.tree_order.specs.Registers.{Kept, HasRegisters, AreKept}
 use Rattle.tree_order.specs.RegisterLaws.{TellRegisters}
 use Rattle.tree_order.specs.Shown.{AreChars, is_visible}
 use Rattle.tree_order.specs.Tree.{HasByte, byte_by}
@@ -66,14 +66,6 @@ shown_of_kept ops files (k ∷ kept) all =
         ≡ map (char_in files) (cond b (k ∷ shown_chars kept) (shown_chars kept))
     go true rest = ap (λ (cs : List Char). char_in files k ∷ cs) rest
     go false rest = rest
-
--- files of the same bytes give the same characters
-pub same_files : (files files' : Files) → SameBytes files files' → (kept : List Kept) → map (char_in files') kept ≡ map (char_in files) kept
-same_files files files' same [] = refl
-same_files files files' same (k ∷ kept) =
-    let bytes : bytes_of files' k.name.site ≡ bytes_of files k.name.site = same k.name.site in
-    ap (λ (bs : List ℕ). record { name = k.name; byte = slice_index bs k.name.off; looks = kept_looks k } ∷ map (char_in files') kept) bytes
-    ∙ ap (λ (cs : List Char). char_in files k ∷ cs) (same_files files files' same kept)
 
 -- so all is as it is defined
 pub defined : ((ops : List Operation) → Good ops → (k : Kept) → HasRegisters ops k → TellRegisters ops k)

@@ -1,16 +1,15 @@
 -- Characters that are put at the end of a buffer, byte by byte or run by run.
-use Rattle.std.proofs.Common.{◌≡◌, ℕ, ◌+◌, ◌<◌, ◌≤◌, ◌↔◌, ◌⊎◌, List, [], ◌∷◌, ◌++◌, length, take, drop}
+use Rattle.std.proofs.Common.{◌≡◌, ℕ, ◌+◌, ◌≤◌, ◌↔◌, ◌⊎◌, List, [], ◌∷◌, ◌++◌, length, take, drop}
 use Rattle.std.proofs.Common.{Option, Some, None, Result, Ok, Err, inl, inr, refl, sym, ap, subst, ◌∙◌}
 use Rattle.std.proofs.Common.{append_assoc, length-append, arith}
 use Rattle.std.specs.Prelude.{IfErr, IsErrOf}
 use Rattle.std.specs.List.{flat_map}
 use Rattle.std.proofs.lemmas.List.{append-nil, length-drop}
-use Rattle.std.proofs.lemmas.List.{length-map, length-take}
+use Rattle.std.proofs.lemmas.List.{length-map}
 use Rattle.looks.specs.declared.looks.Looks.{Looks}
 use Rattle.looks.specs.declared.refusal.Refusal.{Refusal}
 use Rattle.looks.specs.declared.refusal.Refusal.TheVariants.{OutOfMemory, FileSpent}
 use Rattle.looks.specs.Refusal.{RefusedForMemoryAlone}
-use Rattle.char_files.specs.declared.TheConstants.{MAX_FILE}
 use Rattle.char_files.specs.Stretch.{Item, items_of}
 use Rattle.operations.specs.Reading.{LooksAreTold}
 use Rattle.text_file.specs.declared.loading.Head.{Head}
@@ -116,9 +115,3 @@ todo_none whole text rest left t none = go t.runs refl
         let valid : AreHeads t.last (g ∷ runs) = subst (AreHeads t.last) are t.valid in
         absurd (none g (flat_map head_spelling runs) valid.0 (t.spelled
         ∙ ap (λ (hs : List Head). flat_map head_spelling hs) are))
-
-pub run_room : (old now : List Item) (bytes : List ℕ) (looks : Looks) (i : ℕ)
-    → now ≡ old ++ run_items looks (take i bytes) → i < length bytes
-    → length old + length bytes ≤ MAX_FILE → length now < MAX_FILE
-run_room old now bytes looks i so_far lt few =
-    omega (arith, lt, few, run_len old now looks (take i bytes) so_far, length-take i bytes)

@@ -4,23 +4,17 @@ use Rattle.std.proofs.Common.{Some, sym, ap, subst, ◌∙◌, length-append, ar
 use Rattle.std.specs.Prelude.{slice_get}
 use Rattle.std.specs.Int.{w32}
 use Rattle.std.specs.List.{flat_map}
-use Rattle.std.proofs.lemmas.List.{take_more, length-take}
+use Rattle.std.proofs.lemmas.List.{take_more}
 use Rattle.std.proofs.lemmas.Option.{slice_get-get_or}
 use Rattle.looks.specs.Looks.{IsLooks}
-use Rattle.char_files.specs.declared.TheConstants.{MAX_FILE}
 use Rattle.char_files.specs.Runs.{maximal_runs, NoOtherRuns}
 use Rattle.char_files.specs.Stretch.{Stretch, Item, items_of, AreRuns}
 use Rattle.operations.specs.Spelling.{number_spelling}
-use Rattle.text_file.specs.declared.TheConstants.{MAX_TEXT}
 use Rattle.text_file.specs.Files.{tag, run_spelling, formatted}
 use Rattle.text_file.proofs.Cuts.{InLooks, chars_of, items_chars, items_len, some_len, first_some, other_runs}
 use Rattle.text_file.proofs.Texts.{bytes_of}
 
 -- ---- a source that is copied
-
-pub copy_room : (items text : List Item) (pos : ℕ) → text ≡ take pos items → length items ≤ MAX_TEXT
-    → length text < MAX_FILE
-copy_room items text pos e few = omega (arith, few, ap length e, length-take pos items)
 
 pub copied_more : (items text new : List Item) (pos : ℕ) (item : Item) → pos < length items
     → text ≡ take pos items → slice_get items pos ≡ Some item → new ≡ text ++ item ∷ []

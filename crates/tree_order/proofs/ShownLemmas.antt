@@ -2,7 +2,7 @@
 use Rattle.std.proofs.Common.{◌≡◌, ◌↔◌, ℕ, ◌+◌, ◌<◌, ◌≤◌, Bool, true, false, cond, eqb, ◌&&◌, List, []}
 use Rattle.std.proofs.Common.{◌∷◌, ◌++◌, get_or, length, take, drop, refl, sym, ap, ◌∙◌, arith}
 use Rattle.std.specs.List.{list_any, filter, count_by}
-use Rattle.std.proofs.lemmas.Bool.Decides.{nat_tests, same_from_decides}
+use Rattle.std.proofs.lemmas.Bool.Decides.{nat_tests}
 use Rattle.std.proofs.lemmas.List.{append-nil, drop_all, drop_more}
 use Rattle.std.proofs.lemmas.List.Elements.{filter_more}
 use Rattle.std.proofs.lemmas.List.Folds.{Any-from_list_any, list_any-from_Any}
@@ -21,12 +21,6 @@ among_is names c = (
       (k, r, lt, at, (range_contains_is r c).0 h),
   λ (k, r, lt, at, is). list_any-from_Any (λ r. range_contains r c) names (k, r, lt, at, (range_contains_is r c).1 is),
 )
-
--- the test that decides whether a set has a name is the definition's
-pub list_any_among : (b : Bool) (names : List Range) (c : CharName) → ((b ≡ true) ↔ IsAmong names c)
-    → b ≡ list_any (λ r. range_contains r c) names
-list_any_among b names c tells =
-    same_from_decides b (list_any (λ r. range_contains r c) names) tells (among_is names c)
 
 -- two tests that agree on each element find alike
 pub any_agree : {X : Type 0} (p q : X → Bool) → ((x : X) → p x ≡ q x) → (xs : List X)

@@ -1,4 +1,4 @@
-use Rattle.std.proofs.Common.{List, ℕ}
+use Rattle.std.proofs.Common.{ℕ}
 use Rattle.script_events.proofs.Spelling.{lent_plain}
 use Rattle.script_events.proofs.escaped.Escaped.as_plain.Goals as goal
 
