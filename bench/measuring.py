@@ -57,8 +57,3 @@ def run(command, script, busy=False):
             sys.exit(f"{' '.join(command)} ended with {code}")
         answers = (pathlib.Path(folder) / "answers").read_text().splitlines()
     return Run(answers, seconds, used.ru_maxrss * 1024)
-
-
-def quickest(command, script, runs, busy=False):
-    """The quickest of so many runs."""
-    return min((run(command, script, busy) for _ in range(runs)), key=lambda one: one.seconds)

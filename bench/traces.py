@@ -39,7 +39,7 @@ def in_bursts(rng, length):
 TRACES = {"at the end": at_the_end, "at random": at_random, "in bursts": in_bursts}
 
 
-@dataclasses.dataclass
+@dataclasses.dataclass(eq=False)
 class Script:
     """Lines, how many messages they send, and how many of these a site takes; and the text that they leave, a plain list of
     characters. A script that goes on with another one has its lines in front of its own."""

@@ -130,6 +130,17 @@ module _ (ahead : List Stretch) (whole front rest : Stretch) (behind : List Stre
       some = omega (arith, length-append ahead (front ∷ rest ∷ behind));
     }
 
+-- there is one chunk more
+pub one_chunk_more : (at : ℕ) (was now : List Stretch) → IsHalved at was now → length now ≡ length was + 1
+one_chunk_more at was now halved =
+    omega (
+      arith,
+      ap length halved.was,
+      ap length halved.is,
+      length-append halved.ahead (halved.whole ∷ halved.behind),
+      length-append halved.ahead (halved.front ∷ halved.rest ∷ halved.behind),
+    )
+
 -- where a member of the whole is now
 module _ (at : ℕ) (was now : List Stretch) (halved : IsHalved at was now) where
   pub at_front : slice_get now at ≡ Some halved.front

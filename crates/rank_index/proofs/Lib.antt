@@ -1,6 +1,7 @@
 pub mod ChunkHalves
 pub mod ChunkPlace
 pub mod ChunkRank
+pub mod Grouped
 pub mod Halved
 pub mod Homes
 pub mod Inserted

@@ -1,4 +1,5 @@
 pub mod Chunks
+pub mod Groups
 pub mod Places
 pub mod Ranked
 pub mod Tests

@@ -13,15 +13,15 @@ use std::alloc::Global;
 use std::marker::Model;
 
 // How many members a chunk has at most.
-pub(crate) const MOST: usize = 512;
+pub(crate) const MOST: usize = 128;
 
 // Half of it.
-pub(crate) const HALF: usize = 256;
+pub(crate) const HALF: usize = 64;
 
 // How many tags there are, each of 32 bits.
 pub(crate) const MOST_TAGS: usize = 4_294_967_296;
 
-// Up to 512 neighbouring members, with the sum of their weights.
+// Up to `MOST` neighbouring members, with the sum of their weights.
 #[derive(Drop)]
 pub(crate) struct Chunk {
     // A tag and a weight in eight bytes: a look along a chunk takes as long as its members are in memory.

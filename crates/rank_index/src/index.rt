@@ -1,4 +1,4 @@
-ghost use Rattle.std.specs.Prelude.{◌≡◌, ℕ, ◌+◌, ◌*◌, ◌<◌, ◌≤◌, ◌^◌, [], length, IfOk, IfSome, OnOk, slice_get};
+ghost use Rattle.std.specs.Prelude.{◌≡◌, ℕ, ◌+◌, ◌*◌, ◌<◌, ◌≤◌, ◌^◌, [], length, max, IfOk, IfSome, OnOk, slice_get};
 ghost use Rattle.std.specs.Prelude.{vec_len, vec_capacity};
 ghost use Rattle.looks.specs.Refusal.{RefusedForMemoryAlone};
 ghost use Rattle.piece_raw.specs.Ring.{HasTag, IsPushed, AreTags, with_value};
@@ -7,6 +7,7 @@ ghost use Rattle.rank_index.specs.Chunks.{AreToldTo, ArePlaced, HomesDiffer, IsP
 ghost use Rattle.rank_index.specs.Ranked.{weight_of, IsRank, IsFound};
 
 use crate::chunk::{Chunk, HALF, MOST, MOST_TAGS};
+use crate::groups::{GROUP, group_at, regroup_if_grown, weight_ahead};
 use looks::Refusal;
 use std::alloc::Global;
 use std::marker::Model;
@@ -14,7 +15,8 @@ use std::marker::Model;
 /// A list of members, each a tag and a weight, that tells how much weight stands ahead of a member, and which
 /// member holds a position in the sum of all weights. Tags count from 0 in the order of insertion.
 ///
-/// This project's own: chunks of at most 512 neighbours with their sums, and a table from a tag to its chunk.
+/// This project's own: chunks of neighbours with their sums, the sums of groups of chunks, and a table from a tag
+/// to its chunk.
 #[derive(Drop)]
 pub struct RankIndex {
     // In order; at least one.
@@ -25,6 +27,8 @@ pub struct RankIndex {
     places: Vec<usize>,
     // Chunks without members.
     spare: Vec<Chunk>,
+    // Of each group of neighbouring chunks, the sum.
+    groups: Vec<u64>,
     total: u64,
     alloc: Global,
 }
@@ -33,6 +37,7 @@ impl Model for RankIndex {
     ghost use Rattle.std.specs.Prelude.{◌≡◌, ◌+◌, ◌-◌, ◌<◌, ◌≤◌, ◌^◌, min, vec_len, vec_capacity};
     ghost use Rattle.rank_index.specs.declared.chunk.TheConstants.{MOST_TAGS};
     ghost use Rattle.rank_index.specs.Chunks.{members_of, ArePlaced, AreTied, AreEmpty, room_of};
+    ghost use Rattle.rank_index.specs.Groups.{AreGroups};
     ghost use Rattle.rank_index.specs.Ranked.{Ranked, ranked, weight_of};
 
     ghost Value = { Ranked };
@@ -47,7 +52,9 @@ impl Model for RankIndex {
         × (r.total ≡ weight_of (members_of r.chunks.items))
         × (weight_of (members_of r.chunks.items) < 2 ^ 64)
         × ArePlaced r.places.items r.chunks.items
-        × (vec_len r.chunks + vec_len r.spare ≤ vec_capacity r.places) };
+        × (vec_len r.chunks + vec_len r.spare ≤ vec_capacity r.places)
+        × AreGroups r.groups.items r.chunks.items
+        × (vec_len r.chunks + vec_len r.spare ≤ vec_capacity r.groups) };
 }
 
 // The place of the chunk that has the member of this tag, as the tables tell it: the chunks aren't read.
@@ -60,18 +67,6 @@ fn chunk_of(chunks: &[Chunk], places: &[usize], homes: &[usize], tag: u64) -> us
     let _ = chunks;
     let home = homes[tag as usize];
     places[home]
-}
-
-// The sum of the weights in these chunks.
-fn weight_in(chunks: &[Chunk]) -> u64
-    requires { weight_of (members_of chunks.now) < 2 ^ 64 }
-    ensures { result ≡ weight_of (members_of chunks.now) }
-{
-    let mut weight = 0;
-    for chunk in chunks {
-        weight += chunk.sum();
-    }
-    weight
 }
 
 // The member whose stretch of the sum in these chunks holds the position, and how far inside.
@@ -179,6 +174,7 @@ fn place_behind(
     ensures count { vec_len chunks.new + vec_len spare.new ≡ vec_len chunks.old + vec_len spare.old }
     ensures chunks_room { vec_capacity chunks.old ≤ vec_capacity chunks.new }
     ensures places_room { vec_capacity places.old ≤ vec_capacity places.new }
+    ensures same { vec_len chunks.new ≤ vec_len chunks.old → chunks.new.items ≡ chunks.old.items }
 {
     let place = match after {
         Some(tag) => chunk_of(chunks, places, homes, tag),
@@ -207,6 +203,7 @@ fn fill_spare(
     requires room { vec_len chunks.old + vec_len spare.old ≤ vec_capacity chunks.old }
     requires places_room { vec_len chunks.old + vec_len spare.old ≤ vec_capacity places.old }
     ensures ok { OnOk result (wanted ≤ vec_len chunks.new + vec_len spare.new) }
+    ensures most { vec_len chunks.new + vec_len spare.new ≤ max wanted (vec_len chunks.old + vec_len spare.old) }
     ensures errors { RefusedForMemoryAlone result }
     ensures chunks { chunks.new.items ≡ chunks.old.items }
     ensures spare { vec_len spare.old ≤ vec_len spare.new }
@@ -233,11 +230,14 @@ impl RankIndex {
         chunks.push(Chunk::new(alloc)?)?;
         let mut places = Vec::new(alloc);
         places.push(0)?;
+        let mut groups = Vec::new(alloc);
+        groups.push(0)?;
         Ok(RankIndex {
             chunks,
             homes: Vec::new(alloc),
             places,
             spare: Vec::new(alloc),
+            groups,
             total: 0,
             alloc,
         })
@@ -255,12 +255,15 @@ impl RankIndex {
             return Err(Refusal::OutOfMemory);
         }
         self.homes.reserve(n)?;
+        let wanted = (self.homes.len() + n) / HALF;
+        // One for each chunk is more than enough.
+        self.groups.reserve(wanted)?;
         fill_spare(
             &mut self.chunks,
             &mut self.spare,
             &mut self.places,
             self.alloc,
-            (self.homes.len() + n) / HALF,
+            wanted,
         )
     }
 
@@ -282,6 +285,7 @@ impl RankIndex {
         ensures inserted { IsPushed self.old.items after tag weight self.new.items }
         ensures room { self.old.room ≤ self.new.room + 1 }
     {
+        let before = self.chunks.len();
         let place = place_behind(
             &mut self.chunks,
             &mut self.spare,
@@ -289,9 +293,12 @@ impl RankIndex {
             &mut self.homes,
             after,
         );
+        regroup_if_grown(&mut self.groups, &self.chunks, before);
         let chunk = &mut self.chunks[place];
         chunk.insert_after(after, tag, weight);
         self.homes.push_reserved(chunk.home());
+        let group = &mut self.groups[place / GROUP];
+        *group += u64::from(weight);
         self.total += u64::from(weight);
     }
 
@@ -304,9 +311,12 @@ impl RankIndex {
     {
         let place = chunk_of(&self.chunks, &self.places, &self.homes, tag);
         let chunk = &mut self.chunks[place];
-        let others = self.total - chunk.sum();
+        let was = chunk.sum();
         chunk.set_weight(tag, weight);
-        self.total = others + chunk.sum();
+        let is = chunk.sum();
+        let group = &mut self.groups[place / GROUP];
+        *group = *group - was + is;
+        self.total = self.total - was + is;
     }
 
     /// How much weight stands ahead of a member. A member has this tag.
@@ -315,7 +325,7 @@ impl RankIndex {
         ensures rank { IsRank self.now.items tag result }
     {
         let place = chunk_of(&self.chunks, &self.places, &self.homes, tag);
-        weight_in(&self.chunks[..place]) + self.chunks[place].rank(tag)
+        weight_ahead(&self.groups, &self.chunks, place) + self.chunks[place].rank(tag)
     }
 
     /// The member whose stretch of the sum of all weights holds this position, and how far behind the
@@ -324,6 +334,7 @@ impl RankIndex {
         requires within { pos < weight_of self.now.items }
         ensures found { IsFound self.now.items pos result.0 result.1 }
     {
-        found_in(&self.chunks, pos)
+        let (place, left) = group_at(&self.groups, &self.chunks, pos);
+        found_in(&self.chunks[place..], left)
     }
 }

@@ -3,6 +3,7 @@
 #![tactic(auto)]
 
 mod chunk;
+mod groups;
 mod index;
 
 pub use index::RankIndex;

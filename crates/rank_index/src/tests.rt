@@ -88,15 +88,15 @@ fn reweigh(index: &mut RankIndex, plain: &mut Vec<(u64, u64)>, n: u64)
 fn ranks_and_finds_as_a_plain_list(rt: HostRuntime) -> Result<(), Fail> {
     let mut index = RankIndex::new(rt.alloc())?;
     let mut plain = Vec::new(rt.alloc());
-    index.reserve(2000)?;
-    fill(&mut index, &mut plain, 2000)?;
+    index.reserve(5000)?;
+    fill(&mut index, &mut plain, 5000)?;
     reweigh(&mut index, &mut plain, 700);
-    for tag in 0..2000 {
+    for tag in 0..5000 {
         assert_eq!(rt; index.rank(tag), ahead_of(&plain, tag));
     }
     for pos in 0..index.total() {
         assert_eq!(rt; index.find(pos), member_at(&plain, pos));
     }
-    assert_eq!(rt; index.total(), ahead_of(&plain, 2000));
+    assert_eq!(rt; index.total(), ahead_of(&plain, 5000));
     Ok(())
 }

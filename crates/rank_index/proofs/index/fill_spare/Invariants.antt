@@ -1,4 +1,4 @@
-use Rattle.std.proofs.Common.{◌≡◌, ◌+◌, ◌-◌, ◌≤◌, vec_len, vec_capacity}
+use Rattle.std.proofs.Common.{◌≡◌, ◌+◌, ◌-◌, ◌≤◌, max, vec_len, vec_capacity}
 use Rattle.rank_index.specs.Chunks.{AreEmpty}
 use Rattle.rank_index.proofs.index.fill_spare.Given as goal
 
@@ -11,6 +11,7 @@ invariant-loop-alloc l = record {
   places : l.places.items ≡ l.initial.places.items;
   same : l.chunks.items ≡ l.initial.chunks.items;
   spare : vec_len l.initial.spare ≤ vec_len l.spare;
+  most : vec_len l.chunks + vec_len l.spare ≤ max l.wanted (vec_len l.initial.chunks + vec_len l.initial.spare);
 }
 
 abbrev pub decreases-loop-alloc : goal.decreases-loop-alloc

@@ -1,7 +1,6 @@
-use Rattle.std.proofs.Common.{◌≡◌, ◌+◌, take}
-use Rattle.rank_index.specs.Chunks.{members_of}
-use Rattle.rank_index.specs.Ranked.{weight_of}
+use Rattle.std.proofs.Common.{◌≡◌, ◌+◌}
+use Rattle.rank_index.specs.Groups.{weight_to}
 use Rattle.rank_index.proofs.index.found_in.Given as goal
 
 abbrev pub invariant-loop-chunk : goal.invariant-loop-chunk
-invariant-loop-chunk l = l.pos ≡ weight_of (members_of (take l.chunk-index l.chunks)) + l.left
+invariant-loop-chunk l = l.pos ≡ weight_to l.chunks l.chunk-index + l.left

@@ -1,8 +1,9 @@
 use Rattle.std.proofs.Common.{◌≡◌, ℕ, ◌+◌, ◌<◌, ◌≤◌, List, length, get_or, slice_get, Some, None, refl, sym, ap, subst, ◌∙◌, arith, rules, true, true≢false}
 use Rattle.std.proofs.lemmas.Option.{same_Some, slice_get_read, slice_get_within}
 use Rattle.piece_raw.specs.Ring.{HasTag}
+use Rattle.rank_index.specs.declared.chunk.TheConstants.{MOST}
 use Rattle.rank_index.specs.Chunks.{Stretch, IsPlaceOf, IsPlaceBehind, IsHalved}
-use Rattle.rank_index.proofs.Halved.{full_among, at_front, in_front, from_front, behind_in_rest, room_at_front, room_at_rest}
+use Rattle.rank_index.proofs.Halved.{full_among, at_front, in_front, from_front, one_chunk_more, behind_in_rest, room_at_front, room_at_rest}
 use Rattle.rank_index.proofs.index.place_behind.Goals as goal
 use Rattle.rank_index.proofs.index.place_behind.Goals.{in-Some, in-None}
 
@@ -24,7 +25,7 @@ halve-requires-clause-spare c =
     ] in
     let at : slice_get chunks place ≡ Some whole =
     slice_get_read chunks (length chunks) place whole refl within c.index.ensures in
-    let full : 512 ≤ length whole.members =
+    let full : MOST ≤ length whole.members =
     omega (arith, c.if-members-lt-MOST.false, ap length c.members.ensures.members) in
     omega (
       arith,
@@ -83,3 +84,23 @@ returns-in_default-clause-place c =
 pub returns-in_default-clause-room : goal.returns-in_default-clause-room
 returns-in_default-clause-room c =
     room_at_front c.match-after.place c.args.chunks.now.items c.halve.new.chunks.items c.halve.ensures.halved
+
+pub returns-in-Some-after-clause-same : goal.returns-in-Some-after-clause-same
+returns-in-Some-after-clause-same c few =
+    absurd (omega (
+      arith,
+      few,
+      one_chunk_more c.match-after.place c.args.chunks.now.items c.halve.new.chunks.items c.halve.ensures.halved,
+      c.args.chunks.now.ok.0,
+      c.halve.new.chunks.ok.0,
+    ))
+
+pub returns-in_default-clause-same : goal.returns-in_default-clause-same
+returns-in_default-clause-same c few =
+    absurd (omega (
+      arith,
+      few,
+      one_chunk_more c.match-after.place c.args.chunks.now.items c.halve.new.chunks.items c.halve.ensures.halved,
+      c.args.chunks.now.ok.0,
+      c.halve.new.chunks.ok.0,
+    ))

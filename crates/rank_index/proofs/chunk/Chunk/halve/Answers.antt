@@ -11,7 +11,7 @@ use Rattle.rank_index.proofs.chunk.Chunk.halve.Goals.{After-sum}
 -- what was moved is the second half
 moved : (c : After-sum) → c.loop-member.rest.members ≡ drop HALF c.args.self.now.members
 moved c =
-    all_moved (take (length c.deref.result.now - 256) (drop 256 c.deref.result.now)) c.loop-member.rest.members
+    all_moved (take (length c.deref.result.now - HALF) (drop HALF c.deref.result.now)) c.loop-member.rest.members
     (drop HALF c.args.self.now.members) c.loop-member.member-index c.loop-member-test.false
     c.loop-member.invariant.moved c.loop-member.invariant.whole
 
@@ -34,15 +34,15 @@ weighs c =
 
 pub loop-member-init : goal.loop-member-init
 loop-member-init c = record {
-  whole = take_rest c.deref.result.now 256 ∙ ap (drop 256) c.deref.ensures.value
-      ∙ ap (λ (s : Stretch). drop 256 s.members) c.self.view_is;
+  whole = take_rest c.deref.result.now HALF ∙ ap (drop HALF) c.deref.ensures.value
+      ∙ ap (λ (s : Stretch). drop HALF s.members) c.self.view_is;
   moved = c.requires.empty;
   home = refl;
 }
 
 pub push-requires-clause-total : goal.push-requires-clause-total
 push-requires-clause-total c =
-    let xs = take (length c.deref.result.now - 256) (drop 256 c.deref.result.now) in
+    let xs = take (length c.deref.result.now - HALF) (drop HALF c.deref.result.now) in
     let old = c.args.self.now.members in
     omega (
       arith,

@@ -1,16 +1,19 @@
-use Rattle.std.proofs.Common.{◌≡◌, ℕ, ◌+◌, ◌<◌, ◌++◌, [], ◌∷◌, List, length, drop, ap, sym, subst, ◌∙◌, arith}
+use Rattle.std.proofs.Common.{◌≡◌, ℕ, ◌+◌, ◌/◌, ◌<◌, ◌≤◌, ◌++◌, [], ◌∷◌, List, length, drop, get_or, ap, sym, subst, ◌∙◌, arith}
 use Rattle.std.proofs.Math.ListN.{set}
-use Rattle.std.proofs.lemmas.List.{take_at}
+use Rattle.std.proofs.lemmas.List.{get_or_read, take_at}
 use Rattle.std.proofs.lemmas.Option.{slice_get_within}
 use Rattle.piece_raw.specs.Ring.{IsPushed}
+use Rattle.rank_index.specs.declared.groups.TheConstants.{GROUP}
 use Rattle.rank_index.specs.Chunks.{Stretch, members_of, AreTied}
+use Rattle.rank_index.specs.Groups.{AreGroups}
 use Rattle.rank_index.specs.Ranked.{Ranked, weight_of}
+use Rattle.rank_index.proofs.Grouped.{group_among, groups_set}
 use Rattle.rank_index.proofs.Inserted.{pushed_here, tied_pushed_here, weight_pushed}
 use Rattle.rank_index.proofs.Placed.{placed_set}
 use Rattle.rank_index.proofs.Tagged.{Members}
 use Rattle.rank_index.proofs.Weights.{weight_within}
 use Rattle.rank_index.proofs.index.RankIndex.insert_after.Goals as goal
-use Rattle.rank_index.proofs.index.RankIndex.insert_after.Goals.{After-index_mut-chunk, After-insert_after}
+use Rattle.rank_index.proofs.index.RankIndex.insert_after.Goals.{After-regroup_if_grown, After-index_mut-chunk, After-insert_after, After-index_mut-group}
 
 -- the chunk's place is that of one of the chunks
 within : (c : After-index_mut-chunk) → c.place_behind-place.result < length c.place_behind-place.new.chunks.items
@@ -31,6 +34,65 @@ put c lt =
     c.insert_after.new.self lt c.index_mut-chunk.ensures.value c.args.after c.args.tag c.args.weight
     c.place_behind-place.ensures.place c.insert_after.ensures.inserted
 
+pub regroup_if_grown-requires-clause-same : goal.regroup_if_grown-requires-clause-same
+regroup_if_grown-requires-clause-same c few =
+    let no_more : c.place_behind-place.new.chunks.len ≤ c.self.inside.chunks.len =
+    omega (arith, few, c.deref.ensures.len, c.len-before.ensures) in
+    rw (c.deref.ensures.value, c.place_behind-place.ensures.same no_more) c.self.invariant.7
+
+pub regroup_if_grown-requires-clause-room : goal.regroup_if_grown-requires-clause-room
+regroup_if_grown-requires-clause-room c =
+    omega (arith, c.deref.ensures.len, c.place_behind-place.ensures.count, c.self.invariant.8)
+
+pub regroup_if_grown-requires-clause-total : goal.regroup_if_grown-requires-clause-total
+regroup_if_grown-requires-clause-total c =
+    omega (
+      arith,
+      ap (λ (l : List Stretch). weight_of (members_of l)) c.deref.ensures.value,
+      ap weight_of c.place_behind-place.ensures.members,
+      c.self.invariant.4,
+    )
+
+-- the groups are those of the chunks that are there now
+grouped : (c : After-regroup_if_grown)
+    → AreGroups c.regroup_if_grown.new.groups.items c.place_behind-place.new.chunks.items
+grouped c = subst (AreGroups c.regroup_if_grown.new.groups.items) c.deref.ensures.value c.regroup_if_grown.ensures.groups
+
+-- the chunk's group has a sum
+there : (c : After-index_mut-chunk)
+    → AreGroups c.regroup_if_grown.new.groups.items c.place_behind-place.new.chunks.items
+    → c.place_behind-place.result / GROUP < length c.regroup_if_grown.new.groups.items
+there c are = omega (arith, within c, are.all)
+
+pub index_mut-group-requires : goal.index_mut-group-requires
+index_mut-group-requires c =
+    let at = goal.at.index_mut-group-requires c in
+    omega (arith, there at.After-index_mut-chunk (grouped at.After-regroup_if_grown), c.regroup_if_grown.new.groups.ok.0)
+
+-- and it is read
+sum_is : (c : After-index_mut-group)
+    → c.place_behind-place.result / GROUP < length c.regroup_if_grown.new.groups.items
+    → c.index_mut-group.result.now
+    ≡ get_or c.regroup_if_grown.new.groups.items (c.place_behind-place.result / GROUP) 0
+sum_is c lt =
+    get_or_read c.regroup_if_grown.new.groups.items (c.place_behind-place.result / GROUP)
+    c.index_mut-group.result.now lt c.index_mut-group.ensures.value 0
+
+pub overflow_add-group : goal.overflow_add-group
+overflow_add-group c =
+    let at = goal.at.overflow_add-group c in
+    let are = grouped at.After-regroup_if_grown in
+    let lt = there at.After-index_mut-chunk are in
+    omega (
+      arith,
+      sum_is at.After-index_mut-group lt,
+      group_among c.regroup_if_grown.new.groups.items c.place_behind-place.new.chunks.items
+          (c.place_behind-place.result / GROUP) are lt,
+      ap weight_of (same at.After-index_mut-chunk),
+      c.from.ensures,
+      c.requires.total,
+    )
+
 pub insert_after-requires-clause-total : goal.insert_after-requires-clause-total
 insert_after-requires-clause-total c =
     let at = (goal.at.insert_after-requires-clause-total c).After-index_mut-chunk in
@@ -50,6 +112,7 @@ invariant_of-self c =
     let place : ℕ = c.place_behind-place.result in
     let chunk : Stretch = c.insert_after.new.self in
     let lt : place < length chunks = within at.After-index_mut-chunk in
+    let are = grouped at.After-regroup_if_grown in
     let is_same : members_of chunks ≡ c.args.self.now.items = same at.After-index_mut-chunk in
     let weight : weight_of (members_of (set chunks place chunk)) ≡ weight_of (members_of chunks) + c.args.weight =
     weight_pushed (members_of chunks) (members_of (set chunks place chunk)) c.args.after c.args.tag c.args.weight
@@ -77,6 +140,15 @@ invariant_of-self c =
         c.place_behind-place.ensures.places_room,
         c.self.invariant.6,
       ),
+      groups_set c.regroup_if_grown.new.groups.items chunks place c.index_mut-chunk.result.now chunk
+          (c.index_mut-group.result.now + c.from.result) lt c.index_mut-chunk.ensures.value are (omega (
+            arith,
+            sum_is at.After-index_mut-group (there at.After-index_mut-chunk are),
+            c.from.ensures,
+            weight_pushed c.index_mut-chunk.result.now.members chunk.members c.args.after c.args.tag c.args.weight
+                c.insert_after.ensures.inserted,
+          )),
+      omega (arith, c.place_behind-place.ensures.count, c.regroup_if_grown.ensures.room, c.self.invariant.8),
     )
 
 pub returns-clause-inserted : goal.returns-clause-inserted

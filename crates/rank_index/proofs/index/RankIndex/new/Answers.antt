@@ -2,6 +2,7 @@ use Rattle.std.proofs.Common.{◌≡◌, ℕ, List, [], ◌∷◌, ◌++◌, len
 use Rattle.std.proofs.lemmas.List.Elements.{All-nil}
 use Rattle.rank_index.specs.Chunks.{Stretch, members_of, AreEmpty, AreTied}
 use Rattle.rank_index.specs.Ranked.{weight_of}
+use Rattle.rank_index.proofs.Grouped.{groups_alone}
 use Rattle.rank_index.proofs.Inserted.{tied_empty}
 use Rattle.rank_index.proofs.Placed.{placed_alone}
 use Rattle.rank_index.proofs.Tagged.{Members}
@@ -16,6 +17,8 @@ invariant_of-result c =
     let first : chunk.home ≡ 0 = ap (λ (s : Stretch). s.home) c.in_ok-new.ensures.ok in
     let places : c.push-2.new.self.items ≡ 0 ∷ [] =
     c.in_ok-push-2.ensures.items ∙ ap (λ (l : List ℕ). l ++ 0 ∷ []) c.new-places.ensures.items in
+    let groups : c.push-3.new.self.items ≡ 0 ∷ [] =
+    c.in_ok-push-3.ensures.items ∙ ap (λ (l : List ℕ). l ++ 0 ∷ []) c.new-groups.ensures.items in
     let weightless : weight_of (members_of c.push.new.self.items) ≡ 0 =
     ap (λ (l : List Stretch). weight_of (members_of l)) one ∙ ap (λ (l : Members). weight_of (l ++ [])) none in (
       subst (λ (l : List Stretch). AreTied c.new-2.result.items l) (sym one)
@@ -26,4 +29,6 @@ invariant_of-result c =
       omega (arith, weightless),
       rw (one, places) (placed_alone chunk first),
       omega (arith, c.new-3.ensures.len, ap length one, ap length places, c.push.new.self.ok, c.push-2.new.self.ok),
+      rw (one, groups) (groups_alone chunk none),
+      omega (arith, c.new-3.ensures.len, ap length one, ap length groups, c.push.new.self.ok, c.push-3.new.self.ok),
     )

@@ -1,9 +1,10 @@
-use Rattle.std.proofs.Common.{◌≡◌, ℕ, ◌+◌, List, take, sym, ap, subst, ◌∙◌, arith}
+use Rattle.std.proofs.Common.{◌≡◌, ℕ, ◌+◌, List, length, sym, ap, subst, ◌∙◌, arith}
 use Rattle.rank_index.specs.Chunks.{Stretch, members_of}
-use Rattle.rank_index.specs.Ranked.{Ranked, weight_of, IsRank}
+use Rattle.rank_index.specs.Groups.{weight_to}
+use Rattle.rank_index.specs.Ranked.{Ranked, IsRank}
 use Rattle.rank_index.proofs.Stretches.{IsReadFor, is_within, read_for}
 use Rattle.rank_index.proofs.Tagged.{Members}
-use Rattle.rank_index.proofs.Weights.{weight_ahead, weight_within, rank_within, rank_here}
+use Rattle.rank_index.proofs.Weights.{weight_within, rank_within, rank_here}
 use Rattle.rank_index.proofs.index.RankIndex.rank.Goals as goal
 use Rattle.rank_index.proofs.index.RankIndex.rank.Goals.{After-index}
 
@@ -15,19 +16,24 @@ is_read c =
     c.deref.ensures.value c.chunk_of-place.ensures c.index.ensures
 
 -- what was added up is what stands in the chunks ahead of it
-ahead : (c : After-index)
-    → c.weight_in.result ≡ weight_of (members_of (take c.chunk_of-place.result c.self.inside.chunks.items))
+ahead : (c : After-index) → c.weight_ahead.result ≡ weight_to c.self.inside.chunks.items c.chunk_of-place.result
 ahead c =
-    c.weight_in.ensures
-    ∙ ap (λ (l : List Stretch). weight_of (members_of (take c.chunk_of-place.result l))) c.deref-4.ensures.value
+    c.weight_ahead.ensures
+    ∙ ap (λ (l : List Stretch). weight_to l c.chunk_of-place.result) c.deref-5.ensures.value
 
-pub weight_in-requires : goal.weight_in-requires
-weight_in-requires c =
+pub weight_ahead-requires-clause-groups : goal.weight_ahead-requires-clause-groups
+weight_ahead-requires-clause-groups c = rw (c.deref-4.ensures.value, c.deref-5.ensures.value) c.self.invariant.7
+
+pub weight_ahead-requires-clause-total : goal.weight_ahead-requires-clause-total
+weight_ahead-requires-clause-total c = rw c.deref-5.ensures.value c.self.invariant.4
+
+pub weight_ahead-requires-clause-place : goal.weight_ahead-requires-clause-place
+weight_ahead-requires-clause-place c =
     omega (
       arith,
-      weight_ahead c.deref-4.result.now c.chunk_of-place.result,
-      ap (λ (l : List Stretch). weight_of (members_of l)) c.deref-4.ensures.value,
-      c.self.invariant.4,
+      is_within c.deref.result.now c.chunk_of-place.result c.args.tag c.chunk_of-place.ensures,
+      ap length c.deref.ensures.value,
+      ap length c.deref-5.ensures.value,
     )
 
 pub index-requires : goal.index-requires
@@ -61,10 +67,10 @@ returns c =
     let place = c.chunk_of-place.result in
     let read = is_read at in
     let in_chunks : IsRank (members_of chunks) c.args.tag
-    (weight_of (members_of (take place chunks)) + c.rank.result) =
+    (weight_to chunks place + c.rank.result) =
     rank_here chunks place c.index.result.now read.within read.is c.args.tag c.rank.result c.rank.ensures in
     record {
-      rank = subst (λ (l : Members). IsRank l c.args.tag (c.weight_in.result + c.rank.result))
+      rank = subst (λ (l : Members). IsRank l c.args.tag (c.weight_ahead.result + c.rank.result))
           (ap (λ (r : Ranked). r.items) c.self.view_is)
           (subst (λ (n : ℕ). IsRank (members_of chunks) c.args.tag (n + c.rank.result)) (sym (ahead at)) in_chunks);
     }

@@ -1,6 +1,6 @@
 use Rattle.std.proofs.Common.{arith}
 use Rattle.rank_index.proofs.Weights.{weight_within}
-use Rattle.rank_index.proofs.index.weight_in.Goals as goal
+use Rattle.rank_index.proofs.groups.weight_in.Goals as goal
 
 pub overflow_add-weight : goal.overflow_add-weight
 overflow_add-weight c = omega (
