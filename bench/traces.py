@@ -42,7 +42,7 @@ TRACES = {"at the end": at_the_end, "at random": at_random, "in bursts": in_burs
 @dataclasses.dataclass(eq=False)
 class Script:
     """Lines, how many messages they send, and how many of these a site takes; and the text that they leave, a plain list of
-    characters. A script that goes on with another one has its lines in front of its own."""
+    characters. A script that goes on with another one has its lines in front of its own. It equals itself alone."""
 
     lines: list = dataclasses.field(default_factory=list)
     sent: int = 0
