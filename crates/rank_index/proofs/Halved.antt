@@ -130,16 +130,17 @@ module _ (ahead : List Stretch) (whole front rest : Stretch) (behind : List Stre
       some = omega (arith, length-append ahead (front ∷ rest ∷ behind));
     }
 
--- there is one chunk more
-pub one_chunk_more : (at : ℕ) (was now : List Stretch) → IsHalved at was now → length now ≡ length was + 1
-one_chunk_more at was now halved =
-    omega (
+-- there is one chunk more; where there are as few as before, all is as it was
+pub same_if_few : (at : ℕ) (was now : List Stretch) → IsHalved at was now → length now ≤ length was → now ≡ was
+same_if_few at was now halved few =
+    absurd (omega (
       arith,
+      few,
       ap length halved.was,
       ap length halved.is,
       length-append halved.ahead (halved.whole ∷ halved.behind),
       length-append halved.ahead (halved.front ∷ halved.rest ∷ halved.behind),
-    )
+    ))
 
 -- where a member of the whole is now
 module _ (at : ℕ) (was now : List Stretch) (halved : IsHalved at was now) where

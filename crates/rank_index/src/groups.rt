@@ -29,7 +29,7 @@ fn regroup(groups: &mut Vec<u64>, chunks: &[Chunk])
     ensures groups { AreGroups groups.new.items chunks.now }
     ensures room { vec_capacity groups.old ≤ vec_capacity groups.new }
 {
-    groups.truncate(0);
+    groups.clear();
     let mut done = 0;
     while done < chunks.len() {
         let next = done + GROUP.min(chunks.len() - done);

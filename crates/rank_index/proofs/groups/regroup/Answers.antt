@@ -9,12 +9,12 @@ use Rattle.rank_index.proofs.groups.regroup.Goals as goal
 
 pub loop-done-init : goal.loop-done-init
 loop-done-init c = record {
-  sums = λ k lt. absurd (omega (arith, lt, ap length c.truncate.ensures.items));
+  sums = λ k lt. absurd (omega (arith, lt, ap length c.clear.ensures.items));
   within = omega arith;
   all = omega arith;
-  few = omega (arith, ap length c.truncate.ensures.items);
-  whole = λ lt. omega (arith, ap length c.truncate.ensures.items);
-  room = omega (arith, c.truncate.ensures.capacity);
+  few = omega (arith, ap length c.clear.ensures.items);
+  whole = λ lt. omega (arith, ap length c.clear.ensures.items);
+  room = omega (arith, c.clear.ensures.capacity);
 }
 
 pub weight_in-requires : goal.weight_in-requires

@@ -3,7 +3,7 @@ use Rattle.std.proofs.lemmas.Option.{same_Some, slice_get_read, slice_get_within
 use Rattle.piece_raw.specs.Ring.{HasTag}
 use Rattle.rank_index.specs.declared.chunk.TheConstants.{MOST}
 use Rattle.rank_index.specs.Chunks.{Stretch, IsPlaceOf, IsPlaceBehind, IsHalved}
-use Rattle.rank_index.proofs.Halved.{full_among, at_front, in_front, from_front, one_chunk_more, behind_in_rest, room_at_front, room_at_rest}
+use Rattle.rank_index.proofs.Halved.{full_among, at_front, in_front, from_front, same_if_few, behind_in_rest, room_at_front, room_at_rest}
 use Rattle.rank_index.proofs.index.place_behind.Goals as goal
 use Rattle.rank_index.proofs.index.place_behind.Goals.{in-Some, in-None}
 
@@ -87,20 +87,10 @@ returns-in_default-clause-room c =
 
 pub returns-in-Some-after-clause-same : goal.returns-in-Some-after-clause-same
 returns-in-Some-after-clause-same c few =
-    absurd (omega (
-      arith,
-      few,
-      one_chunk_more c.match-after.place c.args.chunks.now.items c.halve.new.chunks.items c.halve.ensures.halved,
-      c.args.chunks.now.ok.0,
-      c.halve.new.chunks.ok.0,
-    ))
+    same_if_few c.match-after.place c.args.chunks.now.items c.halve.new.chunks.items c.halve.ensures.halved
+    (omega (arith, few, c.args.chunks.now.ok.0, c.halve.new.chunks.ok.0))
 
 pub returns-in_default-clause-same : goal.returns-in_default-clause-same
 returns-in_default-clause-same c few =
-    absurd (omega (
-      arith,
-      few,
-      one_chunk_more c.match-after.place c.args.chunks.now.items c.halve.new.chunks.items c.halve.ensures.halved,
-      c.args.chunks.now.ok.0,
-      c.halve.new.chunks.ok.0,
-    ))
+    same_if_few c.match-after.place c.args.chunks.now.items c.halve.new.chunks.items c.halve.ensures.halved
+    (omega (arith, few, c.args.chunks.now.ok.0, c.halve.new.chunks.ok.0))
