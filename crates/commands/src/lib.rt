@@ -4,10 +4,12 @@
 mod desk;
 mod editing;
 pub mod laws;
+mod limits;
 mod printing;
 mod runs;
 
 pub use desk::Desk;
+pub use limits::the_limits;
 
 /// The greatest number of a text on a desk; the least is 1. This project's own.
 pub const MAX_TEXT: u16 = 16;

@@ -4,6 +4,7 @@
 mod colour;
 mod font_name;
 mod key;
+mod limits;
 mod looks;
 mod refusal;
 mod register;
@@ -12,6 +13,7 @@ mod sel;
 pub use colour::{Colour, MAX_COLOUR};
 pub use font_name::{FontName, MAX_FONT_NAME};
 pub use key::Key;
+pub use limits::the_limits;
 pub use looks::Looks;
 pub use refusal::Refusal;
 pub use register::Register;

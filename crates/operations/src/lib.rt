@@ -4,6 +4,7 @@
 mod joining;
 mod kind;
 mod laws;
+mod limits;
 mod name_set;
 mod name_walk;
 mod op;
@@ -12,6 +13,7 @@ mod writing;
 
 pub use kind::{Kind, MAX_INSERT};
 pub use laws::sets_are_told_by_their_names;
+pub use limits::the_limits;
 pub use name_set::{MAX_RANGES, NameRange, NameSet};
 pub use name_walk::{NameWalk, named};
 pub use op::{MAX_STAMP, Op};

@@ -1,6 +1,7 @@
 -- A list of pieces before and after one of them was changed.
-use Rattle.std.proofs.Common.{◌≡◌, ◌≢◌, ℕ, ◌+◌, ◌-◌, ◌<◌, ◌≤◌, ◌==◌, cond, List, [], ◌∷◌, ◌++◌, Some}
+use Rattle.std.proofs.Common.{◌≡◌, ◌≢◌, ℕ, ◌+◌, ◌-◌, ◌<◌, ◌≤◌, ◌==◌, cond, Bool, inl, inr, ne_eqb, eq-eqb, List, [], ◌∷◌, ◌++◌, Some}
 use Rattle.std.proofs.Common.{length, map, All, refl, sym, ap, subst, ◌∙◌, arith}
+use Rattle.std.proofs.lemmas.Bool.{cases_eq}
 use Rattle.std.proofs.lemmas.List.{map-append, length-map}
 use Rattle.std.proofs.lemmas.List.Elements.{All-append, All-head, All-tail, All-cons}
 use Rattle.char_files.specs.CharName.{CharName}
@@ -12,8 +13,9 @@ use Rattle.tree_order.specs.Registers.{Kept, if_named}
 use Rattle.piece_list.specs.declared.list.changing.Change.{Change}
 use Rattle.piece_list.specs.declared.list.changing.Change.TheVariants.{Switch, Relook}
 use Rattle.piece_list.specs.declared.piece.Piece.{Piece}
+use Rattle.piece_list.specs.declared.place.Place.{Place}
 use Rattle.piece_list.specs.Changing.{IsEdge, changed_piece, changed_char}
-use Rattle.piece_list.specs.Held.{AreEntered}
+use Rattle.piece_list.specs.Held.{AreEntered, IsPlaceOf}
 use Rattle.piece_list.specs.Laws.{Avoid, ChangesEach}
 use Rattle.piece_list.specs.Pieces.{range_of, IsPiece}
 use Rattle.piece_list.specs.Spelled.{spelled, HasName}
@@ -22,7 +24,7 @@ use Rattle.piece_list.proofs.Changes.{of_its_names}
 use Rattle.piece_list.proofs.Cutting.{ahead_others, behind_others, written}
 use Rattle.piece_list.proofs.CutList.{at_cursor, is_piece}
 use Rattle.piece_list.proofs.Edges.{entered_holds, begins_there}
-use Rattle.piece_list.proofs.Found.{some_is}
+use Rattle.piece_list.proofs.Found.{some_is, one_value, name_has_place, place_has_name}
 use Rattle.piece_list.proofs.Gap.{all_left, all_right}
 
 abbrev Items : Type 0
@@ -128,6 +130,30 @@ module _ (change : Change) (old : Items) (tables : Tables) (tag : ℕ) (p w : Pi
         subst (IsEdge site off) (sym (parts xs ys is))
         (edges_stay tag p w same_range xs ys site off (subst (IsEdge site off) is edge))
 
+    alike : (s : ℕ) (q : Piece) → IsMember old s q → range_of (cond (s == tag) w q) ≡ range_of q
+    alike s q is = elim (cases_eq s tag) [
+      | inl same ↦
+          ap (λ (b : Bool). range_of (cond b w q)) (eq-eqb s tag same) ∙ same_range
+          ∙ ap range_of (sym (one_value old tags tag q p (subst (λ (t : ℕ). IsMember old t q) same is) member))
+      | inr differs ↦ ap (λ (b : Bool). range_of (cond b w q)) (ne_eqb s tag differs)
+    ]
+
+    -- each place stays
+    pub place_stays : (place : Place) (c : CharName) → IsPlaceOf old place c → IsPlaceOf new place c
+    place_stays place c (q, (xs, ys, is), within, site, off) =
+        let s : ℕ = place.piece in
+        let v : Piece = cond (s == tag) w q in
+        let put : ℕ × Piece → ℕ × Piece = λ (m : ℕ × Piece). (m.0, cond (m.0 == tag) w m.1) in
+        let range : range_of v ≡ range_of q = alike s q (xs, ys, is) in
+        let len : v.len ≡ q.len = ap (λ (r : Range). r.len) range in
+        let first : v.off ≡ q.off = ap (λ (r : Range). r.at) range in (
+          v,
+          (map put xs, map put ys, ap (map put) is ∙ map-append put xs ((s, q) ∷ ys)),
+          omega arith,
+          site ∙ sym (ap (λ (r : Range). r.site) range),
+          omega arith,
+        )
+
     pub entered_after : AreEntered new tables
     entered_after =
         let (xs, ys, is) = member in
@@ -139,6 +165,9 @@ module _ (change : Change) (old : Items) (tables : Tables) (tag : ℕ) (p w : Pi
           entered = subst (All (Entered tables)) back
               (entered_stay tag p w same_range tables xs ys whole.entered);
           held = λ c s e. has_tag old tag s w (are.held c s e);
+          known = λ c s e.
+              let (place, is) = name_has_place old c (are.known c s e) in
+              place_has_name new place c (place_stays place c is);
         }
 
     pub changed_there : spelled new ≡ map (if_named (range_of p ∷ []) (changed_char change)) (spelled old)

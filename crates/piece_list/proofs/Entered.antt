@@ -1,5 +1,5 @@
 -- The tables after a piece was cut.
-use Rattle.std.proofs.Common.{◌≡◌, ◌≢◌, ℕ, ◌+◌, ◌<◌, ◌≤◌, ◌⊎◌, Bool, true, false, inl, inr}
+use Rattle.std.proofs.Common.{◌≡◌, ◌≢◌, ℕ, ◌+◌, ◌-◌, ◌<◌, ◌≤◌, ◌⊎◌, Bool, true, false, inl, inr}
 use Rattle.std.proofs.Common.{List, [], ◌∷◌}
 use Rattle.std.proofs.Common.{◌++◌, Option, Some, All, get_or, refl, sym, ap, subst, ◌∙◌, arith}
 use Rattle.std.proofs.lemmas.Bool.{cases_eq, cases_lt}
@@ -7,12 +7,16 @@ use Rattle.std.proofs.lemmas.List.Elements.{All-append, All-head, All-tail, All-
 use Rattle.char_files.specs.CharName.{CharName}
 use Rattle.operations.specs.NameSet.{Range, IsIn, range_contains}
 use Rattle.piece_raw.specs.Ring.{AreTags, HasTag}
+use Rattle.tree_order.specs.Registers.{Kept}
 use Rattle.piece_list.specs.declared.piece.Piece.{Piece}
 use Rattle.piece_list.specs.Pieces.{range_of, front_of, rest_of, IsPiece}
 use Rattle.piece_list.specs.Held.{AreEntered}
+use Rattle.piece_list.specs.Spelled.{spelled, HasName}
 use Rattle.piece_list.specs.Tables.{Tables, tag_in, table_of, tag_at}
 use Rattle.piece_list.proofs.Changes.{contained, is_contained}
+use Rattle.piece_list.proofs.Cut.{cut_spells_the_same}
 use Rattle.piece_list.proofs.Cutting.{ahead_others, behind_others}
+use Rattle.piece_list.proofs.Found.{place_has_name}
 use Rattle.piece_list.proofs.Gap.{all_left, all_right}
 
 abbrev Items : Type 0
@@ -111,9 +115,9 @@ module _ (xs ys : Items) (tag u n : ℕ) (p : Piece) (old new : Tables)
     rest_entered : Entered new (u, rest_of n p)
     rest_entered = inside
 
-    known : (c : CharName) (s : ℕ) → tag_at new c ≡ Some s
+    held_after : (c : CharName) (s : ℕ) → tag_at new c ≡ Some s
         → HasTag (xs ++ (tag, front_of n p) ∷ (u, rest_of n p) ∷ ys) s
-    known c s e = go (range_contains (range_of (rest_of n p)) c) refl
+    held_after c s e = go (range_contains (range_of (rest_of n p)) c) refl
       where
         go : (b : Bool) → range_contains (range_of (rest_of n p)) c ≡ b
             → HasTag (xs ++ (tag, front_of n p) ∷ (u, rest_of n p) ∷ ys) s
@@ -131,6 +135,25 @@ module _ (xs ys : Items) (tag u n : ℕ) (p : Piece) (old new : Tables)
             let was : HasTag (xs ++ (tag, p) ∷ ys) s = are.held c s (sym at ∙ e) in
             has_tag (xs ++ (tag, front_of n p) ∷ (u, rest_of n p) ∷ ys) s
             (still_held xs ys tag u s p (front_of n p) (rest_of n p) (held (xs ++ (tag, p) ∷ ys) s was))
+
+    spelled_after : (c : CharName) (s : ℕ) → tag_at new c ≡ Some s
+        → HasName (spelled (xs ++ (tag, front_of n p) ∷ (u, rest_of n p) ∷ ys)) c
+    spelled_after c s e = subst (λ (l : List Kept). HasName l c)
+        (sym (cut_spells_the_same xs ys tag u n p (omega (arith, within))))
+        (go (range_contains (range_of (rest_of n p)) c) refl)
+      where
+        go : (b : Bool) → range_contains (range_of (rest_of n p)) c ≡ b
+            → HasName (spelled (xs ++ (tag, p) ∷ ys)) c
+        go true is =
+            let (site, from, to) = is_contained (range_of (rest_of n p)) c is in
+            place_has_name (xs ++ (tag, p) ∷ ys) (record { piece = tag; within = c.off - p.off }) c
+            (p, (xs, ys, refl), omega arith, site, omega arith)
+        go false out =
+            let at : tag_at new c ≡ tag_at old c = outside c (λ held.
+            let yes : range_contains (range_of (rest_of n p)) c ≡ true =
+            contained (range_of (rest_of n p)) c held in
+            absurd cc) in
+            are.known c s (sym at ∙ e)
 
     pub entered_after : AreEntered (xs ++ (tag, front_of n p) ∷ (u, rest_of n p) ∷ ys) new
     entered_after =
@@ -151,5 +174,6 @@ module _ (xs ys : Items) (tag u n : ℕ) (p : Piece) (old new : Tables)
               (All-cons (Entered new) (tag, front_of n p) ((u, rest_of n p) ∷ ys) front_entered
               (All-cons (Entered new) (u, rest_of n p) ys rest_entered
               (all_stay ys (behind_others xs ys tag p tags) after)));
-          held = known;
+          held = held_after;
+          known = spelled_after;
         }

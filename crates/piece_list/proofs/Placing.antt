@@ -1,5 +1,5 @@
 -- A piece is put into its gap: the walk to it, the cut ahead of it, and the tables afterwards.
-use Rattle.std.proofs.Common.{◌≡◌, ◌≢◌, ℕ, ◌+◌, ◌<◌, ◌≤◌, ◌⊎◌, Bool, true, false, inl, inr, List, [], ◌∷◌}
+use Rattle.std.proofs.Common.{◌≡◌, ◌≢◌, ℕ, ◌+◌, ◌-◌, ◌<◌, ◌≤◌, ◌⊎◌, Bool, true, false, inl, inr, List, [], ◌∷◌}
 use Rattle.std.proofs.Common.{◌++◌, Option, Some, None, length, All, Contains, refl, sym, ap, subst, ◌∙◌, arith}
 use Rattle.std.proofs.Common.{append_assoc}
 use Rattle.std.proofs.lemmas.Bool.{cases_eq}
@@ -28,7 +28,7 @@ use Rattle.piece_list.specs.Tables.{Tables, table_of, tag_at}
 use Rattle.piece_list.proofs.Changes.{contained, is_contained}
 use Rattle.piece_list.proofs.Cut.{cut_spells_the_same}
 use Rattle.piece_list.proofs.Entered.{Held, held, has_tag}
-use Rattle.piece_list.proofs.Found.{one_value, some_is}
+use Rattle.piece_list.proofs.Found.{one_value, some_is, name_has_place, place_has_name}
 use Rattle.piece_list.proofs.Gap.{all_left, all_right, into_gap, name_only, names_of_chars}
 use Rattle.piece_list.proofs.Names.{names_have}
 use Rattle.piece_list.proofs.Parts.{one_part, last_tag-push, count_part, count_behind}
@@ -317,6 +317,19 @@ avoids r (m ∷ ms) new =
     (Contains-append_right own rest c has)) in
     All-cons P m ms here (avoids r ms later)
 
+-- a place stays where a piece is put in
+among_with : (xs ys : Items) (u t : ℕ) (v p : Piece) → Among (xs ++ ys) t p → Among (xs ++ (u, v) ∷ ys) t p
+among_with [] ys u t v p h = inr h
+among_with (m ∷ xs) ys u t v p (inl e) = inl e
+among_with (m ∷ xs) ys u t v p (inr h) = inr (among_with xs ys u t v p h)
+
+place_stays : (xs ys : Items) (u : ℕ) (v : Piece) (place : Place) (c : CharName) → IsPlaceOf (xs ++ ys) place c
+    → IsPlaceOf (xs ++ (u, v) ∷ ys) place c
+place_stays xs ys u v place c (p, (front, back, is), within, site, off) =
+    let t : ℕ = place.piece in
+    let there : Among (xs ++ ys) t p = subst (λ (l : Items). Among l t p) (sym is) (among_there front back t p) in
+    (p, member (xs ++ (u, v) ∷ ys) t p (among_with xs ys u t v p there), within, site, off)
+
 still_held : (xs ys : Items) (u s : ℕ) (v : Piece) → Held (xs ++ ys) s → Held (xs ++ (u, v) ∷ ys) s
 still_held [] ys u s v h = inr h
 still_held (m ∷ xs) ys u s v (inl e) = inl e
@@ -338,8 +351,8 @@ module _ (xs ys : Items) (u : ℕ) (v : Piece) (old new : Tables) (are : AreEnte
   stay = λ i d lt c is.
       outside c (λ has. avoids (range_of v) (xs ++ ys) fresh i d lt c is has) ∙ are.entered i d lt c is
 
-  known : (c : CharName) (s : ℕ) → tag_at new c ≡ Some s → HasTag (xs ++ (u, v) ∷ ys) s
-  known c s e = go (range_contains (range_of v) c) refl
+  held_after : (c : CharName) (s : ℕ) → tag_at new c ≡ Some s → HasTag (xs ++ (u, v) ∷ ys) s
+  held_after c s e = go (range_contains (range_of v) c) refl
     where
       go : (b : Bool) → range_contains (range_of v) c ≡ b → HasTag (xs ++ (u, v) ∷ ys) s
       go true is =
@@ -354,6 +367,21 @@ module _ (xs ys : Items) (u : ℕ) (v : Piece) (old new : Tables) (are : AreEnte
           has_tag (xs ++ (u, v) ∷ ys) s
           (still_held xs ys u s v (held (xs ++ ys) s (are.held c s (sym at ∙ e))))
 
+  spelled_after : (c : CharName) (s : ℕ) → tag_at new c ≡ Some s → HasName (spelled (xs ++ (u, v) ∷ ys)) c
+  spelled_after c s e = go (range_contains (range_of v) c) refl
+    where
+      go : (b : Bool) → range_contains (range_of v) c ≡ b → HasName (spelled (xs ++ (u, v) ∷ ys)) c
+      go true is =
+          let (site, from, to) = is_contained (range_of v) c is in
+          place_has_name (xs ++ (u, v) ∷ ys) (record { piece = u; within = c.off - v.off }) c
+          (v, (xs, ys, refl), omega arith, site, omega arith)
+      go false out =
+          let at : tag_at new c ≡ tag_at old c = outside c (λ has.
+          let yes : range_contains (range_of v) c ≡ true = contained (range_of v) c has in
+          absurd cc) in
+          let (place, is) = name_has_place (xs ++ ys) c (are.known c s (sym at ∙ e)) in
+          place_has_name (xs ++ (u, v) ∷ ys) place c (place_stays xs ys u v place c is)
+
   pub entered_with : AreEntered (xs ++ (u, v) ∷ ys) new
   entered_with =
       let Is : ℕ × Piece → Type 0 = λ (m : ℕ × Piece). IsPiece m.1 in
@@ -362,7 +390,8 @@ module _ (xs ys : Items) (u : ℕ) (v : Piece) (old new : Tables) (are : AreEnte
             (All-cons Is (u, v) ys is_piece (all_right Is xs ys are.pieces));
         entered = All-append (Entered new) xs ((u, v) ∷ ys) (all_left (Entered new) xs ys stay)
             (All-cons (Entered new) (u, v) ys inside (all_right (Entered new) xs ys stay));
-        held = known;
+        held = held_after;
+        known = spelled_after;
       }
 
 pub pushed_entered : (old new : Items) (last : Option ℕ) (u : ℕ) (v : Piece) (before after : Tables)

@@ -6,7 +6,7 @@ use Rattle.piece_raw.specs.Ring.{IsMember, HasTag}
 use Rattle.piece_list.specs.declared.piece.Piece.{Piece}
 use Rattle.piece_list.specs.declared.place.Place.{Place}
 use Rattle.piece_list.specs.Pieces.{range_of, front_of, rest_of}
-use Rattle.piece_list.specs.Spelled.{ArePieces}
+use Rattle.piece_list.specs.Spelled.{spelled, ArePieces, HasName}
 use Rattle.piece_list.specs.Tables.{Tables, tag_at}
 
 -- how many characters a piece shows: none where they are hidden
@@ -23,11 +23,18 @@ abbrev pub IsPlaceOf : List (ℕ × Piece) → Place → CharName → Type 0
 IsPlaceOf items place c = (p : Piece) × IsMember items place.piece p × (place.within < p.len)
     × (c.site ≡ p.site) × (c.off ≡ p.off + place.within)
 
--- each piece's names are entered under its number, and each entry is the number of a piece
+-- each piece keeps its number and the first of its characters
+abbrev pub KeepFirsts : (old new : List (ℕ × Piece)) → Type 0
+KeepFirsts old new = (tag : ℕ) (c : CharName) → IsPlaceOf old (record { piece = tag; within = 0 }) c
+    → IsPlaceOf new (record { piece = tag; within = 0 }) c
+
+-- each piece's names are entered under its number, and each entry is the number of a piece, and of a name that is
+-- spelled
 pub record AreEntered (items : List (ℕ × Piece)) (tables : Tables) : Type 0 where
   pub pieces : ArePieces items
   pub entered : All (λ m. (c : CharName) → IsIn (range_of m.1) c → tag_at tables c ≡ Some m.0) items
   pub held : (c : CharName) (tag : ℕ) → tag_at tables c ≡ Some tag → HasTag items tag
+  pub known : (c : CharName) (tag : ℕ) → tag_at tables c ≡ Some tag → HasName (spelled items) c
 
 -- the pieces' numbers, each with how many characters the piece shows
 abbrev pub weighed : List (ℕ × Piece) → List (ℕ × ℕ)

@@ -2,12 +2,15 @@
 #![tactic(auto)]
 
 pub mod laws;
+mod limits;
 mod list;
 mod piece;
 mod place;
 mod run;
+mod steps;
 mod tags;
 
+pub use limits::the_limits;
 pub use list::{Between, PieceList, Walk};
 pub use piece::{MAX_PIECE, Piece};
 pub use place::Place;

@@ -4,6 +4,7 @@ ghost use Rattle.looks.specs.Refusal.{RefusedForMemoryAlone};
 ghost use Rattle.piece_raw.specs.Ring.{AreTags, HasTag};
 ghost use Rattle.char_files.specs.CharName.{CharName};
 ghost use Rattle.piece_list.specs.Held.{IsPlaceOf, HasPlace, IsCut, AreEntered, weighed};
+ghost use Rattle.piece_list.specs.Placing.{IsCounted};
 ghost use Rattle.piece_list.specs.Spelled.{spelled, HasName};
 ghost use Rattle.piece_list.specs.Tables.{table_of};
 
@@ -15,6 +16,7 @@ mod walking;
 
 use crate::piece::Piece;
 use crate::place::Place;
+use crate::steps::Steps;
 use crate::tags::TagTables;
 pub use between::Between;
 use char_files::Name;
@@ -34,7 +36,7 @@ pub struct PieceList {
     tags: TagTables,
     // How many characters each piece shows, under its number.
     index: RankIndex,
-    steps: u64,
+    steps: Steps,
 }
 
 impl Model for PieceList {
@@ -99,16 +101,17 @@ fn cut(
     }
 }
 
-// Where in the piece of this number the name stands, if it does: one comparison.
-fn place_in(pieces: &Ring<Piece>, tag: u64, name: Name) -> Option<Place>
+// Where in the piece of this number the name stands, if it does: one comparison, which is counted.
+fn place_in(pieces: &Ring<Piece>, steps: &mut Steps, tag: u64, name: Name) -> Option<Place>
     requires { HasTag pieces.now.items tag }
     ensures found { IfSome result (λ place. (place.piece ≡ tag) × IsPlaceOf pieces.now.items place name) }
     ensures held { (place : Place) → IsPlaceOf pieces.now.items place name → place.piece ≡ tag
         → IsSome result }
+    ensures counted { IsCounted steps.old 1 steps.new }
 {
     numbers_differ(pieces);
     let piece = pieces.value_at(tag);
-    if !piece.holds(name) {
+    if !steps.compare(piece, name) {
         return None;
     }
     Some(Place {
@@ -127,7 +130,7 @@ impl PieceList {
             pieces: Ring::new(alloc)?,
             tags: TagTables::new(alloc),
             index: RankIndex::new(alloc)?,
-            steps: 0,
+            steps: Steps::none(),
         })
     }
 
@@ -138,23 +141,29 @@ impl PieceList {
         ensures here { IsSome result ↔ HasName (spelled self.now.items) name }
     {
         let tag = self.tags.get(name)?;
-        place_in(&self.pieces, tag, name)
+        place_in(&self.pieces, &mut Steps::none(), tag, name)
+    }
+
+    /// A law: the pieces' numbers count from 0, and none is used twice. A proof gets it by calling this, at no cost.
+    pub fn are_numbered(&self)
+        ensures { AreTags self.now.items }
+    {
+        numbers_differ(&self.pieces);
     }
 
     /// Where the character of this name stands; `None` for a name that isn't here.
     ///
-    /// It reads one entry of a table, and compares the name with one piece at most.
+    /// It reads one entry of a table, and compares the name with the piece that holds it.
     pub fn locate(&mut self, name: Name) -> Option<Place>
         ensures place { IfSome result (λ place. IsPlaceOf self.old.items place name) }
         ensures here { IsSome result ↔ HasName (spelled self.old.items) name }
         ensures items { self.new.items ≡ self.old.items }
-        ensures steps { self.new.steps ≤ 1 }
         ensures counted { IsSome result → self.new.steps ≡ 1 }
+        ensures uncounted { ¬ IsSome result → self.new.steps ≡ 0 }
     {
-        self.steps = 0;
+        self.steps = Steps::none();
         let tag = self.tags.get(name)?;
-        self.steps = 1;
-        place_in(&self.pieces, tag, name)
+        place_in(&self.pieces, &mut self.steps, tag, name)
     }
 
     /// Cuts a piece in two ahead of this place, which is in the list, and answers the place of the same character
@@ -198,6 +207,6 @@ impl PieceList {
     pub fn steps(&self) -> u64
         ensures { result ≡ self.now.steps }
     {
-        self.steps
+        self.steps.count()
     }
 }

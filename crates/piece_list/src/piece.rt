@@ -1,11 +1,10 @@
-ghost use Rattle.std.specs.Prelude.{◌≡◌, ◌<◌, ◌↔◌, if◌then◌else◌, IsTrue};
-ghost use Rattle.operations.specs.NameSet.{IsIn};
-ghost use Rattle.piece_list.specs.Pieces.{range_of, IsPiece, front_of, rest_of, piece_of};
+ghost use Rattle.std.specs.Prelude.{◌≡◌, ◌<◌, if◌then◌else◌};
+ghost use Rattle.piece_list.specs.Pieces.{IsPiece, front_of, rest_of, piece_of};
 ghost use Rattle.piece_list.specs.Pieces.{switched_piece, relooked_piece};
 ghost use Rattle.piece_list.specs.Shown.{looks_of, run_of};
 
 use crate::run::Run;
-use char_files::{Name, SiteNo};
+use char_files::SiteNo;
 use looks::{Colour, FontName, Key, Looks, Register, Sel};
 
 /// The most characters of a piece. This project's own.
@@ -84,14 +83,6 @@ impl Piece {
         ensures { result ≡ (if self.now.hidden.value then 0 else n) }
     {
         if self.hidden.value { 0 } else { n }
-    }
-
-    /// Whether the name is that of one of its characters.
-    pub fn holds(&self, name: Name) -> bool
-        ensures { IsTrue result ↔ IsIn (range_of self.now) name }
-    {
-        let off = name.off();
-        self.site.get() == name.site().get() && self.off <= off && off - self.off < self.len
     }
 
     /// Cuts off all behind the first `n` characters, of more than so many, and answers it as a piece of its own.

@@ -3,7 +3,9 @@ ghost use Rattle.std.specs.Prelude.{IsSome, IfSome, IfOk, IfErr, OnOk, OnErr, Is
 ghost use Rattle.std.specs.Borrow.{sem};
 ghost use Rattle.looks.specs.Refusal.{RefusedForMemoryAlone};
 ghost use Rattle.piece_raw.specs.Ring.{ring, Follows, IsMember, HasTag, IsAtCursor, IsPushed, AreTags, first_tag, last_tag};
+ghost use Rattle.piece_raw.specs.declared.TheConstants.{MAX_TAGS};
 
+use crate::MAX_TAGS;
 use crate::members::Members;
 use crate::nodes::Nodes;
 use crate::spares::{Spare, fill_up, free_all};
@@ -169,13 +171,18 @@ impl<T> Ring<T> {
         }
     }
 
-    /// Makes room for n more members: so many pushes take no memory. Refused `OutOfMemory` alone.
+    /// Makes room for n more members: so many pushes take no memory. Refused `OutOfMemory` alone, which is also
+    /// where there would be more than 2^32 members.
     pub fn reserve(&mut self, n: usize) -> Result<(), Refusal>
         ensures ok { OnOk result (n ≤ self.new.room) }
+        ensures most { OnOk result (length self.old.items + n ≤ MAX_TAGS) }
         ensures errors { RefusedForMemoryAlone result }
         ensures unchanged { (self.new.items ≡ self.old.items) × (self.new.cursor ≡ self.old.cursor) }
         ensures room { self.old.room ≤ self.new.room }
     {
+        if MAX_TAGS < self.nodes.table.len().saturating_add(n) {
+            return Err(Refusal::OutOfMemory);
+        }
         self.nodes.table.reserve(n)?;
         fill_up(&mut self.spare, n)?;
         Ok(())
@@ -183,9 +190,10 @@ impl<T> Ring<T> {
 
     /// Puts a member directly after the cursor, under the next tag, and the cursor on it.
     ///
-    /// After the trailer is the front. Refused `OutOfMemory` alone, with the value given back.
+    /// After the trailer is the front. Refused `OutOfMemory` alone, with the value given back, which is also where
+    /// there are 2^32 members.
     pub fn push_after(&mut self, value: T) -> Result<u64, (T, Refusal)>
-        ensures tag { IfOk result (λ tag. tag ≡ length self.old.items) }
+        ensures tag { IfOk result (λ tag. (tag ≡ length self.old.items) × (tag < MAX_TAGS)) }
         ensures pushed { IfOk result
             (λ tag. IsPushed self.old.items self.old.cursor tag value self.new.items) }
         ensures cursor { IfOk result (λ tag. self.new.cursor ≡ Just tag) }
@@ -195,7 +203,10 @@ impl<T> Ring<T> {
         ensures reserved { 0 < self.old.room → IsOk result }
         ensures room { self.old.room ≤ self.new.room + 1 }
     {
-        if self.nodes.table.reserve(1).is_err() || fill_up(&mut self.spare, 1).is_err() {
+        if MAX_TAGS <= self.nodes.table.len()
+            || self.nodes.table.reserve(1).is_err()
+            || fill_up(&mut self.spare, 1).is_err()
+        {
             return Err((value, Refusal::OutOfMemory));
         }
         match self.spare.pop() {

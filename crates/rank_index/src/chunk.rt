@@ -4,6 +4,7 @@ ghost use Rattle.std.specs.Prelude.{◌≡◌, ◌+◌, ◌<◌, ◌≤◌, ◌^
 ghost use Rattle.std.specs.Prelude.{IfOk, IfSome, IsSome, IsTrue};
 ghost use Rattle.looks.specs.Refusal.{RefusedForMemoryAlone};
 ghost use Rattle.piece_raw.specs.Ring.{HasTag, IsPushed, last_tag, with_value, tags};
+ghost use Rattle.piece_raw.specs.declared.TheConstants.{MAX_TAGS};
 ghost use Rattle.std.specs.List.{IsDistinct};
 ghost use Rattle.rank_index.specs.Places.{IsPlace};
 ghost use Rattle.rank_index.specs.Ranked.{weight_of, IsRank, IsFound};
@@ -17,9 +18,6 @@ pub(crate) const MOST: usize = 128;
 
 // Half of it.
 pub(crate) const HALF: usize = 64;
-
-// How many tags there are, each of 32 bits.
-pub(crate) const MOST_TAGS: usize = 4_294_967_296;
 
 // Up to `MOST` neighbouring members, with the sum of their weights.
 #[derive(Drop)]
@@ -164,7 +162,7 @@ impl Chunk {
     // Puts a member directly behind that of a tag, at the front for `None`.
     pub(crate) fn insert_after(&mut self, after: Option<u64>, tag: u64, weight: u32)
         requires after { IfSome after (HasTag self.old.members) }
-        requires tag { tag < MOST_TAGS }
+        requires tag { tag < MAX_TAGS }
         requires room { length self.old.members < MOST }
         requires total { weight_of self.old.members + weight < 2 ^ 64 }
         ensures inserted { IsPushed self.old.members after tag weight self.new.members }

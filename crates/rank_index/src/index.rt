@@ -2,11 +2,12 @@ ghost use Rattle.std.specs.Prelude.{◌≡◌, ℕ, ◌+◌, ◌*◌, ◌<◌, �
 ghost use Rattle.std.specs.Prelude.{vec_len, vec_capacity};
 ghost use Rattle.looks.specs.Refusal.{RefusedForMemoryAlone};
 ghost use Rattle.piece_raw.specs.Ring.{HasTag, IsPushed, AreTags, with_value};
+ghost use Rattle.piece_raw.specs.declared.TheConstants.{MAX_TAGS};
 ghost use Rattle.rank_index.specs.Chunks.{Stretch, members_of, AreEntered, AreHomes, AreTied, AreEmpty};
 ghost use Rattle.rank_index.specs.Chunks.{AreToldTo, ArePlaced, HomesDiffer, IsPlaceOf, IsPlaceBehind, HasRoom, IsHalved};
 ghost use Rattle.rank_index.specs.Ranked.{weight_of, IsRank, IsFound};
 
-use crate::chunk::{Chunk, HALF, MOST, MOST_TAGS};
+use crate::chunk::{Chunk, HALF, MOST};
 use crate::groups::{GROUP, group_at, regroup_if_grown, weight_ahead};
 use looks::Refusal;
 use std::alloc::Global;
@@ -35,7 +36,7 @@ pub struct RankIndex {
 
 impl Model for RankIndex {
     ghost use Rattle.std.specs.Prelude.{◌≡◌, ◌+◌, ◌-◌, ◌<◌, ◌≤◌, ◌^◌, min, vec_len, vec_capacity};
-    ghost use Rattle.rank_index.specs.declared.chunk.TheConstants.{MOST_TAGS};
+    ghost use Rattle.piece_raw.specs.declared.TheConstants.{MAX_TAGS};
     ghost use Rattle.rank_index.specs.Chunks.{members_of, ArePlaced, AreTied, AreEmpty, room_of};
     ghost use Rattle.rank_index.specs.Groups.{AreGroups};
     ghost use Rattle.rank_index.specs.Ranked.{Ranked, ranked, weight_of};
@@ -43,7 +44,7 @@ impl Model for RankIndex {
     ghost Value = { Ranked };
 
     ghost view = { λ r. ranked (members_of r.chunks.items)
-        (room_of (min (vec_capacity r.homes) MOST_TAGS - vec_len r.homes) (vec_len r.chunks + vec_len r.spare)
+        (room_of (min (vec_capacity r.homes) MAX_TAGS - vec_len r.homes) (vec_len r.chunks + vec_len r.spare)
         (vec_len r.homes)) };
 
     ghost invariant = { λ r. AreTied r.homes.items r.chunks.items
@@ -243,17 +244,15 @@ impl RankIndex {
         })
     }
 
-    /// Makes room for n more members: so many insertions take no memory. There are 2^32 members at most. Refused
-    /// `OutOfMemory` alone.
+    /// Makes room for n more members, so that there are no more than a ring has: so many insertions take no memory.
+    /// Refused `OutOfMemory` alone.
     pub fn reserve(&mut self, n: usize) -> Result<(), Refusal>
+        requires most { length self.old.items + n ≤ MAX_TAGS }
         ensures ok { OnOk result (n ≤ self.new.room) }
         ensures errors { RefusedForMemoryAlone result }
         ensures items { self.new.items ≡ self.old.items }
         ensures room { self.old.room ≤ self.new.room }
     {
-        if MOST_TAGS.saturating_sub(self.homes.len()) < n {
-            return Err(Refusal::OutOfMemory);
-        }
         self.homes.reserve(n)?;
         let wanted = (self.homes.len() + n) / HALF;
         // One for each chunk is more than enough.

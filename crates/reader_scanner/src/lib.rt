@@ -2,12 +2,14 @@
 #![tactic(auto)]
 
 mod laws;
+mod limits;
 mod reader;
 mod scanner;
 mod token;
 mod writer;
 
 pub use laws::one_token;
+pub use limits::the_limits;
 pub use reader::Reader;
 pub use scanner::Scanner;
 pub use token::{Class, MAX_INT, MAX_TOKEN, Token, TokenText, TokenValue};

@@ -1,5 +1,5 @@
 ghost use Rattle.std.specs.Prelude.{◌≡◌, ◌≤◌, [], ◌∷◌, ◌++◌, length, ◌<◌};
-ghost use Rattle.reader_scanner.specs.Class.{class_of};
+ghost use Rattle.reader_scanner.specs.Class.{class_number, class_of};
 
 use arrayvec::ArrayVec;
 use std::marker::Model;
@@ -77,6 +77,15 @@ pub enum Class {
     String = 2,
     Int = 3,
     Char = 6,
+}
+
+impl Class {
+    /// Its number.
+    pub fn number(self) -> u8
+        ensures { result ≡ class_number self }
+    {
+        self as u8
+    }
 }
 
 /// A token, and where it stands in its source.

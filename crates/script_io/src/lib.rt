@@ -2,9 +2,11 @@
 #![tactic(auto)]
 
 mod input;
+mod limits;
 mod lines;
 mod output;
 
 pub use input::Input;
+pub use limits::the_limits;
 pub use lines::{MAX_LINE, NextLine, take_line};
 pub use output::Output;

@@ -4,9 +4,11 @@
 
 mod answers;
 pub mod laws;
+mod limits;
 mod running;
 mod settings;
 mod sites;
 
+pub use limits::the_limits;
 pub use running::{MAX_LINES, run, status_of};
 pub use settings::{MAX_FIRST, MAX_HEIGHT, MAX_SITES, MAX_WIDTH, MIN_HEIGHT, MIN_WIDTH, Settings};

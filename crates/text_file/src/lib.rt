@@ -3,11 +3,13 @@
 
 mod filling;
 mod laws;
+mod limits;
 mod loading;
 mod plain;
 mod storing;
 
 pub use laws::one_text;
+pub use limits::the_limits;
 pub use loading::load;
 pub use storing::store;
 

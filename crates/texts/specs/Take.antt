@@ -1,5 +1,5 @@
 -- What becomes of an operation that is handed in, and of the message that tells it.
-use Rattle.std.specs.Prelude.{◌≡◌, ◌≢◌, ℕ, ◌⊎◌, List, [], ◌∷◌, ◌++◌, length, Contains, Result, Ok, Err, Bool}
+use Rattle.std.specs.Prelude.{◌≡◌, ◌≢◌, ℕ, ◌<◌, ◌⊎◌, List, [], ◌∷◌, ◌++◌, length, Contains, Result, Ok, Err, Bool}
 use Rattle.std.specs.Prelude.{true, false, nat_lt, MatchBool}
 use Rattle.looks.specs.declared.refusal.Refusal.{Refusal}
 use Rattle.looks.specs.declared.refusal.Refusal.TheVariants.{Malformed, WrongText, Conflict, RoomFull}
@@ -73,6 +73,20 @@ Becomes t op Wait = Enters t op
 Becomes t op WrongOffset = Stays t (Err BadOffset)
 Becomes t op LowStamp = Stays t (Err BadStamp)
 Becomes t op Ready = TakesIn t op false
+
+-- An operation where memory is there: it is answered by what becomes of it.
+abbrev pub TakesOp : TextState → Operation → Result Took Refusal → TextState → Type 0
+TakesOp t op result new = (fate : Fate) × HasFate t op fate × Becomes t op fate result new
+
+-- it has to wait, and there is a place; or it is ready
+abbrev pub NeedsMemory : TextState → Operation → Type 0
+NeedsMemory t op = (HasFate t op Wait × (length t.waiting_room < MAX_WAITING)) ⊎ HasFate t op Ready
+
+-- The same where memory was refused: nothing changes; or it was taken in, and the draining behind it was stopped.
+abbrev pub TakesOpShort : TextState → Operation → Result Took Refusal → TextState → Type 0
+TakesOpShort t op result new =
+    (NeedsMemory t op × Stays t (Err OutOfMemory) result new)
+    ⊎ (HasFate t op Ready × TakesIn t op true result new)
 
 -- A message where memory is there: it tells no operation, or what it tells is answered by what becomes of that.
 abbrev pub Takes : TextState → List ℕ → Result Took Refusal → TextState → Type 0

@@ -5,6 +5,7 @@
 mod edit_refusal;
 mod fate;
 pub mod laws;
+mod limits;
 mod merge_refusal;
 mod outbox;
 mod replica;
@@ -14,6 +15,7 @@ mod took;
 
 pub use edit_refusal::EditRefusal;
 pub use fate::Fate;
+pub use limits::the_limits;
 pub use merge_refusal::MergeRefusal;
 pub use outbox::Outbox;
 pub use replica::Replica;

@@ -5,10 +5,12 @@
 mod good_log;
 mod held;
 mod judging;
+mod limits;
 mod mentions;
 mod room;
 
 pub use good_log::GoodLog;
 pub use held::Held;
 pub use judging::{Verdict, judge};
+pub use limits::the_limits;
 pub use room::{MAX_WAITING, Offered, Room};

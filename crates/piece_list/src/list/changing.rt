@@ -6,11 +6,12 @@ ghost use Rattle.looks.specs.Refusal.{RefusedForMemoryAlone};
 ghost use Rattle.operations.specs.NameSet.{IsSet};
 ghost use Rattle.tree_order.specs.Registers.{if_named, switched, relooked};
 ghost use Rattle.piece_list.specs.Changing.{changed_piece, changed_char, AreHere, IsEdge};
-ghost use Rattle.piece_list.specs.Held.{AreEntered, weighed};
+ghost use Rattle.piece_list.specs.Held.{AreEntered, KeepFirsts, weighed};
 ghost use Rattle.piece_list.specs.Spelled.{spelled, HasName};
 
 use crate::list::{PieceList, cut, numbers_differ};
 use crate::piece::Piece;
+use crate::steps::Steps;
 use crate::tags::TagTables;
 use char_files::{Name, SiteNo};
 use looks::{Key, Looks, Refusal, Sel};
@@ -58,6 +59,7 @@ fn cut_at(
     ensures room { pieces.old.room ≤ pieces.new.room + 1 }
     ensures index_room { index.old.room ≤ index.new.room + 1 }
     ensures few { length pieces.new.items ≤ length pieces.old.items + 1 }
+    ensures firsts { KeepFirsts pieces.old.items pieces.new.items }
 {
     numbers_differ(pieces);
     let Some(name) = Name::new(site, off) else {
@@ -67,7 +69,7 @@ fn cut_at(
         return;
     };
     let piece = pieces.value_at(tag);
-    if piece.off < off && piece.holds(name) {
+    if piece.off < off && Steps::none().compare(piece, name) {
         let within = off - piece.off;
         cut(pieces, tags, index, tag, within);
         numbers_differ(pieces);
@@ -98,6 +100,7 @@ fn change_piece(
     ensures room { pieces.new.room ≡ pieces.old.room }
     ensures index_room { index.new.room ≡ index.old.room }
     ensures many { length pieces.new.items ≡ length pieces.old.items }
+    ensures firsts { KeepFirsts pieces.old.items pieces.new.items }
 {
     numbers_differ(pieces);
     match tags.get(name) {
@@ -133,6 +136,7 @@ fn change_range(
     ensures room { pieces.new.room ≡ pieces.old.room }
     ensures index_room { index.new.room ≡ index.old.room }
     ensures many { length pieces.new.items ≡ length pieces.old.items }
+    ensures firsts { KeepFirsts pieces.old.items pieces.new.items }
 {
     let end = range.at() + range.len();
     let mut at = range.at();
@@ -163,6 +167,7 @@ fn change_ranges(
     ensures indexed { index.new.items ≡ weighed pieces.new.items }
     ensures entered { AreEntered pieces.new.items tags.new }
     ensures few { length pieces.new.items ≤ length pieces.old.items + 2 * length ranges.now }
+    ensures firsts { KeepFirsts pieces.old.items pieces.new.items }
 {
     for range in ranges {
         cut_at(pieces, tags, index, range.site(), range.at());
@@ -180,6 +185,7 @@ impl PieceList {
         ensures errors { RefusedForMemoryAlone result }
         ensures err { OnErr result (self.new ≡ self.old) }
         ensures few { length self.new.items ≤ length self.old.items + 2 * length names.now }
+        ensures firsts { KeepFirsts self.old.items self.new.items }
         ensures steps { self.new.steps ≡ self.old.steps }
     {
         let ranges = names.ranges();
@@ -206,6 +212,7 @@ impl PieceList {
         ensures errors { RefusedForMemoryAlone result }
         ensures err { OnErr result (self.new ≡ self.old) }
         ensures few { length self.new.items ≤ length self.old.items + 2 * length names.now }
+        ensures firsts { KeepFirsts self.old.items self.new.items }
         ensures steps { self.new.steps ≡ self.old.steps }
     {
         self.change(names, &Change::Switch { hidden: true, key })
@@ -222,6 +229,7 @@ impl PieceList {
         ensures errors { RefusedForMemoryAlone result }
         ensures err { OnErr result (self.new ≡ self.old) }
         ensures few { length self.new.items ≤ length self.old.items + 2 * length names.now }
+        ensures firsts { KeepFirsts self.old.items self.new.items }
         ensures steps { self.new.steps ≡ self.old.steps }
     {
         self.change(names, &Change::Switch { hidden: false, key })
@@ -244,6 +252,7 @@ impl PieceList {
         ensures errors { RefusedForMemoryAlone result }
         ensures err { OnErr result (self.new ≡ self.old) }
         ensures few { length self.new.items ≤ length self.old.items + 2 * length names.now }
+        ensures firsts { KeepFirsts self.old.items self.new.items }
         ensures steps { self.new.steps ≡ self.old.steps }
     {
         let looks = looks.copy();

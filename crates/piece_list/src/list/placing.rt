@@ -19,6 +19,7 @@ use crate::list::{PieceList, cut, numbers_differ};
 use crate::piece::Piece;
 use crate::place::Place;
 use crate::run::Run;
+use crate::steps::Steps;
 use crate::tags::TagTables;
 use char_files::Anchor;
 use looks::{Key, Refusal};
@@ -26,7 +27,7 @@ use piece_raw::Ring;
 use rank_index::RankIndex;
 
 // The piece directly behind this one, if its key is greater: one look, which is counted. At the front for `None`.
-fn next_above(pieces: &Ring<Piece>, steps: &mut u64, last: Option<u64>, key: Key) -> Option<u64>
+fn next_above(pieces: &Ring<Piece>, steps: &mut Steps, last: Option<u64>, key: Key) -> Option<u64>
     requires { HasPart pieces.now.items last }
     ensures above { IfSome result (λ next. IsNext pieces.now.items key last next) }
     ensures stops { result ≡ Nothing → (ahead behind : List (ℕ × Piece))
@@ -36,13 +37,16 @@ fn next_above(pieces: &Ring<Piece>, steps: &mut u64, last: Option<u64>, key: Key
 {
     let mut behind = pieces.behind(last);
     let (next, piece) = behind.next()?;
-    *steps = steps.saturating_add(1);
-    if key < piece.key { Some(next) } else { None }
+    if steps.is_above(piece, key) {
+        Some(next)
+    } else {
+        None
+    }
 }
 
 // Walks past the pieces of greater key that follow this one, and answers the last of them: the piece itself
 // where there are none.
-fn skip(pieces: &Ring<Piece>, steps: &mut u64, from: Option<u64>, key: Key) -> Option<u64>
+fn skip(pieces: &Ring<Piece>, steps: &mut Steps, from: Option<u64>, key: Key) -> Option<u64>
     requires { HasPart pieces.now.items from }
     ensures { (ahead behind : List (ℕ × Piece)) → IsParted pieces.now.items from ahead behind
         → IsSkip key ahead behind result steps.old steps.new }
@@ -161,7 +165,7 @@ impl PieceList {
     {
         match cause {
             Anchor::Root => {
-                self.steps = 0;
+                self.steps = Steps::none();
                 None
             }
             Anchor::At(name) => self.locate(name),

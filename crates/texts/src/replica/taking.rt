@@ -1,9 +1,10 @@
 //! Messages of all sites are taken in, or wait for their causes.
 
-ghost use Rattle.std.specs.Prelude.{◌≡◌, ◌⊎◌, Err, false, true};
+ghost use Rattle.std.specs.Prelude.{◌≡◌, ◌<◌, ◌⊎◌, Err, false, true, length};
 ghost use Rattle.set_laws.specs.Fronts.{IsHeld};
 ghost use Rattle.set_laws.specs.Verdict.{IsNew};
-ghost use Rattle.texts.specs.Take.{Enters, HasFate, Stays, Takes, TakesIn, TakesShort};
+ghost use Rattle.texts.specs.Take.{Enters, HasFate, Stays, Takes, TakesIn, TakesOp, TakesOpShort, TakesShort};
+ghost use Rattle.waiting_room.specs.declared.room.TheConstants.{MAX_WAITING};
 
 use super::Replica;
 use crate::fate::Fate;
@@ -61,7 +62,9 @@ impl Replica {
     // Lets an operation wait, if there is a place.
     fn let_wait(&mut self, op: Op) -> Result<Took, Refusal>
         requires { HasFate self.old op Fate.Wait }
-        ensures { Enters self.old op result self.new ⊎ Stays self.old (Err Refusal.OutOfMemory) result self.new }
+        ensures { Enters self.old op result self.new
+            ⊎ ((length self.old.waiting_room < MAX_WAITING)
+            × Stays self.old (Err Refusal.OutOfMemory) result self.new) }
     {
         self.room.offer(op)?;
         Ok(Took::Waits)
@@ -87,17 +90,15 @@ impl Replica {
         })
     }
 
-    /// Takes in a message of any site, or lets it wait for its causes. What waited for it is taken in behind it.
+    /// Takes in an operation of any site, or lets it wait for its causes. What waited for it is taken in behind it.
     ///
-    /// Refused, in this order, `Malformed` where it tells no operation, `WrongText`, `Conflict` where another
-    /// operation is held or waits under its identity; then, by the verdict, `RoomFull` where it would have to wait
-    /// and 64 wait already, `BadOffset`, `BadStamp`; and `OutOfMemory`. A repeat is answered so, and changes nothing,
-    /// whether its operation is held or waits.
-    pub fn take(&mut self, message: &[u8]) -> Result<Took, Refusal>
-        ensures { Takes self.old message.now result self.new ⊎ TakesShort self.old message.now result self.new }
+    /// Refused, in this order, `WrongText`, `Conflict` where another operation is held or waits under its identity;
+    /// then, by the verdict, `RoomFull` where it would have to wait and 64 wait already, `BadOffset`, `BadStamp`. A
+    /// repeat is answered so, and changes nothing, whether its operation is held or waits. `OutOfMemory` comes only
+    /// where the operation is ready, or has to wait and has a place.
+    pub fn take_op(&mut self, op: Op) -> Result<Took, Refusal>
+        ensures { TakesOp self.old op result self.new ⊎ TakesOpShort self.old op result self.new }
     {
-        let op = decode(self.alloc, message)?;
-        op.has_spelling();
         match self.fate_of(&op) {
             Fate::OtherText => Err(Refusal::WrongText),
             Fate::Known => Ok(Took::Repeat),
@@ -108,5 +109,17 @@ impl Replica {
             Fate::LowStamp => Err(Refusal::BadStamp),
             Fate::Ready => self.take_in(op),
         }
+    }
+
+    /// Takes in the operation that a message tells, as `take_op` does.
+    ///
+    /// Refused `Malformed` where it tells none, ahead of all other refusals; and `OutOfMemory`, also where there is
+    /// no memory to read it.
+    pub fn take(&mut self, message: &[u8]) -> Result<Took, Refusal>
+        ensures { Takes self.old message.now result self.new ⊎ TakesShort self.old message.now result self.new }
+    {
+        let op = decode(self.alloc, message)?;
+        op.has_spelling();
+        self.take_op(op)
     }
 }

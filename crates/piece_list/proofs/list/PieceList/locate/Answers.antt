@@ -22,3 +22,11 @@ returns-clause-here c =
     subst (λ (l : List (ℕ × Piece)). IsSome c.place_in.result ↔ HasName (spelled l) c.args.name) seen
     (found_where_entered items c.self.inside.tags c.self.invariant.0 c.args.name c.in_ok-tag.tag
     (sym c.in_ok-tag.ensures) c.place_in.result c.place_in.ensures.found c.place_in.ensures.held)
+
+-- what is entered is spelled, so that a name that is compared is found
+pub returns-clause-uncounted : goal.returns-clause-uncounted
+returns-clause-uncounted c = λ none.
+    let items : List (ℕ × Piece) = c.self.inside.pieces.items in
+    let here = found_where_entered items c.self.inside.tags c.self.invariant.0 c.args.name c.in_ok-tag.tag
+    (sym c.in_ok-tag.ensures) c.place_in.result c.place_in.ensures.found c.place_in.ensures.held in
+    absurd (none (here.1 (c.self.invariant.0.known c.args.name c.in_ok-tag.tag (sym c.in_ok-tag.ensures))))

@@ -5,10 +5,10 @@ use Rattle.piece_raw.specs.Ring.{with_value}
 use Rattle.rank_index.specs.Ranked.{weight_of}
 use Rattle.piece_list.specs.declared.piece.Piece.{Piece}
 use Rattle.piece_list.specs.Changing.{IsEdge, changed_char}
-use Rattle.piece_list.specs.Held.{AreEntered, weighed}
+use Rattle.piece_list.specs.Held.{AreEntered, IsPlaceOf, weighed}
 use Rattle.piece_list.specs.Spelled.{spelled}
 use Rattle.piece_list.proofs.ChangedPiece.{turn, put_at_cursor, as_many, same_names}
-use Rattle.piece_list.proofs.ChangedPiece.{edges_after, entered_after, changed_there}
+use Rattle.piece_list.proofs.ChangedPiece.{edges_after, entered_after, changed_there, place_stays}
 use Rattle.piece_list.proofs.CutList.{is_piece}
 use Rattle.piece_list.proofs.Edges.{is_entered, edge_behind, edge_of}
 use Rattle.piece_list.proofs.Found.{none_is_not}
@@ -107,6 +107,19 @@ returns-clause-entered c =
     (entered_after c.args.change.now c.args.pieces.now.items c.args.tags.now c.in-Some.tag
     c.value_mut-piece.result.now c.apply.new.piece c.numbers_differ.ensures c.requires.entered t.member
     c.apply.ensures)
+
+pub returns-clause-firsts : goal.returns-clause-firsts
+returns-clause-firsts c = λ tag d is.
+    let t = turn c.args.change.now c.seek.new.self c.args.pieces.now.items c.args.tags.now c.in-Some.tag
+    c.args.pieces.now.room c.value_mut-piece.result.now c.apply.new.piece c.args.name
+    c.numbers_differ.ensures c.requires.entered c.requires.here c.requires.begins c.seek.ensures
+    c.value_mut-piece.ensures.value c.in-Some.ensures c.apply.ensures in
+    subst (λ (l : List (ℕ × Piece)). IsPlaceOf l (record { piece = tag; within = 0 }) d)
+    (sym (put_at_cursor c.seek.new.self c.args.pieces.now.items c.in-Some.tag c.args.pieces.now.room
+    c.apply.new.piece c.seek.ensures))
+    (place_stays c.args.change.now c.args.pieces.now.items c.args.tags.now c.in-Some.tag
+    c.value_mut-piece.result.now c.apply.new.piece c.numbers_differ.ensures c.requires.entered t.member
+    c.apply.ensures (record { piece = tag; within = 0 }) d is)
 
 pub set_weight-requires-clause-total : goal.set_weight-requires-clause-total
 set_weight-requires-clause-total c =

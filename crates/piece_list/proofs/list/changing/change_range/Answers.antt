@@ -32,6 +32,7 @@ loop-at-init c =
       room = refl;
       index_room = refl;
       many = refl;
+      firsts = λ tag d is. is;
     }
 
 pub change_piece-at-requires-clause-here : goal.change_piece-at-requires-clause-here
@@ -75,4 +76,5 @@ loop-at-preserved c =
       room = c.change_piece-at.ensures.room ∙ c.loop-at.invariant.room;
       index_room = c.change_piece-at.ensures.index_room ∙ c.loop-at.invariant.index_room;
       many = c.change_piece-at.ensures.many ∙ c.loop-at.invariant.many;
+      firsts = λ tag d is. c.change_piece-at.ensures.firsts tag d (c.loop-at.invariant.firsts tag d is);
     }

@@ -1,7 +1,7 @@
 use Rattle.std.proofs.Common.{◌-◌, ◌≡◌, ◌+◌, ◌≤◌, [], ◌∷◌, length, map}
 use Rattle.tree_order.specs.Registers.{if_named}
 use Rattle.piece_list.specs.Changing.{changed_char, IsEdge}
-use Rattle.piece_list.specs.Held.{AreEntered, weighed}
+use Rattle.piece_list.specs.Held.{AreEntered, KeepFirsts, weighed}
 use Rattle.piece_list.specs.Spelled.{spelled}
 use Rattle.piece_list.proofs.ChangedNames.{range}
 use Rattle.piece_list.proofs.list.changing.change_range.Given as goal
@@ -21,6 +21,7 @@ invariant-loop-at l = record {
   room : l.pieces.room ≡ l.initial.pieces.room;
   index_room : l.index.room ≡ l.initial.index.room;
   many : length l.pieces.items ≡ length l.initial.pieces.items;
+  firsts : KeepFirsts l.initial.pieces.items l.pieces.items;
 }
 
 abbrev pub decreases-loop-at : goal.decreases-loop-at

@@ -15,6 +15,7 @@ loop-range-init c = record {
   room = omega (arith, c.requires.room);
   index_room = omega (arith, c.requires.index_room);
   few = omega arith;
+  firsts = λ tag d is. is;
   changed = sym (unchanged (changed_char c.args.change.now) (keeps_name c.args.change.now) [] (λ d. refl)
       (spelled c.args.pieces.now.items));
 }
@@ -56,6 +57,8 @@ loop-range-preserved c =
         c.cut_at.ensures.index_room,
         c.loop-range.invariant.index_room,
       );
+      firsts = λ tag d is. c.change_range.ensures.firsts tag d (c.cut_at-in-loop-range.ensures.firsts tag d
+          (c.cut_at.ensures.firsts tag d (c.loop-range.invariant.firsts tag d is)));
       few = omega (
         arith,
         c.change_range.ensures.many,

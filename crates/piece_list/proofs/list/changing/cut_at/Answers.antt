@@ -1,4 +1,4 @@
-use Rattle.std.proofs.Common.{◌≡◌, ◌+◌, ◌≤◌, length, sym, ap, subst, arith}
+use Rattle.std.proofs.Common.{◌≡◌, ◌+◌, ◌≤◌, inr, length, sym, ap, subst, arith}
 use Rattle.char_files.specs.CharName.{CharName}
 use Rattle.operations.specs.NameSet.{IsIn}
 use Rattle.piece_list.specs.Changing.{IsEdge}
@@ -8,28 +8,28 @@ use Rattle.piece_list.proofs.ChangedNames.{true_is_not}
 use Rattle.piece_list.proofs.CutList.{cut_spells, cut_counts}
 use Rattle.piece_list.proofs.Edges.{edge_there, edges_after_cut, edge_after_cut}
 use Rattle.piece_list.proofs.list.changing.cut_at.Goals as goal
-use Rattle.piece_list.proofs.list.changing.cut_at.Goals.{else-piece-off-via-then-piece-off+else-holds}
+use Rattle.piece_list.proofs.list.changing.cut_at.Goals.{else-piece-off-via-then-piece-off+else-compare}
 use Rattle.piece_list.proofs.list.changing.cut_at.Goals.{else-piece-off-via-else-piece-off}
 
-pub returns-then-holds-clause-spells : goal.returns-then-holds-clause-spells
-returns-then-holds-clause-spells c =
+pub returns-then-compare-clause-spells : goal.returns-then-compare-clause-spells
+returns-then-compare-clause-spells c =
     cut_spells c.args.pieces.now.items c.cut.new.pieces.items c.in-Some-get.tag _ c.cut.result
     c.cut.ensures.cut
 
-pub returns-then-holds-clause-edge : goal.returns-then-holds-clause-edge
-returns-then-holds-clause-edge c =
+pub returns-then-compare-clause-edge : goal.returns-then-compare-clause-edge
+returns-then-compare-clause-edge c =
     edge_after_cut c.args.pieces.now.items c.cut.new.pieces.items c.cut.new.tags
-    c.numbers_differ-then-holds.ensures c.cut.ensures.entered c.in-Some-get.tag c.cut.result
+    c.numbers_differ-then-compare.ensures c.cut.ensures.entered c.in-Some-get.tag c.cut.result
     c.value_at-piece.result.now c.in-Some.name c.args.site c.args.off c.in-Some.ensures.value
-    c.value_at-piece.ensures (c.holds.ensures.0 c.if-holds.true) c.cut.ensures.place
+    c.value_at-piece.ensures (c.compare.ensures.value.0 c.if-compare.true) c.cut.ensures.place
 
-pub returns-then-holds-clause-edges : goal.returns-then-holds-clause-edges
-returns-then-holds-clause-edges c =
+pub returns-then-compare-clause-edges : goal.returns-then-compare-clause-edges
+returns-then-compare-clause-edges c =
     edges_after_cut c.args.pieces.now.items c.cut.new.pieces.items c.in-Some-get.tag _ c.cut.result
     c.cut.ensures.cut
 
-pub returns-then-holds-clause-few : goal.returns-then-holds-clause-few
-returns-then-holds-clause-few c =
+pub returns-then-compare-clause-few : goal.returns-then-compare-clause-few
+returns-then-compare-clause-few c =
     let more : length c.cut.new.pieces.items ≡ length c.args.pieces.now.items + 1 =
     cut_counts c.args.pieces.now.items c.cut.new.pieces.items c.in-Some-get.tag _ c.cut.result
     c.cut.ensures.cut in
@@ -42,10 +42,14 @@ returns-else-piece-off-clause-edge c =
     let off : name.off ≡ c.args.off = ap (λ (d : CharName). d.off) c.in-Some.ensures.value in
     let begins : IsIn (range_of p) name → name.off ≤ p.off =
     elim c.else-piece-off.branch [
-      | else-piece-off-via-then-piece-off+else-holds w ↦ λ held.
-          absurd (true_is_not w.holds.result (w.holds.ensures.1 held) w.if-holds.false)
+      | else-piece-off-via-then-piece-off+else-compare w ↦ λ held.
+          absurd (true_is_not w.compare.result (w.compare.ensures.value.1 held) w.if-compare.false)
       | else-piece-off-via-else-piece-off w ↦ λ held. omega (arith, w.if-piece-off.false)
     ] in
     subst (λ (d : CharName). IsEdge d.site d.off c.args.pieces.now.items) c.in-Some.ensures.value
     (edge_there c.args.pieces.now.items c.args.tags.now c.numbers_differ.ensures c.requires.entered
     c.in-Some-get.tag p name c.value_at-piece.ensures (sym c.in-Some-get.ensures) begins)
+
+pub returns-then-compare-clause-firsts : goal.returns-then-compare-clause-firsts
+returns-then-compare-clause-firsts c = λ tag d is.
+    c.cut.ensures.others (record { piece = tag; within = 0 }) d is (inr (omega (arith, c.if-piece-off.true)))
