@@ -6,18 +6,15 @@ use Rattle.std.proofs.lemmas.List.Elements.{All-push}
 use Rattle.looks.specs.declared.refusal.Refusal.{Refusal}
 use Rattle.looks.specs.declared.refusal.Refusal.TheVariants.{Conflict, OutOfMemory, RoomFull}
 use Rattle.operations.specs.Operation.{Operation}
-use Rattle.operations.specs.Spelling.{HasSpelling, spelling}
 use Rattle.set_laws.specs.Fronts.{IsHeld}
 use Rattle.waiting_room.specs.Room.{Offers}
 use Rattle.waiting_room.specs.declared.room.Offered.{Offered}
 use Rattle.waiting_room.specs.declared.room.Offered.TheVariants.{New, Same}
 use Rattle.waiting_room.specs.declared.room.TheConstants.{MAX_WAITING}
 use Rattle.texts.specs.Draining.{Drains}
-use Rattle.texts.specs.Take.{Becomes, Enters, HasFate, Stays, Takes, TakesIn, TakesShort}
+use Rattle.texts.specs.Take.{Enters, Stays, StaysOut, Takes, TakesIn, TakesOp, TakesOpShort, TakesShort, Tells}
 use Rattle.texts.specs.Taking.{HasTaken}
 use Rattle.texts.specs.TextState.{TextState, with_room}
-use Rattle.texts.specs.declared.fate.Fate.{Fate}
-use Rattle.texts.specs.declared.fate.Fate.TheVariants.{Ready}
 use Rattle.texts.specs.declared.took.Took.{Took}
 use Rattle.texts.specs.declared.took.Took.TheVariants.{Taken, Waits}
 
@@ -31,7 +28,7 @@ module _ (t : TextState) (op : Operation) where
   -- an operation that was refused a place in the room doesn't change the text
   refused_a_place : (why : Refusal) (room : List Operation) → (¬ IsHeld t.waiting_room op.site op.seq)
       → Offers t.waiting_room op (Err why) room
-      → Enters t op (Err why) (with_room t room) ⊎ Stays t (Err OutOfMemory) (Err why) (with_room t room)
+      → Enters t op (Err why) (with_room t room) ⊎ StaysOut t (Err why) (with_room t room)
   refused_a_place Conflict room unheld ((other, waits, site, seq, differs), same) =
       absurd (unheld (other, waits, site, seq))
   refused_a_place RoomFull room unheld (none, full, same) =
@@ -39,17 +36,17 @@ module _ (t : TextState) (op : Operation) where
       inl (subst (λ b. MatchBool b
       ((Err RoomFull ≡ Ok Waits) × (with_room t room ≡ with_room t (t.waiting_room ++ op ∷ [])))
       (Stays t (Err RoomFull) (Err RoomFull) (with_room t room))) (sym no_place) (refl, ap (with_room t) same))
-  refused_a_place OutOfMemory room unheld (place, same) = inr (refl, ap (with_room t) same)
+  refused_a_place OutOfMemory room unheld (place, same) = inr (place.1, (refl, ap (with_room t) same))
   refused_a_place why room unheld other = absurd other
 
   -- and is answered so
   pub kept_out : (result : Result Took Refusal) (why : Refusal) (room : List Operation)
       → IsErrAnd result (λ e. e ≡ why) → (¬ IsHeld t.waiting_room op.site op.seq)
       → Offers t.waiting_room op (Err why) room
-      → Enters t op result (with_room t room) ⊎ Stays t (Err OutOfMemory) result (with_room t room)
+      → Enters t op result (with_room t room) ⊎ StaysOut t result (with_room t room)
   kept_out (Ok took) why room err unheld offers = absurd err
   kept_out (Err e) why room err unheld offers =
-      subst (λ x. Enters t op (Err x) (with_room t room) ⊎ Stays t (Err OutOfMemory) (Err x) (with_room t room))
+      subst (λ x. Enters t op (Err x) (with_room t room) ⊎ StaysOut t (Err x) (with_room t room))
       (sym err) (refused_a_place why room unheld offers)
 
 -- an operation was taken in, and the room drained behind it, as far as that goes
@@ -63,23 +60,13 @@ taken_and_drained t with_op op drained dropped false new taken drains =
 taken_and_drained t with_op op drained dropped true new taken drains =
     inr (inl (with_op, drained, dropped, taken, drains, refl))
 
-module _ (t : TextState) (message : List ℕ) where
-  -- a message that tells an operation is answered by what becomes of that
-  pub answered : (op : Operation) (fate : Fate) (result : Result Took Refusal) (new : TextState) → HasSpelling op
-      → message ≡ spelling op → HasFate t op fate → Becomes t op fate result new
-      → Takes t message result new ⊎ TakesShort t message result new
-  answered op fate result new valid spelled has becomes =
-      inl (inr (op, fate, record { valid = valid; spelled = spelled }, has, becomes))
-
-  -- memory was refused for one that tells an operation
-  pub short : (op : Operation) (result : Result Took Refusal) (new : TextState) → HasSpelling op
-      → message ≡ spelling op → Stays t (Err OutOfMemory) result new
-      → Takes t message result new ⊎ TakesShort t message result new
-  short op result new valid spelled stays = inr (inl (λ none. none op valid spelled, stays))
-
-  -- its operation was taken in, and the draining stopped
-  pub stopped_behind : (op : Operation) (result : Result Took Refusal) (new : TextState) → HasSpelling op
-      → message ≡ spelling op → HasFate t op Ready → TakesIn t op true result new
-      → Takes t message result new ⊎ TakesShort t message result new
-  stopped_behind op result new valid spelled has taken =
-      inr (inr (op, record { valid = valid; spelled = spelled }, has, taken))
+-- a message that tells an operation is answered as that is, where it could be read
+pub answered : (t : TextState) (message : List ℕ) (op : Operation) (result : Result Took Refusal) (new : TextState)
+    → Tells message op → TakesOp t op result new ⊎ TakesOpShort t op result new
+    → Takes t message result new ⊎ TakesShort t message result new
+answered t message op result new tells (inl (fate, has, becomes)) = inl (inr (op, fate, tells, has, becomes))
+answered t message op result new tells (inr (inl (has, (few, stays)))) =
+    inr (inl (λ none. none op tells.valid tells.spelled, stays))
+answered t message op result new tells (inr (inr (has, inl taken))) = inr (inr (op, tells, has, taken))
+answered t message op result new tells (inr (inr (has, inr stays))) =
+    inr (inl (λ none. none op tells.valid tells.spelled, stays))

@@ -57,6 +57,10 @@ Enters t op result new =
     ((result ≡ Ok Waits) × (new ≡ with_room t (t.waiting_room ++ op ∷ [])))
     (Stays t (Err RoomFull) result new)
 
+-- one that has to wait and has a place isn't put there, as memory was refused
+abbrev pub StaysOut : TextState → Result Took Refusal → TextState → Type 0
+StaysOut t result new = (length t.waiting_room < MAX_WAITING) × Stays t (Err OutOfMemory) result new
+
 -- one that is ready is taken in, and the room is drained behind it, as far as that was not stopped
 abbrev pub TakesIn : TextState → Operation → (stopped : Bool) → Result Took Refusal → TextState → Type 0
 TakesIn t op stopped result new =
@@ -78,15 +82,12 @@ Becomes t op Ready = TakesIn t op false
 abbrev pub TakesOp : TextState → Operation → Result Took Refusal → TextState → Type 0
 TakesOp t op result new = (fate : Fate) × HasFate t op fate × Becomes t op fate result new
 
--- it has to wait, and there is a place; or it is ready
-abbrev pub NeedsMemory : TextState → Operation → Type 0
-NeedsMemory t op = (HasFate t op Wait × (length t.waiting_room < MAX_WAITING)) ⊎ HasFate t op Ready
-
--- The same where memory was refused: nothing changes; or it was taken in, and the draining behind it was stopped.
+-- The same where memory was refused: one that has to wait, and has a place, or that is ready changes nothing; or that
+-- was taken in, and the draining behind it was stopped.
 abbrev pub TakesOpShort : TextState → Operation → Result Took Refusal → TextState → Type 0
 TakesOpShort t op result new =
-    (NeedsMemory t op × Stays t (Err OutOfMemory) result new)
-    ⊎ (HasFate t op Ready × TakesIn t op true result new)
+    (HasFate t op Wait × StaysOut t result new)
+    ⊎ (HasFate t op Ready × (TakesIn t op true result new ⊎ Stays t (Err OutOfMemory) result new))
 
 -- A message where memory is there: it tells no operation, or what it tells is answered by what becomes of that.
 abbrev pub Takes : TextState → List ℕ → Result Took Refusal → TextState → Type 0

@@ -1,10 +1,10 @@
 //! Messages of all sites are taken in, or wait for their causes.
 
-ghost use Rattle.std.specs.Prelude.{◌≡◌, ◌<◌, ◌⊎◌, Err, false, true, length};
+ghost use Rattle.std.specs.Prelude.{◌≡◌, ◌⊎◌, Err, false, true};
 ghost use Rattle.set_laws.specs.Fronts.{IsHeld};
 ghost use Rattle.set_laws.specs.Verdict.{IsNew};
-ghost use Rattle.texts.specs.Take.{Enters, HasFate, Stays, Takes, TakesIn, TakesOp, TakesOpShort, TakesShort};
-ghost use Rattle.waiting_room.specs.declared.room.TheConstants.{MAX_WAITING};
+ghost use Rattle.texts.specs.Take.{Enters, HasFate, Stays, StaysOut, Takes, TakesIn, TakesOp, TakesOpShort};
+ghost use Rattle.texts.specs.Take.{TakesShort};
 
 use super::Replica;
 use crate::fate::Fate;
@@ -62,9 +62,7 @@ impl Replica {
     // Lets an operation wait, if there is a place.
     fn let_wait(&mut self, op: Op) -> Result<Took, Refusal>
         requires { HasFate self.old op Fate.Wait }
-        ensures { Enters self.old op result self.new
-            ⊎ ((length self.old.waiting_room < MAX_WAITING)
-            × Stays self.old (Err Refusal.OutOfMemory) result self.new) }
+        ensures { Enters self.old op result self.new ⊎ StaysOut self.old result self.new }
     {
         self.room.offer(op)?;
         Ok(Took::Waits)

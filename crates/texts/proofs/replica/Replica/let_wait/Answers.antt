@@ -1,8 +1,7 @@
 use Rattle.std.proofs.Common.{◌≡◌, ◌⊎◌, List, Err, ap, subst, sym, ◌∙◌}
-use Rattle.looks.specs.declared.refusal.Refusal.TheVariants.{OutOfMemory}
 use Rattle.operations.specs.Operation.{Operation}
 use Rattle.waiting_room.specs.Room.{Offers}
-use Rattle.texts.specs.Take.{Enters, HasFate, Stays}
+use Rattle.texts.specs.Take.{Enters, HasFate, StaysOut}
 use Rattle.texts.specs.TextState.{TextState, with_room}
 use Rattle.texts.specs.declared.fate.Fate.TheVariants.{Wait}
 use Rattle.texts.proofs.Messages.{all_offered, kept_out}
@@ -19,7 +18,7 @@ returns-in_err-offer c =
     let room = ap (λ (u : TextState). u.waiting_room) c.self.view_is in
     let offers = subst (λ (ops : List Operation). Offers ops op (Err why) new) room c.in_err-offer.ensures in
     let seen = ap (λ (u : TextState). with_room u new) c.self.view_is in
-    subst (λ (u : TextState). Enters t op result u ⊎ Stays t (Err OutOfMemory) result u) (sym seen)
+    subst (λ (u : TextState). Enters t op result u ⊎ StaysOut t result u) (sym seen)
     (kept_out t op result why new c.from_residual.ensures.1 has.0 offers)
 
 pub invariant_of-self-2 : goal.invariant_of-self-2
