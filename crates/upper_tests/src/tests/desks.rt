@@ -96,14 +96,17 @@ const FIRST_MESSAGE: &[u8] =
     \x00\x00\x00\x00\x00\x00\x00\x00\x00\x00\
     \x10Oberon10.Scn.Fnt\x01\x00\x00\x02AC";
 
-// Whichever allocation of an edit is refused, the text and the messages are as they were before.
-#[test]
-fn types_and_prints(rt: HostRuntime) -> Result<(), Fail> {
-    let mut desk = desk_of_site_1(rt.alloc())?;
-    let mut outbox = Outbox::new(rt.alloc());
-    all_go_in(&mut desk, &mut outbox)?;
+fn all_are_sent(desk: &mut Desk, outbox: &mut Outbox) -> Result<(), Fail> {
+    all_go_in(desk, outbox)?;
     is(
         outbox.len() == 2 && outbox.message(0) == FIRST_MESSAGE,
         "what is sent",
     )
+}
+
+// Whichever allocation of an edit is refused, the text and the messages are as they were before.
+#[test]
+fn types_and_prints(rt: HostRuntime) -> Result<(), Fail> {
+    let mut desk = desk_of_site_1(rt.alloc())?;
+    all_are_sent(&mut desk, &mut Outbox::new(rt.alloc()))
 }

@@ -56,13 +56,14 @@ pub(super) enum Fault {
 }
 
 // A writer that takes at most `step` bytes at a time and fails behind `room` bytes, or when it was flushed
-// `flushes` times. Of its bytes `flushed` are flushed.
+// `most` times. It was flushed `flushes` times, and of its bytes `flushed` are flushed.
 #[derive(Drop)]
 pub(super) struct Limited {
     pub out: Vec<u8>,
     pub fault: Fault,
     pub step: usize,
     pub room: usize,
+    pub most: usize,
     pub flushes: usize,
     pub flushed: usize,
 }
@@ -82,10 +83,10 @@ impl io::Write for Limited {
     }
 
     fn flush(&mut self) -> io::Result<()> {
-        if self.flushes == 0 {
+        if self.flushes >= self.most {
             return Err(io::ErrorKind::Other.into());
         }
-        self.flushes -= 1;
+        self.flushes += 1;
         self.flushed = self.out.len();
         Ok(())
     }

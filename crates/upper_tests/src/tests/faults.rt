@@ -1,12 +1,29 @@
+//! Readers and writers that fail.
 use super::fakes::{Fault, Limited, Reader};
-use super::messages::{spell, spelled};
-use super::{Ending, WELL, answers, compare, is, play};
+use super::is;
 use looks::Refusal;
-use script_runs::{Settings, status_of};
+use script_io::{Input, Output};
+use script_runs::{Settings, run, status_of};
 use std::alloc::Global;
 use std::test::Fail;
 
-pub(super) const READ_FAULT: Ending = Ending {
+/// How a run ended.
+#[derive(Clone, Copy, Debug, PartialEq, Eq)]
+struct Ending {
+    result: Result<(), Refusal>,
+    read_failed: bool,
+    write_failed: bool,
+    flushed: bool,
+}
+
+const WELL: Ending = Ending {
+    result: Ok(()),
+    read_failed: false,
+    write_failed: false,
+    flushed: true,
+};
+
+const READ_FAULT: Ending = Ending {
     result: Err(Refusal::ReadFault),
     read_failed: true,
     write_failed: false,
@@ -20,55 +37,37 @@ const WRITE_FAULT: Ending = Ending {
     flushed: false,
 };
 
-const SCRIPT: &[u8] = b"1 type 1 0 Oberon\n1 text 1\n1 typo\n# a comment\n";
-
-// The answers to its lines.
-const ANSWERS: &[&str] = &[
-    "send m1 <Oberon>\nok\n",
-    "text 6 Oberon\n",
-    "refused 20\n",
-    "",
-];
-
-// The answers to the lines that ended.
-fn add_answers(answers: &mut Vec<u8>, given: &[u8]) -> Result<(), Fail> {
-    let mut left = ANSWERS.iter();
-    for byte in given {
-        if *byte == b'\n' {
-            spell(answers, left.next().ok_or("a line")?)?;
-        }
-    }
-    Ok(())
-}
-
-// A script whose reader fails behind it.
-fn cut_off(alloc: Global, given: &[u8]) -> Result<(), Fail> {
-    let mut want = Vec::new(alloc);
-    add_answers(&mut want, given)?;
-    want.extend_from_slice(b"refused 21\n")?;
-    let reader = Reader::failing_behind(given);
-    answers(
-        alloc,
-        "cut off",
-        Settings::default(),
-        reader,
-        (&want, READ_FAULT),
-    )
-}
-
-#[test]
-fn the_reader_fails_at_each_byte(rt: HostRuntime) -> Result<(), Fail> {
-    for len in 0..SCRIPT.len() {
-        cut_off(rt.alloc(), &SCRIPT[..len])?;
-    }
-    Ok(())
+/// Plays a script; what the writer has, and how the run ended.
+fn play(alloc: Global, reader: Reader<'_>, writer: Limited) -> Result<(Limited, Ending), Refusal> {
+    let mut input = Input::new(alloc, reader)?;
+    let mut output = Output::new(writer);
+    let result = run(alloc, &mut input, &mut output, Settings::default());
+    let ending = Ending {
+        result,
+        read_failed: input.failed(),
+        write_failed: output.failed(),
+        flushed: output.flushed(),
+    };
+    Ok((output.into_writer(), ending))
 }
 
 // How a writer fails, how many bytes it takes at a time, behind how many, and when it was flushed how often.
 type How = (Fault, usize, usize, usize);
 
-// Plays a script into such a writer, which is to have these bytes in the end, all flushed where the run says so.
-// How often it was flushed.
+// A writer that takes all.
+const TAKES_ALL: How = (Fault::Fails, 1000, 1000, 100);
+
+// How often a writer was flushed that has these bytes in the end, all flushed where the run says so.
+fn holds(writer: &Limited, ended: Ending, (bytes, end): (&[u8], Ending)) -> Result<usize, Fail> {
+    if writer.out.as_slice() != bytes || ended != end {
+        let wrote = std::str::from_utf8(&writer.out);
+        return Err(Fail::new(format_args!("{ended:?}, {wrote:?}")));
+    }
+    is(!ended.flushed || writer.flushed == bytes.len(), "a flush")?;
+    Ok(writer.flushes)
+}
+
+// Plays a script into such a writer, which is to have these bytes in the end. How often it was flushed.
 fn leaves(
     alloc: Global,
     reader: Reader<'_>,
@@ -80,20 +79,47 @@ fn leaves(
         fault,
         step,
         room,
-        flushes,
+        most: flushes,
+        flushes: 0,
         flushed: 0,
     };
-    let (writer, ended) = play(alloc, reader, writer, Settings::default())?;
-    holds(&writer, ended, want)?;
-    Ok(flushes.saturating_sub(writer.flushes))
+    let (writer, ended) = play(alloc, reader, writer)?;
+    holds(&writer, ended, want)
 }
 
-fn holds(writer: &Limited, ended: Ending, want: (&[u8], Ending)) -> Result<(), Fail> {
-    compare("a writer", (&writer.out, ended), want)?;
-    is(
-        !ended.flushed || writer.flushed == writer.out.len(),
-        "a flush",
-    )
+const SCRIPT: &[u8] = b"1 type 1 0 Oberon\n1 text 1\n1 typo\n# a comment\n";
+
+// Its answers, and where those to each line end.
+const ANSWERS: &[u8] =
+    b"send m1 4f5401010001000100000001000000000000000100000000000000000000104f6265726f6e31302e53636e2e466e74010000064f6265726f6e\nok\ntext 6 Oberon\nrefused 20\n";
+
+// A script whose reader fails behind it: what was answered to the lines that ended, and the refusal.
+const CUT_OFF: &[&[u8]] = &[
+    b"refused 21\n",
+    b"send m1 4f5401010001000100000001000000000000000100000000000000000000104f6265726f6e31302e53636e2e466e74010000064f6265726f6e\nok\nrefused 21\n",
+    b"send m1 4f5401010001000100000001000000000000000100000000000000000000104f6265726f6e31302e53636e2e466e74010000064f6265726f6e\nok\ntext 6 Oberon\nrefused 21\n",
+    b"send m1 4f5401010001000100000001000000000000000100000000000000000000104f6265726f6e31302e53636e2e466e74010000064f6265726f6e\nok\ntext 6 Oberon\nrefused 20\nrefused 21\n",
+    b"send m1 4f5401010001000100000001000000000000000100000000000000000000104f6265726f6e31302e53636e2e466e74010000064f6265726f6e\nok\ntext 6 Oberon\nrefused 20\nrefused 21\n",
+];
+
+fn cut_off(alloc: Global, given: &[u8]) -> Result<(), Fail> {
+    let ended = given.iter().filter(|byte| **byte == b'\n').count();
+    let want = *CUT_OFF.get(ended).ok_or("so many lines")?;
+    leaves(
+        alloc,
+        Reader::failing_behind(given),
+        TAKES_ALL,
+        (want, READ_FAULT),
+    )?;
+    Ok(())
+}
+
+#[test]
+fn the_reader_fails_at_each_byte(rt: HostRuntime) -> Result<(), Fail> {
+    for len in 0..=SCRIPT.len() {
+        cut_off(rt.alloc(), &SCRIPT[..len])?;
+    }
+    Ok(())
 }
 
 const HOW: &[(Fault, usize)] = &[
@@ -108,36 +134,27 @@ const HOW: &[(Fault, usize)] = &[
     (Fault::TakesNothing, 1000),
 ];
 
-fn fails_at_each_byte(
-    alloc: Global,
-    (fault, step): (Fault, usize),
-    want: &[u8],
-) -> Result<(), Fail> {
+fn fails_at_each_byte(alloc: Global, (fault, step): (Fault, usize)) -> Result<(), Fail> {
     let reader = Reader::at_once(SCRIPT);
-    for room in 0..want.len() {
-        leaves(
-            alloc,
-            reader,
-            (fault, step, room, 100),
-            (&want[..room], WRITE_FAULT),
-        )?;
+    for room in 0..ANSWERS.len() {
+        let want = (&ANSWERS[..room], WRITE_FAULT);
+        leaves(alloc, reader, (fault, step, room, 100), want)?;
     }
-    leaves(alloc, reader, (fault, step, want.len(), 100), (want, WELL))?;
-    Ok(())
-}
-
-fn each_fails(alloc: Global, want: &[u8]) -> Result<(), Fail> {
-    for how in HOW {
-        fails_at_each_byte(alloc, *how, want)?;
-    }
+    leaves(
+        alloc,
+        reader,
+        (fault, step, ANSWERS.len(), 100),
+        (ANSWERS, WELL),
+    )?;
     Ok(())
 }
 
 #[test]
 fn the_writer_fails_at_each_byte(rt: HostRuntime) -> Result<(), Fail> {
-    let mut want = Vec::new(rt.alloc());
-    add_answers(&mut want, SCRIPT)?;
-    each_fails(rt.alloc(), &want)
+    for how in HOW {
+        fails_at_each_byte(rt.alloc(), *how)?;
+    }
+    Ok(())
 }
 
 #[test]
@@ -150,12 +167,8 @@ fn reader_and_writer_fail(rt: HostRuntime) -> Result<(), Fail> {
             ..WRITE_FAULT
         };
         let reader = Reader::failing_behind(b"1 text 1\n2 text 1");
-        leaves(
-            rt.alloc(),
-            reader,
-            (Fault::Fails, 3, room, 100),
-            (&want[..room], end),
-        )?;
+        let how = (Fault::Fails, 3, room, 100);
+        leaves(rt.alloc(), reader, how, (&want[..room], end))?;
     }
     Ok(())
 }
@@ -180,25 +193,26 @@ fn a_flush_fails(rt: HostRuntime) -> Result<(), Fail> {
 fn is_flushed(
     alloc: Global,
     reader: Reader<'_>,
-    want: &[u8],
-    end: Ending,
+    want: (&[u8], Ending),
     times: usize,
 ) -> Result<(), Fail> {
-    let flushes = leaves(alloc, reader, (Fault::Fails, 1000, 1000, 100), (want, end))?;
-    is(flushes == times, "how often")
+    is(
+        leaves(alloc, reader, TAKES_ALL, want)? == times,
+        "how often",
+    )
 }
 
 #[test]
 fn answers_are_flushed(rt: HostRuntime) -> Result<(), Fail> {
     let script = b"1 text 1\n2 text 1\n1 typo\n".as_slice();
-    let want = b"text 0\ntext 0\nrefused 20\n".as_slice();
+    let want = (b"text 0\ntext 0\nrefused 20\n".as_slice(), WELL);
     // All lines are held but the first, and what follows the last: a flush ahead of each, and one at the end.
-    is_flushed(rt.alloc(), Reader::at_once(script), want, WELL, 3)?;
+    is_flushed(rt.alloc(), Reader::at_once(script), want, 3)?;
     // No line is held before it is asked for: a flush ahead of each of the four asks, and one at the end.
-    is_flushed(rt.alloc(), Reader::byte_by_byte(script), want, WELL, 5)?;
+    is_flushed(rt.alloc(), Reader::byte_by_byte(script), want, 5)?;
     // One ahead of the only ask, and one behind the answer.
     let reader = Reader::failing_behind(b"1 text 1");
-    is_flushed(rt.alloc(), reader, b"refused 21\n", READ_FAULT, 2)
+    is_flushed(rt.alloc(), reader, (b"refused 21\n", READ_FAULT), 2)
 }
 
 #[test]

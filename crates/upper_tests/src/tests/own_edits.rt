@@ -1,21 +1,45 @@
 //! A replica's own edits, by its calls.
 use super::is;
-use super::replicas::replica_of;
+use super::replicas::{TAKEN, appends, letters, replica_of, shows_so_many, takes};
 use char_files::Buffer;
 use looks::{Colour, Looks, Refusal, Sel};
 use std::alloc::Global;
 use std::test::Fail;
-use texts::{EditRefusal, Outbox, Replica};
+use texts::{EditRefusal, MAX_SEQ, Outbox, Replica, Took};
 
-// So many characters of the default looks, at most 4,096.
-fn letters(alloc: Global, count: usize) -> Result<Buffer, Fail> {
-    let mut buffer = Buffer::new(alloc);
-    buffer.push_all([b'a'; 4096].get(..count).ok_or("a count")?, &Looks::plain())?;
-    Ok(buffer)
+fn is_as_it_begins(replica: &Replica, outbox: &Outbox) -> Result<(), Fail> {
+    is(
+        replica.text().get() == 1 && replica.site().get() == 2,
+        "its text and site",
+    )?;
+    is(replica.shown_len() == 0, "no characters")?;
+    is(outbox.is_empty() && outbox.len() == 0, "no messages")?;
+    is(MAX_SEQ == 4_294_967_295, "the greatest seq")
 }
 
-fn is_behind(replica: &Replica, end: u64) -> Result<(), Fail> {
-    is(replica.shown_len() == end, "how much is shown")
+// Site 1 types `Oberon`, and goes on behind the first character of site 2.
+const OBERON: &str =
+    "4f5401010001000100000001000000000000000100000000000000000000104f6265726f6e31302e53636e2e466e74010000064f6265726f6e";
+
+const BEHIND_SITE_2: &str =
+    "4f5401010001000100000002000000000000000300020000000000000006104f6265726f6e31302e53636e2e466e740100000157";
+
+// A message that names an own character bars edits until it is forgotten.
+fn forgets(alloc: Global, replica: &mut Replica, outbox: &mut Outbox) -> Result<(), Fail> {
+    takes(alloc, replica, BEHIND_SITE_2, Ok(Took::Waits))?;
+    let behind = Err(EditRefusal::Whole(Refusal::Behind));
+    appends(alloc, replica, b"a", outbox, behind)?;
+    appends(alloc, replica, b"", outbox, Ok(0))?;
+    is(replica.waiting() == 1, "one waits")?;
+    is(replica.forget_waiting() == 1, "one is forgotten")?;
+    is(replica.waiting() == 0, "none waits")?;
+    is(replica.forget_waiting() == 0, "none is left to forget")
+}
+
+// What was forgotten may come again.
+fn comes_again(alloc: Global, replica: &mut Replica) -> Result<(), Fail> {
+    takes(alloc, replica, OBERON, TAKEN)?;
+    takes(alloc, replica, BEHIND_SITE_2, TAKEN)
 }
 
 fn has_nothing_to_restore(replica: &mut Replica, outbox: &mut Outbox) -> Result<(), Fail> {
@@ -39,11 +63,10 @@ fn restores(replica: &mut Replica, outbox: &mut Outbox) -> Result<(), Fail> {
 }
 
 // Gives the first character a colour, and leaves its font and its offset.
-fn colours(replica: &mut Replica, outbox: &mut Outbox) -> Result<(), Fail> {
+fn colours(replica: &mut Replica, outbox: &mut Outbox, colour: Colour) -> Result<(), Fail> {
     if replica.shown_len() < 1 {
         return Err("a character".into());
     }
-    let colour = Colour::new(5).ok_or("a colour")?;
     let looks = Looks {
         font: Looks::plain().font,
         colour,
@@ -53,53 +76,64 @@ fn colours(replica: &mut Replica, outbox: &mut Outbox) -> Result<(), Fail> {
     is(
         replica.change_looks(0, 1, sel, &looks, outbox) == Ok(1),
         "a ChangeLooks",
-    )?;
+    )
+}
+
+fn is_coloured(replica: &Replica, colour: Colour) -> Result<(), Fail> {
     if replica.shown_len() < 1 {
         return Err("a character".into());
     }
     let (byte, now) = replica.attributes(0);
     is(byte == b'a' && now.colour == colour, "its colour")?;
-    is(
-        now.offset == 0 && replica.save(0, 1)?.len() == 1,
-        "its offset",
-    )
+    is(now.offset == 0, "its offset")?;
+    is(replica.save(0, 1)?.len() == 1, "what is saved")
 }
 
 fn edits(alloc: Global, replica: &mut Replica, outbox: &mut Outbox) -> Result<(), Fail> {
-    let three = letters(alloc, 3)?;
-    is(replica.append(&three, outbox) == Ok(1), "an Insert")?;
+    let colour = Colour::new(5).ok_or("a colour")?;
+    appends(alloc, replica, b"aaa", outbox, Ok(1))?;
     has_nothing_to_restore(replica, outbox)?;
     deletes(replica, outbox)?;
-    is_behind(replica, 2)?;
+    shows_so_many(replica, 2)?;
     restores(replica, outbox)?;
-    is_behind(replica, 3)?;
-    colours(replica, outbox)?;
+    shows_so_many(replica, 3)?;
+    colours(replica, outbox, colour)?;
+    is_coloured(replica, colour)?;
     is(outbox.len() == 4, "four messages")
+}
+
+fn waits_and_edits(alloc: Global, replica: &mut Replica, outbox: &mut Outbox) -> Result<(), Fail> {
+    is_as_it_begins(replica, outbox)?;
+    forgets(alloc, replica, outbox)?;
+    edits(alloc, replica, outbox)?;
+    comes_again(alloc, replica)?;
+    shows_so_many(replica, 10)
 }
 
 #[test]
 fn edits_its_own_text(rt: HostRuntime) -> Result<(), Fail> {
-    let mut replica = replica_of(rt.alloc(), 1, 1)?;
-    edits(rt.alloc(), &mut replica, &mut Outbox::new(rt.alloc()))
+    let mut replica = replica_of(rt.alloc(), 1, 2)?;
+    waits_and_edits(rt.alloc(), &mut replica, &mut Outbox::new(rt.alloc()))
 }
 
-// Fills a site's file, 4,096 bytes at a time.
-fn fills(alloc: Global, replica: &mut Replica, outbox: &mut Outbox) -> Result<(), Fail> {
-    let many = letters(alloc, 4096)?;
+// Fills a site's file, 4,096 bytes at a time; one byte more is refused.
+fn fills(
+    alloc: Global,
+    replica: &mut Replica,
+    many: &Buffer,
+    outbox: &mut Outbox,
+) -> Result<(), Fail> {
     for _ in 0..4096 {
-        is(replica.append(&many, outbox) == Ok(1), "4,096 bytes")?;
+        is(replica.append(many, outbox) == Ok(1), "4,096 bytes")?;
     }
-    Ok(())
+    let spent = Err(EditRefusal::Whole(Refusal::FileSpent));
+    appends(alloc, replica, b"a", outbox, spent)?;
+    shows_so_many(replica, 1 << 24)
 }
 
 fn spends_its_file(alloc: Global, replica: &mut Replica, outbox: &mut Outbox) -> Result<(), Fail> {
-    fills(alloc, replica, outbox)?;
-    let spent = Err(EditRefusal::Whole(Refusal::FileSpent));
-    is(
-        replica.append(&letters(alloc, 1)?, outbox) == spent,
-        "a byte more",
-    )?;
-    is_behind(replica, 1 << 24)
+    let many = letters(alloc, &[b'a'; 4096])?;
+    fills(alloc, replica, &many, outbox)
 }
 
 #[test]

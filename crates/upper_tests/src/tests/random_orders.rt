@@ -1,7 +1,6 @@
 //! Messages of four sites, handed to a fifth in many orders, with repeats and merges.
 use super::is;
-use super::replicas::replica_of;
-use super::taking::{TAKEN, site};
+use super::replicas::{TAKEN, replica_of, shows_so_many, site};
 use char_files::{Buffer, Char};
 use looks::{Colour, FontName, Looks, Refusal, Sel};
 use operations::{Op, decode};
@@ -79,6 +78,18 @@ fn dressed(dice: &mut Dice) -> Result<Looks, Fail> {
     })
 }
 
+fn inserts(
+    replica: &mut Replica,
+    pos: u64,
+    letters: &Buffer,
+    outbox: &mut Outbox,
+) -> Result<(), Fail> {
+    if replica.shown_len() < pos {
+        return Err("a position".into());
+    }
+    is(replica.insert(pos, letters, outbox) == Ok(1), "an Insert")
+}
+
 fn types(
     alloc: Global,
     dice: &mut Dice,
@@ -87,10 +98,7 @@ fn types(
 ) -> Result<(), Fail> {
     let letters = letters(alloc, dice)?;
     let pos = dice.below(replica.shown_len().saturating_add(1));
-    if replica.shown_len() < pos {
-        return Err("a position".into());
-    }
-    is(replica.insert(pos, &letters, outbox) == Ok(1), "an Insert")
+    inserts(replica, pos, &letters, outbox)
 }
 
 fn deletes(dice: &mut Dice, replica: &mut Replica, outbox: &mut Outbox) -> Result<(), Fail> {
@@ -207,14 +215,13 @@ fn add_operations(alloc: Global, ops: &mut Vec<Op>, outbox: &Outbox) -> Result<(
     Ok(())
 }
 
-// What the operations show, by definition.
-fn defined(alloc: Global, outbox: &Outbox) -> Result<Vec<Char>, Fail> {
-    let mut ops = Vec::new(alloc);
-    add_operations(alloc, &mut ops, outbox)?;
-    if !is_good(alloc, &ops)? {
+// What the operations show, by definition. They are added to these.
+fn defined(alloc: Global, ops: &mut Vec<Op>, outbox: &Outbox) -> Result<Vec<Char>, Fail> {
+    add_operations(alloc, ops, outbox)?;
+    if !is_good(alloc, ops)? {
         return Err("a good set".into());
     }
-    Ok(slow_shown(alloc, &ops)?)
+    Ok(slow_shown(alloc, ops)?)
 }
 
 fn is_same(one: &Char, other: &Char) -> Result<(), Fail> {
@@ -225,10 +232,7 @@ fn is_same(one: &Char, other: &Char) -> Result<(), Fail> {
 }
 
 fn shows(replica: &Replica, want: &[Char]) -> Result<(), Fail> {
-    is(
-        replica.shown_len() == want.len() as u64,
-        "how much is shown",
-    )?;
+    shows_so_many(replica, want.len() as u64)?;
     let mut shown = replica.shown();
     for char in want {
         is_same(&shown.next().ok_or("a character")?, char)?;
@@ -390,8 +394,24 @@ fn hears_all(
     are_alike(reader, writer, sent.shown)
 }
 
-// A reader that comes by this order to what was sent: by half of it, or by all.
+// A reader comes by this order to what was sent: by half of it, or by all.
 fn comes_to_it(
+    reader: &mut Replica,
+    round: usize,
+    writers: &mut [Replica],
+    sent: Sent<'_>,
+    order: Order<'_>,
+) -> Result<(), Fail> {
+    if round < ORDERS {
+        return hears_half(reader, writers, sent, order);
+    }
+    let writer = writers
+        .get_mut(round % usize::from(SITES))
+        .ok_or("a writer")?;
+    hears_all(reader, writer, sent, order)
+}
+
+fn a_reader_comes(
     alloc: Global,
     round: usize,
     writers: &mut [Replica],
@@ -399,13 +419,7 @@ fn comes_to_it(
     order: Order<'_>,
 ) -> Result<(), Fail> {
     let mut reader = replica_of(alloc, 1, SITES + 1)?;
-    if round < ORDERS {
-        return hears_half(&mut reader, writers, sent, order);
-    }
-    let writer = writers
-        .get_mut(round % usize::from(SITES))
-        .ok_or("a writer")?;
-    hears_all(&mut reader, writer, sent, order)
+    comes_to_it(&mut reader, round, writers, sent, order)
 }
 
 // One order more; in each fifth messages come far from their turns.
@@ -415,17 +429,13 @@ fn comes_once(
     round: usize,
     writers: &mut [Replica],
     sent: Sent<'_>,
+    numbers: &mut Vec<usize>,
 ) -> Result<(), Fail> {
     let is_near = round % 5 != 0;
-    let mut numbers = Vec::new(alloc);
-    add_numbers(dice, &mut numbers, sent.outbox.len())?;
+    add_numbers(dice, numbers, sent.outbox.len())?;
     let window = if is_near { WINDOW } else { numbers.len() };
-    shuffle_within(dice, &mut numbers, window);
-    let order = Order {
-        numbers: &numbers,
-        is_near,
-    };
-    comes_to_it(alloc, round, writers, sent, order)
+    shuffle_within(dice, numbers, window);
+    a_reader_comes(alloc, round, writers, sent, Order { numbers, is_near })
 }
 
 fn come_in_all_orders(
@@ -435,9 +445,9 @@ fn come_in_all_orders(
     sent: Sent<'_>,
 ) -> Result<(), Fail> {
     for round in 0..2 * ORDERS {
-        comes_once(alloc, dice, round, writers, sent)?;
+        comes_once(alloc, dice, round, writers, sent, &mut Vec::new(alloc))?;
     }
-    Ok(())
+    all_show_it(writers, sent)
 }
 
 fn all_show_it(writers: &[Replica], sent: Sent<'_>) -> Result<(), Fail> {
@@ -447,29 +457,36 @@ fn all_show_it(writers: &[Replica], sent: Sent<'_>) -> Result<(), Fail> {
     Ok(())
 }
 
-fn write_and_read(alloc: Global, writers: &mut [Replica], outbox: &mut Outbox) -> Result<(), Fail> {
-    let mut dice = Dice { state: 1 };
-    all_write(alloc, &mut dice, writers, outbox)?;
-    let shown = defined(alloc, outbox)?;
+fn read(
+    alloc: Global,
+    dice: &mut Dice,
+    writers: &mut [Replica],
+    outbox: &Outbox,
+) -> Result<(), Fail> {
+    let shown = defined(alloc, &mut Vec::new(alloc), outbox)?;
     let sent = Sent {
         outbox,
         shown: &shown,
     };
-    come_in_all_orders(alloc, &mut dice, writers, sent)?;
-    all_show_it(writers, sent)
+    come_in_all_orders(alloc, dice, writers, sent)
 }
 
-fn add_writers(alloc: Global, writers: &mut Vec<Replica>) -> Result<(), Fail> {
+fn write_and_read(
+    alloc: Global,
+    writers: &mut Vec<Replica>,
+    outbox: &mut Outbox,
+) -> Result<(), Fail> {
     for site in 1..=SITES {
         writers.push(replica_of(alloc, 1, site)?)?;
     }
-    Ok(())
+    let mut dice = Dice { state: 1 };
+    all_write(alloc, &mut dice, writers, outbox)?;
+    read(alloc, &mut dice, writers, outbox)
 }
 
 // Whatever order messages come in, all show what is defined.
 #[test]
 fn all_orders_show_the_same(rt: HostRuntime) -> Result<(), Fail> {
-    let mut writers = Vec::new(rt.alloc());
-    add_writers(rt.alloc(), &mut writers)?;
-    write_and_read(rt.alloc(), &mut writers, &mut Outbox::new(rt.alloc()))
+    let alloc = rt.alloc();
+    write_and_read(alloc, &mut Vec::new(alloc), &mut Outbox::new(alloc))
 }
