@@ -1,5 +1,7 @@
-use super::told::{Does, Told, log_of, name, op_of, site};
-use std::process::Abort;
+use super::is;
+use super::told::{Does, Told, is_told, name, site, take_all};
+use op_log::Log;
+use std::alloc::Global;
 use std::test::Fail;
 
 // Three sites, one cause: sites 1 and 2 both type behind the `A` of `AC`; then site 1 deletes a character,
@@ -14,7 +16,7 @@ const B: Told = (1, 2, 2, Does::Insert(Some((1, 0)), 2, b"B"));
 
 const C_GOES: Told = (1, 3, 4, Does::Delete(&[(1, 1)]));
 
-const TOLD: &[Told] = &[AC, X, YZ, B, C_GOES];
+const TOLD: &[Told] = &[X, YZ, AC, B, C_GOES];
 
 // One operation more of site 1, and one of a site that those lack.
 const A_GOES: Told = (1, 4, 5, Does::Delete(&[(1, 0)]));
@@ -23,7 +25,7 @@ const OF_A_THIRD: Told = (3, 1, 5, Does::Insert(None, 0, b"!"));
 
 // What another log has taken in, and whether its fronts are those of `TOLD`.
 const OTHERS: &[(&str, &[Told], bool)] = &[
-    ("in another order", &[X, YZ, AC, B, C_GOES], true),
+    ("in another order", &[AC, X, YZ, B, C_GOES], true),
     ("one behind", &[AC, X, YZ, B], false),
     ("one ahead", &[AC, X, YZ, B, C_GOES, A_GOES], false),
     ("a site more", &[AC, X, YZ, B, C_GOES, OF_A_THIRD], false),
@@ -31,83 +33,108 @@ const OTHERS: &[(&str, &[Told], bool)] = &[
     ("none", &[], false),
 ];
 
-#[test]
-fn an_empty_log_knows_no_site(rt: HostRuntime) -> Result<(), Fail> {
-    let log = log_of(rt.alloc(), &[])?;
-    assert_eq!(rt; (log.len(), log.stamp()), (0, 0));
-    assert!(rt; log.ops().is_empty());
-    assert!(rt; log.get(site(1)?, 1).is_none());
-    assert_eq!(rt; (log.front(site(1)?), log.file_len(site(1)?)), (0, 0));
-    assert_eq!(rt; log.site_stamp(site(1)?), 0);
-    Ok(())
-}
+// The front of each site, how long its file is, and the greatest stamp of its operations.
+const SITES: &[(u16, u32, u32, u64)] = &[(1, 3, 3, 4), (2, 2, 3, 3), (3, 0, 0, 0)];
 
-#[test]
-fn a_log_counts_by_site(rt: HostRuntime) -> Result<(), Fail> {
-    let log = log_of(rt.alloc(), TOLD)?;
-    assert_eq!(rt; (log.len(), log.stamp()), (5, 4));
-    for (number, front, len, stamp) in [(1, 3, 3, 4), (2, 2, 3, 3), (3, 0, 0, 0)] {
-        let site = site(number)?;
-        assert_eq!(rt; (log.front(site), log.file_len(site)), (front, len));
-        assert_eq!(rt; log.site_stamp(site), stamp);
+const NO_SITES: &[(u16, u32, u32, u64)] = &[(1, 0, 0, 0)];
+
+fn are_counted(log: &Log, sites: &[(u16, u32, u32, u64)]) -> Result<(), Fail> {
+    for (number, front, len, stamp) in sites {
+        let site = site(*number)?;
+        is(log.front(site) == *front, "a front")?;
+        is(log.file_len(site) == *len, "a file's length")?;
+        is(log.site_stamp(site) == *stamp, "a site's stamp")?;
     }
     Ok(())
 }
 
-#[test]
-fn a_log_finds_each_operation(rt: HostRuntime) -> Result<(), Fail> {
-    let log = log_of(rt.alloc(), TOLD)?;
-    for fields in TOLD {
-        let want = op_of(rt.alloc(), *fields)?;
+// Identities that the log lacks.
+const LACKING: &[(u16, u32)] = &[(1, 0), (1, 4), (2, 0), (2, 3), (3, 1)];
+
+fn are_lacking(log: &Log, identities: &[(u16, u32)]) -> Result<(), Fail> {
+    for (number, seq) in identities {
+        is(log.get(site(*number)?, *seq).is_none(), "not held")?;
+    }
+    Ok(())
+}
+
+fn are_found(log: &Log, alloc: Global, told: &[Told]) -> Result<(), Fail> {
+    for fields in told {
         let found = log.get(site(fields.0)?, fields.1).ok_or("held")?;
-        assert!(rt; found.is_same(&want));
-    }
-    for (number, seq) in [(1, 0), (1, 4), (2, 0), (2, 3), (3, 1)] {
-        assert!(rt; log.get(site(number)?, seq).is_none());
+        is_told(found, alloc, *fields, "the operation")?;
     }
     Ok(())
 }
 
-#[test]
-fn a_log_tells_the_stamp_of_each_name(rt: HostRuntime) -> Result<(), Fail> {
-    let log = log_of(rt.alloc(), TOLD)?;
-    let stamps = [
-        ((1, 0), 1),
-        ((1, 1), 1),
-        ((1, 2), 2),
-        ((2, 0), 2),
-        ((2, 1), 3),
-        ((2, 2), 3),
-    ];
+// Names, and the stamps of their Inserts.
+const STAMPS: &[((u16, u32), u64)] = &[
+    ((1, 0), 1),
+    ((1, 1), 1),
+    ((1, 2), 2),
+    ((2, 0), 2),
+    ((2, 1), 3),
+    ((2, 2), 3),
+];
+
+fn have_stamps(log: &Log, stamps: &[((u16, u32), u64)]) -> Result<(), Fail> {
     for (parts, stamp) in stamps {
-        let name = name(parts)?;
-        let here = name.off() < log.file_len(name.site());
-        assert!(rt; here);
-        assert_eq!(rt; log.name_stamp(name), stamp);
+        let name = name(*parts)?;
+        if log.file_len(name.site()) <= name.off() {
+            return Err("a name that is here".into());
+        }
+        is(log.name_stamp(name) == *stamp, "a name's stamp")?;
     }
     Ok(())
 }
 
-#[test]
-fn the_sites_of_a_log_ascend(rt: HostRuntime) -> Result<(), Fail> {
-    let starts = [
-        (3, 1, 1, Does::Insert(None, 0, b"c")),
-        (1, 1, 1, Does::Insert(None, 0, b"a")),
-        (3, 2, 2, Does::Insert(None, 1, b"c")),
-    ];
-    let sites = log_of(rt.alloc(), &starts)?.sites()?;
-    assert_eq!(rt; sites.len(), 2);
-    assert_eq!(rt; (sites[0].get(), sites[1].get()), (1, 3));
+// Sites 1 and 2, though site 2's operations came first.
+fn has_two_sites(log: &Log) -> Result<(), Fail> {
+    let sites = log.sites()?;
+    is(
+        sites.len() == 2 && sites[0].get() == 1 && sites[1].get() == 2,
+        "the sites ascend",
+    )
+}
+
+fn compares(
+    log: &Log,
+    other: &mut Log,
+    alloc: Global,
+    (what, told, want): (&'static str, &[Told], bool),
+) -> Result<(), Fail> {
+    take_all(other, alloc, told)?;
+    is(log.has_fronts_of(other) == want, what)?;
+    is(other.has_fronts_of(log) == want, what)
+}
+
+fn compares_with(log: &Log, alloc: Global, row: (&'static str, &[Told], bool)) -> Result<(), Fail> {
+    let mut other = Log::new(alloc);
+    compares(log, &mut other, alloc, row)
+}
+
+fn answers(log: &mut Log, alloc: Global) -> Result<(), Fail> {
+    is(
+        log.len() == 0 && log.stamp() == 0 && log.ops().is_empty(),
+        "an empty log",
+    )?;
+    are_counted(log, NO_SITES)?;
+    are_lacking(log, LACKING)?;
+    take_all(log, alloc, TOLD)?;
+    is(log.len() == 5 && log.stamp() == 4, "five operations")?;
+    are_counted(log, SITES)?;
+    are_lacking(log, LACKING)?;
+    are_found(log, alloc, TOLD)?;
+    have_stamps(log, STAMPS)?;
+    has_two_sites(log)?;
+    for row in OTHERS {
+        compares_with(log, alloc, *row)?;
+    }
     Ok(())
 }
 
+// What a log answers while it is empty, and once it has operations.
 #[test]
-fn logs_compare_their_fronts(rt: HostRuntime) -> Result<(), Fail> {
-    let log = log_of(rt.alloc(), TOLD)?;
-    for (what, told, want) in OTHERS {
-        let other = log_of(rt.alloc(), told)?;
-        let equal = (log.has_fronts_of(&other), other.has_fronts_of(&log));
-        assert_eq!(rt; (*what, equal), (*what, (*want, *want)));
-    }
-    Ok(())
+fn logs_answer(rt: HostRuntime) -> Result<(), Fail> {
+    let mut log = Log::new(rt.alloc());
+    answers(&mut log, rt.alloc())
 }

@@ -1,9 +1,9 @@
 //! Rooms in which operations wait.
-use super::told::{Does, Told, log_of, op_of, site};
+use super::is;
+use super::told::{Does, Told, is_told, op_of, site, take_all};
 use looks::Refusal;
-use operations::Op;
+use op_log::Log;
 use std::alloc::Global;
-use std::process::Abort;
 use std::test::Fail;
 use tree_order::is_good;
 use waiting_room::{GoodLog, MAX_WAITING, Offered, Room};
@@ -23,21 +23,19 @@ const OWN: Told = (1, 3, 3, Does::Delete(&[(1, 0)]));
 
 const THREE: &[Told] = &[LATER, BELOW, OWN];
 
-fn room_of(alloc: Global, told: &[Told]) -> Result<Room, Fail> {
-    let mut room = Room::new(alloc);
+fn fill(room: &mut Room, alloc: Global, told: &[Told]) -> Result<(), Fail> {
     for fields in told {
         room.offer(op_of(alloc, *fields)?)?;
     }
-    Ok(room)
+    Ok(())
 }
 
-// A room with an operation of site 2 in each place.
-fn full_room(alloc: Global) -> Result<Room, Fail> {
-    let mut room = Room::new(alloc);
+// An operation of site 2 in each place.
+fn fill_up(room: &mut Room, alloc: Global) -> Result<(), Fail> {
     for seq in 1..=64 {
         room.offer(op_of(alloc, (2, seq, 4, Does::Delete(&[(1, 0)])))?)?;
     }
-    Ok(room)
+    Ok(())
 }
 
 // Whether an equal one waits already, and what an offer answers.
@@ -92,43 +90,25 @@ fn answer_of(alloc: Global, room: &mut Room, told: Told) -> Result<Answer, Fail>
     Ok((waits, room.offer(op)))
 }
 
-#[test]
-fn offers_are_answered(rt: HostRuntime) -> Result<(), Fail> {
-    let mut room = room_of(rt.alloc(), THREE)?;
-    for (what, told, want) in OFFERS {
-        let answer = answer_of(rt.alloc(), &mut room, *told)?;
-        assert_eq!(rt; (*what, answer), (*what, *want));
+fn are_answered(
+    room: &mut Room,
+    alloc: Global,
+    offers: &[(&'static str, Told, Answer)],
+) -> Result<(), Fail> {
+    for (what, told, want) in offers {
+        is(answer_of(alloc, room, *told)? == *want, what)?;
     }
-    assert_eq!(rt; room.len(), 5);
     Ok(())
-}
-
-#[test]
-fn a_room_has_64_places(rt: HostRuntime) -> Result<(), Fail> {
-    let mut room = full_room(rt.alloc())?;
-    for (what, told, want) in OFFERS_TO_A_FULL_ONE {
-        let answer = answer_of(rt.alloc(), &mut room, *told)?;
-        assert_eq!(rt; (*what, answer), (*what, *want));
-    }
-    assert_eq!(rt; (room.len(), MAX_WAITING), (64, 64));
-    Ok(())
-}
-
-// Whether the operation has these fields.
-fn is_told(alloc: Global, op: &Op, told: Told) -> Result<bool, Fail> {
-    let want = op_of(alloc, told)?;
-    Ok(op.is_same(&want))
 }
 
 // Whether those wait, in this order.
-fn has_in_order(alloc: Global, room: &Room, told: &[Told]) -> Result<bool, Fail> {
+fn are_in_order(room: &Room, alloc: Global, told: &[Told]) -> Result<(), Fail> {
+    is(room.len() == told.len(), "so many wait")?;
     for index in 0..room.len() {
-        let want = *told.get(index).ok_or("no more")?;
-        if !is_told(alloc, room.get(index), want)? {
-            return Ok(false);
-        }
+        let want = told.get(index).ok_or("no more")?;
+        is_told(room.get(index), alloc, *want, "it waits here")?;
     }
-    Ok(room.len() == told.len())
+    Ok(())
 }
 
 // The index of the one that is taken out of the three, that one, and those that stay.
@@ -138,68 +118,72 @@ const REMOVALS: &[(usize, Told, &[Told])] = &[
     (2, OWN, &[LATER, BELOW]),
 ];
 
-// Whether that one is taken out, and those stay in this order.
-fn goes_out(alloc: Global, index: usize, gone: Told, rest: &[Told]) -> Result<bool, Fail> {
-    let mut room = room_of(alloc, THREE)?;
+fn goes_out(room: &mut Room, alloc: Global, index: usize, gone: Told) -> Result<(), Fail> {
     if room.len() <= index {
         return Err("no such index".into());
     }
     let op = room.remove(index);
-    Ok(is_told(alloc, &op, gone)? && has_in_order(alloc, &room, rest)?)
+    is_told(&op, alloc, gone, "taken out")
 }
 
-#[test]
-fn the_others_stay_in_order(rt: HostRuntime) -> Result<(), Fail> {
+// Whichever of the three is taken out, the others stay in order.
+fn each_goes_out(room: &mut Room, alloc: Global) -> Result<(), Fail> {
     for (index, gone, rest) in REMOVALS {
-        let is_so = goes_out(rt.alloc(), *index, *gone, rest)?;
-        assert_eq!(rt; (*index, is_so), (*index, true));
+        room.clear();
+        fill(room, alloc, THREE)?;
+        goes_out(room, alloc, *index, *gone)?;
+        are_in_order(room, alloc, rest)?;
     }
     Ok(())
 }
 
-#[test]
-fn a_room_is_cleared(rt: HostRuntime) -> Result<(), Fail> {
-    let mut room = room_of(rt.alloc(), THREE)?;
-    assert!(rt; has_in_order(rt.alloc(), &room, THREE)?);
-    assert_eq!(rt; (room.is_empty(), room.clear()), (false, 3));
-    assert_eq!(rt; (room.is_empty(), room.len()), (true, 0));
-    Ok(())
+fn keeps_what_is_offered(room: &mut Room, alloc: Global) -> Result<(), Fail> {
+    is(room.is_empty() && room.clear() == 0, "nothing waits")?;
+    fill(room, alloc, THREE)?;
+    are_in_order(room, alloc, THREE)?;
+    are_answered(room, alloc, OFFERS)?;
+    is(!room.is_empty() && room.clear() == 5, "five waited")?;
+    is(room.is_empty() && room.len() == 0, "none waits now")?;
+    each_goes_out(room, alloc)?;
+    room.clear();
+    fill_up(room, alloc)?;
+    are_answered(room, alloc, OFFERS_TO_A_FULL_ONE)?;
+    is(room.len() == 64 && MAX_WAITING == 64, "64 places")
 }
 
-// What was taken in, what waits, and which is the first that leaves.
-const LEAVES: &[(&str, &[Told], &[Told], Option<usize>)] = &[
-    ("nothing waits", &[OBERON], &[], None),
-    ("no cause is here", &[], THREE, None),
-    ("one is freed in the middle", &[OBERON], THREE, Some(1)),
-    (
-        "of two it is the first",
-        &[OBERON],
-        &[OWN, BELOW, BESIDE],
-        Some(1),
-    ),
-    ("one is held by now", &[OBERON, BELOW], THREE, Some(1)),
+#[test]
+fn a_room_keeps_what_is_offered(rt: HostRuntime) -> Result<(), Fail> {
+    let mut room = Room::new(rt.alloc());
+    keeps_what_is_offered(&mut room, rt.alloc())
+}
+
+// What waits, and which is the first that leaves: where nothing was taken in, behind the first Insert, and
+// behind one below it.
+type Leaving = (&'static str, &'static [Told], Option<usize>);
+
+const AT_FIRST: &[Leaving] = &[("no cause is here", THREE, None)];
+
+const BEHIND_ONE: &[Leaving] = &[
+    ("nothing waits", &[], None),
+    ("one is freed in the middle", THREE, Some(1)),
+    ("of two it is the first", &[OWN, BELOW, BESIDE], Some(1)),
     (
         "one is refused by now",
-        &[OBERON],
         &[OWN, (3, 1, 1, Does::Insert(Some((1, 5)), 0, b"X"))],
         Some(1),
     ),
 ];
 
-fn first_of(alloc: Global, taken: &[Told], waiting: &[Told]) -> Result<Option<usize>, Fail> {
-    let log = log_of(alloc, taken)?;
-    if !is_good(alloc, log.ops())? {
-        return Err("not good".into());
-    }
-    let room = room_of(alloc, waiting)?;
-    Ok(room.first_ready(&GoodLog::new(&log)))
-}
+const BEHIND_TWO: &[Leaving] = &[("one is held by now", THREE, Some(1))];
 
-#[test]
-fn the_first_leaves_that_may(rt: HostRuntime) -> Result<(), Fail> {
-    for (what, taken, waiting, want) in LEAVES {
-        let first = first_of(rt.alloc(), taken, waiting)?;
-        assert_eq!(rt; (*what, first), (*what, *want));
+fn leave(log: &Log, room: &mut Room, alloc: Global, rows: &[Leaving]) -> Result<(), Fail> {
+    if !is_good(alloc, log.ops())? {
+        return Err("a good log".into());
+    }
+    for (what, waiting, want) in rows {
+        room.clear();
+        fill(room, alloc, waiting)?;
+        is(room.first_ready(&GoodLog::new(log)) == *want, what)?;
     }
     Ok(())
 }
@@ -242,20 +226,35 @@ const BEHIND: &[(&str, &[Told], u16, bool)] = &[
     ),
 ];
 
-fn is_behind(alloc: Global, waiting: &[Told], number: u16) -> Result<bool, Fail> {
-    let log = log_of(alloc, &[OBERON])?;
+fn are_behind(log: &Log, room: &mut Room, alloc: Global) -> Result<(), Fail> {
     if !is_good(alloc, log.ops())? {
-        return Err("not good".into());
+        return Err("a good log".into());
     }
-    let room = room_of(alloc, waiting)?;
-    Ok(room.behind(site(number)?, &GoodLog::new(&log)))
+    for (what, waiting, number, want) in BEHIND {
+        room.clear();
+        fill(room, alloc, waiting)?;
+        let site = site(*number)?;
+        is(room.behind(site, &GoodLog::new(log)) == *want, what)?;
+    }
+    Ok(())
+}
+
+fn tells_who_leaves(log: &mut Log, room: &mut Room, alloc: Global) -> Result<(), Fail> {
+    leave(log, room, alloc, AT_FIRST)?;
+    take_all(log, alloc, &[OBERON])?;
+    leave(log, room, alloc, BEHIND_ONE)?;
+    are_behind(log, room, alloc)?;
+    take_all(log, alloc, &[BELOW])?;
+    leave(log, room, alloc, BEHIND_TWO)
+}
+
+fn over_a_log(log: &mut Log, alloc: Global) -> Result<(), Fail> {
+    let mut room = Room::new(alloc);
+    tells_who_leaves(log, &mut room, alloc)
 }
 
 #[test]
-fn a_site_is_behind_by_what_waits(rt: HostRuntime) -> Result<(), Fail> {
-    for (what, waiting, number, want) in BEHIND {
-        let behind = is_behind(rt.alloc(), waiting, *number)?;
-        assert_eq!(rt; (*what, behind), (*what, *want));
-    }
-    Ok(())
+fn a_room_tells_who_leaves_and_who_is_behind(rt: HostRuntime) -> Result<(), Fail> {
+    let mut log = Log::new(rt.alloc());
+    over_a_log(&mut log, rt.alloc())
 }

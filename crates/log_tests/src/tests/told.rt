@@ -2,6 +2,7 @@
 ghost use Rattle.std.specs.Prelude.{◌↔◌, IsTrue};
 ghost use Rattle.tree_order.specs.Good.{Begins};
 
+use super::is;
 use char_files::{Anchor, Name, SiteNo, TextNo};
 use looks::Looks;
 use op_log::Log;
@@ -36,11 +37,16 @@ fn anchor(cause: Option<(u16, u32)>) -> Result<Anchor, Fail> {
     })
 }
 
-fn set_of(alloc: Global, names: &[(u16, u32)]) -> Result<NameSet, Fail> {
-    let mut set = NameSet::new(alloc);
+fn fill(set: &mut NameSet, names: &[(u16, u32)]) -> Result<(), Fail> {
     for parts in names {
         set.insert(name(*parts)?)?;
     }
+    Ok(())
+}
+
+fn set_of(alloc: Global, names: &[(u16, u32)]) -> Result<NameSet, Fail> {
+    let mut set = NameSet::new(alloc);
+    fill(&mut set, names)?;
     Ok(set)
 }
 
@@ -60,8 +66,15 @@ fn kind_of(alloc: Global, does: Does) -> Result<Kind, Fail> {
 
 pub(super) fn op_of(alloc: Global, (number, seq, stamp, does): Told) -> Result<Op, Fail> {
     let text = TextNo::new(1).ok_or("a text")?;
+    let site = site(number)?;
     let kind = kind_of(alloc, does)?;
-    Ok(Op::new(text, site(number)?, seq, stamp, kind).ok_or("an operation")?)
+    Ok(Op::new(text, site, seq, stamp, kind).ok_or("an operation")?)
+}
+
+// Whether the operation has these fields.
+pub(super) fn is_told(op: &Op, alloc: Global, told: Told, what: &'static str) -> Result<(), Fail> {
+    let want = op_of(alloc, told)?;
+    is(op.is_same(&want), what)
 }
 
 // Whether the operation begins where its site's file is so long.
@@ -77,18 +90,18 @@ fn begins(op: &Op, len: u32) -> bool
 // Takes the operation in, if it is its site's next.
 fn take(log: &mut Log, op: Op) -> Result<(), Fail> {
     let next = u64::from(log.front(op.site())) + 1;
-    if u64::from(op.seq()) != next || !begins(&op, log.file_len(op.site())) {
-        return Err("not the next operation".into());
+    let is_next = u64::from(op.seq()) == next && begins(&op, log.file_len(op.site()));
+    if is_next && log.reserve(op.site()).is_ok() {
+        log.push(op);
+        return Ok(());
     }
-    log.reserve(op.site())?;
-    log.push(op);
-    Ok(())
+    Err("not the next operation".into())
 }
 
-pub(super) fn log_of(alloc: Global, told: &[Told]) -> Result<Log, Fail> {
-    let mut log = Log::new(alloc);
+// Takes the operations in, in this order.
+pub(super) fn take_all(log: &mut Log, alloc: Global, told: &[Told]) -> Result<(), Fail> {
     for fields in told {
-        take(&mut log, op_of(alloc, *fields)?)?;
+        take(log, op_of(alloc, *fields)?)?;
     }
-    Ok(log)
+    Ok(())
 }

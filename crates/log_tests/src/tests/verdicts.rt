@@ -1,6 +1,8 @@
-use super::told::{Does, Told, log_of, op_of};
+use super::is;
+use super::told::{Does, Told, op_of, take_all};
+use op_log::Log;
+use operations::Op;
 use std::alloc::Global;
-use std::process::Abort;
 use std::test::Fail;
 use tree_order::is_good;
 use waiting_room::{GoodLog, Verdict, judge};
@@ -13,95 +15,118 @@ const SAME_STAMP: Told = (2, 1, 1, Does::Insert(Some((1, 0)), 0, b"X"));
 
 const SECOND: Told = (2, 2, 2, Does::Insert(Some((2, 0)), 1, b"Y"));
 
-// What was taken in, what is handed in, and the verdict.
-const CASES: &[(&str, &[Told], Told, Verdict)] = &[
-    ("a text's first", &[], OBERON, Verdict::Ready),
-    ("its cause isn't here", &[], SAME_STAMP, Verdict::Wait),
-    ("its predecessor isn't", &[], SECOND, Verdict::Wait),
-    ("nor now", &[OBERON], SECOND, Verdict::Wait),
+// What is handed in, and the verdict: where nothing was taken in, and behind the first Insert.
+type Case = (&'static str, Told, Verdict);
+
+const AT_FIRST: &[Case] = &[
+    ("a text's first", OBERON, Verdict::Ready),
+    ("its cause isn't here", SAME_STAMP, Verdict::Wait),
+    ("its predecessor isn't", SECOND, Verdict::Wait),
+];
+
+const BEHIND_IT: &[Case] = &[
+    ("nor now", SECOND, Verdict::Wait),
     (
         "of the same stamp as its cause",
-        &[OBERON],
         SAME_STAMP,
         Verdict::BadStamp,
     ),
     (
         "at 1 of a file without bytes",
-        &[OBERON],
         (2, 1, 2, Does::Insert(Some((2, 0)), 1, b"Y")),
         Verdict::BadOffset,
     ),
     (
         "above its cause",
-        &[OBERON],
         (2, 1, 2, Does::Insert(Some((1, 5)), 0, b"X")),
         Verdict::Ready,
     ),
     (
         "below a character that isn't here",
-        &[OBERON],
         (2, 1, 2, Does::Insert(Some((1, 6)), 0, b"X")),
         Verdict::Wait,
     ),
     (
         "of the same stamp as its predecessor",
-        &[OBERON],
         (1, 2, 1, Does::Insert(None, 6, b"!")),
         Verdict::BadStamp,
     ),
     (
         "not at the end of its file",
-        &[OBERON],
         (1, 2, 2, Does::Insert(None, 5, b"!")),
         Verdict::BadOffset,
     ),
     (
         "deletes an own character",
-        &[OBERON],
         (1, 2, 2, Does::Delete(&[(1, 5)])),
         Verdict::Ready,
     ),
     (
         "deletes an own character behind the end of its file",
-        &[OBERON],
         (1, 2, 2, Does::Delete(&[(1, 6)])),
         Verdict::BadOffset,
     ),
     (
         "a bad offset counts ahead of a name that isn't here",
-        &[OBERON],
         (1, 2, 2, Does::Insert(Some((2, 0)), 5, b"!")),
         Verdict::BadOffset,
     ),
     (
         "and that ahead of a bad stamp",
-        &[OBERON],
         (1, 2, 1, Does::Insert(Some((2, 0)), 6, b"!")),
         Verdict::Wait,
     ),
     (
         "a missing predecessor counts ahead of a bad offset",
-        &[OBERON],
         (1, 3, 3, Does::Insert(None, 5, b"!")),
         Verdict::Wait,
     ),
 ];
 
-fn verdict_on(alloc: Global, taken: &[Told], told: Told) -> Result<Verdict, Fail> {
-    let log = log_of(alloc, taken)?;
-    let op = op_of(alloc, told)?;
-    op.has_spelling();
-    if !is_good(alloc, log.ops())? || log.get(op.site(), op.seq()).is_some() {
-        return Err("not good, or not new".into());
+// The verdict on an operation that a good log lacks.
+fn verdict_on(log: &Log, op: &Op, alloc: Global) -> Result<Verdict, Fail> {
+    if !is_good(alloc, log.ops())? {
+        return Err("not good".into());
     }
-    Ok(judge(&op, &GoodLog::new(&log)))
+    let held = GoodLog::new(log);
+    op.has_spelling();
+    if log.get(op.site(), op.seq()).is_some() {
+        return Err("not new".into());
+    }
+    Ok(judge(op, &held))
+}
+
+fn has_verdict(
+    log: &Log,
+    op: &Op,
+    alloc: Global,
+    want: Verdict,
+    what: &'static str,
+) -> Result<(), Fail> {
+    let verdict = verdict_on(log, op, alloc)?;
+    is(verdict == want, what)
+}
+
+fn is_judged(log: &Log, alloc: Global, (what, told, want): Case) -> Result<(), Fail> {
+    let op = op_of(alloc, told)?;
+    has_verdict(log, &op, alloc, want, what)
+}
+
+fn are_judged(log: &Log, alloc: Global, cases: &[Case]) -> Result<(), Fail> {
+    for case in cases {
+        is_judged(log, alloc, *case)?;
+    }
+    Ok(())
+}
+
+fn gives_verdicts(log: &mut Log, alloc: Global) -> Result<(), Fail> {
+    are_judged(log, alloc, AT_FIRST)?;
+    take_all(log, alloc, &[OBERON])?;
+    are_judged(log, alloc, BEHIND_IT)
 }
 
 #[test]
 fn verdicts_are_given_in_order(rt: HostRuntime) -> Result<(), Fail> {
-    for (what, taken, told, want) in CASES {
-        let verdict = verdict_on(rt.alloc(), taken, *told)?;
-        assert_eq!(rt; (*what, verdict), (*what, *want));
-    }
-    Ok(())
+    let mut log = Log::new(rt.alloc());
+    gives_verdicts(&mut log, rt.alloc())
 }
