@@ -1,6 +1,8 @@
-use super::told::{Does, Parts, TOLD, name, take, text_of};
+use super::is;
+use super::stretches::tells_stretches;
+use super::told::{Does, Parts, TOLD, name, take, take_all};
 use char_files::Char;
-use std::process::Abort;
+use std::alloc::Global;
 use std::test::Fail;
 use taken_text::TakenText;
 
@@ -12,70 +14,90 @@ fn parts_of(char: &Char) -> (Parts, u8, u8) {
     (name, char.byte, char.looks.colour.number())
 }
 
-#[test]
-fn an_empty_text_shows_nothing(rt: HostRuntime) -> Result<(), Fail> {
-    let text = text_of(rt.alloc(), &[])?;
-    assert_eq!(rt; text.shown_len(), 0);
-    assert!(rt; text.shown().next().is_none());
-    assert!(rt; text.place_of(name((1, 0))?).is_none());
+// Characters and their places: so many are shown up to them.
+const PLACES: &[(Parts, Option<u64>)] = &[
+    ((1, 0), Some(1)),
+    ((2, 0), Some(2)),
+    ((1, 2), Some(2)),
+    ((1, 1), Some(3)),
+    ((1, 3), None),
+    ((3, 0), None),
+];
+
+fn is_empty(text: &TakenText) -> Result<(), Fail> {
+    is(text.shown_len() == 0, "no character")?;
+    is(text.shown().next().is_none(), "nothing shown")?;
+    is(text.place_of(name((1, 0))?).is_none(), "no place")
+}
+
+fn is_at(text: &TakenText, pos: u64, want: (Parts, u8, u8)) -> Result<(), Fail> {
+    if text.shown_len() <= pos {
+        return Err("a position".into());
+    }
+    is(parts_of(&text.char_at(pos)) == want, "what stands there")
+}
+
+fn is_shown(text: &TakenText) -> Result<(), Fail> {
+    is(text.shown_len() == 3, "three characters")?;
+    let mut shown = text.shown();
+    for (pos, want) in SHOWN.iter().enumerate() {
+        let char = shown.next().ok_or("a character")?;
+        is(parts_of(&char) == *want, "what is shown")?;
+        is_at(text, pos as u64, *want)?;
+    }
+    is(shown.next().is_none(), "the end")
+}
+
+fn has_places(text: &TakenText) -> Result<(), Fail> {
+    for (parts, place) in PLACES {
+        is(text.place_of(name(*parts)?) == *place, "a place")?;
+    }
     Ok(())
 }
 
+fn is_told(text: &mut TakenText, alloc: Global) -> Result<(), Fail> {
+    is_empty(text)?;
+    take_all(text, alloc, TOLD)?;
+    is_shown(text)?;
+    has_places(text)?;
+    tells_stretches(text, alloc)
+}
+
+// What a text shows while it is empty, and then of three characters and one that is hidden.
 #[test]
 fn what_is_shown_is_read(rt: HostRuntime) -> Result<(), Fail> {
-    let text = text_of(rt.alloc(), TOLD)?;
-    assert_eq!(rt; text.shown_len(), 3);
-    let mut pos = 0;
-    let mut shown = text.shown();
-    for want in SHOWN {
-        let char = shown.next().ok_or("a character")?;
-        assert_eq!(rt; parts_of(&char), *want);
-        if pos < text.shown_len() {
-            assert_eq!(rt; parts_of(&text.char_at(pos)), *want);
-            pos += 1;
-        }
-    }
-    assert_eq!(rt; pos, 3);
-    assert!(rt; shown.next().is_none());
-    Ok(())
-}
-
-#[test]
-fn each_character_has_its_place(rt: HostRuntime) -> Result<(), Fail> {
-    let text = text_of(rt.alloc(), TOLD)?;
-    let places = [
-        ((1, 0), Some(1)),
-        ((2, 0), Some(2)),
-        ((1, 2), Some(2)),
-        ((1, 1), Some(3)),
-        ((1, 3), None),
-        ((3, 0), None),
-    ];
-    for (parts, place) in places {
-        assert_eq!(rt; text.place_of(name(parts)?), place);
-    }
-    Ok(())
+    let mut text = TakenText::new(rt.alloc())?;
+    is_told(&mut text, rt.alloc())
 }
 
 // So many characters were typed at the front one by one.
 const MANY: u32 = 1000;
 
-#[test]
-fn a_long_text_is_read_piece_by_piece(rt: HostRuntime) -> Result<(), Fail> {
-    let mut text = TakenText::new(rt.alloc())?;
+fn type_many(text: &mut TakenText, alloc: Global) -> Result<(), Fail> {
     for n in 0..MANY {
-        take(
-            rt.alloc(),
-            &mut text,
-            (1, n + 1, u64::from(n) + 1, Does::Insert(None, n, b"a")),
-        )?;
+        let does = Does::Insert(None, n, b"a");
+        take(text, alloc, (1, n + 1, u64::from(n) + 1, does))?;
     }
-    assert_eq!(rt; text.shown_len(), u64::from(MANY));
+    Ok(())
+}
+
+fn shows_many(text: &TakenText) -> Result<(), Fail> {
+    is(text.shown_len() == u64::from(MANY), "so many")?;
     let mut shown = text.shown();
     for n in (0..MANY).rev() {
         let char = shown.next().ok_or("a character")?;
-        assert_eq!(rt; parts_of(&char), ((1, n), b'a', 1));
+        is(parts_of(&char) == ((1, n), b'a', 1), "the one typed before")?;
     }
-    assert!(rt; shown.next().is_none());
-    Ok(())
+    is(shown.next().is_none(), "the end")
+}
+
+fn is_long(text: &mut TakenText, alloc: Global) -> Result<(), Fail> {
+    type_many(text, alloc)?;
+    shows_many(text)
+}
+
+#[test]
+fn a_long_text_is_read_piece_by_piece(rt: HostRuntime) -> Result<(), Fail> {
+    let mut text = TakenText::new(rt.alloc())?;
+    is_long(&mut text, rt.alloc())
 }

@@ -1,14 +1,14 @@
-ghost use Rattle.std.specs.Prelude.{IfOk, OnOk};
+ghost use Rattle.std.specs.Prelude.{OnOk};
 ghost use Rattle.char_files.specs.CharName.{CharName};
 ghost use Rattle.operations.specs.NameSet.{IsAmong};
 ghost use Rattle.tree_order.specs.Tree.{IsChar};
 
-use super::told::{Does, Parts, TOLD, name, take, text_of};
+use super::is;
+use super::told::{Does, Parts, name, take};
 use char_files::Buffer;
 use looks::Refusal;
 use operations::{MAX_RANGES, NameSet};
 use std::alloc::Global;
-use std::process::Abort;
 use std::test::Fail;
 use taken_text::TakenText;
 
@@ -54,19 +54,20 @@ fn is_buffer(buffer: &Buffer, want: &[Stretch]) -> bool {
     runs.next().is_none()
 }
 
-#[test]
-fn stretches_are_taken_out(rt: HostRuntime) -> Result<(), Fail> {
-    let text = text_of(rt.alloc(), TOLD)?;
-    let len = text.shown_len();
-    for (beg, end, ranges, runs) in STRETCHES {
-        let (beg, end) = (*beg, *end);
-        if beg > end || end > len {
-            return Err("a stretch of the text".into());
-        }
-        assert!(rt; is_set(&text.names_shown(beg, end)?, ranges));
-        assert!(rt; is_buffer(&text.stretch(beg, end)?, runs));
+fn has_names(text: &TakenText, beg: u64, end: u64, ranges: &[Range]) -> Result<(), Fail> {
+    if end < beg || text.shown_len() < end {
+        return Err("a stretch of the text".into());
     }
-    Ok(())
+    let names = text.names_shown(beg, end)?;
+    is(is_set(&names, ranges), "the names of a stretch")
+}
+
+fn has_chars(text: &TakenText, beg: u64, end: u64, runs: &[Stretch]) -> Result<(), Fail> {
+    if end < beg || text.shown_len() < end {
+        return Err("a stretch of the text".into());
+    }
+    let chars = text.stretch(beg, end)?;
+    is(is_buffer(&chars, runs), "the characters of a stretch")
 }
 
 // Puts the name of a character of the text into the set.
@@ -83,28 +84,46 @@ fn add(text: &TakenText, set: &mut NameSet, parts: Parts) -> Result<(), Fail>
     Ok(())
 }
 
-fn pair(text: &TakenText, alloc: Global, first: Parts, second: Parts) -> Result<NameSet, Fail>
-    ensures { IfOk result (λ set. (c : CharName) → IsAmong set c → IsChar text.now.operations c) }
+// Pairs of characters, and whether both are shown: the `B` is hidden, the others are not.
+const PAIRS: &[(Parts, Parts, bool)] = &[
+    ((1, 0), (1, 1), true),
+    ((1, 0), (2, 0), true),
+    ((1, 0), (1, 2), false),
+    ((1, 2), (2, 0), false),
+    ((1, 2), (1, 2), false),
+];
+
+fn are_shown(
+    text: &TakenText,
+    set: &mut NameSet,
+    first: Parts,
+    second: Parts,
+    shown: bool,
+) -> Result<(), Fail>
+    requires { (c : CharName) → IsAmong set.old c → IsChar text.now.operations c }
 {
-    let mut set = NameSet::new(alloc);
-    add(text, &mut set, first)?;
-    add(text, &mut set, second)?;
-    Ok(set)
+    add(text, set, first)?;
+    add(text, set, second)?;
+    is(text.are_shown(set) == shown, "whether both are shown")
 }
 
-// The `B` is hidden, the others are shown.
-#[test]
-fn sets_are_asked_whether_they_are_shown(rt: HostRuntime) -> Result<(), Fail> {
-    let text = text_of(rt.alloc(), TOLD)?;
-    for (first, second, shown) in [
-        ((1, 0), (1, 1), true),
-        ((1, 0), (2, 0), true),
-        ((1, 0), (1, 2), false),
-        ((1, 2), (2, 0), false),
-        ((1, 2), (1, 2), false),
-    ] {
-        let set = pair(&text, rt.alloc(), first, second)?;
-        assert_eq!(rt; text.are_shown(&set), shown);
+fn asks(
+    text: &TakenText,
+    alloc: Global,
+    (first, second, shown): (Parts, Parts, bool),
+) -> Result<(), Fail> {
+    let mut set = NameSet::new(alloc);
+    are_shown(text, &mut set, first, second, shown)
+}
+
+// Of the text `TOLD`.
+pub(super) fn tells_stretches(text: &TakenText, alloc: Global) -> Result<(), Fail> {
+    for (beg, end, ranges, runs) in STRETCHES {
+        has_names(text, *beg, *end, ranges)?;
+        has_chars(text, *beg, *end, runs)?;
+    }
+    for pair in PAIRS {
+        asks(text, alloc, *pair)?;
     }
     Ok(())
 }
@@ -112,22 +131,42 @@ fn sets_are_asked_whether_they_are_shown(rt: HostRuntime) -> Result<(), Fail> {
 // Of so many characters, two more than twice as many as a set may have ranges, every other one is deleted.
 const MANY: &[u8] = &[b'a'; 2050];
 
-#[test]
-fn too_many_ranges_are_refused(rt: HostRuntime) -> Result<(), Fail> {
-    let mut text = text_of(rt.alloc(), &[(1, 1, 1, Does::Insert(None, 0, MANY))])?;
+fn scatter(text: &mut TakenText, alloc: Global) -> Result<(), Fail> {
+    take(text, alloc, (1, 1, 1, Does::Insert(None, 0, MANY)))?;
     for n in 0u16..1025 {
         let (seq, off) = (u32::from(n) + 2, 2 * u32::from(n));
-        let does = Does::Delete((1, off));
-        take(rt.alloc(), &mut text, (1, seq, u64::from(seq), does))?;
+        take(
+            text,
+            alloc,
+            (1, seq, u64::from(seq), Does::Delete((1, off))),
+        )?;
     }
-    let len = text.shown_len();
-    assert_eq!(rt; len, 1025);
-    if 1024 <= len {
-        assert_eq!(rt; text.names_shown(0, 1024)?.ranges().len(), MAX_RANGES);
-    }
-    let Err(refusal) = text.names_shown(0, len) else {
-        return Err("a refusal".into());
-    };
-    assert_eq!(rt; refusal, Refusal::Scattered);
     Ok(())
+}
+
+// How many ranges the first characters' names have.
+fn ranges_to(text: &TakenText, end: u64) -> Result<Result<usize, Refusal>, Fail> {
+    if text.shown_len() < end {
+        return Err("a stretch of the text".into());
+    }
+    match text.names_shown(0, end) {
+        Ok(names) => Ok(Ok(names.ranges().len())),
+        Err(refusal) => Ok(Err(refusal)),
+    }
+}
+
+fn is_scattered(text: &mut TakenText, alloc: Global) -> Result<(), Fail> {
+    scatter(text, alloc)?;
+    is(text.shown_len() == 1025, "half of them are left")?;
+    is(ranges_to(text, 1024)? == Ok(MAX_RANGES), "1,024 ranges")?;
+    is(
+        ranges_to(text, 1025)? == Err(Refusal::Scattered),
+        "one more",
+    )
+}
+
+#[test]
+fn too_many_ranges_are_refused(rt: HostRuntime) -> Result<(), Fail> {
+    let mut text = TakenText::new(rt.alloc())?;
+    is_scattered(&mut text, rt.alloc())
 }

@@ -1,7 +1,9 @@
 //! Operations by their fields, and texts of them.
+ghost use Rattle.std.specs.Prelude.{IsTrue};
+ghost use Rattle.set_laws.specs.Verdict.{IsNew, HasVerdict, ready};
+
 use char_files::{Anchor, Name, SiteNo, TextNo};
 use looks::{Colour, Looks, Sel};
-use op_log::Log;
 use operations::{Kind, NameSet, Op};
 use std::alloc::Global;
 use std::test::Fail;
@@ -87,29 +89,42 @@ fn kind_of(alloc: Global, does: Does) -> Result<Kind, Fail> {
 
 fn op_of(alloc: Global, (number, seq, stamp, does): Told) -> Result<Op, Fail> {
     let text = TextNo::new(1).ok_or("a text")?;
+    let site = site(number)?;
     let kind = kind_of(alloc, does)?;
-    Ok(Op::new(text, site(number)?, seq, stamp, kind).ok_or("an operation")?)
+    Ok(Op::new(text, site, seq, stamp, kind).ok_or("an operation")?)
+}
+
+// Whether the text may take the operation in.
+fn is_ready(text: &TakenText, op: &Op) -> bool
+    ensures new { IsTrue result → IsNew text.now.operations op.now }
+    ensures ready { IsTrue result → HasVerdict text.now.operations op.now ready }
+{
+    op.has_spelling();
+    text.is_defined();
+    let log = text.log();
+    if log.get(op.site(), op.seq()).is_some() {
+        return false;
+    }
+    match judge(op, &GoodLog::new(log)) {
+        Verdict::Ready => true,
+        Verdict::Wait | Verdict::BadOffset | Verdict::BadStamp => false,
+    }
 }
 
 // Takes the operation in, if it is ready.
-pub(super) fn take(alloc: Global, text: &mut TakenText, told: Told) -> Result<(), Fail> {
+pub(super) fn take(text: &mut TakenText, alloc: Global, told: Told) -> Result<(), Fail> {
     let op = op_of(alloc, told)?;
-    op.has_spelling();
-    text.is_defined();
-    let log: &Log = text.log();
-    if log.get(op.site(), op.seq()).is_some() {
-        return Err("held already".into());
+    if !is_ready(text, &op) {
+        return Err("not ready".into());
     }
-    match judge(&op, &GoodLog::new(log)) {
-        Verdict::Ready => Ok(text.add(op)?),
-        Verdict::Wait | Verdict::BadOffset | Verdict::BadStamp => Err("not ready".into()),
-    }
+    text.add(op)?;
+    Ok(())
 }
 
-pub(super) fn text_of(alloc: Global, told: &[Told]) -> Result<TakenText, Fail> {
-    let mut text = TakenText::new(alloc)?;
+// Takes the operations in, in this order.
+pub(super) fn take_all(text: &mut TakenText, alloc: Global, told: &[Told]) -> Result<(), Fail> {
     for fields in told {
-        take(alloc, &mut text, *fields)?;
+        take(text, alloc, *fields)?;
     }
-    Ok(text)
+    Ok(())
 }
