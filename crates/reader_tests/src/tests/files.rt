@@ -1,3 +1,4 @@
+use super::is;
 use char_files::{Buffer, Plain};
 use looks::{Colour, FontName, Looks, Refusal};
 use reader_scanner::Reader;
@@ -6,7 +7,7 @@ use std::test::Fail;
 use text_file::{MAX_TEXT, load, store};
 
 // The formatted file of `Edit.Store s` in the default looks.
-pub(crate) const STORED: &[u8] =
+pub(super) const STORED: &[u8; 47] =
     b"OTF1\x00\x00\x00\x01\x10Oberon10.Scn.Fnt\x01\x00\x00\x00\x00\x0c\x00\x00\x00\x0cEdit.Store s";
 
 // The formatted file of `a` in the default looks and `bc` in the font `Syntax12.Scn.Fnt`, colour 3, one below
@@ -82,86 +83,89 @@ fn is_plain(text: &Buffer, bytes: &[u8]) -> bool {
     text.len() == bytes.len() as u64 && has(text, 0, bytes, &Looks::plain())
 }
 
-// Bytes `a`, so many of them, and these behind them.
-fn letters(alloc: Global, count: u64, end: &[u8]) -> Result<Vec<u8>, Fail> {
-    let mut bytes = Vec::new(alloc);
-    for _ in 0..count {
-        bytes.push(b'a')?;
-    }
-    bytes.extend_from_slice(end)?;
-    Ok(bytes)
+// A text's file, if it has one.
+fn is_file_of(alloc: Global, text: &Buffer, want: &[u8]) -> bool {
+    let mut file = Vec::new(alloc);
+    store(text, &mut file).is_ok() && file.as_slice() == want
 }
 
-// The stored file with one byte changed.
-fn changed(alloc: Global, place: usize, change: u8) -> Result<Vec<u8>, Fail> {
-    let mut file = Vec::new(alloc);
-    for (index, byte) in STORED.iter().enumerate() {
-        file.push(if index == place {
-            *byte ^ change
-        } else {
-            *byte
-        })?;
+// Whether the file is loaded as these characters in plain looks. Where memory is refused it is said.
+fn is_loaded(loaded: &Result<Buffer, Refusal>, chars: &[u8]) -> bool {
+    match loaded {
+        Ok(text) => is_plain(text, chars),
+        Err(refusal) => *refusal == Refusal::OutOfMemory,
     }
-    Ok(file)
 }
 
-// The file of a text that is stored behind nothing.
-fn file_of(alloc: Global, text: &Buffer) -> Result<Vec<u8>, Refusal> {
-    let mut file = Vec::new(alloc);
-    store(text, &mut file)?;
-    Ok(file)
+fn loads(alloc: Global, file: &[u8], chars: &[u8]) -> Result<(), Fail> {
+    let loaded = load(alloc, file);
+    is(is_loaded(&loaded, chars), "a plain file")
 }
 
 #[test]
-fn plain_files_are_loaded(rt: HostRuntime) {
+fn plain_files_are_loaded(rt: HostRuntime) -> Result<(), Fail> {
     for (file, chars) in PLAIN_FILES {
-        match load(rt.alloc(), file) {
-            Ok(text) => assert!(rt; is_plain(&text, chars)),
-            Err(refusal) => assert_eq!(rt; refusal, Refusal::OutOfMemory),
-        }
+        loads(rt.alloc(), file, chars)?;
     }
-}
-
-// Whichever allocation of `store` is refused, the vector is as it was before.
-#[test]
-fn a_text_is_stored_behind_what_is_there(rt: HostRuntime) -> Result<(), Fail> {
-    let mut file = Vec::from_slice(rt.alloc(), b"before")?;
-    if let Err(refusal) = store(&Plain(b"Edit.Store s"), &mut file) {
-        assert_eq!(rt; refusal, Refusal::OutOfMemory);
-        assert_eq!(rt; file.as_slice(), b"before".as_slice());
-        store(&Plain(b"Edit.Store s"), &mut file)?;
-    }
-    let (before, stored) = file.as_slice().split_at(6.min(file.len()));
-    assert_eq!(rt; before, b"before".as_slice());
-    assert_eq!(rt; stored, STORED);
-    let mut empty = Vec::new(rt.alloc());
-    store(&Plain(b""), &mut empty)?;
-    assert_eq!(rt; empty.as_slice(), EMPTY);
     Ok(())
 }
 
+// Whichever allocation of `store` is refused, the vector is as it was before.
+fn goes_behind(file: &mut Vec<u8>) -> Result<(), Fail> {
+    file.extend_from_slice(b"before")?;
+    if let Err(refusal) = store(&Plain(b"Edit.Store s"), file) {
+        is(refusal == Refusal::OutOfMemory, "memory alone")?;
+        is(file.as_slice() == b"before".as_slice(), "as before")?;
+        store(&Plain(b"Edit.Store s"), file)?;
+    }
+    let (before, stored) = file.as_slice().split_at(6.min(file.len()));
+    is(before == b"before".as_slice(), "what was there")?;
+    is(stored == STORED.as_slice(), "the file behind it")?;
+    file.clear();
+    store(&Plain(b""), file)?;
+    is(file.as_slice() == EMPTY, "of the empty text")
+}
+
 #[test]
-fn runs_are_loaded_and_stored(rt: HostRuntime) -> Result<(), Fail> {
+fn a_text_is_stored_behind_what_is_there(rt: HostRuntime) -> Result<(), Fail> {
+    let mut file = Vec::new(rt.alloc());
+    goes_behind(&mut file)
+}
+
+fn has_two_runs(alloc: Global, text: &Buffer) -> Result<(), Fail> {
     let looks = Looks {
         font: FontName::new(b"Syntax12.Scn.Fnt").ok_or("a font")?,
         colour: Colour::new(3).ok_or("a colour")?,
         offset: -1,
     };
-    let text = load(rt.alloc(), TWO_RUNS)?;
-    assert_eq!(rt; text.len(), 3);
-    assert!(rt; has(&text, 0, b"a", &Looks::plain()));
-    assert!(rt; has(&text, 1, b"bc", &looks));
-    assert_eq!(rt; file_of(rt.alloc(), &text)?.as_slice(), TWO_RUNS);
-    assert_eq!(rt; load(rt.alloc(), EMPTY)?.len(), 0);
-    Ok(())
+    is(text.len() == 3, "three characters")?;
+    is(has(text, 0, b"a", &Looks::plain()), "a plain one")?;
+    is(has(text, 1, b"bc", &looks), "two in other looks")?;
+    is(is_file_of(alloc, text, TWO_RUNS), "the same file")
 }
 
 #[test]
-fn other_tagged_files_are_refused(rt: HostRuntime) {
+fn runs_are_loaded_and_stored(rt: HostRuntime) -> Result<(), Fail> {
+    let text = load(rt.alloc(), TWO_RUNS)?;
+    has_two_runs(rt.alloc(), &text)
+}
+
+#[test]
+fn the_empty_text_is_loaded(rt: HostRuntime) -> Result<(), Fail> {
+    is(loaded_len(rt.alloc(), EMPTY) == Ok(0), "no characters")
+}
+
+// How many characters the text of this file has.
+fn loaded_len(alloc: Global, file: &[u8]) -> Result<u64, Refusal> {
+    Ok(load(alloc, file)?.len())
+}
+
+#[test]
+fn other_tagged_files_are_refused(rt: HostRuntime) -> Result<(), Fail> {
     for (what, file) in REFUSED {
-        let refusal = load(rt.alloc(), file).err();
-        assert_eq!(rt; refusal, Some(Refusal::BadFile), "{what}");
+        is(loaded_len(rt.alloc(), file) == Err(Refusal::BadFile), what)?;
     }
+    Ok(())
 }
 
 #[test]
@@ -169,49 +173,79 @@ fn fronts_of_a_file_are_plain_or_refused(rt: HostRuntime) -> Result<(), Fail> {
     for len in 0..STORED.len() {
         let front = STORED.get(..len).ok_or("no front")?;
         if len < 4 {
-            assert!(rt; is_plain(&load(rt.alloc(), front)?, front), "{len}");
+            loads(rt.alloc(), front, front)?;
         } else {
-            let refusal = load(rt.alloc(), front).err();
-            assert_eq!(rt; refusal, Some(Refusal::BadFile), "{len}");
+            is(
+                loaded_len(rt.alloc(), front) == Err(Refusal::BadFile),
+                "a front",
+            )?;
         }
     }
     Ok(())
 }
 
 // A file in which one byte was changed is plain, or refused, or of the text that has this file.
+fn is_allowed(alloc: Global, place: usize, file: &[u8], loaded: &Result<Buffer, Refusal>) -> bool {
+    match loaded {
+        Ok(text) if place < 4 => text.len() == 47,
+        Ok(text) => is_file_of(alloc, text, file),
+        Err(refusal) => 4 <= place && *refusal == Refusal::BadFile,
+    }
+}
+
+fn loads_as_allowed(alloc: Global, place: usize, file: &[u8]) -> Result<(), Fail> {
+    let loaded = load(alloc, file);
+    is(is_allowed(alloc, place, file, &loaded), "a changed byte")
+}
+
 #[test]
 fn files_with_a_changed_byte(rt: HostRuntime) -> Result<(), Fail> {
     for place in 0..STORED.len() {
         for change in 1..=255 {
-            let file = changed(rt.alloc(), place, change)?;
-            match load(rt.alloc(), &file) {
-                Ok(text) if place < 4 => assert_eq!(rt; text.len(), 47),
-                Ok(text) => {
-                    assert_eq!(rt; file_of(rt.alloc(), &text)?.as_slice(), file.as_slice());
-                }
-                Err(refusal) => {
-                    assert!(rt; 4 <= place);
-                    assert_eq!(rt; refusal, Refusal::BadFile);
-                }
-            }
+            let mut file = *STORED;
+            file[place] ^= change;
+            loads_as_allowed(rt.alloc(), place, &file)?;
         }
     }
     Ok(())
 }
 
+fn is_too_long(alloc: Global, bytes: &[u8]) -> Result<(), Fail> {
+    is(
+        loaded_len(alloc, bytes) == Err(Refusal::BadFile),
+        "too long to load",
+    )?;
+    let mut file = Vec::from_slice(alloc, b"before")?;
+    let stored = store(&Plain(bytes), &mut file);
+    is(
+        stored == Err(Refusal::BadFile) && file.as_slice() == b"before".as_slice(),
+        "too long to store",
+    )
+}
+
+// How long the file of these characters is.
+fn file_len(alloc: Global, bytes: &[u8]) -> Result<usize, Refusal> {
+    let mut file = Vec::new(alloc);
+    store(&Plain(bytes), &mut file)?;
+    Ok(file.len())
+}
+
+fn have_a_bound(alloc: Global, bytes: &mut Vec<u8>) -> Result<(), Fail> {
+    for _ in 0..MAX_TEXT {
+        bytes.push(b'a')?;
+    }
+    is(loaded_len(alloc, bytes) == Ok(1048576), "2^20 are loaded")?;
+    is(file_len(alloc, bytes) == Ok(35 + 1048576), "and stored")?;
+    bytes.push(b'a')?;
+    is_too_long(alloc, bytes)?;
+    // The two bytes of a line end are one character.
+    bytes.truncate(1048575);
+    bytes.extend_from_slice(b"\r\n")?;
+    is(loaded_len(alloc, bytes) == Ok(1048576), "a line end is one")
+}
+
 #[test]
 fn a_file_may_have_2_to_the_20_characters(rt: HostRuntime) -> Result<(), Fail> {
-    let most = letters(rt.alloc(), MAX_TEXT, b"")?;
-    let text = load(rt.alloc(), &most)?;
-    assert_eq!(rt; text.len(), 1048576);
-    assert_eq!(rt; file_of(rt.alloc(), &text)?.len(), 35 + 1048576);
-    let long = letters(rt.alloc(), MAX_TEXT, b"a")?;
-    assert_eq!(rt; load(rt.alloc(), &long).err(), Some(Refusal::BadFile));
-    let mut file = Vec::from_slice(rt.alloc(), b"before")?;
-    assert_eq!(rt; store(&Plain(&long), &mut file), Err(Refusal::BadFile));
-    assert_eq!(rt; file.as_slice(), b"before".as_slice());
-    // The two bytes of a line end are one character.
-    let lines = letters(rt.alloc(), MAX_TEXT - 1, b"\r\n")?;
-    assert_eq!(rt; load(rt.alloc(), &lines)?.len(), 1048576);
-    Ok(())
+    let mut bytes = Vec::new(rt.alloc());
+    have_a_bound(rt.alloc(), &mut bytes)
 }

@@ -1,3 +1,4 @@
+use super::is;
 use char_files::{Buffer, Plain, Source};
 use looks::{Colour, Looks, Refusal};
 use reader_scanner::Reader;
@@ -25,37 +26,61 @@ fn looks_of(is_red: bool) -> Option<Looks> {
     })
 }
 
-// Whichever allocation is refused, the buffer is as it was before, and the next try goes on from there.
-#[test]
-fn stretches_are_read(rt: HostRuntime) -> Result<(), Fail> {
-    let mut buffer = Buffer::new(rt.alloc());
+// Puts the stretches into the buffer. Whichever allocation is refused, the buffer is as it was before, and the
+// next try goes on from there.
+fn fill(buffer: &mut Buffer) -> Result<(), Fail> {
     for (bytes, is_red) in STRETCHES {
         let looks = looks_of(*is_red).ok_or("3 is a colour")?;
         let before = buffer.len();
-        if let Err(refusal) = buffer.push_all(bytes, &looks) {
-            assert_eq!(rt; (refusal, buffer.len()), (Refusal::OutOfMemory, before));
-            buffer.push_all(bytes, &looks)?;
-        }
+        let Err(refusal) = buffer.push_all(bytes, &looks) else {
+            continue;
+        };
+        is(
+            refusal == Refusal::OutOfMemory && buffer.len() == before,
+            "as before",
+        )?;
+        buffer.push_all(bytes, &looks)?;
     }
-    assert_eq!(rt; (buffer.len(), buffer.runs().len()), (8, 3));
-    let mut reader = Reader::open(&buffer, 0);
-    for (pos, byte) in b"abcdefgh".iter().enumerate() {
-        let looks = looks_of((3..6).contains(&pos)).ok_or("3 is a colour")?;
-        assert_eq!(rt; reader.pos(), pos as u64);
-        assert_eq!(rt; reader.read(), Some((*byte, looks)));
-    }
-    assert_eq!(rt; reader.read(), None);
-    assert_eq!(rt; reader.read(), None);
-    assert_eq!(rt; reader.pos(), 8);
     Ok(())
 }
 
+fn are_read(reader: &mut Reader<'_, Buffer>) -> Result<(), Fail> {
+    for (pos, byte) in b"abcdefgh".iter().enumerate() {
+        let looks = looks_of((3..6).contains(&pos)).ok_or("3 is a colour")?;
+        is(reader.pos() == pos as u64, "a position")?;
+        is(
+            reader.read() == Some((*byte, looks)),
+            "a character and its looks",
+        )?;
+    }
+    is(
+        reader.read().is_none() && reader.read().is_none(),
+        "the end",
+    )?;
+    is(reader.pos() == 8, "the position of the end")
+}
+
+fn go_in_and_out(buffer: &mut Buffer) -> Result<(), Fail> {
+    fill(buffer)?;
+    is(
+        buffer.len() == 8 && buffer.runs().len() == 3,
+        "8 characters in 3 runs",
+    )?;
+    are_read(&mut Reader::open(buffer, 0))
+}
+
 #[test]
-fn plain_bytes_are_read(rt: HostRuntime) {
+fn stretches_are_read(rt: HostRuntime) -> Result<(), Fail> {
+    let mut buffer = Buffer::new(rt.alloc());
+    go_in_and_out(&mut buffer)
+}
+
+#[test]
+fn plain_bytes_are_read() -> Result<(), Fail> {
     let plain = Plain(b"xy");
-    assert_eq!(rt; plain.len(), 2);
+    is(plain.len() == 2, "two bytes")?;
     let mut reader = Reader::open(&plain, 1);
-    assert_eq!(rt; reader.read(), Some((b'y', Looks::plain())));
-    assert_eq!(rt; reader.read(), None);
-    assert_eq!(rt; Reader::open(&plain, 7).read(), None);
+    is(reader.read() == Some((b'y', Looks::plain())), "the second")?;
+    is(reader.read().is_none(), "the end")?;
+    is(Reader::open(&plain, 7).read().is_none(), "behind the end")
 }

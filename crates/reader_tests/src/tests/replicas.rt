@@ -1,4 +1,5 @@
-use crate::tests::files::STORED;
+use super::files::STORED;
+use super::is;
 use char_files::{Buffer, SiteNo, Source, TextNo};
 use looks::Looks;
 use reader_scanner::{Class, Reader, Scanner};
@@ -22,45 +23,65 @@ fn type_ahead(
     }
 }
 
-// Site 2 types `5` in the default looks, and then `-` ahead of it, raised; where memory is refused, once more.
-#[test]
-fn a_replica_is_read(rt: HostRuntime) -> Result<(), Fail> {
-    let text = TextNo::new(1).ok_or("1 is a text")?;
-    let site = SiteNo::new(2).ok_or("2 is a site")?;
-    let mut raised = Looks::plain();
-    raised.offset = 2;
-    let mut replica = Replica::new(rt.alloc(), text, site)?;
-    let mut outbox = Outbox::new(rt.alloc());
-    assert_eq!(rt; Reader::open(&replica, 0).read(), None);
-    for (byte, looks) in [(b'5', Looks::plain()), (b'-', raised.copy())] {
-        let typed = type_ahead(&mut replica, &mut outbox, rt.alloc(), byte, looks.copy());
-        assert!(rt; typed || type_ahead(&mut replica, &mut outbox, rt.alloc(), byte, looks));
-    }
-    assert_eq!(rt; Source::len(&replica), 2);
-    let mut reader = Reader::open(&replica, 0);
-    assert_eq!(rt; reader.read(), Some((b'-', raised)));
-    assert_eq!(rt; reader.read(), Some((b'5', Looks::plain())));
-    assert_eq!(rt; reader.read(), None);
-    let token = Scanner::open(&replica, 0).scan();
-    assert_eq!(rt; (token.class(), token.beg, token.end), (Class::Int, 0, 2));
-    Ok(())
+// The same; where memory is refused, once more.
+fn types(
+    replica: &mut Replica,
+    outbox: &mut Outbox,
+    alloc: Global,
+    byte: u8,
+    looks: &Looks,
+) -> Result<(), Fail> {
+    let done = type_ahead(replica, outbox, alloc, byte, looks.copy())
+        || type_ahead(replica, outbox, alloc, byte, looks.copy());
+    is(done, "typed")
 }
 
-// Site 1 types a text from its last character to its first.
-#[test]
-fn a_replica_is_stored(rt: HostRuntime) -> Result<(), Fail> {
-    let text = TextNo::new(1).ok_or("1 is a text")?;
-    let site = SiteNo::new(1).ok_or("1 is a site")?;
-    let mut replica = Replica::new(rt.alloc(), text, site)?;
-    let mut outbox = Outbox::new(rt.alloc());
+fn is_stored(replica: &Replica, alloc: Global) -> Result<(), Fail> {
+    let mut file = Vec::new(alloc);
+    let stored = store(replica, &mut file);
+    is(
+        stored.is_ok() && file.as_slice() == STORED.as_slice(),
+        "its file",
+    )
+}
+
+fn is_read(replica: &Replica, raised: &Looks) -> Result<(), Fail> {
+    is(Source::len(replica) == 15, "fifteen characters")?;
+    let mut reader = Reader::open(replica, 0);
+    is(reader.read() == Some((b'-', raised.copy())), "the first")?;
+    is(reader.read() == Some((b'5', Looks::plain())), "the second")?;
+    let token = Scanner::open(replica, 0).scan();
+    is(
+        (token.class(), token.beg, token.end) == (Class::Int, 0, 2),
+        "a number",
+    )
+}
+
+// The site types a text from its last character to its first, and then `-5 ` ahead of it, the `-` raised.
+fn is_typed(replica: &mut Replica, outbox: &mut Outbox, alloc: Global) -> Result<(), Fail> {
+    is(Reader::open(replica, 0).read().is_none(), "no character")?;
     for byte in b"s erotS.tidE" {
-        let typed = type_ahead(&mut replica, &mut outbox, rt.alloc(), *byte, Looks::plain());
-        assert!(rt;
-            typed || type_ahead(&mut replica, &mut outbox, rt.alloc(), *byte, Looks::plain())
-        );
+        types(replica, outbox, alloc, *byte, &Looks::plain())?;
     }
-    let mut file = Vec::new(rt.alloc());
-    store(&replica, &mut file)?;
-    assert_eq!(rt; file.as_slice(), STORED);
-    Ok(())
+    is_stored(replica, alloc)?;
+    for byte in b" 5" {
+        types(replica, outbox, alloc, *byte, &Looks::plain())?;
+    }
+    let mut raised = Looks::plain();
+    raised.offset = 2;
+    types(replica, outbox, alloc, b'-', &raised)?;
+    is_read(replica, &raised)
+}
+
+fn with_an_outbox(replica: &mut Replica, alloc: Global) -> Result<(), Fail> {
+    let mut outbox = Outbox::new(alloc);
+    is_typed(replica, &mut outbox, alloc)
+}
+
+#[test]
+fn a_replica_is_a_source(rt: HostRuntime) -> Result<(), Fail> {
+    let text = TextNo::new(1).ok_or("1 is a text")?;
+    let site = SiteNo::new(2).ok_or("2 is a site")?;
+    let mut replica = Replica::new(rt.alloc(), text, site)?;
+    with_an_outbox(&mut replica, rt.alloc())
 }
