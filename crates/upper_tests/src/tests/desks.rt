@@ -15,41 +15,29 @@ fn desk_of_site_1(alloc: Global) -> Result<Desk, Fail> {
     }
 }
 
-// The last text of a desk.
-fn last_text() -> Result<TextNo, Refusal> {
-    TextNo::new(MAX_TEXT).ok_or(Refusal::BadEvent)
-}
-
-// The answer line of the last text; what is refused memory once is tried again.
-fn line_of(desk: &Desk) -> Result<Vec<u8>, Refusal> {
-    let text = last_text()?;
+// Prints a text; what is refused memory once is tried again.
+fn prints(desk: &Desk, text: TextNo, want: &[u8]) -> Result<(), Fail> {
     if MAX_TEXT < text.get() {
-        return Err(Refusal::BadEvent);
+        return Err("a text".into());
     }
-    match desk.text(text) {
-        Ok(line) => Ok(line),
-        Err(_) => desk.text(text),
-    }
-}
-
-fn prints(desk: &Desk, want: &[u8]) -> Result<(), Fail> {
-    let line = line_of(desk)?;
+    let line = match desk.text(text) {
+        Ok(line) => line,
+        Err(_) => desk.text(text)?,
+    };
     is(line.as_slice() == want, "a line")
 }
 
-// Types bytes in the last text, 4,096 at most.
+// Types 4,096 bytes at most.
 fn type_in(
     desk: &mut Desk,
-    pos: u64,
-    bytes: &[u8],
+    text: TextNo,
+    (pos, bytes): (u64, &[u8]),
     outbox: &mut Outbox,
 ) -> Result<u32, EditRefusal> {
-    match last_text() {
-        Ok(text) if text.get() <= MAX_TEXT && bytes.len() <= 4096 => {
-            desk.type_in(text, pos, bytes, outbox)
-        }
-        _ => Err(EditRefusal::Whole(Refusal::BadEvent)),
+    if MAX_TEXT < text.get() || 4096 < bytes.len() {
+        return Err(EditRefusal::Whole(Refusal::BadEvent));
     }
+    desk.type_in(text, pos, bytes, outbox)
 }
 
 // Positions, bytes that are typed there, and the text's line before and after.
@@ -62,33 +50,22 @@ const EDITS: &[(u64, &[u8], &[u8], &[u8])] = &[
 // sent, and the edit is tried again.
 fn goes_in(
     desk: &mut Desk,
+    text: TextNo,
     (pos, bytes, before, after): &(u64, &[u8], &[u8], &[u8]),
     outbox: &mut Outbox,
 ) -> Result<(), Fail> {
     let sent = outbox.len();
-    let mut answer = type_in(desk, *pos, bytes, outbox);
+    let mut answer = type_in(desk, text, (*pos, *bytes), outbox);
     if answer == Err(EditRefusal::Whole(Refusal::OutOfMemory)) {
         is(outbox.len() == sent, "no message")?;
-        prints(desk, before)?;
-        answer = type_in(desk, *pos, bytes, outbox);
+        prints(desk, text, before)?;
+        answer = type_in(desk, text, (*pos, *bytes), outbox);
     }
     is(
         answer == Ok(1) && outbox.len() == sent.saturating_add(1),
         "one message",
     )?;
-    prints(desk, after)
-}
-
-fn all_go_in(desk: &mut Desk, outbox: &mut Outbox) -> Result<(), Fail> {
-    for edit in EDITS {
-        goes_in(desk, edit, outbox)?;
-    }
-    is(type_in(desk, 5, b"", outbox) == Ok(0), "nothing typed")?;
-    let behind = type_in(desk, 6, b"", outbox);
-    is(
-        behind == Err(EditRefusal::Whole(Refusal::OutOfRange)),
-        "behind the end",
-    )
+    prints(desk, text, after)
 }
 
 const FIRST_MESSAGE: &[u8] =
@@ -96,8 +73,17 @@ const FIRST_MESSAGE: &[u8] =
     \x00\x00\x00\x00\x00\x00\x00\x00\x00\x00\
     \x10Oberon10.Scn.Fnt\x01\x00\x00\x02AC";
 
-fn all_are_sent(desk: &mut Desk, outbox: &mut Outbox) -> Result<(), Fail> {
-    all_go_in(desk, outbox)?;
+fn all_go_in(desk: &mut Desk, text: TextNo, outbox: &mut Outbox) -> Result<(), Fail> {
+    for edit in EDITS {
+        goes_in(desk, text, edit, outbox)?;
+    }
+    let nothing = type_in(desk, text, (5, b""), outbox);
+    is(nothing == Ok(0), "nothing typed")?;
+    let behind = type_in(desk, text, (6, b""), outbox);
+    is(
+        behind == Err(EditRefusal::Whole(Refusal::OutOfRange)),
+        "behind the end",
+    )?;
     is(
         outbox.len() == 2 && outbox.message(0) == FIRST_MESSAGE,
         "what is sent",
@@ -107,6 +93,7 @@ fn all_are_sent(desk: &mut Desk, outbox: &mut Outbox) -> Result<(), Fail> {
 // Whichever allocation of an edit is refused, the text and the messages are as they were before.
 #[test]
 fn types_and_prints(rt: HostRuntime) -> Result<(), Fail> {
+    let last = TextNo::new(MAX_TEXT).ok_or("the last text")?;
     let mut desk = desk_of_site_1(rt.alloc())?;
-    all_are_sent(&mut desk, &mut Outbox::new(rt.alloc()))
+    all_go_in(&mut desk, last, &mut Outbox::new(rt.alloc()))
 }

@@ -3,35 +3,9 @@ use std::io;
 // A reader that gives at most `step` bytes at a time; behind its bytes it ends, or fails.
 #[derive(Clone, Copy, Drop)]
 pub(super) struct Reader<'a> {
-    bytes: &'a [u8],
-    step: usize,
-    fails: bool,
-}
-
-impl<'a> Reader<'a> {
-    pub(super) fn at_once(bytes: &'a [u8]) -> Reader<'a> {
-        Reader {
-            bytes,
-            step: bytes.len(),
-            fails: false,
-        }
-    }
-
-    pub(super) fn byte_by_byte(bytes: &'a [u8]) -> Reader<'a> {
-        Reader {
-            bytes,
-            step: 1,
-            fails: false,
-        }
-    }
-
-    pub(super) fn failing_behind(bytes: &'a [u8]) -> Reader<'a> {
-        Reader {
-            bytes,
-            step: bytes.len(),
-            fails: true,
-        }
-    }
+    pub bytes: &'a [u8],
+    pub step: usize,
+    pub fails: bool,
 }
 
 impl io::Read for Reader<'_> {
@@ -48,7 +22,7 @@ impl io::Read for Reader<'_> {
 }
 
 // How a writer fails.
-#[derive(Clone, Copy, Debug)]
+#[derive(Clone, Copy)]
 pub(super) enum Fault {
     Fails,
     IsInterrupted,

@@ -1,21 +1,11 @@
 //! A replica's own edits, by its calls.
 use super::is;
-use super::replicas::{TAKEN, appends, letters, replica_of, shows_so_many, takes};
+use super::replicas::{TAKEN, appends, letters, replica_of, takes};
 use char_files::Buffer;
 use looks::{Colour, Looks, Refusal, Sel};
 use std::alloc::Global;
 use std::test::Fail;
-use texts::{EditRefusal, MAX_SEQ, Outbox, Replica, Took};
-
-fn is_as_it_begins(replica: &Replica, outbox: &Outbox) -> Result<(), Fail> {
-    is(
-        replica.text().get() == 1 && replica.site().get() == 2,
-        "its text and site",
-    )?;
-    is(replica.shown_len() == 0, "no characters")?;
-    is(outbox.is_empty() && outbox.len() == 0, "no messages")?;
-    is(MAX_SEQ == 4_294_967_295, "the greatest seq")
-}
+use texts::{EditRefusal, Outbox, Replica, Took};
 
 // Site 1 types `Oberon`, and goes on behind the first character of site 2.
 const OBERON: &str =
@@ -23,6 +13,13 @@ const OBERON: &str =
 
 const BEHIND_SITE_2: &str =
     "4f5401010001000100000002000000000000000300020000000000000006104f6265726f6e31302e53636e2e466e740100000157";
+
+fn is_as_it_begins(replica: &Replica, outbox: &Outbox) -> Result<(), Fail> {
+    let (text, site) = (replica.text().get(), replica.site().get());
+    is(text == 1 && site == 2, "its text and site")?;
+    is(replica.shown_len() == 0, "no characters")?;
+    is(outbox.is_empty() && outbox.len() == 0, "no messages")
+}
 
 // A message that names an own character bars edits until it is forgotten.
 fn forgets(alloc: Global, replica: &mut Replica, outbox: &mut Outbox) -> Result<(), Fail> {
@@ -36,50 +33,36 @@ fn forgets(alloc: Global, replica: &mut Replica, outbox: &mut Outbox) -> Result<
     is(replica.forget_waiting() == 0, "none is left to forget")
 }
 
-// What was forgotten may come again.
-fn comes_again(alloc: Global, replica: &mut Replica) -> Result<(), Fail> {
-    takes(alloc, replica, OBERON, TAKEN)?;
-    takes(alloc, replica, BEHIND_SITE_2, TAKEN)
-}
-
-fn has_nothing_to_restore(replica: &mut Replica, outbox: &mut Outbox) -> Result<(), Fail> {
+// Takes one character out, which is the one that is recalled, and shows it again.
+fn deletes_and_restores(replica: &mut Replica, outbox: &mut Outbox) -> Result<(), Fail> {
     is(replica.delete(0, 0, outbox) == Ok(0), "nothing")?;
     is(replica.recall()?.is_empty(), "nothing was deleted yet")?;
-    is(replica.restore(outbox) == Ok(0), "nothing to restore")
-}
-
-// Takes one character out, which is the one that is recalled.
-fn deletes(replica: &mut Replica, outbox: &mut Outbox) -> Result<(), Fail> {
+    is(replica.restore(outbox) == Ok(0), "nothing to restore")?;
     if replica.shown_len() < 2 {
         return Err("two characters".into());
     }
     is(replica.delete(1, 2, outbox) == Ok(1), "a Delete")?;
-    is(replica.recall()?.len() == 1, "what was deleted")
-}
-
-fn restores(replica: &mut Replica, outbox: &mut Outbox) -> Result<(), Fail> {
+    is(replica.recall()?.len() == 1, "what was deleted")?;
+    is(replica.shown_len() == 2, "one is hidden")?;
     is(replica.restore(outbox) == Ok(1), "a Restore")?;
-    is(replica.restore(outbox) == Ok(0), "all is shown")
+    is(replica.restore(outbox) == Ok(0), "all is shown")?;
+    is(replica.shown_len() == 3, "it is shown")
 }
 
 // Gives the first character a colour, and leaves its font and its offset.
-fn colours(replica: &mut Replica, outbox: &mut Outbox, colour: Colour) -> Result<(), Fail> {
-    if replica.shown_len() < 1 {
-        return Err("a character".into());
-    }
+fn colours(replica: &mut Replica, outbox: &mut Outbox) -> Result<(), Fail> {
+    let colour = Colour::new(5).ok_or("a colour")?;
+    let sel = Sel::new(2).ok_or("the colour alone")?;
     let looks = Looks {
         font: Looks::plain().font,
         colour,
         offset: 7,
     };
-    let sel = Sel::new(2).ok_or("the colour alone")?;
-    is(
-        replica.change_looks(0, 1, sel, &looks, outbox) == Ok(1),
-        "a ChangeLooks",
-    )
-}
-
-fn is_coloured(replica: &Replica, colour: Colour) -> Result<(), Fail> {
+    if replica.shown_len() < 1 {
+        return Err("a character".into());
+    }
+    let answer = replica.change_looks(0, 1, sel, &looks, outbox);
+    is(answer == Ok(1), "a ChangeLooks")?;
     if replica.shown_len() < 1 {
         return Err("a character".into());
     }
@@ -89,31 +72,23 @@ fn is_coloured(replica: &Replica, colour: Colour) -> Result<(), Fail> {
     is(replica.save(0, 1)?.len() == 1, "what is saved")
 }
 
+// What was forgotten may come again behind them.
 fn edits(alloc: Global, replica: &mut Replica, outbox: &mut Outbox) -> Result<(), Fail> {
-    let colour = Colour::new(5).ok_or("a colour")?;
-    appends(alloc, replica, b"aaa", outbox, Ok(1))?;
-    has_nothing_to_restore(replica, outbox)?;
-    deletes(replica, outbox)?;
-    shows_so_many(replica, 2)?;
-    restores(replica, outbox)?;
-    shows_so_many(replica, 3)?;
-    colours(replica, outbox, colour)?;
-    is_coloured(replica, colour)?;
-    is(outbox.len() == 4, "four messages")
-}
-
-fn waits_and_edits(alloc: Global, replica: &mut Replica, outbox: &mut Outbox) -> Result<(), Fail> {
     is_as_it_begins(replica, outbox)?;
     forgets(alloc, replica, outbox)?;
-    edits(alloc, replica, outbox)?;
-    comes_again(alloc, replica)?;
-    shows_so_many(replica, 10)
+    appends(alloc, replica, b"aaa", outbox, Ok(1))?;
+    deletes_and_restores(replica, outbox)?;
+    colours(replica, outbox)?;
+    is(outbox.len() == 4, "four messages")?;
+    takes(alloc, replica, OBERON, TAKEN)?;
+    takes(alloc, replica, BEHIND_SITE_2, TAKEN)?;
+    is(replica.shown_len() == 10, "all of them")
 }
 
 #[test]
 fn edits_its_own_text(rt: HostRuntime) -> Result<(), Fail> {
     let mut replica = replica_of(rt.alloc(), 1, 2)?;
-    waits_and_edits(rt.alloc(), &mut replica, &mut Outbox::new(rt.alloc()))
+    edits(rt.alloc(), &mut replica, &mut Outbox::new(rt.alloc()))
 }
 
 // Fills a site's file, 4,096 bytes at a time; one byte more is refused.
@@ -128,7 +103,7 @@ fn fills(
     }
     let spent = Err(EditRefusal::Whole(Refusal::FileSpent));
     appends(alloc, replica, b"a", outbox, spent)?;
-    shows_so_many(replica, 1 << 24)
+    is(replica.shown_len() == 1 << 24, "all of them")
 }
 
 fn spends_its_file(alloc: Global, replica: &mut Replica, outbox: &mut Outbox) -> Result<(), Fail> {

@@ -1,12 +1,12 @@
 //! Messages of four sites, handed to a fifth in many orders, with repeats and merges.
 use super::is;
-use super::replicas::{TAKEN, replica_of, shows_so_many, site};
+use super::replicas::{TAKEN, replica_of, site};
 use char_files::{Buffer, Char};
 use looks::{Colour, FontName, Looks, Refusal, Sel};
 use operations::{Op, decode};
 use std::alloc::Global;
 use std::test::Fail;
-use texts::{Outbox, Replica, Settled, Took};
+use texts::{Outbox, Replica, Took};
 use tree_order::{is_good, slow_shown};
 
 const SITES: u16 = 4;
@@ -137,27 +137,19 @@ fn edits(
     }
 }
 
-// Whether a message came in that was sent in turn: all of its causes were here, or it is an own one.
-fn came_in(took: Result<Took, Refusal>) -> bool {
-    took == TAKEN || took == Ok(Took::Repeat)
-}
-
-// Hands a message in.
-fn hand(
-    replica: &mut Replica,
-    outbox: &Outbox,
-    index: usize,
-) -> Result<Result<Took, Refusal>, Fail> {
+// Hands a message in, which there is.
+fn hand(replica: &mut Replica, outbox: &Outbox, index: usize) -> Result<Took, Refusal> {
     if outbox.len() <= index {
-        return Err("a message".into());
+        return Err(Refusal::BadEvent);
     }
-    Ok(replica.take(outbox.message(index)))
+    replica.take(outbox.message(index))
 }
 
-// Takes in a stretch of the messages, in turn.
+// Takes in a stretch of the messages, in turn: all of their causes are here, or they are own ones.
 fn takes_all(replica: &mut Replica, outbox: &Outbox, beg: usize, end: usize) -> Result<(), Fail> {
     for index in beg..end {
-        is(came_in(hand(replica, outbox, index)?), "taken in")?;
+        let took = hand(replica, outbox, index);
+        is(took == TAKEN || took == Ok(Took::Repeat), "taken in")?;
     }
     Ok(())
 }
@@ -224,20 +216,18 @@ fn defined(alloc: Global, ops: &mut Vec<Op>, outbox: &Outbox) -> Result<Vec<Char
     Ok(slow_shown(alloc, ops)?)
 }
 
-fn is_same(one: &Char, other: &Char) -> Result<(), Fail> {
-    is(
-        one.name == other.name && one.byte == other.byte && one.looks == other.looks,
-        "a character",
-    )
-}
-
 fn shows(replica: &Replica, want: &[Char]) -> Result<(), Fail> {
-    shows_so_many(replica, want.len() as u64)?;
     let mut shown = replica.shown();
     for char in want {
-        is_same(&shown.next().ok_or("a character")?, char)?;
+        let next = shown.next().ok_or("a character")?;
+        is(next.name == char.name && next.byte == char.byte, "a name")?;
+        is(next.looks == char.looks, "its looks")?;
     }
-    is(shown.next().is_none(), "all of them")
+    is(shown.next().is_none(), "all of them")?;
+    is(
+        replica.shown_len() == want.len() as u64,
+        "how much is shown",
+    )
 }
 
 // How many of the messages were taken in.
@@ -281,21 +271,14 @@ fn add_numbers(dice: &mut Dice, order: &mut Vec<usize>, count: usize) -> Result<
     Ok(())
 }
 
-// Whether a message was refused for want of a place, the only reason that there can be.
-fn was_full(took: Result<Took, Refusal>) -> Result<bool, Fail> {
-    match took {
-        Ok(_) => Ok(false),
-        Err(why) if why == Refusal::RoomFull => Ok(true),
-        Err(why) => Err(why.into()),
-    }
-}
-
-// Hands all in. How many were refused for want of a place.
+// Hands all in. How many were refused for want of a place, the only reason that there can be.
 fn hands_all(replica: &mut Replica, outbox: &Outbox, order: &[usize]) -> Result<usize, Fail> {
     let mut refused: usize = 0;
     for index in order {
-        if was_full(hand(replica, outbox, *index)?)? {
-            refused = refused.saturating_add(1);
+        match hand(replica, outbox, *index) {
+            Ok(_) => (),
+            Err(Refusal::RoomFull) => refused = refused.saturating_add(1),
+            Err(why) => return Err(why.into()),
         }
     }
     Ok(refused)
@@ -329,17 +312,6 @@ fn merges_all(replica: &mut Replica, writers: &[Replica]) -> Result<(), Fail> {
     Ok(())
 }
 
-// All that waited is held by now.
-fn settles(replica: &mut Replica) -> Result<(), Fail> {
-    let none_left = Settled {
-        drained: 0,
-        dropped: replica.waiting(),
-        stopped: false,
-    };
-    is(replica.settle() == none_left, "what waited")?;
-    is(replica.waiting() == 0, "none waits")
-}
-
 // What was sent, and what it shows.
 #[derive(Clone, Copy)]
 struct Sent<'a> {
@@ -367,15 +339,13 @@ fn hears_half(
     is(order.is_near != (refused != 0), "a full room")?;
     is(reader.waiting() != 0, "some wait")?;
     merges_all(reader, writers)?;
-    settles(reader)?;
+    // All that waited is held by now.
+    let dropped = reader.waiting();
+    let settled = reader.settle();
+    is(settled.dropped == dropped, "what waited")?;
+    is(settled.drained == 0 && !settled.stopped, "what waited")?;
+    is(reader.waiting() == 0, "none waits")?;
     shows(reader, sent.shown)
-}
-
-fn are_alike(one: &Replica, two: &Replica, want: &[Char]) -> Result<(), Fail> {
-    is(one.has_fronts_of(two), "equal fronts")?;
-    is(two.has_fronts_of(one), "equal fronts")?;
-    shows(one, want)?;
-    shows(two, want)
 }
 
 // All messages come in this order, and then two merge both ways.
@@ -391,7 +361,10 @@ fn hears_all(
     is(taken_in(reader)? == sent.outbox.len() as u64, "all of them")?;
     is(merges(reader, writer)? == 0, "nothing new")?;
     merges(writer, reader)?;
-    are_alike(reader, writer, sent.shown)
+    is(reader.has_fronts_of(writer), "equal fronts")?;
+    is(writer.has_fronts_of(reader), "equal fronts")?;
+    shows(reader, sent.shown)?;
+    shows(writer, sent.shown)
 }
 
 // A reader comes by this order to what was sent: by half of it, or by all.

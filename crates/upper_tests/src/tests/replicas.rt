@@ -42,10 +42,6 @@ pub(super) fn appends(
     is(replica.append(&letters, outbox) == want, "an append")
 }
 
-pub(super) fn shows_so_many(replica: &Replica, count: u64) -> Result<(), Fail> {
-    is(replica.shown_len() == count, "how much is shown")
-}
-
 // Hands a message in that is given in hex.
 pub(super) fn takes(
     alloc: Global,

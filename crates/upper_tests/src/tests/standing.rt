@@ -25,22 +25,16 @@ const SHOWN: &[(u8, u16, u32)] = &[
     (b'e', 1, 2),
 ];
 
-fn is_next(shown: &mut Shown<'_>, (byte, site, off): (u8, u16, u32)) -> Result<(), Fail> {
-    let char = shown.next().ok_or("a character")?;
-    is(
-        char.byte == byte && char.looks == Looks::plain(),
-        "a character",
-    )?;
-    is(
-        char.name.site().get() == site && char.name.off() == off,
-        "a name",
-    )
-}
-
 fn shows_all(replica: &Replica) -> Result<(), Fail> {
     let mut shown = replica.shown();
-    for want in SHOWN {
-        is_next(&mut shown, *want)?;
+    for (byte, site, off) in SHOWN {
+        let char = shown.next().ok_or("a character")?;
+        let name = (char.name.site().get(), char.name.off());
+        is(name == (*site, *off), "a name")?;
+        is(
+            char.byte == *byte && char.looks == Looks::plain(),
+            "a character",
+        )?;
     }
     is(shown.next().is_none(), "all of them")
 }
@@ -83,10 +77,7 @@ fn has_its_fronts(replica: &Replica) -> Result<(), Fail> {
     for (number, front) in FRONTS {
         is(replica.front(site(*number)?) == *front, "a front")?;
     }
-    is(replica.waiting() == 0, "none waits")
-}
-
-fn has_its_sites(replica: &Replica) -> Result<(), Fail> {
+    is(replica.waiting() == 0, "none waits")?;
     let wants = [site(1)?, site(2)?];
     is(replica.sites()?.as_slice() == wants.as_slice(), "the sites")
 }
@@ -95,22 +86,10 @@ fn stands_as_told(replica: &Replica) -> Result<(), Fail> {
     shows_all(replica)?;
     has_its_places(replica)?;
     has_its_anchors(replica)?;
-    has_its_fronts(replica)?;
-    has_its_sites(replica)
+    has_its_fronts(replica)
 }
 
 // Neither takes the other's operations over.
-fn do_not_mix(one: &mut Replica, two: &mut Replica) -> Result<(), Fail> {
-    let refused = Err(MergeRefusal::Whole(Refusal::WrongText));
-    is(one.merge_from(two) == refused, "another text")?;
-    is(two.merge_from(one) == refused, "another text")?;
-    is(
-        !one.has_fronts_of(two) && !two.has_fronts_of(one),
-        "other fronts",
-    )?;
-    is(two.shown_len() == 1, "as before")
-}
-
 fn stays_apart(
     alloc: Global,
     one: &mut Replica,
@@ -118,7 +97,12 @@ fn stays_apart(
     outbox: &mut Outbox,
 ) -> Result<(), Fail> {
     appends(alloc, two, b"b", outbox, Ok(1))?;
-    do_not_mix(one, two)?;
+    let refused = Err(MergeRefusal::Whole(Refusal::WrongText));
+    is(one.merge_from(two) == refused, "another text")?;
+    is(two.merge_from(one) == refused, "another text")?;
+    is(!one.has_fronts_of(two), "other fronts")?;
+    is(!two.has_fronts_of(one), "other fronts")?;
+    is(two.shown_len() == 1, "as before")?;
     stands_as_told(one)
 }
 
