@@ -15,6 +15,3 @@ pub use ring::Ring;
 
 /// The most members of a ring, so that a tag has 32 bits: the table isn't grown past it. This project's own.
 pub const MAX_TAGS: usize = 1 << 32;
-
-#[cfg(test)]
-mod tests;

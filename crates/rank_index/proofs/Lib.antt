@@ -5,7 +5,6 @@ pub mod Grouped
 pub mod Halved
 pub mod Homes
 pub mod Inserted
-pub mod Light
 pub mod Pieces
 pub mod Placed
 pub mod Reweighed

@@ -2,4 +2,3 @@ pub mod Chunks
 pub mod Groups
 pub mod Places
 pub mod Ranked
-pub mod Tests

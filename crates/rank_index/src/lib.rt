@@ -7,6 +7,3 @@ mod groups;
 mod index;
 
 pub use index::RankIndex;
-
-#[cfg(test)]
-mod tests;

@@ -11,18 +11,37 @@ use piece_list::PieceList;
 use std::alloc::Global;
 use std::test::Fail;
 
-// Whether all that is shown looks like this.
-fn all_look(list: &PieceList, want: &Looks) -> bool {
-    for run in list.walk() {
-        if run.looks != *want {
-            return false;
-        }
-    }
-    true
+// Looks as a test writes them: the font's name, and the colour.
+type Dress = (&'static [u8], u8);
+
+// What is done to a list.
+#[derive(Clone, Copy)]
+pub(super) enum Step {
+    // A run is placed: its names, its stamp, and its cause, if that isn't the root.
+    Type(Names, u64, Option<(u16, u32)>),
+    // These names are hidden, or shown again, under a key of this stamp and site.
+    Switch(&'static [Names], bool, (u64, u16)),
+    // What is selected of these names' looks is changed, under such a key: 1 for the font, 2 for the colour, or 3.
+    Relook(&'static [Names], u8, Dress, (u64, u16)),
 }
 
-pub(super) fn key(stamp: u64, site: u16) -> Key {
+pub(super) fn key((stamp, site): (u64, u16)) -> Key {
     Key { stamp, site }
+}
+
+fn anchor(cause: Option<(u16, u32)>) -> Result<Anchor, Fail> {
+    Ok(match cause {
+        Some((site, off)) => Anchor::At(name(site, off)?),
+        None => Anchor::Root,
+    })
+}
+
+fn looks((font, colour): Dress) -> Result<Looks, Fail> {
+    Ok(Looks {
+        font: FontName::new(font).ok_or("a font")?,
+        colour: Colour::new(colour).ok_or("a colour")?,
+        offset: 0,
+    })
 }
 
 // Puts a name into the set, at the second try where memory is refused once.
@@ -54,206 +73,190 @@ pub(super) fn add(
     Ok(())
 }
 
-// The set of these names, each of which is in the list.
-fn named(list: &mut PieceList, alloc: Global, names: Names) -> Result<NameSet, Fail>
-    ensures { IfOk result (λ set. AreHere set (spelled list.new.items)) }
+fn add_range(list: &mut PieceList, names: &mut NameSet, range: Names) -> Result<(), Fail>
+    requires { AreHere names.old (spelled list.old.items) }
+    ensures { OnOk result (AreHere names.new (spelled list.new.items)) }
 {
-    let (site, at, len) = names;
-    let mut set = NameSet::new(alloc);
+    let (site, at, len) = range;
     for i in 0..len {
-        add(list, &mut set, site, at.checked_add(i).ok_or("an offset")?)?;
-    }
-    Ok(set)
-}
-
-// What a call does to the characters of a set of names.
-#[derive(Drop)]
-pub(super) enum Does {
-    Hide(Key),
-    Reveal(Key),
-    Relook(Sel, Looks, Key),
-}
-
-pub(super) fn call(list: &mut PieceList, names: &NameSet, does: &Does) -> Result<(), Refusal>
-    requires { AreHere names.now (spelled list.old.items) }
-{
-    match does {
-        Does::Hide(key) => list.hide(names, *key),
-        Does::Reveal(key) => list.reveal(names, *key),
-        Does::Relook(sel, looks, key) => list.relook(names, *sel, looks, *key),
-    }
-}
-
-fn try_change(
-    list: &mut PieceList,
-    alloc: Global,
-    names: Names,
-    does: &Does,
-) -> Result<Result<(), Refusal>, Fail> {
-    let set = named(list, alloc, names)?;
-    Ok(call(list, &set, does))
-}
-
-// Changes the characters of these names. Where memory is refused, the list is as it was, and the next try
-// succeeds.
-fn change(
-    list: &mut PieceList,
-    alloc: Global,
-    names: Names,
-    does: &Does,
-    before: &[Told],
-) -> Result<(), Fail> {
-    let Err(refusal) = try_change(list, alloc, names, does)? else {
-        return Ok(());
-    };
-    if refusal != Refusal::OutOfMemory || !has(list, before) {
-        return Err("a refused change changed the list".into());
-    }
-    Ok(try_change(list, alloc, names, does)??)
-}
-
-// Places a run behind a cause, at the second try where memory is refused once.
-fn type_in(list: &mut PieceList, names: Names, stamp: u64, cause: Anchor) -> Result<(), Fail> {
-    if try_place(list, names, stamp, cause)?.is_err() {
-        try_place(list, names, stamp, cause)??;
+        add(list, names, site, at.checked_add(i).ok_or("an offset")?)?;
     }
     Ok(())
 }
 
-const ABC: [Told; 1] = [((1, 0, 3), false)];
+fn add_ranges(list: &mut PieceList, names: &mut NameSet, ranges: &[Names]) -> Result<(), Fail>
+    requires { AreHere names.old (spelled list.old.items) }
+    ensures { OnOk result (AreHere names.new (spelled list.new.items)) }
+{
+    for range in ranges {
+        add_range(list, names, *range)?;
+    }
+    Ok(())
+}
 
-const ACX: [Told; 4] = [
+// The set of these names, each of which is in the list.
+fn named(list: &mut PieceList, alloc: Global, ranges: &[Names]) -> Result<NameSet, Fail>
+    ensures { IfOk result (λ set. AreHere set (spelled list.new.items)) }
+{
+    let mut set = NameSet::new(alloc);
+    add_ranges(list, &mut set, ranges)?;
+    Ok(set)
+}
+
+pub(super) fn switch(
+    list: &mut PieceList,
+    names: &NameSet,
+    hidden: bool,
+    key: Key,
+) -> Result<(), Refusal>
+    requires { AreHere names.now (spelled list.old.items) }
+{
+    if hidden {
+        list.hide(names, key)
+    } else {
+        list.reveal(names, key)
+    }
+}
+
+fn switch_named(
+    list: &mut PieceList,
+    alloc: Global,
+    ranges: &[Names],
+    hidden: bool,
+    key: Key,
+) -> Result<Result<(), Refusal>, Fail> {
+    let set = named(list, alloc, ranges)?;
+    Ok(switch(list, &set, hidden, key))
+}
+
+// What is selected, and the looks and the key that it gets.
+#[derive(Drop)]
+struct Change {
+    sel: Sel,
+    looks: Looks,
+    key: Key,
+}
+
+fn relook_named(
+    list: &mut PieceList,
+    alloc: Global,
+    ranges: &[Names],
+    change: &Change,
+) -> Result<Result<(), Refusal>, Fail> {
+    let set = named(list, alloc, ranges)?;
+    Ok(list.relook(&set, change.sel, &change.looks, change.key))
+}
+
+fn change_of(bits: u8, dress: Dress, of: (u64, u16)) -> Result<Change, Fail> {
+    Ok(Change {
+        sel: Sel::new(bits).ok_or("a selection")?,
+        looks: looks(dress)?,
+        key: key(of),
+    })
+}
+
+fn try_step(list: &mut PieceList, alloc: Global, step: Step) -> Result<Result<(), Refusal>, Fail> {
+    match step {
+        Step::Type(names, stamp, cause) => try_place(list, names, stamp, anchor(cause)?),
+        Step::Switch(ranges, hidden, of) => switch_named(list, alloc, ranges, hidden, key(of)),
+        Step::Relook(ranges, bits, dress, of) => {
+            relook_named(list, alloc, ranges, &change_of(bits, dress, of)?)
+        }
+    }
+}
+
+// Where memory is refused, the list is as it was, and the next try succeeds.
+pub(super) fn make(
+    list: &mut PieceList,
+    alloc: Global,
+    step: Step,
+    before: &[Told],
+) -> Result<(), Fail> {
+    let Err(refusal) = try_step(list, alloc, step)? else {
+        return Ok(());
+    };
+    is(
+        refusal == Refusal::OutOfMemory && has(list, before),
+        "a refused change changed the list",
+    )?;
+    Ok(try_step(list, alloc, step)??)
+}
+
+// Steps, each with the comparisons that a placing takes where they are told, and the pieces that stand behind it; the
+// looks of all that is shown in the end; and sets of names, with whether one of them is hidden.
+#[derive(Clone, Copy)]
+struct Row {
+    what: &'static str,
+    steps: &'static [(Step, Option<u64>, &'static [Told])],
+    dress: Dress,
+    asked: &'static [(&'static [Names], bool)],
+}
+
+const PLAIN: Row = Row {
+    what: "an empty list",
+    steps: &[],
+    dress: (b"Oberon10.Scn.Fnt", 1),
+    asked: &[],
+};
+
+const A_TO_B: &[Told] = &[((1, 0, 2), false)];
+
+const A_X_B: &[Told] = &[((1, 0, 1), false), ((2, 0, 1), false), ((1, 1, 1), false)];
+
+const A_X_C_B: &[Told] = &[
+    ((1, 0, 1), false),
+    ((2, 0, 1), false),
+    ((1, 2, 1), false),
+    ((1, 1, 1), false),
+];
+
+const ABC: &[Told] = &[((1, 0, 3), false)];
+
+const ABC_X: &[Told] = &[((1, 0, 3), false), ((2, 0, 1), false)];
+
+const AC: &[Told] = &[((1, 0, 1), false), ((1, 1, 1), true), ((1, 2, 1), false)];
+
+const A_B_C: &[Told] = &[((1, 0, 1), false), ((1, 1, 1), false), ((1, 2, 1), false)];
+
+const ACX: &[Told] = &[
     ((1, 0, 1), false),
     ((1, 1, 1), true),
     ((1, 2, 1), false),
     ((2, 0, 1), false),
 ];
 
-const ABCX: [Told; 4] = [
+const ABCX: &[Told] = &[
     ((1, 0, 1), false),
     ((1, 1, 1), false),
     ((1, 2, 1), false),
     ((2, 0, 1), false),
 ];
 
-const AC: [Told; 3] = [((1, 0, 1), false), ((1, 1, 1), true), ((1, 2, 1), false)];
+const B: &[Names] = &[(1, 1, 1)];
 
-const B: Names = (1, 1, 1);
+const Q: &[Names] = &[(1, 0, 1)];
 
-// Site 1 types abc and deletes b, and shows it again under the key (3, 1). Site 2 saw only abc: it types x
-// behind c, and deletes b under the key (3, 2), which is greater.
-fn restores_at_site_1(list: &mut PieceList, alloc: Global) -> Result<(), Fail> {
-    type_in(list, (1, 0, 3), 1, Anchor::Root)?;
-    change(list, alloc, B, &Does::Hide(key(2, 1)), &ABC)?;
-    is(has(list, &AC), "b is deleted")?;
-    change(list, alloc, B, &Does::Reveal(key(3, 1)), &AC)?;
-    type_in(list, (2, 0, 1), 2, Anchor::At(name(1, 2)?))?;
-    is(has(list, &ABCX), "b is shown again")?;
-    change(list, alloc, B, &Does::Hide(key(3, 2)), &ABCX)?;
-    is(has(list, &ACX), "site 2 deleted b")?;
-    change(list, alloc, B, &Does::Reveal(key(4, 1)), &ACX)?;
-    is(has(list, &ABCX), "b is shown again above both")
-}
+const SHOWN: &[Told] = &[((1, 0, 1), false)];
 
-#[test]
-fn a_restore_against_a_delete_at_site_1(rt: HostRuntime) -> Result<(), Fail> {
-    restores_at_site_1(&mut new_list(&rt)?, rt.alloc())
-}
+const HIDDEN: &[Told] = &[((1, 0, 1), true)];
 
-const WHOLE: [Told; 2] = [((1, 0, 3), false), ((2, 0, 1), false)];
+const TYPE_Q: Step = Step::Type((1, 0, 1), 1, None);
 
-fn restores_at_site_2(list: &mut PieceList, alloc: Global) -> Result<(), Fail> {
-    type_in(list, (1, 0, 3), 1, Anchor::Root)?;
-    type_in(list, (2, 0, 1), 2, Anchor::At(name(1, 2)?))?;
-    change(list, alloc, B, &Does::Hide(key(3, 2)), &WHOLE)?;
-    is(has(list, &ACX), "b is deleted")?;
-    change(list, alloc, B, &Does::Hide(key(2, 1)), &ACX)?;
-    change(list, alloc, B, &Does::Reveal(key(3, 1)), &ACX)?;
-    is(has(list, &ACX), "both keys are less")?;
-    change(list, alloc, B, &Does::Reveal(key(4, 1)), &ACX)?;
-    is(has(list, &ABCX), "b is shown again above both")
-}
+const HIDE_Q: Step = Step::Switch(Q, true, (2, 1));
 
-#[test]
-fn a_restore_against_a_delete_at_site_2(rt: HostRuntime) -> Result<(), Fail> {
-    restores_at_site_2(&mut new_list(&rt)?, rt.alloc())
-}
-
-fn looks(font: &[u8], colour: u8) -> Result<Looks, Fail> {
-    Ok(Looks {
-        font: FontName::new(font).ok_or("a font")?,
-        colour: Colour::new(colour).ok_or("a colour")?,
-        offset: 0,
-    })
-}
-
-const Q: Names = (1, 0, 1);
-
-// What is changed at first and then of a character, hidden or not.
-#[derive(Clone, Copy)]
-struct Twice<'a> {
-    first: &'a Does,
-    second: &'a Does,
-    hidden: bool,
-}
-
-// Types a character and makes both changes. Looks are told of what is shown alone: what is hidden is shown again.
-fn change_twice(list: &mut PieceList, alloc: Global, twice: Twice<'_>) -> Result<(), Fail> {
-    let stands = [(Q, twice.hidden)];
-    type_in(list, Q, 1, Anchor::Root)?;
-    if twice.hidden {
-        change(list, alloc, Q, &Does::Hide(key(2, 1)), &[(Q, false)])?;
-    }
-    change(list, alloc, Q, twice.first, &stands)?;
-    change(list, alloc, Q, twice.second, &stands)?;
-    is(has(list, &stands), "it is hidden as before")?;
-    if twice.hidden {
-        change(list, alloc, Q, &Does::Reveal(key(3, 1)), &stands)?;
-    }
-    is(has(list, &[(Q, false)]), "it is shown")
-}
-
-fn look_so(
-    list: &mut PieceList,
-    alloc: Global,
-    twice: Twice<'_>,
-    want: &Looks,
-) -> Result<(), Fail> {
-    change_twice(list, alloc, twice)?;
-    is(all_look(list, want), "its looks")
-}
-
-// In both orders, hidden or not.
-fn all_look_so(rt: &HostRuntime, one: &Does, two: &Does, want: &Looks) -> Result<(), Fail> {
-    for hidden in [false, true] {
-        for (first, second) in [(one, two), (two, one)] {
-            let twice = Twice {
-                first,
-                second,
-                hidden,
-            };
-            look_so(&mut new_list(rt)?, rt.alloc(), twice, want)?;
-        }
-    }
-    Ok(())
-}
+const SHOW_Q: Step = Step::Switch(Q, false, (3, 1));
 
 // Site 1 sets font and colour under the key (2, 1), site 2 the colour under (2, 2): each attribute takes the
-// greater key, in both orders, hidden or not.
-#[test]
-fn looks_go_by_attribute(rt: HostRuntime) -> Result<(), Fail> {
-    let font_and_colour = Sel::new(3).ok_or("a selection")?;
-    let colour = Sel::new(2).ok_or("a selection")?;
-    let mono = Does::Relook(font_and_colour, looks(b"Mono.Fnt", 3)?, key(2, 1));
-    let five = Does::Relook(colour, looks(b"Oberon10.Scn.Fnt", 5)?, key(2, 2));
-    all_look_so(&rt, &mono, &five, &looks(b"Mono.Fnt", 5)?)
-}
+// greater key.
+const MONO: Step = Step::Relook(Q, 3, (b"Mono.Fnt", 3), (2, 1));
 
-const ABCDEF: [Told; 1] = [((1, 0, 6), false)];
+const FIVE: Step = Step::Relook(Q, 2, (b"Oberon10.Scn.Fnt", 5), (2, 2));
 
-const ABDEF: [Told; 3] = [((1, 0, 2), false), ((1, 2, 1), true), ((1, 3, 3), false)];
+const ABCDEF: &[Told] = &[((1, 0, 6), false)];
 
-const AF: [Told; 5] = [
+const ABDEF: &[Told] = &[((1, 0, 2), false), ((1, 2, 1), true), ((1, 3, 3), false)];
+
+const AF: &[Told] = &[
     ((1, 0, 1), false),
     ((1, 1, 1), true),
     ((1, 2, 1), true),
@@ -261,7 +264,7 @@ const AF: [Told; 5] = [
     ((1, 5, 1), false),
 ];
 
-const ALL_AGAIN: [Told; 5] = [
+const ALL_AGAIN: &[Told] = &[
     ((1, 0, 1), false),
     ((1, 1, 1), false),
     ((1, 2, 1), false),
@@ -269,73 +272,216 @@ const ALL_AGAIN: [Told; 5] = [
     ((1, 5, 1), false),
 ];
 
-// Of abcdef, c goes and then all from b to e: five pieces, of which the names between are hidden.
-fn hides_over_pieces(list: &mut PieceList, alloc: Global) -> Result<(), Fail> {
-    type_in(list, (1, 0, 6), 1, Anchor::Root)?;
-    change(list, alloc, (1, 2, 1), &Does::Hide(key(2, 1)), &ABCDEF)?;
-    is(has(list, &ABDEF), "c goes")?;
-    change(list, alloc, (1, 1, 4), &Does::Hide(key(3, 1)), &ABDEF)?;
-    is(has(list, &AF), "all from b to e go")?;
-    change(list, alloc, (1, 0, 6), &Does::Reveal(key(2, 9)), &AF)?;
-    is(has(list, &AF), "the key is less")?;
-    change(list, alloc, (1, 0, 6), &Does::Reveal(key(4, 1)), &AF)?;
-    is(has(list, &ALL_AGAIN), "all are shown again")
-}
+const TYPE_SIX: Step = Step::Type((1, 0, 6), 1, None);
 
-#[test]
-fn a_range_goes_over_pieces(rt: HostRuntime) -> Result<(), Fail> {
-    hides_over_pieces(&mut new_list(&rt)?, rt.alloc())
-}
+const C_GOES: Step = Step::Switch(&[(1, 2, 1)], true, (2, 1));
 
-// The set of these names and of another one of site 1, each of which is in the list.
-fn named_and(list: &mut PieceList, alloc: Global, names: Names, off: u32) -> Result<NameSet, Fail>
-    ensures { IfOk result (λ set. AreHere set (spelled list.new.items)) }
-{
-    let mut set = named(list, alloc, names)?;
-    add(list, &mut set, 1, off)?;
-    Ok(set)
-}
-
-// A set of two ranges, a and e f, of abcdef.
-fn hides_two_ranges(list: &mut PieceList, alloc: Global) -> Result<(), Fail> {
-    type_in(list, (1, 0, 6), 1, Anchor::Root)?;
-    let names = named_and(list, alloc, (1, 4, 2), 0)?;
-    if list.hide(&names, key(2, 1)).is_err() {
-        return is(has(list, &ABCDEF), "a refused change changed the list");
-    }
-    let bcd = [((1, 0, 1), true), ((1, 1, 3), false), ((1, 4, 2), true)];
-    is(has(list, &bcd), "both ranges go")
-}
-
-#[test]
-fn two_ranges_go(rt: HostRuntime) -> Result<(), Fail> {
-    hides_two_ranges(&mut new_list(&rt)?, rt.alloc())
-}
-
-// Of abcdef, c is hidden: sets of neighbours, and whether one of them is hidden.
-const HIDDEN: &[(Names, bool)] = &[
-    ((1, 0, 2), false),
-    ((1, 1, 2), true),
-    ((1, 0, 6), true),
-    ((1, 3, 3), false),
+const ROWS: &[Row] = &[
+    PLAIN,
+    Row {
+        what: "behind one character two of one stamp",
+        steps: &[
+            (Step::Type((1, 0, 2), 1, None), Some(0), A_TO_B),
+            (
+                Step::Type((1, 2, 1), 2, Some((1, 0))),
+                Some(2),
+                &[((1, 0, 1), false), ((1, 2, 1), false), ((1, 1, 1), false)],
+            ),
+            (Step::Type((2, 0, 1), 2, Some((1, 0))), Some(2), A_X_C_B),
+        ],
+        ..PLAIN
+    },
+    Row {
+        what: "the same the other way round",
+        steps: &[
+            (Step::Type((1, 0, 2), 1, None), Some(0), A_TO_B),
+            (Step::Type((2, 0, 1), 2, Some((1, 0))), Some(2), A_X_B),
+            (Step::Type((1, 2, 1), 2, Some((1, 0))), Some(3), A_X_C_B),
+        ],
+        ..PLAIN
+    },
+    Row {
+        what: "the subtree of a greater key is skipped",
+        steps: &[
+            (Step::Type((1, 0, 2), 1, None), Some(0), A_TO_B),
+            (Step::Type((2, 0, 1), 2, Some((1, 0))), Some(2), A_X_B),
+            (
+                Step::Type((2, 1, 1), 3, Some((2, 0))),
+                Some(2),
+                &[
+                    ((1, 0, 1), false),
+                    ((2, 0, 1), false),
+                    ((2, 1, 1), false),
+                    ((1, 1, 1), false),
+                ],
+            ),
+            (
+                Step::Type((1, 2, 1), 2, Some((1, 0))),
+                Some(4),
+                &[
+                    ((1, 0, 1), false),
+                    ((2, 0, 1), false),
+                    ((2, 1, 1), false),
+                    ((1, 2, 1), false),
+                    ((1, 1, 1), false),
+                ],
+            ),
+        ],
+        ..PLAIN
+    },
+    // Site 1 types abc and deletes b, and shows it again under the key (3, 1). Site 2 saw only abc: it types x
+    // behind c, and deletes b under the key (3, 2), which is greater.
+    Row {
+        what: "a restore against a delete, at site 1",
+        steps: &[
+            (Step::Type((1, 0, 3), 1, None), None, ABC),
+            (Step::Switch(B, true, (2, 1)), None, AC),
+            (Step::Switch(B, false, (3, 1)), None, A_B_C),
+            (Step::Type((2, 0, 1), 2, Some((1, 2))), None, ABCX),
+            (Step::Switch(B, true, (3, 2)), None, ACX),
+            (Step::Switch(B, false, (4, 1)), None, ABCX),
+        ],
+        ..PLAIN
+    },
+    Row {
+        what: "a restore against a delete, at site 2",
+        steps: &[
+            (Step::Type((1, 0, 3), 1, None), None, ABC),
+            (Step::Type((2, 0, 1), 2, Some((1, 2))), None, ABC_X),
+            (Step::Switch(B, true, (3, 2)), None, ACX),
+            (Step::Switch(B, true, (2, 1)), None, ACX),
+            (Step::Switch(B, false, (3, 1)), None, ACX),
+            (Step::Switch(B, false, (4, 1)), None, ABCX),
+        ],
+        ..PLAIN
+    },
+    Row {
+        what: "looks go by attribute",
+        steps: &[
+            (TYPE_Q, None, SHOWN),
+            (MONO, None, SHOWN),
+            (FIVE, None, SHOWN),
+        ],
+        dress: (b"Mono.Fnt", 5),
+        ..PLAIN
+    },
+    Row {
+        what: "in the other order",
+        steps: &[
+            (TYPE_Q, None, SHOWN),
+            (FIVE, None, SHOWN),
+            (MONO, None, SHOWN),
+        ],
+        dress: (b"Mono.Fnt", 5),
+        ..PLAIN
+    },
+    // Looks are told of what is shown alone: what is hidden is shown again.
+    Row {
+        what: "looks of a hidden character",
+        steps: &[
+            (TYPE_Q, None, SHOWN),
+            (HIDE_Q, None, HIDDEN),
+            (MONO, None, HIDDEN),
+            (FIVE, None, HIDDEN),
+            (SHOW_Q, None, SHOWN),
+        ],
+        dress: (b"Mono.Fnt", 5),
+        ..PLAIN
+    },
+    Row {
+        what: "and in the other order",
+        steps: &[
+            (TYPE_Q, None, SHOWN),
+            (HIDE_Q, None, HIDDEN),
+            (FIVE, None, HIDDEN),
+            (MONO, None, HIDDEN),
+            (SHOW_Q, None, SHOWN),
+        ],
+        dress: (b"Mono.Fnt", 5),
+        ..PLAIN
+    },
+    // Of abcdef, c goes and then all from b to e: five pieces, of which the names between are hidden.
+    Row {
+        what: "a range goes over pieces",
+        steps: &[
+            (TYPE_SIX, None, ABCDEF),
+            (C_GOES, None, ABDEF),
+            (Step::Switch(&[(1, 1, 4)], true, (3, 1)), None, AF),
+            (Step::Switch(&[(1, 0, 6)], false, (2, 9)), None, AF),
+            (Step::Switch(&[(1, 0, 6)], false, (4, 1)), None, ALL_AGAIN),
+        ],
+        ..PLAIN
+    },
+    Row {
+        what: "two ranges go, a and e f",
+        steps: &[
+            (TYPE_SIX, None, ABCDEF),
+            (
+                Step::Switch(&[(1, 4, 2), (1, 0, 1)], true, (2, 1)),
+                None,
+                &[((1, 0, 1), true), ((1, 1, 3), false), ((1, 4, 2), true)],
+            ),
+        ],
+        ..PLAIN
+    },
+    Row {
+        what: "sets are asked for hidden characters",
+        steps: &[(TYPE_SIX, None, ABCDEF), (C_GOES, None, ABDEF)],
+        asked: &[
+            (&[(1, 0, 2)], false),
+            (&[(1, 1, 2)], true),
+            (&[(1, 0, 6)], true),
+            (&[(1, 3, 3)], false),
+            (&[(1, 0, 1), (1, 2, 1)], true),
+        ],
+        ..PLAIN
+    },
 ];
 
-fn has_hidden(list: &mut PieceList, alloc: Global, names: Names) -> Result<bool, Fail> {
-    let set = named(list, alloc, names)?;
+fn go_through(list: &mut PieceList, alloc: Global, row: &Row) -> Result<(), Fail> {
+    let mut before: &[Told] = &[];
+    for (step, count, after) in row.steps {
+        make(list, alloc, *step, before)?;
+        is(count.unwrap_or(list.steps()) == list.steps(), row.what)?;
+        is(has(list, after), row.what)?;
+        before = after;
+    }
+    Ok(())
+}
+
+// Whether all that is shown looks like this.
+fn all_look(list: &PieceList, (font, colour): Dress) -> bool {
+    for run in list.walk() {
+        let Looks {
+            font: its,
+            colour: of,
+            offset,
+        } = &run.looks;
+        if its.as_bytes() != font || (of.number(), *offset) != (colour, 0) {
+            return false;
+        }
+    }
+    true
+}
+
+fn has_hidden(list: &mut PieceList, alloc: Global, ranges: &[Names]) -> Result<bool, Fail> {
+    let set = named(list, alloc, ranges)?;
     Ok(list.has_hidden(&set))
 }
 
-fn asks_for_hidden_ones(list: &mut PieceList, alloc: Global) -> Result<(), Fail> {
-    type_in(list, (1, 0, 6), 1, Anchor::Root)?;
-    change(list, alloc, (1, 2, 1), &Does::Hide(key(2, 1)), &ABCDEF)?;
-    for (names, hidden) in HIDDEN {
-        is(has_hidden(list, alloc, *names)? == *hidden, "neighbours")?;
+fn stands_as_told(list: &mut PieceList, alloc: Global, row: &Row) -> Result<(), Fail> {
+    go_through(list, alloc, row)?;
+    is(all_look(list, row.dress), row.what)?;
+    for (ranges, hidden) in row.asked {
+        is(has_hidden(list, alloc, ranges)? == *hidden, row.what)?;
     }
-    let a_and_c = named_and(list, alloc, (1, 0, 1), 2)?;
-    is(list.has_hidden(&a_and_c), "a and c")
+    Ok(())
 }
 
 #[test]
-fn sets_are_asked_for_hidden_characters(rt: HostRuntime) -> Result<(), Fail> {
-    asks_for_hidden_ones(&mut new_list(&rt)?, rt.alloc())
+fn lists_stand_as_told(rt: HostRuntime) -> Result<(), Fail> {
+    for row in ROWS {
+        stands_as_told(&mut new_list(rt.alloc())?, rt.alloc(), row)?;
+    }
+    Ok(())
 }

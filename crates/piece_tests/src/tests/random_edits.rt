@@ -1,12 +1,13 @@
 //! Many random edits of a list, beside a plain list of its characters.
-ghost use Rattle.std.specs.Prelude.{IfOk};
+ghost use Rattle.std.specs.Prelude.{IfOk, OnOk};
 ghost use Rattle.piece_list.specs.Changing.{AreHere};
 ghost use Rattle.piece_list.specs.Spelled.{spelled};
 
-use super::changing::{Does, add, call, key};
+use super::changing::{add, key, switch};
 use super::placing::find;
 use super::told::{Names, is, name, try_place};
 use char_files::{Anchor, Name};
+use looks::{Key, Refusal};
 use operations::NameSet;
 use piece_list::{PieceList, Run};
 use std::alloc::Global;
@@ -122,14 +123,22 @@ fn types(list: &mut PieceList, chars: &mut Vec<Known>, dice: &mut Dice) -> Resul
     put(chars, names, stamp, ahead)
 }
 
+fn add_all(list: &mut PieceList, names: &mut NameSet, chars: &[Known]) -> Result<(), Fail>
+    requires { AreHere names.old (spelled list.old.items) }
+    ensures { OnOk result (AreHere names.new (spelled list.new.items)) }
+{
+    for known in chars {
+        add(list, names, known.site, known.off)?;
+    }
+    Ok(())
+}
+
 // The set of the names of these characters, each of which is in the list.
 fn names_of(list: &mut PieceList, alloc: Global, chars: &[Known]) -> Result<NameSet, Fail>
     ensures { IfOk result (λ set. AreHere set (spelled list.new.items)) }
 {
     let mut set = NameSet::new(alloc);
-    for known in chars {
-        add(list, &mut set, known.site, known.off)?;
-    }
+    add_all(list, &mut set, chars)?;
     Ok(set)
 }
 
@@ -137,6 +146,17 @@ fn mark(chars: &mut [Known], hidden: bool) {
     for known in chars {
         known.hidden = hidden;
     }
+}
+
+fn switch_all(
+    list: &mut PieceList,
+    alloc: Global,
+    chars: &[Known],
+    hidden: bool,
+    key: Key,
+) -> Result<Result<(), Refusal>, Fail> {
+    let names = names_of(list, alloc, chars)?;
+    Ok(switch(list, &names, hidden, key))
 }
 
 // Hides some neighbours, or shows them again.
@@ -147,14 +167,8 @@ fn switches(
     hidden: bool,
     edit: u32,
 ) -> Result<(), Fail> {
-    let key = key(u64::from(STAMPS.saturating_add(edit)), 1);
-    let does = if hidden {
-        Does::Hide(key)
-    } else {
-        Does::Reveal(key)
-    };
-    let names = names_of(list, alloc, chars)?;
-    call(list, &names, &does)?;
+    let key = key((u64::from(STAMPS.saturating_add(edit)), 1));
+    switch_all(list, alloc, chars, hidden, key)??;
     mark(chars, hidden);
     Ok(())
 }
@@ -283,9 +297,13 @@ fn all_edits(list: &mut PieceList, alloc: Global, chars: &mut Vec<Known>) -> Res
     Ok(())
 }
 
+fn agree_all_along(list: &mut PieceList, alloc: Global) -> Result<(), Fail> {
+    let mut chars = Vec::new(alloc);
+    all_edits(list, alloc, &mut chars)
+}
+
 // Whatever runs are typed, hidden, shown again and split, the list tells what a plain list tells.
 #[test]
 fn a_list_tells_what_a_plain_one_tells(rt: HostRuntime) -> Result<(), Fail> {
-    let mut list = PieceList::new(rt.alloc())?;
-    all_edits(&mut list, rt.alloc(), &mut Vec::new(rt.alloc()))
+    agree_all_along(&mut PieceList::new(rt.alloc())?, rt.alloc())
 }

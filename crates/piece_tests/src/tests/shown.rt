@@ -9,24 +9,22 @@ use piece_list::{PieceList, Place};
 use std::alloc::Global;
 use std::test::Fail;
 
-#[test]
-fn a_new_list_has_no_names(rt: HostRuntime) -> Result<(), Fail> {
+fn is_new(list: &mut PieceList) -> Result<(), Fail> {
     let first = name(1, 0)?;
-    let mut list = PieceList::new(rt.alloc())?;
-    assert!(rt; list.locate(first).is_none());
-    assert_eq!(rt; list.steps(), 0);
-    Ok(())
+    is(list.locate(first).is_none() && list.steps() == 0, "no name")?;
+    is(
+        list.shown_len() == 0 && list.walk().next().is_none(),
+        "nothing shown",
+    )?;
+    is(
+        list.shown_to(first).is_none() && list.key_of(first).is_none(),
+        "no character",
+    )
 }
 
 #[test]
-fn a_new_list_shows_nothing(rt: HostRuntime) -> Result<(), Fail> {
-    let first = name(1, 0)?;
-    let list = PieceList::new(rt.alloc())?;
-    assert_eq!(rt; list.shown_len(), 0);
-    assert!(rt; list.shown_to(first).is_none());
-    assert!(rt; list.key_of(first).is_none());
-    assert!(rt; list.walk().next().is_none());
-    Ok(())
+fn a_new_list_is_empty(rt: HostRuntime) -> Result<(), Fail> {
+    is_new(&mut PieceList::new(rt.alloc())?)
 }
 
 // Hides the character of this name, the only one of the set.
@@ -80,14 +78,6 @@ fn tells_of_five(list: &PieceList, third: Name) -> Result<(), Fail> {
     is(walks_all(list, &[(0, 2), (3, 3)]), "what is shown")
 }
 
-#[test]
-fn what_is_hidden_is_passed_over(rt: HostRuntime) -> Result<(), Fail> {
-    let third = name(1, 2)?;
-    let mut list = PieceList::new(rt.alloc())?;
-    hides_one_of_six(&mut list, rt.alloc(), third)?;
-    tells_of_five(&list, third)
-}
-
 // Types six characters, and cuts them in two ahead of the one of this name.
 fn splits_six(list: &mut PieceList, name: Name) -> Result<(), Fail> {
     try_place(list, (1, 0, 6), 1, Anchor::Root)??;
@@ -118,12 +108,15 @@ fn tells_of_six(list: &PieceList, third: Name) -> Result<(), Fail> {
     is(walks_all(list, &[(0, 2), (2, 4)]), "what is shown")
 }
 
+fn cuts_and_tells(list: &mut PieceList) -> Result<(), Fail> {
+    let third = name(1, 2)?;
+    splits_six(list, third)?;
+    tells_of_six(list, third)
+}
+
 #[test]
 fn what_is_shown_is_told(rt: HostRuntime) -> Result<(), Fail> {
-    let third = name(1, 2)?;
-    let mut list = PieceList::new(rt.alloc())?;
-    splits_six(&mut list, third)?;
-    tells_of_six(&list, third)
+    cuts_and_tells(&mut PieceList::new(rt.alloc())?)
 }
 
 // Of six characters the third is hidden: stretches of those that are shown, as runs by their offsets and lengths.
@@ -159,9 +152,14 @@ fn walks_stretches(list: &PieceList) -> Result<(), Fail> {
     Ok(())
 }
 
+fn hides_and_tells(list: &mut PieceList, alloc: Global) -> Result<(), Fail> {
+    let third = name(1, 2)?;
+    hides_one_of_six(list, alloc, third)?;
+    tells_of_five(list, third)?;
+    walks_stretches(list)
+}
+
 #[test]
-fn stretches_are_walked(rt: HostRuntime) -> Result<(), Fail> {
-    let mut list = PieceList::new(rt.alloc())?;
-    hides_one_of_six(&mut list, rt.alloc(), name(1, 2)?)?;
-    walks_stretches(&list)
+fn what_is_hidden_is_passed_over(rt: HostRuntime) -> Result<(), Fail> {
+    hides_and_tells(&mut PieceList::new(rt.alloc())?, rt.alloc())
 }

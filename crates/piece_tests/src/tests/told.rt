@@ -10,6 +10,7 @@ ghost use Rattle.piece_list.specs.Spelled.{spelled, HasName};
 use char_files::{Anchor, MAX_FILE, Name, SiteNo};
 use looks::{Key, Looks, Refusal};
 use piece_list::{MAX_PIECE, PieceList, Place, Run};
+use std::alloc::Global;
 use std::test::Fail;
 
 // Names as a test writes them: the site, the first offset, and how many there are.
@@ -32,7 +33,7 @@ pub(super) fn name(site: u16, off: u32) -> Result<Name, Fail> {
 }
 
 // A run under a key of its own site.
-pub(super) fn run(site: SiteNo, off: u32, len: u32, stamp: u64) -> Result<Run, Fail>
+fn run(site: SiteNo, off: u32, len: u32, stamp: u64) -> Result<Run, Fail>
     ensures { IfOk result (λ run. IsPiece (piece_of run)
         × (range_of (piece_of run) ≡ record { site = site; at = off; len = len })) }
 {
@@ -51,18 +52,11 @@ pub(super) fn run(site: SiteNo, off: u32, len: u32, stamp: u64) -> Result<Run, F
     })
 }
 
-// A run of site 1's first characters, under the key of its first operation.
-pub(super) fn first_run(len: u32) -> Result<Run, Fail>
-    ensures { IfOk result (λ run. IsPiece (piece_of run) × (run.off ≡ 0) × (run.len ≡ len)) }
-{
-    run(SiteNo::new(1).ok_or("a site")?, 0, len, 1)
-}
-
 // An empty list, at the second try where memory is refused once.
-pub(super) fn new_list(rt: &HostRuntime) -> Result<PieceList, Fail> {
-    match PieceList::new(rt.alloc()) {
+pub(super) fn new_list(alloc: Global) -> Result<PieceList, Fail> {
+    match PieceList::new(alloc) {
         Ok(list) => Ok(list),
-        Err(_) => Ok(PieceList::new(rt.alloc())?),
+        Err(_) => Ok(PieceList::new(alloc)?),
     }
 }
 

@@ -1,6 +1,6 @@
 use Rattle.std.proofs.Common.{IfSome}
 use Rattle.piece_raw.specs.Ring.{HasTag}
-use Rattle.piece_raw.proofs.tests.has.Given as goal
+use Rattle.piece_tests.proofs.tests.rings.has.Given as goal
 
 abbrev pub invariant-loop-want : goal.invariant-loop-want
 invariant-loop-want l = IfSome l.tag (HasTag l.ring.items)
