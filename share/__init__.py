@@ -1,0 +1,1 @@
+"""Lets several people edit one note: drives the program by scripts of events, over a log that they share."""

@@ -1,0 +1,301 @@
+"""The editor: a screen of curses over a note."""
+import curses
+import os
+import pathlib
+import select
+import sys
+from dataclasses import dataclass
+
+from share.layout import (Row, cluster_after, cluster_before, row_after, row_at, row_before)
+from share.note import Note
+from share.session import Status
+from share.words import Trouble, counted
+
+# The screen is looked at so often where nothing is typed and nothing comes, for its size and who is on.
+TURN_SECONDS = 0.5
+HELP = "^Z undo  ^F find  ^S save  ^Q quit"
+BAR = 30
+
+
+def control(letter: str) -> str:
+    """The character that a letter gives with Control."""
+    return chr(ord(letter) & 0x1F)
+
+
+ENTER = {"\r", "\n", curses.KEY_ENTER}
+ERASE = {"\b", "\x7f", curses.KEY_BACKSPACE}
+ESCAPE = {"\x1b", control("C"), control("G")}
+
+
+def state(status: Status) -> str:
+    """Whether what was typed is sent, in words."""
+    if status.offline:
+        return f"offline, {counted(status.unsent, 'edit')} kept"
+    return f"sending {counted(status.unsent, 'edit')}" if status.unsent else "all sent"
+
+
+def bar(done: int, total: int) -> str:
+    """A bar of what was done of all."""
+    full = BAR * done // max(1, total)
+    return f"[{'#' * full}{'.' * (BAR - full)}] {100 * done // max(1, total)}%"
+
+
+class Screen:
+    """A window with the last line kept for what the editor says."""
+
+    def __init__(self, window: "curses.window"):
+        self.window = window
+        curses.raw()
+        window.keypad(True)
+        window.nodelay(True)
+
+    @property
+    def height(self) -> int:
+        """How many rows a text has."""
+        return max(1, self.window.getmaxyx()[0] - 1)
+
+    @property
+    def width(self) -> int:
+        """How many columns a text has. One more is for a cursor behind the last."""
+        return max(2, self.window.getmaxyx()[1] - 1)
+
+    def put(self, line: int, words: str, look: int = 0) -> None:
+        """Draws a line."""
+        try:
+            self.window.move(line, 0)
+            self.window.clrtoeol()
+            self.window.addstr(line, 0, words, look)
+        except curses.error:
+            # A window that has become smaller meanwhile is drawn again at the next turn.
+            pass
+
+    def say(self, left: str, right: str = "") -> None:
+        """Draws the status line."""
+        room = self.width - len(right) - 2
+        words = f"{left[:self.width]:<{room}}  {right}" if right and len(left) <= room else f"{left[:self.width]:<{self.width}}"
+        self.put(self.height, words, curses.A_REVERSE)
+
+    def keys(self) -> list[str | int]:
+        """The keys that were pressed, without waiting."""
+        out = []
+        while True:
+            try:
+                out.append(self.window.get_wch())
+            except curses.error:
+                return out
+
+    def ask(self, question: str, answer: str = "") -> str | None:
+        """A line that the user types; None where it is given up."""
+        while True:
+            self.say(f"{question}: {answer}")
+            self._cursor(self.height, len(question) + 2 + len(answer))
+            select.select([sys.stdin], [], [])
+            for key in self.keys():
+                if key in ENTER:
+                    return answer
+                if key in ESCAPE:
+                    return None
+                if key in ERASE:
+                    answer = answer[:-1]
+                elif isinstance(key, str) and key.isprintable():
+                    answer += key
+
+    def draw(self, rows: list[Row], cursor: int) -> None:
+        """Draws rows of a text, and the cursor at its place."""
+        at = 0, 0
+        for line in range(self.height):
+            row = rows[line] if line < len(rows) else None
+            self.put(line, "".join(cell for _, cell, _ in row.cells) if row else "")
+            if row and row.begin <= cursor <= row.end:
+                at = line, row.column(cursor)
+        self._cursor(*at)
+
+    def _cursor(self, line: int, column: int) -> None:
+        try:
+            self.window.move(line, min(column, self.width))
+        except curses.error:
+            pass
+        self.window.refresh()
+
+
+@dataclass
+class Search:
+    """What was looked for last."""
+
+    words: str = ""
+
+
+class Editor:
+    """Keys change the note, and the screen shows it."""
+
+    def __init__(self, screen: Screen, note: Note, name: str, woken: int):
+        self.screen, self.note, self.name, self._woken = screen, note, name, woken
+        self._search, self._column, self._quits = Search(), None, False
+        self._keys = {
+            curses.KEY_LEFT: self._left, curses.KEY_RIGHT: self._right,
+            curses.KEY_UP: lambda: self._rows(-1), curses.KEY_DOWN: lambda: self._rows(1),
+            curses.KEY_PPAGE: lambda: self._rows(-self.screen.height), curses.KEY_NPAGE: lambda: self._rows(self.screen.height),
+            curses.KEY_HOME: self._home, curses.KEY_END: self._end, curses.KEY_DC: self._delete,
+            control("Z"): self._take_back, control("F"): self._find, control("S"): self._save, control("Q"): self._quit,
+            **dict.fromkeys(ERASE, self._backspace),
+        }
+
+    def run(self) -> None:
+        """Answers keys and shows what comes, until the user quits."""
+        self._draw()
+        while not self._quits:
+            ready, _, _ = select.select([sys.stdin, self._woken], [], [], TURN_SECONDS)
+            if self._woken in ready:
+                os.read(self._woken, 4_096)
+            self._press(self.screen.keys())
+            self.note.take_in()
+            self._draw()
+
+    def _press(self, keys: list[str | int]) -> None:
+        """Does what keys say. Characters that came at once, as pasted ones do, are typed at once."""
+        typed = ""
+        for key in keys:
+            self.note.notice = ""
+            if key in ENTER:
+                typed += "\r"
+            elif isinstance(key, str) and (key.isprintable() or key == "\t"):
+                typed += key
+            else:
+                self._type(typed)
+                typed = ""
+                self._command(key)
+        self._type(typed)
+
+    def _type(self, characters: str) -> None:
+        if characters:
+            self.note.type(characters)
+            self._column = None
+
+    def _command(self, key: str | int) -> None:
+        if command := self._keys.get(key):
+            if key not in (curses.KEY_UP, curses.KEY_DOWN, curses.KEY_PPAGE, curses.KEY_NPAGE):
+                self._column = None
+            command()
+        elif isinstance(key, str) and key not in ESCAPE:
+            self.note.notice = HELP
+
+    def _left(self) -> None:
+        self.note.moved_to(cluster_before(self.note.text, self.note.cursor))
+
+    def _right(self) -> None:
+        self.note.moved_to(cluster_after(self.note.text, self.note.cursor))
+
+    def _backspace(self) -> None:
+        self.note.erase(cluster_before(self.note.text, self.note.cursor), self.note.cursor)
+
+    def _delete(self) -> None:
+        self.note.erase(self.note.cursor, cluster_after(self.note.text, self.note.cursor))
+
+    def _home(self) -> None:
+        self.note.moved_to(self._row().begin)
+
+    def _end(self) -> None:
+        row = self._row()
+        # A long line goes on in the row below, so the place behind its last character is there.
+        goes_on = row.end < len(self.note.text) and self.note.text[row.end] != 0x0D
+        self.note.moved_to(cluster_before(self.note.text, row.end) if goes_on else row.end)
+
+    def _rows(self, count: int) -> None:
+        """Moves by rows, in the column where this began."""
+        row = self._row()
+        self._column = row.column(self.note.cursor) if self._column is None else self._column
+        step = row_before if count < 0 else row_after
+        for _ in range(abs(count)):
+            if not (other := step(self.note.text, row, self.screen.width)):
+                break
+            row = other
+        self.note.moved_to(row.position(self._column))
+
+    def _row(self) -> Row:
+        return row_at(self.note.text, self.note.cursor, self.screen.width)
+
+    def _take_back(self) -> None:
+        if not self.note.take_back():
+            self.note.notice = "You have made no edit since the note was opened that could be taken back."
+
+    def _find(self) -> None:
+        words = self.screen.ask("Find", "") or self._search.words
+        self._search.words = words
+        if words and not self.note.find(words):
+            self.note.notice = f"{words!r} isn't in the note."
+
+    def _save(self) -> None:
+        name = self.screen.ask("Save as", f"{self.name}.txt")
+        if not name:
+            return
+        path = pathlib.Path(name).expanduser()
+        if path.exists() and (self.screen.ask(f"{name} exists. Replace it (yes or no)") or "").lower() not in ("y", "yes"):
+            return
+        try:
+            path.write_bytes(self.note.as_file())
+            self.note.notice = f"Saved as {path}."
+        except OSError as why:
+            self.note.notice = f"Not saved: {path}: {why.strerror}."
+
+    def _quit(self) -> None:
+        self._quits = True
+
+    def _draw(self) -> None:
+        status = self.note.session.status()
+        left = f" {self.name}  site {status.site}  {status.on} on  {state(status)}"
+        self.screen.say(f" {self.note.notice}" if self.note.notice else left, "" if self.note.notice else HELP)
+        self.screen.draw(self._visible(), self.note.cursor)
+
+    def _visible(self) -> list[Row]:
+        """The rows on the screen, which follow the cursor."""
+        text, width, height = self.note.text, self.screen.width, self.screen.height
+        row = self._row()
+        first = row_at(text, min(self.note.top, len(text)), width)
+        rows = _below(text, first, width, height)
+        if row.begin not in [shown.begin for shown in rows]:
+            # One step below the screen scrolls by a row; a jump puts the cursor's row in the middle.
+            near = row.begin > first.begin and (last := row_before(text, row, width)) and last.begin == rows[-1].begin
+            up = height - 1 if near else 0 if _is_above(text, row, first, width) else height // 2
+            first = row
+            for _ in range(up):
+                first = row_before(text, first, width) or first
+            rows = _below(text, first, width, height)
+        self.note.top = first.begin
+        return rows
+
+
+def _below(text: bytearray, row: Row, width: int, height: int) -> list[Row]:
+    rows = [row]
+    while len(rows) < height and (row := row_after(text, row, width)):
+        rows.append(row)
+    return rows
+
+
+def _is_above(text: bytearray, row: Row, first: Row, width: int) -> bool:
+    above = row_before(text, first, width)
+    return above is not None and above.begin == row.begin
+
+
+def edit(window: "curses.window", name: str, open_note) -> Note:
+    """Opens a note with a bar, and edits it on a window."""
+    screen = Screen(window)
+    woken, waking = os.pipe()
+    os.set_blocking(waking, False)
+
+    def wake() -> None:
+        try:
+            os.write(waking, b"!")
+        except BlockingIOError:
+            # So many wait that one more says nothing.
+            pass
+
+    def catching_up(done: int, total: int) -> None:
+        screen.say(f" {name}  catching up  {bar(done, total)}")
+        screen.window.refresh()
+
+    note = open_note(catching_up, wake)
+    try:
+        Editor(screen, note, name, woken).run()
+    finally:
+        note.session.close()
+    return note

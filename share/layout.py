@@ -1,0 +1,128 @@
+"""How a text is laid out in rows of a screen: lines end at 0DH, and long ones go on in the next row."""
+import unicodedata
+from dataclasses import dataclass
+
+LINE_END = 0x0D
+TAB = 8
+# A longer line is laid out in parts, each beginning a row, so that a key in a line of a megabyte is answered at once.
+PART = 16_384
+
+
+@dataclass
+class Row:
+    """A row: where it begins and ends in the text, and its cells, each with where its character begins."""
+
+    begin: int
+    end: int
+    cells: list[tuple[int, str, int]]
+
+    def column(self, position: int) -> int:
+        """The column of a position in the row."""
+        return sum(width for begin, _, width in self.cells if begin < position)
+
+    def position(self, column: int) -> int:
+        """The position of the character in a column, or the row's end."""
+        at = 0
+        for begin, _, width in self.cells:
+            at += width
+            if width and at > column:
+                return begin
+        return self.end
+
+
+def characters(data: bytes, begin: int) -> list[tuple[int, str]]:
+    """The characters of bytes, with the place where each begins. A byte that is no UTF-8 is one by itself."""
+    out = []
+    for character in data.decode("utf-8", "surrogateescape"):
+        out.append((begin, character))
+        code = ord(character)
+        begin += 1 if code < 0x80 or 0xDC80 <= code <= 0xDCFF else 2 if code < 0x800 else 3 if code < 0x10000 else 4
+    return out
+
+
+def width_of(character: str) -> int:
+    """How many columns a character takes: none where it is drawn over the one before it."""
+    if character < "\u0300":
+        return 1
+    if unicodedata.category(character) in ("Mn", "Me", "Cf"):
+        return 0
+    return 2 if unicodedata.east_asian_width(character) in "WF" else 1
+
+
+def drawn(character: str) -> str:
+    """What is drawn for a character."""
+    if 0xDC80 <= ord(character) <= 0xDCFF:
+        return "\ufffd"
+    return "\u00b7" if unicodedata.category(character) in ("Cc", "Zl", "Zp") else character
+
+
+def part_begin(text: bytearray, position: int) -> int:
+    """Where the line, or the part of a long line, begins in which a position lies."""
+    line = text.rfind(b"\r", 0, position) + 1
+    begin = line + (position - line) // PART * PART
+    while begin < position and begin > line and text[begin] & 0xC0 == 0x80:
+        begin += 1
+    return begin
+
+
+def rows_of_part(text: bytearray, begin: int, width: int) -> list[Row]:
+    """The rows of the line, or the part of one, that begins there."""
+    line = text.rfind(b"\r", 0, begin) + 1
+    end = text.find(b"\r", begin)
+    end = len(text) if end < 0 else end
+    limit = line + ((begin - line) // PART + 1) * PART
+    while limit < end and text[limit] & 0xC0 == 0x80:
+        limit += 1
+    rows, cells, row_begin, at, blank = [], [], begin, 0, 0
+    for place, character in characters(bytes(text[begin:min(end, limit)]), begin):
+        size = TAB - at % TAB if character == "\t" else width_of(character)
+        if at + size > width:
+            # A row ends behind its last blank, where it has one.
+            rows.append(Row(row_begin, cells[blank][0] if blank else place, cells[:blank] if blank else cells))
+            cells = cells[blank:] if blank else []
+            row_begin, blank = (cells[0][0] if cells else place), 0
+            at = sum(cell[2] for cell in cells)
+        cells.append((place, " " * size if character == "\t" else drawn(character), size))
+        at += size
+        if character in " \t":
+            blank = len(cells)
+    rows.append(Row(row_begin, min(end, limit), cells))
+    return rows
+
+
+def row_at(text: bytearray, position: int, width: int) -> Row:
+    """The row in which a position lies."""
+    found = None
+    for row in rows_of_part(text, part_begin(text, position), width):
+        if row.begin <= position:
+            found = row
+    return found
+
+
+def row_after(text: bytearray, row: Row, width: int) -> Row | None:
+    """The row below; None below the last one."""
+    if row.end >= len(text):
+        return None
+    return row_at(text, row.end + (text[row.end] == LINE_END), width)
+
+
+def row_before(text: bytearray, row: Row, width: int) -> Row | None:
+    """The row above; None above the first one."""
+    return row_at(text, row.begin - 1, width) if row.begin else None
+
+
+def cluster_before(text: bytearray, position: int) -> int:
+    """Where the character ahead of a position begins, with the marks that are drawn over it."""
+    near = characters(bytes(text[max(0, position - 64):position]), max(0, position - 64))
+    while len(near) > 1 and (width_of(near[-1][1]) == 0 or near[-2][1] == "\u200d"):
+        near.pop()
+    return near[-1][0] if near else position
+
+
+def cluster_after(text: bytearray, position: int) -> int:
+    """Where the character behind a position ends, with the marks that are drawn over it."""
+    near = characters(bytes(text[position:position + 64]), position)
+    last = 0
+    while last + 1 < len(near) and (width_of(near[last + 1][1]) == 0 or near[last][1] == "\u200d"):
+        last += 1
+    return near[last + 1][0] if last + 1 < len(near) else min(len(text), position + 64)

@@ -1,0 +1,58 @@
+"""What a change of a text is: found by comparing it before and after, and followed by positions."""
+from dataclasses import dataclass
+
+# Bytes are compared so many at a time, and one by one only where these differ.
+BLOCK = 4_096
+
+
+@dataclass
+class Change:
+    """The bytes from `begin` to `end` gave way to others."""
+
+    begin: int
+    end: int
+    new: bytes
+
+    def moved(self, position: int) -> int:
+        """Where a position is then: behind the same character, or where that was."""
+        if position <= self.begin:
+            return position
+        if position < self.end:
+            return self.begin
+        return position + len(self.new) - (self.end - self.begin)
+
+
+def change(before: bytes, after: bytes) -> Change:
+    """The least change of one stretch of whole characters that makes the one text of the other."""
+    most, ends = min(len(before), len(after)), (len(before), len(after))
+    begin = _common(lambda place, size: before[place:place + size] == after[place:place + size], most)
+    begin = boundary(after, boundary(before, begin))
+    back = _common(lambda place, size: before[ends[0] - place - size:ends[0] - place]
+                   == after[ends[1] - place - size:ends[1] - place], most - begin)
+    while back and after[ends[1] - back] & 0xC0 == 0x80:
+        back -= 1
+    return Change(begin, ends[0] - back, bytes(after[begin:ends[1] - back]))
+
+
+def boundary(text: bytes, position: int) -> int:
+    """The last place up to a position at which a character of UTF-8 begins; bytes that are no UTF-8 stand for themselves."""
+    for back in range(min(3, position) + 1):
+        if position - back == len(text) or text[position - back] & 0xC0 != 0x80:
+            return position - back
+    return position
+
+
+def _common(equal, most: int) -> int:
+    """How many bytes are equal, from a place on; `equal` compares so many at a place."""
+    done = 0
+    while done < most and equal(done, min(BLOCK, most - done)):
+        done += min(BLOCK, most - done)
+    size = min(BLOCK, most - done)
+    while size:
+        half = (size + 1) // 2
+        if equal(done, half):
+            done += half
+            size -= half
+        else:
+            size = half if half < size else 0
+    return done

@@ -1,0 +1,140 @@
+"""One process of the program, for one site: events go in, answers come out."""
+import fcntl
+import os
+import pathlib
+import select
+import shlex
+import subprocess
+
+from share.message import TEXT
+from share.words import Trouble
+
+TOP = pathlib.Path(__file__).resolve().parent.parent
+BUILT = TOP / "crates" / "site_cli" / "out" / "site_cli"
+# A run takes so many lines; then another run has to go on.
+MOST_LINES = 2**20
+PIPE = 1 << 20
+F_SETPIPE_SZ = 1031
+# The lines of an answer that others follow.
+FOLLOWED = (b"send ", b"front ", b"run ")
+
+
+class Ended(Exception):
+    """The process ended where it had to answer."""
+
+
+def command() -> list[str]:
+    """What runs the program. VIALSHOAL_PROGRAM may name another executable."""
+    if named := os.environ.get("VIALSHOAL_PROGRAM"):
+        return shlex.split(named)
+    if not os.access(BUILT, os.X_OK):
+        raise Trouble("Nothing is built here. Run bin/site_cli < demo/two-sites.script first: it proves and builds the "
+                      "program.")
+    return [str(TOP / "bin" / "built")]
+
+
+class Program:
+    """A run of the program with one site, which is answered event by event."""
+
+    def __init__(self, site: int):
+        self.site, self.lines = site, 0
+        words = [*command(), "--first", str(site), "--count", "1"]
+        try:
+            self.process = subprocess.Popen(words, stdin=subprocess.PIPE, stdout=subprocess.PIPE, bufsize=0,
+                                            stderr=subprocess.DEVNULL, start_new_session=True)
+        except OSError as why:
+            raise Trouble(f"The program can't be run ({words[0]}: {why.strerror}). VIALSHOAL_PROGRAM names it.") from why
+        self._in, self._out = self.process.stdin.fileno(), self.process.stdout.fileno()
+        os.set_blocking(self._in, False)
+        for pipe in self._in, self._out:
+            _widen(pipe)
+
+    def ask(self, events: list[bytes]) -> list[list[bytes]]:
+        """The answer lines of each event. All events are on their way at once, and answers are read meanwhile: if both
+        sides only wrote, both pipes would fill and stand still."""
+        self.lines += len(events)
+        script = memoryview(b"".join(event + b"\n" for event in events))
+        answers: list[list[bytes]] = []
+        answer: list[bytes] = []
+        part: list[bytes] = []
+        while len(answers) < len(events):
+            read, write, _ = select.select([self._out], [self._in] if script else [], [])
+            if write:
+                script = script[self._written(script):]
+            if not read:
+                continue
+            first, *lines = self._read().split(b"\n")
+            part.append(first)
+            for line in lines:
+                answer.append(b"".join(part))
+                part = [line]
+                if not answer[-1].startswith(FOLLOWED):
+                    answers.append(answer)
+                    answer = []
+        return answers
+
+    def event(self, verb: str, *words: int | bytes) -> bytes:
+        """An event of the site, of its one text."""
+        parts = [b"%d %s %d" % (self.site, verb.encode(), TEXT)]
+        parts += [b"%d" % word if isinstance(word, int) else word for word in words]
+        return b" ".join(parts)
+
+    def taking(self, message: bytes) -> bytes:
+        """The event that hands a message in."""
+        return self.event("take", message.hex().encode())
+
+    def text(self) -> bytes:
+        """What the site shows."""
+        return shown(self.ask([self.event("text")])[0])
+
+    def _written(self, script: memoryview) -> int:
+        try:
+            return os.write(self._in, script[:PIPE])
+        except BlockingIOError:
+            return 0
+        except OSError as why:
+            raise Ended from why
+
+    def _read(self) -> bytes:
+        if not (data := os.read(self._out, PIPE)):
+            raise Ended
+        return data
+
+    def close(self) -> None:
+        """Ends the process, which ends by itself where its input does."""
+        self.process.stdin.close()
+        self.process.stdout.close()
+        try:
+            self.process.wait(5)
+        except subprocess.TimeoutExpired:
+            self.process.kill()
+            self.process.wait()
+
+
+def _widen(pipe: int) -> None:
+    # A long text comes through a wide pipe with fewer turns; where the system gives none, a narrow one does.
+    try:
+        fcntl.fcntl(pipe, F_SETPIPE_SZ, PIPE)
+    except OSError:
+        pass
+
+
+def escaped(data: bytes) -> bytes:
+    """Bytes as an event has them."""
+    return b"".join(ESCAPES[byte] for byte in data)
+
+
+def shown(answer: list[bytes]) -> bytes:
+    """The text that an answer to `text` prints."""
+    words = answer[-1].split(b" ", 2)
+    if words[0] != b"text" or len(words) < 2:
+        raise Trouble(f"The program was asked for the text and answered {answer[-1][:60]!r}.")
+    printed = words[2] if len(words) == 3 else b""
+    # Python's own unescaping is the quick way, and spells a byte with an x.
+    text = printed.replace(b"\\", b"\\x").decode("unicode_escape").encode("latin-1")
+    if len(text) != int(words[1]):
+        raise Trouble("The program printed another text than it counted.")
+    return text
+
+
+ESCAPES = [bytes([byte]) if 0x20 <= byte <= 0x7E and byte != 0x5C else b"\\%02x" % byte for byte in range(256)]

@@ -1,0 +1,41 @@
+"""What went wrong, in words: what it is, and what to do about it."""
+
+REFUSALS = {
+    1: "its bytes are no message",
+    2: "it is of another text",
+    3: "another message has the same site and number",
+    4: "it doesn't begin where its site's characters end",
+    5: "its stamp isn't above the stamps of what it builds on",
+    6: "64 messages wait already for what they build on",
+    7: "there is no memory for it",
+    8: "a message waits that shows that this site was further once",
+    9: "a message with the greatest stamp came in, and no edit can follow it",
+    10: "one site types at most 16,777,216 bytes into a note; open the note with a new data folder for a new site number",
+    11: "a position lies outside the text",
+    12: "it is scattered over more than 1,024 stretches",
+    20: "the program can't read it",
+    21: "the program's input passed a limit",
+    23: "this site has made its last edit; open the note with a new data folder for a new site number",
+}
+
+
+class Trouble(Exception):
+    """What a user is told where the note has to be closed: what happened, and what to do."""
+
+
+class Refused(Exception):
+    """The program refused an own edit, by this number."""
+
+    def __init__(self, number: int):
+        super().__init__(f"The edit was {refusal(number)}.")
+        self.number = number
+
+
+def refusal(number: int) -> str:
+    """The words for a refusal, with its number."""
+    return f"refused ({number}): {REFUSALS.get(number, 'this version has no words for the number')}"
+
+
+def counted(number: int, noun: str) -> str:
+    """A number with its noun, as `1 edit` and `2 edits`."""
+    return f"{number:,} {noun}" if number == 1 else f"{number:,} {noun}s"
