@@ -65,28 +65,36 @@ def part_begin(text: bytearray, position: int) -> int:
     return begin
 
 
-def rows_of_part(text: bytearray, begin: int, width: int) -> list[Row]:
-    """The rows of the line, or the part of one, that begins there."""
+def part_end(text: bytearray, begin: int) -> int:
+    """Where the line, or the part of a long line, ends that begins there."""
     line = text.rfind(b"\r", 0, begin) + 1
     end = text.find(b"\r", begin)
     end = len(text) if end < 0 else end
     limit = line + ((begin - line) // PART + 1) * PART
     while limit < end and text[limit] & 0xC0 == 0x80:
         limit += 1
-    rows, cells, row_begin, at, blank = [], [], begin, 0, 0
-    for place, character in characters(bytes(text[begin:min(end, limit)]), begin):
+    return min(end, limit)
+
+
+def rows_of_part(text: bytearray, begin: int, width: int) -> list[Row]:
+    """The rows of the line, or the part of one, that begins there. A row ends behind its last blank, where it has one."""
+    end = part_end(text, begin)
+    rows: list[Row] = []
+    cells: list[tuple[int, str, int]] = []
+    at = blank = 0
+    for place, character in characters(bytes(text[begin:end]), begin):
         size = TAB - at % TAB if character == "\t" else width_of(character)
         if at + size > width:
-            # A row ends behind its last blank, where it has one.
-            rows.append(Row(row_begin, cells[blank][0] if blank else place, cells[:blank] if blank else cells))
-            cells = cells[blank:] if blank else []
-            row_begin, blank = (cells[0][0] if cells else place), 0
+            kept = blank or len(cells)
+            next_begin = cells[kept][0] if kept < len(cells) else place
+            rows.append(Row(begin, next_begin, cells[:kept]))
+            begin, cells, blank = next_begin, cells[kept:], 0
             at = sum(cell[2] for cell in cells)
         cells.append((place, " " * size if character == "\t" else drawn(character), size))
         at += size
         if character in " \t":
             blank = len(cells)
-    rows.append(Row(row_begin, min(end, limit), cells))
+    rows.append(Row(begin, end, cells))
     return rows
 
 

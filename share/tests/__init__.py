@@ -1,0 +1,1 @@
+"""Tests of sharing, with the real program, real logs and real terminals."""

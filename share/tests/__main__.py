@@ -1,0 +1,39 @@
+"""Runs the tests, some modules at a time, and ends with a line that says how many passed and how many failed."""
+import io
+import pathlib
+import sys
+import unittest
+from concurrent.futures import ProcessPoolExecutor
+
+# So many modules run at a time. They wait more than they work.
+AT_A_TIME = 3
+# The longest first.
+MODULES = ["test_killed", "test_terminal", "test_bad_input", "test_same_text", "test_joining", "test_logs", "test_parts"]
+
+
+def run(module: str) -> tuple[int, int, str]:
+    """How many tests of a module passed and failed, and what is to be told of those that failed. A skipped one failed."""
+    told = io.StringIO()
+    tests = unittest.defaultTestLoader.loadTestsFromName(f"share.tests.{module}")
+    result = unittest.TextTestRunner(told, verbosity=2).run(tests)
+    failed = len({str(test) for test, _ in [*result.failures, *result.errors, *result.skipped]})
+    return result.testsRun - failed, failed, told.getvalue()
+
+
+def main() -> int:
+    """Runs all modules, or those that are named."""
+    stand = {path.stem for path in pathlib.Path(__file__).parent.glob("test_*.py")}
+    if stand != set(MODULES):
+        sys.exit(f"not all modules of tests are listed: {sorted(stand ^ set(MODULES))}")
+    passed = failed = 0
+    with ProcessPoolExecutor(AT_A_TIME) as processes:
+        for good, bad, told in processes.map(run, sys.argv[1:] or MODULES):
+            print(told, flush=True)
+            passed += good
+            failed += bad
+    print(f"{passed} passed, {failed} failed")
+    return 1 if failed or not passed else 0
+
+
+if __name__ == "__main__":
+    sys.exit(main())

@@ -1,0 +1,171 @@
+"""Two people at two terminals: real ones, of tmux, with bin/note in each."""
+import os
+import subprocess
+
+from share.tests.support import NOTE, Case, wait_for
+
+WIDTH, HEIGHT = 70, 12
+
+
+class Terminal:
+    """A terminal with a note in it."""
+
+    def __init__(self, case: Case, data: str, *words: str):
+        self.socket = str(case.folder / f"tmux-{len([*case.folder.glob('tmux-*')])}")
+        environment = {**os.environ, "VIALSHOAL_DATA": str(case.folder / data), "LC_ALL": "C.UTF-8", "TERM": "xterm-256color"}
+        command = " ".join([NOTE, *words]) + "; echo status $?; cat"
+        subprocess.run(["tmux", "-S", self.socket, "-f", "/dev/null", "new-session", "-d", "-x", str(WIDTH), "-y", str(HEIGHT),
+                        command], check=True, env=environment)
+        case.addCleanup(self._tmux, "kill-server")
+        self.sees("site ")
+
+    def _tmux(self, *words: str) -> str:
+        return subprocess.run(["tmux", "-S", self.socket, *words], capture_output=True, check=False).stdout.decode()
+
+    def type(self, words: str) -> None:
+        """Types characters."""
+        self._tmux("send-keys", "-l", "--", words)
+
+    def press(self, *keys: str) -> None:
+        """Presses keys by their names."""
+        self._tmux("send-keys", *keys)
+
+    def lines(self) -> list[str]:
+        """What the screen shows, without blanks at the ends of lines."""
+        return [line.rstrip() for line in self._tmux("capture-pane", "-p").split("\n")[:HEIGHT]]
+
+    def shows(self, *lines: str) -> None:
+        """Waits until the screen begins with these lines and shows no more of the note."""
+        wanted = [*lines] + [""] * (HEIGHT - 1 - len(lines))
+        try:
+            wait_for(lambda: self.lines()[:-1] == wanted, "")
+        except AssertionError:
+            raise AssertionError(f"waited for {lines}, and saw {self.lines()}") from None
+
+    def sees(self, words: str) -> None:
+        """Waits until the screen has words somewhere."""
+        try:
+            wait_for(lambda: words in "\n".join(self.lines()), "")
+        except AssertionError:
+            raise AssertionError(f"waited for {words!r}, and saw {self.lines()}") from None
+
+    def cursor_is(self, column: int, line: int) -> None:
+        """Waits until the cursor stands there."""
+        wait_for(lambda: self._tmux("display", "-p", "#{cursor_x} #{cursor_y}").split() == [str(column), str(line)],
+                 f"the cursor at {column}, {line}")
+
+
+class Terminals(Case):
+    """What users see."""
+
+    def test_two_on_one_machine(self) -> None:
+        left, right = Terminal(self, "data", "diary"), Terminal(self, "data", "diary")
+        left.type("Grüße 🎉 from here")
+        left.press("Enter")
+        for one in left, right:
+            one.shows("Grüße 🎉 from here")
+            one.sees("2 on  all sent")
+        right.press("End")
+        right.type(" and from there")
+        left.shows("Grüße 🎉 from here and from there")
+        left.cursor_is(0, 1)
+        # What comes in ahead of the cursor moves it with its character; what comes behind doesn't.
+        left.press("Up", "Right", "Right")
+        left.cursor_is(2, 0)
+        right.press("Home")
+        right.type("Oh: ")
+        left.shows("Oh: Grüße 🎉 from here and from there")
+        left.cursor_is(6, 0)
+        right.press("End")
+        right.type("!")
+        left.shows("Oh: Grüße 🎉 from here and from there!")
+        left.cursor_is(6, 0)
+
+    def test_taking_back_beside_another(self) -> None:
+        left, right = Terminal(self, "data", "diary"), Terminal(self, "data", "diary")
+        left.type("mine")
+        right.shows("mine")
+        right.press("Right", "Right")
+        right.type("-yours-")
+        left.shows("mi-yours-ne")
+        left.press("C-z")
+        for one in left, right:
+            one.shows("-yours-")
+        # A deletion comes back, each character to its own place.
+        left.type("again ")
+        right.shows("again -yours-")
+        left.press("BSpace")
+        right.shows("again-yours-")
+        right.press("Home")
+        right.type("x")
+        left.shows("xagain-yours-")
+        left.press("C-z")
+        right.shows("xagain -yours-")
+        right.press("C-z")
+        for one in left, right:
+            one.shows("again -yours-")
+
+    def test_offline_and_back(self) -> None:
+        server = self.redis()
+        left, right = (Terminal(self, data, "diary", "--log", server.url) for data in ("left", "right"))
+        left.type("one ")
+        right.shows("one")
+        server.kill()
+        for one in left, right:
+            one.sees("offline, 0 edits kept")
+        left.type("left")
+        left.sees("offline, ")
+        left.sees("kept")
+        right.press("End")
+        right.type("right")
+        left.shows("one left")
+        right.shows("one right")
+        server.start()
+        for one in left, right:
+            one.sees("all sent")
+            wait_for(lambda: sorted(one.lines()[0].split()) in (["leftright", "one"], ["one", "rightleft"]), "both words")
+        self.assertEqual(left.lines()[0], right.lines()[0])
+
+    def test_keys(self) -> None:
+        one = Terminal(self, "data", "diary")
+        for number in range(40):
+            one.type(f"line {number}")
+            one.press("Enter")
+        one.sees("line 39")
+        one.press("PPage", "PPage", "PPage", "PPage")
+        one.sees("line 0")
+        one.cursor_is(0, 0)
+        one.press("Right", "DC", "End", "BSpace")
+        one.sees("lne")
+        one.press("C-f")
+        one.type("line 27")
+        one.press("Enter")
+        one.sees("line 27")
+        one.press("Home", "Enter", "Up")
+        one.type("漢字")
+        one.press("Left", "BSpace")
+        one.sees("字")
+        one.press("C-s")
+        one.sees("Save as: diary.txt")
+        one.press(*["BSpace"] * len("diary.txt"))
+        saved = self.folder / "saved.txt"
+        one.type(str(saved))
+        one.press("Enter")
+        one.sees("Saved as")
+        lines = ["lne ", *(f"line {number}" for number in range(1, 27)), "字", *(f"line {number}" for number in range(27, 40))]
+        self.assertEqual(saved.read_text(), "".join(line + "\n" for line in lines))
+        one.press("C-q")
+        one.sees("status 0")
+        self.assertEqual(self.note("diary", "--print").stdout, saved.read_text())
+
+    def test_a_long_line_goes_on_in_the_next_row(self) -> None:
+        one = Terminal(self, "data", "diary")
+        one.type("word " * 20)
+        one.shows("word " * 12 + "word", "word word word word word word word")
+        one.cursor_is(35, 1)
+        one.press("Home", "Up")
+        one.cursor_is(0, 0)
+        one.press("End")
+        one.cursor_is(64, 0)
+        one.press("Down", "End")
+        one.cursor_is(35, 1)
