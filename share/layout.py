@@ -83,13 +83,15 @@ def rows_of_part(text: bytearray, begin: int, width: int) -> list[Row]:
     cells: list[tuple[int, str, int]] = []
     at = blank = 0
     for place, character in characters(bytes(text[begin:end]), begin):
-        size = TAB - at % TAB if character == "\t" else width_of(character)
-        if at + size > width:
+        size = width_of(character)
+        while at + size > width and cells:
             kept = blank or len(cells)
             next_begin = cells[kept][0] if kept < len(cells) else place
             rows.append(Row(begin, next_begin, cells[:kept]))
             begin, cells, blank = next_begin, cells[kept:], 0
             at = sum(cell[2] for cell in cells)
+        if character == "\t":
+            size = min(TAB - at % TAB, width - at)
         cells.append((place, " " * size if character == "\t" else drawn(character), size))
         at += size
         if character in " \t":
