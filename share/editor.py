@@ -4,9 +4,8 @@ import os
 import pathlib
 import select
 import sys
-from dataclasses import dataclass
 
-from share.layout import (Row, cluster_after, cluster_before, row_after, row_at, row_before)
+from share.layout import Layout, Row, cluster_after, cluster_before
 from share.note import Note
 from share.session import Status
 from share.words import Trouble, counted
@@ -118,19 +117,13 @@ class Screen:
         self.window.refresh()
 
 
-@dataclass
-class Search:
-    """What was looked for last."""
-
-    words: str = ""
-
-
 class Editor:
     """Keys change the note, and the screen shows it."""
 
     def __init__(self, screen: Screen, note: Note, name: str, woken: int):
         self.screen, self.note, self.name, self._woken = screen, note, name, woken
-        self._search, self._column, self._quits = Search(), None, False
+        self._searched, self._column, self._quits = "", None, False
+        self._layout = Layout(note.text, screen.width)
         self._keys = {
             curses.KEY_LEFT: self._left, curses.KEY_RIGHT: self._right,
             curses.KEY_UP: lambda: self._rows(-1), curses.KEY_DOWN: lambda: self._rows(1),
@@ -172,6 +165,7 @@ class Editor:
             self._column = None
 
     def _command(self, key: str | int) -> None:
+        self._layout = Layout(self.note.text, self.screen.width)
         if command := self._keys.get(key):
             if key not in (curses.KEY_UP, curses.KEY_DOWN, curses.KEY_PPAGE, curses.KEY_NPAGE):
                 self._column = None
@@ -196,33 +190,29 @@ class Editor:
 
     def _end(self) -> None:
         row = self._row()
-        # A long line goes on in the row below, so the place behind its last character is there.
-        goes_on = row.end < len(self.note.text) and self.note.text[row.end] != 0x0D
-        self.note.moved_to(cluster_before(self.note.text, row.end) if goes_on else row.end)
+        # Where a long line goes on in the row below, the place behind its last character is there.
+        self.note.moved_to(cluster_before(self.note.text, row.end) if self._layout.goes_on(row) else row.end)
 
     def _rows(self, count: int) -> None:
         """Moves by rows, in the column where this began."""
         row = self._row()
         self._column = row.column(self.note.cursor) if self._column is None else self._column
-        step = row_before if count < 0 else row_after
+        step = self._layout.before if count < 0 else self._layout.after
         for _ in range(abs(count)):
-            if not (other := step(self.note.text, row, self.screen.width)):
-                break
-            row = other
+            row = step(row) or row
         self.note.moved_to(row.position(self._column))
 
     def _row(self) -> Row:
-        return row_at(self.note.text, self.note.cursor, self.screen.width)
+        return self._layout.row_at(self.note.cursor)
 
     def _take_back(self) -> None:
         if not self.note.take_back():
             self.note.notice = "You have made no edit since the note was opened that could be taken back."
 
     def _find(self) -> None:
-        words = self.screen.ask("Find", "") or self._search.words
-        self._search.words = words
-        if words and not self.note.find(words):
-            self.note.notice = f"{words!r} isn't in the note."
+        self._searched = self.screen.ask("Find") or self._searched
+        if self._searched and not self.note.find(self._searched):
+            self.note.notice = f"{self._searched!r} isn't in the note."
 
     def _save(self) -> None:
         name = self.screen.ask("Save as", f"{self.name}.txt")
@@ -241,6 +231,7 @@ class Editor:
         self._quits = True
 
     def _draw(self) -> None:
+        self._layout = Layout(self.note.text, self.screen.width)
         status = self.note.session.status()
         left = f" {self.name}  site {status.site}  {status.on} on  {state(status)}"
         self.screen.say(f" {self.note.notice}" if self.note.notice else left, "" if self.note.notice else HELP)
@@ -248,32 +239,19 @@ class Editor:
 
     def _visible(self) -> list[Row]:
         """The rows on the screen, which follow the cursor."""
-        text, width, height = self.note.text, self.screen.width, self.screen.height
-        row = self._row()
-        first = row_at(text, min(self.note.top, len(text)), width)
-        rows = _below(text, first, width, height)
+        layout, height, row = self._layout, self.screen.height, self._row()
+        first = layout.row_at(min(self.note.top, len(self.note.text)))
+        rows = layout.below(first, height)
         if row.begin not in [shown.begin for shown in rows]:
-            # One step below the screen scrolls by a row; a jump puts the cursor's row in the middle.
-            near = row.begin > first.begin and (last := row_before(text, row, width)) and last.begin == rows[-1].begin
-            up = height - 1 if near else 0 if _is_above(text, row, first, width) else height // 2
+            above, last = layout.before(first), layout.before(row)
+            # One step past an edge scrolls by a row; a jump puts the cursor's row in the middle.
+            up = 0 if above == row else height - 1 if last == rows[-1] else height // 2
             first = row
             for _ in range(up):
-                first = row_before(text, first, width) or first
-            rows = _below(text, first, width, height)
+                first = layout.before(first) or first
+            rows = layout.below(first, height)
         self.note.top = first.begin
         return rows
-
-
-def _below(text: bytearray, row: Row, width: int, height: int) -> list[Row]:
-    rows = [row]
-    while len(rows) < height and (row := row_after(text, row, width)):
-        rows.append(row)
-    return rows
-
-
-def _is_above(text: bytearray, row: Row, first: Row, width: int) -> bool:
-    above = row_before(text, first, width)
-    return above is not None and above.begin == row.begin
 
 
 def edit(window: "curses.window", name: str, open_note) -> Note:

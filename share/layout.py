@@ -5,7 +5,7 @@ from dataclasses import dataclass
 LINE_END = 0x0D
 TAB = 8
 # A longer line is laid out in parts, each beginning a row, so that a key in a line of a megabyte is answered at once.
-PART = 16_384
+PART = 4_096
 
 
 @dataclass
@@ -56,33 +56,80 @@ def drawn(character: str) -> str:
     return "\u00b7" if unicodedata.category(character) in ("Cc", "Zl", "Zp") else character
 
 
-def part_begin(text: bytearray, position: int) -> int:
-    """Where the line, or the part of a long line, begins in which a position lies."""
-    line = text.rfind(b"\r", 0, position) + 1
-    begin = line + (position - line) // PART * PART
-    while begin < position and begin > line and text[begin] & 0xC0 == 0x80:
-        begin += 1
-    return begin
+class Layout:
+    """The rows of a text in a width, as long as the text stays as it is."""
+
+    def __init__(self, text: bytearray, width: int):
+        self.text, self.width = text, width
+        self._parts: dict[int, list[Row]] = {}
+
+    def row_at(self, position: int) -> Row:
+        """The row in which a position lies."""
+        found = None
+        for row in self._rows(self._part_begin(position)):
+            if row.begin > position:
+                break
+            found = row
+        return found
+
+    def after(self, row: Row) -> Row | None:
+        """The row below; None below the last one."""
+        if row.end >= len(self.text):
+            return None
+        return self.row_at(row.end + self._ends_line(row.end))
+
+    def before(self, row: Row) -> Row | None:
+        """The row above; None above the first one."""
+        return self.row_at(row.begin - 1) if row.begin else None
+
+    def goes_on(self, row: Row) -> bool:
+        """Whether a row's line goes on in the row below."""
+        return not self._ends_line(row.end)
+
+    def below(self, row: Row, height: int) -> list[Row]:
+        """A row and those below it, so many in all at most."""
+        rows = [row]
+        while len(rows) < height and (row := self.after(row)):
+            rows.append(row)
+        return rows
+
+    def _ends_line(self, position: int) -> bool:
+        return position >= len(self.text) or self.text[position] == LINE_END
+
+    def _part_begin(self, position: int) -> int:
+        """Where the line, or the part of a long line, begins in which a position lies."""
+        line = self.text.rfind(b"\r", 0, position) + 1
+        size = position - line
+        # The end of a line is in the part ahead of it.
+        if size and self._ends_line(position):
+            size -= 1
+        begin = line + size // PART * PART
+        while line < begin < position and self.text[begin] & 0xC0 == 0x80:
+            begin += 1
+        return begin
+
+    def _part_end(self, begin: int) -> int:
+        line = self.text.rfind(b"\r", 0, begin) + 1
+        end = self.text.find(b"\r", begin)
+        end = len(self.text) if end < 0 else end
+        limit = line + ((begin - line) // PART + 1) * PART
+        while limit < end and self.text[limit] & 0xC0 == 0x80:
+            limit += 1
+        return min(end, limit)
+
+    def _rows(self, begin: int) -> list[Row]:
+        if begin not in self._parts:
+            end = self._part_end(begin)
+            self._parts[begin] = rows_of(characters(bytes(self.text[begin:end]), begin), begin, end, self.width)
+        return self._parts[begin]
 
 
-def part_end(text: bytearray, begin: int) -> int:
-    """Where the line, or the part of a long line, ends that begins there."""
-    line = text.rfind(b"\r", 0, begin) + 1
-    end = text.find(b"\r", begin)
-    end = len(text) if end < 0 else end
-    limit = line + ((begin - line) // PART + 1) * PART
-    while limit < end and text[limit] & 0xC0 == 0x80:
-        limit += 1
-    return min(end, limit)
-
-
-def rows_of_part(text: bytearray, begin: int, width: int) -> list[Row]:
-    """The rows of the line, or the part of one, that begins there. A row ends behind its last blank, where it has one."""
-    end = part_end(text, begin)
+def rows_of(line: list[tuple[int, str]], begin: int, end: int, width: int) -> list[Row]:
+    """The rows of a line's characters. A row ends behind its last blank, where it has one."""
     rows: list[Row] = []
     cells: list[tuple[int, str, int]] = []
     at = blank = 0
-    for place, character in characters(bytes(text[begin:end]), begin):
+    for place, character in line:
         size = width_of(character)
         while at + size > width and cells:
             kept = blank or len(cells)
@@ -98,27 +145,6 @@ def rows_of_part(text: bytearray, begin: int, width: int) -> list[Row]:
             blank = len(cells)
     rows.append(Row(begin, end, cells))
     return rows
-
-
-def row_at(text: bytearray, position: int, width: int) -> Row:
-    """The row in which a position lies."""
-    found = None
-    for row in rows_of_part(text, part_begin(text, position), width):
-        if row.begin <= position:
-            found = row
-    return found
-
-
-def row_after(text: bytearray, row: Row, width: int) -> Row | None:
-    """The row below; None below the last one."""
-    if row.end >= len(text):
-        return None
-    return row_at(text, row.end + (text[row.end] == LINE_END), width)
-
-
-def row_before(text: bytearray, row: Row, width: int) -> Row | None:
-    """The row above; None above the first one."""
-    return row_at(text, row.begin - 1, width) if row.begin else None
 
 
 def cluster_before(text: bytearray, position: int) -> int:

@@ -3,7 +3,7 @@ import random
 
 from share.incoming import Incoming
 from share.journal import InUse, Journal
-from share.layout import PART, cluster_after, cluster_before, row_after, row_at, row_before, rows_of_part
+from share.layout import PART, Layout, cluster_after, cluster_before
 from share.message import Message
 from share.note_text import boundary
 from share.site import MOST_BYTES, split
@@ -30,29 +30,32 @@ class Rows(Case):
 
     def test_rows_have_the_whole_text(self) -> None:
         for text in map(bytearray, self.texts()):
-            row, at = row_at(text, 0, WIDTH), 0
+            layout = Layout(text, WIDTH)
+            row, at = layout.row_at(0), 0
             while row:
                 self.assertEqual(row.begin, at)
                 self.assertLessEqual(sum(width for _, _, width in row.cells), WIDTH)
                 at = row.end + (row.end < len(text) and text[row.end] == 0x0D)
-                below = row_after(text, row, WIDTH)
+                below = layout.after(row)
                 if below:
-                    self.assertEqual(row_before(text, below, WIDTH), row)
+                    self.assertEqual(layout.before(below), row)
                 row = below
             self.assertEqual(at - (text[-1:] == b"\r"), len(text) - (text[-1:] == b"\r"))
 
     def test_each_position_is_in_a_row(self) -> None:
         for text in map(bytearray, self.texts()):
+            layout = Layout(text, WIDTH)
             for position in range(0, len(text) + 1, 1 + len(text) // 100):
                 position = boundary(text, position)
-                row = row_at(text, position, WIDTH)
+                row = layout.row_at(position)
                 self.assertLessEqual(row.begin, position)
                 self.assertLessEqual(position, row.end)
                 self.assertLessEqual(row.position(row.column(position)), row.end)
 
     def test_a_part_of_a_long_line_is_short(self) -> None:
-        rows = rows_of_part(bytearray(b"x" * 10 * PART), 0, WIDTH)
-        self.assertEqual(rows[-1].end, PART)
+        layout = Layout(bytearray(b"x" * (10 * PART + 1)), WIDTH)
+        ends = {layout.row_at(position).end for position in range(1, PART + 1)}
+        self.assertEqual(max(ends), PART + WIDTH)
 
 
 class Characters(Case):
