@@ -92,6 +92,7 @@ class Terminals(Case):
         for one in left, right:
             one.shows("-yours-")
         # A deletion comes back, each character to its own place.
+        left.press("Home")
         left.type("again ")
         right.shows("again -yours-")
         left.press("BSpace")

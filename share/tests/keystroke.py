@@ -1,0 +1,71 @@
+"""Measures how long a keystroke takes in a note of 1 MB: from the key to the last byte that the terminal gets for it.
+
+    python3 -m share.tests.keystroke
+"""
+import fcntl
+import os
+import pty
+import select
+import struct
+import tempfile
+import termios
+import time
+
+from share.note import Note
+from share.session import Session
+from share.tests.support import NOTE
+
+SIZE, KEYS = 1_000_000, 100
+LINE = "A line of a note as people write them, with some words — and a dash.\n"
+ROWS, COLUMNS = 40, 120
+DOWN, UP, UNDO = b"\x1b[6~", b"\x1b[5~", b"\x1a"
+
+
+def answered(terminal: int, quiet: float = 0.02) -> float:
+    """When the last byte of an answer came; the answer has ended where nothing comes for a while."""
+    last = None
+    while True:
+        ready, _, _ = select.select([terminal], [], [], quiet if last else 30)
+        if not ready:
+            return last
+        os.read(terminal, 65_536)
+        last = time.perf_counter()
+
+
+def measure(terminal: int, what: str, key: bytes, count: int = KEYS) -> None:
+    """Presses a key so many times, and prints how long the answers took."""
+    seconds = []
+    for _ in range(count):
+        begin = time.perf_counter()
+        os.write(terminal, key)
+        seconds.append(answered(terminal) - begin)
+        time.sleep(0.02)
+    seconds.sort()
+    print(f"{what:<28} {1000 * seconds[len(seconds) // 2]:6.1f} ms by the median, {1000 * seconds[-1]:6.1f} at most")
+
+
+def main() -> None:
+    """Makes the note, opens it in a terminal, and presses keys."""
+    os.environ.update(VIALSHOAL_DATA=tempfile.mkdtemp(prefix="share-"), TERM="xterm-256color")
+    note = Note(Session("large", None))
+    begin = time.perf_counter()
+    note.type((LINE * (SIZE // len(LINE.encode()) + 1)))
+    print(f"typed in one go: {len(note.text):,} bytes in {time.perf_counter() - begin:.1f} s")
+    note.session.close()
+    child, terminal = pty.fork()
+    if not child:
+        os.execv(NOTE, [NOTE, "large"])
+    fcntl.ioctl(terminal, termios.TIOCSWINSZ, struct.pack("HHHH", ROWS, COLUMNS, 0, 0))
+    answered(terminal, 2)
+    for _ in range(20):
+        os.write(terminal, DOWN)
+    answered(terminal, 1)
+    for what, key in (("a letter", b"x"), ("Enter", b"\r"), ("Backspace", b"\x7f"), ("PgUp", UP), ("PgDn", DOWN)):
+        measure(terminal, what, key)
+    measure(terminal, "Ctrl-Z", UNDO, 20)
+    os.write(terminal, b"\x11")
+    answered(terminal, 1)
+
+
+if __name__ == "__main__":
+    main()
