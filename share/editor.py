@@ -4,6 +4,7 @@ import os
 import pathlib
 import select
 import sys
+import time
 
 from share.layout import Layout, Row, cluster_after, cluster_before
 from share.note import Note
@@ -12,6 +13,9 @@ from share.words import Trouble, counted
 
 # The screen is looked at so often where nothing is typed and nothing comes, for its size and who is on.
 TURN_SECONDS = 0.5
+# After what came was taken in, keys alone are answered for so many times as long: the program takes a while to print a text
+# of a megabyte, and answers no key meanwhile.
+REST = 10
 HELP = "^Z undo  ^F find  ^S save  ^Q quit"
 BAR = 30
 
@@ -127,7 +131,7 @@ class Editor:
         self._keys = {
             curses.KEY_LEFT: self._left, curses.KEY_RIGHT: self._right,
             curses.KEY_UP: lambda: self._rows(-1), curses.KEY_DOWN: lambda: self._rows(1),
-            curses.KEY_PPAGE: lambda: self._rows(-self.screen.height), curses.KEY_NPAGE: lambda: self._rows(self.screen.height),
+            curses.KEY_PPAGE: lambda: self._pages(-1), curses.KEY_NPAGE: lambda: self._pages(1),
             curses.KEY_HOME: self._home, curses.KEY_END: self._end, curses.KEY_DC: self._delete,
             control("Z"): self._take_back, control("F"): self._find, control("S"): self._save, control("Q"): self._quit,
             **dict.fromkeys(ERASE, self._backspace),
@@ -136,12 +140,17 @@ class Editor:
     def run(self) -> None:
         """Answers keys and shows what comes, until the user quits."""
         self._draw()
+        rests_until = 0.0
         while not self._quits:
-            ready, _, _ = select.select([sys.stdin, self._woken], [], [], TURN_SECONDS)
+            rest = max(0.0, rests_until - time.monotonic())
+            ready, _, _ = select.select([sys.stdin, self._woken], [], [], min(TURN_SECONDS, rest) if rest else TURN_SECONDS)
             if self._woken in ready:
                 os.read(self._woken, 4_096)
             self._press(self.screen.keys())
-            self.note.take_in()
+            begin = time.monotonic()
+            if begin >= rests_until:
+                self.note.take_in()
+                rests_until = begin + REST * (time.monotonic() - begin)
             self._draw()
 
     def _press(self, keys: list[str | int]) -> None:
@@ -197,10 +206,13 @@ class Editor:
         """Moves by rows, in the column where this began."""
         row = self._row()
         self._column = row.column(self.note.cursor) if self._column is None else self._column
-        step = self._layout.before if count < 0 else self._layout.after
-        for _ in range(abs(count)):
-            row = step(row) or row
-        self.note.moved_to(row.position(self._column))
+        self.note.moved_to(self._layout.moved(row, count).position(self._column))
+
+    def _pages(self, count: int) -> None:
+        """Moves by pages, and the screen with the cursor. A row of the page before stays."""
+        rows = count * max(1, self.screen.height - 1)
+        self._rows(rows)
+        self.note.top = self._layout.moved(self._layout.row_at(self.note.top), rows).begin
 
     def _row(self) -> Row:
         return self._layout.row_at(self.note.cursor)
@@ -246,9 +258,7 @@ class Editor:
             above, last = layout.before(first), layout.before(row)
             # One step past an edge scrolls by a row; a jump puts the cursor's row in the middle.
             up = 0 if above == row else height - 1 if last == rows[-1] else height // 2
-            first = row
-            for _ in range(up):
-                first = layout.before(first) or first
+            first = layout.moved(row, -up)
             rows = layout.below(first, height)
         self.note.top = first.begin
         return rows

@@ -1,6 +1,7 @@
 """How a text is laid out in rows of a screen: lines end at 0DH, and long ones go on in the next row."""
 import unicodedata
 from dataclasses import dataclass
+from functools import lru_cache
 
 LINE_END = 0x0D
 TAB = 8
@@ -40,20 +41,22 @@ def characters(data: bytes, begin: int) -> list[tuple[int, str]]:
     return out
 
 
-def width_of(character: str) -> int:
-    """How many columns a character takes: none where it is drawn over the one before it."""
-    if character < "\u0300":
-        return 1
-    if unicodedata.category(character) in ("Mn", "Me", "Cf"):
-        return 0
-    return 2 if unicodedata.east_asian_width(character) in "WF" else 1
-
-
-def drawn(character: str) -> str:
-    """What is drawn for a character."""
+@lru_cache(4_096)
+def look_of(character: str) -> tuple[str, int]:
+    """What is drawn for a character, and how many columns it takes: none where it is drawn over the one before it."""
     if 0xDC80 <= ord(character) <= 0xDCFF:
-        return "\ufffd"
-    return "\u00b7" if unicodedata.category(character) in ("Cc", "Zl", "Zp") else character
+        return "\ufffd", 1
+    category = unicodedata.category(character)
+    if category in ("Cc", "Zl", "Zp"):
+        return "\u00b7", 1
+    if category in ("Mn", "Me", "Cf") and character != "\u00ad":
+        return character, 0
+    return character, 2 if unicodedata.east_asian_width(character) in "WF" else 1
+
+
+def is_mark(character: str) -> bool:
+    """Whether a character is drawn over the one before it."""
+    return look_of(character)[1] == 0
 
 
 class Layout:
@@ -81,6 +84,13 @@ class Layout:
     def before(self, row: Row) -> Row | None:
         """The row above; None above the first one."""
         return self.row_at(row.begin - 1) if row.begin else None
+
+    def moved(self, row: Row, count: int) -> Row:
+        """The row so many below another, or above it, or the last one on the way there."""
+        step = self.before if count < 0 else self.after
+        for _ in range(abs(count)):
+            row = step(row) or row
+        return row
 
     def goes_on(self, row: Row) -> bool:
         """Whether a row's line goes on in the row below."""
@@ -130,7 +140,7 @@ def rows_of(line: list[tuple[int, str]], begin: int, end: int, width: int) -> li
     cells: list[tuple[int, str, int]] = []
     at = blank = 0
     for place, character in line:
-        size = width_of(character)
+        seen, size = look_of(character)
         while at + size > width and cells:
             kept = blank or len(cells)
             next_begin = cells[kept][0] if kept < len(cells) else place
@@ -139,7 +149,8 @@ def rows_of(line: list[tuple[int, str]], begin: int, end: int, width: int) -> li
             at = sum(cell[2] for cell in cells)
         if character == "\t":
             size = min(TAB - at % TAB, width - at)
-        cells.append((place, " " * size if character == "\t" else drawn(character), size))
+            seen = " " * size
+        cells.append((place, seen, size))
         at += size
         if character in " \t":
             blank = len(cells)
@@ -150,7 +161,7 @@ def rows_of(line: list[tuple[int, str]], begin: int, end: int, width: int) -> li
 def cluster_before(text: bytearray, position: int) -> int:
     """Where the character ahead of a position begins, with the marks that are drawn over it."""
     near = characters(bytes(text[max(0, position - 64):position]), max(0, position - 64))
-    while len(near) > 1 and (width_of(near[-1][1]) == 0 or near[-2][1] == "\u200d"):
+    while len(near) > 1 and (is_mark(near[-1][1]) or near[-2][1] == "\u200d"):
         near.pop()
     return near[-1][0] if near else position
 
@@ -159,6 +170,6 @@ def cluster_after(text: bytearray, position: int) -> int:
     """Where the character behind a position ends, with the marks that are drawn over it."""
     near = characters(bytes(text[position:position + 64]), position)
     last = 0
-    while last + 1 < len(near) and (width_of(near[last + 1][1]) == 0 or near[last][1] == "\u200d"):
+    while last + 1 < len(near) and (is_mark(near[last + 1][1]) or near[last][1] == "\u200d"):
         last += 1
     return near[last + 1][0] if last + 1 < len(near) else min(len(text), position + 64)

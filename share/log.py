@@ -37,20 +37,17 @@ class Entry(NamedTuple):
     """A message where it stands in the log, with the checksum that was written beside it."""
 
     place: str
-    site: int
-    seq: int
     data: bytes
     checksum: int
 
     def message(self) -> Message | None:
-        """The message; None where it isn't the one that was written, for a bit or under another identity."""
+        """The message; None where it isn't the one that was written."""
         if zlib.crc32(self.data) != self.checksum:
             return None
         try:
-            message = Message.read(self.data)
+            return Message.read(self.data)
         except ValueError:
             return None
-        return message if (message.site, message.seq) == (self.site, self.seq) else None
 
 
 class Log(ABC):

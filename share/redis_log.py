@@ -1,5 +1,6 @@
 """A log in a stream of a Redis server, for all machines that reach it."""
 import secrets
+import struct
 import zlib
 from contextlib import contextmanager
 
@@ -12,15 +13,15 @@ CONNECT_SECONDS, ANSWER_SECONDS = 5, 10
 # Each identity is held once. The place of its entry is kept beside it, so an equal message is told from another one.
 APPEND = """
     local stream, places, fronts, site = KEYS[1], KEYS[2], KEYS[3], ARGV[1]
-    for i = 2, #ARGV, 3 do
-        local seq, message, checksum = ARGV[i], ARGV[i + 1], ARGV[i + 2]
+    for i = 2, #ARGV, 2 do
+        local seq, message = ARGV[i], ARGV[i + 1]
         local name = site .. ' ' .. seq
         local place = redis.call('HGET', places, name)
         if place then
             local held = redis.call('XRANGE', stream, place, place)
-            if not held[1] or held[1][2][6] ~= message then return tonumber(seq) end
+            if not held[1] or held[1][2][2] ~= message then return tonumber(seq) end
         else
-            place = redis.call('XADD', stream, '*', 'site', site, 'seq', seq, 'message', message, 'checksum', checksum)
+            place = redis.call('XADD', stream, '*', 'message', message)
             redis.call('HSET', places, name, place)
             local front = tonumber(redis.call('HGET', fronts, site) or '0')
             if tonumber(seq) > front then redis.call('HSET', fronts, site, seq) end
@@ -28,6 +29,8 @@ APPEND = """
     end
     return 0
 """
+# An entry has one field, since each costs a client time: the checksum, and behind it the message.
+CHECKSUM = struct.Struct(">I")
 # The time is the server's, since the clocks of sites may differ.
 SET_ON = """
     local now = tonumber(redis.call('TIME')[1])
@@ -55,7 +58,7 @@ class RedisLog(Log):
     def append(self, site: int, seq: int, *messages: bytes) -> None:
         words: list[object] = [site]
         for number, data in enumerate(messages, seq):
-            words += number, data, zlib.crc32(data)
+            words += number, CHECKSUM.pack(zlib.crc32(data)) + data
         with self._words():
             conflict = self._append([self._stream, self._places, self._fronts], words)
         if conflict:
@@ -112,11 +115,7 @@ class RedisLog(Log):
 
 
 def _entry(place: bytes, fields: dict[bytes, bytes]) -> Entry:
-    try:
-        site, seq, data, checksum = (fields[field] for field in (b"site", b"seq", b"message", b"checksum"))
-    except KeyError as why:
-        raise Trouble(f"Entry {place.decode()} isn't one of a note's log. Choose another name for the note.") from why
-    try:
-        return Entry(place.decode(), int(site), int(seq), data, int(checksum))
-    except ValueError:
-        return Entry(place.decode(), 0, 0, b"", 0)
+    message = fields.get(b"message", b"")
+    if len(message) < CHECKSUM.size:
+        raise Trouble(f"Entry {place.decode()} isn't one of a note's log. Choose another name for the note.")
+    return Entry(place.decode(), message[CHECKSUM.size:], *CHECKSUM.unpack_from(message))

@@ -74,8 +74,8 @@ class SqliteLog(Log):
 
     def read(self, after: str) -> list[Entry]:
         with self._words():
-            rows = self._file.execute("SELECT place, site, seq, message, checksum FROM entry WHERE place > ? "
-                                      "ORDER BY place LIMIT ?", (_place(after), PAGE)).fetchall()
+            rows = self._file.execute("SELECT place, message, checksum FROM entry WHERE place > ? ORDER BY place LIMIT ?",
+                                      (_place(after), PAGE)).fetchall()
         return [Entry(str(place), *rest) for place, *rest in rows]
 
     def watch(self, after: str, seconds: float) -> None:

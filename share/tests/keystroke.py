@@ -15,8 +15,8 @@ from share.note import Note
 from share.session import Session
 from share.tests.support import NOTE
 
-SIZE, KEYS = 1_000_000, 100
-LINE = "A line of a note as people write them, with some words — and a dash.\n"
+SIZE, KEYS, FEW = 1_000_000, 100, 15
+LINE = "Line {} of a note as people write them, with some words — and a dash.\n"
 ROWS, COLUMNS = 40, 120
 DOWN, UP, UNDO = b"\x1b[6~", b"\x1b[5~", b"\x1a"
 
@@ -49,7 +49,7 @@ def main() -> None:
     os.environ.update(VIALSHOAL_DATA=tempfile.mkdtemp(prefix="share-"), TERM="xterm-256color")
     note = Note(Session("large", None))
     begin = time.perf_counter()
-    note.type((LINE * (SIZE // len(LINE.encode()) + 1)))
+    note.type("".join(LINE.format(number) for number in range(SIZE // len(LINE.encode()))))
     print(f"typed in one go: {len(note.text):,} bytes in {time.perf_counter() - begin:.1f} s")
     note.session.close()
     child, terminal = pty.fork()
@@ -60,9 +60,10 @@ def main() -> None:
     for _ in range(20):
         os.write(terminal, DOWN)
     answered(terminal, 1)
-    for what, key in (("a letter", b"x"), ("Enter", b"\r"), ("Backspace", b"\x7f"), ("PgUp", UP), ("PgDn", DOWN)):
+    for what, key in (("a letter", b"x"), ("Enter", b"\r"), ("Backspace", b"\x7f")):
         measure(terminal, what, key)
-    measure(terminal, "Ctrl-Z", UNDO, 20)
+    for what, key in (("PgUp", UP), ("PgDn", DOWN), ("Ctrl-Z", UNDO)):
+        measure(terminal, what, key, FEW)
     os.write(terminal, b"\x11")
     answered(terminal, 1)
 

@@ -16,8 +16,8 @@ KILLS, SERVER_KILLS = 25, 5
 class Typist:
     """A client that types in a process of its own, is killed at random moments and started again."""
 
-    def __init__(self, tag: str, data: pathlib.Path, url: str | None, seed: int):
-        self.tag, self.data, self.url = tag, data, url
+    def __init__(self, tag: str, data: pathlib.Path, url: str | None, seed: int, longest: float = 0.5):
+        self.tag, self.data, self.url, self.longest = tag, data, url, longest
         self.typed = self.sent = -1
         self.faults: list[str] = []
         self._chance = random.Random(seed)
@@ -27,11 +27,16 @@ class Typist:
         words = [python(), "-B", "-m", "share.tests.typist", self.tag, "note", self.url or "", str(self._chance.random())]
         process = subprocess.Popen(words, cwd=TOP, stdout=subprocess.PIPE, stderr=subprocess.PIPE, text=True,
                                    env={**os.environ, "VIALSHOAL_DATA": str(self.data)})
-        killer = threading.Timer(0.3 + self._chance.random() * 0.5, process.kill)
-        killer.start()
+        # Some die while they open the note.
+        killer = threading.Timer(0.05 + self._chance.random() / 4, process.kill) if self._chance.random() < 0.2 else None
+        if killer:
+            killer.start()
         for line in process.stdout:
             word, number = line.split()
             if word == "open":
+                if not killer:
+                    killer = threading.Timer(self._chance.random() * self.longest, process.kill)
+                    killer.start()
                 # The last word of a life may be in the journal, and not have been told any more.
                 if int(number) - self.typed not in (1, 2):
                     self.faults.append(f"{self.tag}: {self.typed + 1} words were typed, and {number} are there")
@@ -99,7 +104,7 @@ class Killed(Case):
 
     def test_a_server(self) -> None:
         server = self.redis()
-        typists = [Typist(tag, self.folder / tag, server.url, number) for number, tag in enumerate("ab")]
+        typists = [Typist(tag, self.folder / tag, server.url, number, 2) for number, tag in enumerate("ab")]
         stop = threading.Event()
         killer = threading.Thread(target=self.kill_at_random, args=(server, stop))
         killer.start()

@@ -26,8 +26,7 @@ class Logs(Case):
                     log.append(1, 3, b"three", b"four", b"five")
                     log.append(1, 4, b"another", b"six")
                 self.assertEqual((refused.exception.site, refused.exception.seq), (1, 4))
-                kept = [(entry.site, entry.seq, entry.data) for entry in log.read(START)]
-                self.assertEqual(kept, [(1, 1, b"one"), (1, 2, b"two"), (1, 3, b"three"), (1, 4, b"four"), (1, 5, b"five")])
+                self.assertEqual([entry.data for entry in log.read(START)], [b"one", b"two", b"three", b"four", b"five"])
                 self.assertEqual((log.front(1), log.front(2), log.size()), (5, 0, 5))
 
     def test_a_place_parts_old_from_new(self) -> None:
