@@ -1,6 +1,6 @@
 """A note that is open: its text, the cursor, and what this site can take back."""
 import re
-from dataclasses import dataclass, field
+from dataclasses import dataclass
 
 from share.message import DELETE, RESTORE, Message, inserted, names_of, stretch
 from share.note_text import boundary, change
@@ -11,21 +11,29 @@ from share.words import Refused
 LINE_END = b"\r"
 # After one batch of messages the text is looked at often enough to follow each, while so many bytes do.
 LOOKED_AT = 2_000_000
+# No version of a text.
+UNKNOWN = -1
 
 
 @dataclass
 class Typed:
-    """An own insertion, as names: a stretch of the own site's file."""
+    """An own insertion, as names: a stretch of the own site's file. Where it stands is known as long as nothing else changed
+    the text, which `version` tells."""
 
     at: int
     length: int
+    begin: int
+    version: int
 
 
 @dataclass
 class Erased:
-    """An own deletion: the sets of names of its messages."""
+    """An own deletion: the sets of names of its messages, and the bytes that stood there."""
 
-    names: list[bytes] = field(default_factory=list)
+    names: list[bytes]
+    data: bytes
+    begin: int
+    version: int
 
 
 class Note:
@@ -38,6 +46,8 @@ class Note:
         self.notice = ""
         self._site = session.site
         self._done: list[Typed | Erased] = []
+        # Counts the changes that weren't made by own edits alone.
+        self._version = 0
         # Whether what is typed next goes on with what was typed last, and is taken back with it.
         self._goes_on = False
 
@@ -47,11 +57,10 @@ class Note:
         messages = self._edited(lambda: self.session.site.insert(self.cursor, data))
         if messages is None:
             return
-        self.text[self.cursor:self.cursor] = data
-        self.moved_to(self.cursor + len(data), goes_on=self._goes_on)
         for message in messages:
             self._typed(message)
-        self._goes_on = not data.endswith(LINE_END)
+        self.text[self.cursor:self.cursor] = data
+        self.moved_to(self.cursor + len(data), goes_on=not data.endswith(LINE_END))
 
     def erase(self, begin: int, end: int) -> None:
         """Deletes a stretch."""
@@ -60,8 +69,9 @@ class Note:
         messages = self._edited(lambda: self.session.site.cut(begin, end))
         if messages is None:
             return
+        names = [names_of(message) for message in messages]
+        self._done.append(Erased(names, bytes(self.text[begin:end]), begin, self._version))
         del self.text[begin:end]
-        self._done.append(Erased([names_of(message) for message in messages]))
         self.moved_to(begin)
 
     def take_back(self) -> bool:
@@ -69,14 +79,19 @@ class Note:
         self._forget_names_of_others()
         if not self._done:
             return False
-        done, site = self._done.pop(), self.session.site
+        done, site, began = self._done.pop(), self.session.site, self._version
         if isinstance(done, Typed):
-            named = [(DELETE, stretch(site.number, done.at, done.length))]
+            named, end, data = [(DELETE, stretch(site.number, done.at, done.length))], done.begin + done.length, b""
         else:
-            named = [(RESTORE, names) for names in reversed(done.names)]
+            named, end, data = [(RESTORE, names) for names in reversed(done.names)], done.begin, done.data
         for kind, names in named:
             self._edited(lambda: site.name(kind, names))
-        self._shows(site.text(), follow=True)
+        if done.version == self._version == began:
+            # Nobody else changed anything since, so a long text needn't be printed to see where this was.
+            self.text[done.begin:end] = data
+            self.cursor = done.begin + len(data)
+        else:
+            self._shows(site.text(), follow=True)
         self._goes_on = False
         return True
 
@@ -114,8 +129,9 @@ class Note:
         last = self._done[-1] if self._done else None
         if self._goes_on and isinstance(last, Typed):
             last.length += length
+            last.version = last.version if last.version == self._version else UNKNOWN
         else:
-            self._done.append(Typed(at, length))
+            self._done.append(Typed(at, length, self.cursor, self._version))
         self._goes_on = True
 
     def _edited(self, edit) -> list[Message] | None:
@@ -134,6 +150,7 @@ class Note:
         """Takes over a text that the program shows. The cursor stays with its character, or follows the change."""
         if text == self.text:
             return False
+        self._version += 1
         difference = change(self.text, text)
         self.cursor, self.top = difference.moved(self.cursor), difference.moved(self.top)
         if follow:

@@ -21,6 +21,8 @@ class SameText(Case):
         for turn in range(EDITS):
             for number, (note, reader) in enumerate(zip(notes, readers)):
                 edit_at_random(note, chance)
+                if chance.random() < 0.1:
+                    self.assertEqual(bytes(note.text), note.session.site.text())
                 if number == 0 and turn in OFFLINE:
                     continue
                 note.session.send()
