@@ -1,5 +1,6 @@
 """The command line of bin/note."""
 import argparse
+import contextlib
 import curses
 import locale
 import os
@@ -51,7 +52,10 @@ def on_screen(given: argparse.Namespace) -> None:
     def open_note(bar, wake) -> Note:
         return Note(Session(given.name, given.log, bar, wake))
 
-    note = curses.wrapper(edit, given.name, open_note)
+    try:
+        note = curses.wrapper(edit, given.name, open_note)
+    except curses.error as why:
+        raise Trouble(f"The terminal can't be used ({why}). TERM has to name one that this system knows.") from why
     if unsent := note.session.status().unsent:
         print(f"Not sent yet, and kept in {data_folder()}: {counted(unsent, 'edit')}. Open the note again when its log can "
               "be reached.")
@@ -64,12 +68,18 @@ def printed(given: argparse.Namespace) -> None:
     sys.stdout.buffer.write(note.as_file())
 
 
+def use_utf_8() -> None:
+    """Has the terminal's characters be UTF-8, also where the user's locale is another one or isn't here."""
+    with contextlib.suppress(locale.Error):
+        locale.setlocale(locale.LC_ALL, "")
+    if locale.nl_langinfo(locale.CODESET).upper() != "UTF-8":
+        locale.setlocale(locale.LC_CTYPE, "C.UTF-8")
+
+
 def main() -> int:
     """The status with which the command ends."""
     given = words()
-    locale.setlocale(locale.LC_ALL, "")
-    if locale.nl_langinfo(locale.CODESET).upper() != "UTF-8":
-        locale.setlocale(locale.LC_CTYPE, "C.UTF-8")
+    use_utf_8()
     # The terminal is to be put right where the user closes it, too.
     for number in signal.SIGHUP, signal.SIGTERM:
         signal.signal(number, lambda *_: sys.exit(0))

@@ -37,6 +37,11 @@ def state(status: Status) -> str:
     return f"sending {counted(status.unsent, 'edit')}" if status.unsent else "all sent"
 
 
+def state_of_others(status: Status) -> str:
+    """Whether something of the others lacks what it builds on, in words."""
+    return f"  {counted(status.waiting, 'message')} incomplete" if status.waiting else ""
+
+
 def bar(done: int, total: int) -> str:
     """A bar of what was done of all."""
     full = BAR * done // max(1, total)
@@ -245,7 +250,7 @@ class Editor:
     def _draw(self) -> None:
         self._layout = Layout(self.note.text, self.screen.width)
         status = self.note.session.status()
-        left = f" {self.name}  site {status.site}  {status.on} on  {state(status)}"
+        left = f" {self.name}  site {status.site}  {status.on} on  {state(status)}{state_of_others(status)}"
         self.screen.say(f" {self.note.notice}" if self.note.notice else left, "" if self.note.notice else HELP)
         self.screen.draw(self._visible(), self.note.cursor)
 

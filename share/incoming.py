@@ -54,9 +54,9 @@ class Incoming:
         """Says that a message of a site was taken in."""
         self._tried.discard(site)
 
-    def waiting(self) -> int:
-        """How many messages lack one before them."""
-        return sum(map(len, self._later.values()))
+    def held(self) -> list[Message]:
+        """The messages that lack one before them."""
+        return [message for later in self._later.values() for message in later.values()]
 
     def _next(self, site: int) -> Message | None:
         return self._later[site].get(self.fronts.get(site, 0) + 1)

@@ -79,14 +79,16 @@ class Note:
         self._forget_names_of_others()
         if not self._done:
             return False
-        done, site, began = self._done.pop(), self.session.site, self._version
+        done, site = self._done.pop(), self.session.site
         if isinstance(done, Typed):
             named, end, data = [(DELETE, stretch(site.number, done.at, done.length))], done.begin + done.length, b""
         else:
             named, end, data = [(RESTORE, names) for names in reversed(done.names)], done.begin, done.data
-        for kind, names in named:
-            self._edited(lambda: site.name(kind, names))
-        if done.version == self._version == began:
+        # Where the first is refused nothing is changed, and the edit can be taken back later.
+        if None in [self._edited(lambda: site.name(kind, names)) for kind, names in named]:
+            self._done.append(done)
+            return True
+        if done.version == self._version:
             # Nobody else changed anything since, so a long text needn't be printed to see where this was.
             self.text[done.begin:end] = data
             self.cursor = done.begin + len(data)

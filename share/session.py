@@ -35,6 +35,7 @@ class Status:
     on: int
     unsent: int
     offline: str | None
+    waiting: int
 
 
 class Session:
@@ -42,13 +43,13 @@ class Session:
 
     def __init__(self, name: str, url: str | None, bar: Bar = lambda done, total: None,
                  wake: Callable[[], None] = lambda: None):
-        self._folder, self._wake, self._identity = data_folder(), wake, None
+        self._folder, self._bar, self._wake, self._identity = data_folder(), bar, wake, None
         self._open_log = lambda: self._checked(open_log(name, url, self._folder / "logs"))
         self._notices: list[str] = []
         try:
             with closing(self._open_log()) as log:
                 self._identity = log.identity
-                after = self._enter(log, bar)
+                after = self._enter(log)
         except Unreachable as why:
             raise Trouble(f"The log can't be reached ({why}). A note is opened only with its log, so that no edit of yours "
                           "is made twice; try again when it is there.") from why
@@ -66,6 +67,11 @@ class Session:
         failure = self._courier.failure
         if isinstance(failure, Trouble):
             raise failure
+        if not (entries or failure):
+            return []
+        begin = len(self.site.history)
+        if len(entries) > SLICE:
+            self.site.progress = lambda done: self._bar(min(done - begin, len(entries)), len(entries))
         try:
             if isinstance(failure, Conflict):
                 raise Forked(failure.seq)
@@ -82,7 +88,7 @@ class Session:
     def status(self) -> Status:
         """How things stand."""
         courier = self._courier
-        return Status(self.site.number, courier.on, courier.unsent(), courier.offline())
+        return Status(self.site.number, courier.on, courier.unsent(), courier.offline(), self.site.waiting())
 
     def close(self) -> None:
         """Closes the note; what isn't sent stays in the journal."""
@@ -99,16 +105,17 @@ class Session:
     def _journals(self) -> pathlib.Path:
         return self._folder / "journals" / str(self._identity)
 
-    def _enter(self, log: Log, bar: Bar) -> str:
+    def _enter(self, log: Log) -> str:
         """Takes in the log and then the journal; the place of the last entry."""
         self._journals().mkdir(parents=True, exist_ok=True)
         size = log.size()
         entries: list[Entry] = []
         while page := log.read(entries[-1].place if entries else START):
             entries += page
-            bar(len(entries), 2 * max(size, len(entries)))
+            size = max(size, len(entries))
+            self._bar(len(entries), 2 * size)
         self.site = self._site(log)
-        self.site.progress = lambda done: bar(min(size, done) + size, 2 * size)
+        self.site.progress = lambda done: self._bar(min(size, done) + size, 2 * size)
         try:
             self.site.take(entries)
             self.site.open()
@@ -151,7 +158,7 @@ class Session:
         old = self.site
         kept, edits = undone(old, seq)
         self.site = self._new_site(log)
-        self.site.adopt(kept)
+        self.site.adopt([*kept, *(message.data for message in old.incoming.held())])
         for edit in edits:
             if edit.end > edit.begin:
                 self.site.cut(edit.begin, edit.end)

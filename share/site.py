@@ -13,7 +13,10 @@ from share.words import Refused, Trouble, refusal
 MOST_BYTES = 4_096
 # So many messages are handed in at once where nobody looks at the text between.
 SLICE = 2_000
-ROOM_FULL, STAMPS_SPENT, SCATTERED = 6, 9, 12
+# So many messages a note has at most when it is edited, since a run of the program takes so many lines and can't be gone on
+# with by another one. Some lines are left for reading.
+MOST_MESSAGES = MOST_LINES - 20_000
+ROOM_FULL, NO_MEMORY, STAMPS_SPENT, SCATTERED, TOO_MANY = 6, 7, 9, 12, 21
 
 Progress = Callable[[int], None]
 
@@ -41,7 +44,7 @@ class Site:
         # All that the program has, in an order that keeps causes; a program that ended is given it again.
         self.history: list[bytes] = []
         self.incoming = Incoming()
-        self._stamp = 0
+        self._stamp = self._room = 0
         self._program = Program(number)
 
     def take(self, entries: list[Entry], looks: int = 0) -> list[bytes]:
@@ -49,14 +52,17 @@ class Site:
 
         Raises Forked where one is another client's under this site's number: those ahead of it are taken in."""
         seq = self._sort(entries)
-        ready = self.incoming.ready()
-        texts = []
-        for part in _parts(ready, looks):
-            texts += self._hand_in(part, looks > 0)
+        texts: list[bytes] = []
+        for part, looked_at in _parts(self.incoming.ready(), looks):
+            texts += self._hand_in(part, looked_at)
             self.progress(len(self.history))
         if seq is not None:
             raise Forked(seq)
         return texts
+
+    def waiting(self) -> int:
+        """How many messages came whose causes didn't."""
+        return len(self.incoming.held()) + self._room
 
     def open(self) -> None:
         """Lets own edits begin: the log is in, and what the journal has beyond it is taken in here."""
@@ -66,7 +72,8 @@ class Site:
         self.take([])
         self.front = self._own_front()
         if self.front < max(self.own, default=0):
-            raise Forked(self.front + 1)
+            raise Trouble(f"Message {self.front + 1} of this site is neither in the log nor in {self.journal.path}, and later "
+                          "ones build on it. Bring back a copy of the log, or move the journal away, and open the note again.")
         self.is_open = True
 
     def adopt(self, messages: list[bytes]) -> None:
@@ -99,6 +106,7 @@ class Site:
 
         No event has names, so the message is made here, with the next seq and a stamp above all others, and handed in: the
         program judges it as any other."""
+        self._room_for_one_more()
         if self._stamp >= GREATEST_STAMP:
             raise Refused(STAMPS_SPENT)
         message = naming(kind, self.number, self.front + 1, self._stamp + 1, names)
@@ -146,9 +154,12 @@ class Site:
         if word in (b"taken", b"waits"):
             self.history.append(message.data)
             self._stamp = max(self._stamp, message.stamp)
+            self._room += 1 if word == b"waits" else -sum(map(int, numbers[:2]))
             self.incoming.went_in(message.site)
         elif word == b"refused" and int(numbers[0]) == ROOM_FULL:
             self.incoming.put_back(message)
+        elif word == b"refused" and int(numbers[0]) == NO_MEMORY:
+            raise Trouble("There is no memory for what came in. End other programs and open the note again.")
         elif word == b"refused":
             self.notices.append(f"Message {message.seq} of site {message.site} was {refusal(int(numbers[0]))}. It was left "
                                 "out, with what builds on it. Save the note as a file, or bring back a copy of the log.")
@@ -157,6 +168,7 @@ class Site:
 
     def _edit(self, verb: str, *words: int | bytes) -> list[Message]:
         """Makes an own edit, and keeps its messages."""
+        self._room_for_one_more()
         (answer,) = self._ask([self._program.event(verb, *words)])
         messages = [Message.read(bytes.fromhex(line.split()[2].decode())) for line in answer[:-1]]
         if messages:
@@ -164,6 +176,10 @@ class Site:
         if answer[-1] != b"ok":
             raise Refused(int(answer[-1].split()[-1]))
         return messages
+
+    def _room_for_one_more(self) -> None:
+        if len(self.history) >= MOST_MESSAGES:
+            raise Refused(TOO_MANY)
 
     def _keep(self, messages: list[Message]) -> None:
         self.journal.append(messages)
@@ -195,8 +211,8 @@ class Site:
     def _start_again(self) -> None:
         self._program.close()
         if len(self.history) + SLICE > MOST_LINES:
-            raise Trouble(f"The note has {len(self.history):,} messages, as many as the program takes in one run. Save it as a "
-                          "file and begin a new note.")
+            raise Trouble(f"The note has {len(self.history):,} messages, more than the program takes in one run. Go on in a new "
+                          "note.")
         self._program = Program(self.number)
         try:
             for begin in range(0, len(self.history), SLICE):
@@ -215,7 +231,9 @@ def split(data: bytes) -> Iterator[bytes]:
         yield data
 
 
-def _parts(messages: list[Message], looks: int) -> Iterator[list[Message]]:
-    size = -(-len(messages) // looks) if looks else SLICE
-    for begin in range(0, len(messages), max(1, size)):
-        yield messages[begin:begin + size]
+def _parts(messages: list[Message], looks: int) -> Iterator[tuple[list[Message], bool]]:
+    """Messages in parts, and whether the text is looked at behind each. Of very many, only behind the last."""
+    many = len(messages) > SLICE or not looks
+    size = SLICE if many else max(1, -(-len(messages) // looks))
+    for begin in range(0, len(messages), size):
+        yield messages[begin:begin + size], looks > 0 and (not many or begin + size >= len(messages))

@@ -139,7 +139,7 @@ class HandCarried:
 
     def status(self) -> Status:
         """How things stand."""
-        return Status(self.site.number, 1, self.site.front - self.sent, None)
+        return Status(self.site.number, 1, self.site.front - self.sent, None, self.site.waiting())
 
 
 class Shuffled:

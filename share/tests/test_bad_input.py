@@ -10,6 +10,7 @@ import threading
 import zlib
 from unittest import mock
 
+from share.journal import Journal
 from share.log import Unreachable, open_log
 from share.message import Message
 from share.note import Note
@@ -271,6 +272,23 @@ class BadInput(Case):
         return (not any(state.unsent or state.offline for state in states) and len({state.site for state in states}) == 2
                 and len({bytes(note.text) for note in notes}) == 1)
 
+    def test_another_client_types_under_our_number(self) -> None:
+        shutil.copytree(self.folder / "data" / "journals", self.folder / "copied" / "journals")
+        first = Note(Session("note", None))
+        (self.folder / "copied" / "logs").symlink_to(self.path.parent)
+        self.use_data("copied")
+        second = Note(Session("note", None))
+        for note in first, second:
+            self.addCleanup(note.session.close)
+        written(first, "F")
+        wait_for(lambda: second.take_in(), "the other client's word")
+        self.assertRegex(second.notice, "Another client writes as site 1 too, so you go on as site 2. No edit was lost")
+        written(second, "S")
+        wait_for(lambda: first.take_in(), "the second client's word")
+        self.assertEqual(bytes(first.text), b"one two three FS")
+        self.assertEqual(bytes(second.text), b"one two three FS")
+        self.assertEqual(first.session.status().site, 1)
+
     def test_two_clients_of_one_folder_have_two_numbers(self) -> None:
         notes = [Note(Session("note", None)) for _ in range(2)]
         for note in notes:
@@ -287,6 +305,40 @@ class BadInput(Case):
         self.assertTrue(note.take_back())
         self.assertEqual(note.session.site.text(), b"one two three four ")
         self.assertEqual(bytes(note.text), b"one two three four ")
+
+    def test_an_own_message_that_is_nowhere(self) -> None:
+        (path,) = (self.folder / "data" / "journals").glob("*/1.journal")
+        journal = Journal(path)
+        path.unlink()
+        fresh = Journal(path)
+        fresh.append(journal.messages[1:])
+        for one in journal, fresh:
+            one.close()
+        self.assertEqual(self.note("note", "--print").stdout, "one two three ")
+        self.change("DELETE FROM entry")
+        self.assert_says(self.note("note", "--print"), "Message 1 of this site is neither", "Bring back a copy")
+
+    def test_a_note_that_is_full(self) -> None:
+        note = Note(Session("note", None))
+        self.addCleanup(note.session.close)
+        with mock.patch("share.site.MOST_MESSAGES", 5):
+            written(note, "a")
+            written(note, "b")
+            note.type("c")
+            self.assertRegex(note.notice, r"refused \(21\).*save it as a file")
+            note.notice = ""
+            note.take_back()
+            self.assertRegex(note.notice, r"refused \(21\)")
+            self.assertEqual(bytes(note.text), b"one two three ab")
+        note.take_back()
+        self.assertEqual(bytes(note.text), b"one two three a")
+        self.assertEqual(note.session.site.text(), b"one two three a")
+
+    def test_a_message_whose_cause_is_missing(self) -> None:
+        self.change("DELETE FROM entry WHERE seq = 2")
+        note = self.reader("other")
+        self.assertEqual(bytes(note.text), b"one ")
+        self.assertEqual(note.session.status().waiting, 1)
 
     def test_a_journal_that_is_damaged(self) -> None:
         (path,) = (self.folder / "data" / "journals").glob("*/1.journal")

@@ -92,14 +92,14 @@ class Order(Case):
         for one in random.Random(2).sample(sent, len(sent)):
             incoming.add(one)
         self.assertEqual(incoming.ready(), sorted(sent, key=lambda one: one.stamp))
-        self.assertEqual((incoming.ready(), incoming.waiting()), ([], 0))
+        self.assertEqual((incoming.ready(), incoming.held()), ([], []))
 
     def test_a_gap_holds_back_its_site_alone(self) -> None:
         incoming = Incoming()
         for one in message(1, 2, 2), message(2, 1, 1), message(1, 3, 3):
             incoming.add(one)
         self.assertEqual(incoming.ready(), [message(2, 1, 1)])
-        self.assertEqual(incoming.waiting(), 2)
+        self.assertEqual(len(incoming.held()), 2)
         incoming.add(message(1, 1, 1))
         self.assertEqual([one.seq for one in incoming.ready()], [1, 2, 3])
 

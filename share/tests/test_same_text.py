@@ -44,7 +44,7 @@ class SameText(Case):
             self.assertEqual(bytes(note.text), shown)
             self.assertEqual(note.session.site.text(), shown)
             self.assertEqual(note.notice, "")
-            self.assertEqual(note.session.site.incoming.waiting(), 0)
+            self.assertEqual(note.session.site.waiting(), 0)
             note.session.site.close()
         shown.decode()
         self.only_whole_characters(log)
