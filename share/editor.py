@@ -4,6 +4,7 @@ import os
 import pathlib
 import select
 import sys
+import textwrap
 import time
 
 from share.layout import Layout, Row, cluster_after, cluster_before
@@ -78,44 +79,45 @@ class Screen:
             pass
 
     def say(self, left: str, right: str = "") -> None:
-        """Draws the status line."""
-        room = self.width - len(right) - 2
-        words = f"{left[:self.width]:<{room}}  {right}" if right and len(left) <= room else f"{left[:self.width]:<{self.width}}"
-        self.put(self.height, words, curses.A_REVERSE)
+        """Draws the status line, with more to the right where there is room. Long words take lines of the text, too."""
+        lines = textwrap.wrap(left, self.width - 1)[:self.height] or [""]
+        if len(lines[-1]) + len(right) + 3 <= self.width:
+            lines[-1] += right.rjust(self.width - 1 - len(lines[-1]))
+        for number, line in enumerate(lines, self.height + 1 - len(lines)):
+            self.put(number, f" {line:<{self.width - 1}}", curses.A_REVERSE)
 
-    def keys(self) -> list[str | int]:
-        """The keys that were pressed, without waiting."""
-        out = []
-        while True:
-            try:
-                out.append(self.window.get_wch())
-            except curses.error:
-                return out
+    def key(self) -> str | int | None:
+        """The next key that was pressed; None where none was."""
+        try:
+            return self.window.get_wch()
+        except curses.error:
+            return None
 
     def ask(self, question: str, answer: str = "") -> str | None:
         """A line that the user types; None where it is given up."""
         while True:
             self.say(f"{question}: {answer}")
-            self._cursor(self.height, len(question) + 2 + len(answer))
-            select.select([sys.stdin], [], [])
-            for key in self.keys():
-                if key in ENTER:
-                    return answer
-                if key in ESCAPE:
-                    return None
-                if key in ERASE:
-                    answer = answer[:-1]
-                elif isinstance(key, str) and key.isprintable():
-                    answer += key
+            self._cursor(self.height, len(question) + 3 + len(answer))
+            if (key := self.key()) is None:
+                select.select([sys.stdin], [], [], TURN_SECONDS)
+            elif key in ENTER:
+                return answer
+            elif key in ESCAPE:
+                return None
+            elif key in ERASE:
+                answer = answer[:-1]
+            elif isinstance(key, str) and key.isprintable():
+                answer += key
 
-    def draw(self, rows: list[Row], cursor: int) -> None:
-        """Draws rows of a text, and the cursor at its place."""
+    def draw(self, rows: list[Row], cursor: int, left: str, right: str) -> None:
+        """Draws rows of a text, the status line, and the cursor at its place."""
         at = 0, 0
         for line in range(self.height):
             row = rows[line] if line < len(rows) else None
             self.put(line, "".join(cell for _, cell, _ in row.cells) if row else "")
             if row and row.begin <= cursor <= row.end:
                 at = line, row.column(cursor)
+        self.say(left, right)
         self._cursor(*at)
 
     def _cursor(self, line: int, column: int) -> None:
@@ -151,17 +153,17 @@ class Editor:
             ready, _, _ = select.select([sys.stdin, self._woken], [], [], min(TURN_SECONDS, rest) if rest else TURN_SECONDS)
             if self._woken in ready:
                 os.read(self._woken, 4_096)
-            self._press(self.screen.keys())
+            self._press()
             begin = time.monotonic()
             if begin >= rests_until:
                 self.note.take_in()
                 rests_until = begin + REST * (time.monotonic() - begin)
             self._draw()
 
-    def _press(self, keys: list[str | int]) -> None:
+    def _press(self) -> None:
         """Does what keys say. Characters that came at once, as pasted ones do, are typed at once."""
         typed = ""
-        for key in keys:
+        while (key := self.screen.key()) is not None:
             self.note.notice = ""
             if key in ENTER:
                 typed += "\r"
@@ -250,9 +252,9 @@ class Editor:
     def _draw(self) -> None:
         self._layout = Layout(self.note.text, self.screen.width)
         status = self.note.session.status()
-        left = f" {self.name}  site {status.site}  {status.on} on  {state(status)}{state_of_others(status)}"
-        self.screen.say(f" {self.note.notice}" if self.note.notice else left, "" if self.note.notice else HELP)
-        self.screen.draw(self._visible(), self.note.cursor)
+        left = f"{self.name}  site {status.site}  {status.on} on  {state(status)}{state_of_others(status)}"
+        words = (self.note.notice, "") if self.note.notice else (left, HELP)
+        self.screen.draw(self._visible(), self.note.cursor, *words)
 
     def _visible(self) -> list[Row]:
         """The rows on the screen, which follow the cursor."""
@@ -283,7 +285,7 @@ def edit(window: "curses.window", name: str, open_note) -> Note:
             pass
 
     def catching_up(done: int, total: int) -> None:
-        screen.say(f" {name}  catching up  {bar(done, total)}")
+        screen.say(f"{name}  catching up  {bar(done, total)}")
         screen.window.refresh()
 
     note = open_note(catching_up, wake)
