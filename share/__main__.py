@@ -13,7 +13,7 @@ from share.session import Session, data_folder
 from share.words import Trouble, counted
 
 PAGE = """\
-Opens a shared note in the terminal. Whoever opens the same NAME in the same log edits the same note, all at once.
+Opens a shared note in the terminal. Whoever opens the same NAME in the same log edits the same note, at once.
 
 keys:
   arrows, Home, End, PgUp, PgDn   move
@@ -24,12 +24,13 @@ keys:
   Ctrl-Q                          quit
 """
 END = """\
-Without --log the log is a file on this machine, for all who share its data folder: VIALSHOAL_DATA, else
-$XDG_DATA_HOME/vialshoal, else ~/.local/share/vialshoal. With --log redis://HOST:PORT it is kept by a Redis server,
-which needs Python's module redis (Debian: apt-get install python3-redis). What you type is on this machine's disk before
-it is sent, so you can go on where the log can't be reached. VIALSHOAL_PROGRAM names another program than bin/built.
+Without --log the log is a file in the data folder: VIALSHOAL_DATA, else $XDG_DATA_HOME/vialshoal, else
+~/.local/share/vialshoal. With --log redis://HOST:PORT it is kept by a Redis server, which needs Python's module
+redis (Debian: apt-get install python3-redis). What you type is on this machine's disk before it is sent, so you can
+go on where the log can't be reached. VIALSHOAL_PROGRAM names another program than bin/built.
 
-Ends with 0, and with 2 and a sentence where the note couldn't be opened or had to be closed. docs/SHARING.md tells more.
+Ends with 0, and with 2 and a sentence where the note couldn't be opened or had to be closed. docs/SHARING.md tells
+more.
 """
 
 
@@ -37,8 +38,8 @@ def words() -> argparse.Namespace:
     """What the command line says."""
     parser = argparse.ArgumentParser("note", description=PAGE, epilog=END,
                                      formatter_class=argparse.RawDescriptionHelpFormatter)
-    parser.add_argument("name", metavar="NAME", help="the note: letters, digits, dots, hyphens and underscores")
-    parser.add_argument("--log", metavar="URL", help="where the log is: redis://HOST:PORT; without it, on this machine")
+    parser.add_argument("name", metavar="NAME", help="letters, digits, dots, hyphens and underscores")
+    parser.add_argument("--log", metavar="URL", help="redis://HOST:PORT; without it the log is on this machine")
     parser.add_argument("--print", action="store_true", dest="prints", help="print the note and end")
     return parser.parse_args()
 
@@ -55,10 +56,11 @@ def on_screen(given: argparse.Namespace) -> None:
     try:
         note = curses.wrapper(edit, given.name, open_note)
     except curses.error as why:
-        raise Trouble(f"The terminal can't be used ({why}). TERM has to name one that this system knows.") from why
+        raise Trouble(f"The terminal can't be used ({why}). TERM has to name one that this system "
+                      "knows.") from why
     if unsent := note.session.status().unsent:
-        print(f"Not sent yet, and kept in {data_folder()}: {counted(unsent, 'edit')}. Open the note again when its log can "
-              "be reached.")
+        print(f"Not sent yet, and kept in {data_folder()}: {counted(unsent, 'edit')}. Open the note again when its "
+              "log can be reached.")
 
 
 def printed(given: argparse.Namespace) -> None:

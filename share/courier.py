@@ -1,4 +1,5 @@
-"""Carries messages between a site and the log, in two threads: a slow or absent log never holds up a keystroke."""
+"""Carries messages between a site and the log, in two threads: a slow or absent log never holds up a
+keystroke."""
 import threading
 import time
 from collections import deque

@@ -14,8 +14,8 @@ from share.words import Trouble, counted
 
 # The screen is looked at so often where nothing is typed and nothing comes, for its size and who is on.
 TURN_SECONDS = 0.5
-# After what came was taken in, keys alone are answered for so many times as long: the program takes a while to print a text
-# of a megabyte, and answers no key meanwhile.
+# After what came was taken in, keys alone are answered for so many times as long: the program takes a while
+# to print a text of a megabyte, and answers no key meanwhile.
 REST = 10
 HELP = "^Z undo  ^F find  ^S save  ^Q quit"
 BAR = 30
@@ -79,7 +79,8 @@ class Screen:
             pass
 
     def say(self, left: str, right: str = "") -> None:
-        """Draws the status line, with more to the right where there is room. Long words take lines of the text, too."""
+        """Draws the status line, with more to the right where there is room. Long words take lines of the
+        text, too."""
         lines = textwrap.wrap(left, self.width - 1)[:self.height] or [""]
         if len(lines[-1]) + len(right) + 3 <= self.width:
             lines[-1] += right.rjust(self.width - 1 - len(lines[-1]))
@@ -140,7 +141,8 @@ class Editor:
             curses.KEY_UP: lambda: self._rows(-1), curses.KEY_DOWN: lambda: self._rows(1),
             curses.KEY_PPAGE: lambda: self._pages(-1), curses.KEY_NPAGE: lambda: self._pages(1),
             curses.KEY_HOME: self._home, curses.KEY_END: self._end, curses.KEY_DC: self._delete,
-            control("Z"): self._take_back, control("F"): self._find, control("S"): self._save, control("Q"): self._quit,
+            control("Z"): self._take_back, control("F"): self._find,
+            control("S"): self._save, control("Q"): self._quit,
             **dict.fromkeys(ERASE, self._backspace),
         }
 
@@ -149,8 +151,9 @@ class Editor:
         self._draw()
         rests_until = 0.0
         while not self._quits:
-            rest = max(0.0, rests_until - time.monotonic())
-            ready, _, _ = select.select([sys.stdin, self._woken], [], [], min(TURN_SECONDS, rest) if rest else TURN_SECONDS)
+            rest = rests_until - time.monotonic()
+            turn = min(TURN_SECONDS, rest) if rest > 0 else TURN_SECONDS
+            ready, _, _ = select.select([sys.stdin, self._woken], [], [], turn)
             if self._woken in ready:
                 os.read(self._woken, 4_096)
             self._press()
@@ -238,7 +241,7 @@ class Editor:
         if not name:
             return
         path = pathlib.Path(name).expanduser()
-        if path.exists() and (self.screen.ask(f"{name} exists. Replace it (yes or no)") or "").lower() not in ("y", "yes"):
+        if path.exists() and self.screen.ask(f"{name} exists. Replace it (yes or no)") not in ("y", "yes"):
             return
         try:
             path.write_bytes(self.note.as_file())

@@ -7,8 +7,8 @@ from share.message import Message
 class Incoming:
     """Hands out each site's next message, the lowest stamp first.
 
-    A stamp is above the stamps of all that its message builds on, so of messages that are all here none comes ahead of its
-    causes, and the program's waiting room stays empty, in whatever order a log has them.
+    A stamp is above the stamps of all that its message builds on, so of messages that are all here none comes
+    ahead of its causes, and the program's waiting room stays empty, in whatever order a log has them.
     """
 
     def __init__(self) -> None:
@@ -18,7 +18,8 @@ class Incoming:
         self._tried: set[int] = set()
 
     def add(self, message: Message) -> None:
-        """Adds a message. What came before is handed in again at once: the program tells an equal one from another."""
+        """Adds a message. What came before is handed in again at once: the program tells an equal one from
+        another."""
         later = self._later.setdefault(message.site, {})
         held = later.setdefault(message.seq, message)
         if message.seq <= self.fronts.get(message.site, 0):
@@ -45,7 +46,8 @@ class Incoming:
         return out
 
     def put_back(self, message: Message) -> None:
-        """Takes back a message for which the room was full. Next time it is tried alone, ahead of those behind it."""
+        """Takes back a message for which the room was full. Next time it is tried alone, ahead of those
+        behind it."""
         self.fronts[message.site] = min(self.fronts[message.site], message.seq - 1)
         self._later[message.site][message.seq] = message
         self._tried.add(message.site)

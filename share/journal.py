@@ -1,7 +1,7 @@
 """A site's journal: each own message, on the disk before anyone else sees it.
 
-A record is the message's length, its checksum and its bytes. A record that a crash cut short is the last one, and it was
-never sent; it is cut off when the journal is opened.
+A record is the message's length, its checksum and its bytes. A record that a crash cut short is the last one,
+and it was never sent; it is cut off when the journal is opened.
 """
 import fcntl
 import os
@@ -49,8 +49,8 @@ class Journal:
             raise Trouble(f"{self.path} isn't a journal. Move it away and open the note again.")
         messages, end = _records(data)
         if not _is_cut_short(data[end:]):
-            raise Trouble(f"{self.path} is damaged behind {len(messages)} edits. Move it away and open the note again: "
-                          "what was sent is in the log.")
+            raise Trouble(f"{self.path} is damaged behind {len(messages)} edits. Move it away and open the "
+                          "note again: what was sent is in the log.")
         os.ftruncate(self._file, end)
         return messages, end
 
@@ -68,8 +68,8 @@ class Journal:
             os.fdatasync(self._file)
         except OSError as why:
             os.ftruncate(self._file, begin)
-            raise Trouble(f"The last edit couldn't be kept ({self.path}: {why.strerror}); all before it is. Make room on "
-                          "the disk and open the note again.") from why
+            raise Trouble(f"The last edit couldn't be kept ({self.path}: {why.strerror}); all before it is. "
+                          "Make room on the disk and open the note again.") from why
 
     def set_aside(self) -> None:
         """Renames the journal, so that no one goes on with its site number."""
@@ -93,7 +93,8 @@ def _records(data: bytes) -> tuple[list[Message], int]:
 
 
 def _is_cut_short(rest: bytes) -> bool:
-    """Whether what stands behind the last whole record is the front of one more, and not a damaged one ahead of others."""
+    """Whether what stands behind the last whole record is the front of one more, and not a damaged one ahead
+    of others."""
     if len(rest) < RECORD.size or not any(rest):
         return True
     length, _ = RECORD.unpack_from(rest)

@@ -5,7 +5,8 @@ from functools import lru_cache
 
 LINE_END = 0x0D
 TAB = 8
-# A longer line is laid out in parts, each beginning a row, so that a key in a line of a megabyte is answered at once.
+# A longer line is laid out in parts, each beginning a row, so that a key in a line of a megabyte is answered
+# at once.
 PART = 4_096
 
 
@@ -36,14 +37,14 @@ def characters(data: bytes, begin: int) -> list[tuple[int, str]]:
     out = []
     for character in data.decode("utf-8", "surrogateescape"):
         out.append((begin, character))
-        code = ord(character)
-        begin += 1 if code < 0x80 or 0xDC80 <= code <= 0xDCFF else 2 if code < 0x800 else 3 if code < 0x10000 else 4
+        begin += 1 if character < "\u0080" else len(character.encode("utf-8", "surrogateescape"))
     return out
 
 
 @lru_cache(4_096)
 def look_of(character: str) -> tuple[str, int]:
-    """What is drawn for a character, and how many columns it takes: none where it is drawn over the one before it."""
+    """What is drawn for a character, and how many columns it takes: none where it is drawn over the one
+    before it."""
     if 0xDC80 <= ord(character) <= 0xDCFF:
         return "\ufffd", 1
     category = unicodedata.category(character)
@@ -130,7 +131,8 @@ class Layout:
     def _rows(self, begin: int) -> list[Row]:
         if begin not in self._parts:
             end = self._part_end(begin)
-            self._parts[begin] = rows_of(characters(bytes(self.text[begin:end]), begin), begin, end, self.width)
+            line = characters(bytes(self.text[begin:end]), begin)
+            self._parts[begin] = rows_of(line, begin, end, self.width)
         return self._parts[begin]
 
 

@@ -51,15 +51,17 @@ class Entry(NamedTuple):
 
 
 class Log(ABC):
-    """A log that one thread has opened. What can't be reached raises Unreachable, and what is no log Trouble."""
+    """A log that one thread has opened. What can't be reached raises Unreachable, and what is no log
+    Trouble."""
 
     # Tells this log from another one that took its name and place.
     identity: str
 
     @abstractmethod
     def append(self, site: int, seq: int, *messages: bytes) -> None:
-        """Appends messages of a site that have seqs from `seq` on, so that they last. One that is held already is left
-        as it is; where another one is held under its identity it raises Conflict, and those ahead of it stand."""
+        """Appends messages of a site that have seqs from `seq` on, so that they last. One that is held
+        already is left as it is; where another one is held under its identity it raises Conflict, and those
+        ahead of it stand."""
 
     @abstractmethod
     def read(self, after: str) -> list[Entry]:
@@ -97,15 +99,16 @@ class Log(ABC):
 def numbered(site: int) -> int:
     """The site number, where it is one that can be given out."""
     if site > GREATEST_SITE:
-        raise Trouble(f"This note has given out all its {GREATEST_SITE:,} site numbers. Save it and begin a new one.")
+        raise Trouble(f"This note has given out all its {GREATEST_SITE:,} site numbers. Save it and begin a "
+                      "new one.")
     return site
 
 
 def open_log(name: str, url: str | None, folder) -> Log:
     """The log of a note: that of a Redis server where a URL names one, else a file in the folder."""
     if not NAME.fullmatch(name):
-        raise Trouble(f"{name!r} can't be a note's name. Use up to 64 letters, digits, dots, hyphens and underscores, "
-                      "the first a letter or a digit.")
+        raise Trouble(f"{name!r} can't be a note's name. Use up to 64 letters, digits, dots, hyphens and "
+                      "underscores, the first a letter or a digit.")
     # Each back end is loaded where it is asked for: the one needs a module that Python doesn't bring.
     if url is None:
         from share.sqlite_log import SqliteLog
@@ -116,6 +119,6 @@ def open_log(name: str, url: str | None, folder) -> Log:
     try:
         from share.redis_log import RedisLog
     except ImportError as why:
-        raise Trouble("Python's module redis isn't here, which --log redis:// needs. On Debian: apt-get install "
-                      "python3-redis.") from why
+        raise Trouble("Python's module redis isn't here, which --log redis:// needs. On Debian: apt-get "
+                      "install python3-redis.") from why
     return RedisLog(name, url)

@@ -17,8 +17,8 @@ UNKNOWN = -1
 
 @dataclass
 class Typed:
-    """An own insertion, as names: a stretch of the own site's file. Where it stands is known as long as nothing else changed
-    the text, which `version` tells."""
+    """An own insertion, as names: a stretch of the own site's file. Where it stands is known as long as
+    nothing else changed the text, which `version` tells."""
 
     at: int
     length: int
@@ -75,15 +75,18 @@ class Note:
         self.moved_to(begin)
 
     def take_back(self) -> bool:
-        """Takes back this site's last edit that stands, by names: nobody else's is touched. False where there is none."""
+        """Takes back this site's last edit that stands, by names: nobody else's is touched. False where there
+        is none."""
         self._forget_names_of_others()
         if not self._done:
             return False
         done, site = self._done.pop(), self.session.site
         if isinstance(done, Typed):
-            named, end, data = [(DELETE, stretch(site.number, done.at, done.length))], done.begin + done.length, b""
+            named, data = [(DELETE, stretch(site.number, done.at, done.length))], b""
+            end = done.begin + done.length
         else:
-            named, end, data = [(RESTORE, names) for names in reversed(done.names)], done.begin, done.data
+            named, data = [(RESTORE, names) for names in reversed(done.names)], done.data
+            end = done.begin
         # Where the first is refused nothing is changed, and the edit can be taken back later.
         if None in [self._edited(lambda: site.name(kind, names)) for kind, names in named]:
             self._done.append(done)
@@ -113,7 +116,8 @@ class Note:
         self.cursor, self._goes_on = position, goes_on
 
     def find(self, words: str) -> bool:
-        """Puts the cursor at the next place of words behind it, or from the front on. False where there is none."""
+        """Puts the cursor at the next place of words behind it, or from the front on. False where there is
+        none."""
         wanted = words.encode("utf-8", "ignore")
         place = self.text.find(wanted, self.cursor + 1)
         if place < 0:
@@ -137,7 +141,8 @@ class Note:
         self._goes_on = True
 
     def _edited(self, edit) -> list[Message] | None:
-        """The messages of an edit; None where it was refused, or stands in part: the text is the program's then."""
+        """The messages of an edit; None where it was refused, or stands in part: the text is the program's
+        then."""
         self._forget_names_of_others()
         try:
             return edit()
@@ -149,7 +154,8 @@ class Note:
             self.session.made()
 
     def _shows(self, text: bytes, follow: bool = False) -> bool:
-        """Takes over a text that the program shows. The cursor stays with its character, or follows the change."""
+        """Takes over a text that the program shows. The cursor stays with its character, or follows the
+        change."""
         if text == self.text:
             return False
         self._version += 1

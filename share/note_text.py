@@ -35,7 +35,8 @@ def change(before: bytes, after: bytes) -> Change:
 
 
 def boundary(text: bytes, position: int) -> int:
-    """The last place up to a position at which a character of UTF-8 begins; bytes that are no UTF-8 stand for themselves."""
+    """The last place up to a position at which a character of UTF-8 begins; bytes that are no UTF-8 stand for
+    themselves."""
     for back in range(min(3, position) + 1):
         if position - back == len(text) or text[position - back] & 0xC0 != 0x80:
             return position - back

@@ -28,8 +28,8 @@ def command() -> list[str]:
     if named := os.environ.get("VIALSHOAL_PROGRAM"):
         return shlex.split(named)
     if not os.access(BUILT, os.X_OK):
-        raise Trouble("Nothing is built here. Run bin/site_cli < demo/two-sites.script first: it proves and builds the "
-                      "program.")
+        raise Trouble("Nothing is built here. Run bin/site_cli < demo/two-sites.script first: it proves and "
+                      "builds the program.")
     return [str(TOP / "bin" / "built")]
 
 
@@ -43,15 +43,16 @@ class Program:
             self.process = subprocess.Popen(words, stdin=subprocess.PIPE, stdout=subprocess.PIPE, bufsize=0,
                                             stderr=subprocess.DEVNULL, start_new_session=True)
         except OSError as why:
-            raise Trouble(f"The program can't be run ({words[0]}: {why.strerror}). VIALSHOAL_PROGRAM names it.") from why
+            raise Trouble(f"The program can't be run ({words[0]}: {why.strerror}). VIALSHOAL_PROGRAM names "
+                          "it.") from why
         self._in, self._out = self.process.stdin.fileno(), self.process.stdout.fileno()
         os.set_blocking(self._in, False)
         for pipe in self._in, self._out:
             _widen(pipe)
 
     def ask(self, events: list[bytes]) -> list[list[bytes]]:
-        """The answer lines of each event. All events are on their way at once, and answers are read meanwhile: if both
-        sides only wrote, both pipes would fill and stand still."""
+        """The answer lines of each event. All events are on their way at once, and answers are read
+        meanwhile: if both sides only wrote, both pipes would fill and stand still."""
         self.lines += len(events)
         script = memoryview(b"".join(event + b"\n" for event in events))
         answers: list[list[bytes]] = []
@@ -137,4 +138,5 @@ def shown(answer: list[bytes]) -> bytes:
     return text
 
 
-ESCAPES = [bytes([byte]) if 0x20 <= byte <= 0x7E and byte != 0x5C else b"\\%02x" % byte for byte in range(256)]
+ESCAPES = [bytes([byte]) if 0x20 <= byte <= 0x7E and byte != 0x5C else b"\\%02x" % byte
+           for byte in range(256)]

@@ -10,7 +10,8 @@ from share.log import Conflict, Entry, Log, ON_SECONDS, PAGE, START, Unreachable
 from share.words import Trouble
 
 CONNECT_SECONDS, ANSWER_SECONDS = 5, 10
-# Each identity is held once. The place of its entry is kept beside it, so an equal message is told from another one.
+# Each identity is held once. The place of its entry is kept beside it, so an equal message is told from
+# another one.
 APPEND = """
     local stream, places, fronts, site = KEYS[1], KEYS[2], KEYS[3], ARGV[1]
     for i = 2, #ARGV, 2 do
@@ -40,12 +41,14 @@ SET_ON = """
 
 
 class RedisLog(Log):
-    """A log in a stream. The server runs one script at a time, so an identity is looked for and added at once."""
+    """A log in a stream. The server runs one script at a time, so an identity is looked for and added at
+    once."""
 
     def __init__(self, name: str, url: str):
         self.url = url.split("@")[-1].removeprefix("redis://")
         with self._words():
-            self._server = redis.Redis.from_url(url, socket_connect_timeout=CONNECT_SECONDS, socket_timeout=ANSWER_SECONDS)
+            self._server = redis.Redis.from_url(url, socket_connect_timeout=CONNECT_SECONDS,
+                                                socket_timeout=ANSWER_SECONDS)
         # In braces, so that a cluster of servers keeps all keys of a note together.
         self._stream = f"vialshoal:{{{name}}}"
         self._places, self._fronts, self._on, self._note, self._sites = (
@@ -66,7 +69,8 @@ class RedisLog(Log):
 
     def read(self, after: str) -> list[Entry]:
         with self._words():
-            return [_entry(*found) for found in self._server.xrange(self._stream, f"({after}" if after else "-", "+", PAGE)]
+            found = self._server.xrange(self._stream, f"({after}" if after else "-", "+", PAGE)
+        return [_entry(*entry) for entry in found]
 
     def watch(self, after: str, seconds: float) -> None:
         with self._words():
@@ -100,15 +104,17 @@ class RedisLog(Log):
         try:
             yield
         except redis.exceptions.InvalidResponse as why:
-            raise Trouble(f"{self.url} answers, but not as a Redis server. Look at the host and the port.") from why
+            raise Trouble(f"{self.url} answers, but not as a Redis server. Look at the host and the "
+                          "port.") from why
         except redis.exceptions.AuthenticationError as why:
-            raise Trouble(f"{self.url} asks for a password ({why}). Give it as redis://:PASSWORD@HOST:PORT.") from why
-        except (redis.exceptions.BusyLoadingError, redis.exceptions.ConnectionError, redis.exceptions.TimeoutError) as why:
+            raise Trouble(f"{self.url} asks for a password ({why}). Give it as "
+                          "redis://:PASSWORD@HOST:PORT.") from why
+        except (redis.exceptions.ConnectionError, redis.exceptions.TimeoutError) as why:
             raise Unreachable(f"{self.url}: {why}") from why
         except redis.exceptions.ResponseError as why:
             if str(why).startswith(("WRONGTYPE", "ERR")):
-                raise Trouble(f"{self.url} has something else under the note's name, or can't keep a log ({why}). Choose "
-                              "another name for the note, or another server.") from why
+                raise Trouble(f"{self.url} has something else under the note's name, or can't keep a log "
+                              f"({why}). Choose another name for the note, or another server.") from why
             raise Unreachable(f"{self.url}: {why}") from why
         except ValueError as why:
             raise Trouble(f"The URL can't be read ({why}). It looks like redis://HOST:PORT.") from why

@@ -1,4 +1,5 @@
-"""One user at one note: opens its log, its site and its journal, and goes on under a new number where it has to."""
+"""One user at one note: opens its log, its site and its journal, and goes on under a new number where it has
+to."""
 import os
 import pathlib
 from collections.abc import Callable
@@ -51,10 +52,11 @@ class Session:
                 self._identity = log.identity
                 after = self._enter(log)
         except Unreachable as why:
-            raise Trouble(f"The log can't be reached ({why}). A note is opened only with its log, so that no edit of yours "
-                          "is made twice; try again when it is there.") from why
+            raise Trouble(f"The log can't be reached ({why}). A note is opened only with its log, so that no "
+                          "edit of yours is made twice; try again when it is there.") from why
         except OSError as why:
-            raise Trouble(f"{why.filename}: {why.strerror}. Set VIALSHOAL_DATA to a folder that can be written.") from why
+            raise Trouble(f"{why.filename}: {why.strerror}. Set VIALSHOAL_DATA to a folder that can be "
+                          "written.") from why
         self._courier = Courier(self._open_log, self.site, after, wake)
 
     def made(self) -> None:
@@ -62,16 +64,16 @@ class Session:
         self._courier.made()
 
     def arrived(self, looks: int) -> list[bytes]:
-        """Takes in what came, and gives the texts shown since: so many at most, or none where nothing came."""
+        """Takes in what came, and gives the texts shown since: so many at most, or none where nothing
+        came."""
         entries = self._courier.arrivals()
         failure = self._courier.failure
         if isinstance(failure, Trouble):
             raise failure
         if not (entries or failure):
             return []
-        begin = len(self.site.history)
-        if len(entries) > SLICE:
-            self.site.progress = lambda done: self._bar(min(done - begin, len(entries)), len(entries))
+        begin, many = len(self.site.history), len(entries)
+        self.site.progress = lambda done: self._bar(min(done - begin, many), many) if many > SLICE else None
         try:
             if isinstance(failure, Conflict):
                 raise Forked(failure.seq)
@@ -98,8 +100,8 @@ class Session:
     def _checked(self, log: Log) -> Log:
         if self._identity not in (None, log.identity):
             log.close()
-            raise Trouble("The log was replaced by another one. Bring back a copy of it and open the note again; your edits "
-                          f"are kept in {self._journals()}.")
+            raise Trouble("The log was replaced by another one. Bring back a copy of it and open the note "
+                          f"again; your edits are kept in {self._journals()}.")
         return log
 
     def _journals(self) -> pathlib.Path:
@@ -146,8 +148,9 @@ class Session:
             with closing(self._open_log()) as log:
                 self._renumber(log, seq)
         except Unreachable as why:
-            raise Trouble(f"Another client writes as site {self.site.number} too, and the log can't be reached for a new "
-                          f"number ({why}). Open the note again when it is there: your edits are kept.") from why
+            raise Trouble(f"Another client writes as site {self.site.number} too, and the log can't be "
+                          f"reached for a new number ({why}). Open the note again when it is there: your "
+                          "edits are kept.") from why
         entries += self._courier.arrivals()
         self.site.take(entries)
         self._courier = Courier(self._open_log, self.site, self._courier.after, self._wake)
@@ -166,15 +169,17 @@ class Session:
                 self.site.insert(edit.begin, edit.new)
         old.journal.set_aside()
         old.close()
-        anew = f"{counted(len(edits), 'edit')} that nobody had seen were made anew" if edits else "No edit was lost"
-        self._notices += [*old.notices, f"Another client writes as site {old.number} too, so you go on as site "
-                          f"{self.site.number}. {anew}. Give each machine its own data folder, and don't copy it."]
+        anew = f"Made anew: {counted(len(edits), 'edit')} that nobody had seen." if edits else "No edit was lost."
+        self._notices += old.notices
+        self._notices.append(f"Another client writes as site {old.number} too, so you go on as site "
+                             f"{self.site.number}. {anew} Give each machine its own data folder, and don't copy it.")
 
 
 def undone(site: Site, seq: int) -> tuple[list[bytes], list[Change]]:
     """What a site holds but its own messages from a seq on, and what each of these did to the text.
 
-    They are made again, one by one, in a process of their own: no other site has seen them, so nothing rests on them."""
+    They are made again, one by one, in a process of their own: no other site has seen them, so nothing rests
+    on them."""
     own = [site.own[number] for number in sorted(site.own) if number >= seq]
     refused = set(own)
     kept = [data for data in site.history if data not in refused]

@@ -13,8 +13,8 @@ from share.words import Refused, Trouble, refusal
 MOST_BYTES = 4_096
 # So many messages are handed in at once where nobody looks at the text between.
 SLICE = 2_000
-# So many messages a note has at most when it is edited, since a run of the program takes so many lines and can't be gone on
-# with by another one. Some lines are left for reading.
+# So many messages a note has at most when it is edited, since a run of the program takes so many lines and
+# can't be gone on with by another one. Some lines are left for reading.
 MOST_MESSAGES = MOST_LINES - 20_000
 ROOM_FULL, NO_MEMORY, STAMPS_SPENT, SCATTERED, TOO_MANY = 6, 7, 9, 12, 21
 
@@ -45,12 +45,15 @@ class Site:
         self.history: list[bytes] = []
         self.incoming = Incoming()
         self._stamp = self._room = 0
+        # Those that had to wait once: the program says it again of one that still does.
+        self._waited: set[tuple[int, int]] = set()
         self._program = Program(number)
 
     def take(self, entries: list[Entry], looks: int = 0) -> list[bytes]:
         """Takes in entries of the log, and gives the text behind each of so many parts of them at most.
 
-        Raises Forked where one is another client's under this site's number: those ahead of it are taken in."""
+        Raises Forked where one is another client's under this site's number: those ahead of it are taken
+        in."""
         seq = self._sort(entries)
         texts: list[bytes] = []
         for part, looked_at in _parts(self.incoming.ready(), looks):
@@ -72,8 +75,9 @@ class Site:
         self.take([])
         self.front = self._own_front()
         if self.front < max(self.own, default=0):
-            raise Trouble(f"Message {self.front + 1} of this site is neither in the log nor in {self.journal.path}, and later "
-                          "ones build on it. Bring back a copy of the log, or move the journal away, and open the note again.")
+            raise Trouble(f"Message {self.front + 1} of this site is neither in the log nor in "
+                          f"{self.journal.path}, and later ones build on it. Bring back a copy of the log, "
+                          "or move the journal away, and open the note again.")
         self.is_open = True
 
     def adopt(self, messages: list[bytes]) -> None:
@@ -104,15 +108,16 @@ class Site:
     def name(self, kind: int, names: bytes) -> list[Message]:
         """Deletes or restores characters by their names, wherever they stand now.
 
-        No event has names, so the message is made here, with the next seq and a stamp above all others, and handed in: the
-        program judges it as any other."""
-        self._room_for_one_more()
+        No event has names, so the message is made here, with the next seq and a stamp above all others, and
+        handed in: the program judges it as any other."""
+        self._check_room_for_one_more()
         if self._stamp >= GREATEST_STAMP:
             raise Refused(STAMPS_SPENT)
         message = naming(kind, self.number, self.front + 1, self._stamp + 1, names)
         (answer,) = self._ask([self._program.taking(message.data)])
         if answer[-1] != b"taken 0 0":
-            raise Trouble(f"The program answered an own edit with {answer[-1].decode()}. Open the note again.")
+            raise Trouble(f"The program answered an own edit with {answer[-1].decode()}. Open the note "
+                          "again.")
         self._keep([message])
         return [message]
 
@@ -129,8 +134,9 @@ class Site:
         """Hands on the messages of entries, up to one that shows a fork; its seq is the answer then."""
         for entry in entries:
             if (message := entry.message()) is None:
-                self.notices.append(f"Entry {entry.place} of the log is damaged and was left out, with what builds on it. "
-                                    "Save the note as a file, or bring back a copy of the log.")
+                self.notices.append(f"Entry {entry.place} of the log is damaged and was left out, with what "
+                                    "builds on it. Save the note as a file, or bring back a copy of the "
+                                    "log.")
             elif message.site != self.number:
                 self.incoming.add(message)
             elif self.own.get(message.seq, None if self.is_open else message.data) != message.data:
@@ -151,24 +157,33 @@ class Site:
 
     def _took(self, message: Message, answer: bytes) -> None:
         word, *numbers = answer.split()
-        if word in (b"taken", b"waits"):
-            self.history.append(message.data)
-            self._stamp = max(self._stamp, message.stamp)
-            self._room += 1 if word == b"waits" else -sum(map(int, numbers[:2]))
-            self.incoming.went_in(message.site)
+        if word == b"taken":
+            self._holds(message)
+            self._room -= sum(map(int, numbers[:2]))
+        elif word == b"waits":
+            if (message.site, message.seq) not in self._waited:
+                self._waited.add((message.site, message.seq))
+                self._holds(message)
+                self._room += 1
         elif word == b"refused" and int(numbers[0]) == ROOM_FULL:
             self.incoming.put_back(message)
         elif word == b"refused" and int(numbers[0]) == NO_MEMORY:
             raise Trouble("There is no memory for what came in. End other programs and open the note again.")
         elif word == b"refused":
-            self.notices.append(f"Message {message.seq} of site {message.site} was {refusal(int(numbers[0]))}. It was left "
-                                "out, with what builds on it. Save the note as a file, or bring back a copy of the log.")
+            self.notices.append(f"Message {message.seq} of site {message.site} was "
+                                f"{refusal(int(numbers[0]))}. It was left out, with what builds on it. Save "
+                                "the note as a file, or bring back a copy of the log.")
         elif word != b"repeat":
             raise Trouble(f"The program answered a message with {answer[:60]!r}.")
 
+    def _holds(self, message: Message) -> None:
+        self.history.append(message.data)
+        self._stamp = max(self._stamp, message.stamp)
+        self.incoming.went_in(message.site)
+
     def _edit(self, verb: str, *words: int | bytes) -> list[Message]:
         """Makes an own edit, and keeps its messages."""
-        self._room_for_one_more()
+        self._check_room_for_one_more()
         (answer,) = self._ask([self._program.event(verb, *words)])
         messages = [Message.read(bytes.fromhex(line.split()[2].decode())) for line in answer[:-1]]
         if messages:
@@ -177,7 +192,7 @@ class Site:
             raise Refused(int(answer[-1].split()[-1]))
         return messages
 
-    def _room_for_one_more(self) -> None:
+    def _check_room_for_one_more(self) -> None:
         if len(self.history) >= MOST_MESSAGES:
             raise Refused(TOO_MANY)
 
@@ -196,7 +211,8 @@ class Site:
         return 0
 
     def _ask(self, events: list[bytes]) -> list[list[bytes]]:
-        """The program's answers. Where it ended it is started again: none of these events was kept, so they are asked anew."""
+        """The program's answers. Where it ended it is started again: none of these events was kept, so they
+        are asked anew."""
         if self._program.lines + len(events) > MOST_LINES:
             self._start_again()
         try:
@@ -206,19 +222,21 @@ class Site:
         try:
             return self._program.ask(events)
         except Ended as why:
-            raise Trouble("The program ended, was started again and ended again. All that was typed before is kept.") from why
+            raise Trouble("The program ended, was started again and ended again. All that was typed before "
+                          "is kept.") from why
 
     def _start_again(self) -> None:
         self._program.close()
         if len(self.history) + SLICE > MOST_LINES:
-            raise Trouble(f"The note has {len(self.history):,} messages, more than the program takes in one run. Go on in a new "
-                          "note.")
+            raise Trouble(f"The note has {len(self.history):,} messages, more than the program takes in one "
+                          "run. Go on in a new note.")
         self._program = Program(self.number)
         try:
             for begin in range(0, len(self.history), SLICE):
                 self._program.ask([self._program.taking(data) for data in self.history[begin:begin + SLICE]])
         except Ended as why:
-            raise Trouble("The program ended and couldn't be started again. All that was typed before is kept.") from why
+            raise Trouble("The program ended and couldn't be started again. All that was typed before is "
+                          "kept.") from why
 
 
 def split(data: bytes) -> Iterator[bytes]:
@@ -232,7 +250,8 @@ def split(data: bytes) -> Iterator[bytes]:
 
 
 def _parts(messages: list[Message], looks: int) -> Iterator[tuple[list[Message], bool]]:
-    """Messages in parts, and whether the text is looked at behind each. Of very many, only behind the last."""
+    """Messages in parts, and whether the text is looked at behind each. Of very many, only behind the
+    last."""
     many = len(messages) > SLICE or not looks
     size = SLICE if many else max(1, -(-len(messages) // looks))
     for begin in range(0, len(messages), size):

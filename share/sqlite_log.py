@@ -21,10 +21,14 @@ SCHEMA = """
     CREATE TABLE site (number INTEGER PRIMARY KEY AUTOINCREMENT);
     CREATE TABLE presence (site INTEGER PRIMARY KEY, seen REAL NOT NULL);
 """
+HELD = "SELECT message FROM entry WHERE site = ? AND seq = ?"
+ADD = "INSERT INTO entry (site, seq, message, checksum) VALUES (?, ?, ?, ?)"
+BEHIND = "SELECT place, message, checksum FROM entry WHERE place > ? ORDER BY place LIMIT ?"
 
 
 class SqliteLog(Log):
-    """A log in a file. Writers of the file go one after the other, so places rise as entries are committed."""
+    """A log in a file. Writers of the file go one after the other, so places rise as entries are
+    committed."""
 
     def __init__(self, path: pathlib.Path):
         self.path = path
@@ -38,13 +42,12 @@ class SqliteLog(Log):
             raise
 
     def _open(self) -> None:
-        application = self._one("PRAGMA application_id")
-        if not application and not self._one("SELECT count(*) FROM sqlite_master"):
-            self._file.execute("PRAGMA journal_mode = WAL")
+        if self._one("PRAGMA application_id") != APPLICATION:
             self._create()
-            application = self._one("PRAGMA application_id")
-        if application != APPLICATION:
-            raise Trouble(f"{self.path} isn't a note's log. Move it away, or choose another name for the note.")
+        if self._one("PRAGMA application_id") != APPLICATION:
+            raise Trouble(f"{self.path} isn't a note's log. Move it away, or choose another name for the "
+                          "note.")
+        self._write_ahead()
         # What is committed is to last even where the machine loses power.
         self._file.execute("PRAGMA synchronous = FULL")
         self.identity = self._one("SELECT identity FROM note")
@@ -58,14 +61,24 @@ class SqliteLog(Log):
                 self._file.execute("INSERT INTO note VALUES (?)", (secrets.token_hex(8),))
                 self._file.execute(f"PRAGMA application_id = {APPLICATION}")
 
+    def _write_ahead(self) -> None:
+        """Lets readers and a writer be at the file at once. Where others open it, too, SQLite doesn't wait by itself."""
+        end = time.monotonic() + BUSY_SECONDS
+        while self._one("PRAGMA journal_mode") != "wal":
+            try:
+                self._file.execute("PRAGMA journal_mode = WAL")
+            except sqlite3.OperationalError as why:
+                if "locked" not in str(why) or time.monotonic() >= end:
+                    raise
+                time.sleep(LOOKS)
+
     def append(self, site: int, seq: int, *messages: bytes) -> None:
         conflict = None
         with self._words(), self._transaction():
             for number, data in enumerate(messages, seq):
-                held = self._file.execute("SELECT message FROM entry WHERE site = ? AND seq = ?", (site, number)).fetchone()
+                held = self._file.execute(HELD, (site, number)).fetchone()
                 if held is None:
-                    self._file.execute("INSERT INTO entry (site, seq, message, checksum) VALUES (?, ?, ?, ?)",
-                                       (site, number, data, zlib.crc32(data)))
+                    self._file.execute(ADD, (site, number, data, zlib.crc32(data)))
                 elif held[0] != data:
                     conflict = Conflict(site, number)
                     break
@@ -74,8 +87,7 @@ class SqliteLog(Log):
 
     def read(self, after: str) -> list[Entry]:
         with self._words():
-            rows = self._file.execute("SELECT place, message, checksum FROM entry WHERE place > ? ORDER BY place LIMIT ?",
-                                      (_place(after), PAGE)).fetchall()
+            rows = self._file.execute(BEHIND, (_place(after), PAGE)).fetchall()
         return [Entry(str(place), *rest) for place, *rest in rows]
 
     def watch(self, after: str, seconds: float) -> None:
@@ -133,8 +145,8 @@ class SqliteLog(Log):
         except sqlite3.OperationalError as why:
             raise Unreachable(f"{self.path}: {why}") from why
         except sqlite3.DatabaseError as why:
-            raise Trouble(f"{self.path} isn't a note's log, or is damaged ({why}). Move it away, or bring back a copy "
-                          "of it.") from why
+            raise Trouble(f"{self.path} isn't a note's log, or is damaged ({why}). Move it away, or bring "
+                          "back a copy of it.") from why
 
 
 def _place(after: str) -> int:

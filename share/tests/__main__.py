@@ -1,4 +1,5 @@
-"""Runs the tests, some modules at a time, and ends with a line that says how many passed and how many failed."""
+"""Runs the tests, some modules at a time, and ends with a line that says how many passed and how many
+failed."""
 import io
 import pathlib
 import sys
@@ -12,7 +13,8 @@ MODULES = ["test_killed", "test_terminal", "test_bad_input", "test_same_text", "
 
 
 def run(module: str) -> tuple[int, int, str]:
-    """How many tests of a module passed and failed, and what is to be told of those that failed. A skipped one failed."""
+    """How many tests of a module passed and failed, and what is to be told of those that failed. A skipped
+    one failed."""
     told = io.StringIO()
     tests = unittest.defaultTestLoader.loadTestsFromName(f"share.tests.{module}")
     result = unittest.TextTestRunner(told, verbosity=2).run(tests)

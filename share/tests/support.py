@@ -1,4 +1,5 @@
-"""What tests stand on: folders of their own, a Redis server of their own, and sites whose messages the test carries."""
+"""What tests stand on: folders of their own, a Redis server of their own, and sites whose messages the test
+carries."""
 import contextlib
 import os
 import pathlib
@@ -35,7 +36,8 @@ def wait_for(condition, what: str):
 
 
 class RedisServer:
-    """A server on the loopback with a folder of its own, which keeps each append on the disk before it answers."""
+    """A server on the loopback with a folder of its own, which keeps each append on the disk before it
+    answers."""
 
     def __init__(self, folder: pathlib.Path):
         self.folder = folder

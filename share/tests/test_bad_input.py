@@ -258,7 +258,7 @@ class BadInput(Case):
             self.assertIn(words, text.replace("SSSFFF", "FFFSSS"))
         notices = [note.notice for note in (first, second) if note.notice]
         self.assertEqual(len(notices), 1)
-        self.assertRegex(notices[0], "Another client writes as site 1 too, so you go on as site 2. 3 edits .* made anew")
+        self.assertRegex(notices[0], "Another client writes as site 1 too, so you go on as site 2. Made anew: 3 edits")
         numbers = {note.session.status().site for note in (first, second)}
         self.assertEqual(numbers, {1, 2})
         with contextlib.closing(open_log("note", server.url, self.folder)) as log:

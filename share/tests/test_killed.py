@@ -1,4 +1,5 @@
-"""Clients and servers that are killed lose nothing that a user was shown as sent, nor anything of a journal."""
+"""Clients and servers that are killed lose nothing that a user was shown as sent, nor anything of a
+journal."""
 import os
 import pathlib
 import random

@@ -1,4 +1,5 @@
-"""Types numbered words into a note until it is killed, and says which were typed and which were shown as sent.
+"""Types numbered words into a note until it is killed, and says which were typed and which were shown as
+sent.
 
 Its words are `<tag><number>.`; it goes on behind the last one that the note has.
 """
