@@ -25,12 +25,12 @@ keys:
 """
 END = """\
 Without --log the log is a file in the data folder: VIALSHOAL_DATA, else $XDG_DATA_HOME/vialshoal, else
-~/.local/share/vialshoal. With --log redis://HOST:PORT it is kept by a Redis server, which needs Python's module
-redis (Debian: apt-get install python3-redis). What you type is on this machine's disk before it is sent, so you can
-go on where the log can't be reached. VIALSHOAL_PROGRAM names another program than bin/built.
+~/.local/share/vialshoal. With --log redis://HOST:PORT it is kept by a Redis server, which needs Python's
+module redis (Debian: apt-get install python3-redis). What you type is on this machine's disk before it is
+sent, so you can go on where the log can't be reached. VIALSHOAL_PROGRAM names another program than bin/built.
 
-Ends with 0, and with 2 and a sentence where the note couldn't be opened or had to be closed. docs/SHARING.md tells
-more.
+Ends with 0, and with 2 and a sentence where the note couldn't be opened or had to be closed. docs/SHARING.md
+tells more.
 """
 
 
@@ -39,7 +39,7 @@ def words() -> argparse.Namespace:
     parser = argparse.ArgumentParser("note", description=PAGE, epilog=END,
                                      formatter_class=argparse.RawDescriptionHelpFormatter)
     parser.add_argument("name", metavar="NAME", help="letters, digits, dots, hyphens and underscores")
-    parser.add_argument("--log", metavar="URL", help="redis://HOST:PORT; without it the log is on this machine")
+    parser.add_argument("--log", metavar="URL", help="redis://HOST:PORT; without it, on this machine")
     parser.add_argument("--print", action="store_true", dest="prints", help="print the note and end")
     return parser.parse_args()
 
@@ -59,8 +59,8 @@ def on_screen(given: argparse.Namespace) -> None:
         raise Trouble(f"The terminal can't be used ({why}). TERM has to name one that this system "
                       "knows.") from why
     if unsent := note.session.status().unsent:
-        print(f"Not sent yet, and kept in {data_folder()}: {counted(unsent, 'edit')}. Open the note again when its "
-              "log can be reached.")
+        print(f"Not sent yet, and kept in {data_folder()}: {counted(unsent, 'edit')}. Open the note again "
+              "when its log can be reached.")
 
 
 def printed(given: argparse.Namespace) -> None:

@@ -169,10 +169,11 @@ class Session:
                 self.site.insert(edit.begin, edit.new)
         old.journal.set_aside()
         old.close()
-        anew = f"Made anew: {counted(len(edits), 'edit')} that nobody had seen." if edits else "No edit was lost."
+        anew = f"Made anew: {counted(len(edits), 'edit')} that nobody saw." if edits else "No edit was lost."
         self._notices += old.notices
         self._notices.append(f"Another client writes as site {old.number} too, so you go on as site "
-                             f"{self.site.number}. {anew} Give each machine its own data folder, and don't copy it.")
+                             f"{self.site.number}. {anew} Give each machine its own data folder, and don't "
+                             "copy it.")
 
 
 def undone(site: Site, seq: int) -> tuple[list[bytes], list[Change]]:

@@ -62,7 +62,8 @@ class SqliteLog(Log):
                 self._file.execute(f"PRAGMA application_id = {APPLICATION}")
 
     def _write_ahead(self) -> None:
-        """Lets readers and a writer be at the file at once. Where others open it, too, SQLite doesn't wait by itself."""
+        """Lets readers and a writer be at the file at once. Where others open it, too, SQLite doesn't wait by
+        itself."""
         end = time.monotonic() + BUSY_SECONDS
         while self._one("PRAGMA journal_mode") != "wal":
             try:

@@ -10,7 +10,7 @@ REFUSALS = {
     7: "there is no memory for it",
     8: "a message waits that shows that this site was further once",
     9: "a message with the greatest stamp came in, and no edit can follow it",
-    10: "one site types at most 16,777,216 bytes into a note; open it with a new data folder for a new site number",
+    10: "one site types at most 16,777,216 bytes; open the note with a new data folder for a new site number",
     11: "a position lies outside the text",
     12: "it is scattered over more than 1,024 stretches",
     20: "the program can't read it",

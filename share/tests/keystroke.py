@@ -39,7 +39,8 @@ def measure(terminal: int, what: str, key: bytes, count: int = KEYS) -> None:
         os.write(terminal, key)
         seconds.append(answered(terminal) - begin)
     seconds.sort()
-    print(f"{what:<28} {1000 * seconds[len(seconds) // 2]:6.1f} ms by the median, {1000 * seconds[-1]:6.1f} at most")
+    median, most = 1000 * seconds[len(seconds) // 2], 1000 * seconds[-1]
+    print(f"{what:<28} {median:6.1f} ms by the median, {most:6.1f} at most")
 
 
 def main() -> None:

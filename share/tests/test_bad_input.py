@@ -132,7 +132,8 @@ class BadInput(Case):
             file.execute("CREATE TABLE something (else_ TEXT)")
         self.assert_says(self.note("words", "--print"), "words.db isn't a note's log", "Move it away")
         self.assert_says(self.note("other", "--print"), "other.db isn't a note's log", "Move it away")
-        self.assert_says(self.note("note", "--print", "--log", "http://127.0.0.1"), "isn't the URL of a log", "redis://HOST:PORT")
+        run = self.note("note", "--print", "--log", "http://127.0.0.1")
+        self.assert_says(run, "isn't the URL of a log", "redis://HOST:PORT")
         self.assertEqual(self.note("note", "--print").stdout, "one two three ")
 
     def test_a_server_that_keeps_no_log(self) -> None:
@@ -140,12 +141,15 @@ class BadInput(Case):
             threading.Thread(target=self.greet, args=(listening,), daemon=True).start()
             url = f"redis://127.0.0.1:{listening.getsockname()[1]}"
             self.assert_says(self.note("note", "--print", "--log", url), "not as a Redis server", "the port")
-        self.assert_says(self.note("note", "--print", "--log", "redis://127.0.0.1:1"), "can't be reached", "try again")
+        run = self.note("note", "--print", "--log", "redis://127.0.0.1:1")
+        self.assert_says(run, "can't be reached", "try again")
         server = self.redis()
         self.command(server.port, "SET vialshoal:{note} words")
-        self.assert_says(self.note("note", "--print", "--log", server.url), "something else under the note's name", "Choose")
+        run = self.note("note", "--print", "--log", server.url)
+        self.assert_says(run, "something else under the note's name", "Choose")
         self.command(server.port, "XADD vialshoal:{stream} * words many")
-        self.assert_says(self.note("stream", "--print", "--log", server.url), "isn't one of a note's log", "Choose")
+        run = self.note("stream", "--print", "--log", server.url)
+        self.assert_says(run, "isn't one of a note's log", "Choose")
 
     def greet(self, listening: socket.socket) -> None:
         """Answers as a server of another kind does."""
@@ -168,11 +172,12 @@ class BadInput(Case):
                 Session("note", "redis://127.0.0.1:1")
 
     def test_no_program(self) -> None:
-        self.assert_says(self.note("note", "--print", VIALSHOAL_PROGRAM="/nowhere"), "can't be run", "VIALSHOAL_PROGRAM")
+        run = self.note("note", "--print", VIALSHOAL_PROGRAM="/nowhere")
+        self.assert_says(run, "can't be run", "VIALSHOAL_PROGRAM")
         shutil.copytree(TOP / "share", self.folder / "copy" / "share")
         shutil.copytree(TOP / "bin", self.folder / "copy" / "bin")
-        run = subprocess.run([self.folder / "copy" / "bin" / "note", "note", "--print"], capture_output=True, text=True,
-                             check=False, env={**os.environ, "VIALSHOAL_PROGRAM": ""})
+        run = subprocess.run([self.folder / "copy" / "bin" / "note", "note", "--print"], capture_output=True,
+                             text=True, check=False, env={**os.environ, "VIALSHOAL_PROGRAM": ""})
         self.assert_says(run, "Nothing is built here", "bin/site_cli")
 
     def test_a_bit_of_a_message(self) -> None:
@@ -187,10 +192,13 @@ class BadInput(Case):
 
     def test_a_message_of_no_meaning(self) -> None:
         (data,) = self.row("SELECT message FROM entry WHERE seq = 2")
-        for changed, words in ((data[:3] + b"\x07" + data[4:], r"refused \(1\): its bytes are no message"),
-                               (data[:4] + b"\x00\x02" + data[6:], r"refused \(2\): it is of another text"),
-                               (data[:26] + b"\x00\x00\x00\x09" + data[30:], r"refused \(4\): it doesn't begin")):
-            self.change("UPDATE entry SET message = ?, checksum = ? WHERE seq = 2", changed, zlib.crc32(changed))
+        no_kind, other_text = data[:3] + b"\x07" + data[4:], data[:4] + b"\x00\x02" + data[6:]
+        other_begin = data[:26] + b"\x00\x00\x00\x09" + data[30:]
+        for changed, words in ((no_kind, r"refused \(1\): its bytes are no message"),
+                               (other_text, r"refused \(2\): it is of another text"),
+                               (other_begin, r"refused \(4\): it doesn't begin")):
+            statement = "UPDATE entry SET message = ?, checksum = ? WHERE seq = 2"
+            self.change(statement, changed, zlib.crc32(changed))
             note = self.reader(f"other {words}")
             self.assertEqual(bytes(note.text), b"one ")
             self.assertRegex(note.notice, f"Message 2 of site 1 was {words}.*Save the note")
@@ -211,7 +219,8 @@ class BadInput(Case):
         refusing = mock.patch.object(SqliteLog, "append", side_effect=Unreachable("database or disk is full"))
         with refusing:
             note.type("kept ")
-            wait_for(lambda: note.session.status().offline == "database or disk is full", "the log to be full")
+            wait_for(lambda: note.session.status().offline, "the log to be full")
+            self.assertEqual(note.session.status().offline, "database or disk is full")
             self.assertEqual(note.session.status().unsent, 1)
         wait_for(lambda: not note.session.status().unsent, "the log to have room again")
         self.assertIsNone(note.session.status().offline)
@@ -258,7 +267,7 @@ class BadInput(Case):
             self.assertIn(words, text.replace("SSSFFF", "FFFSSS"))
         notices = [note.notice for note in (first, second) if note.notice]
         self.assertEqual(len(notices), 1)
-        self.assertRegex(notices[0], "Another client writes as site 1 too, so you go on as site 2. Made anew: 3 edits")
+        self.assertRegex(notices[0], "Another client writes as site 1 too.* as site 2. Made anew: 3 edits")
         numbers = {note.session.status().site for note in (first, second)}
         self.assertEqual(numbers, {1, 2})
         with contextlib.closing(open_log("note", server.url, self.folder)) as log:
@@ -269,8 +278,9 @@ class BadInput(Case):
         for note in notes:
             note.take_in()
         states = [note.session.status() for note in notes]
-        return (not any(state.unsent or state.offline for state in states) and len({state.site for state in states}) == 2
-                and len({bytes(note.text) for note in notes}) == 1)
+        all_sent = not any(state.unsent or state.offline for state in states)
+        two_numbers = len({state.site for state in states}) == 2
+        return all_sent and two_numbers and len({bytes(note.text) for note in notes}) == 1
 
     def test_another_client_types_under_our_number(self) -> None:
         shutil.copytree(self.folder / "data" / "journals", self.folder / "copied" / "journals")
@@ -282,7 +292,7 @@ class BadInput(Case):
             self.addCleanup(note.session.close)
         written(first, "F")
         wait_for(lambda: second.take_in(), "the other client's word")
-        self.assertRegex(second.notice, "Another client writes as site 1 too, so you go on as site 2. No edit was lost")
+        self.assertRegex(second.notice, "Another client writes as site 1 too.* as site 2. No edit was lost")
         written(second, "S")
         wait_for(lambda: first.take_in(), "the second client's word")
         self.assertEqual(bytes(first.text), b"one two three FS")
@@ -316,7 +326,8 @@ class BadInput(Case):
             one.close()
         self.assertEqual(self.note("note", "--print").stdout, "one two three ")
         self.change("DELETE FROM entry")
-        self.assert_says(self.note("note", "--print"), "Message 1 of this site is neither", "Bring back a copy")
+        run = self.note("note", "--print")
+        self.assert_says(run, "Message 1 of this site is neither", "Bring back a copy")
 
     def test_a_note_that_is_full(self) -> None:
         note = Note(Session("note", None))

@@ -20,7 +20,7 @@ def history(count: int) -> tuple[list[list[Message]], bytes]:
     rounds, length = [], 0
     while length < count:
         typing, taking = sites if len(rounds) % 2 == 0 else sites[::-1]
-        events = [typing.event("type", length + number, b"ab d"[number % 4:number % 4 + 1]) for number in range(ROUND)]
+        events = [typing.event("type", length + number, b"%d" % (number % 10)) for number in range(ROUND)]
         made = [Message.read(bytes.fromhex(answer[0].split()[2].decode())) for answer in typing.ask(events)]
         taking.ask([taking.taking(message.data) for message in made])
         rounds.append(made)
@@ -53,7 +53,8 @@ class Joining(Case):
         begin = time.monotonic()
         with mock.patch.object(Program, "ask", counting):
             note = Note(Session("note", url, lambda done, total: steps.append((done, total))))
-        print(f"{count:,} messages {'by a server' if url else 'in a file'} joined in {time.monotonic() - begin:.1f} s")
+        seconds = time.monotonic() - begin
+        print(f"{count:,} messages {'by a server' if url else 'in a file'} joined in {seconds:.1f} s")
         self.addCleanup(note.session.close)
         self.assertEqual(bytes(note.text), text)
         self.assertEqual(note.session.status().site, 3)

@@ -25,12 +25,14 @@ class Typist:
 
     def live_and_die(self) -> None:
         """One life."""
-        words = [python(), "-B", "-m", "share.tests.typist", self.tag, "note", self.url or "", str(self._chance.random())]
+        words = [python(), "-B", "-m", "share.tests.typist", self.tag, "note", self.url or "",
+                 str(self._chance.random())]
         process = subprocess.Popen(words, cwd=TOP, stdout=subprocess.PIPE, stderr=subprocess.PIPE, text=True,
                                    env={**os.environ, "VIALSHOAL_DATA": str(self.data)})
+        killer = None
         # Some die while they open the note.
-        killer = threading.Timer(0.05 + self._chance.random() / 4, process.kill) if self._chance.random() < 0.2 else None
-        if killer:
+        if self._chance.random() < 0.2:
+            killer = threading.Timer(0.05 + self._chance.random() / 4, process.kill)
             killer.start()
         for line in process.stdout:
             word, number = line.split()
@@ -40,7 +42,7 @@ class Typist:
                     killer.start()
                 # The last word of a life may be in the journal, and not have been told any more.
                 if int(number) - self.typed not in (1, 2):
-                    self.faults.append(f"{self.tag}: {self.typed + 1} words were typed, and {number} are there")
+                    self.faults.append(f"{self.typed + 1} words were typed, and {number} are there")
                 self.typed = int(number) - 1
             elif word == "typed":
                 self.typed = int(number)

@@ -26,7 +26,8 @@ class Logs(Case):
                     log.append(1, 3, b"three", b"four", b"five")
                     log.append(1, 4, b"another", b"six")
                 self.assertEqual((refused.exception.site, refused.exception.seq), (1, 4))
-                self.assertEqual([entry.data for entry in log.read(START)], [b"one", b"two", b"three", b"four", b"five"])
+                kept = [entry.data for entry in log.read(START)]
+                self.assertEqual(kept, [b"one", b"two", b"three", b"four", b"five"])
                 self.assertEqual((log.front(1), log.front(2), log.size()), (5, 0, 5))
 
     def test_a_place_parts_old_from_new(self) -> None:

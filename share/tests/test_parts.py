@@ -66,7 +66,8 @@ class Characters(Case):
         stops = [0]
         while stops[-1] < len(text):
             stops.append(cluster_after(text, stops[-1]))
-        self.assertEqual([text[a:b].decode() for a, b in zip(stops, stops[1:])], ["a", "e\u0301", "👩‍👩‍👧", "é"])
+        walked = [text[a:b].decode() for a, b in zip(stops, stops[1:])]
+        self.assertEqual(walked, ["a", "e\u0301", "👩‍👩‍👧", "é"])
         back = [len(text)]
         while back[-1]:
             back.append(cluster_before(text, back[-1]))
@@ -120,7 +121,7 @@ class Journals(Case):
 
     def test_a_journal_that_was_cut_short(self) -> None:
         path = self.folder / "1.journal"
-        kept = [Message.read(b"OT\1\1\0\1\0\1" + seq.to_bytes(4, "big") + b"\0" * 8 + b"rest") for seq in range(1, 6)]
+        kept = [Message.read(b"OT\1\1\0\1\0\1\0\0\0" + bytes([seq]) + b"\0" * 8 + b"rest") for seq in range(1, 6)]
         journal = Journal(path)
         journal.append(kept[:2])
         journal.append(kept[2:])

@@ -76,10 +76,11 @@ class Changes(Case):
             begin = chance.randrange(len(before) + 1)
             end = chance.randrange(begin, len(before) + 1)
             after = before[:begin] + "".join(chance.choices("aè🎊", k=chance.randrange(4))) + before[end:]
-            found = change(before.encode(), after.encode())
-            self.assertEqual(before.encode()[:found.begin] + found.new + before.encode()[found.end:], after.encode())
+            data = before.encode()
+            found = change(data, after.encode())
+            self.assertEqual(data[:found.begin] + found.new + data[found.end:], after.encode())
             found.new.decode()
-            before.encode()[:found.begin].decode()
+            data[:found.begin].decode()
 
     def test_a_position_stays_behind_its_character(self) -> None:
         text = b"x" * 5_000 + b"here" + b"y" * 5_000

@@ -12,15 +12,16 @@ class Terminal:
 
     def __init__(self, case: Case, data: str, *words: str):
         self.socket = str(case.folder / f"tmux-{len([*case.folder.glob('tmux-*')])}")
-        environment = {**os.environ, "VIALSHOAL_DATA": str(case.folder / data), "LC_ALL": "C.UTF-8", "TERM": "xterm-256color"}
+        environment = {**os.environ, "VIALSHOAL_DATA": str(case.folder / data), "LC_ALL": "C.UTF-8"}
         command = " ".join([NOTE, *words]) + "; echo status $?; cat"
-        subprocess.run(["tmux", "-S", self.socket, "-f", "/dev/null", "new-session", "-d", "-x", str(WIDTH), "-y", str(HEIGHT),
-                        command], check=True, env=environment)
+        subprocess.run(["tmux", "-S", self.socket, "-f", "/dev/null", "new-session", "-d", "-x", str(WIDTH),
+                        "-y", str(HEIGHT), command], check=True, env=environment)
         case.addCleanup(self._tmux, "kill-server")
         self.sees("site ")
 
     def _tmux(self, *words: str) -> str:
-        return subprocess.run(["tmux", "-S", self.socket, *words], capture_output=True, check=False).stdout.decode()
+        run = subprocess.run(["tmux", "-S", self.socket, *words], capture_output=True, check=False)
+        return run.stdout.decode()
 
     def type(self, words: str) -> None:
         """Types characters."""
@@ -51,7 +52,7 @@ class Terminal:
 
     def cursor_is(self, column: int, line: int) -> None:
         """Waits until the cursor stands there."""
-        wait_for(lambda: self._tmux("display", "-p", "#{cursor_x} #{cursor_y}").split() == [str(column), str(line)],
+        wait_for(lambda: self._tmux("display", "-p", "#{cursor_x} #{cursor_y}") == f"{column} {line}\n",
                  f"the cursor at {column}, {line}")
 
 
@@ -124,7 +125,7 @@ class Terminals(Case):
         server.start()
         for one in left, right:
             one.sees("all sent")
-            wait_for(lambda: sorted(one.lines()[0].split()) in (["leftright", "one"], ["one", "rightleft"]), "both words")
+            wait_for(lambda: one.lines()[0] in ("one leftright", "one rightleft"), "both words")
         self.assertEqual(left.lines()[0], right.lines()[0])
 
     def test_keys(self) -> None:
@@ -153,8 +154,8 @@ class Terminals(Case):
         one.type(str(saved))
         one.press("Enter")
         one.sees("Saved as")
-        lines = ["lne ", *(f"line {number}" for number in range(1, 27)), "字", *(f"line {number}" for number in range(27, 40))]
-        self.assertEqual(saved.read_text(), "".join(line + "\n" for line in lines))
+        lines = [f"line {number}\n" for number in range(40)]
+        self.assertEqual(saved.read_text(), "".join(["lne \n", *lines[1:27], "字\n", *lines[27:]]))
         one.press("C-q")
         one.sees("status 0")
         self.assertEqual(self.note("diary", "--print").stdout, saved.read_text())
