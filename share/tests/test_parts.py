@@ -121,7 +121,8 @@ class Journals(Case):
 
     def test_a_journal_that_was_cut_short(self) -> None:
         path = self.folder / "1.journal"
-        kept = [Message.read(b"OT\1\1\0\1\0\1\0\0\0" + bytes([seq]) + b"\0" * 8 + b"rest") for seq in range(1, 6)]
+        heads = [b"OT\1\1\0\1\0\1\0\0\0" + bytes([seq]) for seq in range(1, 6)]
+        kept = [Message.read(head + b"\0" * 8 + b"rest") for head in heads]
         journal = Journal(path)
         journal.append(kept[:2])
         journal.append(kept[2:])

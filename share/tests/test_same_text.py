@@ -66,6 +66,76 @@ class SameText(Case):
         self.share(self.redis().url, 2)
 
 
+class TakingBack(Case):
+    """A site takes back its own last edits, and nobody else's."""
+
+    def setUp(self) -> None:
+        super().setUp()
+        log = self.log()
+        self.notes = [Note(HandCarried(log, self.folder / "site")) for _ in range(2)]
+        self.places = ["", ""]
+
+    def tearDown(self) -> None:
+        for note in self.notes:
+            self.assertEqual(bytes(note.text), note.session.site.text())
+            note.session.site.close()
+
+    def meet(self) -> None:
+        """Both take in what the other made."""
+        for note in self.notes:
+            note.session.send()
+        for number, note in enumerate(self.notes):
+            note.session.coming = note.session.log.read(self.places[number])
+            self.places[number] = note.session.coming[-1].place if note.session.coming else self.places[number]
+            note.take_in()
+        self.assertEqual(self.notes[0].text, self.notes[1].text)
+
+    def shows(self, words: str) -> None:
+        """That both show this when they have met."""
+        self.meet()
+        self.assertEqual(self.notes[0].text.decode(), words)
+
+    def test_one_edit_after_the_other(self) -> None:
+        one, _ = self.notes
+        one.type("é")
+        one.type("ab\n")
+        one.type("cd")
+        one.erase(2, 3)
+        one.erase(0, 3)
+        self.shows("\rcd")
+        for words in "éb\rcd", "éab\rcd", "éab\r", "":
+            self.assertTrue(one.take_back())
+            self.shows(words)
+        self.assertFalse(one.take_back())
+
+    def test_both_deleted_the_same(self) -> None:
+        one, two = self.notes
+        one.type("abcd")
+        self.meet()
+        one.erase(1, 3)
+        two.erase(2, 4)
+        self.shows("a")
+        self.assertTrue(one.take_back())
+        self.shows("abc")
+        self.assertTrue(two.take_back())
+        self.shows("abcd")
+
+    def test_another_types_into_what_is_taken_back(self) -> None:
+        one, two = self.notes
+        one.type("mine")
+        self.meet()
+        two.moved_to(2)
+        two.type("yours")
+        two.erase(0, 1)
+        self.shows("iyoursne")
+        self.assertTrue(one.take_back())
+        self.shows("yours")
+        self.assertFalse(one.take_back())
+        self.assertTrue(two.take_back())
+        self.assertTrue(two.take_back())
+        self.shows("m")
+
+
 class Changes(Case):
     """What a message changed is found by common ends, and positions follow it."""
 
