@@ -49,6 +49,11 @@ def bar(done: int, total: int) -> str:
     return f"[{'#' * full}{'.' * (BAR - full)}] {100 * done // max(1, total)}%"
 
 
+def is_typed(key: str | int) -> bool:
+    """Whether a key is a character for a text: any but control characters."""
+    return isinstance(key, str) and (key == "\t" or key >= " " and not "\x7f" <= key <= "\x9f")
+
+
 class Screen:
     """A window with the last line kept for what the editor says."""
 
@@ -107,7 +112,7 @@ class Screen:
                 return None
             elif key in ERASE:
                 answer = answer[:-1]
-            elif isinstance(key, str) and key.isprintable():
+            elif is_typed(key):
                 answer += key
 
     def draw(self, rows: list[Row], cursor: int, left: str, right: str) -> None:
@@ -170,7 +175,7 @@ class Editor:
             self.note.notice = ""
             if key in ENTER:
                 typed += "\r"
-            elif isinstance(key, str) and (key.isprintable() or key == "\t"):
+            elif is_typed(key):
                 typed += key
             else:
                 self._type(typed)

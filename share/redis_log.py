@@ -69,8 +69,8 @@ class RedisLog(Log):
 
     def read(self, after: str) -> list[Entry]:
         with self._words():
-            found = self._server.xrange(self._stream, f"({after}" if after else "-", "+", PAGE)
-        return [_entry(*entry) for entry in found]
+            found = self._server.xread({self._stream: after or "0-0"}, PAGE)
+        return [_entry(*entry) for _, entries in found for entry in entries]
 
     def watch(self, after: str, seconds: float) -> None:
         with self._words():

@@ -41,8 +41,8 @@ def measure(terminal: int, what: str, key: bytes, count: int = KEYS) -> None:
         seconds.append(answered(terminal) - begin)
     seconds.sort()
     median, most = 1000 * seconds[len(seconds) // 2], 1000 * seconds[-1]
-    slow = sum(one >= SLOW for one in seconds)
-    print(f"{what:<10} {median:6.1f} ms by the median, {most:6.1f} at most, {slow} of {count} above {1000 * SLOW:.0f}")
+    slow = f"{sum(one >= SLOW for one in seconds)} of {count}"
+    print(f"{what:<10} {median:6.1f} ms by the median, {most:6.1f} at most, {slow} above {1000 * SLOW:.0f}")
 
 
 def main() -> None:

@@ -85,8 +85,8 @@ class TakingBack(Case):
         for note in self.notes:
             note.session.send()
         for number, note in enumerate(self.notes):
-            note.session.coming = note.session.log.read(self.places[number])
-            self.places[number] = note.session.coming[-1].place if note.session.coming else self.places[number]
+            if entries := note.session.log.read(self.places[number]):
+                self.places[number], note.session.coming = entries[-1].place, entries
             note.take_in()
         self.assertEqual(self.notes[0].text, self.notes[1].text)
 

@@ -160,6 +160,16 @@ class Terminals(Case):
         one.sees("status 0")
         self.assertEqual(self.note("diary", "--print").stdout, saved.read_text())
 
+    def test_characters_of_several_parts(self) -> None:
+        one = Terminal(self, "data", "diary")
+        one.type("e\u0301 a\u00a0b 👩‍👩‍👧 x")
+        one.press("Left", "Left", "BSpace")
+        one.type("!")
+        one.sees("! x")
+        one.press("C-q")
+        one.sees("status 0")
+        self.assertEqual(self.note("diary", "--print").stdout, "e\u0301 a\u00a0b ! x")
+
     def test_a_long_line_goes_on_in_the_next_row(self) -> None:
         one = Terminal(self, "data", "diary")
         one.type("word " * 20)
