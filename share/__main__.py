@@ -10,7 +10,7 @@ import sys
 from share.editor import edit
 from share.note import Note
 from share.session import Session, data_folder
-from share.words import Trouble, counted
+from share.words import Refused, Trouble, counted
 
 PAGE = """\
 Opens a shared note in the terminal. Whoever opens the same NAME in the same log edits the same note, at once.
@@ -86,8 +86,11 @@ def main() -> int:
     for number in signal.SIGHUP, signal.SIGTERM:
         signal.signal(number, lambda *_: sys.exit(0))
     try:
-        printed(given) if given.prints else on_screen(given)
-    except Trouble as why:
+        if given.prints:
+            printed(given)
+        else:
+            on_screen(given)
+    except (Trouble, Refused) as why:
         print(f"note: {why}", file=sys.stderr)
         return 2
     return 0
