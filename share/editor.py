@@ -17,6 +17,8 @@ TURN_SECONDS = 0.5
 # After what came was taken in, keys alone are answered for so many times as long: the program takes a while
 # to print a text of a megabyte, and answers no key meanwhile.
 REST = 10
+# So long a sentence is shown at least, though keys are pressed.
+NOTICE_SECONDS = 3
 HELP = "^Z undo  ^F find  ^S save  ^Q quit"
 BAR = 30
 
@@ -140,6 +142,7 @@ class Editor:
     def __init__(self, screen: Screen, note: Note, name: str, woken: int):
         self.screen, self.note, self.name, self._woken = screen, note, name, woken
         self._searched, self._column, self._quits = "", None, False
+        self._noticed, self._noticed_at = "", 0.0
         self._layout = Layout(note.text, screen.width)
         self._keys = {
             curses.KEY_LEFT: self._left, curses.KEY_RIGHT: self._right,
@@ -172,7 +175,8 @@ class Editor:
         """Does what keys say. Characters that came at once, as pasted ones do, are typed at once."""
         typed = ""
         while (key := self.screen.key()) is not None:
-            self.note.notice = ""
+            if time.monotonic() - self._noticed_at >= NOTICE_SECONDS:
+                self.note.notice = ""
             if key in ENTER:
                 typed += "\r"
             elif is_typed(key):
@@ -259,6 +263,8 @@ class Editor:
 
     def _draw(self) -> None:
         self._layout = Layout(self.note.text, self.screen.width)
+        if self.note.notice != self._noticed:
+            self._noticed, self._noticed_at = self.note.notice, time.monotonic()
         status = self.note.session.status()
         left = f"{self.name}  site {status.site}  {status.on} on  {state(status)}{state_of_others(status)}"
         words = (self.note.notice, "") if self.note.notice else (left, HELP)
