@@ -10,7 +10,7 @@ import time
 from share.layout import Layout, Row, cluster_after, cluster_before
 from share.note import Note
 from share.session import Status
-from share.words import Trouble, counted
+from share.words import counted
 
 # The screen is looked at so often where nothing is typed and nothing comes, for its size and who is on.
 TURN_SECONDS = 0.5

@@ -6,7 +6,7 @@ from contextlib import contextmanager
 
 import redis
 
-from share.log import Conflict, Entry, Log, ON_SECONDS, PAGE, START, Unreachable, numbered
+from share.log import Conflict, Entry, Log, ON_SECONDS, PAGE, Unreachable, numbered
 from share.words import Trouble
 
 CONNECT_SECONDS, ANSWER_SECONDS = 5, 10

@@ -9,7 +9,7 @@ import threading
 import time
 
 from share.journal import Journal
-from share.tests.support import TOP, Case, RedisServer, plain_text, python, wait_for
+from share.tests.support import TOP, Case, RedisServer, plain_text, python
 
 KILLS, SERVER_KILLS = 25, 5
 
