@@ -5,6 +5,3 @@ mod numbers;
 mod settings;
 
 pub use settings::{error_status, read_settings};
-
-#[cfg(test)]
-mod tests;

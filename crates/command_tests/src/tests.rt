@@ -1,10 +1,66 @@
 //! Command lines, and the settings or the status and the text that answer them.
-use crate::{error_status, read_settings};
+use clap::Error;
+use command_line::{error_status, read_settings};
 use std::alloc::Global;
 use std::test::Fail;
 
+// A failure that tells what isn't right.
+fn is(right: bool, what: &'static str) -> Result<(), Fail> {
+    if right { Ok(()) } else { Err(what.into()) }
+}
+
 // First site, sites, columns and rows; or the status.
-fn numbers<'a>(alloc: Global, words: &'a [&'a str]) -> Result<[u16; 4], u8> {
+type Answer = Result<[u16; 4], u8>;
+
+// The words of a command line, and their answer: options at their bounds, none and all, values that are
+// refused, and an option that isn't there.
+const ANSWERS: &[(&[&str], Answer)] = &[
+    (&["site_cli", "--first", "1"], Ok([1, 2, 80, 24])),
+    (&["site_cli", "--first", "65528"], Ok([65528, 2, 80, 24])),
+    (&["site_cli", "--count", "1"], Ok([1, 1, 80, 24])),
+    (&["site_cli", "--count", "8"], Ok([1, 8, 80, 24])),
+    (&["site_cli", "--width", "20"], Ok([1, 2, 20, 24])),
+    (&["site_cli", "--width", "200"], Ok([1, 2, 200, 24])),
+    (&["site_cli", "--height", "8"], Ok([1, 2, 80, 8])),
+    (&["site_cli", "--height", "100"], Ok([1, 2, 80, 100])),
+    (
+        &["site_cli", "--first", "00000000000000000000007"],
+        Ok([7, 2, 80, 24]),
+    ),
+    (&[], Ok([1, 2, 80, 24])),
+    (&["site_cli"], Ok([1, 2, 80, 24])),
+    (
+        &[
+            "site_cli",
+            "--height=30",
+            "--count",
+            "3",
+            "--width=120",
+            "--first",
+            "5",
+        ],
+        Ok([5, 3, 120, 30]),
+    ),
+    (&["site_cli", "--first", "0"], Err(2)),
+    (&["site_cli", "--first", "65529"], Err(2)),
+    (&["site_cli", "--first", "65536"], Err(2)),
+    (&["site_cli", "--count", "0"], Err(2)),
+    (&["site_cli", "--count", "9"], Err(2)),
+    (&["site_cli", "--width", "19"], Err(2)),
+    (&["site_cli", "--width", "201"], Err(2)),
+    (&["site_cli", "--height", "7"], Err(2)),
+    (&["site_cli", "--height", "101"], Err(2)),
+    (&["site_cli", "--first", "+5"], Err(2)),
+    (&["site_cli", "--first", "0x10"], Err(2)),
+    (&["site_cli", "--first", ""], Err(2)),
+    (&["site_cli", "--first", "5 "], Err(2)),
+    (&["site_cli", "--first", "five"], Err(2)),
+    (&["site_cli", "--first", "-5"], Err(2)),
+    (&["site_cli", "--first", "18446744073709551617"], Err(2)),
+    (&["site_cli", "--depth", "5"], Err(2)),
+];
+
+fn answer(alloc: Global, words: &[&'static str]) -> Answer {
     match read_settings(alloc, words) {
         Ok(settings) => Ok([
             settings.first,
@@ -17,89 +73,12 @@ fn numbers<'a>(alloc: Global, words: &'a [&'a str]) -> Result<[u16; 4], u8> {
 }
 
 #[test]
-fn options_within_their_bounds(rt: HostRuntime) -> Result<(), Fail> {
-    let cases = [
-        ("--first", "1", [1, 2, 80, 24]),
-        ("--first", "65528", [65528, 2, 80, 24]),
-        ("--count", "1", [1, 1, 80, 24]),
-        ("--count", "8", [1, 8, 80, 24]),
-        ("--width", "20", [1, 2, 20, 24]),
-        ("--width", "200", [1, 2, 200, 24]),
-        ("--height", "8", [1, 2, 80, 8]),
-        ("--height", "100", [1, 2, 80, 100]),
-        ("--first", "00000000000000000000007", [7, 2, 80, 24]),
-    ];
-    for (name, value, want) in cases {
-        let words = ["site_cli", name, value];
-        assert!(rt; numbers(rt.alloc(), &words) == Ok(want), "{name} {value}");
+fn words_are_answered(rt: HostRuntime) -> Result<(), Fail> {
+    for (words, want) in ANSWERS {
+        let last = words.last().copied().unwrap_or("no words");
+        is(answer(rt.alloc(), words) == *want, last)?;
     }
     Ok(())
-}
-
-#[test]
-fn no_options_and_all(rt: HostRuntime) -> Result<(), Fail> {
-    let alloc = rt.alloc();
-    assert!(rt; numbers(alloc, &[]) == Ok([1, 2, 80, 24]));
-    assert!(rt; numbers(alloc, &["site_cli"]) == Ok([1, 2, 80, 24]));
-    let words = [
-        "site_cli",
-        "--height=30",
-        "--count",
-        "3",
-        "--width=120",
-        "--first",
-        "5",
-    ];
-    assert!(rt; numbers(alloc, &words) == Ok([5, 3, 120, 30]));
-    Ok(())
-}
-
-#[test]
-fn values_that_are_refused(rt: HostRuntime) -> Result<(), Fail> {
-    let cases = [
-        ("--first", "0"),
-        ("--first", "65529"),
-        ("--first", "65536"),
-        ("--count", "0"),
-        ("--count", "9"),
-        ("--width", "19"),
-        ("--width", "201"),
-        ("--height", "7"),
-        ("--height", "101"),
-        ("--first", "+5"),
-        ("--first", "0x10"),
-        ("--first", ""),
-        ("--first", "5 "),
-        ("--first", "five"),
-        ("--first", "-5"),
-        ("--first", "18446744073709551617"),
-        ("--depth", "5"),
-    ];
-    for (name, value) in cases {
-        let words = ["site_cli", name, value];
-        assert!(rt; numbers(rt.alloc(), &words) == Err(2), "{name} {value}");
-    }
-    Ok(())
-}
-
-// Whether the words are answered by this status and text, on standard error where the status isn't 0.
-fn is_answered<'a>(
-    alloc: Global,
-    words: &'a [&'a str],
-    status: u8,
-    text: &str,
-) -> Result<bool, Fail> {
-    match read_settings(alloc, words) {
-        Ok(_) => Ok(false),
-        Err(error) => {
-            let shown = format!(in alloc; "{error}")?;
-            Ok(
-                error_status(&error) == status
-                    && error.use_stderr() == (status != 0)
-                    && shown.as_str() == text,
-            )
-        }
-    }
 }
 
 const HELP: &str = "Answers a script of events for several sites, from standard input
@@ -114,43 +93,65 @@ Options:
   -h, --help        Print help
 ";
 
-#[test]
-fn help_is_no_mistake(rt: HostRuntime) -> Result<(), Fail> {
-    assert!(rt; is_answered(rt.alloc(), &["site_cli", "--help"], 0, HELP)?);
-    assert!(rt; is_answered(rt.alloc(), &["site_cli", "--count", "3", "-h"], 0, HELP)?);
-    Ok(())
+const UNKNOWN: &str = "error: unexpected argument '--depth' found
+
+Usage: site_cli [OPTIONS]
+
+For more information, try '--help'.
+";
+
+const MISSING: &str = "error: a value is required for '--width <N>' but none was supplied
+
+For more information, try '--help'.
+";
+
+const TWICE: &str = "error: the argument '--first <N>' cannot be used multiple times
+
+Usage: site_cli [OPTIONS]
+
+For more information, try '--help'.
+";
+
+const SIGNED: &str =
+    "error: invalid value '+5' for '--first <N>': a decimal number from 1 to 65528 is wanted
+
+Usage: site_cli [OPTIONS]
+
+For more information, try '--help'.
+";
+
+// Words that give no settings, the status, and the text.
+const TEXTS: &[(&[&str], u8, &str)] = &[
+    (&["site_cli", "--help"], 0, HELP),
+    (&["site_cli", "--count", "3", "-h"], 0, HELP),
+    (&["site_cli", "--depth", "5"], 2, UNKNOWN),
+    (&["site_cli", "--width"], 2, MISSING),
+    (&["site_cli", "--first", "3", "--first", "3"], 2, TWICE),
+    (&["site_cli", "--first", "+5"], 2, SIGNED),
+];
+
+// Whether this is said, on standard error where the status isn't 0.
+fn is_said(error: &Error, alloc: Global, status: u8, text: &'static str) -> Result<(), Fail> {
+    let shown = format!(in alloc; "{error}")?;
+    is(
+        error_status(error) == status
+            && error.use_stderr() == (status != 0)
+            && shown.as_str() == text,
+        text,
+    )
+}
+
+fn says(alloc: Global, words: &[&'static str], status: u8, text: &'static str) -> Result<(), Fail> {
+    match read_settings(alloc, words) {
+        Ok(_) => Err("settings".into()),
+        Err(error) => is_said(&error, alloc, status, text),
+    }
 }
 
 #[test]
-fn texts_of_mistakes(rt: HostRuntime) -> Result<(), Fail> {
-    let alloc = rt.alloc();
-    let unknown = "error: unexpected argument '--depth' found
-
-Usage: site_cli [OPTIONS]
-
-For more information, try '--help'.
-";
-    assert!(rt; is_answered(alloc, &["site_cli", "--depth", "5"], 2, unknown)?);
-    let missing = "error: a value is required for '--width <N>' but none was supplied
-
-For more information, try '--help'.
-";
-    assert!(rt; is_answered(alloc, &["site_cli", "--width"], 2, missing)?);
-    let twice = "error: the argument '--first <N>' cannot be used multiple times
-
-Usage: site_cli [OPTIONS]
-
-For more information, try '--help'.
-";
-    let words = ["site_cli", "--first", "3", "--first", "3"];
-    assert!(rt; is_answered(alloc, &words, 2, twice)?);
-    let signed =
-        "error: invalid value '+5' for '--first <N>': a decimal number from 1 to 65528 is wanted
-
-Usage: site_cli [OPTIONS]
-
-For more information, try '--help'.
-";
-    assert!(rt; is_answered(alloc, &["site_cli", "--first", "+5"], 2, signed)?);
+fn mistakes_and_help_have_their_texts(rt: HostRuntime) -> Result<(), Fail> {
+    for (words, status, text) in TEXTS {
+        says(rt.alloc(), words, *status, text)?;
+    }
     Ok(())
 }
