@@ -1,10 +1,11 @@
 //! What no clause says: that calls succeed, and that the definitions give the answers that were worked out by
 //! hand.
+use std::test::Fail;
+
 mod comparing;
 mod copies;
 mod fixtures;
 mod good_sets;
-mod laws;
 mod limits;
 mod looks_and_keys;
 mod malformed;
@@ -17,3 +18,8 @@ mod set_laws;
 mod shown;
 mod spelled_looks;
 mod written_and_read;
+
+// A failure that tells what isn't right.
+fn is(right: bool, what: &'static str) -> Result<(), Fail> {
+    if right { Ok(()) } else { Err(what.into()) }
+}

@@ -1,4 +1,6 @@
 use super::fixtures::{Does, Fields, INSERT, PLAIN, op_with};
+use super::is;
+use operations::Op;
 use std::alloc::Global;
 use std::test::Fail;
 
@@ -87,19 +89,28 @@ const DIFFERENT: &[(&str, Fields)] = &[
     ),
 ];
 
-fn are_same(alloc: Global, fields: Fields, others: Fields) -> Result<bool, Fail> {
-    let op = op_with(alloc, fields)?.ok_or("no operation")?;
+fn is_same_as(alloc: Global, op: &Op, others: Fields) -> Result<bool, Fail> {
     let other = op_with(alloc, others)?.ok_or("no other operation")?;
     Ok(op.is_same(&other))
+}
+
+// The operation is the same as the one of this index alone.
+fn is_same_alone(alloc: Global, op: &Op, index: usize, what: &'static str) -> Result<(), Fail> {
+    for (j, (_, others)) in DIFFERENT.iter().enumerate() {
+        is(is_same_as(alloc, op, *others)? == (index == j), what)?;
+    }
+    Ok(())
+}
+
+fn compares(alloc: Global, fields: Fields, index: usize, what: &'static str) -> Result<(), Fail> {
+    let op = op_with(alloc, fields)?.ok_or("no operation")?;
+    is_same_alone(alloc, &op, index, what)
 }
 
 #[test]
 fn operations_are_compared(rt: HostRuntime) -> Result<(), Fail> {
     for (i, (what, fields)) in DIFFERENT.iter().enumerate() {
-        for (j, (other_what, others)) in DIFFERENT.iter().enumerate() {
-            let same = are_same(rt.alloc(), *fields, *others)?;
-            assert!(rt; same == (i == j), "{what} and {other_what}");
-        }
+        compares(rt.alloc(), *fields, i, what)?;
     }
     Ok(())
 }

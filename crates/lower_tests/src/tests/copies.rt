@@ -1,6 +1,8 @@
 use super::fixtures::{Does, Fields, INSERT, has_these, op_with};
+use super::is;
 use looks::Refusal;
 use operations::Op;
+use std::alloc::Global;
 use std::test::Fail;
 
 // An operation of each kind.
@@ -52,15 +54,20 @@ fn copy_of(op: &Op) -> Result<Op, Refusal> {
     }
 }
 
+fn is_copied(op: &Op, fields: Fields, what: &'static str) -> Result<(), Fail> {
+    let copy = copy_of(op)?;
+    is(has_these(&copy, fields) && has_these(op, fields), what)
+}
+
+fn copies(alloc: Global, fields: Fields, what: &'static str) -> Result<(), Fail> {
+    let op = op_with(alloc, fields)?.ok_or(what)?;
+    is_copied(&op, fields, what)
+}
+
 #[test]
 fn operations_are_copied(rt: HostRuntime) -> Result<(), Fail> {
     for (what, fields) in KINDS {
-        let op = op_with(rt.alloc(), *fields)?.ok_or(*what)?;
-        let copy = copy_of(&op)?;
-        assert!(rt;
-            has_these(&copy, *fields) && has_these(&op, *fields),
-            "{what}"
-        );
+        copies(rt.alloc(), *fields, what)?;
     }
     Ok(())
 }

@@ -47,11 +47,13 @@ pub(super) fn name((site, off): (u16, u32)) -> Option<Name> {
 
 // Whether the names are these.
 pub(super) fn are_these(names: &[Name], want: &[(u16, u32)]) -> bool {
-    names.len() == want.len()
-        && names
-            .iter()
-            .zip(want)
-            .all(|(c, parts)| Some(*c) == name(*parts))
+    let mut left = names.iter();
+    for parts in want {
+        if left.next().copied() != name(*parts) {
+            return false;
+        }
+    }
+    left.next().is_none()
 }
 
 pub(super) fn anchor(cause: Option<(u16, u32)>) -> Option<Anchor> {
@@ -88,13 +90,18 @@ fn put_in(set: &mut NameSet, parts: (u16, u32)) -> Result<(), Refusal> {
     Ok(())
 }
 
-pub(super) fn set_of(alloc: Global, ranges: Ranges) -> Result<NameSet, Refusal> {
-    let mut set = NameSet::new(alloc);
+fn put_all(set: &mut NameSet, ranges: Ranges) -> Result<(), Refusal> {
     for (site, at, len) in ranges {
         for index in 0..*len {
-            put_in(&mut set, (*site, at.saturating_add(index)))?;
+            put_in(set, (*site, at.saturating_add(index)))?;
         }
     }
+    Ok(())
+}
+
+fn set_of(alloc: Global, ranges: Ranges) -> Result<NameSet, Refusal> {
+    let mut set = NameSet::new(alloc);
+    put_all(&mut set, ranges)?;
     Ok(set)
 }
 
@@ -128,25 +135,30 @@ fn kind_of(alloc: Global, does: Does) -> Result<Option<Kind>, Refusal> {
 
 // The operation, or none where these fields have no spelling.
 pub(super) fn op_with(alloc: Global, fields: Fields) -> Result<Option<Op>, Refusal> {
-    let kind = kind_of(alloc, fields.does)?;
-    let (Some(text), Some(site), Some(kind)) = (TextNo::new(1), SiteNo::new(fields.site), kind)
-    else {
+    let (Some(text), Some(site)) = (TextNo::new(1), SiteNo::new(fields.site)) else {
         return Ok(None);
     };
-    Ok(Op::new(text, site, fields.seq, fields.stamp, kind))
+    match kind_of(alloc, fields.does)? {
+        Some(kind) => Ok(Op::new(text, site, fields.seq, fields.stamp, kind)),
+        None => Ok(None),
+    }
 }
 
 pub(super) fn are_looks(looks: &Looks, (font, colour, offset): LooksParts) -> bool {
-    looks.font.as_bytes() == font && (looks.colour.number(), looks.offset) == (colour, offset)
+    looks.font.as_bytes() == font && looks.colour.number() == colour && looks.offset == offset
 }
 
 pub(super) fn are_ranges(set: &NameSet, ranges: &[(u16, u32, u32)]) -> bool {
-    set.ranges().len() == ranges.len()
-        && set.ranges().iter().zip(ranges).all(|(range, want)| (
-            range.site().get(),
-            range.at(),
-            range.len(),
-        ) == *want)
+    let mut left = set.ranges().iter();
+    for (site, at, len) in ranges {
+        let Some(range) = left.next() else {
+            return false;
+        };
+        if range.site().get() != *site || range.at() != *at || range.len() != *len {
+            return false;
+        }
+    }
+    left.next().is_none()
 }
 
 fn does_this(kind: &Kind, does: Does) -> bool {
@@ -183,20 +195,29 @@ pub(super) fn has_these(op: &Op, fields: Fields) -> bool {
 // An operation on text 1: its site, its seq, its stamp.
 pub(super) type Told = (u16, u32, u64, Does);
 
-// The operations; an allocation that is refused once is tried again.
-pub(super) fn ops_of(alloc: Global, told: &[Told]) -> Result<Vec<Op>, Fail> {
-    let mut ops = match Vec::with_capacity(alloc, told.len()) {
-        Ok(ops) => ops,
-        Err(_) => Vec::with_capacity(alloc, told.len())?,
+fn op_of(alloc: Global, (site, seq, stamp, does): Told) -> Result<Op, Fail> {
+    let fields = Fields {
+        site,
+        seq,
+        stamp,
+        does,
     };
-    for (site, seq, stamp, does) in told {
-        let fields = Fields {
-            site: *site,
-            seq: *seq,
-            stamp: *stamp,
-            does: *does,
-        };
-        ops.push(op_with(alloc, fields)?.ok_or("no operation")?)?;
+    Ok(op_with(alloc, fields)?.ok_or("no operation")?)
+}
+
+// Makes room for so many operations more; an allocation that is refused once is tried again.
+fn reserve(ops: &mut Vec<Op>, len: usize) -> Result<(), AllocError> {
+    match ops.reserve(len) {
+        Ok(()) => Ok(()),
+        Err(_) => ops.reserve(len),
     }
-    Ok(ops)
+}
+
+// Puts the operations behind those that are there.
+pub(super) fn put_ops(ops: &mut Vec<Op>, alloc: Global, told: &[Told]) -> Result<(), Fail> {
+    reserve(ops, told.len())?;
+    for fields in told {
+        ops.push(op_of(alloc, *fields)?)?;
+    }
+    Ok(())
 }

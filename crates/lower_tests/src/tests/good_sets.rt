@@ -1,10 +1,9 @@
-use super::fixtures::{Does, Told, ops_of};
-use looks::Refusal;
+use super::fixtures::{Does, Told, put_ops};
+use super::is;
+use super::shown::are_good;
 use operations::Op;
 use std::alloc::Global;
-use std::process::Abort;
 use std::test::Fail;
-use tree_order::is_good;
 
 // Three sites, one cause: sites 1 and 2 both type behind the `A` of `AC`.
 const M1: Told = (1, 1, 1, Does::Insert(None, 0, b"AC"));
@@ -163,22 +162,56 @@ const BAD: &[(&str, &[Told])] = &[
     ("three sites, one cause, without the cause", &[M2, M3, M4]),
 ];
 
-// Whether the operations are good; an answer that is refused once is asked for again.
-fn answer(rt: &impl Abort, alloc: Global, ops: &[Op]) -> Result<bool, Refusal> {
-    match is_good(alloc, ops) {
-        Ok(good) => Ok(good),
-        Err(refusal) => {
-            assert_eq!(rt; refusal, Refusal::OutOfMemory);
-            is_good(alloc, ops)
+// Those operations of the lists, one list behind the other, at whose places the number has a binary 1.
+pub(super) type Part<'a> = (&'a [&'a [Told]], u32);
+
+pub(super) const ALL: u32 = u32::MAX;
+
+// Puts those of one list behind what is there, and answers what is left of the number.
+fn put_some(ops: &mut Vec<Op>, alloc: Global, told: &[Told], mut number: u32) -> Result<u32, Fail> {
+    for op in told {
+        if number % 2 == 1 {
+            put_ops(ops, alloc, &[*op])?;
         }
+        number /= 2;
     }
+    Ok(number)
+}
+
+fn put_part(ops: &mut Vec<Op>, alloc: Global, (lists, number): Part<'_>) -> Result<(), Fail> {
+    let mut left = number;
+    for told in lists {
+        left = put_some(ops, alloc, told, left)?;
+    }
+    Ok(())
+}
+
+fn are_good_parts(
+    ops: &mut Vec<Op>,
+    alloc: Global,
+    a: Part<'_>,
+    b: Part<'_>,
+) -> Result<bool, Fail> {
+    put_part(ops, alloc, a)?;
+    put_part(ops, alloc, b)?;
+    are_good(alloc, ops)
+}
+
+// Whether the operations of both parts together are good.
+pub(super) fn good_parts(alloc: Global, a: Part<'_>, b: Part<'_>) -> Result<bool, Fail> {
+    let mut ops = Vec::new(alloc);
+    are_good_parts(&mut ops, alloc, a, b)
+}
+
+// Whether all operations of these lists together are good.
+pub(super) fn good_with(alloc: Global, lists: &[&[Told]]) -> Result<bool, Fail> {
+    good_parts(alloc, (lists, ALL), (&[], 0))
 }
 
 #[test]
 fn good_sets(rt: HostRuntime) -> Result<(), Fail> {
     for (what, told) in GOOD {
-        let ops = ops_of(rt.alloc(), told)?;
-        assert!(rt; answer(&rt, rt.alloc(), &ops)?, "{what}");
+        is(good_with(rt.alloc(), &[told])?, what)?;
     }
     Ok(())
 }
@@ -186,8 +219,7 @@ fn good_sets(rt: HostRuntime) -> Result<(), Fail> {
 #[test]
 fn sets_that_break_a_rule(rt: HostRuntime) -> Result<(), Fail> {
     for (what, told) in BAD {
-        let ops = ops_of(rt.alloc(), told)?;
-        assert!(rt; !answer(&rt, rt.alloc(), &ops)?, "{what}");
+        is(!good_with(rt.alloc(), &[told])?, what)?;
     }
     Ok(())
 }

@@ -1,4 +1,5 @@
 use super::fixtures::{Does, Fields, INSERT, PLAIN, has_these, op_with};
+use super::is;
 use looks::Refusal;
 use std::alloc::Global;
 use std::test::Fail;
@@ -50,7 +51,7 @@ fn fields_past_their_limits(rt: HostRuntime) -> Result<(), Fail> {
             stamp: *stamp,
             does: Does::Insert(*cause, *at, bytes),
         };
-        assert!(rt; is_as_wanted(rt.alloc(), fields, *want)?, "{what}");
+        is(is_as_wanted(rt.alloc(), fields, *want)?, what)?;
     }
     Ok(())
 }
@@ -134,7 +135,7 @@ fn names_and_unselected_looks(rt: HostRuntime) -> Result<(), Fail> {
             does: *does,
             ..INSERT
         };
-        assert!(rt; is_as_wanted(rt.alloc(), fields, *want)?, "{what}");
+        is(is_as_wanted(rt.alloc(), fields, *want)?, what)?;
     }
     Ok(())
 }

@@ -1,4 +1,5 @@
 use super::fixtures::vec_of;
+use super::is;
 use super::messages::{CHANGE, DELETE, FIRST, RESTORE, SECOND};
 use super::name_sets::is_scattered;
 use looks::Refusal;
@@ -15,12 +16,16 @@ fn op_in(alloc: Global, message: &[u8]) -> Result<Op, Refusal> {
 }
 
 // The operation's message; an allocation that is refused once is tried again.
-fn bytes_of(alloc: Global, op: &Op) -> Result<Vec<u8>, Refusal> {
-    let mut message = Vec::new(alloc);
-    if encode(op, &mut message).is_err() {
-        encode(op, &mut message)?;
+fn write(op: &Op, message: &mut Vec<u8>) -> Result<(), Refusal> {
+    match encode(op, message) {
+        Ok(()) => Ok(()),
+        Err(_) => encode(op, message),
     }
-    Ok(message)
+}
+
+// The bytes spell no operation.
+fn are_malformed(alloc: Global, bytes: &[u8], what: &'static str) -> Result<(), Fail> {
+    is(decode(alloc, bytes).err() == Some(Refusal::Malformed), what)
 }
 
 // Messages with some bytes changed, as (index, byte), which spell no operation.
@@ -73,15 +78,37 @@ const CHANGED: &[(&str, &[u8], &[(usize, u8)])] = &[
     ("a Restore of names of site 0", RESTORE, &[(23, 0)]),
 ];
 
+fn change(bytes: &mut [u8], changes: &[(usize, u8)]) -> Option<()> {
+    for (index, byte) in changes {
+        *bytes.get_mut(*index)? = *byte;
+    }
+    Some(())
+}
+
+fn are_refused(
+    bytes: &mut [u8],
+    alloc: Global,
+    changes: &[(usize, u8)],
+    what: &'static str,
+) -> Result<(), Fail> {
+    change(bytes, changes).ok_or(what)?;
+    are_malformed(alloc, bytes, what)
+}
+
+fn is_refused(
+    alloc: Global,
+    message: &[u8],
+    changes: &[(usize, u8)],
+    what: &'static str,
+) -> Result<(), Fail> {
+    let mut bytes = vec_of(alloc, message)?;
+    are_refused(&mut bytes, alloc, changes, what)
+}
+
 #[test]
 fn changed_messages_are_malformed(rt: HostRuntime) -> Result<(), Fail> {
     for (what, message, changes) in CHANGED {
-        let mut bytes = vec_of(rt.alloc(), message)?;
-        for (index, byte) in *changes {
-            *bytes.get_mut(*index).ok_or(*what)? = *byte;
-        }
-        let answer = decode(rt.alloc(), &bytes).err();
-        assert_eq!(rt; answer, Some(Refusal::Malformed), "{what}");
+        is_refused(rt.alloc(), message, changes, what)?;
     }
     Ok(())
 }
@@ -115,11 +142,11 @@ const MALFORMED: &[(&str, &[u8])] = &[
 ];
 
 #[test]
-fn other_bytes_are_malformed(rt: HostRuntime) {
+fn other_bytes_are_malformed(rt: HostRuntime) -> Result<(), Fail> {
     for (what, message) in MALFORMED {
-        let answer = decode(rt.alloc(), message).err();
-        assert_eq!(rt; answer, Some(Refusal::Malformed), "{what}");
+        are_malformed(rt.alloc(), message, what)?;
     }
+    Ok(())
 }
 
 // No front of a message is one.
@@ -128,69 +155,96 @@ fn fronts_are_malformed(rt: HostRuntime) -> Result<(), Fail> {
     for message in [FIRST, DELETE, RESTORE, CHANGE] {
         for len in 0..message.len() {
             let front = message.get(..len).ok_or("no front")?;
-            let answer = decode(rt.alloc(), front).err();
-            assert_eq!(rt; answer, Some(Refusal::Malformed), "{len}");
+            are_malformed(rt.alloc(), front, "a front")?;
         }
     }
     Ok(())
 }
 
+fn is_spelled(op: &Op, alloc: Global, bytes: &[u8]) -> bool {
+    let mut message = Vec::new(alloc);
+    write(op, &mut message).is_ok() && message.as_slice() == bytes
+}
+
 // Whether the bytes spell the operation that is read, or none, as a message never does.
-fn spell_what_is_read(alloc: Global, bytes: &[u8], are_message: bool) -> Result<bool, Fail> {
+fn spell_what_is_read(alloc: Global, bytes: &[u8], are_message: bool) -> bool {
     match op_in(alloc, bytes) {
-        Ok(op) => Ok(bytes_of(alloc, &op)?.as_slice() == bytes),
-        Err(refusal) => Ok(refusal == Refusal::Malformed && !are_message),
+        Ok(op) => is_spelled(&op, alloc, bytes),
+        Err(refusal) => refusal == Refusal::Malformed && !are_message,
     }
 }
 
-// Whether the message with this byte changed spells no operation, or the one that is read.
-fn byte_counts(alloc: Global, message: &[u8], index: usize) -> Result<bool, Fail> {
-    let mut bytes = vec_of(alloc, message)?;
-    let old = *message.get(index).ok_or("no index")?;
+// With this byte changed, the bytes spell no operation, or the one that is read.
+fn counts(bytes: &mut [u8], alloc: Global, index: usize) -> Result<(), Fail> {
+    let old = *bytes.get(index).ok_or("no index")?;
     for new in 0..=255 {
         *bytes.get_mut(index).ok_or("no index")? = new;
-        if !spell_what_is_read(alloc, &bytes, new == old)? {
-            return Ok(false);
-        }
+        is(spell_what_is_read(alloc, bytes, new == old), "a byte")?;
     }
-    Ok(true)
+    Ok(())
+}
+
+fn byte_counts(alloc: Global, message: &[u8], index: usize) -> Result<(), Fail> {
+    let mut bytes = vec_of(alloc, message)?;
+    counts(&mut bytes, alloc, index)
 }
 
 #[test]
 fn each_byte_counts(rt: HostRuntime) -> Result<(), Fail> {
     for message in [FIRST, DELETE, RESTORE, CHANGE] {
         for index in 0..message.len() {
-            assert!(rt; byte_counts(rt.alloc(), message, index)?, "{index}");
+            byte_counts(rt.alloc(), message, index)?;
         }
     }
     Ok(())
 }
 
-// A Delete of so many ranges, each of one name, that don't touch.
-fn delete_of(alloc: Global, count: u16) -> Result<Vec<u8>, AllocError> {
-    let mut message = vec_of(alloc, DELETE.get(..20).unwrap_or(&[]))?;
-    if message.reserve(10_500).is_err() {
-        message.reserve(10_500)?;
+// Makes room for so many bytes more; an allocation that is refused once is tried again.
+fn reserve(message: &mut Vec<u8>, len: usize) -> Result<(), AllocError> {
+    match message.reserve(len) {
+        Ok(()) => Ok(()),
+        Err(_) => message.reserve(len),
     }
+}
+
+// Writes a Delete of so many ranges, each of one name, that don't touch.
+fn write_delete(message: &mut Vec<u8>, count: u16) -> Result<(), AllocError> {
+    reserve(message, 10_500)?;
+    message.extend_from_slice(DELETE.get(..20).unwrap_or(&[]))?;
     message.extend_from_slice(&count.to_be_bytes())?;
     for index in 0..u32::from(count) {
         message.extend_from_slice(&[0, 1])?;
         message.extend_from_slice(&(2 * index).to_be_bytes())?;
         message.extend_from_slice(&[0, 0, 0, 1])?;
     }
-    Ok(message)
+    Ok(())
+}
+
+fn has_1024(op: &Op) -> Result<(), Fail> {
+    let Kind::Delete { names } = op.kind() else {
+        return Err("not a Delete".into());
+    };
+    is(
+        names.ranges().len() == 1024 && is_scattered(names),
+        "1,024 ranges",
+    )
+}
+
+fn are_read(alloc: Global, message: &[u8]) -> Result<(), Fail> {
+    let op = op_in(alloc, message)?;
+    has_1024(&op)
+}
+
+fn have_a_bound(message: &mut Vec<u8>, alloc: Global) -> Result<(), Fail> {
+    write_delete(message, 1024)?;
+    are_read(alloc, message)?;
+    message.clear();
+    write_delete(message, 1025)?;
+    are_malformed(alloc, message, "1,025 ranges")
 }
 
 #[test]
 fn at_most_1024_ranges(rt: HostRuntime) -> Result<(), Fail> {
-    let message = delete_of(rt.alloc(), 1024)?;
-    let op = op_in(rt.alloc(), &message)?;
-    let Kind::Delete { names } = op.kind() else {
-        return Err("not a Delete".into());
-    };
-    assert!(rt; names.ranges().len() == 1024 && is_scattered(names));
-    let longer = delete_of(rt.alloc(), 1025)?;
-    let answer = decode(rt.alloc(), &longer).err();
-    assert_eq!(rt; answer, Some(Refusal::Malformed));
-    Ok(())
+    let mut message = Vec::new(rt.alloc());
+    have_a_bound(&mut message, rt.alloc())
 }

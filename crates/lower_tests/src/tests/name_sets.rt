@@ -1,5 +1,6 @@
 use super::fixtures::{Ranges, are_ranges, name};
-use char_files::{MAX_FILE, SiteNo};
+use super::is;
+use char_files::{MAX_FILE, Name, SiteNo};
 use looks::Refusal;
 use operations::{NameRange, NameSet};
 use std::alloc::{AllocError, Global};
@@ -90,16 +91,23 @@ fn copy_of(set: &NameSet) -> Result<NameSet, Refusal> {
     }
 }
 
-// Puts a name in. Whether the set is as it was before, where an allocation is refused.
-fn goes_in(set: &mut NameSet, parts: (u16, u32)) -> Result<bool, Fail> {
+// Puts a name in. The set is as it was before, where an allocation is refused.
+fn put(set: &mut NameSet, before: &NameSet, name: Name) -> Result<(), Fail> {
+    let Err(refusal) = set.insert(name) else {
+        return Ok(());
+    };
+    is(
+        refusal == Refusal::OutOfMemory && set.is_same(before),
+        "as before",
+    )?;
+    set.insert(name)?;
+    Ok(())
+}
+
+fn goes_in(set: &mut NameSet, parts: (u16, u32)) -> Result<(), Fail> {
     let name = name(parts).ok_or("no name")?;
     let before = copy_of(set)?;
-    if let Err(refusal) = set.insert(name) {
-        let kept = refusal == Refusal::OutOfMemory && set.is_same(&before);
-        set.insert(name)?;
-        return Ok(kept);
-    }
-    Ok(true)
+    put(set, &before, name)
 }
 
 fn has(set: &NameSet, parts: (u16, u32)) -> bool {
@@ -109,36 +117,49 @@ fn has(set: &NameSet, parts: (u16, u32)) -> bool {
     }
 }
 
-// Whether the set, and a copy of it, have the case's ranges and names.
-fn is_as_wanted(set: &NameSet, case: &Names) -> Result<bool, Refusal> {
+// Whether the set has the case's ranges and names.
+fn is_as_wanted(set: &NameSet, case: &Names) -> bool {
+    let all = case.names.iter().all(|parts| has(set, *parts));
+    are_ranges(set, case.ranges) && all && !has(set, case.out)
+}
+
+fn is_copied(set: &NameSet, case: &Names) -> Result<(), Fail> {
     let copy = copy_of(set)?;
-    let all = case.names.iter().all(|parts| has(&copy, *parts));
-    let ranges = are_ranges(set, case.ranges) && are_ranges(&copy, case.ranges);
-    Ok(ranges && all && !has(&copy, case.out))
+    is(
+        is_as_wanted(set, case) && is_as_wanted(&copy, case),
+        case.what,
+    )
+}
+
+fn go_in(set: &mut NameSet, case: &Names) -> Result<(), Fail> {
+    for parts in case.names {
+        goes_in(set, *parts)?;
+    }
+    is_copied(set, case)
+}
+
+fn make_a_set(alloc: Global, case: &Names) -> Result<(), Fail> {
+    let mut set = NameSet::new(alloc);
+    go_in(&mut set, case)
 }
 
 #[test]
 fn names_go_into_a_set(rt: HostRuntime) -> Result<(), Fail> {
     for case in NAMES {
-        let mut set = NameSet::new(rt.alloc());
-        for parts in case.names {
-            assert!(rt; goes_in(&mut set, *parts)?, "{}", case.what);
-        }
-        assert!(rt; is_as_wanted(&set, case)?, "{}", case.what);
+        make_a_set(rt.alloc(), case)?;
     }
     Ok(())
 }
 
 // The names of every second offset: 1,024 ranges.
-fn full_set(alloc: Global) -> Result<NameSet, Fail> {
-    let mut set = NameSet::new(alloc);
+fn fill(set: &mut NameSet) -> Result<(), Fail> {
     for index in 0..1024 {
         let name = name((1, 2 * index)).ok_or("no name")?;
         if set.insert(name).is_err() {
             set.insert(name)?;
         }
     }
-    Ok(set)
+    Ok(())
 }
 
 // Whether the set has one range for each of its names, at every second offset of site 1.
@@ -148,20 +169,23 @@ pub(super) fn is_scattered(set: &NameSet) -> bool {
         == (1, 2 * index, 1))
 }
 
-// Whether the name is refused, and the set has 1,024 ranges as before.
-fn is_refused(set: &mut NameSet, parts: (u16, u32)) -> Result<bool, Fail> {
+fn is_full(set: &NameSet) -> bool {
+    set.ranges().len() == 1024 && is_scattered(set)
+}
+
+// The name is refused, and the set has 1,024 ranges as before.
+fn is_refused(set: &mut NameSet, parts: (u16, u32)) -> Result<(), Fail> {
     let name = name(parts).ok_or("no name")?;
-    let refused = set.insert(name) == Err(Refusal::Scattered) && !set.contains(name);
-    Ok(refused && set.ranges().len() == 1024 && is_scattered(set))
+    is(set.insert(name) == Err(Refusal::Scattered), "refused")?;
+    is(!set.contains(name) && is_full(set), "as before")
 }
 
 // A name that is refused leaves the set as it was; one that touches a range, or is there, goes in.
-#[test]
-fn a_set_of_1024_ranges(rt: HostRuntime) -> Result<(), Fail> {
-    let mut set = full_set(rt.alloc())?;
-    assert!(rt; set.ranges().len() == 1024 && is_scattered(&set));
+fn has_a_bound(set: &mut NameSet) -> Result<(), Fail> {
+    fill(set)?;
+    is(is_full(set), "1,024 ranges")?;
     for parts in [(1, 2048), (1, 2050), (2, 0)] {
-        assert!(rt; is_refused(&mut set, parts)?);
+        is_refused(set, parts)?;
     }
     for (parts, len) in [
         ((1, 2046), 1024),
@@ -169,10 +193,16 @@ fn a_set_of_1024_ranges(rt: HostRuntime) -> Result<(), Fail> {
         ((1, 1), 1023),
         ((2, 0), 1024),
     ] {
-        assert!(rt; goes_in(&mut set, parts)?);
-        assert!(rt; set.ranges().len() == len && has(&set, parts));
+        goes_in(set, parts)?;
+        is(set.ranges().len() == len && has(set, parts), "it goes in")?;
     }
     Ok(())
+}
+
+#[test]
+fn a_set_of_1024_ranges(rt: HostRuntime) -> Result<(), Fail> {
+    let mut set = NameSet::new(rt.alloc());
+    has_a_bound(&mut set)
 }
 
 // Ranges in some order, and those of the set that they make, as (site, at, len).
@@ -246,43 +276,68 @@ fn room(alloc: Global, len: usize) -> Result<Vec<NameRange>, AllocError> {
     }
 }
 
-fn all_of(alloc: Global, given: Ranges) -> Result<Vec<NameRange>, Fail> {
-    let mut ranges = room(alloc, given.len())?;
+fn put_ranges(ranges: &mut Vec<NameRange>, given: Ranges) -> Result<(), Fail> {
     for parts in given {
         ranges.push(range(*parts).ok_or("no range")?)?;
     }
+    Ok(())
+}
+
+fn all_of(alloc: Global, given: Ranges) -> Result<Vec<NameRange>, Fail> {
+    let mut ranges = room(alloc, given.len())?;
+    put_ranges(&mut ranges, given)?;
     Ok(ranges)
+}
+
+fn join(alloc: Global, case: &Joins) -> Result<(), Fail> {
+    let set = NameSet::of_all(all_of(alloc, case.given)?)?;
+    is(are_ranges(&set, case.ranges), case.what)
 }
 
 #[test]
 fn ranges_in_any_order_make_a_set(rt: HostRuntime) -> Result<(), Fail> {
     for case in JOINS {
-        let set = NameSet::of_all(all_of(rt.alloc(), case.given)?)?;
-        assert!(rt; are_ranges(&set, case.ranges), "{}", case.what);
+        join(rt.alloc(), case)?;
     }
     Ok(())
 }
 
-// The names of every second offset, the greatest first: so many ranges, and room for one more.
-fn scattered(alloc: Global, len: u16) -> Result<Vec<NameRange>, Fail> {
-    let mut ranges = room(alloc, usize::from(len) + 1)?;
+// The names of every second offset, the greatest first: so many ranges.
+fn put_scattered(ranges: &mut Vec<NameRange>, len: u16) -> Result<(), Fail> {
     for index in 0..len {
         let at = 2 * u32::from(len - 1 - index);
         ranges.push(range((1, at, 1)).ok_or("no range")?)?;
     }
+    Ok(())
+}
+
+// So many scattered ranges, and these behind them.
+fn scattered(alloc: Global, len: u16, given: Ranges) -> Result<Vec<NameRange>, Fail> {
+    let mut ranges = room(alloc, usize::from(len) + 1)?;
+    put_scattered(&mut ranges, len)?;
+    put_ranges(&mut ranges, given)?;
     Ok(ranges)
+}
+
+fn are_full(alloc: Global) -> Result<(), Fail> {
+    let set = NameSet::of_all(scattered(alloc, 1024, &[])?)?;
+    is(is_full(&set), "1,024 ranges")
+}
+
+fn are_refused(alloc: Global) -> Result<(), Fail> {
+    let refusal = NameSet::of_all(scattered(alloc, 1025, &[])?).err();
+    is(refusal == Some(Refusal::Scattered), "1,025 ranges")
+}
+
+fn are_joined(alloc: Global) -> Result<(), Fail> {
+    let set = NameSet::of_all(scattered(alloc, 1025, &[(1, 0, 2049)])?)?;
+    is(are_ranges(&set, &[(1, 0, 2049)]), "one range")
 }
 
 // What counts is how many ranges are left, and not how many are given.
 #[test]
 fn ranges_are_joined_to_1024_at_most(rt: HostRuntime) -> Result<(), Fail> {
-    let full = NameSet::of_all(scattered(rt.alloc(), 1024)?)?;
-    assert!(rt; full.ranges().len() == 1024 && is_scattered(&full));
-    let refused = NameSet::of_all(scattered(rt.alloc(), 1025)?);
-    assert!(rt; matches!(refused, Err(Refusal::Scattered)));
-    let mut ranges = scattered(rt.alloc(), 1025)?;
-    ranges.push(range((1, 0, 2049)).ok_or("no range")?)?;
-    let joined = NameSet::of_all(ranges)?;
-    assert!(rt; are_ranges(&joined, &[(1, 0, 2049)]));
-    Ok(())
+    are_full(rt.alloc())?;
+    are_refused(rt.alloc())?;
+    are_joined(rt.alloc())
 }

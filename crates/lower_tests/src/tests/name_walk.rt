@@ -2,6 +2,7 @@ ghost use Rattle.std.specs.Prelude.{◌≡◌, IfOk};
 ghost use Rattle.operations.specs.Operation.{mentioned_names};
 
 use super::fixtures::{Does, Fields, INSERT, PLAIN, are_these, op_with};
+use super::is;
 use char_files::Name;
 use operations::{Op, named};
 use std::alloc::{AllocError, Global};
@@ -56,15 +57,20 @@ fn are_walked(alloc: Global, op: &Op, wanted: &[(u16, u32)]) -> Result<bool, All
     Ok(are_these(&names, wanted))
 }
 
+fn mentions(
+    alloc: Global,
+    does: Does,
+    wanted: &[(u16, u32)],
+    what: &'static str,
+) -> Result<(), Fail> {
+    let op = op_with(alloc, Fields { does, ..INSERT })?.ok_or(what)?;
+    is(are_walked(alloc, &op, wanted) == Ok(true), what)
+}
+
 #[test]
 fn names_are_walked(rt: HostRuntime) -> Result<(), Fail> {
     for (what, does, wanted) in MENTIONED {
-        let fields = Fields {
-            does: *does,
-            ..INSERT
-        };
-        let op = op_with(rt.alloc(), fields)?.ok_or(*what)?;
-        assert!(rt; are_walked(rt.alloc(), &op, wanted)?, "{what}");
+        mentions(rt.alloc(), *does, wanted, what)?;
     }
     Ok(())
 }

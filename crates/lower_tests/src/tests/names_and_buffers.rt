@@ -1,3 +1,4 @@
+use super::is;
 use char_files::{Anchor, Buffer, CharFile, CharFiles, Name, SiteNo, TextNo};
 use looks::{Looks, Refusal};
 use std::test::Fail;
@@ -27,21 +28,26 @@ fn has(buffer: &Buffer, items: &[(u8, i8)]) -> bool {
 }
 
 #[test]
-fn numbers_of_sites_and_texts(rt: HostRuntime) {
-    for (number, want) in [(0, None), (1, Some(1)), (65535, Some(65535))] {
-        assert_eq!(rt; SiteNo::new(number).map(|site| site.get()), want);
-        assert_eq!(rt; TextNo::new(number).map(|text| text.get()), want);
+fn numbers_of_sites_and_texts() -> Result<(), Fail> {
+    is(
+        SiteNo::new(0).is_none() && TextNo::new(0).is_none(),
+        "none is 0",
+    )?;
+    for number in [1, 65535] {
+        let site = SiteNo::new(number).ok_or("a site")?;
+        let text = TextNo::new(number).ok_or("a text")?;
+        is(site.get() == number && text.get() == number, "its number")?;
     }
+    Ok(())
 }
 
 #[test]
-fn names_end_with_the_file(rt: HostRuntime) -> Result<(), Fail> {
+fn names_end_with_the_file() -> Result<(), Fail> {
     let site = SiteNo::new(7).ok_or("7 is a site")?;
-    assert_eq!(rt; Name::new(site, 0x0100_0000), None);
+    is(Name::new(site, 0x0100_0000).is_none(), "behind the last")?;
     let last = Name::new(site, 0x00ff_ffff).ok_or("the last offset of a file")?;
-    assert_eq!(rt; (last.site(), last.off()), (site, 0x00ff_ffff));
-    assert_ne!(rt; Anchor::At(last), Anchor::Root);
-    Ok(())
+    is(last.site() == site && last.off() == 0x00ff_ffff, "the last")?;
+    is(Anchor::At(last) != Anchor::Root, "no root")
 }
 
 const ITEMS: &[(u8, i8)] = &[
@@ -53,18 +59,17 @@ const ITEMS: &[(u8, i8)] = &[
     (b'a', 0),
 ];
 
-// Pushes a character. Whether the buffer has these as before, where an allocation is refused.
-fn goes_in(
-    buffer: &mut Buffer,
-    before: &[(u8, i8)],
-    (byte, offset): (u8, i8),
-) -> Result<bool, Refusal> {
-    if let Err(refusal) = buffer.push(byte, looks_at(offset)) {
-        let kept = refusal == Refusal::OutOfMemory && has(buffer, before);
-        buffer.push(byte, looks_at(offset))?;
-        return Ok(kept);
-    }
-    Ok(true)
+// Pushes a character. The buffer has these as before, where an allocation is refused.
+fn goes_in(buffer: &mut Buffer, before: &[(u8, i8)], (byte, offset): (u8, i8)) -> Result<(), Fail> {
+    let Err(refusal) = buffer.push(byte, looks_at(offset)) else {
+        return Ok(());
+    };
+    is(
+        refusal == Refusal::OutOfMemory && has(buffer, before),
+        "as before",
+    )?;
+    buffer.push(byte, looks_at(offset))?;
+    Ok(())
 }
 
 // A copy; an allocation that is refused once is tried again.
@@ -75,34 +80,50 @@ fn copy_of(buffer: &Buffer) -> Result<Buffer, Refusal> {
     }
 }
 
+fn is_copied(buffer: &Buffer) -> Result<(), Fail> {
+    let copy = copy_of(buffer)?;
+    is(has(buffer, ITEMS) && has(&copy, ITEMS), "both have all")
+}
+
+fn go_in(buffer: &mut Buffer) -> Result<(), Fail> {
+    is(buffer.is_empty() && has(buffer, &[]), "no characters")?;
+    for (i, item) in ITEMS.iter().enumerate() {
+        goes_in(buffer, &ITEMS[..i], *item)?;
+    }
+    is(
+        has(buffer, ITEMS) && buffer.runs().len() == 4,
+        "in four runs",
+    )?;
+    is_copied(buffer)
+}
+
 // Whichever allocation is refused, the buffer is as it was before, and the next try goes on from there.
 #[test]
 fn pushes_and_copies(rt: HostRuntime) -> Result<(), Fail> {
     let mut buffer = Buffer::new(rt.alloc());
-    assert!(rt; buffer.is_empty() && has(&buffer, &[]));
-    for (i, item) in ITEMS.iter().enumerate() {
-        assert!(rt; goes_in(&mut buffer, &ITEMS[..i], *item)?);
-    }
-    assert!(rt; has(&buffer, ITEMS) && buffer.runs().len() == 4);
-    let copy = copy_of(&buffer)?;
-    assert!(rt; has(&buffer, ITEMS) && has(&copy, ITEMS));
-    Ok(())
+    go_in(&mut buffer)
 }
 
 // A file of the greatest length, made of pieces of 4,096 bytes; one byte more is refused, and so is its
 // reservation.
+fn ends(file: &mut CharFile) -> Result<(), Fail> {
+    let block = [b'o'; 4096];
+    for i in 0..4096 {
+        is(file.append(&block) == Ok(i * 4096), "a piece")?;
+    }
+    is(file.len() == 0x0100_0000, "2^24 bytes")?;
+    is(
+        file.append(b"n") == Err(Refusal::FileSpent),
+        "one byte more",
+    )?;
+    is(file.reserve(1) == Err(Refusal::FileSpent), "room for one")?;
+    is(file.append(b"") == Ok(0x0100_0000), "none more")
+}
+
 #[test]
 fn a_file_ends(rt: HostRuntime) -> Result<(), Fail> {
-    let block = [b'o'; 4096];
     let mut file = CharFile::new(rt.alloc());
-    for i in 0..4096 {
-        assert_eq!(rt; file.append(&block)?, i * 4096);
-    }
-    assert_eq!(rt; file.len(), 0x0100_0000);
-    assert_eq!(rt; file.append(b"n"), Err(Refusal::FileSpent));
-    assert_eq!(rt; file.reserve(1), Err(Refusal::FileSpent));
-    assert_eq!(rt; file.append(b""), Ok(0x0100_0000));
-    Ok(())
+    ends(&mut file)
 }
 
 // Whether there is room then for so many bytes more.
@@ -118,39 +139,60 @@ fn makes_room(files: &mut CharFiles, one: SiteNo, two: SiteNo, site: SiteNo, mor
     kept && (reserved || reserves(files, site, more))
 }
 
-// Whether the site's file begins with these bytes.
-fn begins_with(files: &CharFiles, site: SiteNo, bytes: &[u8; 3]) -> Result<bool, Fail> {
-    for (off, want) in (0..3).zip(bytes) {
+// The site's file begins with these bytes.
+fn begins_with(files: &CharFiles, site: SiteNo, bytes: &[u8; 3]) -> Result<(), Fail> {
+    let mut off = 0;
+    for want in bytes {
         let name = Name::new(site, off).ok_or("below 2^24")?;
-        if files.len(site) <= off || files.byte(name) != *want {
-            return Ok(false);
+        if files.len(site) <= off {
+            return Err("a byte".into());
         }
+        is(files.byte(name) == *want, "the byte")?;
+        off += 1;
     }
-    Ok(true)
+    Ok(())
 }
 
-// Two sites append in turn. Whichever allocation is refused, no file changes, and the next try goes on from
-// there.
-#[test]
-fn files_of_two_sites(rt: HostRuntime) -> Result<(), Fail> {
-    let one = SiteNo::new(1).ok_or("1 is a site")?;
-    let two = SiteNo::new(2).ok_or("2 is a site")?;
-    let mut files = CharFiles::new(rt.alloc());
-    assert_eq!(rt; files.len(one), 0);
+fn append_in_turn(files: &mut CharFiles, one: SiteNo, two: SiteNo) -> Result<(), Fail> {
     for (site, bytes, off) in [
         (one, &b"ab"[..], 0),
         (two, &b"xyz"[..], 0),
         (one, &b"c"[..], 2),
     ] {
-        assert!(rt; makes_room(&mut files, one, two, site, bytes.len()));
-        assert_eq!(rt; files.append(site, bytes)?, off);
+        is(makes_room(files, one, two, site, bytes.len()), "room")?;
+        is(files.append(site, bytes)? == off, "appended")?;
     }
-    assert_eq!(rt; (files.len(one), files.len(two)), (3, 3));
-    assert!(rt; begins_with(&files, one, b"abc")? && begins_with(&files, two, b"xyz")?);
-    let appended = match files.append(two, b"!") {
-        Ok(off) => off,
-        Err(_) => files.append(two, b"!")?,
-    };
-    assert_eq!(rt; (appended, files.len(two)), (3, 4));
     Ok(())
+}
+
+fn append(files: &mut CharFiles, site: SiteNo, bytes: &[u8]) -> Result<u32, Refusal> {
+    match files.append(site, bytes) {
+        Ok(off) => Ok(off),
+        Err(_) => files.append(site, bytes),
+    }
+}
+
+// Two sites append in turn. Whichever allocation is refused, no file changes, and the next try goes on from
+// there.
+fn grow(files: &mut CharFiles) -> Result<(), Fail> {
+    let one = SiteNo::new(1).ok_or("1 is a site")?;
+    let two = SiteNo::new(2).ok_or("2 is a site")?;
+    is(files.len(one) == 0, "no bytes")?;
+    append_in_turn(files, one, two)?;
+    is(
+        (files.len(one), files.len(two)) == (3, 3),
+        "three bytes each",
+    )?;
+    begins_with(files, one, b"abc")?;
+    begins_with(files, two, b"xyz")?;
+    is(
+        append(files, two, b"!")? == 3 && files.len(two) == 4,
+        "one more",
+    )
+}
+
+#[test]
+fn files_of_two_sites(rt: HostRuntime) -> Result<(), Fail> {
+    let mut files = CharFiles::new(rt.alloc());
+    grow(&mut files)
 }

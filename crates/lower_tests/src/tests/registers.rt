@@ -2,13 +2,13 @@
 //! with one operation more, whose values they were offered, is what the slow calls compute of the two sets.
 ghost use Rattle.tree_order.specs.Good.{Good};
 
-use super::fixtures::{Does, LooksParts, Ranges, Told, are_looks, name, ops_of};
+use super::fixtures::{Does, LooksParts, Ranges, Told, are_looks, name, put_ops};
+use super::is;
 use super::shown::{are_good, order_of, shown_of};
 use char_files::{Char, Name};
 use looks::{Key, Register};
 use operations::Op;
 use std::alloc::Global;
-use std::process::Abort;
 use std::test::Fail;
 
 // What is kept of a character: its name, its byte and its registers.
@@ -211,7 +211,12 @@ const CASES: &[Case] = &[
 ];
 
 fn has_name(ranges: Ranges, (site, off): (u16, u32)) -> bool {
-    ranges.iter().any(|(of, at, len)| *of == site && *at <= off && off - *at < *len)
+    for (of, at, len) in ranges {
+        if *of == site && *at <= off && off - *at < *len {
+            return true;
+        }
+    }
+    false
 }
 
 // Offers the selected values: 1 for the font, 2 for the colour, 4 for the offset, or their sum.
@@ -239,87 +244,104 @@ fn offer(kept: &mut Kept, key: Key, does: Does) {
     }
 }
 
-// What is kept with this operation; an allocation that is refused once is tried again.
-fn offered(alloc: Global, before: &[Kept], more: Told) -> Result<Vec<Kept>, Fail> {
-    let mut after = match Vec::with_capacity(alloc, before.len()) {
-        Ok(after) => after,
-        Err(_) => Vec::with_capacity(alloc, before.len())?,
-    };
-    let (site, _, stamp, does) = more;
-    for kept in before {
-        let mut kept = *kept;
+// What is kept of a character with one operation more, if there is one.
+fn with_more(mut kept: Kept, more: Option<Told>) -> Kept {
+    if let Some((site, _, stamp, does)) = more {
         offer(&mut kept, Key { stamp, site }, does);
-        after.push(kept)?;
     }
-    Ok(after)
+    kept
 }
 
 // Whether the character is shown with this byte and these looks.
 fn is_shown_so(kept: &Kept, byte: u8, shown: &Char) -> bool {
     let looks = (kept.font.value, kept.colour.value, kept.offset.value);
     Some(shown.name) == name(kept.name)
-        && (shown.byte, kept.byte) == (byte, byte)
+        && shown.byte == byte
+        && kept.byte == byte
         && are_looks(&shown.looks, looks)
 }
 
 // Whether these are the names of all characters.
 fn are_all(order: &[Name], kept: &[Kept]) -> bool {
-    order.len() == kept.len()
-        && order
-            .iter()
-            .zip(kept)
-            .all(|(c, kept)| Some(*c) == name(kept.name))
+    let mut left = order.iter();
+    for kept in kept {
+        if left.next().copied() != name(kept.name) {
+            return false;
+        }
+    }
+    left.next().is_none()
 }
 
 // Whether those are shown, with these bytes, that aren't hidden.
-fn are_shown(shown: &[Char], kept: &[Kept], bytes: &[u8]) -> bool {
+fn are_shown(shown: &[Char], kept: &[Kept], more: Option<Told>, bytes: &[u8]) -> bool {
     let mut rest = shown.iter().zip(bytes);
-    for kept in kept.iter().filter(|kept| !kept.hidden.value) {
+    for before in kept {
+        let kept = with_more(*before, more);
+        if kept.hidden.value {
+            continue;
+        }
         let Some((c, byte)) = rest.next() else {
             return false;
         };
-        if !is_shown_so(kept, *byte, c) {
+        if !is_shown_so(&kept, *byte, c) {
             return false;
         }
     }
     shown.len() == bytes.len() && rest.next().is_none()
 }
 
-// The operations have these characters in this order, and show those that aren't hidden.
-fn check_kept(
-    rt: &impl Abort,
+fn has_all(alloc: Global, ops: &[Op], case: &Case) -> Result<(), Fail>
+    requires { Good ops.now }
+{
+    let order = order_of(alloc, ops)?;
+    is(are_all(&order, case.before), case.what)
+}
+
+fn shows(
     alloc: Global,
-    what: &str,
     ops: &[Op],
-    kept: &[Kept],
+    case: &Case,
+    more: Option<Told>,
     bytes: &[u8],
 ) -> Result<(), Fail>
     requires { Good ops.now }
 {
-    let order = order_of(rt, alloc, ops)?;
-    let shown = shown_of(rt, alloc, ops)?;
-    assert!(rt;
-        are_all(&order, kept) && are_shown(&shown, kept, bytes),
-        "{what}"
-    );
-    Ok(())
+    let shown = shown_of(alloc, ops)?;
+    is(are_shown(&shown, case.before, more, bytes), case.what)
 }
 
-fn check_case(rt: &impl Abort, alloc: Global, case: &Case) -> Result<(), Fail> {
+// The operations have these characters in this order, and show those that aren't hidden.
+fn keep(
+    alloc: Global,
+    ops: &[Op],
+    case: &Case,
+    more: Option<Told>,
+    bytes: &[u8],
+) -> Result<(), Fail> {
+    if !are_good(alloc, ops)? {
+        return Err(case.what.into());
+    }
+    has_all(alloc, ops, case)?;
+    shows(alloc, ops, case, more, bytes)
+}
+
+fn keep_both(ops: &mut Vec<Op>, alloc: Global, case: &Case) -> Result<(), Fail> {
     let (more, old) = case.all.split_last().ok_or("no operation")?;
-    let ops = ops_of(alloc, old)?;
-    assert!(rt; are_good(rt, alloc, &ops)?, "{}", case.what);
-    check_kept(rt, alloc, case.what, &ops, case.before, case.shown)?;
-    let larger = ops_of(alloc, case.all)?;
-    assert!(rt; are_good(rt, alloc, &larger)?, "{}", case.what);
-    let after = offered(alloc, case.before, *more)?;
-    check_kept(rt, alloc, case.what, &larger, &after, case.shown_after)
+    put_ops(ops, alloc, old)?;
+    keep(alloc, ops, case, None, case.shown)?;
+    put_ops(ops, alloc, &[*more])?;
+    keep(alloc, ops, case, Some(*more), case.shown_after)
+}
+
+fn check_case(alloc: Global, case: &Case) -> Result<(), Fail> {
+    let mut ops = Vec::new(alloc);
+    keep_both(&mut ops, alloc, case)
 }
 
 #[test]
 fn registers_tell_what_is_shown(rt: HostRuntime) -> Result<(), Fail> {
     for case in CASES {
-        check_case(&rt, rt.alloc(), case)?;
+        check_case(rt.alloc(), case)?;
     }
     Ok(())
 }

@@ -2,12 +2,12 @@ ghost use Rattle.std.specs.Prelude.{IfOk, IsTrue};
 ghost use Rattle.tree_order.specs.Good.{Good};
 ghost use Rattle.tree_order.specs.Tree.{IsChar};
 
-use super::fixtures::{Does, Told, are_these, looks_of, name, ops_of};
+use super::fixtures::{Does, Told, are_these, looks_of, name, put_ops};
+use super::is;
 use char_files::{Char, Name};
-use looks::{Looks, Refusal};
+use looks::Looks;
 use operations::Op;
 use std::alloc::Global;
-use std::process::Abort;
 use std::test::Fail;
 use tree_order::{has_char, is_good, slow_before, slow_order, slow_place, slow_shown};
 
@@ -169,135 +169,157 @@ const CASES: &[Case] = &[
         offset: -3,
         ..PLAIN
     },
+    Case {
+        what: "behind a deleted character, past another",
+        ops: &[
+            (1, 1, 1, Does::Insert(None, 0, b"abc")),
+            (1, 2, 2, Does::Delete(&[(1, 1, 1)])),
+            (3, 1, 2, Does::Insert(Some((1, 1)), 0, b"Z")),
+            (3, 2, 3, Does::Delete(&[(3, 0, 1)])),
+            (2, 1, 2, Does::Insert(Some((1, 1)), 0, b"X")),
+        ],
+        order: &[(1, 0), (1, 1), (3, 0), (2, 0), (1, 2)],
+        hidden: &[(1, 1), (3, 0)],
+        shown: b"aXc",
+        ..PLAIN
+    },
+    Case {
+        what: "the latest, behind a deleted character",
+        ops: &[
+            (1, 1, 1, Does::Insert(None, 0, b"AC")),
+            (2, 1, 2, Does::Insert(Some((1, 0)), 0, b"X")),
+            (2, 2, 3, Does::Delete(&[(1, 0, 1)])),
+            (1, 2, 4, Does::Insert(Some((1, 0)), 2, b"PQ")),
+        ],
+        order: &[(1, 0), (1, 2), (1, 3), (2, 0), (1, 1)],
+        hidden: &[(1, 0)],
+        shown: b"PQXC",
+        ..PLAIN
+    },
+    Case {
+        what: "the latest at the start",
+        ops: &[
+            (2, 1, 1, Does::Insert(None, 0, b"two")),
+            (1, 1, 2, Does::Insert(None, 0, b"one")),
+        ],
+        order: &[(1, 0), (1, 1), (1, 2), (2, 0), (2, 1), (2, 2)],
+        shown: b"onetwo",
+        ..PLAIN
+    },
+    Case {
+        what: "the latest behind what is shown",
+        ops: &[
+            (1, 1, 1, Does::Insert(None, 0, b"AC")),
+            (2, 1, 2, Does::Insert(Some((1, 0)), 0, b"X")),
+            (2, 2, 3, Does::Delete(&[(1, 0, 1)])),
+            (1, 2, 4, Does::Insert(Some((2, 0)), 2, b"PQ")),
+        ],
+        order: &[(1, 0), (2, 0), (1, 2), (1, 3), (1, 1)],
+        hidden: &[(1, 0)],
+        shown: b"XPQC",
+        ..PLAIN
+    },
+    Case {
+        what: "one writer's edits",
+        ops: &[
+            (1, 1, 1, Does::Insert(None, 0, b"ac")),
+            (1, 2, 2, Does::Insert(Some((1, 0)), 2, b"b")),
+            (1, 3, 3, Does::Delete(&[(1, 2, 1)])),
+            (1, 4, 4, Does::Insert(Some((1, 2)), 3, b"d")),
+            (1, 5, 5, Does::Insert(None, 4, b"x")),
+        ],
+        order: &[(1, 4), (1, 0), (1, 2), (1, 3), (1, 1)],
+        hidden: &[(1, 2)],
+        shown: b"xadc",
+        ..PLAIN
+    },
 ];
 
-// The order in which operations come.
-#[derive(Clone, Copy)]
-enum Arrival {
-    AsTold,
-    Backwards,
-    // Each one, and then each one again.
-    Twice,
-}
-
-// The operations in this order; an allocation that is refused once is tried again.
-fn arrivals(alloc: Global, told: &[Told], arrival: Arrival) -> Result<Vec<Told>, Fail> {
-    let mut all = match Vec::with_capacity(alloc, 2 * told.len()) {
-        Ok(all) => all,
-        Err(_) => Vec::with_capacity(alloc, 2 * told.len())?,
-    };
-    all.extend_from_slice(told)?;
-    match arrival {
-        Arrival::AsTold => {}
-        Arrival::Backwards => all.reverse(),
-        Arrival::Twice => all.extend_from_slice(told)?,
-    }
-    Ok(all)
-}
-
-pub(super) fn are_good(rt: &impl Abort, alloc: Global, ops: &[Op]) -> Result<bool, Fail>
+pub(super) fn are_good(alloc: Global, ops: &[Op]) -> Result<bool, Fail>
     ensures { IfOk result (λ good. IsTrue good → Good ops.now) }
 {
     match is_good(alloc, ops) {
         Ok(good) => Ok(good),
-        Err(refusal) => {
-            assert_eq!(rt; refusal, Refusal::OutOfMemory);
-            Ok(is_good(alloc, ops)?)
-        }
+        Err(_) => Ok(is_good(alloc, ops)?),
     }
 }
 
-pub(super) fn order_of(rt: &impl Abort, alloc: Global, ops: &[Op]) -> Result<Vec<Name>, Fail>
+pub(super) fn order_of(alloc: Global, ops: &[Op]) -> Result<Vec<Name>, Fail>
     requires { Good ops.now }
 {
     match slow_order(alloc, ops) {
         Ok(order) => Ok(order),
-        Err(refusal) => {
-            assert_eq!(rt; refusal, Refusal::OutOfMemory);
-            Ok(slow_order(alloc, ops)?)
-        }
+        Err(_) => Ok(slow_order(alloc, ops)?),
     }
 }
 
-pub(super) fn shown_of(rt: &impl Abort, alloc: Global, ops: &[Op]) -> Result<Vec<Char>, Fail>
+pub(super) fn shown_of(alloc: Global, ops: &[Op]) -> Result<Vec<Char>, Fail>
     requires { Good ops.now }
 {
     match slow_shown(alloc, ops) {
         Ok(shown) => Ok(shown),
-        Err(refusal) => {
-            assert_eq!(rt; refusal, Refusal::OutOfMemory);
-            Ok(slow_shown(alloc, ops)?)
-        }
+        Err(_) => Ok(slow_shown(alloc, ops)?),
     }
 }
 
-pub(super) fn place_of(rt: &impl Abort, alloc: Global, ops: &[Op], c: Name) -> Result<u64, Fail>
+fn place_of(alloc: Global, ops: &[Op], c: Name) -> Result<u64, Fail>
     requires good { Good ops.now }
     requires character { IsChar ops.now c }
 {
     match slow_place(alloc, ops, c) {
         Ok(place) => Ok(place),
-        Err(refusal) => {
-            assert_eq!(rt; refusal, Refusal::OutOfMemory);
-            Ok(slow_place(alloc, ops, c)?)
-        }
+        Err(_) => Ok(slow_place(alloc, ops, c)?),
     }
 }
 
-fn is_before(rt: &impl Abort, alloc: Global, ops: &[Op], c: Name, d: Name) -> Result<bool, Fail>
+fn is_before(alloc: Global, ops: &[Op], c: Name, d: Name) -> Result<bool, Fail>
     requires good { Good ops.now }
     requires first { IsChar ops.now c }
     requires second { IsChar ops.now d }
 {
     match slow_before(alloc, ops, c, d) {
         Ok(before) => Ok(before),
-        Err(refusal) => {
-            assert_eq!(rt; refusal, Refusal::OutOfMemory);
-            Ok(slow_before(alloc, ops, c, d)?)
-        }
+        Err(_) => Ok(slow_before(alloc, ops, c, d)?),
     }
 }
 
-// Whether the case's character of this index stands before those behind it alone.
-fn stands_at(
-    rt: &impl Abort,
-    alloc: Global,
-    ops: &[Op],
-    case: &Case,
-    c: Name,
-    index: usize,
-) -> Result<bool, Fail>
+// The case's character of this index stands before those behind it alone.
+fn stands_at(alloc: Global, ops: &[Op], case: &Case, c: Name, index: usize) -> Result<(), Fail>
     requires good { Good ops.now }
     requires character { IsChar ops.now c }
 {
     for (j, other) in case.order.iter().enumerate() {
         let d = name(*other).ok_or("no name")?;
-        assert!(rt; has_char(ops, d));
-        if is_before(rt, alloc, ops, c, d)? != (index < j) {
-            return Ok(false);
+        if !has_char(ops, d) {
+            return Err(case.what.into());
         }
+        is(is_before(alloc, ops, c, d)? == (index < j), case.what)?;
     }
-    Ok(true)
+    Ok(())
 }
 
-// The order is the case's; each character has its place and stands before those behind it alone.
-fn check_order(rt: &impl Abort, alloc: Global, ops: &[Op], case: &Case) -> Result<(), Fail>
+// Each character has its place, and stands before those behind it alone.
+fn have_places(alloc: Global, ops: &[Op], case: &Case) -> Result<(), Fail>
     requires { Good ops.now }
 {
-    let order = order_of(rt, alloc, ops)?;
-    assert!(rt; are_these(&order, case.order), "{}", case.what);
     let mut shown: u64 = 0;
     for (i, parts) in case.order.iter().enumerate() {
         let c = name(*parts).ok_or("no name")?;
-        assert!(rt; has_char(ops, c), "{}", case.what);
-        if !case.hidden.contains(parts) {
-            shown = shown.saturating_add(1);
+        if !has_char(ops, c) {
+            return Err(case.what.into());
         }
-        let placed = place_of(rt, alloc, ops, c)? == shown;
-        let stands = stands_at(rt, alloc, ops, case, c, i)?;
-        assert!(rt; placed && stands, "{}", case.what);
+        shown = shown.saturating_add(u64::from(!case.hidden.contains(parts)));
+        is(place_of(alloc, ops, c)? == shown, case.what)?;
+        stands_at(alloc, ops, case, c, i)?;
     }
     Ok(())
+}
+
+fn has_order(alloc: Global, ops: &[Op], case: &Case) -> Result<(), Fail>
+    requires { Good ops.now }
+{
+    let order = order_of(alloc, ops)?;
+    is(are_these(&order, case.order), case.what)
 }
 
 // Whether the character has this name, this byte and these looks.
@@ -305,36 +327,50 @@ fn is_this(c: &Char, parts: (u16, u32), byte: u8, looks: &Looks) -> bool {
     Some(c.name) == name(parts) && c.byte == byte && c.looks == *looks
 }
 
-// The visible characters are shown in the order, with their bytes and looks.
-fn check_shown(rt: &impl Abort, alloc: Global, ops: &[Op], case: &Case) -> Result<(), Fail>
-    requires { Good ops.now }
-{
-    let want = looks_of((case.font, case.colour, case.offset)).ok_or("no looks")?;
-    let shown = shown_of(rt, alloc, ops)?;
-    assert_eq!(rt; shown.len(), case.shown.len(), "{}", case.what);
+// Whether the visible characters are shown in the order, with their bytes and looks.
+fn is_shown(shown: &[Char], case: &Case, looks: &Looks) -> bool {
     let visible = case
         .order
         .iter()
         .filter(|parts| !case.hidden.contains(parts));
-    for ((parts, byte), char) in visible.zip(case.shown).zip(&shown) {
-        assert!(rt; is_this(char, *parts, *byte, &want), "{}", case.what);
-    }
-    Ok(())
+    let mut wanted = visible.zip(case.shown).zip(shown);
+    shown.len() == case.shown.len()
+        && wanted.all(|((parts, byte), char)| is_this(char, *parts, *byte, looks))
 }
 
-// These operations are good, and have the case's order and text.
-pub(super) fn check_told(
-    rt: &impl Abort,
-    alloc: Global,
-    told: &[Told],
-    case: &Case,
-) -> Result<(), Fail> {
+fn has_text(alloc: Global, ops: &[Op], case: &Case) -> Result<(), Fail>
+    requires { Good ops.now }
+{
+    let looks = looks_of((case.font, case.colour, case.offset)).ok_or("no looks")?;
+    let shown = shown_of(alloc, ops)?;
+    is(is_shown(&shown, case, &looks), case.what)
+}
+
+// The operations are good, and have the case's order and text.
+fn are_as_told(alloc: Global, ops: &[Op], case: &Case) -> Result<(), Fail> {
     let out = name((9, 9)).ok_or("no name")?;
-    let ops = ops_of(alloc, told)?;
-    assert!(rt; !has_char(&ops, out), "{}", case.what);
-    assert!(rt; are_good(rt, alloc, &ops)?, "{}", case.what);
-    check_order(rt, alloc, &ops, case)?;
-    check_shown(rt, alloc, &ops, case)
+    is(!has_char(ops, out), case.what)?;
+    if !are_good(alloc, ops)? {
+        return Err(case.what.into());
+    }
+    has_order(alloc, ops, case)?;
+    have_places(alloc, ops, case)?;
+    has_text(alloc, ops, case)
+}
+
+fn show(ops: &mut Vec<Op>, alloc: Global, parts: &[&[Told]], case: &Case) -> Result<(), Fail> {
+    for told in parts {
+        put_ops(ops, alloc, told)?;
+    }
+    are_as_told(alloc, ops, case)?;
+    ops.reverse();
+    are_as_told(alloc, ops, case)
+}
+
+// The operations of these parts, one behind the other, have the case's order and text, and so they have backwards.
+pub(super) fn check_told(alloc: Global, parts: &[&[Told]], case: &Case) -> Result<(), Fail> {
+    let mut ops = Vec::new(alloc);
+    show(&mut ops, alloc, parts, case)
 }
 
 // In whichever order the operations come, and however often, they show the same. Whichever allocation is
@@ -342,10 +378,8 @@ pub(super) fn check_told(
 #[test]
 fn operations_show_a_text(rt: HostRuntime) -> Result<(), Fail> {
     for case in CASES {
-        for arrival in [Arrival::AsTold, Arrival::Backwards, Arrival::Twice] {
-            let told = arrivals(rt.alloc(), case.ops, arrival)?;
-            check_told(&rt, rt.alloc(), &told, case)?;
-        }
+        check_told(rt.alloc(), &[case.ops], case)?;
+        check_told(rt.alloc(), &[case.ops, case.ops], case)?;
     }
     Ok(())
 }

@@ -1,4 +1,5 @@
 use super::fixtures::{are_looks, looks_of, vec_of};
+use super::is;
 use looks::{Looks, Refusal};
 use operations::{read_looks, write_looks};
 use std::alloc::Global;
@@ -50,18 +51,33 @@ const LOOKS: &[(&str, &[u8], Found)] = &[
     ),
 ];
 
-// Whether the looks' spelling is these bytes. Where an allocation of `write_looks` is refused, the vector has to
-// be as it was before.
-fn is_spelled_so(alloc: Global, looks: &Looks, spelling: &[u8]) -> Result<bool, Fail> {
-    let mut bytes = vec_of(alloc, b"before")?;
-    if let Err(refusal) = write_looks(looks, &mut bytes) {
-        if refusal != Refusal::OutOfMemory || bytes.as_slice() != b"before".as_slice() {
-            return Ok(false);
-        }
-        write_looks(looks, &mut bytes)?;
+// The looks' spelling is these bytes. Where an allocation of `write_looks` is refused, the vector has to be as it
+// was before.
+fn writes(
+    looks: &Looks,
+    bytes: &mut Vec<u8>,
+    spelling: &[u8],
+    what: &'static str,
+) -> Result<(), Fail> {
+    if let Err(refusal) = write_looks(looks, bytes) {
+        is(refusal == Refusal::OutOfMemory, what)?;
+        is(bytes.as_slice() == b"before".as_slice(), what)?;
+        write_looks(looks, bytes)?;
     }
-    let written = bytes.as_slice().strip_prefix(b"before");
-    Ok(written == Some(spelling))
+    is(
+        bytes.as_slice().strip_prefix(b"before") == Some(spelling),
+        what,
+    )
+}
+
+fn is_spelled(
+    alloc: Global,
+    looks: &Looks,
+    spelling: &[u8],
+    what: &'static str,
+) -> Result<(), Fail> {
+    let mut bytes = vec_of(alloc, b"before")?;
+    writes(looks, &mut bytes, spelling, what)
 }
 
 // Looks are spelled by the bytes that they are read from.
@@ -73,30 +89,30 @@ fn looks_are_spelled(rt: HostRuntime) -> Result<(), Fail> {
         };
         let looks = looks_of((font, colour, offset)).ok_or(*what)?;
         let spelling = spelling.get(..len).ok_or(*what)?;
-        assert!(rt; is_spelled_so(rt.alloc(), &looks, spelling)?, "{what}");
+        is_spelled(rt.alloc(), &looks, spelling, what)?;
     }
     Ok(())
 }
 
 // Whether the bytes begin with just these looks.
 fn is_read_so(bytes: &[u8], want: Found) -> bool {
-    match (read_looks(bytes), want) {
-        (Some((looks, len)), Some((font, colour, offset, want_len))) => {
-            are_looks(&looks, (font, colour, offset)) && len == want_len
-        }
-        (None, None) => true,
-        _ => false,
-    }
+    let Some((looks, len)) = read_looks(bytes) else {
+        return want.is_none();
+    };
+    let Some((font, colour, offset, want_len)) = want else {
+        return false;
+    };
+    are_looks(&looks, (font, colour, offset)) && len == want_len
 }
 
 #[test]
-fn looks_are_read(rt: HostRuntime) -> Result<(), Fail> {
+fn looks_are_read() -> Result<(), Fail> {
     for (what, bytes, want) in LOOKS {
-        assert!(rt; is_read_so(bytes, *want), "{what}");
+        is(is_read_so(bytes, *want), what)?;
     }
     for len in 0..PLAIN.len() {
         let front = PLAIN.get(..len).ok_or("no front")?;
-        assert!(rt; read_looks(front).is_none(), "{len}");
+        is(read_looks(front).is_none(), "a front")?;
     }
     Ok(())
 }

@@ -1,40 +1,55 @@
-use super::fixtures::{Fields, has_these, op_with, vec_of};
-use super::messages::MESSAGES;
+use super::fixtures::{has_these, op_with, vec_of};
+use super::is;
+use super::messages::{MESSAGES, Message};
 use looks::Refusal;
 use operations::{Op, decode, encode};
 use std::alloc::Global;
 use std::test::Fail;
 
-// Whether the operation's message is these bytes. Where the allocation of `encode` is refused, the vector has
-// to be as it was before.
-fn is_written_so(alloc: Global, op: &Op, bytes: &[u8]) -> Result<bool, Fail> {
-    let mut message = vec_of(alloc, b"before")?;
-    if let Err(refusal) = encode(op, &mut message) {
-        if refusal != Refusal::OutOfMemory || message.as_slice() != b"before".as_slice() {
-            return Ok(false);
-        }
-        encode(op, &mut message)?;
+// The operation's message is these bytes. Where the allocation of `encode` is refused, the vector has to be as it
+// was before.
+fn writes(op: &Op, message: &mut Vec<u8>, case: &Message) -> Result<(), Fail> {
+    if let Err(refusal) = encode(op, message) {
+        is(refusal == Refusal::OutOfMemory, case.what)?;
+        is(message.as_slice() == b"before".as_slice(), case.what)?;
+        encode(op, message)?;
     }
     let spelling = message.as_slice().strip_prefix(b"before");
-    Ok(spelling == Some(bytes))
+    is(spelling == Some(case.bytes), case.what)
 }
 
-// Whether these bytes are read as the operation, which has these fields.
-fn is_read_so(alloc: Global, bytes: &[u8], op: &Op, fields: Fields) -> Result<bool, Fail> {
-    let read = match decode(alloc, bytes) {
-        Err(Refusal::OutOfMemory) => decode(alloc, bytes)?,
-        answer => answer?,
-    };
-    Ok(read.is_same(op) && has_these(&read, fields))
+fn is_written(op: &Op, alloc: Global, case: &Message) -> Result<(), Fail> {
+    let mut message = vec_of(alloc, b"before")?;
+    writes(op, &mut message, case)
+}
+
+fn read_of(alloc: Global, bytes: &[u8]) -> Result<Op, Refusal> {
+    match decode(alloc, bytes) {
+        Err(Refusal::OutOfMemory) => decode(alloc, bytes),
+        answer => answer,
+    }
+}
+
+// The bytes are read as the operation, which has these fields.
+fn is_read(op: &Op, alloc: Global, case: &Message) -> Result<(), Fail> {
+    let read = read_of(alloc, case.bytes)?;
+    is(read.is_same(op) && has_these(&read, case.fields), case.what)
+}
+
+fn goes_both_ways(op: &Op, alloc: Global, case: &Message) -> Result<(), Fail> {
+    is_written(op, alloc, case)?;
+    is_read(op, alloc, case)
+}
+
+fn is_message(alloc: Global, case: &Message) -> Result<(), Fail> {
+    let op = op_with(alloc, case.fields)?.ok_or(case.what)?;
+    goes_both_ways(&op, alloc, case)
 }
 
 #[test]
 fn messages_are_written_and_read(rt: HostRuntime) -> Result<(), Fail> {
     for case in MESSAGES {
-        let op = op_with(rt.alloc(), case.fields)?.ok_or(case.what)?;
-        let written = is_written_so(rt.alloc(), &op, case.bytes)?;
-        let read = is_read_so(rt.alloc(), case.bytes, &op, case.fields)?;
-        assert!(rt; written && read, "{}", case.what);
+        is_message(rt.alloc(), case)?;
     }
     Ok(())
 }
