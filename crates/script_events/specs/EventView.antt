@@ -1,11 +1,11 @@
 -- Events as the code has them, seen as the machine's.
 use Rattle.std.specs.Prelude.{ℕ, ◌<◌, ◌≤◌, Option, length, option_map, unwrap_or}
 use Rattle.texts.specs.Edit.{Edit as AskedEdit, deletion, looks_change, recalling, restoration}
-use Rattle.commands.specs.Machine.{copy, edit, take, settle, merge, query, unknown, print_text, print_fronts}
-use Rattle.commands.specs.Machine.{print_runs, sent}
-use Rattle.commands.specs.Machine.{bytes}
-use Rattle.commands.specs.Machine.{Event as AskedEvent, Query as AskedQuery, Delivery as AskedDelivery}
-use Rattle.commands.specs.declared.TheConstants.{MAX_TEXT}
+use Rattle.machine.specs.Machine.{copy, edit, take, settle, merge, query, unknown, print_text, print_fronts}
+use Rattle.machine.specs.Machine.{print_runs, sent}
+use Rattle.machine.specs.Machine.{bytes}
+use Rattle.machine.specs.Machine.{Event as AskedEvent, Query as AskedQuery, Delivery as AskedDelivery}
+use Rattle.machine.specs.declared.TheConstants.{MAX_TEXT}
 use Rattle.script_events.specs.declared.event.Delivery.{Delivery}
 use Rattle.script_events.specs.declared.event.Delivery.TheVariants.{Sent, Bytes}
 use Rattle.script_events.specs.declared.event.Edit.{Edit}
@@ -58,12 +58,12 @@ IsInRun count (Merges desk text other) = (desk < count) × (text ≤ MAX_TEXT) �
 IsInRun count (Queries desk text q) = (desk < count) × (text ≤ MAX_TEXT)
 
 -- what an edit types has so many bytes at most
-abbrev pub IsShort : ℕ → Edit → Type 0
-IsShort len (TypeIn pos typed) = length typed ≤ len
-IsShort len (Cut beg end) = Unit {0}
-IsShort len (Looks beg end sel looks) = Unit {0}
-IsShort len (Recall pos) = Unit {0}
-IsShort len Restore = Unit {0}
+abbrev pub TypesAtMost : ℕ → Edit → Type 0
+TypesAtMost len (TypeIn pos typed) = length typed ≤ len
+TypesAtMost len (Cut beg end) = Unit {0}
+TypesAtMost len (Looks beg end sel looks) = Unit {0}
+TypesAtMost len (Recall pos) = Unit {0}
+TypesAtMost len Restore = Unit {0}
 
 -- a message that is told by its bytes has so many at most
 abbrev pub IsWithin : ℕ → Delivery → Type 0
@@ -72,7 +72,7 @@ IsWithin len (Bytes message) = length message ≤ len
 
 -- the bytes that an event tells, typed or of a message, are no more than those of a line of this length
 abbrev pub IsOfLine : ℕ → Event → Type 0
-IsOfLine len (Edits desk text e) = IsShort len e
+IsOfLine len (Edits desk text e) = TypesAtMost len e
 IsOfLine len (Saves desk text save) = Unit {0}
 IsOfLine len (Takes desk text d) = IsWithin len d
 IsOfLine len (Settles desk text) = Unit {0}

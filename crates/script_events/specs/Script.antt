@@ -5,9 +5,9 @@ use Rattle.std.specs.Option.{option_map_or}
 use Rattle.hex.specs.Hex.{hex_digit_value}
 use Rattle.looks.specs.Looks.{plain_looks}
 use Rattle.texts.specs.Edit.{Edit, insertion, deletion, looks_change, recalling, restoration}
-use Rattle.commands.specs.Machine.{Delivery, Event, Query, copy, edit, merge, query, settle, unknown}
-use Rattle.commands.specs.Machine.{print_text, print_fronts}
-use Rattle.commands.specs.Machine.{print_runs, take as taking, sent as by_number, bytes as by_bytes}
+use Rattle.machine.specs.Machine.{Delivery, Event, Query, copy, edit, merge, query, settle, unknown}
+use Rattle.machine.specs.Machine.{print_text, print_fronts}
+use Rattle.machine.specs.Machine.{print_runs, take as taking, sent as by_number, bytes as by_bytes}
 use Rattle.script_events.specs.Words.{◌>>=◌, is_word, cut_word, number_in, cut_number, desk_in, text_in}
 use Rattle.script_events.specs.LooksWords.{change_in}
 

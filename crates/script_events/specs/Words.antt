@@ -5,7 +5,7 @@ use Rattle.std.specs.Prelude.{option_map, position}
 use Rattle.std.specs.Cmp.Lexicographic.{pointwise}
 use Rattle.std.specs.Str.{all_ascii_digits}
 use Rattle.std.specs.Str.Parse.{digits_value}
-use Rattle.commands.specs.declared.TheConstants.{MAX_TEXT}
+use Rattle.machine.specs.declared.TheConstants.{MAX_TEXT}
 
 infixl 10 ◌>>=◌
 -- what f makes of a value, where there is one

@@ -13,8 +13,8 @@ use crate::event::edits::edit_in;
 use crate::event::words::{cut_number, cut_word, desk_in, number_in, text_in};
 use crate::hex_bytes::Hex;
 use char_files::TextNo;
-use commands::MAX_TEXT;
 use looks::{Looks, Sel};
+use machine::MAX_TEXT;
 
 /// What a line of a script asks; it borrows its bytes from the line.
 ///
@@ -117,7 +117,7 @@ pub enum Query {
 
 // The number of the run's first site, and how many there are.
 #[derive(Clone, Copy)]
-struct Run {
+struct RunSites {
     first: u16,
     count: usize,
 }
@@ -186,7 +186,7 @@ fn short_event(verb: &[u8], desk: usize, text: TextNo) -> Option<Event<'static>>
 }
 
 // `merge`: the site whose text is taken over.
-fn merge_event(run: Run, desk: usize, text: TextNo, rest: &[u8]) -> Option<Event<'static>>
+fn merge_event(run: RunSites, desk: usize, text: TextNo, rest: &[u8]) -> Option<Event<'static>>
     requires { text ≤ MAX_TEXT }
     ensures event { option_map event_of result ≡ merge_event run.first run.count desk text rest.now }
     ensures in_run { IfSome result (λ event. desk < run.count → IsInRun run.count event) }
@@ -198,7 +198,7 @@ fn merge_event(run: Run, desk: usize, text: TextNo, rest: &[u8]) -> Option<Event
 
 // What a verb asks of a text with what stands behind it: to take a message, to merge, to save, or another edit.
 fn long_event<'a>(
-    run: Run,
+    run: RunSites,
     verb: &[u8],
     desk: usize,
     text: TextNo,
@@ -227,7 +227,7 @@ fn long_event<'a>(
 }
 
 // What a verb goes on with: a text, which ends the line or has a blank and more behind it.
-fn verb_event<'a>(run: Run, verb: &[u8], desk: usize, rest: &'a [u8]) -> Option<Event<'a>>
+fn verb_event<'a>(run: RunSites, verb: &[u8], desk: usize, rest: &'a [u8]) -> Option<Event<'a>>
     ensures event { option_map event_of result ≡ verb_event run.first run.count verb.now desk rest.now }
     ensures in_run { IfSome result (λ event. desk < run.count → IsInRun run.count event) }
     ensures within { IfSome result (λ event. (len : ℕ) → length rest.now ≤ len → IsOfLine len event) }
@@ -248,7 +248,7 @@ pub fn event_in<'a>(first: u16, count: usize, line: &'a [u8]) -> Option<Event<'a
     let (site, rest) = cut_word(line)?;
     let (verb, rest) = cut_word(rest)?;
     verb_event(
-        Run { first, count },
+        RunSites { first, count },
         verb,
         desk_in(first, count, site)?,
         rest,

@@ -1,7 +1,6 @@
 pub mod Lifting
 pub mod Merging
 pub mod Printing
-pub mod Reaching
 pub mod Replying
 pub mod Traces
 pub mod WriteLemmas

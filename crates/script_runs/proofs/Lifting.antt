@@ -6,9 +6,9 @@ use Rattle.looks.specs.declared.refusal.Refusal.{Refusal}
 use Rattle.texts.specs.TextState.{TextState}
 use Rattle.texts.specs.declared.took.Took.{Took}
 use Rattle.texts.specs.declared.edit_refusal.EditRefusal.{EditRefusal}
-use Rattle.commands.specs.DeskState.{DeskState, IsTextOf}
+use Rattle.machine.specs.DeskState.{DeskState, IsTextOf}
 use Rattle.texts.specs.declared.merge_refusal.MergeRefusal.{MergeRefusal}
-use Rattle.commands.specs.Machine.{Delivery, Does, EditsDesk, Event, InDesk, IsTextAt, MergesDesk, Replies, Reply, SettlesDesk, Short, State, TakesDesk, alone, copy, edit, edit_reply, merge, merge_reply, message_in, messages_of, query, settle, settles, take, take_reply, unknown}
+use Rattle.machine.specs.Machine.{Delivery, Does, EditsDesk, Event, InDesk, IsTextAt, MergesDesk, Replies, Reply, SettlesDesk, Short, State, TakesDesk, alone, copy, edit, edit_reply, merge, merge_reply, message_in, messages_of, query, settle, settles, take, take_reply, unknown}
 
 -- an event of one desk alone, which is told no message: an edit, a copy or a settling
 abbrev pub IsOfOneDesk : Event → Type 0

@@ -12,8 +12,8 @@ use Rattle.texts.specs.Merge.{CanMerge, Merges, is_past_front, news}
 use Rattle.texts.specs.Text.{IsText}
 use Rattle.texts.specs.TextState.{TextState}
 use Rattle.texts.specs.declared.merge_refusal.MergeRefusal.{MergeRefusal}
-use Rattle.commands.specs.DeskState.{DeskState, IsTextOf}
-use Rattle.commands.specs.Machine.{MergesDesk, Replies, State, merge, merge_reply, merges}
+use Rattle.machine.specs.DeskState.{DeskState, IsTextOf}
+use Rattle.machine.specs.Machine.{MergesDesk, Replies, State, merge, merge_reply, merges}
 use Rattle.script_runs.proofs.Lifting.{desk_merged}
 
 -- the desks, parted at an index

@@ -8,8 +8,8 @@ use Rattle.texts.specs.TextState.{TextState}
 use Rattle.texts.specs.declared.edit_refusal.EditRefusal.{EditRefusal}
 use Rattle.texts.specs.declared.edit_refusal.EditRefusal.TheVariants.{Whole, Partial}
 use Rattle.texts.specs.declared.took.Took.{Took}
-use Rattle.commands.specs.DeskState.{DeskState}
-use Rattle.commands.specs.Machine.{Delivery, Event, InDesk, Query, QueriesDesk, Replies, Reply, State, IsTextAt, Prints, copy, edit, merge, query, edit_reply, message_in, messages_of, prints, refuses, sent, settle, take, take_reply, unknown}
+use Rattle.machine.specs.DeskState.{DeskState}
+use Rattle.machine.specs.Machine.{Delivery, Event, InDesk, Query, QueriesDesk, Replies, Reply, State, IsTextAt, Prints, copy, edit, merge, query, edit_reply, message_in, messages_of, prints, refuses, sent, settle, take, take_reply, unknown}
 use Rattle.script_events.specs.declared.event.Event.{Event as Parsed}
 use Rattle.script_runs.specs.Answers.{refused_line, reply_lines}
 use Rattle.script_runs.specs.Trace.{Step}

@@ -5,7 +5,7 @@ use Rattle.std.specs.Io.KnownBytes.{Appends, Consumes, Keeps, IsAtEnd}
 use Rattle.std.proofs.KnownBytes.{Consumes-nil, Consumes-trans, Appends-nil, Appends-trans, Appends-kept}
 use Rattle.looks.specs.declared.refusal.Refusal.{Refusal}
 use Rattle.looks.specs.declared.refusal.Refusal.TheVariants.{ReadFault, WriteFault}
-use Rattle.commands.specs.Machine.{State}
+use Rattle.machine.specs.Machine.{State}
 use Rattle.script_runs.specs.Answers.{refused_line}
 use Rattle.script_runs.specs.Ends.{Breaks, IsAnswered, IsBrokenOff, AreDue, Ends}
 use Rattle.script_io.specs.Lines.{IsRaw, without_return, Takes}

@@ -6,8 +6,8 @@ use Rattle.looks.specs.declared.refusal.Refusal.{Refusal}
 use Rattle.looks.specs.Refusal.{number_of}
 use Rattle.texts.specs.declared.took.Took.{Took}
 use Rattle.texts.specs.declared.took.Took.TheVariants.{Taken, Repeat, Waits}
-use Rattle.commands.specs.Machine.{Reply, sends, takes, settles, merges, prints, refuses, stops}
-use Rattle.commands.specs.Printing.{line}
+use Rattle.machine.specs.Machine.{Reply, sends, takes, settles, merges, prints, refuses, stops}
+use Rattle.machine.specs.Printing.{line}
 
 -- the k-th message of the run goes out
 unfoldable pub send_line : ℕ → List ℕ → List ℕ

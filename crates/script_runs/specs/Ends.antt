@@ -5,7 +5,7 @@ use Rattle.std.specs.Prelude.{Err}
 use Rattle.std.specs.Io.KnownBytes.{Appends, Consumes, Keeps}
 use Rattle.looks.specs.declared.refusal.Refusal.{Refusal}
 use Rattle.looks.specs.declared.refusal.Refusal.TheVariants.{ReadFault, WriteFault, OutOfMemory}
-use Rattle.commands.specs.Machine.{State}
+use Rattle.machine.specs.Machine.{State}
 use Rattle.script_runs.specs.Answers.{refused_line}
 use Rattle.script_io.specs.Lines.{BreaksLine, IsRaw}
 use Rattle.script_runs.specs.Trace.{Answers, Trace}

@@ -1,6 +1,5 @@
 pub mod Answers
 pub mod Ends
-pub mod Laws
 pub mod Parts
 pub mod Trace
 pub mod Writing

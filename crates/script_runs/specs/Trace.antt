@@ -1,6 +1,6 @@
 -- A script line by line, and the answers to its lines.
 use Rattle.std.specs.Prelude.{◌≡◌, ℕ, ◌+◌, List, [], ◌∷◌, ◌++◌, length, Bool, true, ◌==◌, MatchBool}
-use Rattle.commands.specs.Machine.{Event, Reply, Replies, State}
+use Rattle.machine.specs.Machine.{Event, Reply, Replies, State}
 use Rattle.script_runs.specs.Answers.{reply_lines}
 use Rattle.script_io.specs.Lines.{IsRaw, without_return}
 use Rattle.script_events.specs.Script.{event_in}

@@ -1,7 +1,7 @@
 ghost use Rattle.std.specs.Prelude.{ℕ, ◌≤◌, ◌++◌, drop, length};
 ghost use Rattle.std.specs.Fmt.{decimal};
 ghost use Rattle.hex.specs.Hex.{encode_lower};
-ghost use Rattle.commands.specs.Machine.{edit_reply, merge_reply};
+ghost use Rattle.machine.specs.Machine.{edit_reply, merge_reply};
 ghost use Rattle.script_runs.specs.Answers.{drained_line, partial_line, refused_line, reply_lines, send_line};
 ghost use Rattle.script_runs.specs.Answers.{send_lines, settled_line, took_line};
 ghost use Rattle.script_runs.specs.Writing.{Puts};

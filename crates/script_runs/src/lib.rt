@@ -1,9 +1,7 @@
-//! Runs of a script for one to eight sites: each line is answered by a step of the machine of events; and laws of
-//! whole scripts.
+//! Runs of a script for one to eight sites: each line is answered by a step of the machine of events.
 #![tactic(auto)]
 
 mod answers;
-pub mod laws;
 mod limits;
 mod running;
 mod settings;

@@ -1,10 +1,10 @@
 ghost use Rattle.std.specs.Prelude.{◌≡◌, ◌≤◌, ◌<◌, List, ℕ, length, IfOk};
 ghost use Rattle.looks.specs.Refusal.{RefusedForMemoryAlone};
 ghost use Rattle.texts.specs.TextState.{TextState};
-ghost use Rattle.commands.specs.Machine.{IsTextAt, Prints, Replies, copy, edit, edit_reply, merge, merge_reply};
-ghost use Rattle.commands.specs.Machine.{new_state, sent, settle, settles, take, take_reply};
+ghost use Rattle.machine.specs.Machine.{IsTextAt, Prints, Replies, copy, edit, edit_reply, merge, merge_reply};
+ghost use Rattle.machine.specs.Machine.{new_state, sent, settle, settles, take, take_reply};
 ghost use Rattle.script_events.specs.EventView.{delivery_of, edit_of, event_of, query_of, IsInRun, IsOfLine};
-ghost use Rattle.script_events.specs.EventView.{IsShort, IsWithin};
+ghost use Rattle.script_events.specs.EventView.{IsWithin, TypesAtMost};
 ghost use Rattle.script_events.specs.Script.{typing};
 ghost use Rattle.script_runs.specs.Trace.{Answers, Step, is_silent};
 ghost use Rattle.script_runs.specs.Writing.{Puts};
@@ -12,8 +12,9 @@ ghost use Rattle.script_runs.specs.Writing.{Puts};
 use crate::answers::{put, put_edit, put_merged, put_refused, put_settled, put_took};
 use crate::settings::{MAX_FIRST, MAX_SITES};
 use char_files::{SiteNo, TextNo};
-use commands::{Desk, MAX_TEXT};
+use desk_texts::Texts;
 use looks::Refusal;
+use machine::MAX_TEXT;
 use script_events::{Delivery, Edit, Escaped, Event, Query, Save, event_in};
 use script_io::{MAX_LINE, Output};
 use set_laws::unions::front_is_held;
@@ -26,7 +27,7 @@ use texts::{EditRefusal, MergeRefusal, Outbox, Settled, Took};
 #[derive(Drop)]
 pub struct Sites {
     first: u16,
-    desks: Vec<Desk>,
+    desks: Vec<Texts>,
     outbox: Outbox,
     // Where the bytes of an event are decoded: there is room for those of any line.
     bytes: Vec<u8>,
@@ -34,7 +35,7 @@ pub struct Sites {
 
 impl Model for Sites {
     ghost use Rattle.std.specs.Prelude.{◌≤◌, length, vec_capacity};
-    ghost use Rattle.commands.specs.Machine.{State};
+    ghost use Rattle.machine.specs.Machine.{State};
     ghost use Rattle.script_io.specs.declared.lines.TheConstants.{MAX_LINE};
     ghost use Rattle.script_runs.specs.declared.settings.TheConstants.{MAX_SITES};
 
@@ -64,7 +65,7 @@ impl Sites {
         let bytes = Vec::with_capacity(alloc, MAX_LINE)?;
         let mut desks = Vec::new(alloc);
         for i in 0..count {
-            desks.push(Desk::new(alloc, SiteNo::new(first + i).unwrap())?)?;
+            desks.push(Texts::new(alloc, SiteNo::new(first + i).unwrap())?)?;
         }
         Ok(Sites {
             first,
@@ -136,7 +137,7 @@ impl Sites {
     fn edit(&mut self, desk: usize, text: TextNo, asked: &Edit) -> Result<u32, EditRefusal>
         requires in_run { desk < length self.old.desks }
         requires on_desk { text ≤ MAX_TEXT }
-        requires short { IsShort MAX_LINE asked.now }
+        requires short { TypesAtMost MAX_LINE asked.now }
         ensures { (messages : List (List ℕ))
             × Replies self.old (edit desk text (edit_of asked.now)) (edit_reply result messages) self.new }
     {

@@ -1,5 +1,5 @@
 ghost use Rattle.std.specs.Prelude.{◌≡◌, ℕ, ◌≤◌, length, option_map, IfSome};
-ghost use Rattle.script_events.specs.EventView.{edit_of, IsShort};
+ghost use Rattle.script_events.specs.EventView.{edit_of, TypesAtMost};
 ghost use Rattle.script_events.specs.Script.{type_edit, cut_edit, looks_edit, recall_edit, edit_in};
 
 use crate::escaped::Escaped;
@@ -10,7 +10,7 @@ use crate::event::words::{cut_number, number_in};
 // What `type` goes on with behind its text: a position and the bytes.
 fn type_edit(rest: &[u8]) -> Option<Edit<'_>>
     ensures edit { option_map edit_of result ≡ type_edit rest.now }
-    ensures short { IfSome result (λ edit. (len : ℕ) → length rest.now ≤ len → IsShort len edit) }
+    ensures short { IfSome result (λ edit. (len : ℕ) → length rest.now ≤ len → TypesAtMost len edit) }
 {
     let (pos, raw) = cut_number(rest)?;
     Some(Edit::TypeIn {
@@ -22,7 +22,7 @@ fn type_edit(rest: &[u8]) -> Option<Edit<'_>>
 // `cut`: from where to where.
 fn cut_edit(rest: &[u8]) -> Option<Edit<'_>>
     ensures edit { option_map edit_of result ≡ cut_edit rest.now }
-    ensures short { IfSome result (λ edit. (len : ℕ) → IsShort len edit) }
+    ensures short { IfSome result (λ edit. (len : ℕ) → TypesAtMost len edit) }
 {
     let (beg, end) = cut_number(rest)?;
     let end = u64::from(number_in(end)?);
@@ -32,7 +32,7 @@ fn cut_edit(rest: &[u8]) -> Option<Edit<'_>>
 // `looks`: from where to where, and the attributes.
 fn looks_edit(rest: &[u8]) -> Option<Edit<'_>>
     ensures edit { option_map edit_of result ≡ looks_edit rest.now }
-    ensures short { IfSome result (λ edit. (len : ℕ) → IsShort len edit) }
+    ensures short { IfSome result (λ edit. (len : ℕ) → TypesAtMost len edit) }
 {
     let (beg, rest) = cut_number(rest)?;
     let (end, words) = cut_number(rest)?;
@@ -48,7 +48,7 @@ fn looks_edit(rest: &[u8]) -> Option<Edit<'_>>
 // `recall`: a position.
 fn recall_edit(rest: &[u8]) -> Option<Edit<'_>>
     ensures edit { option_map edit_of result ≡ recall_edit rest.now }
-    ensures short { IfSome result (λ edit. (len : ℕ) → IsShort len edit) }
+    ensures short { IfSome result (λ edit. (len : ℕ) → TypesAtMost len edit) }
 {
     let pos = u64::from(number_in(rest)?);
     Some(Edit::Recall { pos })
@@ -57,7 +57,7 @@ fn recall_edit(rest: &[u8]) -> Option<Edit<'_>>
 // The edit that a verb asks for with what stands behind the text: a row for each verb.
 pub(crate) fn edit_in<'a>(verb: &[u8], rest: &'a [u8]) -> Option<Edit<'a>>
     ensures edit { option_map edit_of result ≡ edit_in verb.now rest.now }
-    ensures short { IfSome result (λ edit. (len : ℕ) → length rest.now ≤ len → IsShort len edit) }
+    ensures short { IfSome result (λ edit. (len : ℕ) → length rest.now ≤ len → TypesAtMost len edit) }
 {
     if verb == b"type".as_slice() {
         type_edit(rest)

@@ -3,7 +3,7 @@ ghost use Rattle.std.specs.Str.{all_ascii_digits};
 ghost use Rattle.script_events.specs.Words.{cut_word, number_in, cut_number, desk_in, text_in};
 
 use char_files::TextNo;
-use commands::MAX_TEXT;
+use machine::MAX_TEXT;
 
 // The word up to the first blank, and what stands behind that blank.
 pub(crate) fn cut_word(bytes: &[u8]) -> Option<(&[u8], &[u8])>

@@ -1,22 +1,23 @@
 use super::is;
 use char_files::{SiteNo, TextNo};
-use commands::{Desk, MAX_TEXT};
+use desk_texts::Texts;
 use looks::Refusal;
+use machine::MAX_TEXT;
 use std::alloc::Global;
 use std::test::Fail;
 use texts::{EditRefusal, Outbox};
 
 // Site 1's desk; what is refused memory once is tried again.
-fn desk_of_site_1(alloc: Global) -> Result<Desk, Fail> {
+fn desk_of_site_1(alloc: Global) -> Result<Texts, Fail> {
     let site = SiteNo::new(1).ok_or("site 1")?;
-    match Desk::new(alloc, site) {
+    match Texts::new(alloc, site) {
         Ok(desk) => Ok(desk),
-        Err(_) => Ok(Desk::new(alloc, site)?),
+        Err(_) => Ok(Texts::new(alloc, site)?),
     }
 }
 
 // Prints a text; what is refused memory once is tried again.
-fn prints(desk: &Desk, text: TextNo, want: &[u8]) -> Result<(), Fail> {
+fn prints(desk: &Texts, text: TextNo, want: &[u8]) -> Result<(), Fail> {
     if MAX_TEXT < text.get() {
         return Err("a text".into());
     }
@@ -29,7 +30,7 @@ fn prints(desk: &Desk, text: TextNo, want: &[u8]) -> Result<(), Fail> {
 
 // Types 4,096 bytes at most.
 fn type_in(
-    desk: &mut Desk,
+    desk: &mut Texts,
     text: TextNo,
     (pos, bytes): (u64, &[u8]),
     outbox: &mut Outbox,
@@ -49,7 +50,7 @@ const EDITS: &[(u64, &[u8], &[u8], &[u8])] = &[
 // Makes an edit, which one message sends. Where memory is refused, the text is as it was before and no message is
 // sent, and the edit is tried again.
 fn goes_in(
-    desk: &mut Desk,
+    desk: &mut Texts,
     text: TextNo,
     (pos, bytes, before, after): &(u64, &[u8], &[u8], &[u8]),
     outbox: &mut Outbox,
@@ -73,7 +74,7 @@ const FIRST_MESSAGE: &[u8] =
     \x00\x00\x00\x00\x00\x00\x00\x00\x00\x00\
     \x10Oberon10.Scn.Fnt\x01\x00\x00\x02AC";
 
-fn all_go_in(desk: &mut Desk, text: TextNo, outbox: &mut Outbox) -> Result<(), Fail> {
+fn all_go_in(desk: &mut Texts, text: TextNo, outbox: &mut Outbox) -> Result<(), Fail> {
     for edit in EDITS {
         goes_in(desk, text, edit, outbox)?;
     }

@@ -1,5 +1,5 @@
 use Rattle.std.proofs.Common.{◌≡◌, false, length, sym, ap, ◌∙◌, arith}
-use Rattle.commands.specs.Machine.{State, unknown}
+use Rattle.machine.specs.Machine.{State, unknown}
 use Rattle.script_events.specs.EventView.{event_or_unknown}
 use Rattle.script_events.specs.Script.{event_in}
 use Rattle.script_runs.specs.Trace.{is_silent}

@@ -1,5 +1,5 @@
 use Rattle.texts.specs.Edit.{deletion, looks_change, recalling, restoration}
-use Rattle.commands.specs.Machine.{State, edit}
+use Rattle.machine.specs.Machine.{State, edit}
 use Rattle.script_runs.proofs.Lifting.{desk_changed}
 use Rattle.script_runs.proofs.sites.Sites.edit.Goals as goal
 

@@ -3,7 +3,7 @@ use Rattle.std.specs.Prelude.{slice_get, slice_set}
 use Rattle.std.specs.Vec.{with_items}
 use Rattle.std.proofs.lemmas.List.{length-append, length-set, with_items_is}
 use Rattle.std.proofs.lemmas.Option.{slice_get_read}
-use Rattle.commands.specs.Machine.{State}
+use Rattle.machine.specs.Machine.{State}
 use Rattle.script_runs.proofs.Merging.{merged_into_back, merged_into_front, merged_itself}
 use Rattle.script_runs.proofs.sites.Sites.merge.Goals as goal
 

@@ -1,8 +1,8 @@
 use Rattle.std.proofs.Common.{◌≡◌, ◌+◌, ◌++◌, ◌∷◌, [], List, sym, ap, ◌∙◌, arith}
 use Rattle.std.proofs.lemmas.List.{length-map}
 use Rattle.std.proofs.lemmas.List.FromFn.{length-range_with_len}
-use Rattle.commands.proofs.Counted.{map-range-more}
-use Rattle.commands.specs.DeskState.{DeskState, new_desk}
+use Rattle.desk_texts.proofs.Counted.{map-range-more}
+use Rattle.machine.specs.DeskState.{DeskState, new_desk}
 use Rattle.script_runs.proofs.sites.Sites.new.Goals as goal
 
 pub loop-i-preserved : goal.loop-i-preserved

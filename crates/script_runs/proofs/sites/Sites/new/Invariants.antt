@@ -1,6 +1,6 @@
 use Rattle.std.proofs.Common.{◌≡◌, map}
 use Rattle.std.specs.List.{range_with_len}
-use Rattle.commands.specs.DeskState.{new_desk}
+use Rattle.machine.specs.DeskState.{new_desk}
 use Rattle.script_runs.proofs.sites.Sites.new.Given as goal
 
 abbrev pub invariant-loop-i : goal.invariant-loop-i

@@ -1,7 +1,7 @@
 use Rattle.std.proofs.Common.{◌≡◌, Some, length, refl}
 use Rattle.std.specs.Prelude.{slice_get}
 use Rattle.std.proofs.lemmas.Option.{slice_get_read}
-use Rattle.commands.specs.Machine.{State, print_fronts, print_runs, print_text}
+use Rattle.machine.specs.Machine.{State, print_fronts, print_runs, print_text}
 use Rattle.script_runs.proofs.Replying.{query_asked}
 use Rattle.script_runs.proofs.sites.Sites.query.Goals as goal
 

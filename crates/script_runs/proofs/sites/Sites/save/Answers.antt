@@ -1,4 +1,4 @@
-use Rattle.commands.specs.Machine.{State, copy}
+use Rattle.machine.specs.Machine.{State, copy}
 use Rattle.script_runs.proofs.Lifting.{desk_changed}
 use Rattle.script_runs.proofs.sites.Sites.save.Goals as goal
 

@@ -1,4 +1,4 @@
-use Rattle.commands.specs.Machine.{State}
+use Rattle.machine.specs.Machine.{State}
 use Rattle.script_runs.proofs.Lifting.{desk_settled}
 use Rattle.script_runs.proofs.sites.Sites.settle.Goals as goal
 

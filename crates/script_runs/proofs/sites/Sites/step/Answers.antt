@@ -1,5 +1,5 @@
 use Rattle.std.proofs.Common.{◌≡◌, length, Ok, Err, refl, ap, ◌∙◌}
-use Rattle.commands.specs.Machine.{State, copy, edit, merge_reply, settles}
+use Rattle.machine.specs.Machine.{State, copy, edit, merge_reply, settles}
 use Rattle.script_events.specs.EventView.{delivery_of, edit_of, query_of}
 use Rattle.script_runs.proofs.Replying.{change_step, query_step, query_short, take_step}
 use Rattle.script_runs.proofs.sites.Sites.step.Goals as goal

@@ -1,7 +1,7 @@
 use Rattle.std.proofs.Common.{◌≡◌, ◌++◌, ℕ, List, Some, length, refl, ap, ◌∙◌}
 use Rattle.std.specs.Prelude.{slice_get}
 use Rattle.std.proofs.lemmas.Option.{slice_get_read}
-use Rattle.commands.specs.Machine.{State, bytes}
+use Rattle.machine.specs.Machine.{State, bytes}
 use Rattle.script_runs.proofs.Lifting.{take_lifted}
 use Rattle.script_runs.proofs.sites.Sites.take.Goals as goal
 

@@ -1,7 +1,7 @@
 use Rattle.std.proofs.Common.{◌≡◌, ◌<◌, Some, length, refl, arith}
 use Rattle.std.specs.Prelude.{slice_get}
 use Rattle.std.proofs.lemmas.Option.{slice_get_read}
-use Rattle.commands.specs.Machine.{State, sent}
+use Rattle.machine.specs.Machine.{State, sent}
 use Rattle.script_runs.proofs.Lifting.{take_lifted}
 use Rattle.script_runs.proofs.Replying.{message_sent}
 use Rattle.script_runs.proofs.sites.Sites.take_sent.Goals as goal

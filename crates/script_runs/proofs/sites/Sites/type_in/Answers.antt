@@ -1,5 +1,5 @@
 use Rattle.std.proofs.Common.{◌≡◌, ◌++◌, ℕ, List, ap, ◌∙◌}
-use Rattle.commands.specs.Machine.{State, edit}
+use Rattle.machine.specs.Machine.{State, edit}
 use Rattle.script_events.specs.Script.{typing}
 use Rattle.script_runs.proofs.Lifting.{desk_changed}
 use Rattle.script_runs.proofs.sites.Sites.type_in.Goals as goal

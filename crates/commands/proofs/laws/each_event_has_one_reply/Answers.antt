@@ -1,7 +1,0 @@
-use Rattle.commands.proofs.OneReply.{one_reply}
-use Rattle.commands.proofs.laws.each_event_has_one_reply.Goals as goal
-
-pub returns : goal.returns
-returns c =
-    one_reply c.edits_end_one_way.ensures c.takings_end_one_way.ensures c.drainings_end_one_way.ensures
-    c.merges_end_one_way.ensures c.runs_are_maximal.ensures.only

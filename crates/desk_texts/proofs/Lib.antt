@@ -1,0 +1,4 @@
+pub mod Counted
+pub mod CountingRuns
+pub mod Lifting
+pub mod TextEdits

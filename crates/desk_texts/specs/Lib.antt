@@ -1,0 +1,2 @@
+pub mod RunSoFar
+pub mod TextStep

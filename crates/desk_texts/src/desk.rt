@@ -1,0 +1,234 @@
+ghost use Rattle.std.specs.Borrow.{Lends, sem};
+ghost use Rattle.std.specs.Prelude.{◌≡◌, ◌≤◌, map, length, IfOk};
+ghost use Rattle.looks.specs.Looks.{plain_looks};
+ghost use Rattle.looks.specs.Refusal.{RefusedForMemoryAlone};
+ghost use Rattle.texts.specs.Edit.{deletion, insertion, looks_change, recalling, restoration};
+ghost use Rattle.texts.specs.Text.{IsText};
+ghost use Rattle.texts.specs.TextState.{TextState};
+ghost use Rattle.texts.specs.contracts.replica.Replica.{the_row as replica_row};
+ghost use Rattle.machine.specs.DeskState.{IsTextOf, new_desk, with_text};
+ghost use Rattle.machine.specs.Machine.{copy, edit};
+ghost use Rattle.machine.specs.Machine.{EditsDesk, MergesDesk, QueriesDesk, SettlesDesk, TakesDesk};
+ghost use Rattle.machine.specs.Machine.{print_fronts, print_runs, print_text};
+ghost use Rattle.desk_texts.specs.contracts.desk.Texts.{the_row};
+
+use crate::editing::{change_looks_in, copy_out_of, cut_out_of, recall_into, type_into};
+use crate::printing::{front_lines, text_lines};
+use crate::runs::run_lines;
+use char_files::{MAX_FILE, SiteNo, TextNo};
+use looks::{Looks, Refusal, Sel};
+use machine::MAX_TEXT;
+use std::alloc::Global;
+use std::marker::Model;
+use texts::{EditRefusal, MergeRefusal, Outbox, Replica, Settled, Took};
+
+/// One site's texts, 1 to 16, each empty until it is first changed. This project's own.
+#[derive(Drop)]
+pub struct Texts {
+    site: SiteNo,
+    texts: Vec<Replica>,
+}
+
+impl Model for Texts {
+    ghost use Rattle.std.specs.Prelude.{◌≡◌, length};
+    ghost use Rattle.machine.specs.DeskState.{DeskState};
+    ghost use Rattle.machine.specs.declared.TheConstants.{MAX_TEXT};
+
+    ghost Value = { DeskState };
+
+    ghost view = { λ d. record { site = d.site; texts = d.texts.items } };
+
+    ghost invariant = { λ d. length d.texts.items ≡ MAX_TEXT };
+}
+
+impl Texts {
+    /// A site's desk as it begins. Refused `OutOfMemory` alone.
+    pub fn new(alloc: Global, site: SiteNo) -> Result<Texts, Refusal>
+        ensures ok { IfOk result (λ desk. desk ≡ new_desk site) }
+        ensures errors { RefusedForMemoryAlone result }
+    {
+        // All sixteen at once: an empty replica takes no memory, and no event has to make its text first.
+        let mut texts = Vec::new(alloc);
+        for number in 1..MAX_TEXT + 1 {
+            texts.push(Replica::new(alloc, TextNo::new(number).unwrap(), site)?)?;
+        }
+        Ok(Texts { site, texts })
+    }
+
+    /// Types bytes of default looks at a position of a text.
+    ///
+    /// This and the other edits answer how many messages they added to the Outbox. They are refused
+    /// `OutOfRange` where a position lies outside the text, else as the replica refuses them; an empty edit is
+    /// refused for its positions alone. Want of memory may come ahead of the replica's other refusals.
+    pub fn type_in(
+        &mut self,
+        text: TextNo,
+        pos: u64,
+        bytes: &[u8],
+        outbox: &mut Outbox,
+    ) -> Result<u32, EditRefusal>
+        requires on_desk { text ≤ MAX_TEXT }
+        requires short { length bytes.now ≤ MAX_FILE }
+        ensures { EditsDesk self.old (edit 0 text (insertion pos (map (λ b. (b, plain_looks)) bytes.now)))
+            result self.new outbox.old outbox.new }
+    {
+        let alloc = *self.texts.allocator();
+        let replica = self.replica_mut(text);
+        type_into(alloc, replica, pos, bytes, outbox)
+    }
+
+    /// Takes the characters from `beg` to `end` out of a text; they are kept for `recall` and `restore`.
+    pub fn cut(
+        &mut self,
+        text: TextNo,
+        beg: u64,
+        end: u64,
+        outbox: &mut Outbox,
+    ) -> Result<u32, EditRefusal>
+        requires on_desk { text ≤ MAX_TEXT }
+        ensures { EditsDesk self.old (edit 0 text (deletion beg end)) result self.new outbox.old outbox.new }
+    {
+        let replica = self.replica_mut(text);
+        cut_out_of(replica, beg, end, outbox)
+    }
+
+    /// Gives the characters from `beg` to `end` of a text the looks that are selected.
+    pub fn change_looks(
+        &mut self,
+        text: TextNo,
+        beg: u64,
+        end: u64,
+        sel: Sel,
+        looks: &Looks,
+        outbox: &mut Outbox,
+    ) -> Result<u32, EditRefusal>
+        requires on_desk { text ≤ MAX_TEXT }
+        ensures { EditsDesk self.old (edit 0 text (looks_change beg end sel looks.now)) result
+            self.new outbox.old outbox.new }
+    {
+        let replica = self.replica_mut(text);
+        change_looks_in(replica, beg, end, sel, looks, outbox)
+    }
+
+    /// Puts a copy of what was cut last out of a text into it, at a position.
+    pub fn recall(
+        &mut self,
+        text: TextNo,
+        pos: u64,
+        outbox: &mut Outbox,
+    ) -> Result<u32, EditRefusal>
+        requires on_desk { text ≤ MAX_TEXT }
+        ensures { EditsDesk self.old (edit 0 text (recalling pos)) result self.new outbox.old outbox.new }
+    {
+        let replica = self.replica_mut(text);
+        recall_into(replica, pos, outbox)
+    }
+
+    /// Shows again what was cut last out of a text.
+    pub fn restore(&mut self, text: TextNo, outbox: &mut Outbox) -> Result<u32, EditRefusal>
+        requires on_desk { text ≤ MAX_TEXT }
+        ensures { EditsDesk self.old (edit 0 text restoration) result self.new outbox.old outbox.new }
+    {
+        self.replica_mut(text).restore(outbox)
+    }
+
+    /// Puts a copy of the characters from `beg` to `end` of a text into another one, or into itself, at a
+    /// position. Refused `FileSpent`, behind `OutOfRange`, where there are more than 2^24.
+    pub fn save(
+        &mut self,
+        text: TextNo,
+        beg: u64,
+        end: u64,
+        other: TextNo,
+        pos: u64,
+        outbox: &mut Outbox,
+    ) -> Result<u32, EditRefusal>
+        requires on_desk { text ≤ MAX_TEXT }
+        requires other_on_desk { other ≤ MAX_TEXT }
+        ensures { EditsDesk self.old (copy 0 text beg end other pos) result self.new outbox.old outbox.new }
+    {
+        match copy_out_of(self.replica(text), beg, end, self.replica(other), pos) {
+            Ok(buffer) => self.replica_mut(other).insert(pos, &buffer, outbox),
+            Err(why) => Err(EditRefusal::Whole(why)),
+        }
+    }
+
+    /// Takes a message for a text, as its replica does.
+    pub fn take(&mut self, text: TextNo, message: &[u8]) -> Result<Took, Refusal>
+        requires on_desk { text ≤ MAX_TEXT }
+        ensures { TakesDesk self.old text message.now result self.new }
+    {
+        self.replica_mut(text).take(message)
+    }
+
+    /// Drains what waits for a text, as its replica does.
+    pub fn settle(&mut self, text: TextNo) -> Settled
+        requires on_desk { text ≤ MAX_TEXT }
+        ensures { SettlesDesk self.old text result.drained result.dropped result.stopped self.new }
+    {
+        self.replica_mut(text).settle()
+    }
+
+    /// Takes in what another desk's text of this number holds, as its replica does.
+    pub fn merge(&mut self, text: TextNo, other: &Texts) -> Result<u64, MergeRefusal>
+        requires on_desk { text ≤ MAX_TEXT }
+        ensures { MergesDesk self.old text other.now result self.new }
+    {
+        self.replica_mut(text).merge_from(other.replica(text))
+    }
+
+    /// A law: the desk has a text of this number, and it is what its operations define. A proof gets it by calling
+    /// this, at no cost.
+    pub fn has_text(&self, text: TextNo)
+        requires { text ≤ MAX_TEXT }
+        ensures { (t : TextState) × IsTextOf self.now text t × IsText t }
+    {
+        self.replica(text).is_text();
+    }
+
+    /// The line that prints a text: its length and its characters. Refused `OutOfMemory` alone.
+    pub fn text(&self, text: TextNo) -> Result<Vec<u8>, Refusal>
+        requires { text ≤ MAX_TEXT }
+        ensures ok { IfOk result (λ lines. QueriesDesk self.now text print_text lines.items) }
+        ensures errors { RefusedForMemoryAlone result }
+    {
+        text_lines(*self.texts.allocator(), self.replica(text))
+    }
+
+    /// The lines that print the fronts of a text: of each site of which it has operations, and how many
+    /// wait. Refused `OutOfMemory` alone.
+    pub fn front(&self, text: TextNo) -> Result<Vec<u8>, Refusal>
+        requires on_desk { text ≤ MAX_TEXT }
+        ensures ok { IfOk result (λ lines. QueriesDesk self.now text print_fronts lines.items) }
+        ensures errors { RefusedForMemoryAlone result }
+    {
+        front_lines(*self.texts.allocator(), self.replica(text))
+    }
+
+    /// The lines that print the looks of a text: of each maximal run of equal looks, and how many characters
+    /// it has. Refused `OutOfMemory` alone.
+    pub fn runs(&self, text: TextNo) -> Result<Vec<u8>, Refusal>
+        requires on_desk { text ≤ MAX_TEXT }
+        ensures ok { IfOk result (λ lines. QueriesDesk self.now text print_runs lines.items) }
+        ensures errors { RefusedForMemoryAlone result }
+    {
+        run_lines(*self.texts.allocator(), self.replica(text))
+    }
+
+    // The replica of a text.
+    fn replica(&self, text: TextNo) -> &Replica
+        requires { text ≤ MAX_TEXT }
+        ensures { IsTextOf self.now text result.now }
+    {
+        &self.texts[text.get() as usize - 1]
+    }
+
+    // The same, to be changed.
+    fn replica_mut(&mut self, text: TextNo) -> &mut Replica
+        requires { text ≤ MAX_TEXT }
+        ensures* writes_back { sem 𝓛 (Lends the_row replica_row self.entry result (with_text self.old text)) }
+        ensures value { IsTextOf self.old text result.now }
+    {
+        &mut self.texts[text.get() as usize - 1]
+    }
+}

@@ -1,0 +1,9 @@
+//! One site's texts, with a call for each event that a script may ask of them.
+#![tactic(auto)]
+
+mod desk;
+mod editing;
+mod printing;
+mod runs;
+
+pub use desk::Texts;

@@ -1,0 +1,94 @@
+ghost use Rattle.std.specs.Prelude.{◌≡◌, ◌++◌, OnOk, IfOk};
+ghost use Rattle.std.specs.Fmt.{decimal};
+ghost use Rattle.looks.specs.Refusal.{RefusedForMemoryAlone};
+ghost use Rattle.machine.specs.Machine.{Prints, print_fronts};
+ghost use Rattle.texts.specs.TextState.{shown_of};
+ghost use Rattle.machine.specs.Printing.{front_line, print_of, printed_byte, text_lines, waiting_line};
+
+use char_files::SiteNo;
+use looks::Refusal;
+use std::alloc::{AllocError, Global};
+use texts::Replica;
+
+// Appends a number. After an `Err` of this and of the others that append, some of it may stand there.
+pub(crate) fn put_number(out: &mut Vec<u8>, number: u64) -> Result<(), AllocError>
+    ensures { OnOk result (out.new.items ≡ out.old.items ++ decimal number) }
+{
+    out.extend_from_slice(itoa::Buffer::new().format(number).as_bytes())
+}
+
+// Appends a byte of a text as answers print it.
+fn put_printed(out: &mut Vec<u8>, byte: u8) -> Result<(), AllocError>
+    ensures { OnOk result (out.new.items ≡ out.old.items ++ printed_byte byte) }
+{
+    if 32 <= byte && byte <= 126 && byte != b'\\' {
+        out.push(byte)?;
+        return Ok(());
+    }
+    let mut digits = [0; 2];
+    let _ = hex::encode_to_slice([byte].as_slice(), &mut digits);
+    out.push(b'\\')?;
+    out.extend_from_slice(&digits)
+}
+
+// Appends the characters that a replica shows, as answers print them.
+fn put_shown(out: &mut Vec<u8>, replica: &Replica) -> Result<(), AllocError>
+    ensures { OnOk result (out.new.items ≡ out.old.items ++ print_of (shown_of replica.now)) }
+{
+    for char in replica.shown() {
+        put_printed(out, char.byte)?;
+    }
+    Ok(())
+}
+
+// The line that prints a replica's text.
+pub(crate) fn text_lines(alloc: Global, replica: &Replica) -> Result<Vec<u8>, Refusal>
+    ensures ok { IfOk result (λ lines. lines.items ≡ text_lines replica.now) }
+    ensures errors { RefusedForMemoryAlone result }
+{
+    let mut lines = Vec::from_slice(alloc, b"text ")?;
+    let len = replica.shown_len();
+    put_number(&mut lines, len)?;
+    if len != 0 {
+        lines.push(b' ')?;
+    }
+    put_shown(&mut lines, replica)?;
+    lines.push(b'\n')?;
+    Ok(lines)
+}
+
+// Appends the line of a site's front.
+fn put_front(out: &mut Vec<u8>, site: SiteNo, front: u32) -> Result<(), AllocError>
+    ensures { OnOk result (out.new.items ≡ out.old.items ++ front_line site front) }
+{
+    out.extend_from_slice(b"front ")?;
+    put_number(out, u64::from(site.get()))?;
+    out.push(b' ')?;
+    put_number(out, u64::from(front))?;
+    out.push(b'\n')?;
+    Ok(())
+}
+
+// Appends the line of how many operations wait.
+fn put_waiting(out: &mut Vec<u8>, count: u32) -> Result<(), AllocError>
+    ensures { OnOk result (out.new.items ≡ out.old.items ++ waiting_line count) }
+{
+    out.extend_from_slice(b"waiting ")?;
+    put_number(out, u64::from(count))?;
+    out.push(b'\n')?;
+    Ok(())
+}
+
+// The lines that print a replica's fronts.
+pub(crate) fn front_lines(alloc: Global, replica: &Replica) -> Result<Vec<u8>, Refusal>
+    ensures ok { IfOk result (λ lines. Prints print_fronts replica.now lines.items) }
+    ensures errors { RefusedForMemoryAlone result }
+{
+    let sites = replica.sites()?;
+    let mut lines = Vec::new(alloc);
+    for site in &sites {
+        put_front(&mut lines, *site, replica.front(*site))?;
+    }
+    put_waiting(&mut lines, replica.waiting())?;
+    Ok(lines)
+}

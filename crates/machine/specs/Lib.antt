@@ -1,0 +1,3 @@
+pub mod DeskState
+pub mod Machine
+pub mod Printing

@@ -1,0 +1,9 @@
+//! The machine of events, as definitions: what a run of several sites may reply to an event, and how it goes on.
+#![tactic(auto)]
+
+mod limits;
+
+pub use limits::the_limits;
+
+/// The greatest number of a text on a desk; the least is 1. This project's own.
+pub const MAX_TEXT: u16 = 16;

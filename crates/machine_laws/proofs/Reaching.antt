@@ -1,0 +1,306 @@
+-- What a run comes to: each text is what its operations define, by the steps that led there.
+use Rattle.std.proofs.Common.{◌≡◌, ℕ, zero, suc, ◌≤◌, ◌-◌, length, take, true, false, Bool, List, [], ◌∷◌, map, Option}
+use Rattle.std.proofs.Common.{Some, None, Result, Ok, Err, sym, ap, subst, ◌∙◌, inl, inr, arith}
+use Rattle.std.specs.Prelude.{◌⊎◌, IsTrue, MatchOption, nat_lt, option_map, slice_get, slice_set}
+use Rattle.std.specs.List.{range_with_len}
+use Rattle.std.specs.Option.{option_map_or}
+use Rattle.std.proofs.lemmas.List.Elements.{All-nil}
+use Rattle.std.proofs.lemmas.Option.{same_Some, slice_get-map}
+use Rattle.looks.specs.declared.refusal.Refusal.{Refusal}
+use Rattle.looks.specs.declared.refusal.Refusal.TheVariants.{BadEvent, Conflict, WrongText}
+use Rattle.char_files.specs.declared.TheConstants.{MAX_FILE}
+use Rattle.char_files.specs.CharName.{CharName}
+use Rattle.operations.specs.NameSet.{IsAmong}
+use Rattle.operations.specs.Operation.{Operation}
+use Rattle.tree_order.specs.Good.{Good}
+use Rattle.tree_order.specs.Sequential.{OneWriterGoesBehindCauses}
+use Rattle.set_laws.specs.Sets.{AreIdentified}
+use Rattle.texts.specs.Edit.{Edit, is_in_text, plan, with_operation}
+use Rattle.texts.specs.Laws.{OwnEditsArePlain}
+use Rattle.texts.specs.Outcome.{Edits, EditsShort, Stand, count_standing, first_refusal, refusal_for, refusal_or}
+use Rattle.texts.specs.Merge.{Merges, MergesShort}
+use Rattle.texts.specs.Take.{Becomes, HasFate, Stays, TakesIn}
+use Rattle.texts.specs.Text.{IsText}
+use Rattle.texts.specs.TextState.{TextState, empty_text}
+use Rattle.texts.specs.declared.edit_refusal.EditRefusal.{EditRefusal}
+use Rattle.texts.specs.declared.edit_refusal.EditRefusal.TheVariants.{Whole, Partial}
+use Rattle.texts.specs.declared.fate.Fate.{Fate}
+use Rattle.texts.specs.declared.fate.Fate.TheVariants.{OtherText, Known, Conflicting, AlreadyWaits, Wait, WrongOffset}
+use Rattle.texts.specs.declared.fate.Fate.TheVariants.{LowStamp, Ready}
+use Rattle.texts.specs.declared.merge_refusal.MergeRefusal.{MergeRefusal}
+use Rattle.texts.specs.declared.merge_refusal.MergeRefusal.TheVariants.{Whole as MergesNothing, Stopped}
+use Rattle.texts.specs.declared.took.Took.{Took}
+use Rattle.machine.specs.DeskState.{DeskState, InText, IsTextOf, new_desk}
+use Rattle.machine_laws.specs.Laws.{AreTexts, Reached, begins, goes_on}
+use Rattle.machine.specs.Machine.{CopiesText, CopiesTextShort, Does, EditsText, EditsTextShort, Event, InDesk}
+use Rattle.machine.specs.Machine.{IsTextAt, MergesText, MergesTextShort, Replies, Reply, SettlesText, Short, State}
+use Rattle.machine.specs.Machine.{TakesText, TakesTextShort, copied, copy, edit, is_copy_in, merge, message_in}
+use Rattle.machine.specs.Machine.{messages_of, new_state, query, refuses, settle, unknown}
+use Rattle.machine.specs.Machine.{take as taking}
+use Rattle.machine_laws.proofs.Rooms.{by_test, drained_is_text, entered}
+
+-- an element of a list in which one was set is that one or was there before
+pub set_cases : {A : Type 0} (xs : List A) (i j : ℕ) (y z : A) → slice_get (slice_set xs i y) j ≡ Some z
+    → (z ≡ y) ⊎ (slice_get xs j ≡ Some z)
+set_cases [] i j y z at = inr at
+set_cases (x ∷ xs) zero zero y z at = inl (sym (same_Some y z at))
+set_cases (x ∷ xs) zero (suc j) y z at = inr at
+set_cases (x ∷ xs) (suc i) zero y z at = inr at
+set_cases (x ∷ xs) (suc i) (suc j) y z at = set_cases xs i j y z at
+
+no_name : (c : CharName) → IsAmong [] c → ⊥
+no_name c (k, r, within, read, holds) = omega (arith, within)
+
+-- the first of none are none
+first_of_none : Good [] → (n : ℕ) → Good (take n [])
+first_of_none good zero = good
+first_of_none good (suc n) = good
+
+-- a text where nothing was taken in
+empty_is_text : (good : Good []) (identified : AreIdentified []) (order : OneWriterGoesBehindCauses) (text site : ℕ)
+    → IsText (empty_text text site)
+empty_is_text good identified order text site = record {
+  good = good;
+  identified = identified;
+  of_text = All-nil _;
+  chars = record {
+    order = order [] site 0 good (λ k op e. absurd cc) (omega arith);
+    bytes = All-nil _;
+    looks = All-nil _;
+  };
+  kept = λ c named. absurd (no_name c named);
+  in_order = λ n. first_of_none good n;
+  waiting = record { of_text = All-nil _; identified = identified; few = omega arith };
+}
+
+of_option : {A B : Type 0} (f : A → B) (o : Option A) (b : B) → option_map f o ≡ Some b → (a : A) × (f a ≡ b)
+of_option f None b e = absurd cc
+of_option f (Some a) b e = (a, same_Some (f a) b e)
+
+-- an element of a mapped list is made of one
+mapped : {A B : Type 0} (f : A → B) (xs : List A) (i : ℕ) (b : B) → slice_get (map f xs) i ≡ Some b
+    → (a : A) × (f a ≡ b)
+mapped f xs i b at = of_option f (slice_get xs i) b (sym (slice_get-map f xs i) ∙ at)
+
+-- the texts of a new run are empty
+new_texts : (first count i text : ℕ) (t : TextState) → IsTextAt (new_state first count) i text t
+    → (number site : ℕ) × (empty_text number site ≡ t)
+new_texts first count i text t (d, at, there) =
+    let (site, is) = mapped new_desk (range_with_len first count) i d at in
+    let here : slice_get (new_desk site).texts (text - 1) ≡ Some t =
+    ap (λ (x : DeskState). slice_get x.texts (text - 1)) is ∙ there in
+    let (number, same) = mapped (λ (n : ℕ). empty_text n site) (range_with_len 1 16) (text - 1) t here in
+    (number, site, same)
+
+-- each text of a desk is what its operations define
+abbrev HasTexts : DeskState → Type 0
+HasTexts d = (text : ℕ) (t : TextState) → IsTextOf d text t → IsText t
+
+-- what a text does that leaves it defined leaves the desk's texts so
+in_text : (Does' : TextState → TextState → Type 0) (d d' : DeskState) (text : ℕ)
+    → ((t t' : TextState) → Does' t t' → IsText t → IsText t') → InText Does' d text d' → HasTexts d → HasTexts d'
+in_text Does' d d' text keeps (t, t', at, does, is) all number u there =
+    let texts : d'.texts ≡ slice_set d.texts (text - 1) t' = ap (λ (x : DeskState). x.texts) is in
+    elim (set_cases d.texts (text - 1) (number - 1) t' u (rw texts at there)) [
+      | inl same ↦ subst IsText (sym same) (keeps t t' does (all text t at))
+      | inr before ↦ all number u before
+    ]
+
+-- and what a desk does that leaves its texts so leaves the run's
+in_desk : (Does' : DeskState → DeskState → Type 0) (s new : State) (i : ℕ) (messages : List (List ℕ))
+    → ((d d' : DeskState) → Does' d d' → HasTexts d → HasTexts d') → InDesk Does' s i messages new → AreTexts s
+    → AreTexts new
+in_desk Does' s new i messages keeps (d, d', at, does, is) all j number u (x, there, is_text) =
+    let desks : new.desks ≡ slice_set s.desks i d' = ap (λ (x : State). x.desks) is in
+    elim (set_cases s.desks i j d' x (rw desks at there)) [
+      | inl same ↦ let in_new : IsTextOf d' number u = subst (λ (y : DeskState). IsTextOf y number u) same is_text in
+          keeps d d' does (λ k v in_d. all i k v (d, at, in_d)) number u in_new
+      | inr before ↦ all j number u (x, before, is_text)
+    ]
+
+stayed : (t new : TextState) (answer result : Result Took Refusal) → Stays t answer result new → IsText t
+    → IsText new
+stayed t new answer result (answered, same) is = subst IsText (sym same) is
+
+-- what is taken in, and the draining behind it, leave the text defined
+taken_in_text : (t : TextState) (op : Operation) (stopped : Bool) (result : Result Took Refusal) (new : TextState)
+    → TakesIn t op stopped result new → IsText new
+taken_in_text t op stopped result new (with_op, drained, dropped, taken, drains, answered) =
+    drained_is_text drains taken.is
+
+-- what becomes of an operation leaves the text defined
+after_fate : (t : TextState) (op : Operation) (fate : Fate) (result : Result Took Refusal) (new : TextState)
+    → Becomes t op fate result new → HasFate t op fate → IsText t → IsText new
+after_fate t op OtherText result new does fate is = stayed t new _ result does is
+after_fate t op Known result new does fate is = stayed t new _ result does is
+after_fate t op Conflicting result new does fate is = stayed t new _ result does is
+after_fate t op AlreadyWaits result new does fate is = stayed t new _ result does is
+after_fate t op Wait result new does fate is = entered t op result new does fate is
+after_fate t op WrongOffset result new does fate is = stayed t new _ result does is
+after_fate t op LowStamp result new does fate is = stayed t new _ result does is
+after_fate t op Ready result new does fate is = taken_in_text t op false result new does
+
+-- a message leaves the text defined
+takes_text : (message : List ℕ) (r : Reply) (t new : TextState) → TakesText message r t new → IsText t → IsText new
+takes_text message r t new (result, inl (spells_none, stays), replied) is = stayed t new _ result stays is
+takes_text message r t new (result, inr (op, fate, tells, has, becomes), replied) is =
+    after_fate t op fate result new becomes has is
+
+takes_text_short : (message : List ℕ) (r : Reply) (t new : TextState) → TakesTextShort message r t new → IsText t
+    → IsText new
+takes_text_short message r t new (result, inl (spells, stays), replied) is = stayed t new _ result stays is
+takes_text_short message r t new (result, inr (op, tells, has, takes_in), replied) is =
+    taken_in_text t op true result new takes_in
+
+-- so does a settling
+settles_text : (stopped : Bool) (r : Reply) (t new : TextState) → SettlesText stopped r t new → IsText t → IsText new
+settles_text stopped r t new (drained, dropped, drains, replied) is = drained_is_text drains is
+
+-- a merge that changes nothing
+left_by_merge : (t u : TextState) (why : Refusal) (new : TextState) → Merges t u (Err (MergesNothing why)) new
+    → new ≡ t
+left_by_merge t u WrongText new merges = merges.1
+left_by_merge t u Conflict new merges = merges.2
+left_by_merge t u why new merges = absurd merges
+
+-- and so does a merge
+merged : (t u : TextState) (result : Result ℕ MergeRefusal) (new : TextState) → Merges t u result new → IsText t
+    → IsText new
+merged t u (Ok count) new merges is = merges.2.is
+merged t u (Err (MergesNothing why)) new merges is = subst IsText (sym (left_by_merge t u why new merges)) is
+merged t u (Err (Stopped done)) new merges is = absurd merges
+
+merged_short : (t u : TextState) (result : Result ℕ MergeRefusal) (new : TextState) → MergesShort t u result new
+    → IsText new
+merged_short t u (Ok count) new merges = absurd merges
+merged_short t u (Err (MergesNothing why)) new merges = absurd merges
+merged_short t u (Err (Stopped done)) new merges = merges.2.is
+
+merges_text : (u : TextState) (r : Reply) (t new : TextState) → MergesText u r t new → IsText t → IsText new
+merges_text u r t new (result, merges, replied) is = merged t u result new merges is
+
+merges_text_short : (u : TextState) (r : Reply) (t new : TextState) → MergesTextShort u r t new → IsText t
+    → IsText new
+merges_text_short u r t new (result, merges, replied) is = merged_short t u result new merges
+
+-- a taking leaves each text defined, whether its message is told or not
+taken : (s : State) (i text : ℕ) (told : Option (List ℕ)) (r : Reply) (new : State)
+    → MatchOption told ((new ≡ s) × (r ≡ refuses BadEvent))
+    (λ message. InDesk (λ d d'. InText (TakesText message r) d text d') s i [] new)
+    → AreTexts s → AreTexts new
+taken s i text None r new does all = subst AreTexts (sym does.0) all
+taken s i text (Some message) r new does all =
+    in_desk _ s new i [] (λ d d'. in_text _ d d' text (takes_text message r)) does all
+
+-- no more operations stand than there are
+within_more : (why : Option Refusal) (later : Option (ℕ × Refusal)) (len : ℕ)
+    → option_map_or (λ stop. stop.0) later len ≤ len
+    → option_map_or (λ stop. stop.0) (refusal_or why later) (suc len) ≤ suc len
+within_more (Some why) later len le = omega arith
+within_more None None len le = omega arith
+within_more None (Some stop) len le = omega arith
+
+standing_within : (t : TextState) (ops : List Operation) → count_standing t ops ≤ length ops
+standing_within t [] = omega arith
+standing_within t (op ∷ ops) =
+    let after_it = with_operation t op in
+    within_more (refusal_for t op.kind) (first_refusal after_it ops) (length ops) (standing_within after_it ops)
+
+module _ (plain : OwnEditsArePlain) where
+  -- the first of an edit's operations leave the text defined
+  standing : (t : TextState) (e : Edit) (n : ℕ) (new : TextState) (messages : List (List ℕ)) → IsTrue (is_in_text t e)
+      → n ≤ length (plan t e) → Stand t (plan t e) n new messages → IsText t → IsText new
+  standing t e n new messages within few stand is = subst IsText (sym stand.text) (plain t e n is within few).text
+
+  edited : (t : TextState) (e : Edit) (result : Result ℕ EditRefusal) (new : TextState) (messages : List (List ℕ))
+      → IsTrue (is_in_text t e) → Edits t (plan t e) result new messages → IsText t → IsText new
+  edited t e (Ok n) new messages within (none, all, stand) is =
+      standing t e n new messages within (omega arith) stand is
+  edited t e (Err (Whole why)) new messages within (refused, stand) is =
+      standing t e 0 new messages within (omega arith) stand is
+  edited t e (Err (Partial n why)) new messages within (some, refused, stand) is =
+      let count : count_standing t (plan t e) ≡ n =
+      ap (λ (stop : Option (ℕ × Refusal)). option_map_or (λ stop. stop.0) stop (length (plan t e))) refused in
+      let few : n ≤ length (plan t e) = omega (arith, standing_within t (plan t e)) in
+      standing t e n new messages within few stand is
+
+  edited_short : (t : TextState) (e : Edit) (result : Result ℕ EditRefusal) (new : TextState)
+      (messages : List (List ℕ)) → IsTrue (is_in_text t e) → EditsShort t (plan t e) result new messages → IsText t
+      → IsText new
+  edited_short t e (Ok n) new messages within short is = absurd short
+  edited_short t e (Err (Whole why)) new messages within (memory, takes_it, stand) is =
+      standing t e 0 new messages within (omega arith) stand is
+  edited_short t e (Err (Partial n why)) new messages within (memory, some, more, stand) is =
+      let few : n ≤ length (plan t e) = omega (arith, standing_within t (plan t e)) in
+      standing t e n new messages within few stand is
+
+  edits_text : (e : Edit) (r : Reply) (t new : TextState) → EditsText e r t new → IsText t → IsText new
+  edits_text e r t new does is =
+      elim (by_test (is_in_text t e) _ _ does) [
+        | inl done ↦ let (result, messages, edits, shows, replied) = done.1 in
+            edited t e result new messages done.0 edits is
+        | inr left ↦ subst IsText (sym left.1.1) is
+      ]
+
+  edits_text_short : (e : Edit) (r : Reply) (t new : TextState) → EditsTextShort e r t new → IsText t → IsText new
+  edits_text_short e r t new (within, inl (result, messages, edits, shows, replied)) is =
+      edited_short t e result new messages within edits is
+  edits_text_short e r t new (within, inr (some, replied, same)) is = subst IsText (sym same) is
+
+  copies_text : (t : TextState) (beg end pos : ℕ) (r : Reply) (u new : TextState) → CopiesText t beg end pos r u new
+      → IsText u → IsText new
+  copies_text t beg end pos r u new does is =
+      elim (by_test (is_copy_in t u beg end pos) _ _ does) [
+        | inl positions ↦ elim (by_test (nat_lt MAX_FILE (end - beg)) _ _ positions.1) [
+          | inl long ↦ subst IsText (sym long.1.1) is
+          | inr short ↦ edits_text (copied t beg end pos) r u new short.1 is
+        ]
+        | inr left ↦ subst IsText (sym left.1.1) is
+      ]
+
+  copies_text_short : (t : TextState) (beg end pos : ℕ) (r : Reply) (u new : TextState)
+      → CopiesTextShort t beg end pos r u new → IsText u → IsText new
+  copies_text_short t beg end pos r u new (positions, few, short) is =
+      edits_text_short (copied t beg end pos) r u new short is
+
+  -- what a step does where memory is there leaves each text defined
+  does_texts : (s : State) (e : Event) (r : Reply) (new : State) → Does s e r new → AreTexts s → AreTexts new
+  does_texts s (edit i text e) r new does all =
+      in_desk _ s new i (messages_of r) (λ d d'. in_text _ d d' text (edits_text e r)) does all
+  does_texts s (copy i text beg end other pos) r new (t, there, does) all =
+      in_desk _ s new i (messages_of r) (λ d d'. in_text _ d d' other (copies_text t beg end pos r)) does all
+  does_texts s (taking i text told) r new does all = taken s i text (message_in s told) r new does all
+  does_texts s (settle i text) r new does all =
+      in_desk _ s new i [] (λ d d'. in_text _ d d' text (settles_text false r)) does all
+  does_texts s (merge i text j) r new (u, there, does) all =
+      in_desk _ s new i [] (λ d d'. in_text _ d d' text (merges_text u r)) does all
+  does_texts s (query i text q) r new does all = subst AreTexts (sym does.0) all
+  does_texts s unknown r new does all = subst AreTexts (sym does.0) all
+
+  -- and what it does where memory was refused
+  short_texts : (s : State) (e : Event) (r : Reply) (new : State) → Short s e r new → AreTexts s → AreTexts new
+  short_texts s (edit i text e) r new short all =
+      in_desk _ s new i (messages_of r) (λ d d'. in_text _ d d' text (edits_text_short e r)) short all
+  short_texts s (copy i text beg end other pos) r new (t, there, short) all =
+      in_desk _ s new i (messages_of r) (λ d d'. in_text _ d d' other (copies_text_short t beg end pos r)) short all
+  short_texts s (taking i text told) r new (message, is, short) all =
+      in_desk _ s new i [] (λ d d'. in_text _ d d' text (takes_text_short message r)) short all
+  short_texts s (settle i text) r new short all =
+      in_desk _ s new i [] (λ d d'. in_text _ d d' text (settles_text true r)) short all
+  short_texts s (merge i text j) r new (u, there, short) all =
+      in_desk _ s new i [] (λ d d'. in_text _ d d' text (merges_text_short u r)) short all
+  short_texts s (query i text q) r new short all = subst AreTexts (sym short.0) all
+  short_texts s unknown r new short all = absurd short
+
+  step_texts : (s : State) (e : Event) (r : Reply) (new : State) → Replies s e r new → AreTexts s → AreTexts new
+  step_texts s e r new (inl does) all = does_texts s e r new does all
+  step_texts s e r new (inr short) all = short_texts s e r new short all
+
+  -- each text of a state that a run can come to is what its operations define
+  pub reached_texts : Good [] → AreIdentified [] → OneWriterGoesBehindCauses → (first count : ℕ) (s : State)
+      → Reached first count s → AreTexts s
+  reached_texts good identified order first count s begins = λ i text t there.
+      let (number, site, is) = new_texts first count i text t there in
+      subst IsText is (empty_is_text good identified order number site)
+  reached_texts good identified order first count s (goes_on {s = before} e r new reached replies) =
+      step_texts before e r new replies (reached_texts good identified order first count before reached)

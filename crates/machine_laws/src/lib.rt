@@ -1,0 +1,67 @@
+//! Laws of the machine of events: what runs can come to, and that an event has one reply. They are over the definitions
+//! alone.
+#![tactic(auto)]
+
+ghost use Rattle.machine_laws.specs.Laws.{OperationsTellWhatIsPrinted, WhatIsReachedIsDefined, WhatIsReachedIsNumbered};
+ghost use Rattle.machine_laws.specs.Laws.{EachEventHasOneReply, FrontLinesTellFronts, FrontsTellWhatIsPrinted};
+
+use char_files::runs_are_maximal;
+use convergence::outcomes::{
+    drainings_end_one_way, edits_end_one_way, merges_end_one_way, takings_end_one_way,
+};
+use set_laws::closures::nothing_is_good;
+use texts::laws::{own_edits_are_plain, the_fronts_tell_the_text, the_operations_tell_the_text};
+use tree_order::laws::sequential::one_writer_goes_behind_causes;
+
+/// A law: in each state that a run can come to, each text of each desk is what its operations define.
+pub fn what_is_reached_is_defined()
+    ensures { WhatIsReachedIsDefined }
+{
+    nothing_is_good();
+    one_writer_goes_behind_causes();
+    own_edits_are_plain();
+}
+
+/// A law: two texts, of one run or of two, that have taken in the same operations print the same lines of
+/// what they show.
+pub fn the_same_operations_print_the_same()
+    ensures { OperationsTellWhatIsPrinted }
+{
+    what_is_reached_is_defined();
+    the_operations_tell_the_text();
+    runs_are_maximal();
+}
+
+/// A law: two texts, of one run or of two, that have equal fronts print the same lines of what they show,
+/// if no identity is used twice.
+pub fn the_same_fronts_print_the_same()
+    ensures { FrontsTellWhatIsPrinted }
+{
+    what_is_reached_is_defined();
+    the_fronts_tell_the_text();
+    runs_are_maximal();
+}
+
+/// A law: in a run of sites below 2^16, each operation that a text has taken in has a site and a seq that a message has
+/// places for.
+pub fn what_is_reached_is_numbered()
+    ensures { WhatIsReachedIsNumbered }
+{}
+
+/// A law: texts of which `front` prints the same lines of fronts, however many operations wait, have equal fronts, if
+/// their sites and seqs are numbers that a message has places for.
+pub fn front_lines_tell_the_fronts()
+    ensures { FrontLinesTellFronts }
+{}
+
+/// A law: an event has one reply and one next state, where memory is there; where it was refused, one of each shape
+/// and its counts.
+pub fn each_event_has_one_reply()
+    ensures { EachEventHasOneReply }
+{
+    edits_end_one_way();
+    takings_end_one_way();
+    drainings_end_one_way();
+    merges_end_one_way();
+    runs_are_maximal();
+}

@@ -1,0 +1,36 @@
+//! Laws of whole scripts, over the definitions alone.
+#![tactic(auto)]
+
+ghost use Rattle.run_laws.specs.Laws.{EachTraceIsReached, TheSameFrontsAreAnswered, TheSameIsAnswered};
+
+use machine_laws::{
+    front_lines_tell_the_fronts, the_same_fronts_print_the_same,
+    the_same_operations_print_the_same, what_is_reached_is_numbered,
+};
+
+/// A law: behind any lines of a script stands a state that a run can come to. So what is said of those is said
+/// of whole scripts.
+pub fn each_trace_is_reached()
+    ensures { EachTraceIsReached }
+{}
+
+/// A law: wherever in a run, or in two runs, two sites have taken in the same operations of a text, their answers
+/// to `text` and `runs` are the same, byte for byte.
+pub fn the_same_operations_are_answered_the_same()
+    ensures { TheSameIsAnswered }
+{
+    each_trace_is_reached();
+    the_same_operations_print_the_same();
+}
+
+/// A law: wherever in a run, or in two runs, two sites answer `front` of a text by the same lines of fronts, however many
+/// operations wait, their answers to `text` and `runs` are the same, byte for byte, if no identity is used twice. The
+/// numbers of the sites are below 2^16, as they are in every run.
+pub fn the_same_fronts_are_answered_the_same()
+    ensures { TheSameFrontsAreAnswered }
+{
+    each_trace_is_reached();
+    what_is_reached_is_numbered();
+    front_lines_tell_the_fronts();
+    the_same_fronts_print_the_same();
+}
