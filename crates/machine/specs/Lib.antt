@@ -1,3 +1,6 @@
 pub mod DeskState
 pub mod Machine
 pub mod Printing
+pub mod ScreenPrinting
+pub mod Whole
+pub mod Windows

@@ -1,0 +1,60 @@
+use Rattle.std.proofs.Common.{◌≡◌, ◌-◌, ◌<◌, ◌≤◌, ℕ, length, take, drop, refl, sym, ◌∙◌, subst, arith}
+use Rattle.std.proofs.lemmas.List.{length-map}
+use Rattle.char_files.specs.Stretch.{Item}
+use Rattle.reader_scanner.specs.Place.{Place, bytes_of}
+use Rattle.reader_scanner.specs.Tokens.{IsTokenAt}
+use Rattle.command_words.specs.Commands.{name_of}
+use Rattle.command_words.proofs.Words.{IsNear, word_is, word_of_call, named_short}
+use Rattle.command_words.proofs.calls.command_at.Goals as goal
+
+pub returns-in_err-command-clause-none : goal.returns-in_err-command-clause-none
+returns-in_err-command-clause-none g c =
+    let bytes = bytes_of (g.S.Source.items c.args.source.now) in
+    let beg = c.word_begin-beg.result in
+    let end = c.word_end-end.result in
+    let same = length-map (g.S.Source.items c.args.source.now) (λ (i : Item). i.0) in
+    let near : IsNear bytes c.args.pos beg end = record {
+      from = c.word_begin-beg.ensures.order;
+      to = c.word_end-end.ensures.order;
+      within = omega (arith, c.word_end-end.ensures.within, same);
+      left = c.word_begin-beg.ensures.each;
+      right = c.word_end-end.ensures.each;
+      before = c.word_begin-beg.ensures.before;
+      behind = λ inside. c.word_end-end.ensures.behind (omega (arith, inside, same));
+    } in
+    λ _ call is.
+    let word : name_of call.command ≡ take (end - beg) (drop beg bytes) =
+    word_of_call bytes c.args.pos beg end near call is in
+    let looked : c.as_slice.result.now ≡ take (end - beg) (drop beg bytes) =
+    c.as_slice.ensures.value ∙ c.word_between.ensures in
+    c.named.ensures.none c.in_err-command.was call.command (word ∙ sym looked)
+
+pub returns-clause-some : goal.returns-clause-some
+returns-clause-some g c =
+    let bytes = bytes_of (g.S.Source.items c.args.source.now) in
+    let beg = c.word_begin-beg.result in
+    let end = c.word_end-end.result in
+    let same = length-map (g.S.Source.items c.args.source.now) (λ (i : Item). i.0) in
+    let near : IsNear bytes c.args.pos beg end = record {
+      from = c.word_begin-beg.ensures.order;
+      to = c.word_end-end.ensures.order;
+      within = omega (arith, c.word_end-end.ensures.within, same);
+      left = c.word_begin-beg.ensures.each;
+      right = c.word_end-end.ensures.each;
+      before = c.word_begin-beg.ensures.before;
+      behind = λ inside. c.word_end-end.ensures.behind (omega (arith, inside, same));
+    } in
+    let looked : c.as_slice.result.now ≡ take (end - beg) (drop beg bytes) =
+    c.as_slice.ensures.value ∙ c.word_between.ensures in
+    let named : take (end - beg) (drop beg bytes) ≡ name_of c.in_ok-command.command =
+    sym (c.in_ok-command.ensures.some ∙ looked) in
+    let short : end - beg < 32 = named_short bytes beg end c.in_ok-command.command near.within named in
+    let some : c.args.pos < end = omega (arith, c.word_end-end.ensures.order, c.if-end-pos.false) in
+    record {
+      beg = beg;
+      end = end;
+      word = word_is bytes c.args.pos beg end near some short;
+      named = named;
+      token = subst (λ (p : Place). IsTokenAt (bytes_of p.items) p.pos c.scan-token.result) c.open.ensures
+          c.scan-token.ensures.token;
+    }

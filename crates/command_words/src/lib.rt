@@ -1,0 +1,10 @@
+//! The commands that a click calls by their words in a text, and the menus that have such words.
+#![tactic(auto)]
+
+mod calls;
+mod command;
+mod menu;
+
+pub use calls::{Call, command_at};
+pub use command::Command;
+pub use menu::{MAX_MENU, menu_text};

@@ -1,0 +1,10 @@
+//! The lines of a list of bytes and how they are drawn: rows of cells of a given width, and the positions that
+//! stand in those cells.
+#![tactic(auto)]
+
+mod drawing;
+pub mod laws;
+mod places;
+
+pub use drawing::{LINE_END, draw_line, sign};
+pub use places::{beg_of_line, line_beg, line_end, line_number, located};

@@ -1,0 +1,15 @@
+-- Changes that leave a list's beginning as it is.
+use Rattle.std.specs.Prelude.{ℕ, Bool, true, nat_lt}
+use Rattle.list_changes.specs.declared.change.ChangeKind.{ChangeKind}
+use Rattle.list_changes.specs.declared.change.ChangeKind.TheVariants.{Insert, Delete, Replace}
+use Rattle.list_changes.specs.declared.change.Change.{Change}
+
+-- what is put in or cut lies behind this position
+abbrev pub is_behind : ChangeKind → ℕ → ℕ → Bool
+is_behind Insert last beg = nat_lt last beg
+is_behind Delete last beg = nat_lt last beg
+is_behind Replace last beg = true
+
+-- the change replaces, or begins behind this position
+abbrev pub is_quiet : ℕ → Change → Bool
+is_quiet last change = is_behind change.kind last change.beg

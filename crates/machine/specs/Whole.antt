@@ -1,0 +1,408 @@
+-- The whole machine of events: texts, screens, commands and files. What the machine of texts says of a text's events stands
+-- here word for word; what an event does to a screen or to a file stands beside it.
+use Rattle.std.specs.Prelude.{◌≡◌, ◌≢◌, ℕ, ℤ, pos, negsuc, ◌+◌, ◌-◌, ◌≤◌, ◌<◌, ◌⊎◌, ◌==◌, ◌&&◌, not, nat_le, nat_lt}
+use Rattle.std.specs.Prelude.{if◌then◌else◌, Bool, true, false, MatchBool, MatchOption, List, [], ◌∷◌, ◌++◌, length}
+use Rattle.std.specs.Prelude.{Option, Some, None, option_map, Result, Ok, Err, slice_get, slice_set}
+use Rattle.std.specs.Prelude.{codes, IsOk, MatchResult, nat_eq}
+use Rattle.std.specs.Cmp.Lexicographic.{pointwise}
+use Rattle.std.specs.List.{list_all}
+use Rattle.std.specs.Option.{option_and_then, option_map_or}
+use Rattle.looks.specs.Looks.{plain_looks}
+use Rattle.looks.specs.Sel.{Selection}
+use Rattle.looks.specs.declared.looks.Looks.{Looks}
+use Rattle.looks.specs.declared.colour.TheConstants.{MAX_COLOUR}
+use Rattle.looks.specs.declared.refusal.Refusal.{Refusal}
+use Rattle.looks.specs.declared.refusal.Refusal.TheVariants.{BadFile, BadParameter, NoCaret, NoSelection, NoViewer, OutOfMemory}
+use Rattle.looks.specs.declared.refusal.Refusal.TheVariants.{ReadFault, UnknownCommand, WriteFault}
+use Rattle.char_files.specs.Stretch.{Item}
+use Rattle.char_files.specs.declared.name.Anchor.{Anchor}
+use Rattle.reader_scanner.specs.Tokens.{IsTokenAt}
+use Rattle.reader_scanner.specs.declared.token.Token.{Token}
+use Rattle.reader_scanner.specs.declared.token.TokenValue.{TokenValue}
+use Rattle.reader_scanner.specs.declared.token.TokenValue.TheVariants as value
+use Rattle.text_file.specs.Files.{IsFileOf, IsNoFile, IsText, formatted}
+use Rattle.texts.specs.Edit.{Edit, anchor_before, insertion, looks_change, recalling, restoration}
+use Rattle.texts.specs.TextState.{TextState, shown_items, shown_of, with_room}
+use Rattle.viewers.specs.Screen.{area_of, viewer_at}
+use Rattle.viewers.specs.declared.screen.Area.{Area}
+use Rattle.viewers.specs.declared.screen.Track.TheVariants.{User, System}
+use Rattle.command_words.specs.Calls.{IsCallAt, NoCallAt}
+use Rattle.command_words.specs.Commands.{has_parameter, menu_of}
+use Rattle.command_words.specs.declared.calls.Call.{Call}
+use Rattle.command_words.specs.declared.command.Command.{Command}
+use Rattle.command_words.specs.declared.command.Command.TheVariants as command
+use Rattle.shelf.specs.Files.{Files}
+use Rattle.machine.specs.DeskState.{DeskState, InText}
+use Rattle.machine.specs.Machine.{Does, Event, InDesk, IsTextAt, Reply, Short, State, edit, refuses}
+use Rattle.machine.specs.ScreenPrinting.{marks_lines, screen_lines, views_lines}
+use Rattle.machine.specs.Windows.{Arrangement, Caret, Screened, Window, arranged, bytes_shown, close}
+use Rattle.machine.specs.Windows.{marked, open_in, place_in, position_in, window_of}
+use Rattle.machine.specs.declared.TheConstants.{MAX_TEXT}
+
+-- the texts of all desks with the messages sent, the screen of each desk, and the files
+pub record RunState : Type 0 where
+  pub texts : State
+  pub screens : List Screened
+  pub files : Files
+
+-- what is printed of a screen
+pub data View : Type 0 where
+  marks : View
+  views : View
+  show : View
+
+-- What a desk is asked beside the events of its texts. To put characters in, or the recalled stretch, or a file's text, is
+-- done at the caret, and a search begins there; a command that can't be done is refused for this.
+pub data Task : Type 0 where
+  refuse : (why : Refusal) → Task
+  put : (items : List Item) → Task
+  put_recalled : Task
+  load : (name : List ℕ) → Task
+  store : (text : ℕ) (name : List ℕ) → Task
+  search : (bytes : List ℕ) → Task
+  change : (text : ℕ) (e : Edit) → Task
+  forget : (text : ℕ) → Task
+  arrange : (a : Arrangement) → Task
+  print : (v : View) → Task
+
+-- What may happen: an event of texts; a task of a desk; a click into a cell of a desk's screen.
+pub data RunEvent : Type 0 where
+  on_text : (e : Event) → RunEvent
+  ask : (desk : ℕ) (t : Task) → RunEvent
+  click : (desk col row : ℕ) → RunEvent
+
+-- The files' part in an event: they weren't asked; or they did what they were asked; or they failed, and a file that was to
+-- be written is left so.
+pub data Part : Type 0 where
+  untouched : Part
+  went_well : Part
+  failed : (left : Option (List ℕ)) → Part
+
+-- what is replied
+pub data RunReply : Type 0 where
+  of_text : (r : Reply) → RunReply
+  opens : (viewer : ℕ) → RunReply
+  found : (pos : ℕ) → RunReply
+  not_found : RunReply
+  forgot : (count : ℕ) → RunReply
+  prints_screen : (lines : List ℕ) → RunReply
+  done : RunReply
+
+-- nothing is done, for this reason
+abbrev pub Refuses : RunState → Refusal → RunReply → RunState → Type 0
+Refuses s why r new = (r ≡ of_text (refuses why)) × (new ≡ s)
+
+-- the screen of a desk, and the desk
+pub record IsDeskAt (s : RunState) (i : ℕ) (d : DeskState) (w : Screened) : Type 0 where
+  pub texts : slice_get s.texts.desks i ≡ Some d
+  pub screen : slice_get s.screens i ≡ Some w
+
+-- the state with this screen of a desk
+abbrev pub with_screen_at : RunState → ℕ → Screened → RunState
+with_screen_at s i w = record s { screens = slice_set s.screens i w }
+
+-- the state with a file of this name
+abbrev pub with_file : RunState → (name bytes : List ℕ) → RunState → Type 0
+with_file s name bytes new =
+    (new.texts ≡ s.texts) × (new.screens ≡ s.screens) × (new.files name ≡ Some bytes)
+    × ((other : List ℕ) → other ≢ name → new.files other ≡ s.files other)
+
+-- the same where that file is left so by a failure
+abbrev pub LeavesFile : RunState → (name : List ℕ) → Option (List ℕ) → RunState → Type 0
+LeavesFile s name left new =
+    (new.texts ≡ s.texts) × (new.screens ≡ s.screens) × (new.files name ≡ left)
+    × ((other : List ℕ) → other ≢ name → new.files other ≡ s.files other)
+
+-- how one step of the machine of texts goes: where memory is there, or where it was refused
+abbrev pub TextSteps : Type 1
+TextSteps = State → Event → Reply → State → Type 0
+
+-- an event of texts; no screen changes
+abbrev pub OnText : TextSteps → RunState → Event → RunReply → RunState → Type 0
+OnText Steps s e r new =
+    (told : Reply) × (mid : State) × Steps s.texts e told mid × (r ≡ of_text told) × (new ≡ record s { texts = mid })
+
+-- where the caret stands behind an edit at it: behind the last character that came in, or where it stood if none did
+abbrev pub caret_after : TextState → TextState → (was : ℕ) → Anchor → Anchor
+caret_after t t' was old =
+    if length (shown_of t') == length (shown_of t) then old
+    else anchor_before (shown_of t') (was + (length (shown_of t') - length (shown_of t)))
+
+-- an edit of the caret's text at the caret's place, behind which the caret stands then
+abbrev pub AtCaret : TextSteps → RunState → (i : ℕ) → Screened → Caret → Window → TextState → (ℕ → Edit)
+    → RunReply → RunState → Type 0
+AtCaret Steps s i w c window t edit_at r new =
+    (told : Reply) × (mid : State) × (t' : TextState)
+    × Steps s.texts (edit i window.text (edit_at (place_in t c.anchor))) told mid × IsTextAt mid i window.text t'
+    × (r ≡ of_text told)
+    × (new ≡ record s {
+      texts = mid;
+      screens = slice_set s.screens i (record w
+          { caret = Some (record c { anchor = caret_after t t' (place_in t c.anchor) c.anchor }) });
+    })
+
+-- at the caret, with what its viewer shows
+abbrev pub WithCaret : DeskState → Screened → (Caret → Window → TextState → Type 0) → Type 0
+WithCaret d w Goes =
+    (c : Caret) × (shown : Window × TextState) × (w.caret ≡ Some c) × (window_of d w c.viewer ≡ Some shown)
+    × Goes c shown.0 shown.1
+
+-- the same, or refused where there is no caret, and then no file is asked for
+abbrev pub IfCaret : RunState → DeskState → Screened → Part → RunReply → RunState
+    → (Caret → Window → TextState → Type 0) → Type 0
+IfCaret s d w part r new Goes =
+    ((w.caret ≡ None) × (part ≡ untouched) × Refuses s NoCaret r new) ⊎ WithCaret d w Goes
+
+-- these bytes stand at this position
+abbrev pub StandsAt : (bytes text : List ℕ) → ℕ → Type 0
+StandsAt bytes text q = (ahead behind : List ℕ) × (text ≡ ahead ++ bytes ++ behind) × (length ahead ≡ q)
+
+-- this is the first position from here on where the bytes stand
+pub record IsFirstFrom (bytes text : List ℕ) (from q : ℕ) : Type 0 where
+  pub behind : from ≤ q
+  pub there : StandsAt bytes text q
+  pub first : (other : ℕ) → from ≤ other → other < q → StandsAt bytes text other → ⊥
+
+-- a search from the caret: it goes behind what is found, or stays
+abbrev pub Searches : RunState → (i : ℕ) → Screened → Caret → TextState → (bytes : List ℕ) → RunReply → RunState
+    → Type 0
+Searches s i w c t bytes r new =
+    ((q : ℕ) × IsFirstFrom bytes (bytes_shown t) (place_in t c.anchor) q × (r ≡ found (q + length bytes))
+    × (new ≡ with_screen_at s i (record w
+    { caret = Some (record c { anchor = anchor_before (shown_of t) (q + length bytes) }) })))
+    ⊎ (((q : ℕ) → place_in t c.anchor ≤ q → StandsAt bytes (bytes_shown t) q → ⊥) × (r ≡ not_found) × (new ≡ s))
+
+-- a load at the caret: the file wasn't read; or it is no text's; or its characters are put in
+abbrev pub Loads : TextSteps → RunState → (i : ℕ) → Screened → (name : List ℕ) → Part → Caret → Window → TextState
+    → RunReply → RunState → Type 0
+Loads Steps s i w name untouched c window t r new = ⊥
+Loads Steps s i w name (failed left) c window t r new = Refuses s ReadFault r new
+Loads Steps s i w name went_well c window t r new =
+    (file : List ℕ) × (s.files name ≡ Some file)
+    × ((IsNoFile file × Refuses s BadFile r new)
+    ⊎ ((items : List Item) × IsFileOf items file × AtCaret Steps s i w c window t (λ p. insertion p items) r new))
+
+-- a store: the text is too long for a file; or the file is as the text is shown; or it wasn't written
+abbrev pub Stores : RunState → TextState → (name : List ℕ) → Part → RunReply → RunState → Type 0
+Stores s t name untouched r new = (¬ IsText (shown_items t)) × Refuses s BadFile r new
+Stores s t name went_well r new =
+    IsText (shown_items t) × (r ≡ done) × with_file s name (formatted (shown_items t)) new
+Stores s t name (failed left) r new =
+    IsText (shown_items t) × (r ≡ of_text (refuses WriteFault)) × LeavesFile s name left new
+
+-- an emptying of the room of a text
+abbrev pub Forgets : RunState → (i text : ℕ) → RunReply → RunState → Type 0
+Forgets s i text r new =
+    (t : TextState) × (mid : State) × IsTextAt s.texts i text t
+    × InDesk (λ d d'. InText (λ u u'. u' ≡ with_room u []) d text d') s.texts i [] mid
+    × (r ≡ forgot (length t.waiting_room)) × (new ≡ record s { texts = mid })
+
+-- an arrangement of the screen
+abbrev pub Arranges : RunState → (i : ℕ) → DeskState → Screened → Arrangement → RunReply → RunState → Type 0
+Arranges s i d w a r new = MatchResult (arranged d w a)
+    (λ out. (r ≡ option_map_or (λ v. opens v) out.1 done) × (new ≡ with_screen_at s i out.0))
+    (λ why. Refuses s why r new)
+
+-- the lines of a view
+abbrev pub lines_of_view : DeskState → Screened → View → List ℕ
+lines_of_view d w marks = marks_lines d w
+lines_of_view d w views = views_lines d w
+lines_of_view d w show = screen_lines d w
+
+-- What a task does where memory is there, with the files' part in it. A load alone reads a file, and a store writes one.
+abbrev pub DoesTask : RunState → (i : ℕ) → DeskState → Screened → Task → Part → RunReply → RunState → Type 0
+DoesTask s i d w (refuse why) part r new = (part ≡ untouched) × Refuses s why r new
+DoesTask s i d w (put items) part r new =
+    IfCaret s d w part r new (λ c window t.
+    (part ≡ untouched) × AtCaret Does s i w c window t (λ p. insertion p items) r new)
+DoesTask s i d w put_recalled part r new =
+    IfCaret s d w part r new (λ c window t. (part ≡ untouched) × AtCaret Does s i w c window t recalling r new)
+DoesTask s i d w (load name) part r new =
+    IfCaret s d w part r new (λ c window t. Loads Does s i w name part c window t r new)
+DoesTask s i d w (store text name) part r new =
+    (t : TextState) × IsTextAt s.texts i text t × Stores s t name part r new
+DoesTask s i d w (search bytes) part r new =
+    IfCaret s d w part r new (λ c window t. (part ≡ untouched) × Searches s i w c t bytes r new)
+DoesTask s i d w (change text e) part r new = (part ≡ untouched) × OnText Does s (edit i text e) r new
+DoesTask s i d w (forget text) part r new = (part ≡ untouched) × Forgets s i text r new
+DoesTask s i d w (arrange a) part r new = (part ≡ untouched) × Arranges s i d w a r new
+DoesTask s i d w (print v) part r new =
+    (part ≡ untouched) × (r ≡ prints_screen (lines_of_view d w v)) × (new ≡ s)
+
+-- What a task does where memory was refused: an edit in the ways of the machine of texts; a load, a store, an opening and a
+-- print besides with nothing done, behind what is tested ahead of the memory. The other tasks take none.
+abbrev pub ShortTask : RunState → (i : ℕ) → DeskState → Screened → Task → Part → RunReply → RunState → Type 0
+ShortTask s i d w (refuse why) part r new = ⊥
+ShortTask s i d w (put items) part r new =
+    (part ≡ untouched)
+    × WithCaret d w (λ c window t. AtCaret Short s i w c window t (λ p. insertion p items) r new)
+ShortTask s i d w put_recalled part r new =
+    (part ≡ untouched) × WithCaret d w (λ c window t. AtCaret Short s i w c window t recalling r new)
+ShortTask s i d w (load name) part r new =
+    WithCaret d w (λ c window t. Refuses s OutOfMemory r new
+    ⊎ ((part ≡ went_well) × (file : List ℕ) × (items : List Item) × (s.files name ≡ Some file) × IsFileOf items file
+    × AtCaret Short s i w c window t (λ p. insertion p items) r new))
+ShortTask s i d w (store text name) part r new =
+    (part ≡ untouched) × ((t : TextState) × IsTextAt s.texts i text t × IsText (shown_items t))
+    × Refuses s OutOfMemory r new
+ShortTask s i d w (search bytes) part r new = ⊥
+ShortTask s i d w (change text e) part r new = (part ≡ untouched) × OnText Short s (edit i text e) r new
+ShortTask s i d w (forget text) part r new = ⊥
+ShortTask s i d w (arrange (open_in track text row)) part r new =
+    (part ≡ untouched) × IsOk (arranged d w (open_in track text row)) × Refuses s OutOfMemory r new
+ShortTask s i d w (arrange a) part r new = ⊥
+ShortTask s i d w (print v) part r new = (part ≡ untouched) × Refuses s OutOfMemory r new
+
+-- a byte of a file's name in a string
+abbrev pub is_file_byte : ℕ → Bool
+is_file_byte b = nat_le 32 b && nat_le b 126 && not (b == 47)
+
+-- whether these bytes are a file's name: one at least, and neither this folder's nor that above it
+abbrev pub is_file_name : List ℕ → Bool
+is_file_name name =
+    nat_lt 0 (length name) && list_all is_file_byte name && not (pointwise nat_eq name (codes "."))
+    && not (pointwise nat_eq name (codes ".."))
+
+-- the number of a text that a value tells
+abbrev pub text_told : TokenValue → Option ℕ
+text_told (value.Int (pos n)) = if nat_le 1 n && nat_le n MAX_TEXT then Some n else None
+text_told other = None
+
+-- the file that a value tells
+abbrev pub file_told : TokenValue → Option (List ℕ)
+file_told (value.Name name) = if is_file_name name then Some name else None
+file_told (value.String name) = if is_file_name name then Some name else None
+file_told other = None
+
+-- the bytes to search for that a value tells
+abbrev pub bytes_told : TokenValue → Option (List ℕ)
+bytes_told (value.Name name) = Some name
+bytes_told (value.String []) = None
+bytes_told (value.String (b ∷ rest)) = Some (b ∷ rest)
+bytes_told (value.Char b) = Some (b ∷ [])
+bytes_told other = None
+
+-- which attributes change, and to which looks
+abbrev pub Change : Type 0
+Change = Selection × Looks
+
+abbrev pub font_told : TokenValue → Option Change
+font_told (value.Name name) =
+    Some (record { font = true; colour = false; offset = false }, record plain_looks { font = name })
+font_told other = None
+
+abbrev pub colour_told : TokenValue → Option Change
+colour_told (value.Int (pos n)) =
+    if nat_le n MAX_COLOUR
+    then Some (record { font = false; colour = true; offset = false }, record plain_looks { colour = n }) else None
+colour_told other = None
+
+-- an offset from -128 to 127
+abbrev pub is_offset : ℤ → Bool
+is_offset (pos n) = nat_le n 127
+is_offset (negsuc n) = nat_le n 127
+
+abbrev pub offset_told : TokenValue → Option Change
+offset_told (value.Int z) =
+    if is_offset z
+    then Some (record { font = false; colour = false; offset = true }, record plain_looks { offset = z }) else None
+offset_told other = None
+
+-- whether the token is the sign that the selection has the parameter
+abbrev pub is_caret_sign : TokenValue → Bool
+is_caret_sign (value.Char b) = b == 94
+is_caret_sign other = false
+
+-- The parameter of a call: the value behind the word; or, where that is the sign, the value of the first token from the
+-- selection's begin on, which isn't limited by its end and isn't followed again.
+abbrev pub IsParameter : DeskState → Screened → Token → Result TokenValue Refusal → Type 0
+IsParameter d w token told =
+    MatchBool (is_caret_sign token.value)
+    (MatchOption (marked d w) (told ≡ Err NoSelection)
+    (λ m. (there : Token) × IsTokenAt (bytes_shown m.text) m.beg there × (told ≡ Ok there.value)))
+    (told ≡ Ok token.value)
+
+-- the task, or a refusal of a parameter that tells none
+abbrev pub with_told : {X : Type 0} → Option X → (X → Task) → Task
+with_told None task = refuse BadParameter
+with_told (Some x) task = task x
+
+-- a change of the looks of the selection
+abbrev pub dress_marked : DeskState → Screened → Change → Task
+dress_marked d w change_to =
+    option_map_or (λ m. change m.window.text (looks_change m.beg m.end change_to.0 change_to.1)) (marked d w)
+    (refuse NoSelection)
+
+-- what a command does with its parameter, in the viewer that was clicked, on this text: a row each
+abbrev pub task_of : DeskState → Screened → Command → TokenValue → (viewer text : ℕ) → Task
+task_of d w command.SystemOpen told v text = with_told (text_told told) (λ n. arrange (open_in System n None))
+task_of d w command.SystemClose told v text = arrange (close v)
+task_of d w command.EditOpen told v text = with_told (text_told told) (λ n. arrange (open_in User n None))
+task_of d w command.EditLoad told v text = with_told (file_told told) load
+task_of d w command.EditStore told v text = with_told (file_told told) (store text)
+task_of d w command.EditRecall told v text = put_recalled
+task_of d w command.EditRestore told v text = change text restoration
+task_of d w command.EditChangeFont told v text = with_told (font_told told) (dress_marked d w)
+task_of d w command.EditChangeColor told v text = with_told (colour_told told) (dress_marked d w)
+task_of d w command.EditChangeOffset told v text = with_told (offset_told told) (dress_marked d w)
+task_of d w command.EditSearch told v text = with_told (bytes_told told) search
+task_of d w command.ShareForget told v text = forget text
+
+-- the task of a call, whose parameter is looked for where the command asks for one
+abbrev pub IsTaskOfCall : DeskState → Screened → Call → (viewer text : ℕ) → Task → Type 0
+IsTaskOfCall d w call v text task =
+    MatchBool (has_parameter call.command)
+    ((told : Result TokenValue Refusal) × IsParameter d w call.token told
+    × MatchResult told (λ value. task ≡ task_of d w call.command value v text) (λ why. task ≡ refuse why))
+    (task ≡ task_of d w call.command call.token.value v text)
+
+-- the bytes in which a cell of a viewer stands, and its position there: those of the menu, or those that are shown
+pub record Clicked : Type 0 where
+  pub viewer : ℕ
+  pub text : ℕ
+  pub bytes : List ℕ
+  pub pos : ℕ
+
+abbrev pub clicked_in : (v : ℕ) → Area → (col row : ℕ) → Window × TextState → Clicked
+clicked_in v area col row shown =
+    if row == area.top
+    then record { viewer = v; text = shown.0.text; bytes = menu_of v shown.0.text; pos = col - area.col }
+    else record {
+      viewer = v;
+      text = shown.0.text;
+      bytes = bytes_shown shown.1;
+      pos = position_in shown.1 shown.0.anchor area.width (col - area.col) (row - area.top - 1);
+    }
+
+-- what a click meets; nothing in a blank track and outside the screen
+abbrev pub clicked : DeskState → Screened → (col row : ℕ) → Option Clicked
+clicked d w col row =
+    option_and_then (λ v. option_and_then (λ area. option_map (clicked_in v area col row) (window_of d w v))
+    (area_of w.tracks v)) (viewer_at w.tracks col row)
+
+-- the task of a click into this cell: no viewer is there; no call stands there; or that of the call
+abbrev pub IsTaskAt : DeskState → Screened → (col row : ℕ) → Task → Type 0
+IsTaskAt d w col row task =
+    MatchOption (clicked d w col row) (task ≡ refuse NoViewer)
+    (λ at. (NoCallAt at.bytes at.pos × (task ≡ refuse UnknownCommand))
+    ⊎ ((call : Call) × IsCallAt at.bytes at.pos call × IsTaskOfCall d w call at.viewer at.text task))
+
+-- what an event does where memory is there
+abbrev pub RunDoes : RunState → RunEvent → Part → RunReply → RunState → Type 0
+RunDoes s (on_text e) part r new = (part ≡ untouched) × OnText Does s e r new
+RunDoes s (ask i t) part r new =
+    (d : DeskState) × (w : Screened) × IsDeskAt s i d w × DoesTask s i d w t part r new
+RunDoes s (click i col row) part r new =
+    (d : DeskState) × (w : Screened) × (t : Task) × IsDeskAt s i d w × IsTaskAt d w col row t × DoesTask s i d w t part r new
+
+-- what it does where memory was refused
+abbrev pub RunShort : RunState → RunEvent → Part → RunReply → RunState → Type 0
+RunShort s (on_text e) part r new = (part ≡ untouched) × OnText Short s e r new
+RunShort s (ask i t) part r new =
+    (d : DeskState) × (w : Screened) × IsDeskAt s i d w × ShortTask s i d w t part r new
+RunShort s (click i col row) part r new =
+    (d : DeskState) × (w : Screened) × (t : Task) × IsDeskAt s i d w × IsTaskAt d w col row t × ShortTask s i d w t part r new
+
+-- the whole machine may reply so to the event, with this part of the files, and go on to new
+abbrev pub RunReplies : RunState → RunEvent → Part → RunReply → RunState → Type 0
+RunReplies s e part r new = RunDoes s e part r new ⊎ RunShort s e part r new

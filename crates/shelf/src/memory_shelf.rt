@@ -1,0 +1,108 @@
+ghost use Rattle.std.specs.Prelude.{◌≡◌, ◌≢◌, ◌↔◌, ℕ, List, IsTrue, OnErr, OnOk, None, Some};
+ghost use Rattle.shelf.specs.Files.{Counts};
+ghost use Rattle.shelf.specs.Memory.{HasNoFile, files_in};
+
+use crate::shelf::Shelf;
+use looks::Refusal;
+use std::alloc::{AllocError, Global};
+use std::collections::BTreeMap;
+
+/// A shelf over memory, which tells its files. This project's own, for tests.
+#[derive(Drop)]
+pub struct MemoryShelf {
+    /// The files by their names.
+    pub files: BTreeMap<String, Vec<u8>>,
+    /// How many calls failed.
+    pub failures: u64,
+    /// How many calls go well before one is made to fail; none where no call is.
+    pub good_calls: Option<u64>,
+    /// What the files' memory is taken of.
+    pub alloc: Global,
+}
+
+impl MemoryShelf {
+    /// No files.
+    pub fn new(alloc: Global) -> MemoryShelf
+        ensures files { HasNoFile (files_in result.files) }
+        ensures failures { result.failures ≡ 0 }
+        ensures good_calls { result.good_calls ≡ None }
+    {
+        MemoryShelf {
+            files: BTreeMap::new(alloc),
+            alloc,
+            failures: 0,
+            good_calls: None,
+        }
+    }
+
+    // Whether the call that begins is the one that is to fail.
+    fn is_to_fail(&mut self) -> bool
+        ensures files { self.new.files ≡ self.old.files }
+        ensures failures { self.new.failures ≡ self.old.failures }
+        ensures told { IsTrue result ↔ (self.old.good_calls ≡ Some 0) }
+    {
+        match self.good_calls {
+            None => false,
+            Some(0) => {
+                self.good_calls = None;
+                true
+            }
+            Some(calls) => {
+                self.good_calls = Some(calls - 1);
+                false
+            }
+        }
+    }
+
+    // Counts a failure.
+    fn count(&mut self)
+        ensures files { self.new.files ≡ self.old.files }
+        ensures failures { Counts self.old.failures self.new.failures }
+    {
+        self.failures = self.failures.saturating_add(1);
+    }
+
+    // Keeps these bytes under this name.
+    fn keep(&mut self, name: &str, bytes: &[u8]) -> Result<(), AllocError>
+        ensures ok { OnOk result (files_in self.new.files name.now ≡ Some bytes.now) }
+        ensures others { (other : List ℕ) → other ≢ name.now → files_in self.new.files other ≡ files_in self.old.files other }
+        ensures failures { self.new.failures ≡ self.old.failures }
+    {
+        let key = String::from_str(self.alloc, name)?;
+        let bytes = Vec::from_slice(self.alloc, bytes)?;
+        self.files.insert(key, bytes)?;
+        Ok(())
+    }
+}
+
+impl Shelf for MemoryShelf {
+    ghost files = { λ m. Some (files_in m.files) };
+
+    ghost faults = { λ m. m.failures };
+
+    fn read(&mut self, alloc: Global, name: &str) -> Result<Vec<u8>, Refusal> {
+        if self.is_to_fail() {
+            self.count();
+            return Err(Refusal::ReadFault);
+        }
+        match self.files.get(name) {
+            Some(bytes) => Ok(Vec::from_slice(alloc, bytes.as_slice())?),
+            None => {
+                self.count();
+                Err(Refusal::ReadFault)
+            }
+        }
+    }
+
+    fn write(&mut self, name: &str, bytes: &[u8]) -> Result<(), Refusal> {
+        if !self.is_to_fail() && self.keep(name, bytes).is_ok() {
+            return Ok(());
+        }
+        self.count();
+        Err(Refusal::WriteFault)
+    }
+
+    fn failures(&self) -> u64 {
+        self.failures
+    }
+}

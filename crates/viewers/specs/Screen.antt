@@ -1,0 +1,89 @@
+-- A screen: two tracks of one height side by side.
+use Rattle.std.specs.Prelude.{◌≡◌, ℕ, ◌+◌, ◌*◌, ◌/◌, ◌-◌, ◌≤◌, Bool, nat_lt, ◌&&◌, not, if◌then◌else◌}
+use Rattle.std.specs.Prelude.{Option, Some, None, List, [], length, Result, Ok, Err}
+use Rattle.looks.specs.declared.refusal.Refusal.{Refusal}
+use Rattle.looks.specs.declared.refusal.Refusal.TheVariants.{NoRoom, NoViewer}
+use Rattle.viewers.specs.declared.seats.Seat.{Seat}
+use Rattle.viewers.specs.declared.seats.TheConstants.{MIN_WIDTH, MAX_WIDTH, MIN_HEIGHT, MAX_HEIGHT}
+use Rattle.viewers.specs.declared.screen.Area.{Area}
+use Rattle.viewers.specs.declared.screen.Track.{Track}
+use Rattle.viewers.specs.declared.screen.Track.TheVariants.{User, System}
+use Rattle.viewers.specs.Tracks.{Covers, can_move, can_open, closed, opened, height_at, moved, place, top, viewer_in}
+
+-- what a contract sees of a screen
+pub record ScreenSeen : Type 0 where
+  pub width : ℕ
+  pub height : ℕ
+  pub user : List Seat
+  pub system : List Seat
+
+-- sizes in range, and each track covered or blank
+pub record IsScreen (width height : ℕ) (user system : List Seat) : Type 0 where
+  pub wide : MIN_WIDTH ≤ width
+  pub narrow : width ≤ MAX_WIDTH
+  pub high : MIN_HEIGHT ≤ height
+  pub low : height ≤ MAX_HEIGHT
+  pub user_covered : Covers height user
+  pub system_covered : Covers height system
+
+-- the columns of the user track, from the left
+abbrev pub user_width : ℕ → ℕ
+user_width width = width / 8 * 5
+
+abbrev pub seats_of : ScreenSeen → Track → List Seat
+seats_of s User = s.user
+seats_of s System = s.system
+
+-- the viewer at a column and a row; none in a blank track, and none past the width
+abbrev pub viewer_at : ScreenSeen → ℕ → ℕ → Option ℕ
+viewer_at s col row =
+    if nat_lt col (user_width s.width) then viewer_in s.user row
+    else if nat_lt col s.width then viewer_in s.system row
+    else None
+
+-- whether the viewer has a seat in the track
+abbrev pub has : List Seat → ℕ → Bool
+has seats v = nat_lt (place seats v) (length seats)
+
+-- the cells of the viewer of a track that has these columns
+abbrev pub area_in : List Seat → ℕ → ℕ → ℕ → Area
+area_in seats v col width =
+    record { col = col; top = top seats (place seats v); width = width; height = height_at seats (place seats v) }
+
+-- the cells of a viewer; none for a number that isn't on the screen
+abbrev pub area_of : ScreenSeen → ℕ → Option Area
+area_of s v =
+    if has s.user v then Some (area_in s.user v 0 (user_width s.width))
+    else if has s.system v then Some (area_in s.system v (user_width s.width) (s.width - user_width s.width))
+    else None
+
+-- the screen with these seats in a track
+abbrev pub with_seats : ScreenSeen → Track → List Seat → ScreenSeen
+with_seats s User seats = record s { user = seats }
+with_seats s System seats = record s { system = seats }
+
+-- what a move of the top of a viewer of a track to a row answers
+abbrev pub move_answer : List Seat → ℕ → ℕ → Result Unit Refusal
+move_answer seats v row =
+    if has seats v then (if can_move seats (place seats v) row then Ok tt else Err NoRoom) else Err NoViewer
+
+-- and the track then
+abbrev pub after_move : List Seat → ℕ → ℕ → List Seat
+after_move seats v row =
+    if has seats v && can_move seats (place seats v) row then moved seats (place seats v) row else seats
+
+-- what opening a viewer at a row of a track answers
+abbrev pub open_answer : List Seat → ℕ → Result Unit Refusal
+open_answer seats row = if can_open seats row then Ok tt else Err NoRoom
+
+-- and the track then
+abbrev pub after_open : ℕ → List Seat → ℕ → ℕ → List Seat
+after_open height seats v row = if can_open seats row then opened height seats v row else seats
+
+-- what closing a viewer of a track answers
+abbrev pub close_answer : List Seat → ℕ → Result Unit Refusal
+close_answer seats v = if has seats v then Ok tt else Err NoViewer
+
+-- and the track then
+abbrev pub after_close : List Seat → ℕ → List Seat
+after_close seats v = if has seats v then closed seats (place seats v) else seats
