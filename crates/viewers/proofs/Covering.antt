@@ -192,7 +192,7 @@ closed_covers height (suc i) (s ∷ rest) covers lt = record {
         let first = rows_with (s ∷ rest) i (height_at (s ∷ rest) i + height_at (s ∷ rest) (suc i)) (omega (arith, lt)) in
         let same = height_below (s ∷ rest) i (height_at (s ∷ rest) i + height_at (s ∷ rest) (suc i)) in
         let gone = rows_remove (with_height (s ∷ rest) i (height_at (s ∷ rest) i + height_at (s ∷ rest) (suc i))) (suc i)
-            (omega (arith, lt, long)) in
+        (omega (arith, lt, long)) in
         omega (arith, e, first, same, gone))
   ];
 }

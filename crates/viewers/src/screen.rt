@@ -5,8 +5,8 @@ ghost use Rattle.viewers.specs.Screen.{move_answer, open_answer, with_seats};
 ghost use Rattle.viewers.specs.Tracks.{Covers, can_open, place, rows};
 
 use crate::seats::{
-    MAX_HEIGHT, MAX_SEATS, MAX_WIDTH, MIN_HEIGHT, MIN_WIDTH, Seat, can_move, can_open, close, divide,
-    holder, move_border, place, seat_at, top, viewer_in,
+    MAX_HEIGHT, MAX_SEATS, MAX_WIDTH, MIN_HEIGHT, MIN_WIDTH, Seat, can_move, can_open, close,
+    divide, holder, move_border, place, seat_at, top, viewer_in,
 };
 use arrayvec::ArrayVec;
 use looks::Refusal;
@@ -93,7 +93,11 @@ fn move_in(
 
 // Closes a viewer of a track.
 #[tactic(auto, using(crate::proofs::Covering::few_rows, crate::proofs::Covering::closed_covers))]
-fn close_in(seats: &mut ArrayVec<Seat, MAX_SEATS>, height: usize, viewer: u32) -> Result<(), Refusal>
+fn close_in(
+    seats: &mut ArrayVec<Seat, MAX_SEATS>,
+    height: usize,
+    viewer: u32,
+) -> Result<(), Refusal>
     requires covered { Covers height seats.old.items }
     requires low { height ≤ MAX_HEIGHT }
     ensures value { result ≡ close_answer seats.old.items viewer }
