@@ -3,7 +3,7 @@ ghost use Rattle.piece_list.specs.Pieces.{IsPiece, front_of, rest_of, piece_of};
 ghost use Rattle.piece_list.specs.Pieces.{switched_piece, relooked_piece};
 ghost use Rattle.piece_list.specs.Shown.{looks_of, run_of};
 
-use crate::run::Run;
+use crate::name_run::NameRun;
 use char_files::SiteNo;
 use looks::{Colour, FontName, Key, Looks, Register, Sel};
 
@@ -33,7 +33,7 @@ pub struct Piece {
 
 impl Piece {
     /// The piece of a run, shown.
-    pub fn of_run(run: Run) -> Piece
+    pub fn of_run(run: NameRun) -> Piece
         ensures { result ≡ piece_of run }
     {
         let Looks {
@@ -66,10 +66,10 @@ impl Piece {
     }
 
     // The run of all its characters.
-    pub(crate) fn run(&self) -> Run
+    pub(crate) fn run(&self) -> NameRun
         ensures { result ≡ run_of self.now }
     {
-        Run {
+        NameRun {
             site: self.site,
             off: self.off,
             len: self.len,

@@ -6,7 +6,7 @@ ghost use Rattle.looks.specs.Looks.{IsLooks};
 ghost use Rattle.looks.specs.Refusal.{RefusedForMemoryAlone};
 ghost use Rattle.char_files.specs.Stretch.{items_of};
 ghost use Rattle.operations.specs.Spelling.{number_spelling};
-ghost use Rattle.text_file.specs.Files.{run_spelling, formatted, IsText, IsFileOf};
+ghost use Rattle.text_file.specs.Files.{run_spelling, formatted, HasFile, IsFileOf};
 
 use crate::MAX_TEXT;
 use crate::filling::push_char;
@@ -20,7 +20,7 @@ use std::alloc::{AllocError, Global};
 fn copy_of<S: Source>(alloc: Global, source: &S) -> Result<Buffer, Refusal>
     requires { length (S.items source.now) ≤ MAX_TEXT }
     ensures ok { IfOk result (λ text. text ≡ S.items source.now) }
-    ensures text { IfOk result (λ text. IsText text) }
+    ensures text { IfOk result (λ text. HasFile text) }
     ensures errors { RefusedForMemoryAlone result }
 {
     let mut text = Buffer::new(alloc);

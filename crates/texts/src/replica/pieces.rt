@@ -4,7 +4,7 @@ ghost use Rattle.std.specs.Prelude.{◌≡◌, ◌≤◌, length};
 ghost use Rattle.std.specs.Iterator.{YieldsFirst, item_count};
 ghost use Rattle.texts.specs.Edit.{pieces_of};
 
-use char_files::{Buffer, Run, runs_are_maximal};
+use char_files::{Buffer, Run};
 use looks::Looks;
 use operations::MAX_INSERT;
 use std::marker::Model;
@@ -54,7 +54,6 @@ impl<'a> Pieces<'a> {
         ensures value { result ≡ pieces_of buffer.now }
         ensures few { length result ≤ length buffer.now }
     {
-        runs_are_maximal();
         Pieces {
             runs: buffer.runs(),
             read: 0,
