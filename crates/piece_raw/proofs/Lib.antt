@@ -6,4 +6,5 @@ pub mod Memory
 pub mod Pairs
 pub mod Sharing
 pub mod Splits
+pub mod Walks
 pub mod Writing
