@@ -5,11 +5,12 @@ use mathlib.Core.Path.{◌≡◌, refl, sym, ap, subst, ◌∙◌}
 use Prim.Native.Nat.{ℕ, ◌+◌}
 use mathlib.Core.Option.{some}
 use mathlib.Core.List.{List, [], ◌∷◌, ◌++◌}
+use lib.Dec.{T}
 use seplogic.Ra.Ura.{Ura}
 use mir.Syntax.{Fn, Callee, Body, Local, named, local, value_local, ty_ptr, seq, block, assign, place, copy}
 use mir.Syntax.{field, deref, rv_opd, aggregate, return}
 use mir.Val.{Val, vptr}
-use base.Logic.{SProp, ent, never, via, fst∗}
+use base.Logic.{SProp, ent, sep, emp, never, via, mono_l, fst∗, snd∗, id⊢}
 use base.Fml.{Lft, Share, ftrue, flft}
 use prog.Wp.{WpFn, Closed}
 use prog.Memory.{field_of}
@@ -18,28 +19,31 @@ use types.Logic.{Logic, sem}
 use contract.Lifetimes.{Lfts}
 use contract.Monad.{fact}
 use contract.Running.{Running, MachineTables, tables}
-use types.Kit.{‵, ◌⊛◌, ⋆, ◌$◌, ◌∵◌, !, qed, by, move, keep, drop, use1, split, join, fsplit, fjoin, feq_l}
+use types.Kit.{‵, ◌⊛◌, ⋆, ◌$◌, ◌∵◌, !, qed, by, move, keep, drop, use0, use1, split, join, fsplit, fjoin, feq_l}
 use types.Kit.{at_ret, suffices, frame, done}
 use types.Part.{whole, sub, agg}
 use types.Run.{look, stop, hop, fld, from, load, of_opd, and_then, no_more, first, blocks, exec, returns}
 use types.Run.{enter}
 use types.ByLocal.{alloc_all, pass_all, free_all, look_at, look_in_at, get, sets, sets_last, env}
-use denote.Exit.{yes, no}
-use denote.RattleType.{RattleType, owns}
+use denote.Exit.{Last, left, yes, no}
+use denote.RattleType.{RattleType, Denots, Valss, flat, owns}
 use denote.Param.{layout}
+use denote.Param.Mute.{blank}
 use denote.Memory.{shared_of, hidden_shr}
 use denote.RawPtr.{Ptr, RawPtr, block_ptr, ◌+ₚ◌, in_a_block}
 use denote.Ref.{ShrRef}
 use denote.Builtin.{RefOf}
-use denote.Signature.{Slot, plain}
+use denote.Signature.{Slot, plain, types_at}
 use denote.Opens.{hide, unhide}
 use denote.Steps.{nothing}
 use denote.Struct.Lending.{lent_at}
 use denote.Triple.Carry.{grown, spared}
 use denote.Triple.Clauses.{Clauses, Ended, closing}
+use denote.Triple.End.{Fins, all}
 use denote.Triple.Statement.{Triple}
 use denote.Triple.Table.{run_framed}
-use denote.Triple.Walked.{says, needs, Stays, AllGo, stay_dropped, walk_of, ends_at, Goes-dropped}
+use denote.Triple.Walked.{says, needs, Stays, AllGo, stay_dropped, fits_of, has_of, walk_of, ends_at, Goes-dropped}
+use Rattle.std.proofs.alloc.Calls.{Goes-blank}
 use Rattle.std.proofs.raw_atomic.Walks.{proved_at}
 use Rattle.std.proofs.VecSteps.Shapes.{after}
 use Rattle.std.proofs.RcSteps.{Ptr-Good, word, word-Good}
@@ -62,6 +66,64 @@ module _ {M : Type 1} {𝓤 : Ura M} (𝓛 : Logic 𝓤) (𝓜 : Model 𝓤 𝓛
   proved E T hs c go k e closed walk =
       spared 𝓛 T.signature (𝓡.run (𝓡.env k)) (run_framed 𝓤 H 𝓜 𝓡 (𝓡.env k)) 1 (E.row.lives, tt) (closing 𝓛 T c)
       (proved_at 𝓛 T hs c 𝓜 𝓡 go k e closed (λ y are. walk y))
+
+-- parameters of which a call keeps nothing
+module _ {n : ℕ} where
+  abbrev pub dropped : (ss : List (Slot n)) → Stays ss (all no ss)
+  dropped [] = tt
+  dropped (s ∷ ss) = (stay_dropped s no, dropped ss)
+
+  -- nothing is said of what is left of them
+  abbrev pub Spent : List (Slot n) → Type 0
+  Spent [] = Unit {0}
+  Spent (s ∷ ss) = ((κs : Lfts n) (x : (s.row κs).Denot) (f : Last ((s.row κs).exit no) x)
+      → T (blank (left ((s.row κs).exit no) x f))) × Spent ss
+
+  all_fit : (κs : Lfts n) (ss : List (Slot n)) (a : Denots (types_at ss κs)) (ws : Fins κs ss (all no ss) a)
+      → fits_of κs ss (all no ss) (dropped ss) a ws
+  all_fit κs [] a ws = tt
+  all_fit κs (s ∷ ss) a ws = (tt, all_fit κs ss a.1 ws.1)
+
+  module _ {M : Type 1} {𝓤 : Ura M} (𝓛 : Logic 𝓤) where
+    all_go : (ss : List (Slot n)) → Spent ss → AllGo 𝓛 n ss (all no ss) (dropped ss)
+    all_go [] spent = tt
+    all_go (s ∷ ss) spent = (Goes-blank 𝓛 n s no spent.0, all_go ss spent.1)
+
+    none_left : (κs : Lfts n) (ss : List (Slot n)) (a : Denots (types_at ss κs)) (ws : Fins κs ss (all no ss) a)
+        (vss : Valss (types_at ss κs)) → ent 𝓤 (emp 𝓤) (sem 𝓛 (has_of κs ss (all no ss) (dropped ss) a ws vss))
+    none_left κs [] a ws vss = id⊢ 𝓤 (emp 𝓤)
+    none_left κs (s ∷ ss) a ws vss = qed 𝓛 [] ∵ use0 𝓛 (‵ (has_of κs ss (all no ss) (dropped ss) a.1 ws.1 vss.1))
+        (none_left κs ss a.1 ws.1 vss.1) $ nothing ! $ fjoin ! $ done !
+
+module _ (ss : List (Slot 0)) (out : Slot 0) where
+  abbrev by_value : Ended
+  by_value = record {
+    signature = record { lifetimes = 0; outlives = []; params = ss; result = out };
+    kept = all no ss;
+  }
+
+  module _ {M : Type 1} {𝓤 : Ura M} (𝓛 : Logic 𝓤) (𝓜 : Model 𝓤 𝓛.H) (𝓡 : Running 𝓤 𝓛.H 𝓜) (E : Of)
+      (Asks : Denots (types_at ss tt) → SProp 𝓤) (Gives : Denots (types_at ss tt) → (out.row tt).Denot → Type 0) where
+    open 𝓛 use {H}
+
+    abbrev taken : Clauses 𝓤 by_value
+    taken κs a = record { ghost = Unit {0}; requires = λ _. Asks a; ensures = λ _ r w. fact 𝓤 (Gives a r) }
+
+    pub takes : Spent ss → ((a : Denots (types_at ss tt)) → Fins tt ss (all no ss) a)
+        → (k : Callee) (e : Fn) → Closed 𝓤 H (𝓣 𝓛 𝓜 𝓡).C (𝓣 𝓛 𝓜 𝓡).Λ k e
+        → ((a : Denots (types_at ss tt)) (vss : Valss (types_at ss tt)) (Post : Val → SProp 𝓤)
+        → ((r : (out.row tt).Denot) (v : Val) → Gives a r → ent 𝓤 (sem 𝓛 ((out.row tt).own_val r (v ∷ []))) (Post v))
+        → ent 𝓤 (sep 𝓤 (sem 𝓛 (owns (types_at ss tt) a vss)) (Asks a)) (WpFn 𝓤 H (𝓣 𝓛 𝓜 𝓡).C (𝓣 𝓛 𝓜 𝓡).Λ e
+        (flat (types_at ss tt) vss) Post))
+        → Triple 𝓤 (𝓡.run (𝓡.env k)) (grown 𝓛 by_value.signature 1 (E.row.lives, tt) (closing 𝓛 by_value taken))
+    takes spent ws k e closed walk = proved 𝓛 𝓜 𝓡 E by_value (dropped ss) taken (all_go 𝓛 ss spent) k e closed (λ y.
+        let a = y.0.3 in let vss = y.0.4 in
+        via 𝓤 _ (mono_l 𝓤 (Asks a) (snd∗ 𝓤 (emp 𝓤) (sem 𝓛 (owns (types_at ss tt) a vss))))
+        (walk a vss ((walk_of 𝓛 by_value (dropped ss) taken).post y) (λ r v g.
+        qed 𝓛 (‵ ((out.row tt).own_val r (v ∷ [])) ∷ []) ∵
+        suffices ! _ (ends_at 𝓛 by_value (dropped ss) taken y v r (ws a) (all_fit tt ss a (ws a))) $ says ! g $
+        nothing ! $ frame ! $ use0 𝓛 (‵ (has_of tt ss (all no ss) (dropped ss) a (ws a) vss)) (none_left 𝓛 tt ss a (ws a) vss) $
+        done !)))
 
 module _ (E : Of) (out : Slot 1) where
   abbrev looked : Ended
