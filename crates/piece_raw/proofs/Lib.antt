@@ -1,6 +1,7 @@
 pub mod Apart
 pub mod Blocks
 pub mod Left
+pub mod Lending
 pub mod Matching
 pub mod Memory
 pub mod Pairs

@@ -40,7 +40,8 @@ use borrow.Table.OneValue.{part_in, part_out}
 use Rattle.std.proofs.RcSteps.{Good, word}
 use Rattle.piece_raw.specs.Linked.{Linked, same_ptr, last_from, places, HasNext, HasPrev, IsAt}
 use Rattle.piece_raw.specs.Ownership.{prev_of, next_of, link_room, edge, path, edge_lent, path_lent}
-use Rattle.piece_raw.specs.Ownership.{value_offset, value_of, value_owns, values_own, value_lent, values_lent, links_lent}
+use Rattle.piece_raw.specs.Ownership.{value_offset, value_of, value_owns, values_own, value_lent, values_lent}
+use Rattle.piece_raw.specs.Ownership.{links_lent}
 use Rattle.piece_raw.specs.contracts.links.Links as L-type
 use Rattle.piece_raw.specs.contracts.block.NodePtr as N-type
 use Rattle.piece_raw.specs.contracts.block.Room as R-type

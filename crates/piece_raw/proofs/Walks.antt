@@ -11,7 +11,7 @@ use mir.Syntax.{Fn, Callee, Body, Local, named, local, value_local, ty_ptr, seq,
 use mir.Syntax.{field, deref, rv_opd, aggregate, return}
 use mir.Val.{Val, vptr}
 use base.Logic.{SProp, ent, sep, emp, never, via, mono_l, fst∗, snd∗, id⊢}
-use base.Fml.{Lft, Share, ftrue, flft}
+use base.Fml.{Lft, Share, ftrue, flft, fobs, fbor}
 use prog.Wp.{WpFn, Closed}
 use prog.Memory.{field_of}
 use prog.Model.{Model}
@@ -19,8 +19,8 @@ use types.Logic.{Logic, sem}
 use contract.Lifetimes.{Lfts}
 use contract.Monad.{fact}
 use contract.Running.{Running, MachineTables, tables}
-use types.Kit.{‵, ◌⊛◌, ⋆, ◌$◌, ◌∵◌, !, qed, by, move, keep, drop, use0, use1, split, join, fsplit, fjoin, feq_l}
-use types.Kit.{at_ret, suffices, frame, done}
+use types.Kit.{Item, ‵, ◌⊛◌, ⋆, ◌$◌, ◌∵◌, !, qed, by, move, keep, drop, use0, use1, split, join, fsplit}
+use types.Kit.{fjoin, feq_l, at_ret, suffices, frame, done, fsplit3, fjoin3, feq_i, regoal, prop}
 use types.Part.{whole, sub, agg}
 use types.Run.{look, stop, hop, fld, from, load, of_opd, and_then, no_more, first, blocks, exec, returns}
 use types.Run.{enter}
@@ -29,10 +29,11 @@ use denote.Exit.{Last, left, yes, no}
 use denote.RattleType.{RattleType, Denots, Valss, flat, owns}
 use denote.Param.{layout}
 use denote.Param.Mute.{blank}
-use denote.Memory.{shared_of, hidden_shr}
+use types.SemTy.{Body as Borrowed}
+use denote.Memory.{mem, shared_of, hidden_shr}
 use denote.RawPtr.{Ptr, RawPtr, block_ptr, ◌+ₚ◌, in_a_block}
-use denote.Ref.{ShrRef}
-use denote.Builtin.{RefOf}
+use denote.Ref.{MutBor, MutRef, ShrRef, mut_vals, at_last}
+use denote.Builtin.{RefOf, RefMutOf}
 use denote.Signature.{Slot, plain, types_at}
 use denote.Opens.{hide, unhide}
 use denote.Steps.{nothing}
@@ -42,7 +43,8 @@ use denote.Triple.Clauses.{Clauses, Ended, closing}
 use denote.Triple.End.{Fins, all}
 use denote.Triple.Statement.{Triple}
 use denote.Triple.Table.{run_framed}
-use denote.Triple.Walked.{says, needs, Stays, AllGo, stay_dropped, fits_of, has_of, walk_of, ends_at, Goes-dropped}
+use denote.Triple.Walked.{says, needs, Stays, AllGo, stay_dropped, fits_of, has_of, walk_of, ends_at}
+use denote.Triple.Walked.{Goes-dropped, stay_ref, Goes-ref}
 use Rattle.std.proofs.alloc.Calls.{Goes-blank}
 use Rattle.std.proofs.raw_atomic.Walks.{proved_at}
 use Rattle.std.proofs.VecSteps.Shapes.{after}
@@ -50,7 +52,7 @@ use Rattle.std.proofs.RcSteps.{Ptr-Good, word, word-Good}
 use Rattle.piece_raw.specs.Linked.{places, round, IsApart}
 use Rattle.piece_raw.specs.Ownership.{path_lent, values_lent, links_lent}
 use Rattle.piece_raw.proofs.Blocks.{written}
-use Rattle.piece_raw.proofs.Memory.{Of, RV, Lr, Np, word_had, word_made, peer_in, peer_out}
+use Rattle.piece_raw.proofs.Memory.{Of, RV, Lr, Np, word_had, word_made, peer_in, peer_out, says_both}
 
 module _ {M : Type 1} {𝓤 : Ura M} (𝓛 : Logic 𝓤) (𝓜 : Model 𝓤 𝓛.H) (𝓡 : Running 𝓤 𝓛.H 𝓜) where
   open 𝓛 use {H}
@@ -85,7 +87,7 @@ module _ {n : ℕ} where
   all_fit κs (s ∷ ss) a ws = (tt, all_fit κs ss a.1 ws.1)
 
   module _ {M : Type 1} {𝓤 : Ura M} (𝓛 : Logic 𝓤) where
-    all_go : (ss : List (Slot n)) → Spent ss → AllGo 𝓛 n ss (all no ss) (dropped ss)
+    pub all_go : (ss : List (Slot n)) → Spent ss → AllGo 𝓛 n ss (all no ss) (dropped ss)
     all_go [] spent = tt
     all_go (s ∷ ss) spent = (Goes-blank 𝓛 n s no spent.0, all_go ss spent.1)
 
@@ -196,6 +198,81 @@ module _ (E : Of) (out : Slot 1) where
         (WpFn 𝓤 H (𝓣 𝓛 𝓜 𝓡).C (𝓣 𝓛 𝓜 𝓡).Λ e (ws.0 ++ (ws.1 ++ [])) Post))
         (λ j. (sym e0 j, (ap (λ (p : Ptr). word p ∷ []) (sym ep) ∙ sym e1) j))
         (walk (κ, tt) q self.ref_ptr.0 self.ref_ptr.1 b o x Post exits)))))))
+
+module _ (E : Of) {M : Type 1} {𝓤 : Ura M} (𝓛 : Logic 𝓤) where
+  -- a `&mut` to the links, with the token of its lifetime, and the rest
+  abbrev pub borrowed : Lft → Share → MutBor (Lr E).Denot → List (Item 𝓤) → List (Item 𝓤)
+  borrowed κ q l Γ =
+      ‵ (fobs l.ghost_name ((Lr E).coded.code l.now)) ∷ ‵ (fbor κ (Borrowed (mem (Lr E)) l.ref_ptr.0 l.ref_ptr.1 l.ghost_name))
+      ∷ ‵ (flft κ q) ∷ Γ
+
+  -- a call that is passed it, a node and more
+  pub enters : (κ : Lft) (q : Share) (l : MutBor (Lr E).Denot) (node : (Np E).Denot) (Rs : List RattleType) (a : Denots Rs)
+      (us0 us1 : List Val) (vss : Valss Rs) (Q : List Val → SProp 𝓤)
+      → (us0 ≡ mut_vals l → ent 𝓤 (⋆ 𝓛 (borrowed κ q l (‵ (owns Rs a vss) ∷ []))) (Q (mut_vals l ++ word node.ptr ∷ flat Rs vss)))
+      → ent 𝓤 (⋆ 𝓛 ((‵ (flft κ q) ⊛ ‵ ftrue) ∷ ‵ (owns (MutRef (named 0) κ (Lr E) ∷ Np E ∷ Rs) (l, (node, a)) (us0, (us1, vss))) ∷ []))
+      (Q (us0 ++ (us1 ++ flat Rs vss)))
+  enters κ q l node Rs a us0 us1 vss Q walk =
+      qed 𝓛 ((‵ (flft κ q) ⊛ ‵ ftrue) ∷ ‵ (owns (MutRef (named 0) κ (Lr E) ∷ Np E ∷ Rs) (l, (node, a)) (us0, (us1, vss))) ∷ []) ∵
+      split ! $ move ! (2 ∷ []) $ fsplit ! $ fsplit3 ! $ feq_l ! (λ e0. move ! (2 ∷ []) $ fsplit ! $ word_had ! node.ptr us1 (λ e1.
+      keep ! (1 ∷ 2 ∷ 3 ∷ 0 ∷ []) $
+      regoal ! (λ (ws : List Val × List Val). prop (Q (ws.0 ++ (ws.1 ++ flat Rs vss)))) (λ i. (e0 i, e1 i)) refl $
+      by ! (walk e0)))
+
+module _ (E : Of) (ss : List (Slot 1)) (out : Slot 1) where
+  abbrev changed : Ended
+  changed = record {
+    signature = record {
+      lifetimes = 1;
+      outlives = [];
+      params = RefMutOf (0 ∷ []) tt (plain (λ _. Lr E)) (λ _. tt) ∷ plain (λ _. Np E) ∷ ss;
+      result = out;
+    };
+    kept = (yes, (no, all no ss));
+  }
+
+  abbrev handed_back : Stays changed.signature.params changed.kept
+  handed_back = (stay_ref (0 ∷ []) tt (plain (λ _. Lr E)), dropped (plain (λ _. Np E) ∷ ss))
+
+  -- Gives: what a call says of its result and of the new links, whose trailer stays
+  module _ {M : Type 1} {𝓤 : Ura M} (𝓛 : Logic 𝓤) (𝓜 : Model 𝓤 𝓛.H) (𝓡 : Running 𝓤 𝓛.H 𝓜)
+      (Asks : (Lr E).Denot → (Np E).Denot → Type 0) (Gives : (κs : Lfts 1) → (Lr E).Denot → (Np E).Denot →
+      Denots (types_at ss κs) → (out.row κs).Denot → (Lr E).Denot → Type 0) where
+    open 𝓛 use {H}
+
+    abbrev said : Clauses 𝓤 changed
+    said κs a = record {
+      ghost = Unit {0};
+      requires = λ _. fact 𝓤 (Asks a.0.now a.1.0);
+      ensures = λ _ r w. sep 𝓤 (fact 𝓤 (w.0.now.trailer ≡ a.0.now.trailer)) (fact 𝓤 (Gives κs a.0.now a.1.0 a.1.1 r w.0.now));
+    }
+
+    pub changes : Spent ss → ((κs : Lfts 1) (a : Denots (types_at ss κs)) → Fins κs ss (all no ss) a)
+        → (k : Callee) (e : Fn) → Closed 𝓤 H (𝓣 𝓛 𝓜 𝓡).C (𝓣 𝓛 𝓜 𝓡).Λ k e
+        → ((κs : Lfts 1) (q : Share) (l : MutBor (Lr E).Denot) (node : (Np E).Denot) (a : Denots (types_at ss κs))
+        (vss : Valss (types_at ss κs)) (Post : Val → SProp 𝓤) → Asks l.now node
+        → ((r : (out.row κs).Denot) (v : Val) (new : (Lr E).Denot) → new.trailer ≡ l.now.trailer → Gives κs l.now node a r new
+        → ent 𝓤 (⋆ 𝓛 (borrowed E 𝓛 κs.0 q (at_last l new) (‵ ((out.row κs).own_val r (v ∷ [])) ∷ []))) (Post v))
+        → ent 𝓤 (⋆ 𝓛 (borrowed E 𝓛 κs.0 q l (‵ (owns (types_at ss κs) a vss) ∷ []))) (WpFn 𝓤 H (𝓣 𝓛 𝓜 𝓡).C (𝓣 𝓛 𝓜 𝓡).Λ e
+        (mut_vals l ++ word node.ptr ∷ flat (types_at ss κs) vss) Post))
+        → Triple 𝓤 (𝓡.run (𝓡.env k)) (grown 𝓛 changed.signature 1 (E.row.lives, tt) (closing 𝓛 changed said))
+    changes spent ws k e closed walk =
+        proved 𝓛 𝓜 𝓡 E changed handed_back said (
+          Goes-ref 𝓛 1 0 tt (plain (λ _. Lr E)),
+          all_go 𝓛 (plain (λ _. Np E) ∷ ss) ((λ κs x f. tt), spent),
+        ) k e closed (λ y.
+        let κs : Lfts 1 = (y.0.0.0, tt) in let q = y.0.1.0 in let l = y.0.3.0 in let node = y.0.3.1.0 in
+        let a = y.0.3.1.1 in let us0 = y.0.4.0 in let vss = y.0.4.1.1 in
+        let Post : Val → SProp 𝓤 = (walk_of 𝓛 changed handed_back said).post y in
+        needs 𝓤 (Asks l.now node) _ (λ asked.
+        enters E 𝓛 κs.0 q l node (types_at ss κs) a us0 y.0.4.1.0 vss (λ vs. WpFn 𝓤 H (𝓣 𝓛 𝓜 𝓡).C (𝓣 𝓛 𝓜 𝓡).Λ e vs Post) (λ passed.
+        walk κs q l node a vss Post asked (λ r v new g0 g1.
+        qed 𝓛 (borrowed E 𝓛 κs.0 q (at_last l new) (‵ ((out.row κs).own_val r (v ∷ [])) ∷ [])) ∵
+        suffices ! _ (ends_at 𝓛 changed handed_back said y v r (new, (tt, ws κs a)) (tt, (tt, all_fit κs ss a (ws κs a)))) $
+        says_both ! g0 g1 $ nothing ! $ move ! (3 ∷ 0 ∷ []) $ join ! $ frame ! $
+        feq_i ! (List Val) us0 (mut_vals l) passed $ fjoin3 ! $
+        use0 𝓛 (‵ (has_of κs ss (all no ss) (dropped ss) a (ws κs a) vss)) (none_left 𝓛 κs ss a (ws κs a) vss) $
+        nothing ! $ fjoin ! $ move ! (1 ∷ 0 ∷ []) $ fjoin ! $ done !))))
 
 -- the locals and the body of a call that gives the pointer in field i of a node
 module _ (E : Of) where
