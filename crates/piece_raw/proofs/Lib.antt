@@ -5,6 +5,7 @@ pub mod Lending
 pub mod Matching
 pub mod Memory
 pub mod Pairs
+pub mod Serving
 pub mod Sharing
 pub mod Splits
 pub mod Walks

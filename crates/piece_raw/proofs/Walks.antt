@@ -81,7 +81,7 @@ module _ {n : ℕ} where
   Spent (s ∷ ss) = ((κs : Lfts n) (x : (s.row κs).Denot) (f : Last ((s.row κs).exit no) x)
       → T (blank (left ((s.row κs).exit no) x f))) × Spent ss
 
-  all_fit : (κs : Lfts n) (ss : List (Slot n)) (a : Denots (types_at ss κs)) (ws : Fins κs ss (all no ss) a)
+  pub all_fit : (κs : Lfts n) (ss : List (Slot n)) (a : Denots (types_at ss κs)) (ws : Fins κs ss (all no ss) a)
       → fits_of κs ss (all no ss) (dropped ss) a ws
   all_fit κs [] a ws = tt
   all_fit κs (s ∷ ss) a ws = (tt, all_fit κs ss a.1 ws.1)
@@ -91,7 +91,7 @@ module _ {n : ℕ} where
     all_go [] spent = tt
     all_go (s ∷ ss) spent = (Goes-blank 𝓛 n s no spent.0, all_go ss spent.1)
 
-    none_left : (κs : Lfts n) (ss : List (Slot n)) (a : Denots (types_at ss κs)) (ws : Fins κs ss (all no ss) a)
+    pub none_left : (κs : Lfts n) (ss : List (Slot n)) (a : Denots (types_at ss κs)) (ws : Fins κs ss (all no ss) a)
         (vss : Valss (types_at ss κs)) → ent 𝓤 (emp 𝓤) (sem 𝓛 (has_of κs ss (all no ss) (dropped ss) a ws vss))
     none_left κs [] a ws vss = id⊢ 𝓤 (emp 𝓤)
     none_left κs (s ∷ ss) a ws vss = qed 𝓛 [] ∵ use0 𝓛 (‵ (has_of κs ss (all no ss) (dropped ss) a.1 ws.1 vss.1))
