@@ -18,7 +18,7 @@ use base.Fml.{Fml, Lft, Share, ftrue, feq, fat, froom, flft}
 use prog.Model.{Model}
 use types.Logic.{Logic, sem}
 use contract.Monad.{fact, fact_i, fact_use}
-use types.Kit.{Item, Goal, Seq, Step, Soaks, step, mean, prop, ‵, raw, some, ◌⊛◌, ◌$◌, ◌∵◌, !, qed, by, move}
+use types.Kit.{Item, ⋆, Goal, Seq, Step, Soaks, step, mean, prop, ‵, raw, some, ◌⊛◌, ◌$◌, ◌∵◌, !, qed, by, move}
 use types.Kit.{keep, drop, use0, use1, use2, pick, split, check, show, frame, fsplit, fjoin, fpick, fpack}
 use types.Kit.{feq_i, feq_l, rewrite, done}
 use denote.RattleType.{RattleType, Valss}
@@ -319,23 +319,20 @@ module _ {M : Type 1} {𝓤 : Ura M} (𝓛 : Logic 𝓤) (𝓜 : Model 𝓤 𝓛
         | false ↦ λ e. fact_i 𝓤 (same_ptr p q ≡ false) (F q) e
       ]) refl
 
+  -- room for the links of the node at p, beside an edge from a to b whose pointers lie with q and with r
+  abbrev ends : (p q a r b : Ptr) → List (Item 𝓤)
+  ends p q a r b = ‵ (link_room p) ∷ ‵ (lies_at RawPtr full_share (next_of q) b)
+      ∷ ‵ (lies_at RawPtr full_share (prev_of r) a) ∷ []
+
   fresh_source : (p a b : Ptr) → ent 𝓤 (sep 𝓤 (sem 𝓛 (link_room p)) (sem 𝓛 (edge a b)))
       (fact 𝓤 (same_ptr p a ≡ false))
-  fresh_source p a b = differ p a (λ r. sep 𝓤 (sem 𝓛 (link_room p))
-      (sep 𝓤 (sem 𝓛 (lies_at RawPtr full_share (next_of r) b)) (sem 𝓛 (lies_at RawPtr full_share (prev_of b)
-      a))))
-      (qed 𝓛 (‵ (link_room p) ∷ ‵ (lies_at RawPtr full_share (next_of p) b)
-      ∷ ‵ (lies_at RawPtr full_share (prev_of b) a) ∷ []) ∵ fsplit ! $ keep ! (1 ∷ 2 ∷ []) $
-      by ! (clash (next_of p) b))
+  fresh_source p a b = differ p a (λ q. ⋆ 𝓛 (ends p q a b b)) (qed 𝓛 (ends p p a b b) ∵ fsplit ! $
+      keep ! (1 ∷ 2 ∷ []) $ by ! (clash (next_of p) b))
 
   fresh_target : (p a b : Ptr) → ent 𝓤 (sep 𝓤 (sem 𝓛 (link_room p)) (sem 𝓛 (edge a b)))
       (fact 𝓤 (same_ptr p b ≡ false))
-  fresh_target p a b = differ p b (λ r. sep 𝓤 (sem 𝓛 (link_room p))
-      (sep 𝓤 (sem 𝓛 (lies_at RawPtr full_share (next_of a) b)) (sem 𝓛 (lies_at RawPtr full_share (prev_of r)
-      a))))
-      (qed 𝓛 (‵ (link_room p) ∷ ‵ (lies_at RawPtr full_share (next_of a) b)
-      ∷ ‵ (lies_at RawPtr full_share (prev_of p) a) ∷ []) ∵ fsplit ! $ keep ! (0 ∷ 3 ∷ []) $
-      by ! (clash (prev_of p) a))
+  fresh_target p a b = differ p b (λ r. ⋆ 𝓛 (ends p a a r b)) (qed 𝓛 (ends p a a p b) ∵ fsplit ! $
+      keep ! (0 ∷ 3 ∷ []) $ by ! (clash (prev_of p) a))
 
   fresh_along : (p a : Ptr) (ps : List Ptr) → ent 𝓤 (sep 𝓤 (sem 𝓛 (link_room p)) (sem 𝓛 (path a ps)))
       (fact 𝓤 (IsFresh p ps))

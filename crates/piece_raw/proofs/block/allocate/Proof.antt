@@ -66,8 +66,7 @@ pub allocate_spec : {M : Type 1} → stated.statement M
 allocate_spec 𝓤 𝓛 𝓜 𝓡 wired X W LX LW g d dd met md =
     let E : Of = record { row = X; laws = LX } in
     let Z : Al = record { row = W; laws = LW; g = g; d = d; drops = dd } in
-    let T = 𝓣 𝓛 𝓜 𝓡 in
-    let e : Fn = inst_fn (args E Z) code.function in
+    let T = 𝓣 𝓛 𝓜 𝓡 in let e : Fn = inst_fn (args E Z) code.function in
     let R = Takes Z 𝓛 𝓜.mem 𝓡.returns in
     served E Z [] (plain (λ _. Out E Z)) 𝓛 𝓜 𝓡 (λ κs a _. emp 𝓤) (λ κs a _ r. fact 𝓤 (Gives E Z a r)) tt (λ κs _. tt)
     (#self (args E Z)) e (code.unfolded 𝓤 𝓛.H 𝓜 𝓡 wired (X, (W, tt)) d dd) (λ κs q rb ro a _ uss others Post within exits.

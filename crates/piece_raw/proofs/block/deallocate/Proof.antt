@@ -46,8 +46,7 @@ pub deallocate_spec : {M : Type 1} → stated.statement M
 deallocate_spec 𝓤 𝓛 𝓜 𝓡 wired X W LX LW g d dd met md =
     let E : Of = record { row = X; laws = LX } in
     let Z : Al = record { row = W; laws = LW; g = g; d = d; drops = dd } in
-    let T = 𝓣 𝓛 𝓜 𝓡 in
-    let e : Fn = inst_fn (args E Z) code.function in
+    let T = 𝓣 𝓛 𝓜 𝓡 in let e : Fn = inst_fn (args E Z) code.function in
     let R = Gives Z 𝓛 𝓜.mem 𝓡.returns in
     served E Z (plain (λ _. Rm E) ∷ plain (λ _. Bl E Z) ∷ []) (plain (λ _. unit)) 𝓛 𝓜 𝓡
     (λ κs a more. fact 𝓤 ((more.1.0.deed.at ≡ more.0.ptr) × (more.1.0.deed.alloc ≡ a))) (λ κs a more r. emp 𝓤)

@@ -33,8 +33,7 @@ use Rattle.piece_raw.proofs.block.Detached.take.Code as code
 pub take_spec : {M : Type 1} → stated.statement M
 take_spec 𝓤 𝓛 𝓜 𝓡 wired X LX y =
     let E : Of = record { row = X; laws = LX } in
-    let T = 𝓣 𝓛 𝓜 𝓡 in
-    let e : Fn = inst_fn (args E) code.function in
+    let T = 𝓣 𝓛 𝓜 𝓡 in let e : Fn = inst_fn (args E) code.function in
     takes (plain (λ _. Dt E) ∷ []) (plain (λ _. Tuple (RV E ∷ Rm E ∷ []))) 𝓛 𝓜 𝓡 E (λ a. emp 𝓤)
     (λ a r. (r.0 ≡ a.0.value) × (r.1.ptr ≡ a.0.ptr)) ((λ κs x f. tt), tt) (λ a. (tt, tt))
     (#self (args E)) e (code.unfolded 𝓤 𝓛.H 𝓜 𝓡 wired (X, tt)) (λ a vss Post exits.

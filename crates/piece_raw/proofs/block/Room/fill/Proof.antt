@@ -31,8 +31,7 @@ use Rattle.piece_raw.proofs.block.Room.fill.Code as code
 pub fill_spec : {M : Type 1} → stated.statement M
 fill_spec 𝓤 𝓛 𝓜 𝓡 wired X LX y =
     let E : Of = record { row = X; laws = LX } in
-    let T = 𝓣 𝓛 𝓜 𝓡 in
-    let e : Fn = inst_fn (args E) code.function in
+    let T = 𝓣 𝓛 𝓜 𝓡 in let e : Fn = inst_fn (args E) code.function in
     takes (plain (λ _. Rm E) ∷ plain (λ _. RV E) ∷ []) (plain (λ _. Dt E)) 𝓛 𝓜 𝓡 E (λ a. emp 𝓤)
     (λ a r. (r.ptr ≡ a.0.ptr) × (r.value ≡ a.1.0)) ((λ κs x f. tt), ((λ κs x f. tt), tt)) (λ a. (tt, (tt, tt)))
     (#self (args E)) e (code.unfolded 𝓤 𝓛.H 𝓜 𝓡 wired (X, tt)) (λ a vss Post exits.

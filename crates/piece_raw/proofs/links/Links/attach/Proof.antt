@@ -33,8 +33,7 @@ use Rattle.piece_raw.proofs.links.Links.attach.Code as code
 pub attach_spec : {M : Type 1} → stated.statement M
 attach_spec 𝓤 𝓛 𝓜 𝓡 wired X LX y =
     let E : Of = record { row = X; laws = LX } in
-    let T = 𝓣 𝓛 𝓜 𝓡 in
-    let e : Fn = inst_fn (args E) code.function in
+    let T = 𝓣 𝓛 𝓜 𝓡 in let e : Fn = inst_fn (args E) code.function in
     changes E (plain (λ _. Dt E) ∷ []) (plain (λ _. unit)) 𝓛 𝓜 𝓡 (λ d head. IsOn d.trailer d.nodes head.ptr)
     (λ κs d head a r new. (xs : List (Member E)) × (ys : List (Member E)) × IsCut d.trailer d.nodes head.ptr xs ys
     × (new.nodes ≡ xs ++ linked a.0.ptr a.0.value ∷ ys)) ((λ κs x f. tt), tt) (λ κs a. (tt, tt))

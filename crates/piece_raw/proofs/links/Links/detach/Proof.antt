@@ -31,8 +31,7 @@ use Rattle.piece_raw.proofs.links.Links.detach.Code as code
 pub detach_spec : {M : Type 1} → stated.statement M
 detach_spec 𝓤 𝓛 𝓜 𝓡 wired X LX y =
     let E : Of = record { row = X; laws = LX } in
-    let T = 𝓣 𝓛 𝓜 𝓡 in
-    let e : Fn = inst_fn (args E) code.function in
+    let T = 𝓣 𝓛 𝓜 𝓡 in let e : Fn = inst_fn (args E) code.function in
     let Cut = λ (r : (Dt E).Denot) (new : (Lr E).Denot) (xs : List (Member E)) (n : Member E) (ys : List (Member E)).
     (new.nodes ≡ xs ++ ys) × (n ≡ linked r.ptr r.value) in
     changes E [] (plain (λ _. Dt E)) 𝓛 𝓜 𝓡 (λ d node. IsAt d.nodes node.ptr)

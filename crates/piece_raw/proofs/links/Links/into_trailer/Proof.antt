@@ -29,8 +29,7 @@ use Rattle.piece_raw.proofs.links.Links.into_trailer.Code as code
 pub into_trailer_spec : {M : Type 1} → stated.statement M
 into_trailer_spec 𝓤 𝓛 𝓜 𝓡 wired X LX y =
     let E : Of = record { row = X; laws = LX } in
-    let T = 𝓣 𝓛 𝓜 𝓡 in
-    let e : Fn = inst_fn (args E) code.function in
+    let T = 𝓣 𝓛 𝓜 𝓡 in let e : Fn = inst_fn (args E) code.function in
     takes (plain (λ _. Lr E) ∷ plain (λ _. Np E) ∷ []) (plain (λ _. Dt E)) 𝓛 𝓜 𝓡 E
     (λ a. fact 𝓤 ((a.1.0.ptr ≡ a.0.trailer.at) × (a.0.nodes ≡ []))) (λ a r. a.0.trailer ≡ linked r.ptr r.value)
     ((λ κs x f. tt), ((λ κs x f. tt), tt)) (λ a. (tt, (tt, tt)))

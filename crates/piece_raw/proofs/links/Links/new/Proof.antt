@@ -29,8 +29,7 @@ use Rattle.piece_raw.proofs.links.Links.new.Code as code
 pub new_spec : {M : Type 1} → stated.statement M
 new_spec 𝓤 𝓛 𝓜 𝓡 wired X LX y =
     let E : Of = record { row = X; laws = LX } in
-    let T = 𝓣 𝓛 𝓜 𝓡 in
-    let e : Fn = inst_fn (args E) code.function in
+    let T = 𝓣 𝓛 𝓜 𝓡 in let e : Fn = inst_fn (args E) code.function in
     takes (plain (λ _. Dt E) ∷ []) (plain (λ _. Lr E)) 𝓛 𝓜 𝓡 E (λ a. emp 𝓤)
     (λ a r. (r.trailer ≡ linked a.0.ptr a.0.value) × (r.nodes ≡ [])) ((λ κs x f. tt), tt) (λ a. (tt, tt))
     (#self (args E)) e (code.unfolded 𝓤 𝓛.H 𝓜 𝓡 wired (X, tt)) (λ a vss Post exits.

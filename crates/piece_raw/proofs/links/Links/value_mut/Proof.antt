@@ -64,8 +64,7 @@ said E {𝓤 = 𝓤} 𝓛 κs a = record {
 pub value_mut_spec : {M : Type 1} → stated.statement M
 value_mut_spec 𝓤 𝓛 𝓜 𝓡 wired X LX y =
     let E : Of = record { row = X; laws = LX } in
-    let T = 𝓣 𝓛 𝓜 𝓡 in
-    let e : Fn = inst_fn (args E) code.function in
+    let T = 𝓣 𝓛 𝓜 𝓡 in let e : Fn = inst_fn (args E) code.function in
     let slots = (called E).signature.params in
     proved 𝓛 𝓜 𝓡 E (called E) (dropped slots) (said E 𝓛) (all_go 𝓛 slots ((λ κs x f. tt), ((λ κs x f. tt), tt)))
     (#self (args E)) e (code.unfolded 𝓤 𝓛.H 𝓜 𝓡 wired (X, tt)) (λ z.
