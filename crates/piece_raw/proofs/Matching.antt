@@ -1,15 +1,15 @@
 -- What the links and the table know of one another.
 use Rattle.std.proofs.Common.{◌≡◌, ℕ, zero, suc, ◌+◌, ◌<◌, false, List, [], ◌∷◌, ◌++◌, map, length, slice_get}
-use Rattle.std.proofs.Common.{Some, None, option_map, ◌⊎◌, inl, inr, refl, sym, ap, ◌∙◌, subst, arith}
+use Rattle.std.proofs.Common.{Option, Some, None, option_map, ◌⊎◌, inl, inr, refl, sym, ap, ◌∙◌, subst, arith}
 use Rattle.std.proofs.Common.{append_assoc, length-append}
 use Rattle.std.specs.List.{AllByRecursion}
 use Rattle.std.proofs.lemmas.List.{map-append}
 use Rattle.std.proofs.lemmas.Option.{slice_get_within}
 use denote.RawPtr.{Ptr}
 use Rattle.piece_raw.specs.declared.nodes.Member.{Member}
-use Rattle.piece_raw.specs.Linked.{Linked, same_ptr, last_from, places, round, IsApart, HasNext}
+use Rattle.piece_raw.specs.Linked.{Linked, same_ptr, last_from, places, round, IsApart, HasNext, HasPrev}
 use Rattle.piece_raw.specs.Ring.{tags, stops, Follows, last_tag}
-use Rattle.piece_raw.specs.Tied.{Held, item_of, members, stop_of, IsAmong, IsHeld, Matches}
+use Rattle.piece_raw.specs.Tied.{Held, item_of, members, stop_of, IsAmong, IsStop, IsHeld, Matches}
 use Rattle.piece_raw.proofs.Splits.{cons_head, cons_tail, nil_ne_cut, last_from-push, cut_last, all_left}
 use Rattle.piece_raw.proofs.Splits.{all_right, all_both, distinct_differs}
 use Rattle.piece_raw.proofs.Apart.{same_ptr_refl, same_ptr_symm, same_node}
@@ -181,6 +181,32 @@ module _ {T : Type 0} where
       let step = step_after t ns xs x ys c in
       subst (λ (q : Ptr). HasNext (round t ns) q step.0.at) (sym at)
       (round_step t ns xs x step.0 step.1 step.2)
+
+  -- the node after that of a stop, of which it is the next one
+  pub next_stop : (t : N T) (ns : List (N T)) (stop : Option ℕ) (s : IsStop (t ∷ ns) stop) (p : Ptr) → p ≡ s.0.at →
+      (y : N T) × HasNext (round t ns) p y.at × IsAmong (t ∷ ns) y
+      × ((ps : List Ptr) → t.value ≡ None → AllHeld ps ns → Follows (members ns) stop (stop_of y))
+  next_stop t ns stop (x, among, is) p at =
+      let step = step_after t ns among.0 x among.1 among.2 in (
+        step.0,
+        pointer_after t ns among.0 x among.1 among.2 p at,
+        step.3,
+        λ ps none held. subst (λ (c : Option ℕ). Follows (members ns) c (stop_of step.0)) is
+            (stops_step ps t none ns held among.0 x step.0 step.1 step.2),
+      )
+
+  -- the node before that of a stop, of which it is the one before
+  pub prev_stop : (t : N T) (ns : List (N T)) (stop : Option ℕ) (s : IsStop (t ∷ ns) stop) (p : Ptr) → p ≡ s.0.at →
+      (y : N T) × HasPrev (round t ns) p y.at × IsAmong (t ∷ ns) y
+      × ((ps : List Ptr) → t.value ≡ None → AllHeld ps ns → Follows (members ns) (stop_of y) stop)
+  prev_stop t ns stop (x, among, is) p at =
+      let step = step_before t ns among.0 x among.1 among.2 in (
+        step.0,
+        subst (λ (q : Ptr). HasPrev (round t ns) q step.0.at) (sym at) (round_step t ns step.1 step.0 x step.2 step.3),
+        step.4,
+        λ ps none held. subst (λ (c : Option ℕ). Follows (members ns) (stop_of step.0) c) is
+            (stops_step ps t none ns held step.1 step.0 x step.2 step.3),
+      )
 
   pub places_last : (t : N T) (xs : List (N T)) → last_from t.at (places xs) ≡ (last_from t xs).at
   places_last t [] = refl
