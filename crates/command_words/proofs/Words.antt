@@ -21,7 +21,7 @@ pub record IsNear (bytes : List ℕ) (pos beg end : ℕ) : Type 0 where
   pub behind : end < length bytes → end - pos < 32 → is_name_byte (get_or bytes end 0) ≡ false
 
 -- a byte can't be both
-both : (b : ℕ) → is_name_byte b ≡ true → is_name_byte b ≡ false → ⊥
+pub both : (b : ℕ) → is_name_byte b ≡ true → is_name_byte b ≡ false → ⊥
 both b passes fails = cc
 
 -- where it is short it is the word
