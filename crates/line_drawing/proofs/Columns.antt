@@ -1,12 +1,11 @@
 -- Positions of cells.
-use Rattle.std.proofs.Common.{◌≡◌, ℕ, zero, suc, ◌+◌, ◌-◌, ◌<◌, ◌≤◌, List, [], ◌∷◌, length, take, drop, get_or, min}
-use Rattle.std.proofs.Common.{refl, sym, ap, subst, ◌∙◌, inl, inr, arith}
+use Rattle.std.proofs.Common.{◌≡◌, ℕ, zero, suc, ◌+◌, ◌-◌, ◌<◌, ◌≤◌, List, [], ◌∷◌, length, take, drop, get_or}
+use Rattle.std.proofs.Common.{refl, sym, ap, ◌∙◌, inl, inr, arith}
 use Rattle.std.proofs.lemmas.Bool.{cases_lt}
 use Rattle.std.proofs.lemmas.List.{get_or-take, get_or-drop}
-use Rattle.line_drawing.specs.declared.drawing.TheConstants.{LINE_END}
 use Rattle.line_drawing.specs.Lines.{lines, line_at, extent, beg_of, end_of}
-use Rattle.line_drawing.specs.Rows.{cells_of, place_of, sign_of}
-use Rattle.line_drawing.specs.Laws.{IsBetweenEnds, IsLocated}
+use Rattle.line_drawing.specs.Rows.{place_of, sign_of}
+use Rattle.line_drawing.specs.Laws.{IsLocated}
 use Rattle.line_drawing.proofs.Lines.{beg_is, extent-next, extent-lines}
 use Rattle.line_drawing.proofs.Cells.{cell-sign, cell-blank}
 use Rattle.line_drawing.proofs.Stands.{stands_between, end-back}

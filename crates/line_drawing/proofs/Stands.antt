@@ -1,11 +1,11 @@
 -- Where lines stand: between the ends of lines.
-use Rattle.std.proofs.Common.{◌≡◌, ◌≢◌, ℕ, zero, suc, ◌+◌, ◌-◌, ◌<◌, ◌≤◌, List, [], ◌∷◌, length, take, drop, get_or, min}
+use Rattle.std.proofs.Common.{◌≡◌, ◌≢◌, ℕ, zero, suc, ◌+◌, ◌-◌, ◌<◌, ◌≤◌, List, [], ◌∷◌, length, take, drop, get_or}
 use Rattle.std.proofs.Common.{refl, sym, ap, subst, ◌∙◌, inl, inr, arith}
 use Rattle.std.proofs.lemmas.Bool.{cases_eq, cases_lt}
 use Rattle.line_drawing.specs.declared.drawing.TheConstants.{LINE_END}
-use Rattle.line_drawing.specs.Lines.{lines, line_at, onto_first, ends_in, extent, beg_of, end_of}
+use Rattle.line_drawing.specs.Lines.{lines, onto_first, ends_in, extent, beg_of, end_of}
 use Rattle.line_drawing.specs.Laws.{IsBetweenEnds, StandsBetween, IsOnLine, LiesOnOneLine}
-use Rattle.line_drawing.proofs.Lines.{lines-end, lines-other, some_line, beg_is, extent-next, extent-lines, extent-take}
+use Rattle.line_drawing.proofs.Lines.{lines-end, lines-other, some_line, beg_is}
 use Rattle.line_drawing.proofs.Begins.{ends-end, ends-other}
 
 -- where line k of these lines begins and ends, if they take all bytes
