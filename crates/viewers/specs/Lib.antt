@@ -1,2 +1,4 @@
+pub mod Lends
 pub mod Screen
 pub mod Tracks
+pub mod Viewers
