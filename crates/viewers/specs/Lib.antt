@@ -1,3 +1,4 @@
+pub mod Laws
 pub mod Lends
 pub mod Screen
 pub mod Tracks
