@@ -1,9 +1,9 @@
 -- Tracks that are covered.
-use Rattle.std.proofs.Common.{◌≡◌, ℕ, ◌<◌, ◌≤◌, ◌⊎◌, List, [], ◌∷◌, length, zero, suc, ◌+◌, ◌-◌, ◌*◌, IsTrue, true, leb-true, take, drop, refl, ap, subst, sym, inl, inr, arith}
+use Rattle.std.proofs.Common.{◌≡◌, ℕ, ◌<◌, ◌≤◌, ◌⊎◌, List, [], ◌∷◌, length, zero, suc, ◌+◌, ◌-◌, ◌*◌, true, leb-true, refl, ap, subst, sym, inl, inr, arith}
 use Rattle.viewers.specs.declared.seats.Seat.{Seat}
-use Rattle.viewers.specs.Tracks.{AreTall, Covers, rows, top, bottom, height_at, seat_at, with_height, can_move, moved, can_open, holder, divided, cut, opened, closed, heir}
+use Rattle.viewers.specs.Tracks.{AreTall, Covers, rows, top, bottom, height_at, with_height, moved, can_open, holder, divided, cut, opened, closed}
 use Rattle.std.specs.List.{insert, remove}
-use Rattle.viewers.proofs.Rows.{next_top, next_bound, holder_there}
+use Rattle.viewers.proofs.Rows.{next_top, holder_there}
 
 -- a blank track
 pub blank : (height : ℕ) → Covers height []

@@ -1,2 +1,9 @@
 pub mod Covering
+pub mod Entries
+pub mod Keeping
+pub mod Numbers
+pub mod Others
 pub mod Rows
+pub mod Screens
+pub mod Seating
+pub mod Tallest

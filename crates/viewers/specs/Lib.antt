@@ -1,2 +1,5 @@
+pub mod Laws
+pub mod Lends
 pub mod Screen
 pub mod Tracks
+pub mod Viewers

@@ -1,5 +1,5 @@
--- A screen: two tracks of one height side by side.
-use Rattle.std.specs.Prelude.{◌≡◌, ℕ, ◌+◌, ◌*◌, ◌/◌, ◌-◌, ◌≤◌, Bool, nat_lt, ◌&&◌, not, if◌then◌else◌}
+-- The tracks of a screen: two of one height, side by side.
+use Rattle.std.specs.Prelude.{ℕ, ◌*◌, ◌/◌, ◌-◌, ◌≤◌, Bool, nat_lt, ◌&&◌, if◌then◌else◌}
 use Rattle.std.specs.Prelude.{Option, Some, None, List, [], length, Result, Ok, Err}
 use Rattle.looks.specs.declared.refusal.Refusal.{Refusal}
 use Rattle.looks.specs.declared.refusal.Refusal.TheVariants.{NoRoom, NoViewer}
@@ -10,7 +10,7 @@ use Rattle.viewers.specs.declared.screen.Track.{Track}
 use Rattle.viewers.specs.declared.screen.Track.TheVariants.{User, System}
 use Rattle.viewers.specs.Tracks.{Covers, can_move, can_open, closed, opened, height_at, moved, place, top, viewer_in}
 
--- what a contract sees of a screen
+-- what a contract sees of both tracks
 pub record ScreenSeen : Type 0 where
   pub width : ℕ
   pub height : ℕ
@@ -18,13 +18,17 @@ pub record ScreenSeen : Type 0 where
   pub system : List Seat
 
 -- sizes in range, and each track covered or blank
-pub record IsScreen (width height : ℕ) (user system : List Seat) : Type 0 where
-  pub wide : MIN_WIDTH ≤ width
-  pub narrow : width ≤ MAX_WIDTH
-  pub high : MIN_HEIGHT ≤ height
-  pub low : height ≤ MAX_HEIGHT
-  pub user_covered : Covers height user
-  pub system_covered : Covers height system
+pub record IsScreen (s : ScreenSeen) : Type 0 where
+  pub wide : MIN_WIDTH ≤ s.width
+  pub narrow : s.width ≤ MAX_WIDTH
+  pub high : MIN_HEIGHT ≤ s.height
+  pub low : s.height ≤ MAX_HEIGHT
+  pub user_covered : Covers s.height s.user
+  pub system_covered : Covers s.height s.system
+
+-- both tracks blank
+abbrev pub blank_tracks : (width height : ℕ) → ScreenSeen
+blank_tracks width height = record { width = width; height = height; user = []; system = [] }
 
 -- the columns of the user track, from the left
 abbrev pub user_width : ℕ → ℕ
@@ -87,3 +91,22 @@ close_answer seats v = if has seats v then Ok tt else Err NoViewer
 -- and the track then
 abbrev pub after_close : List Seat → ℕ → List Seat
 after_close seats v = if has seats v then closed seats (place seats v) else seats
+
+-- what closing a viewer answers
+abbrev pub closing : ScreenSeen → ℕ → Result Unit Refusal
+closing s v = if has s.user v then Ok tt else close_answer s.system v
+
+-- and the tracks then
+abbrev pub after_closing : ScreenSeen → ℕ → ScreenSeen
+after_closing s v =
+    if has s.user v then record s { user = after_close s.user v } else record s { system = after_close s.system v }
+
+-- what a move of the top of a viewer to a row answers
+abbrev pub moving : ScreenSeen → (v row : ℕ) → Result Unit Refusal
+moving s v row = if has s.user v then move_answer s.user v row else move_answer s.system v row
+
+-- and the tracks then
+abbrev pub after_moving : ScreenSeen → (v row : ℕ) → ScreenSeen
+after_moving s v row =
+    if has s.user v then record s { user = after_move s.user v row }
+    else record s { system = after_move s.system v row }

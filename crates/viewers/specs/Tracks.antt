@@ -1,5 +1,5 @@
 -- Tracks: seats from the top down, each a viewer's number and height. A row is held by the seat that covers it.
-use Rattle.std.specs.Prelude.{◌≡◌, ℕ, zero, suc, ◌+◌, ◌-◌, ◌≤◌, ◌⊎◌, nat_lt, nat_le, ◌==◌, ◌&&◌, Bool, true, if◌then◌else◌}
+use Rattle.std.specs.Prelude.{◌≡◌, ℕ, zero, suc, ◌+◌, ◌-◌, ◌/◌, ◌≤◌, ◌⊎◌, nat_lt, nat_le, ◌==◌, ◌&&◌, Bool, true, if◌then◌else◌}
 use Rattle.std.specs.Prelude.{Option, Some, None, List, [], ◌∷◌, take, slice_set, slice_index_or, min, max}
 use Rattle.std.specs.List.{AllByRecursion, insert, remove}
 use Rattle.viewers.specs.declared.seats.Seat.{Seat}
@@ -44,6 +44,18 @@ with_height seats i h = slice_set seats i (record { number = (seat_at seats i).n
 -- the first row of a viewer that opens at a row of the seat at i: each of the two keeps 2 rows
 abbrev pub cut : List Seat → ℕ → ℕ → ℕ
 cut seats i row = min (max row (top seats i + 2)) (bottom seats i - 2)
+
+-- the index of the tallest seat, the topmost of equals
+abbrev pub tallest : List Seat → ℕ
+tallest [] = 0
+tallest (s ∷ []) = 0
+tallest (s ∷ t ∷ seats) =
+    if nat_le (height_at (t ∷ seats) (tallest (t ∷ seats))) s.height then 0 else suc (tallest (t ∷ seats))
+
+-- the row at which a viewer opens: the one that is named, or the middle of the tallest viewer
+abbrev pub row_for : List Seat → Option ℕ → ℕ
+row_for seats (Some row) = row
+row_for seats None = top seats (tallest seats) + height_at seats (tallest seats) / 2
 
 -- the seat at i keeps the rows ahead of the cut, and viewer v takes those from there on
 abbrev pub divided : List Seat → ℕ → ℕ → ℕ → List Seat

@@ -1,10 +1,13 @@
-//! The two tracks of a screen, and the viewers that divide their rows.
+//! A screen's viewers: two tracks whose rows they divide, and what each shows.
 #![tactic(auto)]
 
+mod laws;
 mod limits;
 mod screen;
 mod seats;
+mod tracks;
 
+pub use laws::{a_number_is_used_once, a_track_stays_covered, others_keep_their_rows};
 pub use limits::the_limits;
-pub use screen::{Area, Track, Tracks};
-pub use seats::{MAX_HEIGHT, MAX_SEATS, MAX_WIDTH, MIN_HEIGHT, MIN_WIDTH, Seat};
+pub use screen::{Area, Screen, Track};
+pub use seats::{MAX_HEIGHT, MAX_SEATS, MAX_VIEWERS, MAX_WIDTH, MIN_HEIGHT, MIN_WIDTH, Seat};

@@ -1,5 +1,5 @@
 ghost use Rattle.std.specs.Prelude.{◌≡◌};
-ghost use Rattle.viewers.specs.declared.seats.TheConstants.{MIN_WIDTH, MAX_WIDTH, MIN_HEIGHT, MAX_HEIGHT, MAX_SEATS};
+ghost use Rattle.viewers.specs.declared.seats.TheConstants.{MIN_WIDTH, MAX_WIDTH, MIN_HEIGHT, MAX_HEIGHT, MAX_SEATS, MAX_VIEWERS};
 
 /// A law: the limits of a screen, by their numbers.
 pub fn the_limits()
@@ -8,4 +8,5 @@ pub fn the_limits()
     ensures lowest { MIN_HEIGHT ≡ 8 }
     ensures highest { MAX_HEIGHT ≡ 100 }
     ensures seats { MAX_SEATS ≡ 50 }
+    ensures viewers { MAX_VIEWERS ≡ 100 }
 {}

@@ -1,15 +1,18 @@
-ghost use Rattle.std.specs.Prelude.{◌≡◌, ◌<◌, ◌≤◌, Ok, [], length, if◌then◌else◌};
-ghost use Rattle.viewers.specs.Screen.{area_in, area_of, seats_of, viewer_at};
-ghost use Rattle.viewers.specs.Screen.{after_close, after_move, after_open, close_answer, has};
-ghost use Rattle.viewers.specs.Screen.{move_answer, open_answer, with_seats};
-ghost use Rattle.viewers.specs.Tracks.{Covers, can_open, place, rows};
+ghost use Rattle.std.specs.Prelude.{◌≡◌, ◌<◌, ◌≤◌, Some as Just, None as Nothing, IfOk, IfSome};
+ghost use Rattle.std.specs.Prelude.{map};
+ghost use Rattle.std.specs.Borrow.{sem};
+ghost use Rattle.std.specs.Option.{option_copied, option_copied_mut};
+ghost use Rattle.looks.specs.Refusal.{RefusedForMemoryAlone};
+ghost use Rattle.viewers.specs.Screen.{area_of, moving, seats_of, viewer_at};
+ghost use Rattle.viewers.specs.Viewers.{AreViewers, after_opening, blank, close_result, content_of, has_room, index_of};
+ghost use Rattle.viewers.specs.Tracks.{row_for};
+ghost use Rattle.viewers.specs.Viewers.{open_result, with_top, without_viewer};
 
-use crate::seats::{
-    MAX_HEIGHT, MAX_SEATS, MAX_WIDTH, MIN_HEIGHT, MIN_WIDTH, Seat, can_move, can_open, close,
-    divide, holder, move_border, place, seat_at, top, viewer_in,
-};
+use crate::seats::{MAX_HEIGHT, MAX_VIEWERS, MAX_WIDTH, MIN_HEIGHT, MIN_WIDTH, Seat, default_row};
+use crate::tracks::Tracks;
 use arrayvec::ArrayVec;
 use looks::Refusal;
+use std::alloc::Global;
 use std::marker::Model;
 
 /// One of the two tracks of a screen (Project Oberon, chapter 4).
@@ -30,207 +33,158 @@ pub struct Area {
     pub height: usize,
 }
 
-/// The rows of two tracks, divided among viewers.
+/// Two tracks of viewers, each with a content of its own.
 #[derive(Drop)]
-pub struct Tracks {
-    width: usize,
-    height: usize,
-    user: ArrayVec<Seat, MAX_SEATS>,
-    system: ArrayVec<Seat, MAX_SEATS>,
+pub struct Screen<C> {
+    tracks: Tracks,
+    next: u64,
+    // The numbers of the viewers, in order of opening, and beside them what they show.
+    numbers: ArrayVec<u32, MAX_VIEWERS>,
+    contents: Vec<C>,
 }
 
-impl Model for Tracks {
-    ghost use Rattle.viewers.specs.Screen.{IsScreen, ScreenSeen};
+impl<C> Model for Screen<C> {
+    ghost use Rattle.std.specs.Prelude.{◌≡◌, ◌≤◌, length, vec_capacity, zip};
+    ghost use Rattle.viewers.specs.declared.seats.TheConstants.{MAX_VIEWERS};
+    ghost use Rattle.viewers.specs.Viewers.{AreNumbered, ViewersSeen};
 
-    ghost Value = { ScreenSeen };
+    ghost Value = { ViewersSeen C };
 
-    ghost view = { λ s. record { width = s.width; height = s.height; user = s.user.items; system = s.system.items } };
+    ghost view = { λ s. record {
+      tracks = s.tracks;
+      next = s.next;
+      contents = zip s.numbers.items s.contents.items;
+    } };
 
-    ghost invariant = { λ s. IsScreen s.width s.height s.user.items s.system.items };
+    ghost invariant = { λ s. AreNumbered s.tracks s.next s.numbers.items
+        × (length s.contents.items ≡ length s.numbers.items) × (MAX_VIEWERS ≤ vec_capacity s.contents) };
 }
 
-// The cells of the viewer of a track that has these columns.
-fn area_in(seats: &[Seat], viewer: u32, col: usize, width: usize) -> Area
-    requires there { place seats.now viewer < length seats.now }
-    requires few { rows seats.now ≤ MAX_HEIGHT }
-    ensures { result ≡ area_in seats.now viewer col width }
+// The index of a number in a list; the length where it isn't there.
+fn index_of(numbers: &[u32], number: u32) -> usize
+    ensures { result ≡ index_of numbers.now number }
 {
-    let index = place(seats, viewer);
-    let height = seat_at(seats, index).height;
-    Area {
-        col,
-        top: top(seats, index),
-        width,
-        height,
+    for index in 0..numbers.len() {
+        if numbers[index] == number {
+            return index;
+        }
     }
+    numbers.len()
 }
 
-// Moves the top of a viewer of a track to the row.
-#[tactic(auto, using(crate::proofs::Covering::few_rows, crate::proofs::Covering::moved_covers))]
-fn move_in(
-    seats: &mut ArrayVec<Seat, MAX_SEATS>,
-    height: usize,
-    viewer: u32,
-    row: usize,
-) -> Result<(), Refusal>
-    requires covered { Covers height seats.old.items }
-    requires low { height ≤ MAX_HEIGHT }
-    requires on_screen { row < height }
-    ensures value { result ≡ move_answer seats.old.items viewer row }
-    ensures after { seats.new.items ≡ after_move seats.old.items viewer row }
-    ensures covered { Covers height seats.new.items }
-{
-    let index = place(seats.as_slice(), viewer);
-    if seats.len() <= index {
-        return Err(Refusal::NoViewer);
-    }
-    if !can_move(seats.as_slice(), index, row) {
-        return Err(Refusal::NoRoom);
-    }
-    move_border(seats, index, row);
-    Ok(())
-}
+impl<C> Screen<C> {
+    ghost use Rattle.viewers.specs.Lends.{lends_content, lends_contents};
 
-// Closes a viewer of a track.
-#[tactic(auto, using(crate::proofs::Covering::few_rows, crate::proofs::Covering::closed_covers))]
-fn close_in(
-    seats: &mut ArrayVec<Seat, MAX_SEATS>,
-    height: usize,
-    viewer: u32,
-) -> Result<(), Refusal>
-    requires covered { Covers height seats.old.items }
-    requires low { height ≤ MAX_HEIGHT }
-    ensures value { result ≡ close_answer seats.old.items viewer }
-    ensures after { seats.new.items ≡ after_close seats.old.items viewer }
-    ensures covered { Covers height seats.new.items }
-{
-    let index = place(seats.as_slice(), viewer);
-    if seats.len() <= index {
-        return Err(Refusal::NoViewer);
-    }
-    close(seats, index);
-    Ok(())
-}
-
-// Opens a viewer at the row of a track.
-#[tactic(auto, using(crate::proofs::Covering::few_rows, crate::proofs::Covering::row_there, crate::proofs::Covering::one_covers, crate::proofs::Covering::room_to_open, crate::proofs::Covering::opened_there, crate::proofs::Covering::opened_covers, crate::proofs::Covering::four_rows, crate::proofs::Rows::holder_there))]
-fn open_in(
-    seats: &mut ArrayVec<Seat, MAX_SEATS>,
-    height: usize,
-    viewer: u32,
-    row: usize,
-) -> Result<(), Refusal>
-    requires covered { Covers height seats.old.items }
-    requires low { height ≤ MAX_HEIGHT }
-    requires high { MIN_HEIGHT ≤ height }
-    requires on_screen { row < height }
-    ensures value { result ≡ open_answer seats.old.items row }
-    ensures after { seats.new.items ≡ after_open height seats.old.items viewer row }
-    ensures covered { Covers height seats.new.items }
-{
-    if !can_open(seats.as_slice(), row) {
-        return Err(Refusal::NoRoom);
-    }
-    if seats.is_empty() {
-        seats.push(Seat {
-            number: viewer,
-            height,
-        });
-        return Ok(());
-    }
-    let index = holder(seats.as_slice(), row);
-    divide(seats, viewer, index, row);
-    Ok(())
-}
-
-impl Tracks {
-    /// Two blank tracks.
-    #[tactic(auto, using(crate::proofs::Covering::blank))]
-    pub fn new(width: usize, height: usize) -> Tracks
+    /// Two blank tracks. It alone takes memory: room for all viewers. Refused `OutOfMemory` alone.
+    pub fn new(alloc: Global, width: usize, height: usize) -> Result<Screen<C>, Refusal>
         requires wide { MIN_WIDTH ≤ width }
         requires narrow { width ≤ MAX_WIDTH }
         requires high { MIN_HEIGHT ≤ height }
         requires low { height ≤ MAX_HEIGHT }
-        ensures { result ≡ record { width = width; height = height; user = []; system = [] } }
+        ensures ok { IfOk result (λ s. s ≡ blank width height) }
+        ensures errors { RefusedForMemoryAlone result }
     {
-        Tracks {
-            width,
-            height,
-            user: ArrayVec::new(),
-            system: ArrayVec::new(),
-        }
+        let contents = Vec::with_capacity(alloc, MAX_VIEWERS)?;
+        Ok(Screen {
+            tracks: Tracks::new(width, height),
+            next: 1,
+            numbers: ArrayVec::new(),
+            contents,
+        })
+    }
+
+    /// A law: each viewer has one seat and one content, and numbers rise. A proof gets it by calling this, at no cost.
+    pub fn are_viewers(&self)
+        ensures { AreViewers self.now }
+    {
+        let _ = &self.next;
     }
 
     /// The seats of a track, from the top down.
     pub fn seats(&self, track: Track) -> &[Seat]
-        ensures { result.now ≡ seats_of self.now track }
+        ensures { result.now ≡ seats_of self.now.tracks track }
     {
-        match track {
-            Track::User => self.user.as_slice(),
-            Track::System => self.system.as_slice(),
-        }
+        self.tracks.seats(track)
     }
 
     /// The viewer at a column and a row; `None` in a blank track, and past the width.
-    #[tactic(auto, using(crate::proofs::Covering::row_there))]
     pub fn at(&self, col: usize, row: usize) -> Option<u32>
-        requires { row < self.now.height }
-        ensures { result ≡ viewer_at self.now col row }
+        requires { row < self.now.tracks.height }
+        ensures { result ≡ viewer_at self.now.tracks col row }
     {
-        if col < self.width / 8 * 5 {
-            viewer_in(self.user.as_slice(), row)
-        } else if col < self.width {
-            viewer_in(self.system.as_slice(), row)
-        } else {
-            None
-        }
+        self.tracks.at(col, row)
     }
 
     /// The cells of a viewer; `None` for a number that isn't on the screen.
-    #[tactic(auto, using(crate::proofs::Covering::few_rows))]
     pub fn area(&self, viewer: u32) -> Option<Area>
-        ensures { result ≡ area_of self.now viewer }
+        ensures { result ≡ area_of self.now.tracks viewer }
     {
-        let border = self.width / 8 * 5;
-        let user = self.user.as_slice();
-        let system = self.system.as_slice();
-        if place(user, viewer) < user.len() {
-            return Some(area_in(user, viewer, 0, border));
-        }
-        if place(system, viewer) < system.len() {
-            return Some(area_in(system, viewer, border, self.width - border));
-        }
-        None
+        self.tracks.area(viewer)
     }
 
-    /// Whether a viewer may open at a row of a track: the viewer there has four rows, or the track is blank.
-    #[tactic(auto, using(crate::proofs::Covering::row_there))]
-    pub fn fits(&self, track: Track, row: usize) -> bool
-        requires { row < self.now.height }
-        ensures { result ≡ can_open (seats_of self.now track) row }
+    /// Whether a viewer may open at a row of a track, or where none is named.
+    pub fn fits(&self, track: Track, row: Option<usize>) -> bool
+        requires { IfSome row (λ y. y < self.now.tracks.height) }
+        ensures { result ≡ has_room self.now track row }
     {
-        match track {
-            Track::User => can_open(self.user.as_slice(), row),
-            Track::System => can_open(self.system.as_slice(), row),
-        }
+        let row = match row {
+            Some(row) => row,
+            None => self.default_row(track),
+        };
+        self.next <= u64::from(u32::MAX) && self.tracks.fits(track, row)
     }
 
-    /// Closes a viewer: its rows go to the one above it, those of the topmost to the one below, and with the last viewer
-    /// the track is blank.
+    /// Opens a viewer at a row of a track, under the next number: it takes the rows from there to the bottom of the viewer that
+    /// has the row, where each of the two keeps two rows at least. The first viewer of a track takes all rows.
+    ///
+    /// Refused `NoRoom` where the viewer that has the row has fewer than four rows, and where no number below 2^32 is left.
+    /// Nothing is changed then, and the content comes back.
+    pub fn open(&mut self, track: Track, row: usize, content: C) -> Result<u32, (C, Refusal)>
+        requires { row < self.old.tracks.height }
+        ensures value { result ≡ open_result self.old track (Just row) content }
+        ensures after { self.new ≡ after_opening self.old track (Just row) content }
+    {
+        let Ok(number) = u32::try_from(self.next) else {
+            return Err((content, Refusal::NoRoom));
+        };
+        if let Err(refusal) = self.tracks.open(track, number, row) {
+            return Err((content, refusal));
+        }
+        self.next += 1;
+        self.numbers.push(number);
+        self.contents.push_reserved(content);
+        Ok(number)
+    }
+
+    /// Opens a viewer in the middle of a track's tallest one, the topmost of equals. Refused as `open` is.
+    pub fn open_default(&mut self, track: Track, content: C) -> Result<u32, (C, Refusal)>
+        ensures value { result ≡ open_result self.old track Nothing content }
+        ensures after { self.new ≡ after_opening self.old track Nothing content }
+    {
+        let row = self.default_row(track);
+        self.open(track, row, content)
+    }
+
+    // The row at which a viewer opens where none is named.
+    fn default_row(&self, track: Track) -> usize
+        ensures value { result ≡ row_for (seats_of self.now.tracks track) Nothing }
+        ensures bound { result < self.now.tracks.height }
+    {
+        default_row(self.tracks.seats(track))
+    }
+
+    /// Closes a viewer, and gives what it showed: its rows go to the viewer above it, those of the topmost to the one below,
+    /// and with the last viewer the track is blank.
     ///
     /// Refused `NoViewer` for a number that isn't on the screen. Nothing is changed then.
-    pub fn close(&mut self, viewer: u32) -> Result<(), Refusal>
-        ensures value { result
-            ≡ (if has self.old.user viewer then Ok tt else close_answer self.old.system viewer) }
-        ensures after { self.new ≡ (if has self.old.user viewer
-            then record self.old { user = after_close self.old.user viewer }
-            else record self.old { system = after_close self.old.system viewer }) }
+    pub fn close(&mut self, viewer: u32) -> Result<C, Refusal>
+        ensures value { result ≡ close_result self.old viewer }
+        ensures after { self.new ≡ without_viewer self.old viewer }
     {
-        if place(self.user.as_slice(), viewer) < self.user.len() {
-            close_in(&mut self.user, self.height, viewer)
-        } else {
-            close_in(&mut self.system, self.height, viewer)
-        }
+        self.tracks.close(viewer)?;
+        let index = index_of(self.numbers.as_slice(), viewer);
+        self.numbers.remove(index);
+        Ok(self.contents.remove(index))
     }
 
     /// Moves the top of a viewer to a row, and with it the bottom of the one above.
@@ -238,33 +192,35 @@ impl Tracks {
     /// Refused, in this order, `NoViewer` for a number that isn't on the screen, and `NoRoom` for the topmost viewer
     /// and where one of the two would keep fewer than two rows. Nothing is changed then.
     pub fn move_top(&mut self, viewer: u32, row: usize) -> Result<(), Refusal>
-        requires { row < self.old.height }
-        ensures value { result ≡ (if has self.old.user viewer then move_answer self.old.user viewer row
-            else move_answer self.old.system viewer row) }
-        ensures after { self.new ≡ (if has self.old.user viewer
-            then record self.old { user = after_move self.old.user viewer row }
-            else record self.old { system = after_move self.old.system viewer row }) }
+        requires { row < self.old.tracks.height }
+        ensures value { result ≡ moving self.old.tracks viewer row }
+        ensures after { self.new ≡ with_top self.old viewer row }
     {
-        if place(self.user.as_slice(), viewer) < self.user.len() {
-            move_in(&mut self.user, self.height, viewer, row)
-        } else {
-            move_in(&mut self.system, self.height, viewer, row)
-        }
+        self.tracks.move_top(viewer, row)
     }
 
-    /// Opens a viewer of this number at a row of a track: it takes the rows from there to the bottom of the viewer that
-    /// has the row, where each of the two keeps two rows at least. The first viewer of a track takes all rows.
-    ///
-    /// Refused `NoRoom` where the viewer that has the row has fewer than four rows. Nothing is changed then.
-    pub fn open(&mut self, track: Track, viewer: u32, row: usize) -> Result<(), Refusal>
-        requires { row < self.old.height }
-        ensures value { result ≡ open_answer (seats_of self.old track) row }
-        ensures after { self.new
-            ≡ with_seats self.old track (after_open self.old.height (seats_of self.old track) viewer row) }
+    /// What a viewer shows; `None` for a number that isn't on the screen.
+    pub fn content_at(&self, viewer: u32) -> Option<&C>
+        ensures { option_copied result ≡ content_of self.now.contents viewer }
     {
-        match track {
-            Track::User => open_in(&mut self.user, self.height, viewer, row),
-            Track::System => open_in(&mut self.system, self.height, viewer, row),
-        }
+        let index = index_of(self.numbers.as_slice(), viewer);
+        self.contents.get(index)
+    }
+
+    /// The same, to be changed.
+    pub fn content(&mut self, viewer: u32) -> Option<&mut C>
+        ensures* writes_back { sem 𝓛 (lends_content C.row self.entry viewer result) }
+        ensures value { option_copied_mut result ≡ content_of self.old.contents viewer }
+    {
+        let index = index_of(self.numbers.as_slice(), viewer);
+        self.contents.get_mut(index)
+    }
+
+    /// What all viewers show, in order of opening, to be changed.
+    pub fn contents_mut(&mut self) -> &mut [C]
+        ensures* writes_back { sem 𝓛 (lends_contents C.row self.entry result) }
+        ensures value { result.now ≡ map (λ entry. entry.1) self.old.contents }
+    {
+        self.contents.as_mut_slice()
     }
 }

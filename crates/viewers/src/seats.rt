@@ -1,6 +1,6 @@
-ghost use Rattle.std.specs.Prelude.{◌≡◌, ◌+◌, ◌-◌, ◌<◌, ◌≤◌, ◌⊎◌, [], IsTrue, length};
-ghost use Rattle.viewers.specs.Tracks.{bottom, can_move, can_open, closed, divided, height_at, holder, moved, place};
-ghost use Rattle.viewers.specs.Tracks.{rows, seat_at, top, viewer_in, with_height};
+ghost use Rattle.std.specs.Prelude.{◌≡◌, ◌+◌, ◌-◌, ◌<◌, ◌≤◌, ◌⊎◌, [], IsTrue, None as Nothing, length};
+ghost use Rattle.viewers.specs.Tracks.{AreTall, bottom, can_move, can_open, closed, divided, height_at, holder, moved, place};
+ghost use Rattle.viewers.specs.Tracks.{row_for, rows, seat_at, tallest, top, viewer_in, with_height};
 
 use arrayvec::ArrayVec;
 
@@ -18,6 +18,9 @@ pub const MAX_HEIGHT: usize = 100;
 
 /// The most viewers of a track: each has two rows at least.
 pub const MAX_SEATS: usize = 50;
+
+/// The most viewers of a screen: those of two tracks.
+pub const MAX_VIEWERS: usize = 100;
 
 /// A viewer's number, and how many rows it has. This project's own.
 #[derive(Clone, Copy, Debug, Default, PartialEq, Eq)]
@@ -107,6 +110,35 @@ pub(crate) fn can_open(seats: &[Seat], row: usize) -> bool
     ensures { result ≡ can_open seats.now row }
 {
     seats.is_empty() || 4 <= seat_at(seats, holder(seats, row)).height
+}
+
+// The index of the tallest seat, the topmost of equals.
+fn tallest(seats: &[Seat]) -> usize
+    ensures value { result ≡ tallest seats.now }
+    ensures bound { (0 < length seats.now) → result < length seats.now }
+{
+    let mut best = 0;
+    for index in 1..seats.len() {
+        if seats[best].height < seats[index].height {
+            best = index;
+        }
+    }
+    best
+}
+
+// The row at which a viewer opens where none is named: the middle of the tallest one.
+#[tactic(auto, using(crate::proofs::Rows::next_bound, crate::proofs::Covering::tall_at))]
+pub(crate) fn default_row(seats: &[Seat]) -> usize
+    requires tall { AreTall seats.now }
+    requires few { rows seats.now ≤ MAX_HEIGHT }
+    ensures value { result ≡ row_for seats.now Nothing }
+    ensures bound { (0 < length seats.now) → result < rows seats.now }
+{
+    if seats.is_empty() {
+        return 0;
+    }
+    let index = tallest(seats);
+    top(seats, index) + seat_at(seats, index).height / 2
 }
 
 // Divides the rows of the seat at an index: the new viewer takes those from the cut on.

@@ -1,7 +1,7 @@
-use Rattle.std.proofs.Common.{◌≡◌, ◌<◌, length, true, rules, arith, subst, sym}
+use Rattle.std.proofs.Common.{◌≡◌, ◌<◌, length, true, arith, subst}
 use Rattle.viewers.specs.Tracks.{Covers, can_open, divided, holder}
 use Rattle.viewers.proofs.Covering.{opened_covers, room_to_open}
-use Rattle.viewers.proofs.screen.open_in.Goals as goal
+use Rattle.viewers.proofs.tracks.open_in.Goals as goal
 
 pub divide-requires-clause-room : goal.divide-requires-clause-room
 divide-requires-clause-room c =

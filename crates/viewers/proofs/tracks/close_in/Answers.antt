@@ -1,7 +1,7 @@
-use Rattle.std.proofs.Common.{◌<◌, length, arith, subst, sym}
+use Rattle.std.proofs.Common.{arith, subst, sym}
 use Rattle.viewers.specs.Tracks.{Covers}
 use Rattle.viewers.proofs.Covering.{closed_covers}
-use Rattle.viewers.proofs.screen.close_in.Goals as goal
+use Rattle.viewers.proofs.tracks.close_in.Goals as goal
 
 pub returns-clause-covered : goal.returns-clause-covered
 returns-clause-covered c =

@@ -1,7 +1,7 @@
-use Rattle.std.proofs.Common.{◌≡◌, ◌+◌, ◌-◌, ◌≤◌, length, rules, arith, sym, subst, refl}
+use Rattle.std.proofs.Common.{◌+◌, ◌-◌, ◌≤◌, rules, arith, sym, subst}
 use Rattle.viewers.specs.Tracks.{Covers, top, bottom}
 use Rattle.viewers.proofs.Covering.{moved_covers}
-use Rattle.viewers.proofs.screen.move_in.Goals as goal
+use Rattle.viewers.proofs.tracks.move_in.Goals as goal
 
 pub returns-clause-covered : goal.returns-clause-covered
 returns-clause-covered c =
