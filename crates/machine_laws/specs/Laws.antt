@@ -11,6 +11,7 @@ use Rattle.machine.specs.Machine.{Does, Event, Query, Reply, Replies, Short, Sta
 use Rattle.machine.specs.Machine.{print_fronts, print_runs, print_text}
 use Rattle.machine.specs.Machine.{takes, settles, refuses, stops}
 use Rattle.machine.specs.Printing.{waiting_line}
+use Rattle.machine.specs.Whole.{Part, RunDoes, RunEvent, RunReply, RunShort, RunState, of_text}
 
 -- the states that a run of count sites from first on can come to
 pub data Reached (first count : ℕ) : State → Type 0 where
@@ -92,3 +93,20 @@ pub record HasOneReply (s : State) (e : Event) : Type 0 where
 -- so it is with each event, in each state whose texts are what their operations define
 abbrev pub EachEventHasOneReply : Type 0
 EachEventHasOneReply = (s : State) (e : Event) → AreTexts s → HasOneReply s e
+
+-- the same of two replies of the whole run: both tell of a text, and in one shape
+abbrev pub HaveOneRunShape : RunReply → RunReply → Type 0
+HaveOneRunShape (of_text r) (of_text r') = HaveOneShape r r'
+HaveOneRunShape r r' = ⊥
+
+-- An event of the whole run, with this part of the files, has at most one reply and next state where memory is there; and
+-- at most one of each shape, with its counts, where memory was refused.
+pub record HasOneRunReply (s : RunState) (e : RunEvent) (part : Part) : Type 0 where
+  pub whole : (r r' : RunReply) (new new' : RunState) → RunDoes s e part r new → RunDoes s e part r' new'
+      → (r ≡ r') × (new ≡ new')
+  pub short : (r r' : RunReply) (new new' : RunState) → RunShort s e part r new → RunShort s e part r' new'
+      → HaveOneRunShape r r' → (r ≡ r') × (new ≡ new')
+
+-- so it is with each event and each part, in each state whose texts are what their operations define
+abbrev pub EachRunEventHasOneReply : Type 0
+EachRunEventHasOneReply = (s : RunState) (e : RunEvent) (part : Part) → AreTexts s.texts → HasOneRunReply s e part

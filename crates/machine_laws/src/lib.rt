@@ -3,13 +3,15 @@
 #![tactic(auto)]
 
 ghost use Rattle.machine_laws.specs.Laws.{OperationsTellWhatIsPrinted, WhatIsReachedIsDefined, WhatIsReachedIsNumbered};
-ghost use Rattle.machine_laws.specs.Laws.{EachEventHasOneReply, FrontLinesTellFronts, FrontsTellWhatIsPrinted};
+ghost use Rattle.machine_laws.specs.Laws.{EachEventHasOneReply, EachRunEventHasOneReply, FrontLinesTellFronts};
+ghost use Rattle.machine_laws.specs.Laws.{FrontsTellWhatIsPrinted};
 
 use char_files::runs_are_maximal;
 use convergence::outcomes::{
     drainings_end_one_way, edits_end_one_way, merges_end_one_way, takings_end_one_way,
 };
 use set_laws::closures::nothing_is_good;
+use text_file::one_text;
 use texts::laws::{own_edits_are_plain, the_fronts_tell_the_text, the_operations_tell_the_text};
 use tree_order::laws::sequential::one_writer_goes_behind_causes;
 
@@ -64,4 +66,13 @@ pub fn each_event_has_one_reply()
     drainings_end_one_way();
     merges_end_one_way();
     runs_are_maximal();
+}
+
+/// A law: an event of texts, screens, commands and files has one reply and one next state for each part that the files
+/// have in it, where memory is there; where it was refused, one of each shape and its counts.
+pub fn each_run_event_has_one_reply()
+    ensures { EachRunEventHasOneReply }
+{
+    each_event_has_one_reply();
+    one_text();
 }
