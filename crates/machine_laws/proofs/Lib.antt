@@ -1,3 +1,4 @@
+pub mod Answered
 pub mod FrontLines
 pub mod Numbered
 pub mod OneReply

@@ -1,4 +1,4 @@
--- An event of the whole run has one reply: each part of a step is one thing, beside what the texts do.
+-- An event of the whole machine has one reply: each part of a step is one thing, beside what the texts do.
 use Rattle.std.proofs.Common.{◌≡◌, ℕ, ◌+◌, ◌-◌, ◌<◌, ◌≤◌, true, false, Bool, List, [], ◌++◌, map, Option, Some, None}
 use Rattle.std.proofs.Common.{Result, Ok, Err, refl, sym, ap, subst, ◌∙◌, inl, inr, append-nil, le_antisymm, length}
 use Rattle.std.proofs.Common.{true≢false}
@@ -52,7 +52,7 @@ put_back xs i x at = ap (slice_set xs i) (sym (get_or_from_slice_get xs i x x at
 abbrev AreSame : RunReply → RunReply → RunState → RunState → Type 0
 AreSame r r' new new' = (r ≡ r') × (new ≡ new')
 
--- two replies of a step of texts, told to the run as r and r', are one
+-- two replies of a step of texts, which the whole machine tells as r and r', are one
 abbrev TellsOne : TextSteps → RunState → RunReply → RunReply → Type 0
 TellsOne Steps s r r' = (e : Event) (told told' : Reply) (mid mid' : State) → r ≡ of_text told → r' ≡ of_text told'
     → Steps s.texts e told mid → Steps s.texts e told' mid' → (told ≡ told') × (mid ≡ mid')
@@ -112,7 +112,7 @@ if_caret s d w part r r' new new' G H one (inr a) (inr b) =
     with_caret d w G H (AreSame r r' new new') (λ c window t at there. one c window t) a b
 
 -- the text that a viewer shows is the desk's
-shown_text : (d : DeskState) (o : Option Window) (window : Window) (t : TextState)
+pub shown_text : (d : DeskState) (o : Option Window) (window : Window) (t : TextState)
     → option_and_then {U = Window × TextState}
     (λ window. option_map {U = Window × TextState} (λ t. (window, t)) (text_of d window.text)) o ≡ Some (window, t)
     → IsTextOf d window.text t
@@ -360,7 +360,7 @@ refusal_second (merges a) other shape = absurd shape
 refusal_second (prints a) other shape = absurd shape
 refusal_second (stops a b c) other shape = absurd shape
 
--- the shape that the run tells is that of the texts' replies
+-- the shape that the whole machine tells is that of the texts' replies
 told_shape : (told told' : Reply) (r r' : RunReply) → r ≡ of_text told → r' ≡ of_text told' → HaveOneRunShape r r'
     → HaveOneShape told told'
 told_shape told told' r r' is is' shape =
@@ -469,7 +469,7 @@ one_short file_so s (click i col row) part r r' new new' shape one (d, w, t, at,
     tasks_short file_so s i d w t part r r' new new' at shape one does
     (at_task (λ d w t. ShortTask s i d w t part r' new') s i col row d d' w w' t t' at at' is is' does')
 
--- each event of the whole run has one reply
+-- each event of the whole machine has one reply
 pub one_run_reply : EachEventHasOneReply → OneText → EachRunEventHasOneReply
 one_run_reply texts_so file_so s e part are = record {
   whole = λ r r' new new'. one_whole file_so s e part r r' new new'

@@ -1,10 +1,10 @@
-//! Laws of the machine of events: what runs can come to, and that an event has one reply. They are over the definitions
-//! alone.
+//! Laws of the machine of events: what runs can come to, that an event has one reply, and that no task lacks one. They are
+//! over the definitions alone.
 #![tactic(auto)]
 
 ghost use Rattle.machine_laws.specs.Laws.{OperationsTellWhatIsPrinted, WhatIsReachedIsDefined, WhatIsReachedIsNumbered};
 ghost use Rattle.machine_laws.specs.Laws.{EachEventHasOneReply, EachRunEventHasOneReply, FrontLinesTellFronts};
-ghost use Rattle.machine_laws.specs.Laws.{FrontsTellWhatIsPrinted};
+ghost use Rattle.machine_laws.specs.Laws.{EachTaskIsAnswered, FrontsTellWhatIsPrinted};
 
 use char_files::runs_are_maximal;
 use convergence::outcomes::{
@@ -75,4 +75,12 @@ pub fn each_run_event_has_one_reply()
 {
     each_event_has_one_reply();
     one_text();
+}
+
+/// A law: no task and no click lacks a rule. Where the texts that it names are there, and the caret's viewer shows a
+/// text, it is answered for each part that the files may have in it, and there is such a part.
+pub fn each_task_is_answered()
+    ensures { EachTaskIsAnswered }
+{
+    own_edits_are_plain();
 }
