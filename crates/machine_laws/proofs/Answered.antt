@@ -42,10 +42,10 @@ use Rattle.machine.specs.Whole.{bytes_told, colour_told, file_told, font_told, o
 use Rattle.machine.specs.Whole.{lines_of_view, load, not_found, of_text, opens, print, prints_screen, put, put_recalled, refuse}
 use Rattle.machine.specs.Whole.{search, store, task_of, untouched, went_well, with_screen_at, with_told}
 use Rattle.machine.specs.Windows.{Caret, Marked, Screened, Window, arranged, bytes_shown, marked, marked_as, place_in}
-use Rattle.machine.specs.Windows.{shown_by, stretch_in, viewer_with, window_of}
+use Rattle.machine.specs.Windows.{stretch_in, viewer_with, window_of}
 use Rattle.viewers.specs.Screen.{area_of}
 use Rattle.viewers.specs.declared.screen.Area.{Area}
-use Rattle.machine_laws.proofs.OneRunReply.{shown_text}
+use Rattle.machine_laws.proofs.OneRunReply.{shown_parts}
 use Rattle.machine_laws.specs.Laws.{AnswersAll, AreTexts, CaretHasText, EachTaskIsAnswered, HasText, MayHavePart}
 
 -- an edit of a text
@@ -209,7 +209,7 @@ module _ (plain : OwnEditsArePlain) (s : RunState) (i : ℕ) (d : DeskState) (w 
   -- what a viewer shows is one of the texts
   shown_at : (v : ℕ) (window : Window) (t : TextState) → window_of d w v ≡ Some (window, t)
       → IsTextAt s.texts i window.text t
-  shown_at v window t shows = (d, at.texts, shown_text d (shown_by v w.windows) window t shows)
+  shown_at v window t shows = (d, at.texts, (shown_parts d w v (window, t) shows).1)
 
   at_caret : (c : Caret) (window : Window) (t : TextState) (edit_at : ℕ → Edit) → IsTextAt s.texts i window.text t
       → (r : RunReply) × (new : RunState) × AtCaret Does s i w c window t edit_at r new

@@ -4,10 +4,10 @@ use Rattle.std.proofs.Common.{Result, Ok, Err, refl, sym, ap, subst, ◌∙◌, 
 use Rattle.std.proofs.Common.{true≢false}
 use Rattle.std.specs.Prelude.{◌⊎◌, ◌≢◌, if◌then◌else◌, MatchBool, MatchOption, MatchResult, bytes_eq, option_map}
 use Rattle.std.specs.Prelude.{slice_get, slice_set, take}
-use Rattle.std.specs.Option.{option_and_then, option_map_or}
+use Rattle.std.specs.Option.{option_map_or}
 use Rattle.std.proofs.lemmas.Bool.{cases_lt, eq-eqb}
 use Rattle.std.proofs.lemmas.List.{set-get_or}
-use Rattle.std.proofs.lemmas.Option.{get_or_from_slice_get, none-some, same_Some}
+use Rattle.std.proofs.lemmas.Option.{get_or_from_slice_get, none-some, option_and_then_some, same_Some}
 use Rattle.std.proofs.lemmas.Slice.Eq.{bytes_eq-Decides}
 use Rattle.looks.specs.declared.refusal.Refusal.{Refusal}
 use Rattle.looks.specs.declared.refusal.Refusal.TheVariants.{BadFile, NoCaret, NoSelection, NoViewer, OutOfMemory}
@@ -111,19 +111,20 @@ if_caret s d w part r r' new new' G H one (inr (c, shown, at, there, goes)) (inl
 if_caret s d w part r r' new new' G H one (inr a) (inr b) =
     with_caret d w G H (AreSame r r' new new') (λ c window t at there. one c window t) a b
 
--- the text that a viewer shows is the desk's
-pub shown_text : (d : DeskState) (o : Option Window) (window : Window) (t : TextState)
-    → option_and_then {U = Window × TextState}
-    (λ window. option_map {U = Window × TextState} (λ t. (window, t)) (text_of d window.text)) o ≡ Some (window, t)
-    → IsTextOf d window.text t
-shown_text d None window t is = absurd (none-some _ is)
-shown_text d (Some v) window t is = by (text_of d v.text) refl is
+-- what a viewer shows is a window of its own on a text of the desk
+pub shown_parts : (d : DeskState) (w : Screened) (v : ℕ) (shown : Window × TextState) → window_of d w v ≡ Some shown
+    → (shown_by v w.windows ≡ Some shown.0) × IsTextOf d shown.0.text shown.1
+shown_parts d w v shown is = option_and_then_some {P = (shown_by v w.windows ≡ Some shown.0) × IsTextOf d shown.0.text shown.1}
+    (λ (x : Window). option_map {U = Window × TextState} (λ t. (x, t)) (text_of d x.text)) (shown_by v w.windows) shown is
+    (λ window at is'. by window at (text_of d window.text) refl is')
   where
-    by : (o : Option TextState) → text_of d v.text ≡ o
-        → option_map {U = Window × TextState} (λ t. (v, t)) o ≡ Some (window, t) → IsTextOf d window.text t
-    by None there is = absurd (none-some _ is)
-    by (Some u) there is =
-        subst (λ (x : Window × TextState). IsTextOf d x.0.text x.1) (same_Some (v, u) (window, t) is) there
+    by : (window : Window) → shown_by v w.windows ≡ Some window → (o : Option TextState) → text_of d window.text ≡ o
+        → option_map {U = Window × TextState} (λ t. (window, t)) o ≡ Some shown
+        → (shown_by v w.windows ≡ Some shown.0) × IsTextOf d shown.0.text shown.1
+    by window at None there is = absurd (none-some shown is)
+    by window at (Some t) there is =
+        subst (λ (x : Window × TextState). (shown_by v w.windows ≡ Some x.0) × IsTextOf d x.0.text x.1)
+        (same_Some (window, t) shown is) (at, there)
 
 -- a search
 
@@ -441,7 +442,7 @@ tasks_short file_so s i d w put_recalled part r r' new new' at shape one a b = w
     (λ c window t caret shows x y. at_caret Short s i w c window t recalling r r' new new' one x y) a.1 b.1
 tasks_short file_so s i d w (load name) part r r' new new' at shape one a b = with_caret d w _ _ _
     (λ c window t caret shows x y. loads_short file_so s i w name part c window t r r' new new' at.screen caret
-    (d, at.texts, shown_text d (shown_by c.viewer w.windows) window t shows) shape one x y) a b
+    (d, at.texts, (shown_parts d w c.viewer (window, t) shows).1) shape one x y) a b
 tasks_short file_so s i d w (store text name) part r r' new new' at shape one (p, there, a) (p', there', b) =
     refuses_one s OutOfMemory r r' new new' a b
 tasks_short file_so s i d w (search bytes) part r r' new new' at shape one a b = absurd a
