@@ -4,6 +4,7 @@ pub mod Numbered
 pub mod OneReply
 pub mod OneRunReply
 pub mod Reaching
+pub mod ReachedRuns
 pub mod RisingSites
 pub mod Rooms
 pub mod ShownLines

@@ -94,11 +94,11 @@ new_texts first count i text t (d, at, there) =
     (number, site, same)
 
 -- each text of a desk is what its operations define
-abbrev HasTexts : DeskState → Type 0
+abbrev pub HasTexts : DeskState → Type 0
 HasTexts d = (text : ℕ) (t : TextState) → IsTextOf d text t → IsText t
 
 -- what a text does that leaves it defined leaves the desk's texts so
-in_text : (Does' : TextState → TextState → Type 0) (d d' : DeskState) (text : ℕ)
+pub in_text : (Does' : TextState → TextState → Type 0) (d d' : DeskState) (text : ℕ)
     → ((t t' : TextState) → Does' t t' → IsText t → IsText t') → InText Does' d text d' → HasTexts d → HasTexts d'
 in_text Does' d d' text keeps (t, t', at, does, is) all number u there =
     let texts : d'.texts ≡ slice_set d.texts (text - 1) t' = ap (λ (x : DeskState). x.texts) is in
@@ -108,7 +108,7 @@ in_text Does' d d' text keeps (t, t', at, does, is) all number u there =
     ]
 
 -- and what a desk does that leaves its texts so leaves the run's
-in_desk : (Does' : DeskState → DeskState → Type 0) (s new : State) (i : ℕ) (messages : List (List ℕ))
+pub in_desk : (Does' : DeskState → DeskState → Type 0) (s new : State) (i : ℕ) (messages : List (List ℕ))
     → ((d d' : DeskState) → Does' d d' → HasTexts d → HasTexts d') → InDesk Does' s i messages new → AreTexts s
     → AreTexts new
 in_desk Does' s new i messages keeps (d, d', at, does, is) all j number u (x, there, is_text) =
@@ -259,7 +259,7 @@ module _ (plain : OwnEditsArePlain) where
       edits_text_short (copied t beg end pos) r u new short is
 
   -- what a step does where memory is there leaves each text defined
-  does_texts : (s : State) (e : Event) (r : Reply) (new : State) → Does s e r new → AreTexts s → AreTexts new
+  pub does_texts : (s : State) (e : Event) (r : Reply) (new : State) → Does s e r new → AreTexts s → AreTexts new
   does_texts s (edit i text e) r new does all =
       in_desk _ s new i (messages_of r) (λ d d'. in_text _ d d' text (edits_text e r)) does all
   does_texts s (copy i text beg end other pos) r new (t, there, does) all =
@@ -273,7 +273,7 @@ module _ (plain : OwnEditsArePlain) where
   does_texts s unknown r new does all = subst AreTexts (sym does.0) all
 
   -- and what it does where memory was refused
-  short_texts : (s : State) (e : Event) (r : Reply) (new : State) → Short s e r new → AreTexts s → AreTexts new
+  pub short_texts : (s : State) (e : Event) (r : Reply) (new : State) → Short s e r new → AreTexts s → AreTexts new
   short_texts s (edit i text e) r new short all =
       in_desk _ s new i (messages_of r) (λ d d'. in_text _ d d' text (edits_text_short e r)) short all
   short_texts s (copy i text beg end other pos) r new (t, there, short) all =

@@ -56,7 +56,7 @@ by_test true P Q h = inl (refl, h)
 by_test false P Q h = inr (refl, h)
 
 -- a text in which others wait is what its operations define
-with_room-is_text : (t : TextState) (room : List Operation) → AreWaitingFor t.text room → IsText t
+pub with_room-is_text : (t : TextState) (room : List Operation) → AreWaitingFor t.text room → IsText t
     → IsText (with_room t room)
 with_room-is_text t room waiting is = record {
   good = is.good;

@@ -5,6 +5,7 @@ use Rattle.char_files.specs.Stretch.{Item}
 use Rattle.operations.specs.Operation.{Operation}
 use Rattle.tree_order.specs.Laws.{AreSameSet}
 use Rattle.set_laws.specs.Sets.{AreIdentified, HaveEqualFronts}
+use Rattle.shelf.specs.Files.{Files}
 use Rattle.text_file.specs.Files.{IsFileOf, IsNoFile}
 use Rattle.text_file.specs.declared.TheConstants.{MAX_TEXT as MAX_STORED}
 use Rattle.texts.specs.Text.{IsText}
@@ -15,8 +16,9 @@ use Rattle.machine.specs.Machine.{Does, Event, Query, Reply, Replies, Short, Sta
 use Rattle.machine.specs.Machine.{print_fronts, print_runs, print_text}
 use Rattle.machine.specs.Machine.{takes, settles, refuses, stops}
 use Rattle.machine.specs.Printing.{waiting_line}
-use Rattle.machine.specs.Whole.{IsDeskAt, IsTaskAt, Part, RunDoes, RunEvent, RunReply, RunShort, RunState, Task, ask, change}
-use Rattle.machine.specs.Whole.{click, failed, forget, load, of_text, store, untouched, went_well}
+use Rattle.machine.specs.Whole.{IsDeskAt, IsTaskAt, Part, RunDoes, RunEvent, RunReplies, RunReply, RunShort, RunState}
+use Rattle.machine.specs.Whole.{Task, ask, change}
+use Rattle.machine.specs.Whole.{click, failed, forget, load, new_run, of_text, store, untouched, went_well}
 use Rattle.machine.specs.Windows.{Caret, Screened, Window, window_of}
 
 -- the states that a run of count sites from first on can come to
@@ -162,3 +164,20 @@ pub record AnswersAll (s : RunState) (i : ℕ) (d : DeskState) (w : Screened) : 
 abbrev pub EachTaskIsAnswered : Type 0
 EachTaskIsAnswered = (s : RunState) (i : ℕ) (d : DeskState) (w : Screened) → AreTexts s.texts → IsDeskAt s i d w
     → CaretHasText d w → AnswersAll s i d w
+
+-- the states that a run of the whole machine can come to, over these files, with screens of this size
+pub data RunReached (first count width height : ℕ) (files : Files) : RunState → Type 0 where
+  run_begins : RunReached first count width height files (new_run first count width height files)
+  run_goes_on : {s : RunState} (e : RunEvent) (part : Part) (r : RunReply) (new : RunState)
+      → RunReached first count width height files s → RunReplies s e part r new
+      → RunReached first count width height files new
+
+-- each text is what its operations define, and each desk's caret has a text
+pub record IsSound (s : RunState) : Type 0 where
+  pub texts : AreTexts s.texts
+  pub carets : (i : ℕ) (d : DeskState) (w : Screened) → IsDeskAt s i d w → CaretHasText d w
+
+-- so it is whatever a run of the whole machine does
+abbrev pub WhatARunReachesIsSound : Type 0
+WhatARunReachesIsSound = (first count width height : ℕ) (files : Files) (s : RunState)
+    → RunReached first count width height files s → IsSound s

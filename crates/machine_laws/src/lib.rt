@@ -4,7 +4,7 @@
 
 ghost use Rattle.machine_laws.specs.Laws.{OperationsTellWhatIsPrinted, WhatIsReachedIsDefined, WhatIsReachedIsNumbered};
 ghost use Rattle.machine_laws.specs.Laws.{EachEventHasOneReply, EachRunEventHasOneReply, FrontLinesTellFronts};
-ghost use Rattle.machine_laws.specs.Laws.{EachTaskIsAnswered, FrontsTellWhatIsPrinted};
+ghost use Rattle.machine_laws.specs.Laws.{EachTaskIsAnswered, FrontsTellWhatIsPrinted, WhatARunReachesIsSound};
 
 use char_files::runs_are_maximal;
 use convergence::outcomes::{
@@ -82,5 +82,15 @@ pub fn each_run_event_has_one_reply()
 pub fn each_task_is_answered()
     ensures { EachTaskIsAnswered }
 {
+    own_edits_are_plain();
+}
+
+/// A law: whatever a run of texts, screens, commands and files does, each text is what its operations define, and each
+/// desk's caret stands in a viewer that shows one of the desk's texts.
+pub fn what_a_run_reaches_is_sound()
+    ensures { WhatARunReachesIsSound }
+{
+    what_is_reached_is_defined();
+    nothing_is_good();
     own_edits_are_plain();
 }

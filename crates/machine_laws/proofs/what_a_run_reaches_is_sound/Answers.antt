@@ -1,0 +1,6 @@
+use Rattle.machine_laws.proofs.ReachedRuns.{reached_sound}
+use Rattle.machine_laws.proofs.what_a_run_reaches_is_sound.Goals as goal
+
+pub returns : goal.returns
+returns c =
+    reached_sound c.own_edits_are_plain.ensures c.nothing_is_good.ensures.identified c.what_is_reached_is_defined.ensures
