@@ -1,7 +1,7 @@
 -- No task and no click lacks a rule.
 use Rattle.std.proofs.Common.{◌≡◌, ℕ, zero, suc, ◌+◌, ◌-◌, ◌<◌, ◌≤◌, true, false, Bool, List, [], ◌∷◌, ◌++◌, map, Option}
 use Rattle.std.proofs.Common.{Some, None, Result, Ok, Err, refl, sym, ap, subst, ◌∙◌, inl, inr, length, take, drop, arith, true≢false}
-use Rattle.std.specs.Prelude.{◌⊎◌, MatchBool, MatchOption, MatchResult, IsTrue, bytes_eq, option_map, slice_get, slice_set, nat_lt}
+use Rattle.std.specs.Prelude.{◌⊎◌, MatchBool, IsTrue, bytes_eq, option_map, slice_get, slice_set, nat_lt}
 use Rattle.std.specs.Prelude.{◌==◌, if◌then◌else◌}
 use Rattle.std.specs.Option.{option_and_then, option_map_or}
 use Rattle.std.proofs.lemmas.Bool.{cases_lt, cond_both, false_from_ne_true}
@@ -13,7 +13,6 @@ use Rattle.looks.specs.declared.refusal.Refusal.TheVariants.{BadFile, NoCaret, N
 use Rattle.looks.specs.declared.refusal.Refusal.TheVariants.{UnknownCommand, WriteFault}
 use Rattle.char_files.specs.Stretch.{Item}
 use Rattle.reader_scanner.proofs.OneToken.{token_there}
-use Rattle.reader_scanner.specs.Tokens.{IsTokenAt}
 use Rattle.reader_scanner.specs.declared.token.Token.{Token}
 use Rattle.reader_scanner.specs.declared.token.TokenValue.{TokenValue}
 use Rattle.command_words.proofs.SomeCall.{call_or_none}
@@ -36,16 +35,16 @@ use Rattle.convergence.proofs.OwnOperations.{standing_within}
 use Rattle.machine.specs.DeskState.{DeskState, with_text}
 use Rattle.machine.specs.Machine.{Does, EditsText, IsTextAt, Reply, State, edit, edit_reply, messages_of, refuses}
 use Rattle.machine.specs.Whole.{AtCaret, Change, Clicked, DoesTask, FileBecomes, IfCaret, IsDeskAt, IsFirstFrom, IsParameter, IsTaskAt}
-use Rattle.machine.specs.Whole.{IsTaskOfCall, Loads, Part, Refuses, RunReply, RunState, Searches, StandsAt, Task, arrange}
+use Rattle.machine.specs.Whole.{IsTaskOfCall, Loads, Part, RunReply, RunState, Searches, StandsAt, Task, arrange}
 use Rattle.machine.specs.Whole.{change, clicked, clicked_in, done, dress_marked, failed, forget, forgot, found, is_caret_sign}
 use Rattle.machine.specs.Whole.{bytes_told, colour_told, file_told, font_told, offset_told, text_told}
 use Rattle.machine.specs.Whole.{lines_of_view, load, not_found, of_text, opens, print, prints_screen, put, put_recalled, refuse}
 use Rattle.machine.specs.Whole.{search, store, task_of, untouched, went_well, with_screen_at, with_told}
-use Rattle.machine.specs.Windows.{Caret, Marked, Screened, Window, arranged, bytes_shown, marked, marked_as, place_in}
+use Rattle.machine.specs.Windows.{Arranged, Caret, Marked, Screened, Window, arranged, bytes_shown, marked, marked_as, place_in}
 use Rattle.machine.specs.Windows.{stretch_in, viewer_with, window_of}
 use Rattle.viewers.specs.Screen.{area_of}
 use Rattle.viewers.specs.declared.screen.Area.{Area}
-use Rattle.machine_laws.proofs.OneRunReply.{shown_parts}
+use Rattle.machine_laws.proofs.OneRunReply.{ComesTo, IsParameterBy, IsTaskBy, IsTaskIn, IsTaskTold, shown_parts}
 use Rattle.machine_laws.specs.Laws.{AnswersAll, AreTexts, CaretHasText, EachTaskIsAnswered, HasText, MayHavePart}
 
 -- an edit of a text
@@ -191,9 +190,7 @@ searches s i w c t bytes = by (first_or_none bytes (bytes_shown t) (place_in t c
 abbrev Answers : RunState → ℕ → DeskState → Screened → Task → Part → Type 0
 Answers s i d w t part = (r : RunReply) × (new : RunState) × DoesTask s i d w t part r new
 
-arranges : (s : RunState) (i : ℕ) (out : Result (Screened × Option ℕ) Refusal) → (r : RunReply) × (new : RunState)
-    × MatchResult out (λ out. (r ≡ option_map_or (λ v. opens v) out.1 done) × (new ≡ with_screen_at s i out.0))
-    (λ why. Refuses s why r new)
+arranges : (s : RunState) (i : ℕ) (out : Arranged) → (r : RunReply) × (new : RunState) × ComesTo s i out r new
 arranges s i (Ok out) = (option_map_or (λ v. opens v) out.1 done, with_screen_at s i out.0, (refl, refl))
 arranges s i (Err why) = (of_text (refuses why), s, (refl, refl))
 
@@ -310,10 +307,7 @@ module _ (plain : OwnEditsArePlain) (s : RunState) (i : ℕ) (d : DeskState) (w 
   parameter : (token : Token) → (told : Result TokenValue Refusal) × IsParameter d w token told
   parameter token = by (is_caret_sign token.value) (marked d w)
     where
-      by : (sign : Bool) (m : Option Marked) → (told : Result TokenValue Refusal)
-          × MatchBool sign (MatchOption m (told ≡ Err NoSelection)
-          (λ m. (there : Token) × IsTokenAt (bytes_shown m.text) m.beg there × (told ≡ Ok there.value)))
-          (told ≡ Ok token.value)
+      by : (sign : Bool) (m : Option Marked) → (told : Result TokenValue Refusal) × IsParameterBy token sign m told
       by true None = (Err NoSelection, refl)
       by true (Some m) =
           let (there, is) = token_there (bytes_shown m.text) m.beg in (Ok there.value, (there, is, refl))
@@ -322,14 +316,11 @@ module _ (plain : OwnEditsArePlain) (s : RunState) (i : ℕ) (d : DeskState) (w 
   call_task : (call : Call) (v text : ℕ) → (t : Task) × IsTaskOfCall d w call v text t
   call_task call v text = by (has_parameter call.command)
     where
-      of_told : (told : Result TokenValue Refusal) → (t : Task)
-          × MatchResult told (λ value. t ≡ task_of d w call.command value v text) (λ why. t ≡ refuse why)
+      of_told : (told : Result TokenValue Refusal) → (t : Task) × IsTaskTold d w call v text t told
       of_told (Ok value) = (task_of d w call.command value v text, refl)
       of_told (Err why) = (refuse why, refl)
 
-      by : (has : Bool) → (t : Task) × MatchBool has ((told : Result TokenValue Refusal) × IsParameter d w call.token told
-          × MatchResult told (λ value. t ≡ task_of d w call.command value v text) (λ why. t ≡ refuse why))
-          (t ≡ task_of d w call.command call.token.value v text)
+      by : (has : Bool) → (t : Task) × IsTaskBy d w call v text has t
       by true =
           let (told, is) = parameter call.token in
           let (t, goes) = of_told told in
@@ -379,15 +370,11 @@ module _ (plain : OwnEditsArePlain) (s : RunState) (i : ℕ) (d : DeskState) (w 
       → IsTaskOfCall d w call v text task → HasText s i task
   call_text call v text t task there is = by (has_parameter call.command) is
     where
-      of_told : (told : Result TokenValue Refusal)
-          → MatchResult told (λ value. task ≡ task_of d w call.command value v text) (λ why. task ≡ refuse why)
-          → HasText s i task
+      of_told : (told : Result TokenValue Refusal) → IsTaskTold d w call v text task told → HasText s i task
       of_told (Ok value) e = subst (HasText s i) (sym e) (command_text call.command value v text t there)
       of_told (Err why) e = subst (HasText s i) (sym e) tt
 
-      by : (has : Bool) → MatchBool has ((told : Result TokenValue Refusal) × IsParameter d w call.token told
-          × MatchResult told (λ value. task ≡ task_of d w call.command value v text) (λ why. task ≡ refuse why))
-          (task ≡ task_of d w call.command call.token.value v text) → HasText s i task
+      by : (has : Bool) → IsTaskBy d w call v text has task → HasText s i task
       by true (told, is, e) = of_told told e
       by false e = subst (HasText s i) (sym e) (command_text call.command call.token.value v text t there)
 
@@ -411,17 +398,14 @@ module _ (plain : OwnEditsArePlain) (s : RunState) (i : ℕ) (d : DeskState) (w 
   task_at col row = by (clicked d w col row) refl
     where
       at_call : (at : Clicked) → ((t : TextState) × IsTextAt s.texts i at.text t)
-          → NoCallAt at.bytes at.pos ⊎ ((call : Call) × IsCallAt at.bytes at.pos call) → (t : Task)
-          × ((NoCallAt at.bytes at.pos × (t ≡ refuse UnknownCommand))
-          ⊎ ((call : Call) × IsCallAt at.bytes at.pos call × IsTaskOfCall d w call at.viewer at.text t)) × HasText s i t
+          → NoCallAt at.bytes at.pos ⊎ ((call : Call) × IsCallAt at.bytes at.pos call)
+          → (t : Task) × IsTaskIn d w (Some at) t × HasText s i t
       at_call at text (inl none) = (refuse UnknownCommand, inl (none, refl), tt)
       at_call at (t, there) (inr (call, is)) =
           let (task, goes) = call_task call at.viewer at.text in
           (task, inr (call, is, goes), call_text call at.viewer at.text t task there goes)
 
-      by : (at : Option Clicked) → clicked d w col row ≡ at → (t : Task) × MatchOption at (t ≡ refuse NoViewer)
-          (λ at. (NoCallAt at.bytes at.pos × (t ≡ refuse UnknownCommand))
-          ⊎ ((call : Call) × IsCallAt at.bytes at.pos call × IsTaskOfCall d w call at.viewer at.text t)) × HasText s i t
+      by : (at : Option Clicked) → clicked d w col row ≡ at → (t : Task) × IsTaskIn d w at t × HasText s i t
       by None is = (refuse NoViewer, refl, tt)
       by (Some at) is = at_call at (clicked_text col row at is) (call_or_none at.bytes at.pos)
 

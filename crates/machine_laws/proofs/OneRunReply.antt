@@ -36,7 +36,7 @@ use Rattle.machine.specs.Whole.{RunReply, RunShort, RunState, Searches, ShortTas
 use Rattle.machine.specs.Whole.{ask, caret_after, change, click, clicked, done, failed, forget, forgot, found, is_caret_sign}
 use Rattle.machine.specs.Whole.{load, of_text, on_text, opens, print, put, put_recalled, refuse, search, store, task_of, untouched}
 use Rattle.machine.specs.Whole.{went_well, with_screen_at}
-use Rattle.machine.specs.Windows.{Caret, Marked, Screened, Window, arranged, bytes_shown, close, marked, move}
+use Rattle.machine.specs.Windows.{Arranged, Caret, Marked, Screened, Window, arranged, bytes_shown, close, marked, move}
 use Rattle.machine.specs.Windows.{open_in, place_in, point, scroll, select, shown_by, text_of, window_of}
 use Rattle.machine_laws.proofs.OneReply.{IsPartOfEdit, one_element, one_text, part_of_edit}
 use Rattle.machine_laws.specs.Laws.{EachEventHasOneReply, EachRunEventHasOneReply, HaveOneRunShape}
@@ -218,11 +218,14 @@ forgets s i text r r' new new' (t, mid, there, (d, x, at, (u, v, of_d, is_v, is_
     ∙ (λ k. record s.texts { desks = slice_set s.texts.desks i (xs k); sent = s.texts.sent ++ [] }) ∙ sym is_mid' in
     (is ∙ (λ k. forgot (length ((ts k).waiting_room))) ∙ sym is', is_new ∙ (λ k. record s { texts = mids k }) ∙ sym is_new')
 
-arranges : (s : RunState) (i : ℕ) (out : Result (Screened × Option ℕ) Refusal) (r r' : RunReply) (new new' : RunState)
-    → MatchResult out (λ out. (r ≡ option_map_or (λ v. opens v) out.1 done) × (new ≡ with_screen_at s i out.0))
+-- an arrangement that comes to this
+abbrev pub ComesTo : RunState → ℕ → Arranged → RunReply → RunState → Type 0
+ComesTo s i out r new =
+    MatchResult out (λ out. (r ≡ option_map_or (λ v. opens v) out.1 done) × (new ≡ with_screen_at s i out.0))
     (λ why. Refuses s why r new)
-    → MatchResult out (λ out. (r' ≡ option_map_or (λ v. opens v) out.1 done) × (new' ≡ with_screen_at s i out.0))
-    (λ why. Refuses s why r' new') → AreSame r r' new new'
+
+arranges : (s : RunState) (i : ℕ) (out : Arranged) (r r' : RunReply) (new new' : RunState) → ComesTo s i out r new
+    → ComesTo s i out r' new' → AreSame r r' new new'
 arranges s i (Ok out) r r' new new' a b = (a.0 ∙ sym b.0, a.1 ∙ sym b.1)
 arranges s i (Err why) r r' new new' a b = (a.0 ∙ sym b.0, a.1 ∙ sym b.1)
 
@@ -252,7 +255,7 @@ tasks file_so s i d w (print v) part r r' new new' one (p, is, is_new) (p', is',
 
 -- a click's task
 
-abbrev IsParameterBy : Token → Bool → Option Marked → Result TokenValue Refusal → Type 0
+abbrev pub IsParameterBy : Token → Bool → Option Marked → Result TokenValue Refusal → Type 0
 IsParameterBy token sign m told = MatchBool sign (MatchOption m (told ≡ Err NoSelection)
     (λ m. (there : Token) × IsTokenAt (bytes_shown m.text) m.beg there × (told ≡ Ok there.value))) (told ≡ Ok token.value)
 
@@ -267,11 +270,11 @@ parameter d w token told told' a b = by (is_caret_sign token.value) (marked d w)
         is ∙ (λ k. Ok ((one_token (bytes_shown m.text) m.beg there there' at at' k).value)) ∙ sym is'
     by false m a b = a ∙ sym b
 
-abbrev IsTaskTold : DeskState → Screened → Call → ℕ → ℕ → Task → Result TokenValue Refusal → Type 0
+abbrev pub IsTaskTold : DeskState → Screened → Call → ℕ → ℕ → Task → Result TokenValue Refusal → Type 0
 IsTaskTold d w call v text x told =
     MatchResult told (λ value. x ≡ task_of d w call.command value v text) (λ why. x ≡ refuse why)
 
-abbrev IsTaskBy : DeskState → Screened → Call → ℕ → ℕ → Bool → Task → Type 0
+abbrev pub IsTaskBy : DeskState → Screened → Call → ℕ → ℕ → Bool → Task → Type 0
 IsTaskBy d w call v text has x = MatchBool has
     ((told : Result TokenValue Refusal) × IsParameter d w call.token told × IsTaskTold d w call v text x told)
     (x ≡ task_of d w call.command call.token.value v text)
@@ -291,7 +294,7 @@ call_task d w call v text t t' a b = by (has_parameter call.command) a b
         (parameter d w call.token told' told is' is) b)
     by false a b = a ∙ sym b
 
-abbrev IsTaskIn : DeskState → Screened → Option Clicked → Task → Type 0
+abbrev pub IsTaskIn : DeskState → Screened → Option Clicked → Task → Type 0
 IsTaskIn d w at x = MatchOption at (x ≡ refuse NoViewer)
     (λ at. (NoCallAt at.bytes at.pos × (x ≡ refuse UnknownCommand))
     ⊎ ((call : Call) × IsCallAt at.bytes at.pos call × IsTaskOfCall d w call at.viewer at.text x))

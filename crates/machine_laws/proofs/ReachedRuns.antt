@@ -1,7 +1,7 @@
 -- What a run of the whole machine comes to: texts that their operations define, and carets in viewers that show one.
 use Rattle.std.proofs.Common.{◌≡◌, ℕ, zero, suc, ◌+◌, ◌-◌, true, false, Bool, List, [], ◌∷◌, ◌++◌, map, filter, Option, Some}
 use Rattle.std.proofs.Common.{None, Ok, Err, refl, sym, ap, subst, ◌∙◌, inl, inr, length, arith, true≢false}
-use Rattle.std.specs.Prelude.{◌⊎◌, ◌==◌, if◌then◌else◌, not, max, min, nat_le, replicate, MatchOption, MatchResult, option_map, slice_get, slice_set}
+use Rattle.std.specs.Prelude.{◌⊎◌, ◌==◌, if◌then◌else◌, not, max, min, nat_le, replicate, MatchOption, option_map, slice_get, slice_set}
 use Rattle.std.specs.Option.{option_and_then, option_map_or}
 use Rattle.std.proofs.lemmas.Bool.{cond_both, eq-eqb, eqb-true, false_from_ne_true}
 use Rattle.std.proofs.lemmas.List.Elements.{All-nil}
@@ -22,36 +22,18 @@ use Rattle.machine.specs.Machine.{new_state, query, refuses, settle, unknown}
 use Rattle.machine.specs.Machine.{take as taking}
 use Rattle.machine.specs.Whole.{AtCaret, DoesTask, FileBecomes, Forgets, IfCaret, IsDeskAt, Loads, LoadsShort, OnText, Part}
 use Rattle.machine.specs.Whole.{RunDoes, RunEvent, RunReplies, RunReply, RunShort, RunState, Searches, ShortTask, Stores, Task}
-use Rattle.machine.specs.Whole.{TextSteps, arrange, ask, change, click, done, failed, forget, load, of_text, on_text}
-use Rattle.machine.specs.Whole.{opens, print, put, put_recalled, refuse, search, store, untouched, went_well, with_screen_at}
-use Rattle.machine.specs.Whole.{Refuses}
+use Rattle.machine.specs.Whole.{TextSteps, arrange, ask, change, click, failed, forget, load, of_text, on_text}
+use Rattle.machine.specs.Whole.{print, put, put_recalled, refuse, search, store, untouched, went_well}
 use Rattle.machine.specs.Windows.{blank_screen, closed_at, has_room, is_open, is_row_below, line_anchor, moved_to, opened_at}
 use Rattle.machine.specs.Windows.{Selected, pointed_to, scrolled_in, seats_with, selected_between, selected_by, selected_from, with_next}
 use Rattle.machine.specs.Windows.{Arranged, Arrangement, Caret, Pointed, Screened, Window, arranged, close, move, open_in, point}
 use Rattle.machine.specs.Windows.{pointed, pointed_in, scroll, select, shown_by, text_of, viewer_with, window_of}
 use Rattle.machine_laws.proofs.OneReply.{one_element}
-use Rattle.machine_laws.proofs.OneRunReply.{shown_parts}
-use Rattle.machine_laws.proofs.Reaching.{does_texts, in_desk, in_text, short_texts}
+use Rattle.machine_laws.proofs.OneRunReply.{ComesTo, shown_parts}
+use Rattle.machine_laws.proofs.Reaching.{does_texts, in_desk, in_text, set_old, short_texts}
 use Rattle.machine_laws.proofs.Rooms.{with_room-is_text}
 use Rattle.machine_laws.specs.Laws.{AreTexts, CaretHasText, IsSound, WhatARunReachesIsSound, WhatIsReachedIsDefined}
 use Rattle.machine_laws.specs.Laws.{begins, run_begins, run_goes_on}
-
--- what stands in a list in which one was set stood there before, or was set there
-set_old : {X : Type 0} (xs : List X) (i j : ℕ) (y z : X) → slice_get (slice_set xs i y) j ≡ Some z
-    → (x : X) × (slice_get xs j ≡ Some x) × ((z ≡ x) ⊎ ((z ≡ y) × (j ≡ i)))
-set_old [] i j y z at = absurd (none-some z at)
-set_old (x ∷ xs) zero zero y z at = (x, refl, inr (sym (same_Some y z at), refl))
-set_old (x ∷ xs) zero (suc j) y z at = (z, at, inl refl)
-set_old (x ∷ xs) (suc i) zero y z at = (x, refl, inl (sym (same_Some x z at)))
-set_old (x ∷ xs) (suc i) (suc j) y z at =
-    let (v, there, is) = set_old xs i j y z at in (
-      v,
-      there,
-      elim is [
-        | inl same ↦ inl same
-        | inr set ↦ inr (set.0, ap suc set.1)
-      ],
-    )
 
 -- where something stood something stands
 set_still : {X : Type 0} (xs : List X) (i j : ℕ) (x y : X) → slice_get xs j ≡ Some x
@@ -446,8 +428,7 @@ module _ (s : RunState) (i : ℕ) (d : DeskState) (w : Screened) (sound : IsSoun
           (record { of_text = All-nil _; identified = none; few = omega arith }) is)
 
   arranges : (out : Arranged) (r : RunReply) (new : RunState) → LeavesCaret d out
-      → MatchResult out (λ out. (r ≡ option_map_or (λ v. opens v) out.1 done) × (new ≡ with_screen_at s i out.0))
-      (λ why. Refuses s why r new) → IsSound new
+      → ComesTo s i out r new → IsSound new
   arranges (Ok out) r new has (is, is_new) = subst IsSound (sym is_new)
       (sound_screen s _ i d w out.0 sound (keeps_same s.texts s.texts refl) refl at has)
   arranges (Err why) r new has refused = sound_same s new sound refused.1

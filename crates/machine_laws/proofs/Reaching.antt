@@ -1,11 +1,11 @@
 -- What a run comes to: each text is what its operations define, by the steps that led there.
 use Rattle.std.proofs.Common.{◌≡◌, ℕ, zero, suc, ◌≤◌, ◌-◌, length, take, true, false, Bool, List, [], ◌∷◌, map, Option}
-use Rattle.std.proofs.Common.{Some, None, Result, Ok, Err, sym, ap, subst, ◌∙◌, inl, inr, arith}
+use Rattle.std.proofs.Common.{Some, None, Result, Ok, Err, refl, sym, ap, subst, ◌∙◌, inl, inr, arith}
 use Rattle.std.specs.Prelude.{◌⊎◌, IsTrue, MatchOption, nat_lt, option_map, slice_get, slice_set}
 use Rattle.std.specs.List.{range_with_len}
 use Rattle.std.specs.Option.{option_map_or}
 use Rattle.std.proofs.lemmas.List.Elements.{All-nil}
-use Rattle.std.proofs.lemmas.Option.{same_Some, slice_get-map}
+use Rattle.std.proofs.lemmas.Option.{none-some, same_Some, slice_get-map}
 use Rattle.looks.specs.declared.refusal.Refusal.{Refusal}
 use Rattle.looks.specs.declared.refusal.Refusal.TheVariants.{BadEvent, Conflict, WrongText}
 use Rattle.char_files.specs.declared.TheConstants.{MAX_FILE}
@@ -40,14 +40,32 @@ use Rattle.machine.specs.Machine.{take as taking}
 use Rattle.convergence.proofs.OwnOperations.{standing_within}
 use Rattle.machine_laws.proofs.Rooms.{by_test, drained_is_text, entered}
 
--- an element of a list in which one was set is that one or was there before
+-- what stands in a list in which one was set stood there before, or was set there
+pub set_old : {X : Type 0} (xs : List X) (i j : ℕ) (y z : X) → slice_get (slice_set xs i y) j ≡ Some z
+    → (x : X) × (slice_get xs j ≡ Some x) × ((z ≡ x) ⊎ ((z ≡ y) × (j ≡ i)))
+set_old [] i j y z at = absurd (none-some z at)
+set_old (x ∷ xs) zero zero y z at = (x, refl, inr (sym (same_Some y z at), refl))
+set_old (x ∷ xs) zero (suc j) y z at = (z, at, inl refl)
+set_old (x ∷ xs) (suc i) zero y z at = (x, refl, inl (sym (same_Some x z at)))
+set_old (x ∷ xs) (suc i) (suc j) y z at =
+    let (v, there, is) = set_old xs i j y z at in (
+      v,
+      there,
+      elim is [
+        | inl same ↦ inl same
+        | inr set ↦ inr (set.0, ap suc set.1)
+      ],
+    )
+
+-- so it is that one, or was there before
 pub set_cases : {A : Type 0} (xs : List A) (i j : ℕ) (y z : A) → slice_get (slice_set xs i y) j ≡ Some z
     → (z ≡ y) ⊎ (slice_get xs j ≡ Some z)
-set_cases [] i j y z at = inr at
-set_cases (x ∷ xs) zero zero y z at = inl (sym (same_Some y z at))
-set_cases (x ∷ xs) zero (suc j) y z at = inr at
-set_cases (x ∷ xs) (suc i) zero y z at = inr at
-set_cases (x ∷ xs) (suc i) (suc j) y z at = set_cases xs i j y z at
+set_cases xs i j y z at =
+    let (x, there, is) = set_old xs i j y z at in
+    elim is [
+      | inl same ↦ inr (there ∙ ap Some (sym same))
+      | inr set ↦ inl set.0
+    ]
 
 no_name : (c : CharName) → IsAmong [] c → ⊥
 no_name c (k, r, within, read, holds) = omega (arith, within)
