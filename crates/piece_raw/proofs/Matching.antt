@@ -6,10 +6,11 @@ use Rattle.std.specs.List.{AllByRecursion}
 use Rattle.std.proofs.lemmas.List.{map-append}
 use Rattle.std.proofs.lemmas.Option.{slice_get_within}
 use denote.RawPtr.{Ptr}
+use Rattle.piece_raw.specs.declared.block.Block.{Block}
 use Rattle.piece_raw.specs.declared.nodes.Member.{Member}
 use Rattle.piece_raw.specs.Linked.{Linked, same_ptr, last_from, places, round, IsApart, HasNext, HasPrev}
 use Rattle.piece_raw.specs.Ring.{tags, stops, Follows, last_tag}
-use Rattle.piece_raw.specs.Tied.{Held, item_of, members, stop_of, IsAmong, IsStop, IsHeld, Matches}
+use Rattle.piece_raw.specs.Tied.{Held, item_of, members, stop_of, IsAmong, IsStop, IsHeld, Matches, spots}
 use Rattle.piece_raw.proofs.Splits.{cons_head, cons_tail, nil_ne_cut, last_from-push, cut_last, all_left}
 use Rattle.piece_raw.proofs.Splits.{all_right, all_both, distinct_differs}
 use Rattle.piece_raw.proofs.Apart.{same_ptr_refl, same_ptr_symm, same_node}
@@ -383,7 +384,7 @@ module _ {T : Type 0} where
       }
 
   -- the node of the table's last place
-  pub last_node : (ps : List Ptr) (p : Ptr) (ns : List (N T)) → Matches (ps ++ p ∷ []) ns →
+  last_node : (ps : List Ptr) (p : Ptr) (ns : List (N T)) → Matches (ps ++ p ∷ []) ns →
       (xs : List (N T)) × (x : N T) × (ys : List (N T)) × (ns ≡ xs ++ x ∷ ys) × (x.at ≡ p)
       × (stop_of x ≡ Some (length ps))
   last_node ps p ns h =
@@ -394,3 +395,12 @@ module _ {T : Type 0} where
       let spot : Some x.at ≡ Some p = sym here.2 ∙ ap (slice_get (ps ++ p ∷ [])) tag ∙
       slice_get-cut ps p [] in
       (was.1.0, x, was.1.1, was.1.2, (let at : x.at ≡ p = cc in at), was.2)
+
+  -- where b's block is the last of a table, its node is among those of the table, and has the last place
+  pub last_block : {A : Type 0} (blocks items : List (Block (Held T) A)) (b : Block (Held T) A) → blocks ≡ items ++ b ∷ []
+      → (ns : List (N T)) → Matches (spots blocks) ns → Matches (spots items ++ b.node.ptr ∷ []) ns
+      × ((xs : List (N T)) × (x : N T) × (ys : List (N T)) × (ns ≡ xs ++ x ∷ ys) × (x.at ≡ b.node.ptr)
+      × (stop_of x ≡ Some (length (spots items))))
+  last_block blocks items b e ns h =
+      let whole = subst (λ (ps : List Ptr). Matches ps ns) (ap spots e ∙ map-append (λ d. d.node.ptr) items (b ∷ [])) h in
+      (whole, last_node (spots items) b.node.ptr ns whole)
