@@ -203,7 +203,8 @@ module _ {T : Type 0} where
   prev_stop t ns stop (x, among, is) p at =
       let step = step_before t ns among.0 x among.1 among.2 in (
         step.0,
-        subst (λ (q : Ptr). HasPrev (round t ns) q step.0.at) (sym at) (round_step t ns step.1 step.0 x step.2 step.3),
+        subst (λ (q : Ptr). HasPrev (round t ns) q step.0.at) (sym at)
+            (round_step t ns step.1 step.0 x step.2 step.3),
         step.4,
         λ ps none held. subst (λ (c : Option ℕ). Follows (members ns) (stop_of step.0) c) is
             (stops_step ps t none ns held step.1 step.0 x step.2 step.3),
@@ -397,10 +398,11 @@ module _ {T : Type 0} where
       (was.1.0, x, was.1.1, was.1.2, (let at : x.at ≡ p = cc in at), was.2)
 
   -- where b's block is the last of a table, its node is among those of the table, and has the last place
-  pub last_block : {A : Type 0} (blocks items : List (Block (Held T) A)) (b : Block (Held T) A) → blocks ≡ items ++ b ∷ []
-      → (ns : List (N T)) → Matches (spots blocks) ns → Matches (spots items ++ b.node.ptr ∷ []) ns
+  pub last_block : {A : Type 0} (blocks items : List (Block (Held T) A)) (b : Block (Held T) A) →
+      blocks ≡ items ++ b ∷ [] → (ns : List (N T)) → Matches (spots blocks) ns → Matches (spots items ++ b.node.ptr ∷ []) ns
       × ((xs : List (N T)) × (x : N T) × (ys : List (N T)) × (ns ≡ xs ++ x ∷ ys) × (x.at ≡ b.node.ptr)
       × (stop_of x ≡ Some (length (spots items))))
   last_block blocks items b e ns h =
-      let whole = subst (λ (ps : List Ptr). Matches ps ns) (ap spots e ∙ map-append (λ d. d.node.ptr) items (b ∷ [])) h in
+      let whole = subst (λ (ps : List Ptr). Matches ps ns)
+      (ap spots e ∙ map-append (λ d. d.node.ptr) items (b ∷ [])) h in
       (whole, last_node (spots items) b.node.ptr ns whole)

@@ -16,8 +16,8 @@ detach-requires g c =
 pub deallocate-requires : goal.deallocate-requires
 deallocate-requires g c =
     let n = c.loop-block.self in let b = c.in-Some.block in let items = c.pop.new.self.items in
-    let last = (last_block n.table.items items b c.in-Some.ensures.items n.links.nodes c.loop-block.invariant.matches).1
-    in
+    let last = (last_block n.table.items items b c.in-Some.ensures.items n.links.nodes
+    c.loop-block.invariant.matches).1 in
     let out = c.detach.ensures.nodes last.0 last.1 last.2 last.3 last.4 in
     let block = (all_right IsBlock items (b ∷ []) (subst (AllByRecursion IsBlock)
     c.in-Some.ensures.items c.loop-block.invariant.deeds)).0 in
