@@ -399,7 +399,8 @@ module _ {T : Type 0} where
 
   -- where b's block is the last of a table, its node is among those of the table, and has the last place
   pub last_block : {A : Type 0} (blocks items : List (Block (Held T) A)) (b : Block (Held T) A) →
-      blocks ≡ items ++ b ∷ [] → (ns : List (N T)) → Matches (spots blocks) ns → Matches (spots items ++ b.node.ptr ∷ []) ns
+      blocks ≡ items ++ b ∷ [] → (ns : List (N T)) → Matches (spots blocks) ns →
+      Matches (spots items ++ b.node.ptr ∷ []) ns
       × ((xs : List (N T)) × (x : N T) × (ys : List (N T)) × (ns ≡ xs ++ x ∷ ys) × (x.at ≡ b.node.ptr)
       × (stop_of x ≡ Some (length (spots items))))
   last_block blocks items b e ns h =

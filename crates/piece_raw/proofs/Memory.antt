@@ -3,6 +3,7 @@
 --     word_had, word_made, mark_made      a value of one pointer, and one of no bytes
 -- edge_out, edge_in, path_cut, path_glue, values_cut, values_glue      the links and the pairs are taken
 -- apart and put together
+--     next_seen, prev_seen, value_at      what lent links lend of a node
 --     fresh              a node with room for its links lies apart from every node of a path
 use mathlib.Core.Path.{◌≡◌, refl, sym, ap, subst}
 use mathlib.Core.Bool.{true, false}

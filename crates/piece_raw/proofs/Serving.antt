@@ -34,7 +34,8 @@ use Rattle.piece_raw.proofs.Memory.{Of}
 use Rattle.piece_raw.proofs.Blocks.{RA}
 use Rattle.piece_raw.proofs.Walks.{𝓣, Runs, dropped, Spent, all_fit, left_of, all_go, none_left}
 
--- a call that is passed a `&` to an allocator, and more by value. Asks is what it needs and Gives what it hands back
+-- a call that is passed a `&` to an allocator, and more by value. Asks is what it needs, and Gives what it hands
+-- back
 module _ (E : Of) (Z : Al) (ss : List (Slot 3)) (out : Slot 3) where
   abbrev serves : Ended
   serves = record {
@@ -71,7 +72,8 @@ module _ (E : Of) (Z : Al) (ss : List (Slot 3)) (out : Slot 3) where
         ∷ ‵ (owns (types_at ss κs) a vss) ∷ raw (Asks κs z a) ∷ []
 
     abbrev after : (κs : Lfts 3) → Share → Z.row.Denot → More κs → (out.row κs).Denot → Val → Item 𝓤 → List (Item 𝓤)
-    after κs q z a r v others = raw (Gives κs z a r) ∷ ‵ ((out.row κs).own_val r (v ∷ [])) ∷ ‵ (flft κs.0 q) ∷ others ∷ []
+    after κs q z a r v others = raw (Gives κs z a r) ∷ ‵ ((out.row κs).own_val r (v ∷ [])) ∷ ‵ (flft κs.0 q)
+        ∷ others ∷ []
 
     pub served : Spent ss → ((κs : Lfts 3) (a : More κs) → Fins κs ss (all no ss) a) → (k : Callee) (e : Fn) →
         Closed 𝓤 𝓛.H (𝓣 𝓛 𝓜 𝓡).C (𝓣 𝓛 𝓜 𝓡).Λ k e

@@ -39,7 +39,8 @@ module _ {T : Type 0} (n : Nodes T) (tag : ℕ) where
 module _ {T : Type 0} (n : Nodes T) (tied : IsTied n) where
   pub of_member : (tag : ℕ) → HasTag (members n.links.nodes) tag → Standing n tag
   of_member tag has =
-      let on = cut_members (spots n.table.items) n.links.nodes tied.matches.held has.1.0 tag has.0 has.1.1 has.1.2 in
+      let on = cut_members (spots n.table.items) n.links.nodes tied.matches.held has.1.0 tag has.0 has.1.1
+      has.1.2 in
       record {
         ahead = on.0;
         node = on.1;
@@ -50,13 +51,14 @@ module _ {T : Type 0} (n : Nodes T) (tied : IsTied n) where
         tagged = ap (λ (p : ℕ × T). p.0) on.6;
       }
 
-  stands : (tag : ℕ) (xs : List (N T)) (x : N T) (ys : List (N T)) → all_nodes n ≡ xs ++ x ∷ ys → stop_of x ≡ Some tag →
-      Standing n tag
+  stands : (tag : ℕ) (xs : List (N T)) (x : N T) (ys : List (N T)) → all_nodes n ≡ xs ++ x ∷ ys →
+      stop_of x ≡ Some tag → Standing n tag
   stands tag [] x ys c s = let same = cons_head n.links.trailer x n.links.nodes ys c in
       let at = sym (ap (option_map (λ (m : Member T). m.tag)) tied.trailer_empty) ∙ ap stop_of same ∙ s in cc
   stands tag (z ∷ xs) x ys c s =
       let ps = spots n.table.items in let rest = cons_tail n.links.trailer z n.links.nodes (xs ++ x ∷ ys) c in
-      let here = (all_right (IsHeld ps) xs (x ∷ ys) (subst (AllByRecursion (IsHeld ps)) rest tied.matches.held)).0 in
+      let here = (all_right (IsHeld ps) xs (x ∷ ys)
+      (subst (AllByRecursion (IsHeld ps)) rest tied.matches.held)).0 in
       let both : Some here.0.tag ≡ Some tag = sym (stop-some x here.0 here.1) ∙ s in
       let same : here.0.tag ≡ tag = cc in
       record { ahead = xs; node = x; behind = ys; member = here.0; cut = rest; held = here.1; tagged = same }

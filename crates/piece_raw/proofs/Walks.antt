@@ -241,7 +241,8 @@ module _ (E : Of) (Beside : List Ptr → Ptr → Ptr → Type 0) where
         → Meets 𝓛 𝓜 𝓡 E (looked E (plain (λ _. Np E))) (seen E (plain (λ _. Np E)) 𝓛 𝓜 𝓡 Stands Leads) k
     reads i off lies lent same k e closed =
         let T = 𝓣 𝓛 𝓜 𝓡 in
-        looks E (plain (λ _. Np E)) 𝓛 𝓜 𝓡 Stands Leads RawPtr off (λ κs p b o. record { ptr = p }) (λ d node asked. asked.0)
+        looks E (plain (λ _. Np E)) 𝓛 𝓜 𝓡 Stands Leads RawPtr off (λ κs p b o. record { ptr = p })
+        (λ d node asked. asked.0)
         (λ κ d node asked. via 𝓤 _ (fst∗ 𝓤 _ (sem 𝓛 (values_lent (RV E) (d.trailer ∷ d.nodes) κ)))
         (lent κ d.trailer.at (places d.nodes ++ d.trailer.at ∷ []) node.ptr asked.0 asked.1))
         (λ κs d node asked b o ep other h.
@@ -265,14 +266,14 @@ module _ (E : Of) {M : Type 1} {𝓤 : Ura M} (𝓛 : Logic 𝓤) where
   borrowed κ q l Γ = ‵ (fobs l.ghost_name ((Lr E).coded.code l.now))
       ∷ ‵ (fbor κ (Borrowed (mem (Lr E)) l.ref_ptr.0 l.ref_ptr.1 l.ghost_name)) ∷ ‵ (flft κ q) ∷ Γ
 
-  module _ (κ : Lft) (q : Share) (l : MutBor (Lr E).Denot) (node : (Np E).Denot) (Rs : List RattleType) (a : Denots Rs)
-      (us0 us1 : List Val) (vss : Valss Rs) where
+  module _ (κ : Lft) (q : Share) (l : MutBor (Lr E).Denot) (node : (Np E).Denot) (Rs : List RattleType)
+      (a : Denots Rs) (us0 us1 : List Val) (vss : Valss Rs) where
     abbrev passed : List (Item 𝓤)
     passed = (‵ (flft κ q) ⊛ ‵ ftrue)
         ∷ ‵ (owns (MutRef (named 0) κ (Lr E) ∷ Np E ∷ Rs) (l, (node, a)) (us0, (us1, vss))) ∷ []
 
-    pub enters : (Q : List Val → SProp 𝓤) → (us0 ≡ mut_vals l → ent 𝓤 (⋆ 𝓛 (borrowed κ q l (‵ (owns Rs a vss) ∷ [])))
-        (Q (mut_vals l ++ word node.ptr ∷ flat Rs vss))) → ent 𝓤 (⋆ 𝓛 passed) (Q (us0 ++ (us1 ++ flat Rs vss)))
+    pub enters : (Q : List Val → SProp 𝓤) → (us0 ≡ mut_vals l →
+        ent 𝓤 (⋆ 𝓛 (borrowed κ q l (‵ (owns Rs a vss) ∷ []))) (Q (mut_vals l ++ word node.ptr ∷ flat Rs vss))) → ent 𝓤 (⋆ 𝓛 passed) (Q (us0 ++ (us1 ++ flat Rs vss)))
     enters Q walk = qed 𝓛 passed ∵ split ! $ move ! (2 ∷ []) $ fsplit ! $ fsplit3 ! $ feq_l ! (λ e0.
         move ! (2 ∷ []) $ fsplit ! $ word_had ! node.ptr us1 (λ e1. keep ! (1 ∷ 2 ∷ 3 ∷ 0 ∷ []) $
         regoal ! (λ (ws : List Val × List Val). prop (Q (ws.0 ++ (ws.1 ++ flat Rs vss)))) (λ i. (e0 i, e1 i)) refl $

@@ -58,7 +58,8 @@ deallocate_spec 𝓤 𝓛 𝓜 𝓡 wired X W LX LW g d dd met md =
     mark (word-Good [] slot.node.ptr) (tt, (tt, tt)) in
     qed 𝓛 (‵ (hidden_shr (RA E Z) κ a rb ro) ∷ ‵ (flft κ q) ∷ others ∷ ‵ (owns (Rm E ∷ Bl E Z ∷ []) more uss)
     ∷ raw (fact 𝓤 ((slot.deed.at ≡ room.ptr) × (slot.deed.alloc ≡ a))) ∷ []) ∵ move ! (4 ∷ []) $
-    heard ! _ (λ asked. move ! (3 ∷ []) $ fsplit ! $ fsplit ! $ word_had ! room.ptr uss.0 (λ e1. move ! (1 ∷ []) $ fsplit ! $
+    heard ! _ (λ asked. move ! (3 ∷ []) $ fsplit ! $ fsplit ! $ word_had ! room.ptr uss.0 (λ e1.
+    move ! (1 ∷ []) $ fsplit ! $
     fpick ! (λ vss. fsplit ! $ feq_l ! (λ ev. fsplit3 ! $ word_had ! slot.node.ptr vss.0 (λ en.
     fsplit ! $ mark_had ! E vss.1.0 (λ em.
     let e2 : uss.1.0 ≡ slot_val ∷ [] = ev ∙ (λ i. vstruct (of_list (en i ++ (em i ++ []))) ∷ []) in
