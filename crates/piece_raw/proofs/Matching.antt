@@ -81,7 +81,7 @@ module _ {T : Type 0} where
           (λ i. sym at i ∷ (stops-members ns h i ++ sym at i ∷ [])) ∙
           ap (λ l. stop_of t ∷ l) (sym (map-append stop_of ns (t ∷ [])))
 
-      pub stops_step : (ns : List (N T)) → AllHeld ps ns → (xs : List (N T)) (x y : N T) (zs : List (N T)) →
+      stops_step : (ns : List (N T)) → AllHeld ps ns → (xs : List (N T)) (x y : N T) (zs : List (N T)) →
           t ∷ (ns ++ t ∷ []) ≡ xs ++ x ∷ y ∷ zs → Follows (members ns) (stop_of x) (stop_of y)
       stops_step ns h xs x y zs e = (
         map stop_of xs,
@@ -142,7 +142,7 @@ module _ {T : Type 0} where
   )
 
   -- the node before x
-  pub step_before : (t : N T) (ns xs : List (N T)) (x : N T) (ys : List (N T)) → t ∷ ns ≡ xs ++ x ∷ ys →
+  step_before : (t : N T) (ns xs : List (N T)) (x : N T) (ys : List (N T)) → t ∷ ns ≡ xs ++ x ∷ ys →
       (y : N T) × (us : List (N T)) × (vs : List (N T)) × (t ∷ (ns ++ t ∷ []) ≡ us ++ y ∷ x ∷ vs)
       × IsAmong (t ∷ ns) y
   step_before t ns [] x ys c =
@@ -166,7 +166,7 @@ module _ {T : Type 0} where
         (last.0, x ∷ ys, cut),
       )
 
-  pub round_step : (t : N T) (ns xs : List (N T)) (x y : N T) (zs : List (N T)) →
+  round_step : (t : N T) (ns xs : List (N T)) (x y : N T) (zs : List (N T)) →
       t ∷ (ns ++ t ∷ []) ≡ xs ++ x ∷ y ∷ zs → HasNext (round t ns) x.at y.at
   round_step t ns xs x y zs e = (
     places xs,
