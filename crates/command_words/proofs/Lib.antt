@@ -1,2 +1,3 @@
 pub mod OneCall
+pub mod SomeCall
 pub mod Words

@@ -15,10 +15,10 @@ use Rattle.command_words.specs.Commands.{name_of}
 use Rattle.command_words.proofs.Words.{both}
 
 -- the first command in the table that has this word
-abbrev of_word : List ℕ → Option Command
+abbrev pub of_word : List ℕ → Option Command
 of_word word = find (λ c. pointwise nat_eq (name_of c) word) COMMANDS
 
-of_word-name : (c : Command) → of_word (name_of c) ≡ Some c
+pub of_word-name : (c : Command) → of_word (name_of c) ≡ Some c
 of_word-name command.SystemOpen = refl
 of_word-name command.SystemClose = refl
 of_word-name command.EditOpen = refl

@@ -1,6 +1,8 @@
+pub mod Answered
 pub mod FrontLines
 pub mod Numbered
 pub mod OneReply
+pub mod OneRunReply
 pub mod Reaching
 pub mod RisingSites
 pub mod Rooms

@@ -36,7 +36,7 @@ use Rattle.machine_laws.proofs.ShownLines.{one_runs}
 use Rattle.machine_laws.proofs.RisingSites.{one_sites}
 
 -- an index has one element
-one_element : {A : Type 0} (o : Option A) (x y : A) → o ≡ Some x → o ≡ Some y → x ≡ y
+pub one_element : {A : Type 0} (o : Option A) (x y : A) → o ≡ Some x → o ≡ Some y → x ≡ y
 one_element o x y at_x at_y = same_Some x y (sym at_x ∙ at_y)
 
 -- a place has one text
@@ -162,7 +162,7 @@ module _ (edits_so : EditsOneWay) (takes_so : TakesOneWay) (drains_so : DrainsOn
 -- where memory was refused
 
 -- what becomes of an edit then: nothing was done, or its first n operations stand
-abbrev IsPartOfEdit : TextState → List Operation → Reply → TextState → Type 0
+abbrev pub IsPartOfEdit : TextState → List Operation → Reply → TextState → Type 0
 IsPartOfEdit t ops r new =
     ((r ≡ refuses OutOfMemory) × (new ≡ t))
     ⊎ ((n : ℕ) × (r ≡ stops (map spelling (take n ops)) n OutOfMemory) × (new ≡ after t (take n ops)))
@@ -175,7 +175,7 @@ of_part t ops (Err (Whole why)) new messages r (is, some, stand) replied = inl (
 of_part t ops (Err (Partial n why)) new messages r (is, some, more, stand) replied =
     inr (n, replied ∙ (λ i. stops (stand.told i) n (is i)), stand.text)
 
-part_of_edit : (e : Edit) (r : Reply) (t new : TextState) → EditsTextShort e r t new → IsPartOfEdit t (plan t e) r new
+pub part_of_edit : (e : Edit) (r : Reply) (t new : TextState) → EditsTextShort e r t new → IsPartOfEdit t (plan t e) r new
 part_of_edit e r t new (within, inl (result, messages, short, shows, replied)) =
     of_part t (plan t e) result new messages r short replied
 part_of_edit e r t new (within, inr (some, replied, stayed)) = inl (replied, stayed)

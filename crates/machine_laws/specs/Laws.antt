@@ -1,16 +1,23 @@
 -- What runs can come to, and the laws of it: each text is what its operations define, and these tell what is
--- printed.
-use Rattle.std.specs.Prelude.{◌≡◌, ℕ, ◌+◌, ◌^◌, ◌<◌, ◌≤◌, List, ◌++◌, length, All}
+-- printed; an event has one reply, and none lacks a rule.
+use Rattle.std.specs.Prelude.{◌≡◌, ◌≢◌, ◌⊎◌, ℕ, ◌+◌, ◌^◌, ◌<◌, ◌≤◌, List, ◌++◌, length, All, Some, None}
+use Rattle.char_files.specs.Stretch.{Item}
 use Rattle.operations.specs.Operation.{Operation}
 use Rattle.tree_order.specs.Laws.{AreSameSet}
 use Rattle.set_laws.specs.Sets.{AreIdentified, HaveEqualFronts}
+use Rattle.text_file.specs.Files.{IsFileOf, IsNoFile}
+use Rattle.text_file.specs.declared.TheConstants.{MAX_TEXT as MAX_STORED}
 use Rattle.texts.specs.Text.{IsText}
-use Rattle.texts.specs.TextState.{TextState}
+use Rattle.texts.specs.TextState.{TextState, shown_items}
 use Rattle.texts.specs.declared.took.Took.TheVariants.{Taken}
+use Rattle.machine.specs.DeskState.{DeskState}
 use Rattle.machine.specs.Machine.{Does, Event, Query, Reply, Replies, Short, State, IsTextAt, Prints, new_state}
 use Rattle.machine.specs.Machine.{print_fronts, print_runs, print_text}
 use Rattle.machine.specs.Machine.{takes, settles, refuses, stops}
 use Rattle.machine.specs.Printing.{waiting_line}
+use Rattle.machine.specs.Whole.{IsDeskAt, IsTaskAt, Part, RunDoes, RunEvent, RunReply, RunShort, RunState, Task, ask, change}
+use Rattle.machine.specs.Whole.{click, failed, forget, load, of_text, store, untouched, went_well}
+use Rattle.machine.specs.Windows.{Caret, Screened, Window, window_of}
 
 -- the states that a run of count sites from first on can come to
 pub data Reached (first count : ℕ) : State → Type 0 where
@@ -92,3 +99,66 @@ pub record HasOneReply (s : State) (e : Event) : Type 0 where
 -- so it is with each event, in each state whose texts are what their operations define
 abbrev pub EachEventHasOneReply : Type 0
 EachEventHasOneReply = (s : State) (e : Event) → AreTexts s → HasOneReply s e
+
+-- the same of two replies of the whole machine: both are of texts, and have one shape
+abbrev pub HaveOneRunShape : RunReply → RunReply → Type 0
+HaveOneRunShape (of_text r) (of_text r') = HaveOneShape r r'
+HaveOneRunShape r r' = ⊥
+
+-- An event of the whole machine, with this part of the files, has at most one reply and next state where memory is there; and
+-- at most one of each shape, with its counts, where memory was refused.
+pub record HasOneRunReply (s : RunState) (e : RunEvent) (part : Part) : Type 0 where
+  pub whole : (r r' : RunReply) (new new' : RunState) → RunDoes s e part r new → RunDoes s e part r' new'
+      → (r ≡ r') × (new ≡ new')
+  pub short : (r r' : RunReply) (new new' : RunState) → RunShort s e part r new → RunShort s e part r' new'
+      → HaveOneRunShape r r' → (r ≡ r') × (new ≡ new')
+
+-- so it is with each event and each part, in each state whose texts are what their operations define
+abbrev pub EachRunEventHasOneReply : Type 0
+EachRunEventHasOneReply = (s : RunState) (e : RunEvent) (part : Part) → AreTexts s.texts → HasOneRunReply s e part
+
+-- the text whose number a task names is there
+abbrev pub HasText : RunState → (i : ℕ) → Task → Type 0
+HasText s i (store text name) = (t : TextState) × IsTextAt s.texts i text t
+HasText s i (change text e) = (t : TextState) × IsTextAt s.texts i text t
+HasText s i (forget text) = (t : TextState) × IsTextAt s.texts i text t
+HasText s i t = Unit {0}
+
+-- the caret, if there is one, stands in a viewer that shows one of the desk's texts
+abbrev pub CaretHasText : DeskState → Screened → Type 0
+CaretHasText d w =
+    (c : Caret) → w.caret ≡ Some c → (shown : Window × TextState) × (window_of d w c.viewer ≡ Some shown)
+
+-- a file of this name is there, and it is a text's or no text's
+abbrev pub IsFileThere : RunState → (name : List ℕ) → Type 0
+IsFileThere s name =
+    (file : List ℕ) × (s.files name ≡ Some file) × (IsNoFile file ⊎ ((items : List Item) × IsFileOf items file))
+
+-- What the files' part in a task may be: a load at a caret reads a file that is there, or fails; a store of a text that
+-- isn't too long writes one, or fails, whatever is left; nothing else asks for a file.
+abbrev pub MayHavePart : RunState → (i : ℕ) → Screened → Task → Part → Type 0
+MayHavePart s i w (load name) untouched = w.caret ≡ None
+MayHavePart s i w (load name) went_well = (w.caret ≢ None) × IsFileThere s name
+MayHavePart s i w (load name) (failed left) = w.caret ≢ None
+MayHavePart s i w (store text name) untouched =
+    (t : TextState) × IsTextAt s.texts i text t × (MAX_STORED < length (shown_items t))
+MayHavePart s i w (store text name) part =
+    (t : TextState) × IsTextAt s.texts i text t × (length (shown_items t) ≤ MAX_STORED)
+MayHavePart s i w t part = part ≡ untouched
+
+-- an event is answered where memory is there, with this part of the files
+abbrev pub IsAnswered : RunState → RunEvent → Part → Type 0
+IsAnswered s e part = (r : RunReply) × (new : RunState) × RunDoes s e part r new
+
+-- At a desk each task whose text is there has a part of the files that may be, and is answered with each such part; and so
+-- is each click, by the task of its cell.
+pub record AnswersAll (s : RunState) (i : ℕ) (d : DeskState) (w : Screened) : Type 0 where
+  pub parts : (t : Task) → HasText s i t → (part : Part) × MayHavePart s i w t part
+  pub tasks : (t : Task) (part : Part) → HasText s i t → MayHavePart s i w t part → IsAnswered s (ask i t) part
+  pub clicks : (col row : ℕ) → (t : Task) × IsTaskAt d w col row t × HasText s i t
+      × ((part : Part) → MayHavePart s i w t part → IsAnswered s (click i col row) part)
+
+-- so it is at each desk whose caret has a text, in each state whose texts are what their operations define
+abbrev pub EachTaskIsAnswered : Type 0
+EachTaskIsAnswered = (s : RunState) (i : ℕ) (d : DeskState) (w : Screened) → AreTexts s.texts → IsDeskAt s i d w
+    → CaretHasText d w → AnswersAll s i d w

@@ -1,15 +1,17 @@
-//! Laws of the machine of events: what runs can come to, and that an event has one reply. They are over the definitions
-//! alone.
+//! Laws of the machine of events: what runs can come to, that an event has one reply, and that no task lacks one. They are
+//! over the definitions alone.
 #![tactic(auto)]
 
 ghost use Rattle.machine_laws.specs.Laws.{OperationsTellWhatIsPrinted, WhatIsReachedIsDefined, WhatIsReachedIsNumbered};
-ghost use Rattle.machine_laws.specs.Laws.{EachEventHasOneReply, FrontLinesTellFronts, FrontsTellWhatIsPrinted};
+ghost use Rattle.machine_laws.specs.Laws.{EachEventHasOneReply, EachRunEventHasOneReply, FrontLinesTellFronts};
+ghost use Rattle.machine_laws.specs.Laws.{EachTaskIsAnswered, FrontsTellWhatIsPrinted};
 
 use char_files::runs_are_maximal;
 use convergence::outcomes::{
     drainings_end_one_way, edits_end_one_way, merges_end_one_way, takings_end_one_way,
 };
 use set_laws::closures::nothing_is_good;
+use text_file::one_text;
 use texts::laws::{own_edits_are_plain, the_fronts_tell_the_text, the_operations_tell_the_text};
 use tree_order::laws::sequential::one_writer_goes_behind_causes;
 
@@ -64,4 +66,21 @@ pub fn each_event_has_one_reply()
     drainings_end_one_way();
     merges_end_one_way();
     runs_are_maximal();
+}
+
+/// A law: an event of texts, screens, commands and files has one reply and one next state for each part that the files
+/// have in it, where memory is there; where it was refused, one of each shape and its counts.
+pub fn each_run_event_has_one_reply()
+    ensures { EachRunEventHasOneReply }
+{
+    each_event_has_one_reply();
+    one_text();
+}
+
+/// A law: no task and no click lacks a rule. Where the texts that it names are there, and the caret's viewer shows a
+/// text, it is answered for each part that the files may have in it, and there is such a part.
+pub fn each_task_is_answered()
+    ensures { EachTaskIsAnswered }
+{
+    own_edits_are_plain();
 }

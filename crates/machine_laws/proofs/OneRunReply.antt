@@ -1,0 +1,480 @@
+-- An event of the whole machine has one reply: each part of a step is one thing, beside what the texts do.
+use Rattle.std.proofs.Common.{◌≡◌, ℕ, ◌+◌, ◌-◌, ◌<◌, ◌≤◌, true, false, Bool, List, [], ◌++◌, map, Option, Some, None}
+use Rattle.std.proofs.Common.{Result, Ok, Err, refl, sym, ap, subst, ◌∙◌, inl, inr, append-nil, le_antisymm, length}
+use Rattle.std.proofs.Common.{true≢false}
+use Rattle.std.specs.Prelude.{◌⊎◌, ◌≢◌, if◌then◌else◌, MatchBool, MatchOption, MatchResult, bytes_eq, option_map}
+use Rattle.std.specs.Prelude.{slice_get, slice_set, take}
+use Rattle.std.specs.Option.{option_and_then, option_map_or}
+use Rattle.std.proofs.lemmas.Bool.{cases_lt, eq-eqb}
+use Rattle.std.proofs.lemmas.List.{set-get_or}
+use Rattle.std.proofs.lemmas.Option.{get_or_from_slice_get, none-some, same_Some}
+use Rattle.std.proofs.lemmas.Slice.Eq.{bytes_eq-Decides}
+use Rattle.looks.specs.declared.refusal.Refusal.{Refusal}
+use Rattle.looks.specs.declared.refusal.Refusal.TheVariants.{BadFile, NoCaret, NoSelection, NoViewer, OutOfMemory}
+use Rattle.looks.specs.declared.refusal.Refusal.TheVariants.{ReadFault, UnknownCommand}
+use Rattle.char_files.specs.Stretch.{Item}
+use Rattle.char_files.specs.declared.name.Anchor.{Anchor}
+use Rattle.reader_scanner.proofs.OneToken.{one_token}
+use Rattle.reader_scanner.specs.Tokens.{IsTokenAt}
+use Rattle.reader_scanner.specs.declared.token.Token.{Token}
+use Rattle.reader_scanner.specs.declared.token.TokenValue.{TokenValue}
+use Rattle.command_words.proofs.OneCall.{one_call}
+use Rattle.command_words.specs.Calls.{IsCallAt, NoCallAt}
+use Rattle.command_words.specs.Commands.{has_parameter}
+use Rattle.command_words.specs.declared.calls.Call.{Call}
+use Rattle.text_file.specs.Files.{IsFileOf, OneText}
+use Rattle.operations.specs.Spelling.{spelling}
+use Rattle.texts.specs.Edit.{Edit, anchor_before, insertion, plan, recalling}
+use Rattle.texts.specs.TextState.{TextState, shown_of, with_room}
+use Rattle.texts.specs.declared.took.Took.TheVariants.{Repeat, Taken, Waits}
+use Rattle.machine.specs.DeskState.{DeskState, IsTextOf, with_text}
+use Rattle.machine.specs.Machine.{Does, Event, IsTextAt, Reply, Short, State, edit, merges, messages_of}
+use Rattle.machine.specs.Machine.{prints, refuses, sends, settles, stops, takes}
+use Rattle.machine.specs.Whole.{AtCaret, Clicked, DoesTask, FileBecomes, Forgets, IfCaret, IsDeskAt, IsFirstFrom}
+use Rattle.machine.specs.Whole.{IsParameter, IsTaskAt, IsTaskOfCall, Loads, LoadsShort, OnText, Part, Refuses, RunDoes, RunEvent}
+use Rattle.machine.specs.Whole.{RunReply, RunShort, RunState, Searches, ShortTask, Stores, Task, TextSteps, WithCaret, arrange}
+use Rattle.machine.specs.Whole.{ask, caret_after, change, click, clicked, done, failed, forget, forgot, found, is_caret_sign}
+use Rattle.machine.specs.Whole.{load, of_text, on_text, opens, print, put, put_recalled, refuse, search, store, task_of, untouched}
+use Rattle.machine.specs.Whole.{went_well, with_screen_at}
+use Rattle.machine.specs.Windows.{Caret, Marked, Screened, Window, arranged, bytes_shown, close, marked, move}
+use Rattle.machine.specs.Windows.{open_in, place_in, point, scroll, select, shown_by, text_of, window_of}
+use Rattle.machine_laws.proofs.OneReply.{IsPartOfEdit, one_element, one_text, part_of_edit}
+use Rattle.machine_laws.specs.Laws.{EachEventHasOneReply, EachRunEventHasOneReply, HaveOneRunShape}
+use Rattle.machine_laws.specs.Laws.{HaveOneShape}
+
+no_element : {A : Type 0} (o : Option A) (x : A) → o ≡ None → o ≡ Some x → ⊥
+no_element o x nope at_x = none-some x (sym nope ∙ at_x)
+
+-- what is put in its own place changes nothing
+put_back : {X : Type 0} (xs : List X) (i : ℕ) (x : X) → slice_get xs i ≡ Some x → slice_set xs i x ≡ xs
+put_back xs i x at = ap (slice_set xs i) (sym (get_or_from_slice_get xs i x x at)) ∙ set-get_or xs i x
+
+abbrev AreSame : RunReply → RunReply → RunState → RunState → Type 0
+AreSame r r' new new' = (r ≡ r') × (new ≡ new')
+
+-- two replies of a step of texts, which the whole machine tells as r and r', are one
+abbrev TellsOne : TextSteps → RunState → RunReply → RunReply → Type 0
+TellsOne Steps s r r' = (e : Event) (told told' : Reply) (mid mid' : State) → r ≡ of_text told → r' ≡ of_text told'
+    → Steps s.texts e told mid → Steps s.texts e told' mid' → (told ≡ told') × (mid ≡ mid')
+
+refuses_one : (s : RunState) (why : Refusal) (r r' : RunReply) (new new' : RunState) → Refuses s why r new
+    → Refuses s why r' new' → AreSame r r' new new'
+refuses_one s why r r' new new' a b = (a.0 ∙ sym b.0, a.1 ∙ sym b.1)
+
+-- an event of texts
+
+on_texts : (Steps : TextSteps) (s : RunState) (e : Event) (r r' : RunReply) (new new' : RunState) → TellsOne Steps s r r'
+    → OnText Steps s e r new → OnText Steps s e r' new' → AreSame r r' new new'
+on_texts Steps s e r r' new new' one (told, mid, does, is, is_new) (told', mid', does', is', is_new') =
+    let same = one e told told' mid mid' is is' does does' in
+    (is ∙ ap of_text same.0 ∙ sym is', is_new ∙ (λ k. record s { texts = same.1 k }) ∙ sym is_new')
+
+-- at the caret
+
+at_caret : (Steps : TextSteps) (s : RunState) (i : ℕ) (w : Screened) (c : Caret) (window : Window) (t : TextState)
+    (edit_at : ℕ → Edit) (r r' : RunReply) (new new' : RunState) → TellsOne Steps s r r'
+    → AtCaret Steps s i w c window t edit_at r new → AtCaret Steps s i w c window t edit_at r' new'
+    → AreSame r r' new new'
+at_caret Steps s i w c window t edit_at r r' new new' one (told, mid, u, does, there, is, is_new)
+    (told', mid', u', does', there', is', is_new') =
+    let same = one (edit i window.text (edit_at (place_in t c.anchor))) told told' mid mid' is is' does does' in
+    let texts : u ≡ u' = one_text mid' i window.text u u'
+    (subst (λ (x : State). IsTextAt x i window.text u) same.1 there) there' in (
+      is ∙ ap of_text same.0 ∙ sym is',
+      is_new ∙ (λ k. record s {
+        texts = same.1 k;
+        screens = slice_set s.screens i (record w
+            { caret = Some (record c { anchor = caret_after t (texts k) (place_in t c.anchor) c.anchor }) });
+      }) ∙ sym is_new',
+    )
+
+with_caret : (d : DeskState) (w : Screened) (G H : Caret → Window → TextState → Type 0) (R : Type 0)
+    → ((c : Caret) (window : Window) (t : TextState) → w.caret ≡ Some c → window_of d w c.viewer ≡ Some (window, t)
+    → G c window t → H c window t → R) → WithCaret d w G → WithCaret d w H → R
+with_caret d w G H R one (c, shown, at, there, goes) (c', shown', at', there', goes') =
+    let carets : c' ≡ c = one_element w.caret c' c at' at in
+    let windows : shown' ≡ shown = one_element (window_of d w c.viewer) shown' shown
+    (subst (λ (x : Caret). window_of d w x.viewer ≡ Some shown') carets there') there in
+    one c shown.0 shown.1 at there goes (subst (λ (x : Window × TextState). H c x.0 x.1) windows
+    (subst (λ (x : Caret). H x shown'.0 shown'.1) carets goes'))
+
+if_caret : (s : RunState) (d : DeskState) (w : Screened) (part : Part) (r r' : RunReply) (new new' : RunState)
+    (G H : Caret → Window → TextState → Type 0)
+    → ((c : Caret) (window : Window) (t : TextState) → G c window t → H c window t → AreSame r r' new new')
+    → IfCaret s d w part r new G → IfCaret s d w part r' new' H → AreSame r r' new new'
+if_caret s d w part r r' new new' G H one (inl (nope, p, q)) (inl (nope', p', q')) =
+    refuses_one s NoCaret r r' new new' q q'
+if_caret s d w part r r' new new' G H one (inl (nope, p, q)) (inr (c, shown, at, there, goes)) =
+    absurd (no_element w.caret c nope at)
+if_caret s d w part r r' new new' G H one (inr (c, shown, at, there, goes)) (inl (nope, p, q)) =
+    absurd (no_element w.caret c nope at)
+if_caret s d w part r r' new new' G H one (inr a) (inr b) =
+    with_caret d w G H (AreSame r r' new new') (λ c window t at there. one c window t) a b
+
+-- the text that a viewer shows is the desk's
+pub shown_text : (d : DeskState) (o : Option Window) (window : Window) (t : TextState)
+    → option_and_then {U = Window × TextState}
+    (λ window. option_map {U = Window × TextState} (λ t. (window, t)) (text_of d window.text)) o ≡ Some (window, t)
+    → IsTextOf d window.text t
+shown_text d None window t is = absurd (none-some _ is)
+shown_text d (Some v) window t is = by (text_of d v.text) refl is
+  where
+    by : (o : Option TextState) → text_of d v.text ≡ o
+        → option_map {U = Window × TextState} (λ t. (v, t)) o ≡ Some (window, t) → IsTextOf d window.text t
+    by None there is = absurd (none-some _ is)
+    by (Some u) there is =
+        subst (λ (x : Window × TextState). IsTextOf d x.0.text x.1) (same_Some (v, u) (window, t) is) there
+
+-- a search
+
+first_from : (bytes text : List ℕ) (from q q' : ℕ) → IsFirstFrom bytes text from q → IsFirstFrom bytes text from q'
+    → q ≡ q'
+first_from bytes text from q q' a b = by (cases_lt q q') (cases_lt q' q)
+  where
+    by : (q < q') ⊎ (q' ≤ q) → (q' < q) ⊎ (q ≤ q') → q ≡ q'
+    by (inl below) more = absurd (b.first q a.behind below a.there)
+    by (inr le) (inl below) = absurd (a.first q' b.behind below b.there)
+    by (inr le) (inr ge) = le_antisymm ge le
+
+searches : (s : RunState) (i : ℕ) (w : Screened) (c : Caret) (t : TextState) (bytes : List ℕ) (r r' : RunReply)
+    (new new' : RunState) → Searches s i w c t bytes r new → Searches s i w c t bytes r' new' → AreSame r r' new new'
+searches s i w c t bytes r r' new new' (inl (q, first, is, is_new)) (inl (q', first', is', is_new')) =
+    let same : q ≡ q' = first_from bytes (bytes_shown t) (place_in t c.anchor) q q' first first' in (
+      is ∙ (λ k. found (same k + length bytes)) ∙ sym is',
+      is_new ∙ (λ k. with_screen_at s i (record w
+          { caret = Some (record c { anchor = anchor_before (shown_of t) (same k + length bytes) }) })) ∙ sym is_new',
+    )
+searches s i w c t bytes r r' new new' (inl (q, first, is, is_new)) (inr (none, is', is_new')) =
+    absurd (none q first.behind first.there)
+searches s i w c t bytes r r' new new' (inr (none, is, is_new)) (inl (q, first, is', is_new')) =
+    absurd (none q first.behind first.there)
+searches s i w c t bytes r r' new new' (inr (none, is, is_new)) (inr (none', is', is_new')) =
+    (is ∙ sym is', is_new ∙ sym is_new')
+
+-- files
+
+becomes : (s : RunState) (name : List ℕ) (file : Option (List ℕ)) (new new' : RunState) → FileBecomes s name file new
+    → FileBecomes s name file new' → new ≡ new'
+becomes s name file new new' (a, b, c, rest) (a', b', c', rest') = λ k. record {
+  texts = (a ∙ sym a') k;
+  screens = (b ∙ sym b') k;
+  files = λ other. each other (bytes_eq other name) refl k;
+}
+  where
+    each : (other : List ℕ) (is : Bool) → bytes_eq other name ≡ is → new.files other ≡ new'.files other
+    each other true same =
+        subst (λ (x : List ℕ). new.files x ≡ new'.files x) (sym ((bytes_eq-Decides other name).0 same)) (c ∙ sym c')
+    each other false differ =
+        let apart : other ≢ name = λ e. true≢false (sym ((bytes_eq-Decides other name).1 e) ∙ differ) in
+        rest other apart ∙ sym (rest' other apart)
+
+stores : (s : RunState) (t : TextState) (name : List ℕ) (part : Part) (r r' : RunReply) (new new' : RunState)
+    → Stores s t name part r new → Stores s t name part r' new' → AreSame r r' new new'
+stores s t name untouched r r' new new' a b = refuses_one s BadFile r r' new new' a.1 b.1
+stores s t name went_well r r' new new' (few, is, now) (few', is', now') =
+    (is ∙ sym is', becomes s name _ new new' now now')
+stores s t name (failed left) r r' new new' (few, is, now) (few', is', now') =
+    (is ∙ sym is', becomes s name left new new' now now')
+
+-- texts of a file put in as two loads tell them are put in as one tells
+loaded_so : OneText → (Puts : List Item → Type 0) (s : RunState) (name file file' : List ℕ) (items items' : List Item)
+    → s.files name ≡ Some file → s.files name ≡ Some file' → IsFileOf items file → IsFileOf items' file' → Puts items'
+    → Puts items
+loaded_so one Puts s name file file' items items' at at' is is' =
+    subst Puts (one items' items file
+    (subst (λ (x : List ℕ). IsFileOf items' x) (one_element (s.files name) file' file at' at) is') is)
+
+loads : OneText → (s : RunState) (i : ℕ) (w : Screened) (name : List ℕ) (part : Part) (c : Caret) (window : Window)
+    (t : TextState) (r r' : RunReply) (new new' : RunState) → TellsOne Does s r r'
+    → Loads s i w name part c window t r new → Loads s i w name part c window t r' new' → AreSame r r' new new'
+loads file_so s i w name untouched c window t r r' new new' one a b = absurd a
+loads file_so s i w name (failed left) c window t r r' new new' one a b = refuses_one s ReadFault r r' new new' a b
+loads file_so s i w name went_well c window t r r' new new' one (file, at, inl a) (file', at', inl b) =
+    refuses_one s BadFile r r' new new' a.1 b.1
+loads file_so s i w name went_well c window t r r' new new' one (file, at, inl a) (file', at', inr (items, is, goes)) =
+    absurd (a.0 items (subst (λ (x : List ℕ). IsFileOf items x) (one_element (s.files name) file' file at' at) is))
+loads file_so s i w name went_well c window t r r' new new' one (file, at, inr (items, is, goes)) (file', at', inl b) =
+    absurd (b.0 items (subst (λ (x : List ℕ). IsFileOf items x) (one_element (s.files name) file file' at at') is))
+loads file_so s i w name went_well c window t r r' new new' one (file, at, inr (items, is, goes))
+    (file', at', inr (items', is', goes')) =
+    at_caret Does s i w c window t (λ p. insertion p items) r r' new new' one goes
+    (loaded_so file_so (λ x. AtCaret Does s i w c window t (λ p. insertion p x) r' new') s name file file' items items' at
+    at' is is' goes')
+
+-- an emptying of a room, and an arrangement
+
+forgets : (s : RunState) (i text : ℕ) (r r' : RunReply) (new new' : RunState) → Forgets s i text r new
+    → Forgets s i text r' new' → AreSame r r' new new'
+forgets s i text r r' new new' (t, mid, there, (d, x, at, (u, v, of_d, is_v, is_x), is_mid), is, is_new)
+    (t', mid', there', (d', x', at', (u', v', of_d', is_v', is_x'), is_mid'), is', is_new') =
+    let ts : t ≡ t' = one_text s.texts i text t t' there there' in
+    let ds : d ≡ d' = one_element (slice_get s.texts.desks i) d d' at at' in
+    let us : u ≡ u' = one_element (slice_get d'.texts (text - 1)) u u'
+    (subst (λ (y : DeskState). IsTextOf y text u) ds of_d) of_d' in
+    let vs : v ≡ v' = is_v ∙ ap (λ (y : TextState). with_room y []) us ∙ sym is_v' in
+    let xs : x ≡ x' = is_x ∙ (λ k. with_text (ds k) text (vs k)) ∙ sym is_x' in
+    let mids : mid ≡ mid' = is_mid
+    ∙ (λ k. record s.texts { desks = slice_set s.texts.desks i (xs k); sent = s.texts.sent ++ [] }) ∙ sym is_mid' in
+    (is ∙ (λ k. forgot (length ((ts k).waiting_room))) ∙ sym is', is_new ∙ (λ k. record s { texts = mids k }) ∙ sym is_new')
+
+arranges : (s : RunState) (i : ℕ) (out : Result (Screened × Option ℕ) Refusal) (r r' : RunReply) (new new' : RunState)
+    → MatchResult out (λ out. (r ≡ option_map_or (λ v. opens v) out.1 done) × (new ≡ with_screen_at s i out.0))
+    (λ why. Refuses s why r new)
+    → MatchResult out (λ out. (r' ≡ option_map_or (λ v. opens v) out.1 done) × (new' ≡ with_screen_at s i out.0))
+    (λ why. Refuses s why r' new') → AreSame r r' new new'
+arranges s i (Ok out) r r' new new' a b = (a.0 ∙ sym b.0, a.1 ∙ sym b.1)
+arranges s i (Err why) r r' new new' a b = (a.0 ∙ sym b.0, a.1 ∙ sym b.1)
+
+-- what a desk is asked, where memory is there
+tasks : OneText → (s : RunState) (i : ℕ) (d : DeskState) (w : Screened) (t : Task) (part : Part) (r r' : RunReply)
+    (new new' : RunState) → TellsOne Does s r r' → DoesTask s i d w t part r new → DoesTask s i d w t part r' new'
+    → AreSame r r' new new'
+tasks file_so s i d w (refuse why) part r r' new new' one a b = refuses_one s why r r' new new' a.1 b.1
+tasks file_so s i d w (put items) part r r' new new' one a b = if_caret s d w part r r' new new' _ _
+    (λ c window t x y. at_caret Does s i w c window t (λ p. insertion p items) r r' new new' one x.1 y.1) a b
+tasks file_so s i d w put_recalled part r r' new new' one a b = if_caret s d w part r r' new new' _ _
+    (λ c window t x y. at_caret Does s i w c window t recalling r r' new new' one x.1 y.1) a b
+tasks file_so s i d w (load name) part r r' new new' one a b = if_caret s d w part r r' new new' _ _
+    (λ c window t x y. loads file_so s i w name part c window t r r' new new' one x y) a b
+tasks file_so s i d w (store text name) part r r' new new' one (t, there, a) (t', there', b) =
+    stores s t name part r r' new new' a (subst (λ (x : TextState). Stores s x name part r' new')
+    (one_text s.texts i text t' t there' there) b)
+tasks file_so s i d w (search bytes) part r r' new new' one a b = if_caret s d w part r r' new new' _ _
+    (λ c window t x y. searches s i w c t bytes r r' new new' x.1 y.1) a b
+tasks file_so s i d w (change text e) part r r' new new' one a b =
+    on_texts Does s (edit i text e) r r' new new' one a.1 b.1
+tasks file_so s i d w (forget text) part r r' new new' one a b = forgets s i text r r' new new' a.1 b.1
+tasks file_so s i d w (arrange x) part r r' new new' one a b =
+    arranges s i (arranged d w x) r r' new new' a.1 b.1
+tasks file_so s i d w (print v) part r r' new new' one (p, is, is_new) (p', is', is_new') =
+    (is ∙ sym is', is_new ∙ sym is_new')
+
+-- a click's task
+
+abbrev IsParameterBy : Token → Bool → Option Marked → Result TokenValue Refusal → Type 0
+IsParameterBy token sign m told = MatchBool sign (MatchOption m (told ≡ Err NoSelection)
+    (λ m. (there : Token) × IsTokenAt (bytes_shown m.text) m.beg there × (told ≡ Ok there.value))) (told ≡ Ok token.value)
+
+parameter : (d : DeskState) (w : Screened) (token : Token) (told told' : Result TokenValue Refusal)
+    → IsParameter d w token told → IsParameter d w token told' → told ≡ told'
+parameter d w token told told' a b = by (is_caret_sign token.value) (marked d w) a b
+  where
+    by : (sign : Bool) (m : Option Marked) → IsParameterBy token sign m told → IsParameterBy token sign m told'
+        → told ≡ told'
+    by true None a b = a ∙ sym b
+    by true (Some m) (there, at, is) (there', at', is') =
+        is ∙ (λ k. Ok ((one_token (bytes_shown m.text) m.beg there there' at at' k).value)) ∙ sym is'
+    by false m a b = a ∙ sym b
+
+abbrev IsTaskTold : DeskState → Screened → Call → ℕ → ℕ → Task → Result TokenValue Refusal → Type 0
+IsTaskTold d w call v text x told =
+    MatchResult told (λ value. x ≡ task_of d w call.command value v text) (λ why. x ≡ refuse why)
+
+abbrev IsTaskBy : DeskState → Screened → Call → ℕ → ℕ → Bool → Task → Type 0
+IsTaskBy d w call v text has x = MatchBool has
+    ((told : Result TokenValue Refusal) × IsParameter d w call.token told × IsTaskTold d w call v text x told)
+    (x ≡ task_of d w call.command call.token.value v text)
+
+call_task : (d : DeskState) (w : Screened) (call : Call) (v text : ℕ) (t t' : Task) → IsTaskOfCall d w call v text t
+    → IsTaskOfCall d w call v text t' → t ≡ t'
+call_task d w call v text t t' a b = by (has_parameter call.command) a b
+  where
+    both : (told : Result TokenValue Refusal) → IsTaskTold d w call v text t told → IsTaskTold d w call v text t' told
+        → t ≡ t'
+    both (Ok value) a b = a ∙ sym b
+    both (Err why) a b = a ∙ sym b
+
+    by : (has : Bool) → IsTaskBy d w call v text has t → IsTaskBy d w call v text has t' → t ≡ t'
+    by true (told, is, a) (told', is', b) =
+        both told a (subst (λ (x : Result TokenValue Refusal). IsTaskTold d w call v text t' x)
+        (parameter d w call.token told' told is' is) b)
+    by false a b = a ∙ sym b
+
+abbrev IsTaskIn : DeskState → Screened → Option Clicked → Task → Type 0
+IsTaskIn d w at x = MatchOption at (x ≡ refuse NoViewer)
+    (λ at. (NoCallAt at.bytes at.pos × (x ≡ refuse UnknownCommand))
+    ⊎ ((call : Call) × IsCallAt at.bytes at.pos call × IsTaskOfCall d w call at.viewer at.text x))
+
+task_at : (d : DeskState) (w : Screened) (col row : ℕ) (t t' : Task) → IsTaskAt d w col row t → IsTaskAt d w col row t'
+    → t ≡ t'
+task_at d w col row t t' a b = by (clicked d w col row) a b
+  where
+    by : (at : Option Clicked) → IsTaskIn d w at t → IsTaskIn d w at t' → t ≡ t'
+    by None a b = a ∙ sym b
+    by (Some at) (inl a) (inl b) = a.1 ∙ sym b.1
+    by (Some at) (inl a) (inr (call, is, goes)) = absurd (a.0 call is)
+    by (Some at) (inr (call, is, goes)) (inl b) = absurd (b.0 call is)
+    by (Some at) (inr (call, is, goes)) (inr (call', is', goes')) =
+        call_task d w call at.viewer at.text t t' goes (subst (λ (x : Call). IsTaskOfCall d w x at.viewer at.text t')
+        (one_call at.bytes at.pos call' call is' is) goes')
+
+-- a desk and a screen, told twice, are one
+at_desk : (Of : DeskState → Screened → Type 0) (s : RunState) (i : ℕ) (d d' : DeskState) (w w' : Screened)
+    → IsDeskAt s i d w → IsDeskAt s i d' w' → Of d' w' → Of d w
+at_desk Of s i d d' w w' at at' is =
+    subst (λ (x : Screened). Of d x) (one_element (slice_get s.screens i) w' w at'.screen at.screen)
+    (subst (λ (x : DeskState). Of x w') (one_element (slice_get s.texts.desks i) d' d at'.texts at.texts) is)
+
+-- what follows of a task that was clicked twice
+at_task : (Of : DeskState → Screened → Task → Type 0) (s : RunState) (i col row : ℕ) (d d' : DeskState) (w w' : Screened)
+    (t t' : Task) → IsDeskAt s i d w → IsDeskAt s i d' w' → IsTaskAt d w col row t → IsTaskAt d' w' col row t'
+    → Of d' w' t' → Of d w t
+at_task Of s i col row d d' w w' t t' at at' is is' does =
+    subst (λ (x : Task). Of d w x)
+    (task_at d w col row t' t (at_desk (λ d w. IsTaskAt d w col row t') s i d d' w w' at at' is') is)
+    (at_desk (λ d w. Of d w t') s i d d' w w' at at' does)
+
+one_whole : OneText → (s : RunState) (e : RunEvent) (part : Part) (r r' : RunReply) (new new' : RunState)
+    → TellsOne Does s r r' → RunDoes s e part r new → RunDoes s e part r' new' → AreSame r r' new new'
+one_whole file_so s (on_text e) part r r' new new' one a b = on_texts Does s e r r' new new' one a.1 b.1
+one_whole file_so s (ask i t) part r r' new new' one (d, w, at, does) (d', w', at', does') =
+    tasks file_so s i d w t part r r' new new' one does
+    (at_desk (λ d w. DoesTask s i d w t part r' new') s i d d' w w' at at' does')
+one_whole file_so s (click i col row) part r r' new new' one (d, w, t, at, is, does) (d', w', t', at', is', does') =
+    tasks file_so s i d w t part r r' new new' one does
+    (at_task (λ d w t. DoesTask s i d w t part r' new') s i col row d d' w w' t t' at at' is is' does')
+
+-- where memory was refused
+
+-- the reply refuses
+abbrev IsRefusal : Reply → Type 0
+IsRefusal told = (why : Refusal) × (told ≡ refuses why)
+
+refusal_first : (told : Reply) (why : Refusal) → HaveOneShape told (refuses why) → IsRefusal told
+refusal_first (refuses why) other shape = (why, refl)
+refusal_first (sends a) other shape = absurd shape
+refusal_first (takes (Taken a b c)) other shape = absurd shape
+refusal_first (takes Waits) other shape = absurd shape
+refusal_first (takes Repeat) other shape = absurd shape
+refusal_first (settles a b c) other shape = absurd shape
+refusal_first (merges a) other shape = absurd shape
+refusal_first (prints a) other shape = absurd shape
+refusal_first (stops a b c) other shape = absurd shape
+
+refusal_second : (told : Reply) (why : Refusal) → HaveOneShape (refuses why) told → IsRefusal told
+refusal_second (refuses why) other shape = (why, refl)
+refusal_second (sends a) other shape = absurd shape
+refusal_second (takes a) other shape = absurd shape
+refusal_second (settles a b c) other shape = absurd shape
+refusal_second (merges a) other shape = absurd shape
+refusal_second (prints a) other shape = absurd shape
+refusal_second (stops a b c) other shape = absurd shape
+
+-- the shape that the whole machine tells is that of the texts' replies
+told_shape : (told told' : Reply) (r r' : RunReply) → r ≡ of_text told → r' ≡ of_text told' → HaveOneRunShape r r'
+    → HaveOneShape told told'
+told_shape told told' r r' is is' shape =
+    subst (λ (x : RunReply). HaveOneRunShape (of_text told) x) is'
+    (subst (λ (x : RunReply). HaveOneRunShape x r') is shape)
+
+-- an edit that memory refused wholly left the texts as they were
+stays : (s : State) (i text : ℕ) (e : Edit) (told : Reply) (mid : State) → IsRefusal told
+    → Short s (edit i text e) told mid → (told ≡ refuses OutOfMemory) × (mid ≡ s)
+stays s i text e told mid (why, is_why) (d, x, at, (t, u, of_d, short, is_x), is_mid) =
+    by (part_of_edit e told t u short)
+  where
+    by : IsPartOfEdit t (plan t e) told u → (told ≡ refuses OutOfMemory) × (mid ≡ s)
+    by (inl (is, is_u)) =
+        let desk : x ≡ d = is_x ∙ (λ k. record d
+        { texts = (ap (slice_set d.texts (text - 1)) is_u ∙ put_back d.texts (text - 1) t of_d) k }) in
+        let desks : slice_set s.desks i x ≡ s.desks = ap (slice_set s.desks i) desk ∙ put_back s.desks i d at in
+        let sent : s.sent ++ messages_of told ≡ s.sent =
+        ap (λ (r : Reply). s.sent ++ messages_of r) is ∙ append-nil s.sent in
+        (is, is_mid ∙ (λ k. record s { desks = desks k; sent = sent k }))
+    by (inr (n, is, is_u)) =
+        let apart : refuses why ≡ stops (map spelling (take n (plan t e))) n OutOfMemory = sym is_why ∙ is in absurd cc
+
+-- so did one at the caret, which stands where it stood
+caret_stays : (s : RunState) (i : ℕ) (w : Screened) (c : Caret) (window : Window) (t : TextState) (edit_at : ℕ → Edit)
+    (r : RunReply) (new : RunState) → slice_get s.screens i ≡ Some w → w.caret ≡ Some c
+    → IsTextAt s.texts i window.text t → ((told : Reply) → r ≡ of_text told → IsRefusal told)
+    → AtCaret Short s i w c window t edit_at r new → Refuses s OutOfMemory r new
+caret_stays s i w c window t edit_at r new screen caret here refusal (told, mid, u, does, there, is, is_new) =
+    let stay = stays s.texts i window.text (edit_at (place_in t c.anchor)) told mid (refusal told is) does in
+    let texts : u ≡ t = one_text s.texts i window.text u t
+    (subst (λ (x : State). IsTextAt x i window.text u) stay.1 there) here in
+    let anchor : caret_after t u (place_in t c.anchor) c.anchor ≡ c.anchor =
+    ap (λ (x : TextState). caret_after t x (place_in t c.anchor) c.anchor) texts
+    ∙ ap (λ (b : Bool). if b then c.anchor
+    else anchor_before (shown_of t) (place_in t c.anchor + (length (shown_of t) - length (shown_of t))))
+    (eq-eqb (length (shown_of t)) (length (shown_of t)) refl) in
+    let screens : slice_set s.screens i
+    (record w { caret = Some (record c { anchor = caret_after t u (place_in t c.anchor) c.anchor }) }) ≡ s.screens =
+    ap (λ (a : Anchor). slice_set s.screens i (record w { caret = Some (record c { anchor = a }) })) anchor
+    ∙ (λ k. slice_set s.screens i (record w { caret = sym caret k })) ∙ put_back s.screens i w screen in
+    (is ∙ ap of_text stay.0, is_new ∙ (λ k. record s { texts = stay.1 k; screens = screens k }))
+
+loads_short : OneText → (s : RunState) (i : ℕ) (w : Screened) (name : List ℕ) (part : Part) (c : Caret)
+    (window : Window) (t : TextState) (r r' : RunReply) (new new' : RunState) → slice_get s.screens i ≡ Some w
+    → w.caret ≡ Some c → IsTextAt s.texts i window.text t → HaveOneRunShape r r' → TellsOne Short s r r'
+    → LoadsShort s i w name part c window t r new → LoadsShort s i w name part c window t r' new'
+    → AreSame r r' new new'
+loads_short file_so s i w name untouched c window t r r' new new' screen caret here shape one a b =
+    refuses_one s OutOfMemory r r' new new' a b
+loads_short file_so s i w name (failed left) c window t r r' new new' screen caret here shape one a b = absurd a
+loads_short file_so s i w name went_well c window t r r' new new' screen caret here shape one (file, at, inl a)
+    (file', at', inl b) = refuses_one s OutOfMemory r r' new new' a.1 b.1
+loads_short file_so s i w name went_well c window t r r' new new' screen caret here shape one (file, at, inl a)
+    (file', at', inr (items, is, goes)) =
+    refuses_one s OutOfMemory r r' new new' a.1
+    (caret_stays s i w c window t (λ p. insertion p items) r' new' screen caret here
+    (λ told is'. refusal_second told OutOfMemory (told_shape (refuses OutOfMemory) told r r' a.1.0 is' shape)) goes)
+loads_short file_so s i w name went_well c window t r r' new new' screen caret here shape one
+    (file, at, inr (items, is, goes)) (file', at', inl b) =
+    refuses_one s OutOfMemory r r' new new'
+    (caret_stays s i w c window t (λ p. insertion p items) r new screen caret here
+    (λ told is'. refusal_first told OutOfMemory (told_shape told (refuses OutOfMemory) r r' is' b.1.0 shape)) goes) b.1
+loads_short file_so s i w name went_well c window t r r' new new' screen caret here shape one
+    (file, at, inr (items, is, goes)) (file', at', inr (items', is', goes')) =
+    at_caret Short s i w c window t (λ p. insertion p items) r r' new new' one goes
+    (loaded_so file_so (λ x. AtCaret Short s i w c window t (λ p. insertion p x) r' new') s name file file' items items'
+    at at' is is' goes')
+
+-- what a desk is asked
+tasks_short : OneText → (s : RunState) (i : ℕ) (d : DeskState) (w : Screened) (t : Task) (part : Part) (r r' : RunReply)
+    (new new' : RunState) → IsDeskAt s i d w → HaveOneRunShape r r' → TellsOne Short s r r'
+    → ShortTask s i d w t part r new → ShortTask s i d w t part r' new' → AreSame r r' new new'
+tasks_short file_so s i d w (refuse why) part r r' new new' at shape one a b = absurd a
+tasks_short file_so s i d w (put items) part r r' new new' at shape one a b = with_caret d w _ _ _
+    (λ c window t caret shows x y. at_caret Short s i w c window t (λ p. insertion p items) r r' new new' one x y) a.1 b.1
+tasks_short file_so s i d w put_recalled part r r' new new' at shape one a b = with_caret d w _ _ _
+    (λ c window t caret shows x y. at_caret Short s i w c window t recalling r r' new new' one x y) a.1 b.1
+tasks_short file_so s i d w (load name) part r r' new new' at shape one a b = with_caret d w _ _ _
+    (λ c window t caret shows x y. loads_short file_so s i w name part c window t r r' new new' at.screen caret
+    (d, at.texts, shown_text d (shown_by c.viewer w.windows) window t shows) shape one x y) a b
+tasks_short file_so s i d w (store text name) part r r' new new' at shape one (p, there, a) (p', there', b) =
+    refuses_one s OutOfMemory r r' new new' a b
+tasks_short file_so s i d w (search bytes) part r r' new new' at shape one a b = absurd a
+tasks_short file_so s i d w (change text e) part r r' new new' at shape one a b =
+    on_texts Short s (edit i text e) r r' new new' one a.1 b.1
+tasks_short file_so s i d w (forget text) part r r' new new' at shape one a b = absurd a
+tasks_short file_so s i d w (arrange (open_in track text row)) part r r' new new' at shape one (p, ok, a) (p', ok', b) =
+    refuses_one s OutOfMemory r r' new new' a b
+tasks_short file_so s i d w (arrange (close v)) part r r' new new' at shape one a b = absurd a
+tasks_short file_so s i d w (arrange (move v row)) part r r' new new' at shape one a b = absurd a
+tasks_short file_so s i d w (arrange (scroll v line)) part r r' new new' at shape one a b = absurd a
+tasks_short file_so s i d w (arrange (point col row)) part r r' new new' at shape one a b = absurd a
+tasks_short file_so s i d w (arrange (select col row col' row')) part r r' new new' at shape one a b = absurd a
+tasks_short file_so s i d w (print v) part r r' new new' at shape one (p, a) (p', b) =
+    refuses_one s OutOfMemory r r' new new' a b
+
+one_short : OneText → (s : RunState) (e : RunEvent) (part : Part) (r r' : RunReply) (new new' : RunState)
+    → HaveOneRunShape r r' → TellsOne Short s r r' → RunShort s e part r new → RunShort s e part r' new'
+    → AreSame r r' new new'
+one_short file_so s (on_text e) part r r' new new' shape one a b = on_texts Short s e r r' new new' one a.1 b.1
+one_short file_so s (ask i t) part r r' new new' shape one (d, w, at, does) (d', w', at', does') =
+    tasks_short file_so s i d w t part r r' new new' at shape one does
+    (at_desk (λ d w. ShortTask s i d w t part r' new') s i d d' w w' at at' does')
+one_short file_so s (click i col row) part r r' new new' shape one (d, w, t, at, is, does) (d', w', t', at', is', does') =
+    tasks_short file_so s i d w t part r r' new new' at shape one does
+    (at_task (λ d w t. ShortTask s i d w t part r' new') s i col row d d' w w' t t' at at' is is' does')
+
+-- each event of the whole machine has one reply
+pub one_run_reply : EachEventHasOneReply → OneText → EachRunEventHasOneReply
+one_run_reply texts_so file_so s e part are = record {
+  whole = λ r r' new new'. one_whole file_so s e part r r' new new'
+      (λ e told told' mid mid' is is'. (texts_so s.texts e are).whole told told' mid mid');
+  short = λ r r' new new' does does' shape. one_short file_so s e part r r' new new' shape
+      (λ e told told' mid mid' is is' does does'. (texts_so s.texts e are).short told told' mid mid' does does'
+      (told_shape told told' r r' is is' shape)) does does';
+}
