@@ -2,6 +2,7 @@
 use Rattle.std.specs.Prelude.{◌≡◌, ℕ, ◌-◌, ◌<◌, ◌≤◌, true, false, List, length, take, drop, slice_index}
 use Rattle.reader_scanner.specs.Tokens.{is_name_byte, IsTokenAt}
 use Rattle.command_words.specs.declared.calls.Call.{Call}
+use Rattle.command_words.specs.declared.command.Command.{Command}
 use Rattle.command_words.specs.Commands.{name_of}
 
 -- the longest stretch of letters, digits and full stops that contains a position
@@ -24,6 +25,14 @@ pub record IsCallAt (bytes : List ℕ) (pos : ℕ) (call : Call) : Type 0 where
 -- no call stands at a position
 abbrev pub NoCallAt : List ℕ → ℕ → Type 0
 NoCallAt bytes pos = (call : Call) → IsCallAt bytes pos call → ⊥
+
+-- each word is at most one command's
+abbrev pub OneCommand : Type 0
+OneCommand = (a b : Command) → name_of a ≡ name_of b → a ≡ b
+
+-- at most one word contains a position
+abbrev pub OneWord : Type 0
+OneWord = (bytes : List ℕ) (pos b e c f : ℕ) → IsWordAt bytes pos b e → IsWordAt bytes pos c f → (b ≡ c) × (e ≡ f)
 
 -- at most one call stands at a position
 abbrev pub OneCall : Type 0

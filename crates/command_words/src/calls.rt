@@ -8,12 +8,9 @@ use arrayvec::ArrayVec;
 use char_files::Source;
 use reader_scanner::{Scanner, Token};
 
-// How many bytes are looked at on each side of a position: more than any command's word has, so that a long
-// word costs no more than a short one.
+// How many bytes are looked at, ahead of a position and from a word's begin on: more than any command's word
+// has, so that a long word costs no more than one of so many bytes.
 const NEAR: usize = 32;
-
-// The most bytes that are looked at.
-const MAX_NEAR: usize = 64;
 
 /// A command's word in a text, with the token that stands first behind it. This project's own.
 #[derive(Debug, Drop, PartialEq, Eq)]
@@ -58,18 +55,20 @@ fn word_begin<S: Source>(source: &S, pos: u64) -> u64
     beg
 }
 
-// Where the word ends that begins at this position, not looking farther than NEAR bytes.
-fn word_end<S: Source>(source: &S, pos: u64) -> u64
-    requires { pos ≤ length (S.items source.now) }
+// Where the word ends that has the bytes from beg up to pos, not looking farther than NEAR bytes from beg.
+fn word_end<S: Source>(source: &S, beg: u64, pos: u64) -> u64
+    requires within { pos ≤ length (S.items source.now) }
+    requires order { beg ≤ pos }
+    requires near { pos - beg ≤ NEAR }
     ensures order { pos ≤ result }
     ensures within { result ≤ length (S.items source.now) }
-    ensures near { result - pos ≤ NEAR }
+    ensures near { result - beg ≤ NEAR }
     ensures each { (k : ℕ) → pos ≤ k → k < result
         → is_name_byte (slice_index (bytes_of (S.items source.now)) k) ≡ true }
-    ensures behind { result < length (S.items source.now) → result - pos < NEAR
+    ensures behind { result < length (S.items source.now) → result - beg < NEAR
         → is_name_byte (slice_index (bytes_of (S.items source.now)) result) ≡ false }
 {
-    let most = source.len().min(pos.saturating_add(NEAR as u64));
+    let most = source.len().min(beg.saturating_add(NEAR as u64));
     let mut end = pos;
     while end < most && is_of_word(source, end) {
         end += 1;
@@ -78,10 +77,10 @@ fn word_end<S: Source>(source: &S, pos: u64) -> u64
 }
 
 // The bytes from beg up to end.
-fn word_between<S: Source>(source: &S, beg: u64, end: u64) -> ArrayVec<u8, MAX_NEAR>
+fn word_between<S: Source>(source: &S, beg: u64, end: u64) -> ArrayVec<u8, NEAR>
     requires order { beg ≤ end }
     requires inside { end ≤ length (S.items source.now) }
-    requires short { end - beg ≤ MAX_NEAR }
+    requires short { end - beg ≤ NEAR }
     ensures { result.items ≡ bytes_between (S.items source.now) beg end }
 {
     let mut word = ArrayVec::new();
@@ -103,7 +102,7 @@ pub fn command_at<S: Source>(source: &S, pos: u64) -> Option<Call>
         return None;
     }
     let beg = word_begin(source, pos);
-    let end = word_end(source, pos);
+    let end = word_end(source, beg, pos);
     if end == pos {
         return None;
     }

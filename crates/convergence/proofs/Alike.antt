@@ -12,7 +12,7 @@ use Rattle.texts.specs.Take.{Becomes, Stays, TakesIn}
 use Rattle.texts.specs.TextState.{TextState, shown_of, with_room}
 use Rattle.texts.specs.declared.fate.Fate.{Fate}
 use Rattle.texts.specs.declared.fate.Fate.TheVariants.{OtherText, Known, Conflicting, AlreadyWaits, Wait}
-use Rattle.texts.specs.declared.fate.Fate.TheVariants.{WrongOffset, LowStamp, Ready}
+use Rattle.texts.specs.declared.fate.Fate.TheVariants.{Misfit, LowStamp, Ready}
 use Rattle.texts.specs.declared.took.Took.{Took}
 use Rattle.texts.specs.declared.took.Took.TheVariants.{Taken, Waits}
 use Rattle.convergence.specs.Headline.{KeptTextsAreAlike, MergesAreAlike, ShowsNothingNew, WhatWaitsShowsNothing}
@@ -63,7 +63,7 @@ becoming_shows t new op Conflicting result stays nothing = ap shown_of stays.1
 becoming_shows t new op AlreadyWaits result stays nothing = ap shown_of stays.1
 becoming_shows t new op Wait result enters nothing =
     entering_shows (nat_lt (length t.waiting_room) MAX_WAITING) t new (t.waiting_room ++ op ∷ []) result enters
-becoming_shows t new op WrongOffset result stays nothing = ap shown_of stays.1
+becoming_shows t new op Misfit result stays nothing = ap shown_of stays.1
 becoming_shows t new op LowStamp result stays nothing = ap shown_of stays.1
 becoming_shows t new op Ready result takes nothing = absurd (taken_shows t new op false result nothing takes)
 

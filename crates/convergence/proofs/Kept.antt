@@ -9,29 +9,19 @@ use Rattle.operations.specs.Operation.{Operation}
 use Rattle.tree_order.specs.Good.{Good}
 use Rattle.set_laws.specs.Closure.{IsKept}
 use Rattle.set_laws.specs.Sets.{AreIdentified, IsPartOf}
-use Rattle.set_laws.specs.Verdict.{HasVerdict, bad_offset, bad_stamp}
+use Rattle.set_laws.specs.Verdict.{HasVerdict, misfit, low_stamp}
 use Rattle.texts.specs.Draining.{Drains, IsThrownAway}
 use Rattle.texts.specs.Draining.Drains.{ends, stops, takes_in, throws_away}
 use Rattle.texts.specs.Taking.{HasTaken, HasTakenAll}
 use Rattle.texts.specs.Text.{AreWaitingFor, IsText}
 use Rattle.texts.specs.TextState.{TextState, with_room}
 use Rattle.convergence.specs.Keeping.{Keeps}
-
--- as what is taken in grows, what was kept or refused stays so
-abbrev pub KeptGoesOn : Type 0
-KeptGoesOn = (taken more waiting all : List Operation) → AreIdentified all → Good taken → Good more
-    → IsPartOf taken more → IsPartOf more all → IsKept taken waiting all → IsKept more waiting all
+use Rattle.set_laws.proofs.Closing.{kept_on}
+use Rattle.set_laws.proofs.Lengths.{part_identified}
 
 -- it is taken in, or refused for its offset or its stamp
 abbrev pub IsSettled : List Operation → Operation → Type 0
-IsSettled taken op = Contains taken op ⊎ (HasVerdict taken op bad_offset ⊎ HasVerdict taken op bad_stamp)
-
--- no identity has two operations in a part
-part_identified : (part all : List Operation) → IsPartOf part all → AreIdentified all → AreIdentified part
-part_identified part all within known = record {
-  counted = λ op held. known.counted op (within op held);
-  unique = λ a b held other. known.unique a b (within a held) (within b other);
-}
+IsSettled taken op = Contains taken op ⊎ (HasVerdict taken op misfit ⊎ HasVerdict taken op low_stamp)
 
 -- parts of two lists, put together
 both_parts : (a a' b b' : List Operation) → IsPartOf a a' → IsPartOf b b' → IsPartOf (a ++ b) (a' ++ b')
@@ -75,16 +65,16 @@ kept_waiting_more taken waiting all more kept = record {
 }
 
 -- or be taken in
-pub kept_taking : KeptGoesOn → (taken waiting all more : List Operation) → AreIdentified (all ++ more)
+pub kept_taking : (taken waiting all more : List Operation) → AreIdentified (all ++ more)
     → Good taken → Good (taken ++ more) → IsKept taken waiting all
     → IsKept (taken ++ more) waiting (all ++ more)
-kept_taking goes_on taken waiting all more known good good' kept =
+kept_taking taken waiting all more known good good' kept =
     kept_without (taken ++ more) (waiting ++ more) waiting (all ++ more) (Contains-append_left waiting more)
     (λ op held. elim (Contains-append_cases waiting more op held) [
       | inl here ↦ inl here
       | inr new ↦ inr (inl (Contains-append_right taken more op new))
     ])
-    (goes_on taken (taken ++ more) (waiting ++ more) (all ++ more) known good good'
+    (kept_on taken (taken ++ more) (waiting ++ more) (all ++ more) known good good'
     (Contains-append_left taken more)
     (both_parts taken all more more kept.taken_in (λ op held. held))
     (kept_waiting_more taken waiting all more kept))
@@ -160,7 +150,7 @@ text_with_room t room text waiting = record {
   identified = text.identified;
   of_text = text.of_text;
   chars = text.chars;
-  kept = text.kept;
+  deleted = text.deleted;
   waiting = waiting;
 }
 
@@ -173,20 +163,20 @@ keeps_by t taken waiting all operations room known kept = record {
 }
 
 -- where operations are handed in and taken in, all is kept
-pub kept_with_all : KeptGoesOn → (t new : TextState) (more all : List Operation) → IsText t → Keeps t all
+pub kept_with_all : (t new : TextState) (more all : List Operation) → IsText t → Keeps t all
     → HasTakenAll t more new → AreIdentified (all ++ more) → Keeps new (all ++ more)
-kept_with_all goes_on t new more all text keeps has known =
+kept_with_all t new more all text keeps has known =
     let operations : new.operations ≡ t.operations ++ more = ap (λ (u : TextState). u.operations) has.grown in
     keeps_by new (t.operations ++ more) t.waiting_room (all ++ more) operations
     (ap (λ (u : TextState). u.waiting_room) has.grown) known
-    (kept_taking goes_on t.operations t.waiting_room all more known text.good
+    (kept_taking t.operations t.waiting_room all more known text.good
     (subst Good operations has.is.good) keeps.kept)
 
 -- where one that waits is taken in, all is kept
-kept_with_one_out : KeptGoesOn → (t with_op : TextState) (ahead behind : List Operation) (op : Operation)
+kept_with_one_out : (t with_op : TextState) (ahead behind : List Operation) (op : Operation)
     (all : List Operation) → t.waiting_room ≡ ahead ++ op ∷ behind → IsText t → Keeps t all
     → HasTaken (with_room t (ahead ++ behind)) op with_op → Keeps with_op all
-kept_with_one_out goes_on t with_op ahead behind op all room text keeps has =
+kept_with_one_out t with_op ahead behind op all room text keeps has =
     let operations : with_op.operations ≡ t.operations ++ op ∷ [] =
     ap (λ (u : TextState). u.operations) has.grown in
     let kept : IsKept t.operations (ahead ++ op ∷ behind) all =
@@ -200,7 +190,7 @@ kept_with_one_out goes_on t with_op ahead behind op all room text keeps has =
     (ap (λ (u : TextState). u.waiting_room) has.grown) keeps.identified
     (kept_leaving ahead behind op (t.operations ++ op ∷ []) all
     (inl (Contains-append_right t.operations (op ∷ []) op (0, omega arith, refl)))
-    (goes_on t.operations (t.operations ++ op ∷ []) (ahead ++ op ∷ behind) all keeps.identified text.good
+    (kept_on t.operations (t.operations ++ op ∷ []) (ahead ++ op ∷ behind) all keeps.identified text.good
     (subst Good operations has.is.good) (Contains-append_left t.operations (op ∷ [])) within kept))
 
 -- what is thrown away is settled
@@ -227,15 +217,15 @@ kept_with_one_thrown t ahead behind op all room keeps thrown =
     }
 
 -- draining leaves all kept
-pub kept_draining : KeptGoesOn → {t new : TextState} {drained dropped : ℕ} {stopped : Bool}
+pub kept_draining : {t new : TextState} {drained dropped : ℕ} {stopped : Bool}
     (all : List Operation) → IsText t → Keeps t all → Drains t drained dropped stopped new → Keeps new all
-kept_draining goes_on all text keeps (ends stay) = keeps
-kept_draining goes_on all text keeps (stops ahead behind op next ready) = keeps
-kept_draining goes_on {t = t} all text keeps (takes_in {with_op = with_op} ahead behind op next ready has more) =
-    kept_draining goes_on all has.is
-    (kept_with_one_out goes_on t with_op ahead behind op all next.room text keeps has) more
-kept_draining goes_on {t = t} all text keeps (throws_away ahead behind op next thrown more) =
-    kept_draining goes_on all
+kept_draining all text keeps (ends stay) = keeps
+kept_draining all text keeps (stops ahead behind op next ready) = keeps
+kept_draining {t = t} all text keeps (takes_in {with_op = with_op} ahead behind op next ready has more) =
+    kept_draining all has.is
+    (kept_with_one_out t with_op ahead behind op all next.room text keeps has) more
+kept_draining {t = t} all text keeps (throws_away ahead behind op next thrown more) =
+    kept_draining all
     (text_with_room t (ahead ++ behind) text
     (others_waiting ahead behind op t.text (subst (AreWaitingFor t.text) next.room text.waiting)))
     (kept_with_one_thrown t ahead behind op all next.room keeps thrown) more

@@ -8,7 +8,6 @@ use Rattle.looks.specs.declared.refusal.Refusal.{Refusal}
 use Rattle.looks.specs.declared.refusal.Refusal.TheVariants.{RoomFull}
 use Rattle.char_files.specs.CharName.{CharName}
 use Rattle.operations.specs.Operation.{Operation}
-use Rattle.operations.specs.Reading.{NoneIsShared}
 use Rattle.tree_order.specs.Good.{Good}
 use Rattle.tree_order.specs.Order.{IsAheadIn}
 use Rattle.tree_order.specs.Tree.{IsPath}
@@ -20,7 +19,7 @@ use Rattle.texts.specs.Text.{IsText}
 use Rattle.texts.specs.TextState.{TextState, empty_text, with_room}
 use Rattle.texts.specs.declared.fate.Fate.{Fate}
 use Rattle.texts.specs.declared.fate.Fate.TheVariants.{OtherText, Known, Conflicting, AlreadyWaits, Wait}
-use Rattle.texts.specs.declared.fate.Fate.TheVariants.{WrongOffset, LowStamp, Ready}
+use Rattle.texts.specs.declared.fate.Fate.TheVariants.{Misfit, LowStamp, Ready}
 use Rattle.texts.specs.declared.took.Took.{Took}
 use Rattle.texts.specs.declared.took.Took.TheVariants.{Waits}
 use Rattle.convergence.specs.Headline.{AreSameMessages, HasTakenMessages, begins, goes_on, IsTold, KeptTextsAreAlike}
@@ -60,7 +59,7 @@ empty_is_text text site good known = record {
     bytes = All-nil _;
     looks = All-nil _;
   };
-  kept = λ c among. let lt = among.2 in absurd (omega arith);
+  deleted = λ c among. let lt = among.2 in absurd (omega arith);
   waiting = record {
     of_text = All-nil (λ (op : Operation). op.text ≡ text);
     identified = known;
@@ -111,7 +110,7 @@ module _ (t new : TextState) (op : Operation) (result : Result Took Refusal) (is
   next_text Conflicting stays = stayed_text t.text t new (is, refl) stays.1
   next_text AlreadyWaits stays = stayed_text t.text t new (is, refl) stays.1
   next_text Wait enters = entered_text (nat_lt (length t.waiting_room) MAX_WAITING) refl enters
-  next_text WrongOffset stays = stayed_text t.text t new (is, refl) stays.1
+  next_text Misfit stays = stayed_text t.text t new (is, refl) stays.1
   next_text LowStamp stays = stayed_text t.text t new (is, refl) stays.1
   next_text Ready (with_op, n, m, taken, drains, answer) =
       let end = drained_text drains taken.is in
@@ -132,7 +131,7 @@ counts t new op result AlreadyWaits here calm fits stays = ap is_handed_in stays
 counts t new op result Wait here calm fits enters =
     entered_counts (nat_lt (length t.waiting_room) MAX_WAITING) t new (with_room t (t.waiting_room ++ op ∷ [])) result
     fits enters
-counts t new op result WrongOffset here calm fits stays = ap is_handed_in stays.0
+counts t new op result Misfit here calm fits stays = ap is_handed_in stays.0
 counts t new op result LowStamp here calm fits stays = ap is_handed_in stays.0
 counts t new op result Ready here calm fits (with_op, n, m, taken, drains, answer) = ap is_handed_in answer
 
@@ -174,7 +173,7 @@ record Reached (text : ℕ) (messages : List (List ℕ)) (t : TextState) : Type 
   keeps : Keeps t all
   told : (op : Operation) → Contains all op ↔ IsToldOf text messages op
 
-module _ (one : NoneIsShared) (taking : KeptByTaking) (waiting : StayWaiting) (text : ℕ) where
+module _ (taking : KeptByTaking) (waiting : StayWaiting) (text : ℕ) where
   -- a message that tells no operation of this text leaves it
   unmoved : (messages : List (List ℕ)) (message : List ℕ) (t new : TextState) → Reached text messages t
       → ((op : Operation) → Tells message op → op.text ≢ text) → new ≡ t
@@ -209,7 +208,7 @@ module _ (one : NoneIsShared) (taking : KeptByTaking) (waiting : StayWaiting) (t
       ],
       λ is. elim (told_cases messages message x is.0) [
         | inl old ↦ Contains-append_left r.all (op ∷ []) x ((r.told x).1 (old, is.1))
-        | inr tells' ↦ subst (Contains (r.all ++ op ∷ [])) (one_told one message op x tells tells')
+        | inr tells' ↦ subst (Contains (r.all ++ op ∷ [])) (one_told message op x tells tells')
             (Contains-push r.all op)
       ],
     )
@@ -259,7 +258,7 @@ module _ (one : NoneIsShared) (taking : KeptByTaking) (waiting : StayWaiting) (t
   one_fate messages message t new result op OtherText r calm takes fits tells has stays =
       unmoved messages message t new r
       (λ x tells' here.
-      let same = one_told one message op x tells tells' in
+      let same = one_told message op x tells tells' in
       has (ap (λ (o : Operation). o.text) same ∙ here ∙ sym r.own))
       stays.1
   one_fate messages message t new result op Conflicting r calm takes fits tells has stays =
@@ -316,13 +315,13 @@ told_same a b same op = (
   λ is. (is.0, (same is.0).1 is.1, is.2),
 )
 
-pub messages_end_alike : NoneIsShared → KeptByTaking → StayWaiting → NothingIsKept → Good [] → AreIdentified []
+pub messages_end_alike : KeptByTaking → StayWaiting → NothingIsKept → Good [] → AreIdentified []
     → KeptTextsAreAlike → SameMessagesEndAlike
-messages_end_alike one taking waiting kept good known alike text site site' a b t u taken taken' same calm =
+messages_end_alike taking waiting kept good known alike text site site' a b t u taken taken' same calm =
     let calm' : TellNoConflict text b =
     λ x y told told'. calm x y ((told_same a b same x).1 told) ((told_same a b same y).1 told') in
-    let r = reached one taking waiting text kept good known site taken calm in
-    let r' = reached one taking waiting text kept good known site' taken' calm' in
+    let r = reached taking waiting text kept good known site taken calm in
+    let r' = reached taking waiting text kept good known site' taken' calm' in
     let equal : (op : Operation) → Contains r'.all op ↔ Contains r.all op =
     λ op. (
       λ held. let is = (r'.told op).0 held in (r.told op).1 ((told_same a b same op).1 is.0, is.1),

@@ -5,16 +5,16 @@ use Rattle.std.proofs.lemmas.List.Elements.{All-contains, All-head, All-tail, Co
 use Rattle.std.proofs.lemmas.List.Elements.{Contains-append_left, Contains-append_right, Contains-get_or}
 use Rattle.operations.specs.Operation.{Operation}
 use Rattle.tree_order.specs.Good.{Good}
-use Rattle.set_laws.specs.Growing.{HasOneVerdict}
 use Rattle.set_laws.specs.Sets.{AreIdentified, IsPartOf}
-use Rattle.set_laws.specs.Verdict.{Verdict, wait, bad_offset, bad_stamp, ready, HasVerdict}
+use Rattle.set_laws.specs.Verdict.{wait, misfit, low_stamp, ready}
 use Rattle.waiting_room.specs.Room.{StaysWaiting}
 use Rattle.texts.specs.Draining.{AllStay, Drains, ends, stops, takes_in, throws_away, IsNextOut, IsThrownAway}
-use Rattle.texts.specs.Laws.{HasOneTextWith}
 use Rattle.texts.specs.Taking.{HasTaken, IsJudged}
 use Rattle.texts.specs.Text.{AreWaitingFor, IsText}
 use Rattle.texts.specs.TextState.{TextState, with_room}
 use Rattle.convergence.specs.Outcomes.{DrainsOneWay}
+use Rattle.set_laws.proofs.Verdicts.{same_verdict}
+use Rattle.texts.proofs.Chars.{one_text_with}
 
 module _ {X : Type 0} (P : X → Type 0) where
   -- a list is split in one way behind the first ones that have P, where the next one doesn't
@@ -77,7 +77,7 @@ text_with_room t room is are = record {
   identified = is.identified;
   of_text = is.of_text;
   chars = is.chars;
-  kept = is.kept;
+  deleted = is.deleted;
   waiting = are;
 }
 
@@ -88,222 +88,211 @@ text_without t ahead behind op is next =
     text_with_room t (ahead ++ behind) is (room_without t.text ahead behind op
     (subst (AreWaitingFor t.text) next.room is.waiting))
 
--- the laws that there is one verdict, and one text with one operation more
-pub record TellOne : Type 0 where
-  pub verdict : (ops : List Operation) (op : Operation) → HasOneVerdict ops op
-  pub text : (t : TextState) (op : Operation) → IsText t → Good (t.operations ++ op ∷ [])
-      → AreIdentified (t.operations ++ op ∷ []) → op.text ≡ t.text → HasOneTextWith t op
+-- one operation more leaves one text
+pub one_taken : (t : TextState) (op : Operation) (new new' : TextState) → IsText t → op.text ≡ t.text
+    → HasTaken t op new → HasTaken t op new' → new ≡ new'
+one_taken t op new new' is own taken taken' =
+    let operations : new.operations ≡ t.operations ++ op ∷ [] = ap (λ (u : TextState). u.operations) taken.grown in
+    let one = one_text_with t op is (subst Good operations taken.is.good)
+    (subst AreIdentified operations taken.is.identified) own in
+    one.only new taken.is taken.grown ∙ sym (one.only new' taken'.is taken'.grown)
 
-module _ (laws : TellOne) where
-  pub same_verdict : (ops : List Operation) (op : Operation) (v w : Verdict) → HasVerdict ops op v
-      → HasVerdict ops op w → v ≡ w
-  same_verdict ops op v w is is' = let one = laws.verdict ops op in one.only v is ∙ sym (one.only w is')
+-- an operation that can be taken in isn't thrown away
+not_both : (t : TextState) (op : Operation) → IsJudged t op ready → ¬ IsThrownAway t op
+not_both t op good (inl held) = good.1.unheld held
+not_both t op good (inr (inl bad)) =
+    let same = same_verdict t.operations op ready misfit good.2 bad.2 in cc
+not_both t op good (inr (inr bad)) =
+    let same = same_verdict t.operations op ready low_stamp good.2 bad.2 in cc
 
-  -- one operation more leaves one text
-  pub one_taken : (t : TextState) (op : Operation) (new new' : TextState) → IsText t → op.text ≡ t.text
-      → HasTaken t op new → HasTaken t op new' → new ≡ new'
-  one_taken t op new new' is own taken taken' =
-      let operations : new.operations ≡ t.operations ++ op ∷ [] = ap (λ (u : TextState). u.operations) taken.grown in
-      let one = laws.text t op is (subst Good operations taken.is.good)
-      (subst AreIdentified operations taken.is.identified) own in
-      one.only new taken.is taken.grown ∙ sym (one.only new' taken'.is taken'.grown)
+-- and neither waits
+pub ready_goes : (t : TextState) (op : Operation) → IsJudged t op ready → ¬ StaysWaiting t.operations op
+ready_goes t op good stays =
+    let same = same_verdict t.operations op ready wait good.2 stays.1 in cc
 
-  -- an operation that can be taken in isn't thrown away
-  not_both : (t : TextState) (op : Operation) → IsJudged t op ready → ¬ IsThrownAway t op
-  not_both t op good (inl held) = good.1.unheld held
-  not_both t op good (inr (inl bad)) =
-      let same = same_verdict t.operations op ready bad_offset good.2 bad.2 in cc
-  not_both t op good (inr (inr bad)) =
-      let same = same_verdict t.operations op ready bad_stamp good.2 bad.2 in cc
+pub thrown_goes : (t : TextState) (op : Operation) → IsThrownAway t op → ¬ StaysWaiting t.operations op
+thrown_goes t op (inl held) stays = stays.0.unheld held
+thrown_goes t op (inr (inl bad)) stays =
+    let same = same_verdict t.operations op misfit wait bad.2 stays.1 in cc
+thrown_goes t op (inr (inr bad)) stays =
+    let same = same_verdict t.operations op low_stamp wait bad.2 stays.1 in cc
 
-  -- and neither waits
-  pub ready_goes : (t : TextState) (op : Operation) → IsJudged t op ready → ¬ StaysWaiting t.operations op
-  ready_goes t op good stays =
-      let same = same_verdict t.operations op ready wait good.2 stays.1 in cc
+-- where all stay none goes
+none_goes : (t : TextState) (ahead behind : List Operation) (op : Operation) → AllStay t
+    → IsNextOut t ahead op behind → ¬ (¬ StaysWaiting t.operations op)
+none_goes t ahead behind op all next goes =
+    goes (All-contains (StaysWaiting t.operations) (ahead ++ op ∷ behind) op
+    (subst (All (StaysWaiting t.operations)) next.room all)
+    (Contains-append_right ahead (op ∷ behind) op (Contains-append_left (op ∷ []) behind op (0, omega arith, refl))))
 
-  pub thrown_goes : (t : TextState) (op : Operation) → IsThrownAway t op → ¬ StaysWaiting t.operations op
-  thrown_goes t op (inl held) stays = stays.0.unheld held
-  thrown_goes t op (inr (inl bad)) stays =
-      let same = same_verdict t.operations op bad_offset wait bad.2 stays.1 in cc
-  thrown_goes t op (inr (inr bad)) stays =
-      let same = same_verdict t.operations op bad_stamp wait bad.2 stays.1 in cc
+-- the next one out is one
+one_next : (t : TextState) (ahead ahead' behind behind' : List Operation) (op op' : Operation)
+    → IsNextOut t ahead op behind → IsNextOut t ahead' op' behind' → ¬ StaysWaiting t.operations op
+    → ¬ StaysWaiting t.operations op' → (ahead ≡ ahead') × (op ≡ op') × (behind ≡ behind')
+one_next t ahead ahead' behind behind' op op' next next' goes goes' =
+    one_split (StaysWaiting t.operations) ahead ahead' behind behind' op op' (sym next.room ∙ next'.room) next.stay
+    goes next'.stay goes'
 
-  -- where all stay none goes
-  none_goes : (t : TextState) (ahead behind : List Operation) (op : Operation) → AllStay t
-      → IsNextOut t ahead op behind → ¬ (¬ StaysWaiting t.operations op)
-  none_goes t ahead behind op all next goes =
-      goes (All-contains (StaysWaiting t.operations) (ahead ++ op ∷ behind) op
-      (subst (All (StaysWaiting t.operations)) next.room all)
-      (Contains-append_right ahead (op ∷ behind) op (Contains-append_left (op ∷ []) behind op (0, omega arith, refl))))
+-- how a draining begins
+data Begins (t : TextState) (n m : ℕ) (b : Bool) (new : TextState) : Type 0 where
+  ended : AllStay t → n ≡ 0 → m ≡ 0 → b ≡ false → new ≡ t → Begins t n m b new
+  stopped : (ahead behind : List Operation) (op : Operation) → IsNextOut t ahead op behind → IsJudged t op ready
+      → n ≡ 0 → m ≡ 0 → b ≡ true → new ≡ t → Begins t n m b new
+  took_in : (ahead behind : List Operation) (op : Operation) (with_op : TextState) (less : ℕ)
+      → IsNextOut t ahead op behind → IsJudged t op ready → HasTaken (with_room t (ahead ++ behind)) op with_op
+      → Drains with_op less m b new → n ≡ less + 1 → Begins t n m b new
+  threw_away : (ahead behind : List Operation) (op : Operation) (less : ℕ) → IsNextOut t ahead op behind
+      → IsThrownAway t op → Drains (with_room t (ahead ++ behind)) n less b new → m ≡ less + 1
+      → Begins t n m b new
 
-  -- the next one out is one
-  one_next : (t : TextState) (ahead ahead' behind behind' : List Operation) (op op' : Operation)
-      → IsNextOut t ahead op behind → IsNextOut t ahead' op' behind' → ¬ StaysWaiting t.operations op
-      → ¬ StaysWaiting t.operations op' → (ahead ≡ ahead') × (op ≡ op') × (behind ≡ behind')
-  one_next t ahead ahead' behind behind' op op' next next' goes goes' =
-      one_split (StaysWaiting t.operations) ahead ahead' behind behind' op op' (sym next.room ∙ next'.room) next.stay
-      goes next'.stay goes'
+begun : {t new : TextState} {n m : ℕ} {b : Bool} → Drains t n m b new → Begins t n m b new
+begun (ends all) = ended all refl refl refl refl
+begun (stops ahead behind op next good) = stopped ahead behind op next good refl refl refl refl
+begun (takes_in {with_op = with_op} {drained = less} ahead behind op next good taken rest) =
+    took_in ahead behind op with_op less next good taken rest refl
+begun (throws_away {dropped = less} ahead behind op next bad rest) =
+    threw_away ahead behind op less next bad rest refl
 
-  -- how a draining begins
-  data Begins (t : TextState) (n m : ℕ) (b : Bool) (new : TextState) : Type 0 where
-    ended : AllStay t → n ≡ 0 → m ≡ 0 → b ≡ false → new ≡ t → Begins t n m b new
-    stopped : (ahead behind : List Operation) (op : Operation) → IsNextOut t ahead op behind → IsJudged t op ready
-        → n ≡ 0 → m ≡ 0 → b ≡ true → new ≡ t → Begins t n m b new
-    took_in : (ahead behind : List Operation) (op : Operation) (with_op : TextState) (less : ℕ)
-        → IsNextOut t ahead op behind → IsJudged t op ready → HasTaken (with_room t (ahead ++ behind)) op with_op
-        → Drains with_op less m b new → n ≡ less + 1 → Begins t n m b new
-    threw_away : (ahead behind : List Operation) (op : Operation) (less : ℕ) → IsNextOut t ahead op behind
-        → IsThrownAway t op → Drains (with_room t (ahead ++ behind)) n less b new → m ≡ less + 1
-        → Begins t n m b new
+-- the whole room was drained, or the counts are told
+abbrev AreTold : Bool → (n n' m m' : ℕ) → Type 0
+AreTold b n n' m m' = (b ≡ false) ⊎ ((n ≡ n') × (m ≡ m'))
 
-  begun : {t new : TextState} {n m : ℕ} {b : Bool} → Drains t n m b new → Begins t n m b new
-  begun (ends all) = ended all refl refl refl refl
-  begun (stops ahead behind op next good) = stopped ahead behind op next good refl refl refl refl
-  begun (takes_in {with_op = with_op} {drained = less} ahead behind op next good taken rest) =
-      took_in ahead behind op with_op less next good taken rest refl
-  begun (throws_away {dropped = less} ahead behind op next bad rest) =
-      threw_away ahead behind op less next bad rest refl
+abbrev IsOne : (n n' m m' : ℕ) (new new' : TextState) → Type 0
+IsOne n n' m m' new new' = (n ≡ n') × (m ≡ m') × (new ≡ new')
 
-  -- the whole room was drained, or the counts are told
-  abbrev AreTold : Bool → (n n' m m' : ℕ) → Type 0
-  AreTold b n n' m m' = (b ≡ false) ⊎ ((n ≡ n') × (m ≡ m'))
+told_less : (b : Bool) (n n' m m' : ℕ) → AreTold b (n + 1) (n' + 1) m m' → AreTold b n n' m m'
+told_less b n n' m m' (inl whole) = inl whole
+told_less b n n' m m' (inr same) = let first = same.0 in inr (omega arith, same.1)
 
-  abbrev IsOne : (n n' m m' : ℕ) (new new' : TextState) → Type 0
-  IsOne n n' m m' new new' = (n ≡ n') × (m ≡ m') × (new ≡ new')
+told_fewer : (b : Bool) (n n' m m' : ℕ) → AreTold b n n' (m + 1) (m' + 1) → AreTold b n n' m m'
+told_fewer b n n' m m' (inl whole) = inl whole
+told_fewer b n n' m m' (inr same) = let last = same.1 in inr (same.0, omega arith)
 
-  told_less : (b : Bool) (n n' m m' : ℕ) → AreTold b (n + 1) (n' + 1) m m' → AreTold b n n' m m'
-  told_less b n n' m m' (inl whole) = inl whole
-  told_less b n n' m m' (inr same) = let first = same.0 in inr (omega arith, same.1)
+from_ended : (t new' : TextState) (n' m' : ℕ) (b : Bool) → AllStay t → b ≡ false → Begins t n' m' b new'
+    → IsOne 0 n' 0 m' t new'
+from_ended t new' n' m' b all whole (ended all' none none' not same) = (sym none, sym none', sym same)
+from_ended t new' n' m' b all whole (stopped ahead behind op next good none none' is same) =
+    absurd (none_goes t ahead behind op all next (ready_goes t op good))
+from_ended t new' n' m' b all whole (took_in ahead behind op with_op less next good taken rest more) =
+    absurd (none_goes t ahead behind op all next (ready_goes t op good))
+from_ended t new' n' m' b all whole (threw_away ahead behind op less next bad rest more) =
+    absurd (none_goes t ahead behind op all next (thrown_goes t op bad))
 
-  told_fewer : (b : Bool) (n n' m m' : ℕ) → AreTold b n n' (m + 1) (m' + 1) → AreTold b n n' m m'
-  told_fewer b n n' m m' (inl whole) = inl whole
-  told_fewer b n n' m m' (inr same) = let last = same.1 in inr (same.0, omega arith)
+-- one that was stopped at once took in none and threw none away, where the counts are told
+taken_none : (n' m' less : ℕ) → AreTold true 0 n' 0 m' → ¬ (n' ≡ less + 1)
+taken_none n' m' less (inl not) more = absurd (cc)
+taken_none n' m' less (inr same) more = let first = same.0 in omega arith
 
-  from_ended : (t new' : TextState) (n' m' : ℕ) (b : Bool) → AllStay t → b ≡ false → Begins t n' m' b new'
-      → IsOne 0 n' 0 m' t new'
-  from_ended t new' n' m' b all whole (ended all' none none' not same) = (sym none, sym none', sym same)
-  from_ended t new' n' m' b all whole (stopped ahead behind op next good none none' is same) =
-      absurd (none_goes t ahead behind op all next (ready_goes t op good))
-  from_ended t new' n' m' b all whole (took_in ahead behind op with_op less next good taken rest more) =
-      absurd (none_goes t ahead behind op all next (ready_goes t op good))
-  from_ended t new' n' m' b all whole (threw_away ahead behind op less next bad rest more) =
-      absurd (none_goes t ahead behind op all next (thrown_goes t op bad))
+thrown_none : (n' m' less : ℕ) → AreTold true 0 n' 0 m' → ¬ (m' ≡ less + 1)
+thrown_none n' m' less (inl not) more = absurd (cc)
+thrown_none n' m' less (inr same) more = let last = same.1 in omega arith
 
-  -- one that was stopped at once took in none and threw none away, where the counts are told
-  taken_none : (n' m' less : ℕ) → AreTold true 0 n' 0 m' → ¬ (n' ≡ less + 1)
-  taken_none n' m' less (inl not) more = absurd (cc)
-  taken_none n' m' less (inr same) more = let first = same.0 in omega arith
+from_stopped : (t new' : TextState) (n' m' : ℕ) (ahead behind : List Operation) (op : Operation)
+    → IsNextOut t ahead op behind → IsJudged t op ready → AreTold true 0 n' 0 m' → Begins t n' m' true new'
+    → IsOne 0 n' 0 m' t new'
+from_stopped t new' n' m' ahead behind op next good told (ended all none none' not same) =
+    absurd (none_goes t ahead behind op all next (ready_goes t op good))
+from_stopped t new' n' m' ahead behind op next good told (stopped ahead' behind' op' next' good' none none' is same) =
+    (sym none, sym none', sym same)
+from_stopped t new' n' m' ahead behind op next good told
+    (took_in ahead' behind' op' with_op less next' good' taken rest more) =
+    absurd (taken_none n' m' less told more)
+from_stopped t new' n' m' ahead behind op next good told
+    (threw_away ahead' behind' op' less next' bad rest more) =
+    absurd (thrown_none n' m' less told more)
 
-  thrown_none : (n' m' less : ℕ) → AreTold true 0 n' 0 m' → ¬ (m' ≡ less + 1)
-  thrown_none n' m' less (inl not) more = absurd (cc)
-  thrown_none n' m' less (inr same) more = let last = same.1 in omega arith
+-- all that follows is one
+abbrev GoesOn : (t new : TextState) (n m : ℕ) (b : Bool) → Type 0
+GoesOn t new n m b = (n' m' : ℕ) (new' : TextState) → Drains t n' m' b new' → AreTold b n n' m m'
+    → IsOne n n' m m' new new'
 
-  from_stopped : (t new' : TextState) (n' m' : ℕ) (ahead behind : List Operation) (op : Operation)
-      → IsNextOut t ahead op behind → IsJudged t op ready → AreTold true 0 n' 0 m' → Begins t n' m' true new'
-      → IsOne 0 n' 0 m' t new'
-  from_stopped t new' n' m' ahead behind op next good told (ended all none none' not same) =
-      absurd (none_goes t ahead behind op all next (ready_goes t op good))
-  from_stopped t new' n' m' ahead behind op next good told (stopped ahead' behind' op' next' good' none none' is same) =
-      (sym none, sym none', sym same)
-  from_stopped t new' n' m' ahead behind op next good told
-      (took_in ahead' behind' op' with_op less next' good' taken rest more) =
-      absurd (taken_none n' m' less told more)
-  from_stopped t new' n' m' ahead behind op next good told
-      (threw_away ahead' behind' op' less next' bad rest more) =
-      absurd (thrown_none n' m' less told more)
+none_taken : (b : Bool) (n n' m m' : ℕ) → b ≡ true → n' ≡ 0 → ¬ AreTold b (n + 1) n' m m'
+none_taken b n n' m m' is none (inl not) = absurd (cc)
+none_taken b n n' m m' is none (inr same) = let first = same.0 in omega arith
 
-  -- all that follows is one
-  abbrev GoesOn : (t new : TextState) (n m : ℕ) (b : Bool) → Type 0
-  GoesOn t new n m b = (n' m' : ℕ) (new' : TextState) → Drains t n' m' b new' → AreTold b n n' m m'
-      → IsOne n n' m m' new new'
+none_thrown : (b : Bool) (n n' m m' : ℕ) → b ≡ true → m' ≡ 0 → ¬ AreTold b n n' (m + 1) m'
+none_thrown b n n' m m' is none (inl not) = absurd (cc)
+none_thrown b n n' m m' is none (inr same) = let last = same.1 in omega arith
 
-  none_taken : (b : Bool) (n n' m m' : ℕ) → b ≡ true → n' ≡ 0 → ¬ AreTold b (n + 1) n' m m'
-  none_taken b n n' m m' is none (inl not) = absurd (cc)
-  none_taken b n n' m m' is none (inr same) = let first = same.0 in omega arith
+from_taken : (t new new' with_op : TextState) (n n' m m' : ℕ) (b : Bool) (ahead behind : List Operation)
+    (op : Operation) → IsText t → IsNextOut t ahead op behind → IsJudged t op ready
+    → HasTaken (with_room t (ahead ++ behind)) op with_op → GoesOn with_op new n m b
+    → AreTold b (n + 1) n' m m' → Begins t n' m' b new' → IsOne (n + 1) n' m m' new new'
+from_taken t new new' with_op n n' m m' b ahead behind op is next good taken on told
+    (ended all none none' not same) =
+    absurd (none_goes t ahead behind op all next (ready_goes t op good))
+from_taken t new new' with_op n n' m m' b ahead behind op is next good taken on told
+    (stopped ahead' behind' op' next' good' none none' stop same) =
+    absurd (none_taken b n n' m m' stop none told)
+from_taken t new new' with_op n n' m m' b ahead behind op is next good taken on told
+    (took_in ahead' behind' op' with_op' less next' good' taken' rest more) =
+    let found = one_next t ahead ahead' behind behind' op op' next next' (ready_goes t op good)
+    (ready_goes t op' good') in
+    let same_ahead = found.0 in
+    let same_behind = found.2 in
+    let room : ahead' ++ behind' ≡ ahead ++ behind = cc in
+    let left : HasTaken (with_room t (ahead ++ behind)) op' with_op' =
+    subst (λ (room : List Operation). HasTaken (with_room t room) op' with_op') room taken' in
+    let moved : HasTaken (with_room t (ahead ++ behind)) op with_op' =
+    subst (λ (o : Operation). HasTaken (with_room t (ahead ++ behind)) o with_op') (sym found.1) left in
+    let same : with_op' ≡ with_op = one_taken (with_room t (ahead ++ behind)) op with_op' with_op
+    (text_without t ahead behind op is next) good.0 moved taken in
+    let end = on less m' new' (subst (λ (u : TextState). Drains u less m' b new') same rest)
+    (told_less b n less m m' (subst (λ (k : ℕ). AreTold b (n + 1) k m m') more told)) in
+    let first = end.0 in
+    (omega arith, end.1, end.2)
+from_taken t new new' with_op n n' m m' b ahead behind op is next good taken on told
+    (threw_away ahead' behind' op' less next' bad rest more) =
+    let found = one_next t ahead ahead' behind behind' op op' next next' (ready_goes t op good)
+    (thrown_goes t op' bad) in
+    absurd (not_both t op good (subst (IsThrownAway t) (sym found.1) bad))
 
-  none_thrown : (b : Bool) (n n' m m' : ℕ) → b ≡ true → m' ≡ 0 → ¬ AreTold b n n' (m + 1) m'
-  none_thrown b n n' m m' is none (inl not) = absurd (cc)
-  none_thrown b n n' m m' is none (inr same) = let last = same.1 in omega arith
+from_thrown : (t new new' : TextState) (n n' m m' : ℕ) (b : Bool) (ahead behind : List Operation)
+    (op : Operation) → IsNextOut t ahead op behind → IsThrownAway t op
+    → GoesOn (with_room t (ahead ++ behind)) new n m b → AreTold b n n' (m + 1) m' → Begins t n' m' b new'
+    → IsOne n n' (m + 1) m' new new'
+from_thrown t new new' n n' m m' b ahead behind op next bad on told (ended all none none' not same) =
+    absurd (none_goes t ahead behind op all next (thrown_goes t op bad))
+from_thrown t new new' n n' m m' b ahead behind op next bad on told
+    (stopped ahead' behind' op' next' good' none none' stop same) =
+    absurd (none_thrown b n n' m m' stop none' told)
+from_thrown t new new' n n' m m' b ahead behind op next bad on told
+    (took_in ahead' behind' op' with_op' less next' good' taken' rest more) =
+    let found = one_next t ahead ahead' behind behind' op op' next next' (thrown_goes t op bad)
+    (ready_goes t op' good') in
+    absurd (not_both t op' good' (subst (IsThrownAway t) found.1 bad))
+from_thrown t new new' n n' m m' b ahead behind op next bad on told
+    (threw_away ahead' behind' op' less next' bad' rest more) =
+    let found = one_next t ahead ahead' behind behind' op op' next next' (thrown_goes t op bad)
+    (thrown_goes t op' bad') in
+    let same_ahead = found.0 in
+    let same_behind = found.2 in
+    let room : ahead' ++ behind' ≡ ahead ++ behind = cc in
+    let end = on n' less new' (subst (λ (room : List Operation). Drains (with_room t room) n' less b new') room rest)
+    (told_fewer b n n' m less (subst (λ (k : ℕ). AreTold b n n' (m + 1) k) more told)) in
+    let last = end.1 in
+    (end.0, omega arith, end.2)
 
-  from_taken : (t new new' with_op : TextState) (n n' m m' : ℕ) (b : Bool) (ahead behind : List Operation)
-      (op : Operation) → IsText t → IsNextOut t ahead op behind → IsJudged t op ready
-      → HasTaken (with_room t (ahead ++ behind)) op with_op → GoesOn with_op new n m b
-      → AreTold b (n + 1) n' m m' → Begins t n' m' b new' → IsOne (n + 1) n' m m' new new'
-  from_taken t new new' with_op n n' m m' b ahead behind op is next good taken on told
-      (ended all none none' not same) =
-      absurd (none_goes t ahead behind op all next (ready_goes t op good))
-  from_taken t new new' with_op n n' m m' b ahead behind op is next good taken on told
-      (stopped ahead' behind' op' next' good' none none' stop same) =
-      absurd (none_taken b n n' m m' stop none told)
-  from_taken t new new' with_op n n' m m' b ahead behind op is next good taken on told
-      (took_in ahead' behind' op' with_op' less next' good' taken' rest more) =
-      let found = one_next t ahead ahead' behind behind' op op' next next' (ready_goes t op good)
-      (ready_goes t op' good') in
-      let same_ahead = found.0 in
-      let same_behind = found.2 in
-      let room : ahead' ++ behind' ≡ ahead ++ behind = cc in
-      let left : HasTaken (with_room t (ahead ++ behind)) op' with_op' =
-      subst (λ (room : List Operation). HasTaken (with_room t room) op' with_op') room taken' in
-      let moved : HasTaken (with_room t (ahead ++ behind)) op with_op' =
-      subst (λ (o : Operation). HasTaken (with_room t (ahead ++ behind)) o with_op') (sym found.1) left in
-      let same : with_op' ≡ with_op = one_taken (with_room t (ahead ++ behind)) op with_op' with_op
-      (text_without t ahead behind op is next) good.0 moved taken in
-      let end = on less m' new' (subst (λ (u : TextState). Drains u less m' b new') same rest)
-      (told_less b n less m m' (subst (λ (k : ℕ). AreTold b (n + 1) k m m') more told)) in
-      let first = end.0 in
-      (omega arith, end.1, end.2)
-  from_taken t new new' with_op n n' m m' b ahead behind op is next good taken on told
-      (threw_away ahead' behind' op' less next' bad rest more) =
-      let found = one_next t ahead ahead' behind behind' op op' next next' (ready_goes t op good)
-      (thrown_goes t op' bad) in
-      absurd (not_both t op good (subst (IsThrownAway t) (sym found.1) bad))
+-- two drainings of one text, of which the whole room was drained or the counts are told, are one
+one_draining : {t new : TextState} {n m : ℕ} {b : Bool} → Drains t n m b new → IsText t → GoesOn t new n m b
+one_draining (ends {t = t} all) is n' m' new' other told =
+    from_ended t new' n' m' false all refl (begun other)
+one_draining (stops {t = t} ahead behind op next good) is n' m' new' other told =
+    from_stopped t new' n' m' ahead behind op next good told (begun other)
+one_draining
+    (takes_in {t = t} {with_op = with_op} {new = new} {drained = n} {dropped = m} {stopped = b} ahead behind op next
+    good taken rest)
+    is n' m' new' other told =
+    from_taken t new new' with_op n n' m m' b ahead behind op is next good taken (one_draining rest taken.is) told
+    (begun other)
+one_draining
+    (throws_away {t = t} {new = new} {drained = n} {dropped = m} {stopped = b} ahead behind op next bad rest)
+    is n' m' new' other told =
+    from_thrown t new new' n n' m m' b ahead behind op next bad
+    (one_draining rest (text_without t ahead behind op is next)) told (begun other)
 
-  from_thrown : (t new new' : TextState) (n n' m m' : ℕ) (b : Bool) (ahead behind : List Operation)
-      (op : Operation) → IsNextOut t ahead op behind → IsThrownAway t op
-      → GoesOn (with_room t (ahead ++ behind)) new n m b → AreTold b n n' (m + 1) m' → Begins t n' m' b new'
-      → IsOne n n' (m + 1) m' new new'
-  from_thrown t new new' n n' m m' b ahead behind op next bad on told (ended all none none' not same) =
-      absurd (none_goes t ahead behind op all next (thrown_goes t op bad))
-  from_thrown t new new' n n' m m' b ahead behind op next bad on told
-      (stopped ahead' behind' op' next' good' none none' stop same) =
-      absurd (none_thrown b n n' m m' stop none' told)
-  from_thrown t new new' n n' m m' b ahead behind op next bad on told
-      (took_in ahead' behind' op' with_op' less next' good' taken' rest more) =
-      let found = one_next t ahead ahead' behind behind' op op' next next' (thrown_goes t op bad)
-      (ready_goes t op' good') in
-      absurd (not_both t op' good' (subst (IsThrownAway t) found.1 bad))
-  from_thrown t new new' n n' m m' b ahead behind op next bad on told
-      (threw_away ahead' behind' op' less next' bad' rest more) =
-      let found = one_next t ahead ahead' behind behind' op op' next next' (thrown_goes t op bad)
-      (thrown_goes t op' bad') in
-      let same_ahead = found.0 in
-      let same_behind = found.2 in
-      let room : ahead' ++ behind' ≡ ahead ++ behind = cc in
-      let end = on n' less new' (subst (λ (room : List Operation). Drains (with_room t room) n' less b new') room rest)
-      (told_fewer b n n' m less (subst (λ (k : ℕ). AreTold b n n' (m + 1) k) more told)) in
-      let last = end.1 in
-      (end.0, omega arith, end.2)
-
-  -- two drainings of one text, of which the whole room was drained or the counts are told, are one
-  one_draining : {t new : TextState} {n m : ℕ} {b : Bool} → Drains t n m b new → IsText t → GoesOn t new n m b
-  one_draining (ends {t = t} all) is n' m' new' other told =
-      from_ended t new' n' m' false all refl (begun other)
-  one_draining (stops {t = t} ahead behind op next good) is n' m' new' other told =
-      from_stopped t new' n' m' ahead behind op next good told (begun other)
-  one_draining
-      (takes_in {t = t} {with_op = with_op} {new = new} {drained = n} {dropped = m} {stopped = b} ahead behind op next
-      good taken rest)
-      is n' m' new' other told =
-      from_taken t new new' with_op n n' m m' b ahead behind op is next good taken (one_draining rest taken.is) told
-      (begun other)
-  one_draining
-      (throws_away {t = t} {new = new} {drained = n} {dropped = m} {stopped = b} ahead behind op next bad rest)
-      is n' m' new' other told =
-      from_thrown t new new' n n' m m' b ahead behind op next bad
-      (one_draining rest (text_without t ahead behind op is next)) told (begun other)
-
-  pub drain_one_way : DrainsOneWay
-  drain_one_way = record {
-    whole = λ t new new' n n' m m' is drains drains'. one_draining drains is n' m' new' drains' (inl refl);
-    stopped = λ t new new' n m is drains drains'. (one_draining drains is n m new' drains' (inr (refl, refl))).2;
-  }
+pub drain_one_way : DrainsOneWay
+drain_one_way = record {
+  whole = λ t new new' n n' m m' is drains drains'. one_draining drains is n' m' new' drains' (inl refl);
+  stopped = λ t new new' n m is drains drains'. (one_draining drains is n m new' drains' (inr (refl, refl))).2;
+}

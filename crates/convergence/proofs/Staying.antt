@@ -4,10 +4,9 @@ use Rattle.std.proofs.Common.{sym, subst, ◌∙◌}
 use Rattle.std.proofs.lemmas.Bool.{cases_eq}
 use Rattle.std.proofs.lemmas.List.Elements.{All-contains, Contains-append_left, Contains-append_cases}
 use Rattle.char_files.specs.CharName.{CharName}
-use Rattle.operations.specs.Operation.{Operation, Mentions}
-use Rattle.tree_order.specs.Good.{Begins}
+use Rattle.operations.specs.Operation.{Operation, Mentions, Begins}
 use Rattle.set_laws.specs.Fronts.{file_len, IsHere}
-use Rattle.set_laws.specs.Verdict.{FollowsOn, HasVerdict, IsPlaced, wait}
+use Rattle.set_laws.specs.Verdict.{FollowsOn, HasVerdict, FitsFile, wait}
 use Rattle.waiting_room.specs.Room.{StaysWaiting}
 use Rattle.convergence.proofs.OtherSites.{same_file_len}
 use Rattle.convergence.proofs.OwnOperations.{IsBy}
@@ -49,7 +48,7 @@ module _ (ops more : List Operation) (site : ℕ) (own : All (IsBy site) more) (
   ]
 
   -- it is placed still
-  placed_still : IsPlaced ops op → IsPlaced (ops ++ more) op
+  placed_still : FitsFile ops op → FitsFile (ops ++ more) op
   placed_still placed = record {
     begins = subst (Begins op.kind) (sym (same_len op.site free.apart)) placed.begins;
     own = λ name m on.

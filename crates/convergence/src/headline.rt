@@ -6,7 +6,6 @@ ghost use Rattle.convergence.specs.Headline.{WhatWaitsShowsNothing};
 use crate::keeping::{
     nothing_is_kept, taking_keeps, what_is_kept_is_closed, what_waits_stays_waiting,
 };
-use operations::one_spelling;
 use set_laws::closures::{nothing_is_good, there_is_one_closure};
 use set_laws::unions::unions_are_sets;
 use texts::laws::{
@@ -32,7 +31,6 @@ pub fn the_same_messages_end_alike()
     taking_keeps();
     what_waits_stays_waiting();
     kept_texts_are_alike();
-    one_spelling();
 }
 
 /// A law: one text merged into the other, and the other into the one, are alike.

@@ -3,9 +3,7 @@
 ghost use Rattle.convergence.specs.Keeping.{KeptByDraining, KeptByEdits, KeptByForgetting, KeptByMerging};
 ghost use Rattle.convergence.specs.Keeping.{KeptByTaking, NothingIsKept, StayWaiting, WhatIsKeptIsClosed};
 
-use operations::one_spelling;
-use set_laws::closures::{kept_and_waiting_is_closed, kept_goes_on};
-use texts::laws::own_edits_are_plain;
+use set_laws::closures::kept_and_waiting_is_closed;
 
 /// A law: a new text keeps nothing.
 pub fn nothing_is_kept()
@@ -15,9 +13,7 @@ pub fn nothing_is_kept()
 /// A law: draining the room leaves all kept that was handed in.
 pub fn draining_keeps()
     ensures { KeptByDraining }
-{
-    kept_goes_on();
-}
+{}
 
 /// A law: a message is kept with all that was handed in before it; one that is malformed, of another text, in
 /// conflict, or refused for want of a place or of memory, leaves that as it was.
@@ -25,24 +21,17 @@ pub fn taking_keeps()
     ensures { KeptByTaking }
 {
     draining_keeps();
-    kept_goes_on();
-    one_spelling();
 }
 
 /// A law: the operations of an own edit that stand are kept with all that was handed in before them.
 pub fn own_edits_keep()
     ensures { KeptByEdits }
-{
-    kept_goes_on();
-    own_edits_are_plain();
-}
+{}
 
 /// A law: what a merge took in is kept with all that was handed in before it.
 pub fn merging_keeps()
     ensures { KeptByMerging }
-{
-    kept_goes_on();
-}
+{}
 
 /// A law: where the room is emptied, all else that was handed in is kept.
 pub fn forgetting_keeps()

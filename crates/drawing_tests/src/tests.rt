@@ -2,6 +2,7 @@
 use std::test::Fail;
 
 mod changes;
+mod positions;
 mod rows;
 mod signs;
 

@@ -3,7 +3,7 @@ use Rattle.std.proofs.Common.{◌≡◌, ℕ, suc, ◌+◌, ◌-◌, ◌<◌, �
 use Rattle.std.proofs.Common.{ap, ◌∙◌, arith, Bool, true, false, if◌then◌else◌, ne_eqb, eq-eqb, drop, drop-cons, add-one}
 use Rattle.line_drawing.specs.declared.drawing.TheConstants.{LINE_END}
 use Rattle.line_drawing.specs.Lines.{lines, onto_first, ends_in, extent, beg_of}
-use Rattle.line_drawing.proofs.Lines.{some_line}
+use Rattle.line_drawing.proofs.Lines.{lines-end, lines-other, some_line}
 
 -- what is sought, where so many lines' ends are left to be passed and these bytes lie ahead
 pub record Reaches (sought left : ℕ) (rest : List ℕ) (pos beg : ℕ) : Type 0 where
@@ -34,21 +34,16 @@ onto-take b k (l ∷ ls) some = omega arith
 
 beg-end : (bytes : List ℕ) (b k : ℕ) → b ≡ LINE_END → beg_of (b ∷ bytes) (suc k) ≡ suc (beg_of bytes k)
 beg-end bytes b k is =
-    let h : (b == LINE_END) ≡ true = eq-eqb b LINE_END is in
-    let all : lines (b ∷ bytes) ≡ [] ∷ lines bytes =
-    ap (λ (v : Bool). if v then [] ∷ lines bytes else onto_first b (lines bytes)) h in
     let at : extent (take (suc k) (lines (b ∷ bytes))) ≡ suc (extent (take k (lines bytes))) =
-    ap (λ (l : List (List ℕ)). extent (take (suc k) l)) all ∙ (omega arith) in
+    ap (λ (l : List (List ℕ)). extent (take (suc k) l)) (lines-end bytes b is) ∙ (omega arith) in
     omega (arith, at)
 
 beg-other : (bytes : List ℕ) (b k : ℕ) → b ≢ LINE_END
     → beg_of (b ∷ bytes) (suc k) ≡ suc (beg_of bytes (suc k))
 beg-other bytes b k differs =
-    let h : (b == LINE_END) ≡ false = ne_eqb b LINE_END differs in
-    let all : lines (b ∷ bytes) ≡ onto_first b (lines bytes) =
-    ap (λ (v : Bool). if v then [] ∷ lines bytes else onto_first b (lines bytes)) h in
     let at : extent (take (suc k) (lines (b ∷ bytes))) ≡ suc (extent (take (suc k) (lines bytes))) =
-    ap (λ (l : List (List ℕ)). extent (take (suc k) l)) all ∙ onto-take b k (lines bytes) (some_line bytes) in
+    ap (λ (l : List (List ℕ)). extent (take (suc k) l)) (lines-other bytes b differs)
+    ∙ onto-take b k (lines bytes) (some_line bytes) in
     omega (arith, at)
 
 pub reach-first : (bytes : List ℕ) (n : ℕ) → Reaches (beg_of bytes (min n (ends_in bytes))) n bytes 0 0

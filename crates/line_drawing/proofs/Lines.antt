@@ -1,11 +1,19 @@
 -- Lines of lists of bytes.
 use Rattle.std.proofs.Common.{◌≡◌, ℕ, zero, suc, ◌+◌, ◌<◌, ◌≤◌, List, [], ◌∷◌, ◌++◌, length, take, get_or, ◌==◌}
-use Rattle.std.proofs.Common.{ap, ◌∙◌, refl, arith, length-append, true, false, if◌then◌else◌}
+use Rattle.std.proofs.Common.{ap, ◌∙◌, ◌≢◌, refl, arith, length-append, Bool, true, false, if◌then◌else◌, eq-eqb, ne_eqb}
 use Rattle.std.proofs.lemmas.List.{take-append-le}
 use Rattle.line_drawing.specs.declared.drawing.TheConstants.{LINE_END}
 use Rattle.line_drawing.specs.Lines.{lines, onto_first, ends_in, line_at, extent, beg_of}
 use Rattle.line_drawing.specs.Rows.{Row, cells_of}
 use Rattle.line_drawing.specs.Laws.{AreJoined, HasOneLineMore, IsOfItsOwnLine, BegsRise}
+
+pub lines-end : (bytes : List ℕ) (b : ℕ) → b ≡ LINE_END → lines (b ∷ bytes) ≡ [] ∷ lines bytes
+lines-end bytes b is = let h : (b == LINE_END) ≡ true = eq-eqb b LINE_END is in
+    ap (λ (v : Bool). if v then [] ∷ lines bytes else onto_first b (lines bytes)) h
+
+pub lines-other : (bytes : List ℕ) (b : ℕ) → b ≢ LINE_END → lines (b ∷ bytes) ≡ onto_first b (lines bytes)
+lines-other bytes b differs = let h : (b == LINE_END) ≡ false = ne_eqb b LINE_END differs in
+    ap (λ (v : Bool). if v then [] ∷ lines bytes else onto_first b (lines bytes)) h
 
 onto-length : (b : ℕ) (ls : List (List ℕ)) → 0 < length ls → length (onto_first b ls) ≡ length ls
 onto-length b [] some = absurd (omega (arith, some))

@@ -4,7 +4,9 @@
 
 mod drawing;
 pub mod laws;
+mod limits;
 mod places;
 
 pub use drawing::{LINE_END, draw_line, sign};
+pub use limits::the_limits;
 pub use places::{beg_of_line, line_beg, line_end, line_number, located};

@@ -1,6 +1,6 @@
 ghost use Rattle.std.specs.Prelude.{◌≡◌, ◌≢◌, ℕ, ◌+◌, ◌-◌, ◌<◌, ◌≤◌, ◌⊎◌, length, take, min, slice_index};
 ghost use Rattle.line_drawing.specs.declared.drawing.TheConstants.{LINE_END};
-ghost use Rattle.line_drawing.specs.Lines.{ends_in, beg_of};
+ghost use Rattle.line_drawing.specs.Lines.{ends_in, beg_of, end_of};
 ghost use Rattle.line_drawing.specs.Rows.{place_of};
 
 use crate::drawing::LINE_END;
@@ -12,6 +12,7 @@ pub fn line_end(bytes: &[u8], from: usize) -> usize
     ensures within { result ≤ length bytes.now }
     ensures between { (k : ℕ) → from ≤ k → k < result → slice_index bytes.now k ≢ LINE_END }
     ensures ends { result < length bytes.now → slice_index bytes.now result ≡ LINE_END }
+    ensures line { result ≡ end_of bytes.now (ends_in (take from bytes.now)) }
 {
     let mut end = from;
     while end < bytes.len() && bytes[end] != LINE_END {
@@ -26,6 +27,7 @@ pub fn line_beg(bytes: &[u8], pos: usize) -> usize
     ensures within { result ≤ pos }
     ensures begins { 0 < result → slice_index bytes.now (result - 1) ≡ LINE_END }
     ensures greatest { (k : ℕ) → result ≤ k → k < pos → slice_index bytes.now k ≢ LINE_END }
+    ensures line { result ≡ beg_of bytes.now (ends_in (take pos bytes.now)) }
 {
     let mut beg = pos;
     while beg > 0 && bytes[beg - 1] != LINE_END {

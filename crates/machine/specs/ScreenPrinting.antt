@@ -30,6 +30,7 @@ selection_line d w =
     option_map_or (λ m. line (codes "selection" ++ spaced (m.viewer ∷ m.window.text ∷ m.beg ∷ m.end ∷ [])))
     (marked d w) (line (codes "selection none"))
 
+-- the answer to `marks`: the line of the caret, and that of the selection
 abbrev pub marks_lines : DeskState → Screened → List ℕ
 marks_lines d w = caret_line d w ++ selection_line d w
 
@@ -45,6 +46,7 @@ track_lines d w track top (seat ∷ seats) =
     option_map_or (λ shown. viewer_line track seat top shown.0.text) (window_of d w seat.number) []
     ++ track_lines d w track (top + seat.height) seats
 
+-- the answer to `views`: a line per viewer, the user track first, then `ok`
 abbrev pub views_lines : DeskState → Screened → List ℕ
 views_lines d w =
     track_lines d w (codes "user") 0 w.tracks.user ++ track_lines d w (codes "system") 0 w.tracks.system
@@ -67,5 +69,6 @@ screen_line d w row =
     line (124 ∷ track_cells d w w.tracks.user (user_width w.tracks.width) row
     ++ track_cells d w w.tracks.system (w.tracks.width - user_width w.tracks.width) row ++ 124 ∷ [])
 
+-- the answer to `show`: a line per row, from the top
 abbrev pub screen_lines : DeskState → Screened → List ℕ
 screen_lines d w = flat_map (screen_line d w) (range_with_len 0 w.tracks.height)

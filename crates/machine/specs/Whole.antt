@@ -3,7 +3,7 @@
 use Rattle.std.specs.Prelude.{◌≡◌, ◌≢◌, ℕ, ℤ, pos, negsuc, ◌+◌, ◌-◌, ◌≤◌, ◌<◌, ◌⊎◌, ◌==◌, ◌&&◌, not, nat_le, nat_lt}
 use Rattle.std.specs.Prelude.{if◌then◌else◌, Bool, true, false, MatchBool, MatchOption, List, [], ◌∷◌, ◌++◌, length}
 use Rattle.std.specs.Prelude.{Option, Some, None, option_map, Result, Ok, Err, slice_get, slice_set}
-use Rattle.std.specs.Prelude.{codes, IsOk, MatchResult, nat_eq}
+use Rattle.std.specs.Prelude.{codes, IsOk, MatchResult, nat_eq, replicate}
 use Rattle.std.specs.Cmp.Lexicographic.{pointwise}
 use Rattle.std.specs.List.{list_all}
 use Rattle.std.specs.Option.{option_and_then, option_map_or}
@@ -20,10 +20,11 @@ use Rattle.reader_scanner.specs.Tokens.{IsTokenAt}
 use Rattle.reader_scanner.specs.declared.token.Token.{Token}
 use Rattle.reader_scanner.specs.declared.token.TokenValue.{TokenValue}
 use Rattle.reader_scanner.specs.declared.token.TokenValue.TheVariants as value
-use Rattle.text_file.specs.Files.{IsFileOf, IsNoFile, IsText, formatted}
+use Rattle.text_file.specs.Files.{IsFileOf, IsNoFile, formatted}
+use Rattle.text_file.specs.declared.TheConstants.{MAX_TEXT as MAX_STORED}
 use Rattle.texts.specs.Edit.{Edit, anchor_before, insertion, looks_change, recalling, restoration}
 use Rattle.texts.specs.TextState.{TextState, shown_items, shown_of, with_room}
-use Rattle.viewers.specs.Screen.{area_of, viewer_at}
+use Rattle.viewers.specs.Screen.{area_of}
 use Rattle.viewers.specs.declared.screen.Area.{Area}
 use Rattle.viewers.specs.declared.screen.Track.TheVariants.{User, System}
 use Rattle.command_words.specs.Calls.{IsCallAt, NoCallAt}
@@ -33,10 +34,10 @@ use Rattle.command_words.specs.declared.command.Command.{Command}
 use Rattle.command_words.specs.declared.command.Command.TheVariants as command
 use Rattle.shelf.specs.Files.{Files}
 use Rattle.machine.specs.DeskState.{DeskState, InText}
-use Rattle.machine.specs.Machine.{Does, Event, InDesk, IsTextAt, Reply, Short, State, edit, refuses}
+use Rattle.machine.specs.Machine.{Does, Event, InDesk, IsTextAt, Reply, Short, State, edit, new_state, refuses}
 use Rattle.machine.specs.ScreenPrinting.{marks_lines, screen_lines, views_lines}
-use Rattle.machine.specs.Windows.{Arrangement, Caret, Screened, Window, arranged, bytes_shown, close}
-use Rattle.machine.specs.Windows.{marked, open_in, place_in, position_in, window_of}
+use Rattle.machine.specs.Windows.{Arrangement, Caret, Screened, Window, arranged, blank_screen, bytes_shown, close}
+use Rattle.machine.specs.Windows.{marked, open_in, place_in, position_in, viewer_with, window_of}
 use Rattle.machine.specs.declared.TheConstants.{MAX_TEXT}
 
 -- the texts of all desks with the messages sent, the screen of each desk, and the files
@@ -44,6 +45,11 @@ pub record RunState : Type 0 where
   pub texts : State
   pub screens : List Screened
   pub files : Files
+
+-- as a run of count sites begins, over these files: no text has anything, and no viewer is open
+abbrev pub new_run : (first count width height : ℕ) → Files → RunState
+new_run first count width height files =
+    record { texts = new_state first count; screens = replicate count (blank_screen width height); files = files }
 
 -- what is printed of a screen
 pub data View : Type 0 where
@@ -71,8 +77,8 @@ pub data RunEvent : Type 0 where
   ask : (desk : ℕ) (t : Task) → RunEvent
   click : (desk col row : ℕ) → RunEvent
 
--- The files' part in an event: they weren't asked; or they did what they were asked; or they failed, and a file that was to
--- be written is left so.
+-- The files' part in an event: nothing came to them or from them; or they did what they were asked; or they failed, and a
+-- file that was to be written is left so.
 pub data Part : Type 0 where
   untouched : Part
   went_well : Part
@@ -101,16 +107,10 @@ pub record IsDeskAt (s : RunState) (i : ℕ) (d : DeskState) (w : Screened) : Ty
 abbrev pub with_screen_at : RunState → ℕ → Screened → RunState
 with_screen_at s i w = record s { screens = slice_set s.screens i w }
 
--- the state with a file of this name
-abbrev pub with_file : RunState → (name bytes : List ℕ) → RunState → Type 0
-with_file s name bytes new =
-    (new.texts ≡ s.texts) × (new.screens ≡ s.screens) × (new.files name ≡ Some bytes)
-    × ((other : List ℕ) → other ≢ name → new.files other ≡ s.files other)
-
--- the same where that file is left so by a failure
-abbrev pub LeavesFile : RunState → (name : List ℕ) → Option (List ℕ) → RunState → Type 0
-LeavesFile s name left new =
-    (new.texts ≡ s.texts) × (new.screens ≡ s.screens) × (new.files name ≡ left)
+-- the file of this name is so then, or there is none, and nothing else changes
+abbrev pub FileBecomes : RunState → (name : List ℕ) → Option (List ℕ) → RunState → Type 0
+FileBecomes s name file new =
+    (new.texts ≡ s.texts) × (new.screens ≡ s.screens) × (new.files name ≡ file)
     × ((other : List ℕ) → other ≢ name → new.files other ≡ s.files other)
 
 -- how one step of the machine of texts goes: where memory is there, or where it was refused
@@ -173,22 +173,32 @@ Searches s i w c t bytes r new =
     ⊎ (((q : ℕ) → place_in t c.anchor ≤ q → StandsAt bytes (bytes_shown t) q → ⊥) × (r ≡ not_found) × (new ≡ s))
 
 -- a load at the caret: the file wasn't read; or it is no text's; or its characters are put in
-abbrev pub Loads : TextSteps → RunState → (i : ℕ) → Screened → (name : List ℕ) → Part → Caret → Window → TextState
+abbrev pub Loads : RunState → (i : ℕ) → Screened → (name : List ℕ) → Part → Caret → Window → TextState
     → RunReply → RunState → Type 0
-Loads Steps s i w name untouched c window t r new = ⊥
-Loads Steps s i w name (failed left) c window t r new = Refuses s ReadFault r new
-Loads Steps s i w name went_well c window t r new =
+Loads s i w name untouched c window t r new = ⊥
+Loads s i w name (failed left) c window t r new = Refuses s ReadFault r new
+Loads s i w name went_well c window t r new =
     (file : List ℕ) × (s.files name ≡ Some file)
     × ((IsNoFile file × Refuses s BadFile r new)
-    ⊎ ((items : List Item) × IsFileOf items file × AtCaret Steps s i w c window t (λ p. insertion p items) r new))
+    ⊎ ((items : List Item) × IsFileOf items file × AtCaret Does s i w c window t (λ p. insertion p items) r new))
+
+-- the same where memory was refused: nothing was read; or a text's file was, of which nothing was put in, or a part
+abbrev pub LoadsShort : RunState → (i : ℕ) → Screened → (name : List ℕ) → Part → Caret → Window → TextState
+    → RunReply → RunState → Type 0
+LoadsShort s i w name untouched c window t r new = Refuses s OutOfMemory r new
+LoadsShort s i w name (failed left) c window t r new = ⊥
+LoadsShort s i w name went_well c window t r new =
+    (file : List ℕ) × (s.files name ≡ Some file)
+    × (((¬ IsNoFile file) × Refuses s OutOfMemory r new)
+    ⊎ ((items : List Item) × IsFileOf items file × AtCaret Short s i w c window t (λ p. insertion p items) r new))
 
 -- a store: the text is too long for a file; or the file is as the text is shown; or it wasn't written
 abbrev pub Stores : RunState → TextState → (name : List ℕ) → Part → RunReply → RunState → Type 0
-Stores s t name untouched r new = (¬ IsText (shown_items t)) × Refuses s BadFile r new
+Stores s t name untouched r new = (MAX_STORED < length (shown_items t)) × Refuses s BadFile r new
 Stores s t name went_well r new =
-    IsText (shown_items t) × (r ≡ done) × with_file s name (formatted (shown_items t)) new
+    (length (shown_items t) ≤ MAX_STORED) × (r ≡ done) × FileBecomes s name (Some (formatted (shown_items t))) new
 Stores s t name (failed left) r new =
-    IsText (shown_items t) × (r ≡ of_text (refuses WriteFault)) × LeavesFile s name left new
+    (length (shown_items t) ≤ MAX_STORED) × (r ≡ of_text (refuses WriteFault)) × FileBecomes s name left new
 
 -- an emptying of the room of a text
 abbrev pub Forgets : RunState → (i text : ℕ) → RunReply → RunState → Type 0
@@ -218,7 +228,7 @@ DoesTask s i d w (put items) part r new =
 DoesTask s i d w put_recalled part r new =
     IfCaret s d w part r new (λ c window t. (part ≡ untouched) × AtCaret Does s i w c window t recalling r new)
 DoesTask s i d w (load name) part r new =
-    IfCaret s d w part r new (λ c window t. Loads Does s i w name part c window t r new)
+    IfCaret s d w part r new (λ c window t. Loads s i w name part c window t r new)
 DoesTask s i d w (store text name) part r new =
     (t : TextState) × IsTextAt s.texts i text t × Stores s t name part r new
 DoesTask s i d w (search bytes) part r new =
@@ -239,11 +249,9 @@ ShortTask s i d w (put items) part r new =
 ShortTask s i d w put_recalled part r new =
     (part ≡ untouched) × WithCaret d w (λ c window t. AtCaret Short s i w c window t recalling r new)
 ShortTask s i d w (load name) part r new =
-    WithCaret d w (λ c window t. Refuses s OutOfMemory r new
-    ⊎ ((part ≡ went_well) × (file : List ℕ) × (items : List Item) × (s.files name ≡ Some file) × IsFileOf items file
-    × AtCaret Short s i w c window t (λ p. insertion p items) r new))
+    WithCaret d w (λ c window t. LoadsShort s i w name part c window t r new)
 ShortTask s i d w (store text name) part r new =
-    (part ≡ untouched) × ((t : TextState) × IsTextAt s.texts i text t × IsText (shown_items t))
+    (part ≡ untouched) × ((t : TextState) × IsTextAt s.texts i text t × (length (shown_items t) ≤ MAX_STORED))
     × Refuses s OutOfMemory r new
 ShortTask s i d w (search bytes) part r new = ⊥
 ShortTask s i d w (change text e) part r new = (part ≡ untouched) × OnText Short s (edit i text e) r new
@@ -286,11 +294,13 @@ bytes_told other = None
 abbrev pub Change : Type 0
 Change = Selection × Looks
 
+-- the font that a value tells, as a change of looks
 abbrev pub font_told : TokenValue → Option Change
 font_told (value.Name name) =
     Some (record { font = true; colour = false; offset = false }, record plain_looks { font = name })
 font_told other = None
 
+-- the colour that a value tells, alike
 abbrev pub colour_told : TokenValue → Option Change
 colour_told (value.Int (pos n)) =
     if nat_le n MAX_COLOUR
@@ -302,6 +312,7 @@ abbrev pub is_offset : ℤ → Bool
 is_offset (pos n) = nat_le n 127
 is_offset (negsuc n) = nat_le n 127
 
+-- the offset that a value tells, alike
 abbrev pub offset_told : TokenValue → Option Change
 offset_told (value.Int z) =
     if is_offset z
@@ -363,6 +374,7 @@ pub record Clicked : Type 0 where
   pub bytes : List ℕ
   pub pos : ℕ
 
+-- the same, for a cell of this area: in its first row that of the menu
 abbrev pub clicked_in : (v : ℕ) → Area → (col row : ℕ) → Window × TextState → Clicked
 clicked_in v area col row shown =
     if row == area.top
@@ -378,7 +390,7 @@ clicked_in v area col row shown =
 abbrev pub clicked : DeskState → Screened → (col row : ℕ) → Option Clicked
 clicked d w col row =
     option_and_then (λ v. option_and_then (λ area. option_map (clicked_in v area col row) (window_of d w v))
-    (area_of w.tracks v)) (viewer_at w.tracks col row)
+    (area_of w.tracks v)) (viewer_with w col row)
 
 -- the task of a click into this cell: no viewer is there; no call stands there; or that of the call
 abbrev pub IsTaskAt : DeskState → Screened → (col row : ℕ) → Task → Type 0

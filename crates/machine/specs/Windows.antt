@@ -1,6 +1,6 @@
 -- A site's screen: what its viewers show, its caret, and what is selected. Neither cells nor positions are kept: both follow
 -- from the texts.
-use Rattle.std.specs.Prelude.{ℕ, suc, ◌+◌, ◌-◌, ◌/◌, ◌^◌, ◌==◌, ◌&&◌, ◌||◌, not, nat_le, nat_lt, Bool, false, if◌then◌else◌}
+use Rattle.std.specs.Prelude.{ℕ, ◌+◌, ◌-◌, ◌^◌, ◌==◌, ◌&&◌, ◌||◌, not, nat_le, nat_lt, Bool, false, if◌then◌else◌}
 use Rattle.std.specs.Prelude.{List, [], ◌∷◌, ◌++◌, length, map, filter, take, min, max}
 use Rattle.std.specs.Prelude.{Option, Some, None, option_map, Result, Ok, Err, slice_get}
 use Rattle.std.specs.Option.{option_and_then, option_map_or}
@@ -15,7 +15,7 @@ use Rattle.texts.specs.TextState.{TextState, shown_of}
 use Rattle.line_drawing.specs.Lines.{beg_of, ends_in}
 use Rattle.line_drawing.specs.Rows.{Row, row_of, place_of}
 use Rattle.viewers.specs.Screen.{ScreenSeen, area_of, has, seats_of, viewer_at, with_seats}
-use Rattle.viewers.specs.Tracks.{can_move, can_open, closed, height_at, moved, opened, place as seat_of, top}
+use Rattle.viewers.specs.Tracks.{can_move, can_open, closed, moved, opened, place as seat_of, row_for}
 use Rattle.viewers.specs.declared.screen.Area.{Area}
 use Rattle.viewers.specs.declared.screen.Track.{Track}
 use Rattle.viewers.specs.declared.screen.Track.TheVariants.{User, System}
@@ -112,12 +112,16 @@ pointed_in v area col row shown = record {
   pos = position_in shown.1 shown.0.anchor area.width (col - area.col) (row - area.top - 1);
 }
 
+-- the viewer that has a cell; none in a blank track and outside the screen
+abbrev pub viewer_with : Screened → (col row : ℕ) → Option ℕ
+viewer_with w col row = if nat_lt row w.tracks.height then viewer_at w.tracks col row else None
+
 -- what a cell of the screen points at; nothing in a menu, in a blank track and outside the screen
 abbrev pub pointed : DeskState → Screened → (col row : ℕ) → Option Pointed
 pointed d w col row =
     option_and_then (λ v. option_and_then (λ area.
     if row == area.top then None else option_map (pointed_in v area col row) (window_of d w v))
-    (area_of w.tracks v)) (viewer_at w.tracks col row)
+    (area_of w.tracks v)) (viewer_with w col row)
 
 -- where a selection begins and ends in its text, as it is shown
 abbrev pub stretch_in : TextState → Selected → ℕ × ℕ
@@ -131,6 +135,7 @@ pub record Marked : Type 0 where
   pub beg : ℕ
   pub end : ℕ
 
+-- what a selection marks of what its viewer shows
 abbrev pub marked_as : Selected → Window × TextState → Option Marked
 marked_as s shown =
     if nat_lt (stretch_in shown.1 s).0 (stretch_in shown.1 s).1 then Some (record {
@@ -142,6 +147,7 @@ marked_as s shown =
     })
     else None
 
+-- what is marked on a screen
 abbrev pub marked : DeskState → Screened → Option Marked
 marked d w = option_and_then (λ s. option_and_then (marked_as s) (window_of d w s.viewer)) w.selected
 
@@ -163,24 +169,13 @@ Arranged = Result (Screened × Option ℕ) Refusal
 abbrev pub is_open : Screened → ℕ → Bool
 is_open w v = has w.tracks.user v || has w.tracks.system v
 
--- the seats of the track in which a viewer stands, and the screen with others in their place
+-- the track in which a viewer stands
 abbrev pub track_of : Screened → ℕ → Track
 track_of w v = if has w.tracks.user v then User else System
 
+-- the screen with these seats in a track
 abbrev pub with_track : Screened → Track → List Seat → Screened
 with_track w track seats = record w { tracks = with_seats w.tracks track seats }
-
--- the index of the tallest seat, the topmost of equals
-abbrev pub tallest : List Seat → ℕ
-tallest [] = 0
-tallest (s ∷ []) = 0
-tallest (s ∷ t ∷ seats) =
-    if nat_le (height_at (t ∷ seats) (tallest (t ∷ seats))) s.height then 0 else suc (tallest (t ∷ seats))
-
--- the row at which a viewer opens: the one that is named, or the middle of the tallest viewer
-abbrev pub row_for : List Seat → Option ℕ → ℕ
-row_for seats (Some row) = row
-row_for seats None = top seats (tallest seats) + height_at seats (tallest seats) / 2
 
 -- whether a row that is named lies below the screen
 abbrev pub is_row_below : Screened → Option ℕ → Bool
@@ -199,6 +194,7 @@ with_next w track seats text row =
       windows = w.windows ++ (w.next, record { text = text; anchor = Root }) ∷ [];
     }
 
+-- an opening: refused for its row, else for want of room
 abbrev pub opened_at : Screened → Track → (text : ℕ) → Option ℕ → Arranged
 opened_at w track text row =
     if is_row_below w row then Err OutOfRange
@@ -222,10 +218,12 @@ closed_at w v =
     )
     else Err NoViewer
 
+-- a move of the top of the viewer at this index of a track: refused for want of room
 abbrev pub moved_in : Screened → Track → List Seat → (i row : ℕ) → Arranged
 moved_in w track seats i row =
     if can_move seats i row then Ok (with_track w track (moved seats i row), None) else Err NoRoom
 
+-- a move of a viewer's top: refused for the viewer, else for the row, else for want of room
 abbrev pub moved_to : Screened → (v row : ℕ) → Arranged
 moved_to w v row =
     if is_open w v then
@@ -237,6 +235,7 @@ moved_to w v row =
 abbrev pub line_anchor : TextState → ℕ → Anchor
 line_anchor t line = anchor_before (shown_of t) (beg_of (bytes_shown t) (min line (ends_in (bytes_shown t))))
 
+-- a scrolling: the viewer begins with this line then
 abbrev pub scrolled_in : DeskState → Screened → (v line : ℕ) → Arranged
 scrolled_in d w v line =
     option_map_or (λ shown. Ok (
@@ -248,6 +247,7 @@ scrolled_in d w v line =
     ))
     (window_of d w v) (Err NoViewer)
 
+-- a pointing: the caret stands behind the character ahead of the position, or at the beginning
 abbrev pub pointed_to : DeskState → Screened → (col row : ℕ) → Arranged
 pointed_to d w col row =
     option_map_or (λ at. Ok (
@@ -270,6 +270,7 @@ selected_between w at pos =
     (selected_from at.viewer at.text (min at.pos pos) (min (max at.pos pos + 1) (length (shown_of at.text))))
     (Err OutOfRange)
 
+-- a selecting, by two cells below the menu of one viewer
 abbrev pub selected_by : DeskState → Screened → (col row col' row' : ℕ) → Arranged
 selected_by d w col row col' row' =
     option_map_or (λ at. option_map_or (λ other.

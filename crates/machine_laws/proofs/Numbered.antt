@@ -26,7 +26,7 @@ use Rattle.texts.specs.declared.TheConstants.{MAX_SEQ}
 use Rattle.texts.specs.declared.edit_refusal.EditRefusal.{EditRefusal}
 use Rattle.texts.specs.declared.edit_refusal.EditRefusal.TheVariants.{Whole, Partial}
 use Rattle.texts.specs.declared.fate.Fate.{Fate}
-use Rattle.texts.specs.declared.fate.Fate.TheVariants.{OtherText, Known, Conflicting, AlreadyWaits, Wait, WrongOffset}
+use Rattle.texts.specs.declared.fate.Fate.TheVariants.{OtherText, Known, Conflicting, AlreadyWaits, Wait, Misfit}
 use Rattle.texts.specs.declared.fate.Fate.TheVariants.{LowStamp, Ready}
 use Rattle.texts.specs.declared.merge_refusal.MergeRefusal.{MergeRefusal}
 use Rattle.texts.specs.declared.merge_refusal.MergeRefusal.TheVariants.{Whole as MergesNothing, Stopped}
@@ -122,7 +122,7 @@ becomes t op Known result new fits stays is = subst HasNumbers (sym stays.1) is
 becomes t op Conflicting result new fits stays is = subst HasNumbers (sym stays.1) is
 becomes t op AlreadyWaits result new fits stays is = subst HasNumbers (sym stays.1) is
 becomes t op Wait result new fits does is = enters _ t op result new fits does is
-becomes t op WrongOffset result new fits stays is = subst HasNumbers (sym stays.1) is
+becomes t op Misfit result new fits stays is = subst HasNumbers (sym stays.1) is
 becomes t op LowStamp result new fits stays is = subst HasNumbers (sym stays.1) is
 becomes t op Ready result new fits does is = taken_in t op false result new fits does is
 

@@ -40,7 +40,7 @@ one_element : {A : Type 0} (o : Option A) (x y : A) → o ≡ Some x → o ≡ S
 one_element o x y at_x at_y = same_Some x y (sym at_x ∙ at_y)
 
 -- a place has one text
-one_text : (s : State) (i text : ℕ) (t u : TextState) → IsTextAt s i text t → IsTextAt s i text u → t ≡ u
+pub one_text : (s : State) (i text : ℕ) (t u : TextState) → IsTextAt s i text t → IsTextAt s i text u → t ≡ u
 one_text s i text t u (d, at, there) (d', at', there') =
     let same : d ≡ d' = one_element (slice_get s.desks i) d d' at at' in
     one_element (slice_get d'.texts (text - 1)) t u (subst (λ (x : DeskState). IsTextOf x text t) same there) there'

@@ -15,9 +15,9 @@ use Rattle.operations.specs.Operation.{Operation}
 use Rattle.tree_order.specs.Good.{Good}
 use Rattle.tree_order.specs.Sequential.{OneWriterGoesBehindCauses}
 use Rattle.set_laws.specs.Sets.{AreIdentified}
-use Rattle.texts.specs.Edit.{Edit, is_in_text, plan, with_operation}
+use Rattle.texts.specs.Edit.{Edit, is_in_text, plan}
 use Rattle.texts.specs.Laws.{OwnEditsArePlain}
-use Rattle.texts.specs.Outcome.{Edits, EditsShort, Stand, count_standing, first_refusal, refusal_for, refusal_or}
+use Rattle.texts.specs.Outcome.{Edits, EditsShort, Stand, count_standing, refusal_or}
 use Rattle.texts.specs.Merge.{Merges, MergesShort}
 use Rattle.texts.specs.Take.{Becomes, HasFate, Stays, TakesIn}
 use Rattle.texts.specs.Text.{IsText}
@@ -25,7 +25,7 @@ use Rattle.texts.specs.TextState.{TextState, empty_text}
 use Rattle.texts.specs.declared.edit_refusal.EditRefusal.{EditRefusal}
 use Rattle.texts.specs.declared.edit_refusal.EditRefusal.TheVariants.{Whole, Partial}
 use Rattle.texts.specs.declared.fate.Fate.{Fate}
-use Rattle.texts.specs.declared.fate.Fate.TheVariants.{OtherText, Known, Conflicting, AlreadyWaits, Wait, WrongOffset}
+use Rattle.texts.specs.declared.fate.Fate.TheVariants.{OtherText, Known, Conflicting, AlreadyWaits, Wait, Misfit}
 use Rattle.texts.specs.declared.fate.Fate.TheVariants.{LowStamp, Ready}
 use Rattle.texts.specs.declared.merge_refusal.MergeRefusal.{MergeRefusal}
 use Rattle.texts.specs.declared.merge_refusal.MergeRefusal.TheVariants.{Whole as MergesNothing, Stopped}
@@ -37,6 +37,7 @@ use Rattle.machine.specs.Machine.{IsTextAt, MergesText, MergesTextShort, Replies
 use Rattle.machine.specs.Machine.{TakesText, TakesTextShort, copied, copy, edit, is_copy_in, merge, message_in}
 use Rattle.machine.specs.Machine.{messages_of, new_state, query, refuses, settle, unknown}
 use Rattle.machine.specs.Machine.{take as taking}
+use Rattle.convergence.proofs.OwnOperations.{standing_within}
 use Rattle.machine_laws.proofs.Rooms.{by_test, drained_is_text, entered}
 
 -- an element of a list in which one was set is that one or was there before
@@ -68,7 +69,7 @@ empty_is_text good identified order text site = record {
     bytes = All-nil _;
     looks = All-nil _;
   };
-  kept = λ c named. absurd (no_name c named);
+  deleted = λ c named. absurd (no_name c named);
   in_order = λ n. first_of_none good n;
   waiting = record { of_text = All-nil _; identified = identified; few = omega arith };
 }
@@ -136,7 +137,7 @@ after_fate t op Known result new does fate is = stayed t new _ result does is
 after_fate t op Conflicting result new does fate is = stayed t new _ result does is
 after_fate t op AlreadyWaits result new does fate is = stayed t new _ result does is
 after_fate t op Wait result new does fate is = entered t op result new does fate is
-after_fate t op WrongOffset result new does fate is = stayed t new _ result does is
+after_fate t op Misfit result new does fate is = stayed t new _ result does is
 after_fate t op LowStamp result new does fate is = stayed t new _ result does is
 after_fate t op Ready result new does fate is = taken_in_text t op false result new does
 
@@ -199,12 +200,6 @@ within_more : (why : Option Refusal) (later : Option (ℕ × Refusal)) (len : �
 within_more (Some why) later len le = omega arith
 within_more None None len le = omega arith
 within_more None (Some stop) len le = omega arith
-
-standing_within : (t : TextState) (ops : List Operation) → count_standing t ops ≤ length ops
-standing_within t [] = omega arith
-standing_within t (op ∷ ops) =
-    let after_it = with_operation t op in
-    within_more (refusal_for t op.kind) (first_refusal after_it ops) (length ops) (standing_within after_it ops)
 
 module _ (plain : OwnEditsArePlain) where
   -- the first of an edit's operations leave the text defined

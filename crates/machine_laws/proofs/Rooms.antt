@@ -4,51 +4,25 @@ use Rattle.std.proofs.Common.{sym, ap, subst, ◌∙◌, inl, inr, arith, length
 use Rattle.std.specs.Prelude.{◌⊎◌, MatchBool}
 use Rattle.std.proofs.lemmas.Bool.{ltb-true}
 use Rattle.std.proofs.lemmas.List.Elements.{All-contains, All-contains_itself, All-push, All-weaker}
-use Rattle.std.proofs.lemmas.List.Elements.{Contains-append_cases, Contains-append_left, Contains-append_right}
 use Rattle.std.proofs.lemmas.List.Elements.{Contains-push_cases}
 use Rattle.looks.specs.declared.refusal.Refusal.{Refusal}
 use Rattle.looks.specs.declared.refusal.Refusal.TheVariants.{RoomFull}
 use Rattle.operations.specs.Operation.{Operation}
 use Rattle.set_laws.specs.Fronts.{IsHeld}
 use Rattle.set_laws.specs.Sets.{AreIdentified, IsPartOf}
-use Rattle.texts.specs.Draining.{Drains, IsNextOut, ends, stops, takes_in, throws_away}
+use Rattle.texts.specs.Draining.{Drains, ends, stops, takes_in, throws_away}
 use Rattle.texts.specs.Take.{Enters, HasFate, Stays}
 use Rattle.texts.specs.Text.{AreWaitingFor, IsText}
 use Rattle.texts.specs.TextState.{TextState, with_room}
 use Rattle.texts.specs.declared.fate.Fate.TheVariants.{Wait}
 use Rattle.texts.specs.declared.took.Took.{Took}
 use Rattle.texts.specs.declared.took.Took.TheVariants.{Waits}
-
--- the identities of a part are its own
-part_identified : (a b : List Operation) → IsPartOf a b → AreIdentified b → AreIdentified a
-part_identified a b part known = record {
-  counted = λ op held. known.counted op (part op held);
-  unique = λ x y held other. known.unique x y (part x held) (part y other);
-}
+use Rattle.convergence.proofs.OneWay.{text_with_room, text_without}
 
 -- what holds of all holds of a part
 part_all : (P : Operation → Type 0) (a b : List Operation) → IsPartOf a b → All P b → All P a
 part_all P a b part all =
     All-weaker (Contains a) P (λ x held. All-contains P b x all (part x held)) a (All-contains_itself a)
-
--- without one of them, the others are a part
-part_without : (ahead behind : List Operation) (op : Operation) → IsPartOf (ahead ++ behind) (ahead ++ op ∷ behind)
-part_without ahead behind op x held =
-    elim (Contains-append_cases ahead behind x held) [
-      | inl here ↦ Contains-append_left ahead (op ∷ behind) x here
-      | inr there ↦ Contains-append_right ahead (op ∷ behind) x (Contains-append_right (op ∷ []) behind x there)
-    ]
-
--- without one of them, the others wait as they did
-wait_without : (text : ℕ) (ahead behind : List Operation) (op : Operation) → AreWaitingFor text (ahead ++ op ∷ behind)
-    → AreWaitingFor text (ahead ++ behind)
-wait_without text ahead behind op waiting =
-    let part = part_without ahead behind op in
-    record {
-      of_text = part_all (λ o. o.text ≡ text) (ahead ++ behind) (ahead ++ op ∷ behind) part waiting.of_text;
-      identified = part_identified (ahead ++ behind) (ahead ++ op ∷ behind) part waiting.identified;
-      few = omega (arith, waiting.few, length-append ahead behind, length-append ahead (op ∷ behind));
-    }
 
 -- one more has an identity of its own, if none waits under it
 identified_with : (room : List Operation) (op : Operation) → AreIdentified room → 0 < op.seq
@@ -81,19 +55,6 @@ pub by_test : (b : Bool) (P Q : Type 0) → MatchBool b P Q → ((b ≡ true) ×
 by_test true P Q h = inl (refl, h)
 by_test false P Q h = inr (refl, h)
 
--- a text in which others wait is what its operations define
-with_room-is_text : (t : TextState) (room : List Operation) → AreWaitingFor t.text room → IsText t
-    → IsText (with_room t room)
-with_room-is_text t room waiting is = record {
-  good = is.good;
-  in_order = is.in_order;
-  identified = is.identified;
-  of_text = is.of_text;
-  chars = is.chars;
-  kept = is.kept;
-  waiting = waiting;
-}
-
 -- what enters the room leaves a text that is what its operations define
 pub entered : (t : TextState) (op : Operation) (result : Result Took Refusal) (new : TextState)
     → Enters t op result new → HasFate t op Wait → IsText t → IsText new
@@ -107,16 +68,9 @@ entered t op result new enters (unheld, (of_it, is_new, verdict)) is =
             identified = identified_with t.waiting_room op is.waiting.identified is_new.counted unheld;
             few = omega (arith, place, length-append t.waiting_room (op ∷ []));
           } in
-          subst IsText (sym there_is_a_place.1.1) (with_room-is_text t (t.waiting_room ++ op ∷ []) more is)
+          subst IsText (sym there_is_a_place.1.1) (text_with_room t (t.waiting_room ++ op ∷ []) is more)
       | inr there_is_none ↦ subst IsText (sym there_is_none.1.1) is
     ]
-
--- so is one that an operation left
-left : (t : TextState) (ahead behind : List Operation) (op : Operation) → IsNextOut t ahead op behind → IsText t
-    → IsText (with_room t (ahead ++ behind))
-left t ahead behind op next is =
-    let room = subst (AreWaitingFor t.text) next.room is.waiting in
-    with_room-is_text t (ahead ++ behind) (wait_without t.text ahead behind op room) is
 
 -- draining leaves a text that is what its operations define
 pub drained_is_text : {t new : TextState} {drained dropped : ℕ} {stopped : Bool} → Drains t drained dropped stopped new
@@ -125,4 +79,4 @@ drained_is_text (ends all) is = is
 drained_is_text (stops ahead behind op next judged) is = is
 drained_is_text (takes_in ahead behind op next judged taken rest) is = drained_is_text rest taken.is
 drained_is_text {t} (throws_away ahead behind op next thrown rest) is =
-    drained_is_text rest (left t ahead behind op next is)
+    drained_is_text rest (text_without t ahead behind op is next)

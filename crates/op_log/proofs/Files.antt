@@ -1,10 +1,10 @@
 -- Sites' files by their operations' seqs, and those of a list with one operation more.
-use Rattle.std.proofs.Common.{◌≡◌, ℕ, zero, suc, ◌≤◌, inl, inr, max, cond, eqb, ◌&&◌, List, [], ◌∷◌, ◌++◌}
+use Rattle.std.proofs.Common.{◌≡◌, ℕ, zero, suc, ◌≤◌, inl, inr, cond, eqb, ◌&&◌, List, [], ◌∷◌, ◌++◌}
 use Rattle.std.proofs.Common.{Contains, refl, ap, subst, eq-eqb, arith}
 use Rattle.std.proofs.lemmas.Bool.{and_parts, cases_Bool, cond-true, cond-false, eqb-true}
 use Rattle.operations.specs.Operation.{Operation, appended_len}
 use Rattle.tree_order.specs.Good.{appended_len_at, file_before}
-use Rattle.set_laws.specs.Fronts.{greatest, of_site, front_of}
+use Rattle.set_laws.specs.Fronts.{of_site, front_of}
 use Rattle.set_laws.specs.Sets.{AreIdentified}
 use Rattle.set_laws.proofs.Fronts.{up_to_front}
 use Rattle.set_laws.proofs.Lengths.{appended_none}
@@ -13,11 +13,6 @@ use Rattle.set_laws.proofs.Lengths.{appended_none}
 pub within_front : (ops : List Operation) (op : Operation) (site : ℕ) → Contains ops op → op.site ≡ site
     → op.seq ≤ front_of ops site
 within_front ops op site held on = subst (λ (s : ℕ). op.seq ≤ front_of ops s) on (up_to_front ops op held)
-
-pub greatest-push : (f : Operation → ℕ) (ops : List Operation) (op : Operation)
-    → greatest f (ops ++ op ∷ []) ≡ max (f op) (greatest f ops)
-greatest-push f [] op = refl
-greatest-push f (o ∷ ops) op = let rest = greatest-push f ops op in omega (arith, rest)
 
 -- a number of the operation counts for its own site alone
 pub of_own : (f : Operation → ℕ) (op : Operation) (site : ℕ) → op.site ≡ site → of_site site f op ≡ f op

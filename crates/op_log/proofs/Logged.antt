@@ -9,10 +9,11 @@ use Rattle.char_files.specs.CharName.{CharName}
 use Rattle.operations.specs.Operation.{Operation}
 use Rattle.tree_order.specs.Good.{file_before}
 use Rattle.tree_order.specs.Tree.{IsInsertOf}
+use Rattle.tree_order.proofs.Files.{file_before_grows}
 use Rattle.set_laws.specs.Fronts.{front_of, file_len, IsHeld}
 use Rattle.set_laws.specs.Sets.{AreIdentified, AreHeldToTheFront}
 use Rattle.set_laws.proofs.Covered.{from_span, one_insert}
-use Rattle.set_laws.proofs.Lengths.{appended_by, file_grows}
+use Rattle.set_laws.proofs.Lengths.{appended_by}
 use Rattle.op_log.specs.declared.site_log.Entry.{Entry}
 use Rattle.op_log.specs.Tables.{SiteSeen, Tables, table_of, end_of, IsFirstPast}
 use Rattle.op_log.specs.Logged.{IsEntryOf, IsTableOf, AreLogged}
@@ -71,7 +72,7 @@ module _ {ops : List Operation} (known : AreIdentified ops) {site : ℕ} {t : Si
   ends_rise i j d le lt =
       let first = ends_at i (get_or t.entries i d) (slice_get-get_or t.entries i d (omega arith)) in
       let last = ends_at j (get_or t.entries j d) (slice_get-get_or t.entries j d lt) in
-      let grows = file_grows ops site (suc (suc i)) (suc (suc j)) (omega arith) in
+      let grows = file_before_grows ops site (suc (suc i)) (suc (suc j)) (omega arith) in
       omega (arith, first, last, grows)
 
   -- behind the entries ahead of the first one past an offset, the file is no longer than that

@@ -8,9 +8,10 @@ use Rattle.std.proofs.lemmas.List.Elements.{Contains-push, Contains-push_cases, 
 use Rattle.std.proofs.lemmas.List.Quantifiers.{all_pairs_push}
 use Rattle.char_files.specs.declared.TheConstants.{MAX_FILE}
 use Rattle.operations.specs.Operation.{Operation, OpKind, insert, delete, restore, change_looks, appended_len}
+use Rattle.operations.specs.Operation.{Begins}
 use Rattle.operations.specs.Spelling.{IsKind}
 use Rattle.operations.specs.declared.op.TheConstants.{MAX_STAMP}
-use Rattle.tree_order.specs.Good.{Begins, file_before}
+use Rattle.tree_order.specs.Good.{file_before}
 use Rattle.set_laws.specs.Fronts.{greatest, of_site, front_of, file_len, greatest_stamp_of}
 use Rattle.set_laws.specs.Sets.{AreIdentified}
 use Rattle.set_laws.proofs.Lengths.{appended_by}
@@ -18,9 +19,10 @@ use Rattle.set_laws.proofs.OneMore.{with_one, with_one_identified}
 use Rattle.op_log.specs.declared.site_log.Entry.{Entry}
 use Rattle.op_log.specs.Tables.{SiteSeen, Tables, end_of, table_of}
 use Rattle.op_log.specs.Logged.{IsEntryOf, IsTableOf, AreLogged}
+use Rattle.set_laws.proofs.Counting.{greatest-push}
 use Rattle.op_log.proofs.Lists.{slice_get-append_left, slice_get-push, slice_get-push_cases}
 use Rattle.op_log.proofs.Logged.{file_told}
-use Rattle.op_log.proofs.Files.{within_front, greatest-push, of_own, same_before}
+use Rattle.op_log.proofs.Files.{within_front, of_own, same_before}
 
 -- what an operation appends to the end of its site's file stays within it
 fits_at_end : (site len : ℕ) (kind : OpKind) → IsKind site kind → Begins kind len → len ≤ MAX_FILE

@@ -1,8 +1,8 @@
 -- How the tables of a log agree with its operations.
 use Rattle.std.specs.Prelude.{◌≡◌, ℕ, suc, ◌≤◌, List, length, slice_get, Some, Contains, AllPairs, map, filter, ◌==◌}
-use Rattle.operations.specs.Operation.{Operation}
+use Rattle.operations.specs.Operation.{Operation, Begins}
 use Rattle.operations.specs.declared.op.TheConstants.{MAX_STAMP}
-use Rattle.tree_order.specs.Good.{Begins, file_before}
+use Rattle.tree_order.specs.Good.{file_before}
 use Rattle.set_laws.specs.Fronts.{front_of, greatest_stamp, greatest_stamp_of}
 use Rattle.set_laws.specs.Sets.{AreIdentified}
 use Rattle.op_log.specs.declared.site_log.Entry.{Entry}

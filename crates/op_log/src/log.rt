@@ -1,8 +1,7 @@
 ghost use Rattle.std.specs.Prelude.{◌≡◌, ◌+◌, ◌≤◌, ◌↔◌, [], ◌∷◌, ◌++◌, length, IfSome, IsSome, OnOk};
 ghost use Rattle.std.specs.Prelude.{◌≢◌, AllPairs, Contains, IfOk, IsTrue};
 ghost use Rattle.looks.specs.Refusal.{RefusedForMemoryAlone};
-ghost use Rattle.operations.specs.Operation.{Operation, appended_len};
-ghost use Rattle.tree_order.specs.Good.{Begins};
+ghost use Rattle.operations.specs.Operation.{Operation, appended_len, Begins};
 ghost use Rattle.tree_order.specs.Tree.{IsInsertOf};
 ghost use Rattle.set_laws.specs.Fronts.{front_of, file_len, greatest_stamp, greatest_stamp_of};
 ghost use Rattle.set_laws.specs.Fronts.{IsHeld, IsHere, AreSites};
@@ -149,7 +148,7 @@ impl Log {
         ensures found { (i : Operation) × IsInsertOf self.now.ops name i × (result ≡ i.stamp) }
         ensures only { (i : Operation) → IsInsertOf self.now.ops name i → result ≡ i.stamp }
     {
-        self.sites.find(name).stamp
+        self.sites.entry_of(name).stamp
     }
 
     /// The sites that have operations, ascending. The time grows with the number of operations. Refused

@@ -138,7 +138,7 @@ impl SiteLog {
     }
 
     // The first operation behind which the site's file is longer than this.
-    pub(crate) fn find(&self, off: u32) -> Entry
+    pub(crate) fn entry_past(&self, off: u32) -> Entry
         requires rising { IsNonDecreasingBy (λ e. e.end) self.now.entries }
         requires within { off < end_of self.now.entries }
         ensures { IsFirstPast self.now.entries off result }

@@ -105,13 +105,13 @@ impl SiteTables {
     }
 
     // The first operation of the name's site behind which that one's file has the name.
-    pub(crate) fn find(&self, name: Name) -> Entry
+    pub(crate) fn entry_of(&self, name: Name) -> Entry
         requires rising { IsNonDecreasingBy (λ e. e.end) (table_of self.now name.site).entries }
         requires within { name.off < end_of (table_of self.now name.site).entries }
         ensures { IsFirstPast (table_of self.now name.site).entries name.off result }
     {
         match self.sites.get(&name.site().get()) {
-            Some(table) => table.find(name.off()),
+            Some(table) => table.entry_past(name.off()),
             None => unreachable!(),
         }
     }

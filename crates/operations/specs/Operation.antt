@@ -1,5 +1,6 @@
 -- What an operation is, and which names it inserts and mentions.
 use Rattle.std.specs.Prelude.{◌≡◌, ℕ, List, [], ◌∷◌, length}
+use Rattle.looks.specs.declared.key.Key.{Key}
 use Rattle.looks.specs.declared.looks.Looks.{Looks}
 use Rattle.looks.specs.Sel.{Selection}
 use Rattle.char_files.specs.CharName.{CharName}
@@ -24,12 +25,23 @@ pub record Operation : Type 0 where
   pub stamp : ℕ
   pub kind : OpKind
 
+-- the key of an operation
+abbrev pub key_of : Operation → Key
+key_of op = record { stamp = op.stamp; site = op.site }
+
 -- how many bytes an operation appends to its site's file
 abbrev pub appended_len : OpKind → ℕ
 appended_len (insert cause at looks bytes) = length bytes
 appended_len (delete names) = 0
 appended_len (restore names) = 0
 appended_len (change_looks sel looks names) = 0
+
+-- an Insert says this length of its site's file
+abbrev pub Begins : OpKind → ℕ → Type 0
+Begins (insert cause at looks bytes) len = at ≡ len
+Begins (delete names) len = Unit {0}
+Begins (restore names) len = Unit {0}
+Begins (change_looks sel looks names) len = Unit {0}
 
 -- what an Insert of this site inserts; the other kinds insert nothing
 abbrev pub InsertsBy : ℕ → OpKind → CharName → Type 0

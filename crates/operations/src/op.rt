@@ -1,11 +1,12 @@
 ghost use Rattle.std.specs.Prelude.{◌≡◌, ◌↔◌, IsTrue, IsSome, IfSome, IfOk};
 ghost use Rattle.looks.specs.Refusal.{RefusedForMemoryAlone};
+ghost use Rattle.operations.specs.Operation.{Begins, key_of};
 ghost use Rattle.operations.specs.Spelling.{HasSpelling};
 ghost use Rattle.operations.specs.Seen.{kind_of, operation_with};
 
 use crate::kind::Kind;
 use char_files::{SiteNo, TextNo};
-use looks::Refusal;
+use looks::{Key, Refusal};
 use std::marker::Model;
 
 /// The greatest stamp: 2^48 - 1. This project's own.
@@ -112,11 +113,31 @@ impl Op {
         self.stamp
     }
 
+    /// Its key: the stamp, then the site, by which siblings and registers are ordered.
+    pub fn key(&self) -> Key
+        ensures { result ≡ key_of self.now }
+    {
+        Key {
+            stamp: self.stamp,
+            site: self.site.get(),
+        }
+    }
+
     /// What it does.
     pub fn kind(&self) -> &Kind
         ensures { kind_of result.now ≡ self.now.kind }
     {
         &self.kind
+    }
+
+    /// Whether an Insert says this length of its site's file; the other kinds say none.
+    pub fn begins_at(&self, len: u64) -> bool
+        ensures { IsTrue result ↔ Begins self.now.kind len }
+    {
+        match self.kind() {
+            Kind::Insert { at, .. } => u64::from(*at) == len,
+            Kind::Delete { .. } | Kind::Restore { .. } | Kind::ChangeLooks { .. } => true,
+        }
     }
 
     /// A law: an operation has a spelling. A proof gets it by calling this, at no cost.

@@ -8,9 +8,9 @@ use Rattle.std.proofs.lemmas.List.{get_or-take, get_or_default, length-take}
 use Rattle.std.proofs.lemmas.List.Folds.{Any-from_list_any, list_any_more}
 use Rattle.char_files.specs.CharName.{CharName}
 use Rattle.operations.specs.NameSet.{Range, IsIn, IsAhead, IsSet, range_contains}
-use Rattle.tree_order.specs.Registers.{Kept, if_named}
+use Rattle.tree_order.specs.Registers.{Atom, if_named}
 use Rattle.piece_list.specs.Changing.{AreHere}
-use Rattle.piece_list.specs.Spelled.{names_of_kept, HasName}
+use Rattle.piece_list.specs.Spelled.{names_of_atoms, HasName}
 use Rattle.piece_list.proofs.Changes.{contained, is_contained}
 
 abbrev pub range : ℕ → ℕ → ℕ → Range
@@ -28,26 +28,26 @@ pub true_is_not : (b : Bool) → b ≡ true → b ≡ false → ⊥
 true_is_not b has hasnt = absurd cc
 
 -- a map that changes nothing, and one map after another
-map_same : (f : Kept → Kept) → ((k : Kept) → f k ≡ k) → (ks : List Kept) → map f ks ≡ ks
+map_same : (f : Atom → Atom) → ((k : Atom) → f k ≡ k) → (ks : List Atom) → map f ks ≡ ks
 map_same f same [] = refl
 map_same f same (k ∷ ks) =
-    ap (λ (x : Kept). x ∷ map f ks) (same k) ∙ ap (λ (l : List Kept). k ∷ l) (map_same f same ks)
+    ap (λ (x : Atom). x ∷ map f ks) (same k) ∙ ap (λ (l : List Atom). k ∷ l) (map_same f same ks)
 
-map_both : (f g h : Kept → Kept) → ((k : Kept) → g (f k) ≡ h k) → (ks : List Kept)
+map_both : (f g h : Atom → Atom) → ((k : Atom) → g (f k) ≡ h k) → (ks : List Atom)
     → map g (map f ks) ≡ map h ks
 map_both f g h both [] = refl
 map_both f g h both (k ∷ ks) =
-    ap (λ (x : Kept). x ∷ map g (map f ks)) (both k)
-    ∙ ap (λ (l : List Kept). h k ∷ l) (map_both f g h both ks)
+    ap (λ (x : Atom). x ∷ map g (map f ks)) (both k)
+    ∙ ap (λ (l : List Atom). h k ∷ l) (map_both f g h both ks)
 
-module _ (each : Kept → Kept) (keeps : (k : Kept) → (each k).name ≡ k.name) where
+module _ (each : Atom → Atom) (keeps : (k : Atom) → (each k).name ≡ k.name) where
   -- a set without names changes nothing
-  pub unchanged : (names : List Range) → ((c : CharName) → named names c ≡ false) → (ks : List Kept)
+  pub unchanged : (names : List Range) → ((c : CharName) → named names c ≡ false) → (ks : List Atom)
       → map (if_named names each) ks ≡ ks
   unchanged names none =
       map_same (if_named names each) (λ k. ap (λ (b : Bool). cond b (each k) k) (none k.name))
 
-  name_stays : (names : List Range) (k : Kept) → (if_named names each k).name ≡ k.name
+  name_stays : (names : List Range) (k : Atom) → (if_named names each k).name ≡ k.name
   name_stays names k = go (named names k.name)
     where
       go : (b : Bool) → (cond b (each k) k).name ≡ k.name
@@ -55,16 +55,16 @@ module _ (each : Kept → Kept) (keeps : (k : Kept) → (each k).name ≡ k.name
       go false = refl
 
   -- names stay
-  pub names_stay : (names : List Range) (ks : List Kept)
-      → names_of_kept (map (if_named names each) ks) ≡ names_of_kept ks
+  pub names_stay : (names : List Range) (ks : List Atom)
+      → names_of_atoms (map (if_named names each) ks) ≡ names_of_atoms ks
   names_stay names [] = refl
   names_stay names (k ∷ ks) =
-      ap (λ (c : CharName). c ∷ names_of_kept (map (if_named names each) ks)) (name_stays names k)
+      ap (λ (c : CharName). c ∷ names_of_atoms (map (if_named names each) ks)) (name_stays names k)
       ∙ ap (λ (cs : List CharName). k.name ∷ cs) (names_stay names ks)
 
   -- two sets of different names make one
   both_once : (a b t : List Range) → ((c : CharName) → named a c ≡ true → named b c ≡ true → ⊥)
-      → ((c : CharName) → (named a c || named b c) ≡ named t c) → (k : Kept)
+      → ((c : CharName) → (named a c || named b c) ≡ named t c) → (k : Atom)
       → if_named b each (if_named a each k) ≡ if_named t each k
   both_once a b t apart joined k = go (named a k.name) refl
     where
@@ -84,7 +84,7 @@ module _ (each : Kept → Kept) (keeps : (k : Kept) → (each k).name ≡ k.name
           ap (if_named b each) first ∙ sym (ap (λ (v : Bool). cond v (each k) k) both)
 
   together : (a b t : List Range) → ((c : CharName) → named a c ≡ true → named b c ≡ true → ⊥)
-      → ((c : CharName) → (named a c || named b c) ≡ named t c) → (ks : List Kept)
+      → ((c : CharName) → (named a c || named b c) ≡ named t c) → (ks : List Atom)
       → map (if_named b each) (map (if_named a each) ks) ≡ map (if_named t each) ks
   together a b t apart joined =
       map_both (if_named a each) (if_named b each) (if_named t each) (both_once a b t apart joined)
@@ -93,7 +93,7 @@ module _ (each : Kept → Kept) (keeps : (k : Kept) → (each k).name ≡ k.name
   one r c = or-false (range_contains r c)
 
   -- a range and the one that goes on where it ends
-  pub longer : (site at n m : ℕ) (ks : List Kept)
+  pub longer : (site at n m : ℕ) (ks : List Atom)
       → map (if_named (range site (at + n) m ∷ []) each) (map (if_named (range site at n ∷ []) each) ks)
       ≡ map (if_named (range site at (n + m) ∷ []) each) ks
   longer site at n m =
@@ -137,7 +137,7 @@ module _ (each : Kept → Kept) (keeps : (k : Kept) → (each k).name ≡ k.name
           ∙ sym (one (range site at (n + m)) c)
 
   -- an empty range
-  pub no_range : (site at : ℕ) (ks : List Kept) → map (if_named (range site at 0 ∷ []) each) ks ≡ ks
+  pub no_range : (site at : ℕ) (ks : List Atom) → map (if_named (range site at 0 ∷ []) each) ks ≡ ks
   no_range site at =
       unchanged (range site at 0 ∷ []) (λ c.
       one (range site at 0) c ∙ is_false (range_contains (range site at 0) c) (λ has_it.
@@ -145,7 +145,7 @@ module _ (each : Kept → Kept) (keeps : (k : Kept) → (each k).name ≡ k.name
 
   -- the first ranges of a set and the next one
   pub one_more : (ranges : List Range) (i : ℕ) (r : Range) → IsSet ranges → i < length ranges
-      → r ≡ get_or ranges i r → (ks : List Kept)
+      → r ≡ get_or ranges i r → (ks : List Atom)
       → map (if_named (r ∷ []) each) (map (if_named (take i ranges) each) ks)
       ≡ map (if_named (take (i + 1) ranges) each) ks
   one_more ranges i r set lt is = together (take i ranges) (r ∷ []) (take (i + 1) ranges) apart joined
@@ -174,7 +174,7 @@ module _ (each : Kept → Kept) (keeps : (k : Kept) → (each k).name ≡ k.name
           ∙ sym (list_any_more (λ (s : Range). range_contains s c) ranges i r lt)
 
   -- one piece more of a range
-  pub range_grows : (site from at to : ℕ) (name : CharName) (old now new : List Kept)
+  pub range_grows : (site from at to : ℕ) (name : CharName) (old now new : List Atom)
       → name ≡ record { site = site; off = at } → from ≤ at → at < to
       → now ≡ map (if_named (range site from (at - from) ∷ []) each) old
       → new ≡ map (if_named (range name.site name.off (to - name.off) ∷ []) each) now
@@ -191,17 +191,17 @@ module _ (each : Kept → Kept) (keeps : (k : Kept) → (each k).name ≡ k.name
       ∙ ap (λ (n : ℕ). map (if_named (range site from n ∷ []) each) old) len
 
   -- names that were there are there after a change
-  still_here : (names : List Range) (c : CharName) (old now : List Kept)
+  still_here : (names : List Range) (c : CharName) (old now : List Atom)
       → now ≡ map (if_named names each) old → HasName old c → HasName now c
   still_here names c old now is =
-      subst (λ (cs : List CharName). Contains cs c) (sym (ap names_of_kept is ∙ names_stay names old))
+      subst (λ (cs : List CharName). Contains cs c) (sym (ap names_of_atoms is ∙ names_stay names old))
 
-  pub name_here : (names : List Range) (r : Range) (c : CharName) (old now : List Kept)
+  pub name_here : (names : List Range) (r : Range) (c : CharName) (old now : List Atom)
       → AreHere (r ∷ []) old → now ≡ map (if_named names each) old → IsIn r c → HasName now c
   name_here names r c old now here is held =
       still_here names c old now is (here c (0, r, omega arith, refl, held))
 
-  pub range_here : (names ranges : List Range) (i : ℕ) (r : Range) (old now : List Kept)
+  pub range_here : (names ranges : List Range) (i : ℕ) (r : Range) (old now : List Atom)
       → i < length ranges → r ≡ get_or ranges i r → AreHere ranges old
       → now ≡ map (if_named names each) old → AreHere (r ∷ []) now
   range_here names ranges i r old now lt at here is = λ c (k, x, few, there, held).

@@ -9,7 +9,7 @@ use Rattle.char_files.specs.declared.TheConstants.{MAX_FILE}
 use Rattle.operations.specs.NameSet.{Range, IsIn}
 use Rattle.piece_raw.specs.Ring.{Ring, ring, AreTags, IsMember, HasTag, IsAtCursor, with_value}
 use Rattle.piece_raw.specs.Ring.{with_value_at}
-use Rattle.tree_order.specs.Registers.{Kept, if_named}
+use Rattle.tree_order.specs.Registers.{Atom, if_named}
 use Rattle.piece_list.specs.declared.list.changing.Change.{Change}
 use Rattle.piece_list.specs.declared.list.changing.Change.TheVariants.{Switch, Relook}
 use Rattle.piece_list.specs.declared.piece.Piece.{Piece}
@@ -39,7 +39,7 @@ changes_each (Switch hidden key) p = (refl, λ c. refl)
 changes_each (Relook sel looks key) p = (refl, λ c. refl)
 
 -- and keeps their names
-pub keeps_name : (change : Change) (k : Kept) → (changed_char change k).name ≡ k.name
+pub keeps_name : (change : Change) (k : Atom) → (changed_char change k).name ≡ k.name
 keeps_name (Switch hidden key) k = refl
 keeps_name (Relook sel looks key) k = refl
 

@@ -9,7 +9,7 @@ use Rattle.std.proofs.lemmas.List.FromFn.{length-map-range_with_len, get_or-map-
 use Rattle.std.proofs.lemmas.Grind.{flat_map-append}
 use Rattle.char_files.specs.CharName.{CharName}
 use Rattle.operations.specs.NameSet.{Range, IsIn, range_contains, names_of}
-use Rattle.tree_order.specs.Registers.{Kept, if_named}
+use Rattle.tree_order.specs.Registers.{Atom, if_named}
 use Rattle.piece_list.specs.declared.piece.Piece.{Piece}
 use Rattle.piece_list.specs.Pieces.{range_of, char_of, chars_of}
 use Rattle.piece_list.specs.Spelled.{spelled}
@@ -37,16 +37,16 @@ in_range p = λ i d lt.
     sym (get_or-map-range_with_len name p.off p.len i (p.off + i) d few refl) in
     subst (IsIn (range_of p)) at (refl, omega arith, omega arith)
 
-module _ (each : Kept → Kept) (r : Range) where
-  abbrev changed : Kept → Kept
+module _ (each : Atom → Atom) (r : Range) where
+  abbrev changed : Atom → Atom
   changed = if_named (r ∷ []) each
 
   -- a character that isn't named stays, and one that is named is changed
-  stays : (k : Kept) → (IsIn r k.name → ⊥) → changed k ≡ k
+  stays : (k : Atom) → (IsIn r k.name → ⊥) → changed k ≡ k
   stays k out =
       ap (λ (b : Bool). cond b (each k) k) (or-false (range_contains r k.name) ∙ not_contained r k.name out)
 
-  changes : (k : Kept) → IsIn r k.name → changed k ≡ each k
+  changes : (k : Atom) → IsIn r k.name → changed k ≡ each k
   changes k is =
       ap (λ (b : Bool). cond b (each k) k) (or-false (range_contains r k.name) ∙ contained r k.name is)
 
@@ -57,8 +57,8 @@ module _ (each : Kept → Kept) (r : Range) where
   chars_stay p (c ∷ cs) out =
       let here = All-head (λ (d : CharName). IsIn r d → ⊥) c cs out in
       let rest = All-tail (λ (d : CharName). IsIn r d → ⊥) c cs out in
-      ap (λ (k : Kept). k ∷ map changed (map (char_of p) cs)) (stays (char_of p c) here)
-      ∙ ap (λ (ks : List Kept). char_of p c ∷ ks) (chars_stay p cs rest)
+      ap (λ (k : Atom). k ∷ map changed (map (char_of p) cs)) (stays (char_of p c) here)
+      ∙ ap (λ (ks : List Atom). char_of p c ∷ ks) (chars_stay p cs rest)
 
   chars_change : (p q : Piece) → ((c : CharName) → char_of q c ≡ each (char_of p c)) → (cs : List CharName)
       → All (IsIn r) cs → map changed (map (char_of p) cs) ≡ map (char_of q) cs
@@ -66,8 +66,8 @@ module _ (each : Kept → Kept) (r : Range) where
   chars_change p q by (c ∷ cs) is =
       let here = All-head (IsIn r) c cs is in
       let rest = All-tail (IsIn r) c cs is in
-      ap (λ (k : Kept). k ∷ map changed (map (char_of p) cs)) (changes (char_of p c) here ∙ sym (by c))
-      ∙ ap (λ (ks : List Kept). char_of q c ∷ ks) (chars_change p q by cs rest)
+      ap (λ (k : Atom). k ∷ map changed (map (char_of p) cs)) (changes (char_of p c) here ∙ sym (by c))
+      ∙ ap (λ (ks : List Atom). char_of q c ∷ ks) (chars_change p q by cs rest)
 
   -- pieces that have none of the names stay
   pieces_stay : (items : List (ℕ × Piece)) → Avoid r items → map changed (spelled items) ≡ spelled items
@@ -78,17 +78,17 @@ module _ (each : Kept → Kept) (r : Range) where
       let out : All (λ (c : CharName). IsIn r c → ⊥) (names_of (range_of m.1)) =
       λ i d lt. here (get_or (names_of (range_of m.1)) i d) (in_range m.1 i d lt) in
       map-append changed (chars_of m.1) (spelled items)
-      ∙ ap (λ (ks : List Kept). ks ++ map changed (spelled items)) (chars_stay m.1 (names_of
+      ∙ ap (λ (ks : List Atom). ks ++ map changed (spelled items)) (chars_stay m.1 (names_of
       (range_of m.1)) out)
-      ∙ ap (λ (ks : List Kept). chars_of m.1 ++ ks) (pieces_stay items (All-tail P m items avoid))
+      ∙ ap (λ (ks : List Atom). chars_of m.1 ++ ks) (pieces_stay items (All-tail P m items avoid))
 
 pub of_its_names : ChangeIsOfItsNames
 of_its_names change each ahead behind tag p changes_each avoid_ahead avoid_behind =
-    let chars : ℕ × Piece → List Kept = λ (m : ℕ × Piece). chars_of m.1 in
+    let chars : ℕ × Piece → List Atom = λ (m : ℕ × Piece). chars_of m.1 in
     let r : Range = range_of p in
-    let f : Kept → Kept = if_named (r ∷ []) each in
-    let a : List Kept = spelled ahead in
-    let c : List Kept = spelled behind in
+    let f : Atom → Atom = if_named (r ∷ []) each in
+    let a : List Atom = spelled ahead in
+    let c : List Atom = spelled behind in
     let is : (range_of (change p) ≡ range_of p) × ((d : CharName)
     → char_of (change p) d ≡ each (char_of p d)) =
     changes_each p in
@@ -98,8 +98,8 @@ of_its_names change each ahead behind tag p changes_each avoid_ahead avoid_behin
     let new : map f (spelled (ahead ++ (tag, p) ∷ behind)) ≡ a ++ (chars_of (change p) ++ c) =
     ap (map f) (flat_map-append chars ahead ((tag, p) ∷ behind))
     ∙ map-append f a (chars_of p ++ c)
-    ∙ ap (λ (ks : List Kept). map f a ++ ks) (map-append f (chars_of p) c)
-    ∙ ap (λ (ks : List Kept). ks ++ (map f (chars_of p) ++ map f c)) (pieces_stay each r ahead avoid_ahead)
-    ∙ ap (λ (ks : List Kept). a ++ (ks ++ map f c)) own
-    ∙ ap (λ (ks : List Kept). a ++ (chars_of (change p) ++ ks)) (pieces_stay each r behind avoid_behind) in
+    ∙ ap (λ (ks : List Atom). map f a ++ ks) (map-append f (chars_of p) c)
+    ∙ ap (λ (ks : List Atom). ks ++ (map f (chars_of p) ++ map f c)) (pieces_stay each r ahead avoid_ahead)
+    ∙ ap (λ (ks : List Atom). a ++ (ks ++ map f c)) own
+    ∙ ap (λ (ks : List Atom). a ++ (chars_of (change p) ++ ks)) (pieces_stay each r behind avoid_behind) in
     flat_map-append chars ahead ((tag, change p) ∷ behind) ∙ sym new

@@ -5,7 +5,7 @@ use Rattle.std.proofs.lemmas.List.Elements.{Contains-append_cases}
 use Rattle.char_files.specs.CharName.{CharName}
 use Rattle.operations.specs.NameSet.{IsIn}
 use Rattle.piece_raw.specs.Ring.{IsMember, AreTags}
-use Rattle.tree_order.specs.Registers.{Kept}
+use Rattle.tree_order.specs.Registers.{Atom}
 use Rattle.piece_list.specs.declared.piece.Piece.{Piece}
 use Rattle.piece_list.specs.declared.place.Place.{Place}
 use Rattle.piece_list.specs.Pieces.{range_of, char_of, chars_of}
@@ -19,22 +19,22 @@ abbrev Items : Type 0
 Items = List (ℕ × Piece)
 
 -- a character is one of a piece
-pub record IsOfPiece (items : Items) (k : Kept) : Type 0 where
+pub record IsOfPiece (items : Items) (k : Atom) : Type 0 where
   pub tag : ℕ
   pub piece : Piece
   pub member : IsMember items tag piece
   pub name : IsIn (range_of piece) k.name
   pub same : k ≡ char_of piece k.name
 
-of_piece : (p : Piece) (k : Kept) → Contains (chars_of p) k → IsIn (range_of p) k.name × (k ≡ char_of p k.name)
+of_piece : (p : Piece) (k : Atom) → Contains (chars_of p) k → IsIn (range_of p) k.name × (k ≡ char_of p k.name)
 of_piece p k (i, lt, e) =
     let few : i < p.len = omega (arith, count_chars p) in
     let c : CharName = record { site = p.site; off = p.off + i } in
     let is : char_of p c ≡ k = sym (char_at p i k few) ∙ e in
-    let name : c ≡ k.name = ap (λ (o : Kept). o.name) is in
+    let name : c ≡ k.name = ap (λ (o : Atom). o.name) is in
     (subst (IsIn (range_of p)) name (refl, omega arith, omega arith), sym is ∙ ap (char_of p) name)
 
-pub is_of_piece : (items : Items) (k : Kept) → Contains (spelled items) k → IsOfPiece items k
+pub is_of_piece : (items : Items) (k : Atom) → Contains (spelled items) k → IsOfPiece items k
 is_of_piece [] k (i, lt, e) = absurd (omega arith)
 is_of_piece (m ∷ items) k has =
     elim (Contains-append_cases (chars_of m.1) (spelled items) k has) [
@@ -55,7 +55,7 @@ is_of_piece (m ∷ items) k has =
 
 pub char_of_place : (items : Items) (tables : Tables) → AreTags items → AreEntered items tables
     → (place : Place) (c : CharName) (p : Piece) → IsPlaceOf items place c → IsMember items place.piece p
-    → (k : Kept) → Contains (spelled items) k → k.name ≡ c → k ≡ char_of p c
+    → (k : Atom) → Contains (spelled items) k → k.name ≡ c → k ≡ char_of p c
 char_of_place items tables are entered place c p at held k has same =
     let of : IsOfPiece items k = is_of_piece items k has in
     let (site, from, to) = subst (IsIn (range_of of.piece)) same of.name in

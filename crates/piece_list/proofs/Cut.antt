@@ -5,7 +5,7 @@ use Rattle.std.specs.List.{range_with_len}
 use Rattle.std.proofs.lemmas.List.{map-append}
 use Rattle.std.proofs.lemmas.Grind.{flat_map-append}
 use Rattle.char_files.specs.CharName.{CharName}
-use Rattle.tree_order.specs.Registers.{Kept}
+use Rattle.tree_order.specs.Registers.{Atom}
 use Rattle.piece_list.specs.declared.piece.Piece.{Piece}
 use Rattle.piece_list.specs.Pieces.{char_of, chars_of, front_of, rest_of}
 use Rattle.piece_list.specs.Spelled.{spelled}
@@ -38,10 +38,10 @@ chars_of-cut p n le =
 
 pub cut_spells_the_same : CutSpellsTheSame
 cut_spells_the_same ahead behind tag rest n p le =
-    let chars : ℕ × Piece → List Kept = λ (m : ℕ × Piece). chars_of m.1 in
-    let front : List Kept = chars_of (front_of n p) in
-    let others : List Kept = chars_of (rest_of n p) in
+    let chars : ℕ × Piece → List Atom = λ (m : ℕ × Piece). chars_of m.1 in
+    let front : List Atom = chars_of (front_of n p) in
+    let others : List Atom = chars_of (rest_of n p) in
     flat_map-append chars ahead ((tag, front_of n p) ∷ (rest, rest_of n p) ∷ behind)
-    ∙ ap (λ (ks : List Kept). spelled ahead ++ ks) (sym (append_assoc front others (spelled behind))
-    ∙ ap (λ (ks : List Kept). ks ++ spelled behind) (sym (chars_of-cut p n le)))
+    ∙ ap (λ (ks : List Atom). spelled ahead ++ ks) (sym (append_assoc front others (spelled behind))
+    ∙ ap (λ (ks : List Atom). ks ++ spelled behind) (sym (chars_of-cut p n le)))
     ∙ sym (flat_map-append chars ahead ((tag, p) ∷ behind))

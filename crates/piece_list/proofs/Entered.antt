@@ -7,7 +7,7 @@ use Rattle.std.proofs.lemmas.List.Elements.{All-append, All-head, All-tail, All-
 use Rattle.char_files.specs.CharName.{CharName}
 use Rattle.operations.specs.NameSet.{Range, IsIn, range_contains}
 use Rattle.piece_raw.specs.Ring.{AreTags, HasTag}
-use Rattle.tree_order.specs.Registers.{Kept}
+use Rattle.tree_order.specs.Registers.{Atom}
 use Rattle.piece_list.specs.declared.piece.Piece.{Piece}
 use Rattle.piece_list.specs.Pieces.{range_of, front_of, rest_of, IsPiece}
 use Rattle.piece_list.specs.Held.{AreEntered}
@@ -138,7 +138,7 @@ module _ (xs ys : Items) (tag u n : ℕ) (p : Piece) (old new : Tables)
 
     spelled_after : (c : CharName) (s : ℕ) → tag_at new c ≡ Some s
         → HasName (spelled (xs ++ (tag, front_of n p) ∷ (u, rest_of n p) ∷ ys)) c
-    spelled_after c s e = subst (λ (l : List Kept). HasName l c)
+    spelled_after c s e = subst (λ (l : List Atom). HasName l c)
         (sym (cut_spells_the_same xs ys tag u n p (omega (arith, within))))
         (go (range_contains (range_of (rest_of n p)) c) refl)
       where

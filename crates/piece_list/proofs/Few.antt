@@ -15,12 +15,12 @@ use Rattle.operations.specs.NameSet.{Range, IsIn, names_of}
 use Rattle.piece_raw.specs.Ring.{AreTags}
 use Rattle.piece_list.specs.declared.piece.Piece.{Piece}
 use Rattle.piece_list.specs.Pieces.{range_of, chars_of, IsPiece}
-use Rattle.piece_list.specs.Spelled.{spelled, names_of_kept, ArePieces}
+use Rattle.piece_list.specs.Spelled.{spelled, names_of_atoms, ArePieces}
 use Rattle.piece_list.specs.Held.{AreEntered}
 use Rattle.piece_list.specs.Tables.{Tables, tag_at}
+use Rattle.tree_order.proofs.RunNames.{in_names}
 use Rattle.piece_list.proofs.Found.{apart, member_at, name_has_place}
 use Rattle.piece_list.proofs.Gap.{name_only, names_of_chars}
-use Rattle.piece_list.proofs.Names.{in_names}
 
 abbrev Items : Type 0
 Items = List (ℕ × Piece)
@@ -57,13 +57,13 @@ Entered tables m = (c : CharName) → IsIn (range_of m.1) c → tag_at tables c 
 
 -- a list whose pieces are entered has each name once
 once_by : (tables : Tables) (items : Items) → AllPairs (λ m n. m.0 ≢ n.0) items → All (Entered tables) items
-    → AllPairs (λ c d. c ≢ d) (names_of_kept (spelled items))
+    → AllPairs (λ c d. c ≢ d) (names_of_atoms (spelled items))
 once_by tables [] numbers entered = λ i j d lt within. absurd (omega arith)
 once_by tables (m ∷ items) numbers entered =
     let own : List CharName = names_of (range_of m.1) in
-    let rest : List CharName = names_of_kept (spelled items) in
+    let rest : List CharName = names_of_atoms (spelled items) in
     let R : CharName → CharName → Type 0 = λ (c d : CharName). c ≢ d in
-    let parts : names_of_kept (spelled (m ∷ items)) ≡ own ++ rest =
+    let parts : names_of_atoms (spelled (m ∷ items)) ≡ own ++ rest =
     map-append name_only (chars_of m.1) (spelled items)
     ∙ ap (λ (cs : List CharName). cs ++ rest) (names_of_chars m.1 own) in
     let across : (c : CharName) → Contains own c → All (R c) rest = λ c has k d lt same.
@@ -85,7 +85,7 @@ once_by tables (m ∷ items) numbers entered =
     (All-tail (Entered tables) m items entered)) across)
 
 pub names_once : (items : Items) (tables : Tables) → AreTags items → AreEntered items tables
-    → AllPairs (λ c d. c ≢ d) (names_of_kept (spelled items))
+    → AllPairs (λ c d. c ≢ d) (names_of_atoms (spelled items))
 names_once items tables are entered = once_by tables items (apart items are) entered.entered
 
 -- names as numbers
@@ -103,9 +103,9 @@ small_number : (s o : ℕ) → s < 2 ^ 16 → o < 16777216 → s * 16777216 + o 
 small_number s o ls lo = omega arith
 
 -- a list's names fit
-fit : (items : Items) → ArePieces items → All Fits (names_of_kept (spelled items))
+fit : (items : Items) → ArePieces items → All Fits (names_of_atoms (spelled items))
 fit items pieces = λ k d lt.
-    let names : List CharName = names_of_kept (spelled items) in
+    let names : List CharName = names_of_atoms (spelled items) in
     let c : CharName = get_or names k d in
     let (place, (p, is, within, site, off)) =
     name_has_place items c (k, lt, get_or_default names k c d lt) in
@@ -147,7 +147,7 @@ few_numbers names once fits =
 pub few : (items : Items) (tables : Tables) → AreTags items → AreEntered items tables
     → length (spelled items) ≤ 2 ^ 40
 few items tables are entered =
-    let small : length (names_of_kept (spelled items)) ≤ 2 ^ 40 =
-    few_numbers (names_of_kept (spelled items)) (names_once items tables are entered)
+    let small : length (names_of_atoms (spelled items)) ≤ 2 ^ 40 =
+    few_numbers (names_of_atoms (spelled items)) (names_once items tables are entered)
     (fit items entered.pieces) in
     omega (arith, length-map (spelled items) name_only)

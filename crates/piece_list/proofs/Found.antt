@@ -17,10 +17,10 @@ use Rattle.piece_list.specs.declared.piece.Piece.{Piece}
 use Rattle.piece_list.specs.declared.place.Place.{Place}
 use Rattle.piece_list.specs.Pieces.{range_of, chars_of}
 use Rattle.piece_list.specs.Held.{IsPlaceOf, AreEntered}
-use Rattle.piece_list.specs.Spelled.{spelled, names_of_kept, HasName}
+use Rattle.piece_list.specs.Spelled.{spelled, names_of_atoms, HasName}
 use Rattle.piece_list.specs.Tables.{Tables, tag_at}
+use Rattle.tree_order.proofs.RunNames.{in_names, names_have}
 use Rattle.piece_list.proofs.Gap.{name_only, names_around, names_of_chars}
-use Rattle.piece_list.proofs.Names.{in_names, names_have}
 
 -- of optional values
 pub some_is : {X : Type 0} (a b : X) → Some a ≡ Some b → a ≡ b
@@ -88,11 +88,11 @@ pub place_has_name : (items : List (ℕ × Piece)) (place : Place) (c : CharName
     → HasName (spelled items) c
 place_has_name items place c (p, (xs, ys, is), within, site, off) =
     let own : List CharName = names_of (range_of p) in
-    let rest : List CharName = names_of_kept (spelled ys) in
-    let ahead : List CharName = names_of_kept (spelled xs) in
+    let rest : List CharName = names_of_atoms (spelled ys) in
+    let ahead : List CharName = names_of_atoms (spelled xs) in
     let held : Contains own c = names_have (range_of p) c (site, omega arith, omega arith) in
-    let names : ahead ++ (own ++ rest) ≡ names_of_kept (spelled items) =
-    sym (ap (λ (l : List (ℕ × Piece)). names_of_kept (spelled l)) is ∙ names_around xs ys place.piece p) in
+    let names : ahead ++ (own ++ rest) ≡ names_of_atoms (spelled items) =
+    sym (ap (λ (l : List (ℕ × Piece)). names_of_atoms (spelled l)) is ∙ names_around xs ys place.piece p) in
     subst (λ (cs : List CharName). Contains cs c) names
     (Contains-append_right ahead (own ++ rest) c (Contains-append_left own rest c held))
 
@@ -101,8 +101,8 @@ pub name_has_place : (items : List (ℕ × Piece)) (c : CharName) → HasName (s
     → (place : Place) × IsPlaceOf items place c
 name_has_place [] c (k, lt, e) = absurd (omega arith)
 name_has_place (m ∷ items) c held =
-    let own : List CharName = names_of_kept (chars_of m.1) in
-    let rest : List CharName = names_of_kept (spelled items) in
+    let own : List CharName = names_of_atoms (chars_of m.1) in
+    let rest : List CharName = names_of_atoms (spelled items) in
     let parts : Contains (own ++ rest) c =
     subst (λ (cs : List CharName). Contains cs c) (map-append name_only (chars_of m.1)
     (spelled items)) held in

@@ -16,21 +16,21 @@ use Rattle.char_files.specs.CharName.{CharName}
 use Rattle.char_files.specs.declared.name.Anchor.{Anchor}
 use Rattle.char_files.specs.declared.name.Anchor.TheVariants.{Root, At}
 use Rattle.operations.specs.NameSet.{names_of}
-use Rattle.tree_order.specs.Insertion.{IsBehind}
-use Rattle.tree_order.specs.KeptInsertion.{IsLongest}
-use Rattle.tree_order.specs.Registers.{Kept}
+use Rattle.tree_order.specs.Insertion.{IsJustBehind}
+use Rattle.tree_order.specs.AtomInsertion.{IsLongest}
+use Rattle.tree_order.specs.Registers.{Atom}
 use Rattle.piece_list.specs.declared.piece.Piece.{Piece}
 use Rattle.piece_list.specs.Pieces.{range_of, char_of, chars_of, IsPiece}
-use Rattle.piece_list.specs.Spelled.{spelled, names_of_kept, ArePieces}
+use Rattle.piece_list.specs.Spelled.{spelled, names_of_atoms, ArePieces}
 use Rattle.piece_list.specs.Laws.{EndAt, BeginNotAbove, PieceGoesIntoGap}
 
-abbrev Above : Key → Kept → Type 0
+abbrev Above : Key → Atom → Type 0
 Above key c = is_below key c.key ≡ true
 
-abbrev chars : ℕ × Piece → List Kept
+abbrev chars : ℕ × Piece → List Atom
 chars m = chars_of m.1
 
-abbrev pub name_only : Kept → CharName
+abbrev pub name_only : Atom → CharName
 name_only k = k.name
 
 -- what holds of all of two lists holds of all of each
@@ -43,18 +43,18 @@ all_right P xs ys all = λ i d lt.
     subst P (get_or-append-add xs ys i d) (all (length xs + i) d (omega (arith, length-append xs ys)))
 
 -- a piece's characters have its names
-pub names_of_chars : (p : Piece) (cs : List CharName) → names_of_kept (map (char_of p) cs) ≡ cs
+pub names_of_chars : (p : Piece) (cs : List CharName) → names_of_atoms (map (char_of p) cs) ≡ cs
 names_of_chars p [] = refl
 names_of_chars p (c ∷ cs) = ap (λ (xs : List CharName). c ∷ xs) (names_of_chars p cs)
 
 -- the names with a piece among the others
 pub names_around : (front more : List (ℕ × Piece)) (tag : ℕ) (p : Piece)
-    → names_of_kept (spelled (front ++ (tag, p) ∷ more))
-    ≡ names_of_kept (spelled front) ++ (names_of (range_of p) ++ names_of_kept (spelled more))
+    → names_of_atoms (spelled (front ++ (tag, p) ∷ more))
+    ≡ names_of_atoms (spelled front) ++ (names_of (range_of p) ++ names_of_atoms (spelled more))
 names_around front more tag p =
-    let ahead : List CharName = names_of_kept (spelled front) in
-    let behind : List CharName = names_of_kept (spelled more) in
-    ap names_of_kept (flat_map-append chars front ((tag, p) ∷ more))
+    let ahead : List CharName = names_of_atoms (spelled front) in
+    let behind : List CharName = names_of_atoms (spelled more) in
+    ap names_of_atoms (flat_map-append chars front ((tag, p) ∷ more))
     ∙ map-append name_only (spelled front) (chars_of p ++ spelled more)
     ∙ ap (λ (cs : List CharName). ahead ++ cs) (map-append name_only (chars_of p) (spelled more)
     ∙ ap (λ (cs : List CharName). cs ++ behind) (names_of_chars p (names_of (range_of p))))
@@ -76,7 +76,7 @@ pieces_above key (m ∷ items) all =
     (pieces_above key items (All-tail P m items all))
 
 -- a piece begins with a character of its key
-begins : (p : Piece) → 0 < p.len → (more : List Kept) (d : Kept)
+begins : (p : Piece) → 0 < p.len → (more : List Atom) (d : Atom)
     → (get_or (chars_of p ++ more) 0 d).key ≡ p.key
 begins p some more d =
     let name : ℕ → CharName = λ (off : ℕ). record { site = p.site; off = off } in
@@ -86,15 +86,15 @@ begins p some more d =
     subst P at refl
 
 not_above : (key : Key) (items : List (ℕ × Piece)) → ArePieces items → BeginNotAbove key items
-    → (d : Kept) → 0 < length (spelled items) → is_below key (get_or (spelled items) 0 d).key ≡ false
+    → (d : Atom) → 0 < length (spelled items) → is_below key (get_or (spelled items) 0 d).key ≡ false
 not_above key [] pieces stops d some = absurd (omega arith)
 not_above key (m ∷ items) pieces stops d some =
     let is : IsPiece m.1 = All-head (λ (n : ℕ × Piece). IsPiece n.1) m items pieces in
     ap (is_below key) (begins m.1 is.0 (spelled items) d) ∙ stops
 
 -- b is the longest stretch of greater key behind a
-longest_stretch : (key : Key) (a b c : List Kept) → All (Above key) b
-    → ((d : Kept) → 0 < length c → is_below key (get_or c 0 d).key ≡ false)
+longest_stretch : (key : Key) (a b c : List Atom) → All (Above key) b
+    → ((d : Atom) → 0 < length c → is_below key (get_or c 0 d).key ≡ false)
     → IsLongest key (a ++ b ++ c) (length a) (length b)
 longest_stretch key a b c greater stops = record {
   within = omega (arith, length-append (a ++ b) c, length-append a b);
@@ -110,7 +110,7 @@ longest_stretch key a b c greater stops = record {
       let at : get_or (a ++ b ++ c) (length a + length b) d ≡ get_or c 0 d =
       get_or-append_right (a ++ b) c (length a + length b) (length a + length b) d len (omega arith)
       ∙ ap (λ (i : ℕ). get_or c i d) none in
-      ap (λ (x : Kept). is_below key x.key) at ∙ stops d some;
+      ap (λ (x : Atom). is_below key x.key) at ∙ stops d some;
 }
 
 -- the last piece isn't empty
@@ -133,54 +133,54 @@ last_name p c some site off d =
 -- the characters of the pieces up to the cause end behind it
 behind_last : (front more : List (ℕ × Piece)) (tag : ℕ) (p : Piece) (c : CharName) → 0 < p.len
     → c.site ≡ p.site → c.off + 1 ≡ p.off + p.len
-    → IsBehind (names_of_kept (spelled (front ++ (tag, p) ∷ more))) (At c)
+    → IsJustBehind (names_of_atoms (spelled (front ++ (tag, p) ∷ more))) (At c)
     (length (spelled (front ++ (tag, p) ∷ [])))
 behind_last front more tag p c some site off =
-    let ahead : List CharName = names_of_kept (spelled front) in
+    let ahead : List CharName = names_of_atoms (spelled front) in
     let own : List CharName = names_of (range_of p) in
     let k : ℕ = length ahead + (p.len - 1) in
-    let all : List CharName = names_of_kept (spelled (front ++ (tag, p) ∷ more)) in
+    let all : List CharName = names_of_atoms (spelled (front ++ (tag, p) ∷ more)) in
     let len : length own ≡ p.len =
     length-map-range_with_len (λ (o : ℕ). record { site = p.site; off = o }) p.off p.len in
-    let count : (xs : List (ℕ × Piece)) → length (names_of_kept (spelled (front ++ (tag, p) ∷ xs)))
-    ≡ length ahead + (length own + length (names_of_kept (spelled xs))) =
-    λ xs. ap length (names_around front xs tag p) ∙ length-append ahead (own ++ names_of_kept (spelled xs))
-    ∙ ap (λ (n : ℕ). length ahead + n) (length-append own (names_of_kept (spelled xs))) in
-    let same : length (names_of_kept (spelled (front ++ (tag, p) ∷ [])))
+    let count : (xs : List (ℕ × Piece)) → length (names_of_atoms (spelled (front ++ (tag, p) ∷ xs)))
+    ≡ length ahead + (length own + length (names_of_atoms (spelled xs))) =
+    λ xs. ap length (names_around front xs tag p) ∙ length-append ahead (own ++ names_of_atoms (spelled xs))
+    ∙ ap (λ (n : ℕ). length ahead + n) (length-append own (names_of_atoms (spelled xs))) in
+    let same : length (names_of_atoms (spelled (front ++ (tag, p) ∷ [])))
     ≡ length (spelled (front ++ (tag, p) ∷ [])) =
     length-map (spelled (front ++ (tag, p) ∷ [])) name_only in
-    let none : length (names_of_kept (spelled [])) ≡ 0 = refl in
+    let none : length (names_of_atoms (spelled [])) ≡ 0 = refl in
     let inside : k < length all = omega (arith, count more) in
     let at : get_or all k c ≡ c =
     ap (λ (xs : List CharName). get_or xs k c) (names_around front more tag p)
-    ∙ get_or-append-add ahead (own ++ names_of_kept (spelled more)) (p.len - 1) c
-    ∙ get_or_append_left own (names_of_kept (spelled more)) c (p.len - 1) (omega arith)
+    ∙ get_or-append-add ahead (own ++ names_of_atoms (spelled more)) (p.len - 1) c
+    ∙ get_or_append_left own (names_of_atoms (spelled more)) c (p.len - 1) (omega arith)
     ∙ last_name p c some site off c in
     (k, slice_get-get_or all k c inside ∙ ap Some at, omega (arith, count []))
 
 is_behind : (ahead more : List (ℕ × Piece)) (cause : Anchor) → ArePieces ahead → EndAt ahead cause
-    → IsBehind (names_of_kept (spelled (ahead ++ more))) cause (length (spelled ahead))
+    → IsJustBehind (names_of_atoms (spelled (ahead ++ more))) cause (length (spelled ahead))
 is_behind ahead more Root pieces none = ap (λ (xs : List (ℕ × Piece)). length (spelled xs)) none
 is_behind ahead more (At c) pieces (front, tag, p, is, site, off) =
     let some : 0 < p.len = last_some front tag p (subst ArePieces is pieces) in
     let joined : front ++ (tag, p) ∷ more ≡ ahead ++ more =
     sym (append_assoc front ((tag, p) ∷ []) more) ∙ ap (λ (xs : List (ℕ × Piece)). xs ++ more) (sym is) in
-    subst (λ (xs : List (ℕ × Piece)). IsBehind (names_of_kept (spelled xs)) (At c) (length
+    subst (λ (xs : List (ℕ × Piece)). IsJustBehind (names_of_atoms (spelled xs)) (At c) (length
     (spelled ahead))) joined
-    (subst (λ (xs : List (ℕ × Piece)). IsBehind (names_of_kept (spelled (front ++ (tag, p) ∷ more))) (At c)
+    (subst (λ (xs : List (ℕ × Piece)). IsJustBehind (names_of_atoms (spelled (front ++ (tag, p) ∷ more))) (At c)
     (length (spelled xs))) (sym is) (behind_last front more tag p c some site off))
 
 pub into_gap : PieceGoesIntoGap
 into_gap ahead skipped behind cause tag p pieces gap =
-    let a : List Kept = spelled ahead in
-    let b : List Kept = spelled skipped in
-    let c : List Kept = spelled behind in
-    let whole : List Kept = spelled (ahead ++ skipped ++ behind) in
+    let a : List Atom = spelled ahead in
+    let b : List Atom = spelled skipped in
+    let c : List Atom = spelled behind in
+    let whole : List Atom = spelled (ahead ++ skipped ++ behind) in
     let n : ℕ = length a + length b in
     let is : ℕ × Piece → Type 0 = λ (m : ℕ × Piece). IsPiece m.1 in
     let parts : (xs : List (ℕ × Piece)) → spelled (ahead ++ skipped ++ xs) ≡ a ++ b ++ spelled xs =
     λ xs. flat_map-append chars (ahead ++ skipped) xs
-    ∙ ap (λ (ks : List Kept). ks ++ spelled xs) (flat_map-append chars ahead skipped) in
+    ∙ ap (λ (ks : List Atom). ks ++ spelled xs) (flat_map-append chars ahead skipped) in
     let len : n ≡ length (a ++ b) = sym (length-append a b) in
     let front : take n whole ≡ a ++ b =
     ap (λ (i : ℕ). take i whole) len ∙ ap (take (length (a ++ b))) (parts behind)
@@ -191,14 +191,14 @@ into_gap ahead skipped behind cause tag p pieces gap =
     record {
       before = length a;
       skipped = length b;
-      behind = subst (λ (xs : List (ℕ × Piece)). IsBehind (names_of_kept (spelled xs)) cause (length a))
+      behind = subst (λ (xs : List (ℕ × Piece)). IsJustBehind (names_of_atoms (spelled xs)) cause (length a))
           (sym (append_assoc ahead skipped behind))
           (is_behind ahead (skipped ++ behind) cause
           (all_left is ahead skipped (all_left is (ahead ++ skipped) behind pieces)) gap.at_cause);
-      longest = subst (λ (xs : List Kept). IsLongest p.key xs (length a) (length b)) (sym (parts behind))
+      longest = subst (λ (xs : List Atom). IsLongest p.key xs (length a) (length b)) (sym (parts behind))
           (longest_stretch p.key a b c (pieces_above p.key skipped gap.greater)
           (not_above p.key behind (all_right is (ahead ++ skipped) behind pieces) gap.stops));
       placed = parts ((tag, p) ∷ behind) ∙ sym (append_assoc (a ++ b) (chars_of p) c)
-          ∙ ap (λ (ks : List Kept). ks ++ chars_of p ++ c) (sym front)
-          ∙ ap (λ (ks : List Kept). take n whole ++ chars_of p ++ ks) (sym back);
+          ∙ ap (λ (ks : List Atom). ks ++ chars_of p ++ c) (sym front)
+          ∙ ap (λ (ks : List Atom). take n whole ++ chars_of p ++ ks) (sym back);
     }

@@ -8,7 +8,7 @@ use Rattle.char_files.specs.CharName.{CharName}
 use Rattle.char_files.specs.declared.TheConstants.{MAX_FILE}
 use Rattle.operations.specs.NameSet.{Range, IsIn, IsAmong}
 use Rattle.piece_raw.specs.Ring.{IsMember, AreTags}
-use Rattle.tree_order.specs.Registers.{Kept}
+use Rattle.tree_order.specs.Registers.{Atom}
 use Rattle.piece_list.specs.declared.piece.Piece.{Piece}
 use Rattle.piece_list.specs.declared.place.Place.{Place}
 use Rattle.piece_list.specs.Held.{IsPlaceOf, AreEntered}
@@ -42,17 +42,17 @@ module _ (items : Items) (tables : Tables) (are : AreTags items) (entered : AreE
       piece.2
 
   -- its characters are hidden as it is
-  pub alike : (k : Kept) → Contains (spelled items) k → IsIn (range c.site c.off (p.off + p.len - c.off)) k.name
+  pub alike : (k : Atom) → Contains (spelled items) k → IsIn (range c.site c.off (p.off + p.len - c.off)) k.name
       → k.hidden.value ≡ p.hidden.value
   alike k has (site, from, to) =
       let there : Place = record { piece = place.piece; within = k.name.off - p.off } in
       let low : p.off ≤ k.name.off = omega (arith, is_inside.2) in
       let high : k.name.off < p.off + p.len = omega (arith, is_inside.2) in
       let is : IsPlaceOf items there k.name = (p, held, omega arith, site ∙ is_inside.1, omega arith) in
-      ap (λ (o : Kept). o.hidden.value) (char_of_place items tables are entered there k.name p is held k has refl)
+      ap (λ (o : Atom). o.hidden.value) (char_of_place items tables are entered there k.name p is held k has refl)
 
 -- a name that is here is that of a character
-pub char_named : (ks : List Kept) (c : CharName) → HasName ks c → (k : Kept) × Contains ks k × (k.name ≡ c)
+pub char_named : (ks : List Atom) (c : CharName) → HasName ks c → (k : Atom) × Contains ks k × (k.name ≡ c)
 char_named [] c (i, lt, e) = absurd (omega arith)
 char_named (k ∷ ks) c (zero, lt, e) = (k, (0, omega arith, refl), e)
 char_named (k ∷ ks) c (suc i, lt, e) =
@@ -60,22 +60,22 @@ char_named (k ∷ ks) c (suc i, lt, e) =
     (j, (suc n, omega arith, is), named)
 
 -- none of the characters of a range is hidden
-abbrev pub NoneHidden : List Kept → Range → Type 0
-NoneHidden ks r = (k : Kept) → Contains ks k → IsIn r k.name → k.hidden.value ≡ false
+abbrev pub NoneHidden : List Atom → Range → Type 0
+NoneHidden ks r = (k : Atom) → Contains ks k → IsIn r k.name → k.hidden.value ≡ false
 
 -- where the character of a name is hidden, a range with the name has a hidden one
-pub one_hidden : (ks : List Kept) (r : Range) (c : CharName) → HasName ks c → IsIn r c
-    → ((k : Kept) → Contains ks k → k.name ≡ c → k.hidden.value ≡ true)
-    → (k : Kept) × Contains ks k × IsIn r k.name × IsTrue k.hidden.value
+pub one_hidden : (ks : List Atom) (r : Range) (c : CharName) → HasName ks c → IsIn r c
+    → ((k : Atom) → Contains ks k → k.name ≡ c → k.hidden.value ≡ true)
+    → (k : Atom) × Contains ks k × IsIn r k.name × IsTrue k.hidden.value
 one_hidden ks r c here held hidden =
     let (k, has, named) = char_named ks c here in
     (k, has, subst (IsIn r) (sym named) held, hidden k has named)
 
 -- none of the characters of the first n ranges is hidden
-abbrev pub NoneHiddenTo : List Kept → List Range → ℕ → Type 0
+abbrev pub NoneHiddenTo : List Atom → List Range → ℕ → Type 0
 NoneHiddenTo ks ranges n = (i : ℕ) (d : Range) → i < n → NoneHidden ks (get_or ranges i d)
 
-pub more_ranges : (ks : List Kept) (ranges : List Range) (n : ℕ) (r : Range) → n < length ranges
+pub more_ranges : (ks : List Atom) (ranges : List Range) (n : ℕ) (r : Range) → n < length ranges
     → r ≡ get_or ranges n r → NoneHiddenTo ks ranges n → NoneHidden ks r → NoneHiddenTo ks ranges (n + 1)
 more_ranges ks ranges n r lt is shown more = λ i d few.
     elim (cases_lt i n) [
@@ -85,6 +85,6 @@ more_ranges ks ranges n r lt is shown more = λ i d few.
           subst (NoneHidden ks) (is ∙ get_or_default ranges n r d lt ∙ ap (λ (j : ℕ). get_or ranges j d) same) more
     ]
 
-pub none_of_all : (ks : List Kept) (ranges : List Range) (n : ℕ) → length ranges ≤ n → NoneHiddenTo ks ranges n
-    → (k : Kept) → Contains ks k → IsAmong ranges k.name → k.hidden.value ≡ false
+pub none_of_all : (ks : List Atom) (ranges : List Range) (n : ℕ) → length ranges ≤ n → NoneHiddenTo ks ranges n
+    → (k : Atom) → Contains ks k → IsAmong ranges k.name → k.hidden.value ≡ false
 none_of_all ks ranges n le shown k has (i, r, lt, at, held) = shown i r (omega arith) k has (subst (λ (s : Range). IsIn s k.name) (sym at) held)

@@ -11,7 +11,6 @@ pub mod Few
 pub mod Found
 pub mod Gap
 pub mod HiddenNames
-pub mod Names
 pub mod Order
 pub mod Parts
 pub mod Placing

@@ -4,23 +4,22 @@ use Rattle.std.proofs.Common.{ℕ, false, List, [], ◌∷◌, ◌++◌, length,
 use Rattle.looks.specs.declared.key.Key.{Key}
 use Rattle.looks.specs.declared.looks.Looks.{Looks}
 use Rattle.char_files.specs.CharName.{CharName}
-use Rattle.operations.specs.Operation.{OpKind}
-use Rattle.tree_order.specs.Good.{key_of}
+use Rattle.operations.specs.Operation.{OpKind, key_of}
 use Rattle.tree_order.specs.Insertion.{run_by}
-use Rattle.tree_order.specs.KeptInsertion.{RunGoesBehindGreaterKeys}
 use Rattle.tree_order.specs.Looks.{looks_by}
-use Rattle.tree_order.specs.Registers.{Kept, AreKept}
+use Rattle.tree_order.specs.Registers.{Atom, AreAtoms}
+use Rattle.tree_order.proofs.AtomsWithRun.{behind_greater_keys}
 use Rattle.piece_list.specs.Pieces.{chars_of, piece_of}
-use Rattle.piece_list.specs.Laws.{PlacedIsKept, PieceIsFirstKept}
+use Rattle.piece_list.specs.Laws.{PlacedAreAtoms, PieceIsFirstAtoms}
 
-pub is_kept : RunGoesBehindGreaterKeys → PlacedIsKept
-is_kept law ops i cause old new one at kept placed =
-    subst (AreKept (ops ++ i ∷ [])) (sym placed.placed)
-    (law ops i cause old placed.before placed.skipped one at kept placed.behind placed.longest)
+pub are_atoms : PlacedAreAtoms
+are_atoms ops i cause old new one at atoms placed =
+    subst (AreAtoms (ops ++ i ∷ [])) (sym placed.placed)
+    (behind_greater_keys ops i cause old placed.before placed.skipped one at atoms placed.behind placed.longest)
 
--- what a character of an Insert is kept with
-abbrev kept_first : ℕ → Key → OpKind → List Kept
-kept_first site key kind = map (λ (c : CharName). record {
+-- the atoms that an Insert makes
+abbrev atoms_of : ℕ → Key → OpKind → List Atom
+atoms_of site key kind = map (λ (c : CharName). record {
   name = c;
   key = key;
   font = record { key = key; value = (looks_by kind).font };
@@ -29,13 +28,13 @@ kept_first site key kind = map (λ (c : CharName). record {
   hidden = record { key = key; value = false };
 }) (run_by site kind)
 
-abbrev piece_chars : ℕ → ℕ → ℕ → Key → Looks → List Kept
+abbrev piece_chars : ℕ → ℕ → ℕ → Key → Looks → List Atom
 piece_chars site off len key looks =
     chars_of (piece_of (record { site = site; off = off; len = len; key = key; looks = looks }))
 
-pub first_kept_piece : PieceIsFirstKept
-first_kept_piece i r (cause, bytes, kind, site, len, key) =
+pub first_atoms_piece : PieceIsFirstAtoms
+first_atoms_piece i r (cause, bytes, kind, site, len, key) =
     ap (λ (s : ℕ). piece_chars s r.off r.len r.key r.looks) site
     ∙ ap (λ (l : ℕ). piece_chars i.site r.off l r.key r.looks) len
     ∙ ap (λ (k : Key). piece_chars i.site r.off (length bytes) k r.looks) key
-    ∙ sym (ap (kept_first i.site (key_of i)) kind)
+    ∙ sym (ap (atoms_of i.site (key_of i)) kind)

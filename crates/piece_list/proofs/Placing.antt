@@ -13,7 +13,7 @@ use Rattle.char_files.specs.CharName.{CharName}
 use Rattle.char_files.specs.declared.name.Anchor.{Anchor}
 use Rattle.char_files.specs.declared.name.Anchor.TheVariants.{Root, At}
 use Rattle.operations.specs.NameSet.{Range, IsIn, range_contains, names_of}
-use Rattle.tree_order.specs.Registers.{Kept}
+use Rattle.tree_order.specs.Registers.{Atom}
 use Rattle.piece_raw.specs.Ring.{Ring, ring, AreTags, HasTag, IsMember, IsPushed, last_tag}
 use Rattle.piece_list.specs.declared.piece.Piece.{Piece}
 use Rattle.piece_list.specs.declared.place.Place.{Place}
@@ -23,14 +23,14 @@ use Rattle.piece_list.specs.Laws.{Avoid, BeginNotAbove}
 use Rattle.piece_list.specs.Placed.{IsPlaced}
 use Rattle.piece_list.specs.Placing.{HasAnchor, compared, IsAnchorPlace, IsParted, HasPart, IsPartedAt, IsCutAt, IsCutThere}
 use Rattle.piece_list.specs.Placing.{IsCounted, IsNext, IsSkip, IsPutInGap, last_look}
-use Rattle.piece_list.specs.Spelled.{spelled, names_of_kept, HasName, ArePieces}
+use Rattle.piece_list.specs.Spelled.{spelled, names_of_atoms, HasName, ArePieces}
 use Rattle.piece_list.specs.Tables.{Tables, table_of, tag_at}
+use Rattle.tree_order.proofs.RunNames.{names_have}
 use Rattle.piece_list.proofs.Changes.{contained, is_contained}
 use Rattle.piece_list.proofs.Cut.{cut_spells_the_same}
 use Rattle.piece_list.proofs.Entered.{Held, held, has_tag}
 use Rattle.piece_list.proofs.Found.{one_value, some_is, name_has_place, place_has_name}
 use Rattle.piece_list.proofs.Gap.{all_left, all_right, into_gap, name_only, names_of_chars}
-use Rattle.piece_list.proofs.Names.{names_have}
 use Rattle.piece_list.proofs.Parts.{one_part, last_tag-push, count_part, count_behind}
 
 abbrev Items : Type 0
@@ -306,8 +306,8 @@ avoids r [] new = All-nil (λ (m : ℕ × Piece). (c : CharName) → IsIn (range
 avoids r (m ∷ ms) new =
     let P : ℕ × Piece → Type 0 = λ (n : ℕ × Piece). (c : CharName) → IsIn (range_of n.1) c → IsIn r c → ⊥ in
     let own : List CharName = names_of (range_of m.1) in
-    let rest : List CharName = names_of_kept (spelled ms) in
-    let names : own ++ rest ≡ names_of_kept (spelled (m ∷ ms)) =
+    let rest : List CharName = names_of_atoms (spelled ms) in
+    let names : own ++ rest ≡ names_of_atoms (spelled (m ∷ ms)) =
     sym (map-append name_only (chars_of m.1) (spelled ms)
     ∙ ap (λ (cs : List CharName). cs ++ rest) (names_of_chars m.1 own)) in
     let here : P m = λ c has is. new c is (subst (λ (cs : List CharName). Contains cs c) names
@@ -433,7 +433,7 @@ found_char items cause c None e found some = absurd cc
 found_char items cause c (Some place) e found some =
     subst (λ (a : Anchor). IsAnchorPlace items a (Some place)) (sym e) (place, refl, found)
 
-pub has_char : (chars : List Kept) (cause : Anchor) (c : CharName) → cause ≡ At c → HasAnchor chars cause
+pub has_char : (chars : List Atom) (cause : Anchor) (c : CharName) → cause ≡ At c → HasAnchor chars cause
     → HasName chars c
 has_char chars cause c e here = subst (HasAnchor chars) e here
 
@@ -492,5 +492,5 @@ placed_in_gap old new cause p steps pieces g =
     (spelled (front ++ (g.tag, p) ∷ g.behind)) =
     into_gap g.ahead g.skipped g.behind cause g.tag p others g.gap in
     subst (λ (l : Items). IsPlaced p.key cause (chars_of p) (spelled old) (spelled l)) (sym g.put)
-    (subst (λ (ks : List Kept). IsPlaced p.key cause (chars_of p) ks
+    (subst (λ (ks : List Atom). IsPlaced p.key cause (chars_of p) ks
     (spelled (front ++ (g.tag, p) ∷ g.behind))) g.spells law)

@@ -11,7 +11,7 @@ use Rattle.std.proofs.lemmas.Grind.{flat_map-append}
 use Rattle.std.proofs.lemmas.Option.{slice_get-get_or}
 use Rattle.char_files.specs.CharName.{CharName}
 use Rattle.operations.specs.NameSet.{names_of}
-use Rattle.tree_order.specs.Registers.{Kept}
+use Rattle.tree_order.specs.Registers.{Atom}
 use Rattle.piece_list.specs.declared.piece.Piece.{Piece}
 use Rattle.piece_list.specs.declared.place.Place.{Place}
 use Rattle.piece_list.specs.declared.run.Run.{Run}
@@ -24,14 +24,14 @@ use Rattle.piece_list.specs.Spelled.{spelled, shown_chars, ArePieces}
 abbrev Items : Type 0
 Items = List (ℕ × Piece)
 
-abbrev chars : ℕ × Piece → List Kept
+abbrev chars : ℕ × Piece → List Atom
 chars m = chars_of m.1
 
-abbrev visible : Kept → Bool
+abbrev visible : Atom → Bool
 visible k = not k.hidden.value
 
 -- a piece's characters, if they are shown
-abbrev pub shown_by : Piece → List Kept
+abbrev pub shown_by : Piece → List Atom
 shown_by p = cond p.hidden.value [] (chars_of p)
 
 -- a piece shows all of its characters, or none
@@ -46,7 +46,7 @@ all_or_none p (c ∷ cs) true e =
 all_or_none p (c ∷ cs) false e =
     ap (λ (b : Bool). cond (not b) (char_of p c ∷ shown_chars (map (char_of p) cs))
     (shown_chars (map (char_of p) cs))) e
-    ∙ ap (λ (ks : List Kept). char_of p c ∷ ks) (all_or_none p cs false e)
+    ∙ ap (λ (ks : List Atom). char_of p c ∷ ks) (all_or_none p cs false e)
 
 pub shown_of_piece : (p : Piece) → shown_chars (chars_of p) ≡ shown_by p
 shown_of_piece p = all_or_none p (names_of (range_of p)) p.hidden.value refl
@@ -56,7 +56,7 @@ pub shown_cons : (m : ℕ × Piece) (items : Items)
     → shown_chars (spelled (m ∷ items)) ≡ shown_by m.1 ++ shown_chars (spelled items)
 shown_cons m items =
     filter-append visible (chars m) (spelled items)
-    ∙ ap (λ (ks : List Kept). ks ++ shown_chars (spelled items)) (shown_of_piece m.1)
+    ∙ ap (λ (ks : List Atom). ks ++ shown_chars (spelled items)) (shown_of_piece m.1)
 
 pub shown_both : (xs ys : Items)
     → shown_chars (spelled (xs ++ ys)) ≡ shown_chars (spelled xs) ++ shown_chars (spelled ys)
@@ -96,7 +96,7 @@ count_more xs m =
     omega (arith, count_both xs (m ∷ []), count_cons m [])
 
 -- not more are shown than there are
-shown_few : (ks : List Kept) → length (shown_chars ks) ≤ length ks
+shown_few : (ks : List Atom) → length (shown_chars ks) ≤ length ks
 shown_few [] = omega arith
 shown_few (k ∷ ks) = kept_or_not (visible k) (shown_few ks)
   where
@@ -109,7 +109,7 @@ pub shown_at_most : (items : Items) → length (shown_chars (spelled items)) ≤
 shown_at_most items = shown_few (spelled items)
 
 -- the character of a piece at an index
-pub char_at : (p : Piece) (i : ℕ) (d : Kept) → i < p.len
+pub char_at : (p : Piece) (i : ℕ) (d : Atom) → i < p.len
     → get_or (chars_of p) i d ≡ char_of p (record { site = p.site; off = p.off + i })
 char_at p i d lt =
     let name : ℕ → CharName = λ (off : ℕ). record { site = p.site; off = off } in
@@ -124,14 +124,14 @@ pub shown_at : (xs ys : Items) (tag : ℕ) (p : Piece) (i : ℕ) → p.hidden.va
     ≡ Some (char_of p (record { site = p.site; off = p.off + i }))
 shown_at xs ys tag p i shown lt =
     let m : ℕ × Piece = (tag, p) in
-    let k : Kept = char_of p (record { site = p.site; off = p.off + i }) in
-    let whole : List Kept = shown_chars (spelled (xs ++ m ∷ ys)) in
-    let ahead : List Kept = shown_chars (spelled xs) in
-    let behind : List Kept = shown_chars (spelled ys) in
+    let k : Atom = char_of p (record { site = p.site; off = p.off + i }) in
+    let whole : List Atom = shown_chars (spelled (xs ++ m ∷ ys)) in
+    let ahead : List Atom = shown_chars (spelled xs) in
+    let behind : List Atom = shown_chars (spelled ys) in
     let own : shown_by p ≡ chars_of p = ap (λ (b : Bool). cond b [] (chars_of p)) shown in
     let parts : whole ≡ ahead ++ (chars_of p ++ behind) =
-    shown_both xs (m ∷ ys) ∙ ap (λ (ks : List Kept). ahead ++ ks) (shown_cons m ys
-    ∙ ap (λ (ks : List Kept). ks ++ behind) own) in
+    shown_both xs (m ∷ ys) ∙ ap (λ (ks : List Atom). ahead ++ ks) (shown_cons m ys
+    ∙ ap (λ (ks : List Atom). ks ++ behind) own) in
     let few : i < length (chars_of p) = omega (arith, count_chars p) in
     let within : length ahead + i < length whole =
     omega (
@@ -142,7 +142,7 @@ shown_at xs ys tag p i shown lt =
           (chars_of p) behind,
     ) in
     slice_get-get_or whole (length ahead + i) k within
-    ∙ ap (λ (o : Kept). Some o) (ap (λ (ks : List Kept). get_or ks (length ahead + i) k) parts
+    ∙ ap (λ (o : Atom). Some o) (ap (λ (ks : List Atom). get_or ks (length ahead + i) k) parts
     ∙ get_or-append-add ahead (chars_of p ++ behind) i k
     ∙ get_or_append_left (chars_of p) behind k i few
     ∙ char_at p i k lt)
@@ -154,12 +154,12 @@ pub place_at : (items xs ys : Items) (tag : ℕ) (p : Piece) (pos i : ℕ) → i
     (λ k. IsPlaceOf items (record { piece = tag; within = i }) k.name)
 place_at items xs ys tag p pos i is at shown lt =
     let place : Place = record { piece = tag; within = i } in
-    let k : Kept = char_of p (record { site = p.site; off = p.off + i }) in
+    let k : Atom = char_of p (record { site = p.site; off = p.off + i }) in
     let found : slice_get (shown_chars (spelled items)) pos ≡ Some k =
     ap (λ (l : Items). slice_get (shown_chars (spelled l)) pos) is
     ∙ ap (λ (n : ℕ). slice_get (shown_chars (spelled (xs ++ (tag, p) ∷ ys))) n) (sym at)
     ∙ shown_at xs ys tag p i shown lt in
-    subst (λ (o : Option Kept). IfSome o (λ (c : Kept). IsPlaceOf items place c.name)) (sym found)
+    subst (λ (o : Option Atom). IfSome o (λ (c : Atom). IsPlaceOf items place c.name)) (sym found)
     (p, (xs, ys, is), lt, refl, refl)
 
 -- the runs of a list tell of the characters that it shows

@@ -8,7 +8,7 @@ use Rattle.char_files.specs.CharName.{CharName}
 use Rattle.char_files.specs.declared.TheConstants.{MAX_FILE}
 use Rattle.looks.specs.declared.looks.Looks.{Looks}
 use Rattle.piece_raw.specs.Ring.{IsMember, HasTag, AreTags}
-use Rattle.tree_order.specs.Registers.{Kept, kept_looks}
+use Rattle.tree_order.specs.Registers.{Atom, atom_looks}
 use Rattle.piece_list.specs.declared.piece.Piece.{Piece}
 use Rattle.piece_list.specs.declared.place.Place.{Place}
 use Rattle.piece_list.specs.Held.{IsPlaceOf, AreEntered}
@@ -21,10 +21,10 @@ use Rattle.piece_list.proofs.Found.{one_value, member_at}
 use Rattle.piece_list.proofs.Positions.{Items, shown_in}
 
 -- what is shown at a position is one of the characters
-one_of_shown : (ks : List Kept) (pos : ℕ) (k : Kept) → slice_get (shown_chars ks) pos ≡ Some k → Contains ks k
+one_of_shown : (ks : List Atom) (pos : ℕ) (k : Atom) → slice_get (shown_chars ks) pos ≡ Some k → Contains ks k
 one_of_shown ks pos k is =
     let shown : All (Contains ks) (shown_chars ks) =
-    All-filter (λ (o : Kept). not o.hidden.value) (Contains ks) ks (All-contains_itself ks) in
+    All-filter (λ (o : Atom). not o.hidden.value) (Contains ks) ks (All-contains_itself ks) in
     subst (Contains ks) (get_or_from_slice_get (shown_chars ks) pos k k is)
     (shown pos k (slice_get_within (shown_chars ks) pos k is))
 
@@ -33,7 +33,7 @@ module _ (items now : Items) (seen : items ≡ now) (tables : Tables) (are : Are
     (entered : AreEntered items tables) (place : Place) (pos : ℕ) (within : pos < shown_in now)
     (at : IfSome (slice_get (shown_chars (spelled now)) pos) (λ k. IsPlaceOf now place k.name)) where
   -- the character, and where it stands
-  there : (k : Kept) × (slice_get (shown_chars (spelled now)) pos ≡ Some k) × IsPlaceOf items place k.name
+  there : (k : Atom) × (slice_get (shown_chars (spelled now)) pos ≡ Some k) × IsPlaceOf items place k.name
   there =
       elim (slice_get_cases (shown_chars (spelled now)) pos).1 [
         | inl found ↦
@@ -41,7 +41,7 @@ module _ (items now : Items) (seen : items ≡ now) (tables : Tables) (are : Are
               k,
               is,
               subst (λ (l : Items). IsPlaceOf l place k.name) (sym seen)
-                  (subst (λ (o : Option Kept). IfSome o (λ (j : Kept). IsPlaceOf now place j.name)) is at),
+                  (subst (λ (o : Option Atom). IfSome o (λ (j : Atom). IsPlaceOf now place j.name)) is at),
             )
         | inr past ↦ absurd (omega (arith, within, past.0))
       ]
@@ -70,9 +70,9 @@ module _ (items now : Items) (seen : items ≡ now) (tables : Tables) (are : Are
     -- and the piece tells of it
     pub is_shown : (name : CharName) (looks : Looks)
         → name ≡ record { site = p.site; off = p.off + place.within } → looks ≡ looks_of p
-        → IfSome (slice_get (shown_chars (spelled now)) pos) (λ k. (name ≡ k.name) × (looks ≡ kept_looks k))
+        → IfSome (slice_get (shown_chars (spelled now)) pos) (λ k. (name ≡ k.name) × (looks ≡ atom_looks k))
     is_shown name looks named told =
-        let k : Kept = there.0 in
+        let k : Atom = there.0 in
         let has : Contains (spelled items) k =
         subst (λ (l : Items). Contains (spelled l) k) (sym seen) (one_of_shown (spelled now) pos k there.1) in
         let char : k ≡ char_of p k.name =
@@ -80,5 +80,5 @@ module _ (items now : Items) (seen : items ≡ now) (tables : Tables) (are : Are
         let same : name ≡ k.name =
         named ∙ ap (λ (s : ℕ). record { site = s; off = p.off + place.within }) (sym own.1)
         ∙ ap (λ (o : ℕ). record { site = k.name.site; off = o }) (sym own.2) in
-        subst (λ (o : Option Kept). IfSome o (λ (j : Kept). (name ≡ j.name) × (looks ≡ kept_looks j)))
-        (sym there.1) (same, told ∙ ap kept_looks (sym char))
+        subst (λ (o : Option Atom). IfSome o (λ (j : Atom). (name ≡ j.name) × (looks ≡ atom_looks j)))
+        (sym there.1) (same, told ∙ ap atom_looks (sym char))

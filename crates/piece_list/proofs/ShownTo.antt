@@ -9,11 +9,11 @@ use Rattle.std.proofs.lemmas.Option.{slice_get_within, get_or_from_slice_get}
 use Rattle.std.proofs.Math.Seq.{take-append_seam}
 use Rattle.char_files.specs.CharName.{CharName}
 use Rattle.operations.specs.NameSet.{names_of}
-use Rattle.tree_order.specs.Registers.{Kept}
+use Rattle.tree_order.specs.Registers.{Atom}
 use Rattle.piece_list.specs.declared.piece.Piece.{Piece}
 use Rattle.piece_list.specs.Pieces.{range_of, chars_of, front_of, rest_of}
 use Rattle.piece_list.specs.Shown.{AreShownTo}
-use Rattle.piece_list.specs.Spelled.{spelled, names_of_kept, shown_chars}
+use Rattle.piece_list.specs.Spelled.{spelled, names_of_atoms, shown_chars}
 use Rattle.piece_list.proofs.Cut.{cut_spells_the_same}
 use Rattle.piece_list.proofs.Gap.{name_only, names_around}
 use Rattle.piece_list.proofs.Shown.{count_chars, count_more}
@@ -21,18 +21,18 @@ use Rattle.piece_list.proofs.Shown.{count_chars, count_more}
 abbrev Items : Type 0
 Items = List (ℕ × Piece)
 
-abbrev chars : ℕ × Piece → List Kept
+abbrev chars : ℕ × Piece → List Atom
 chars m = chars_of m.1
 
 -- the index of a piece's name
 name_at : (xs ys : Items) (tag : ℕ) (p : Piece) (c : CharName) (i : ℕ) → i < p.len → c.site ≡ p.site
     → c.off ≡ p.off + i → (d : CharName)
-    → get_or (names_of_kept (spelled (xs ++ (tag, p) ∷ ys))) (length (spelled xs) + i) d ≡ c
+    → get_or (names_of_atoms (spelled (xs ++ (tag, p) ∷ ys))) (length (spelled xs) + i) d ≡ c
 name_at xs ys tag p c i lt site off d =
     let name : ℕ → ℕ → CharName = λ (s o : ℕ). record { site = s; off = o } in
     let own : List CharName = names_of (range_of p) in
-    let ahead : List CharName = names_of_kept (spelled xs) in
-    let behind : List CharName = names_of_kept (spelled ys) in
+    let ahead : List CharName = names_of_atoms (spelled xs) in
+    let behind : List CharName = names_of_atoms (spelled ys) in
     let len : length (spelled xs) ≡ length ahead = sym (length-map (spelled xs) name_only) in
     let few : i < length own = omega (arith, length-map-range_with_len (name p.site) p.off p.len) in
     ap (λ (cs : List CharName). get_or cs (length (spelled xs) + i) d) (names_around xs ys tag p)
@@ -84,14 +84,14 @@ up_to xs ys tag p i lt =
     ∙ take-append_seam (spelled ahead) (spelled behind)
 
 pub shown_up_to : (items xs ys : Items) (tag : ℕ) (p : Piece) (c : CharName) (i n : ℕ)
-    → items ≡ xs ++ (tag, p) ∷ ys → AllPairs (λ a b. a ≢ b) (names_of_kept (spelled items))
+    → items ≡ xs ++ (tag, p) ∷ ys → AllPairs (λ a b. a ≢ b) (names_of_atoms (spelled items))
     → i < p.len → c.site ≡ p.site → c.off ≡ p.off + i
     → n ≡ length (shown_chars (spelled xs)) + cond p.hidden.value 0 (i + 1)
     → AreShownTo (spelled items) c n
 shown_up_to items xs ys tag p c i n is once lt site off count = λ k found.
-    let names : List CharName = names_of_kept (spelled items) in
+    let names : List CharName = names_of_atoms (spelled items) in
     let at : get_or names (length (spelled xs) + i) c ≡ c =
-    ap (λ (l : Items). get_or (names_of_kept (spelled l)) (length (spelled xs) + i) c) is
+    ap (λ (l : Items). get_or (names_of_atoms (spelled l)) (length (spelled xs) + i) c) is
     ∙ name_at xs ys tag p c i lt site off c in
     let total : length names ≡ length (spelled (xs ++ (tag, p) ∷ ys)) =
     length-map (spelled items) name_only ∙ ap (λ (l : Items). length (spelled l)) is in

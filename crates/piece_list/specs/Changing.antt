@@ -2,7 +2,7 @@
 use Rattle.std.specs.Prelude.{◌≡◌, ℕ, ◌+◌, ◌<◌, ◌≤◌, List, All}
 use Rattle.char_files.specs.CharName.{CharName}
 use Rattle.operations.specs.NameSet.{Range, IsAmong}
-use Rattle.tree_order.specs.Registers.{Kept, switched, relooked}
+use Rattle.tree_order.specs.Registers.{Atom, switched, relooked}
 use Rattle.piece_list.specs.declared.piece.Piece.{Piece}
 use Rattle.piece_list.specs.declared.list.changing.Change.{Change}
 use Rattle.piece_list.specs.declared.list.changing.Change.TheVariants.{Switch, Relook}
@@ -10,7 +10,7 @@ use Rattle.piece_list.specs.Pieces.{switched_piece, relooked_piece}
 use Rattle.piece_list.specs.Spelled.{HasName}
 
 -- each name of the set is that of one of the characters
-abbrev pub AreHere : List Range → List Kept → Type 0
+abbrev pub AreHere : List Range → List Atom → Type 0
 AreHere names chars = (c : CharName) → IsAmong names c → HasName chars c
 
 -- the piece after the change
@@ -19,7 +19,7 @@ changed_piece (Switch hidden key) p = switched_piece hidden key p
 changed_piece (Relook sel looks key) p = relooked_piece sel looks key p
 
 -- the character after the change
-abbrev pub changed_char : Change → Kept → Kept
+abbrev pub changed_char : Change → Atom → Atom
 changed_char (Switch hidden key) k = switched hidden key k
 changed_char (Relook sel looks key) k = relooked sel looks key k
 

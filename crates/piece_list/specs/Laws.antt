@@ -6,11 +6,10 @@ use Rattle.char_files.specs.CharName.{CharName}
 use Rattle.char_files.specs.declared.name.Anchor.{Anchor}
 use Rattle.char_files.specs.declared.name.Anchor.TheVariants.{Root, At}
 use Rattle.operations.specs.NameSet.{Range, IsIn}
-use Rattle.operations.specs.Operation.{Operation, insert}
-use Rattle.tree_order.specs.Good.{key_of}
+use Rattle.operations.specs.Operation.{Operation, insert, key_of}
 use Rattle.tree_order.specs.Insertion.{IsOneMore, IsInsertAt}
-use Rattle.tree_order.specs.KeptInsertion.{kept_run}
-use Rattle.tree_order.specs.Registers.{Kept, AreKept, if_named}
+use Rattle.tree_order.specs.AtomInsertion.{atom_run}
+use Rattle.tree_order.specs.Registers.{Atom, AreAtoms, if_named}
 use Rattle.piece_list.specs.declared.piece.Piece.{Piece}
 use Rattle.piece_list.specs.declared.run.Run.{Run}
 use Rattle.piece_list.specs.Pieces.{range_of, char_of, chars_of, piece_of, front_of, rest_of}
@@ -50,11 +49,11 @@ PieceGoesIntoGap =
     (spelled (ahead ++ skipped ++ (tag, p) ∷ behind))
 
 -- a run that is put there makes all characters of the larger set in order, each with its registers
-abbrev pub PlacedIsKept : Type 0
-PlacedIsKept =
-    (ops : List Operation) (i : Operation) (cause : Anchor) (old new : List Kept)
-    → IsOneMore ops i → IsInsertAt i cause → AreKept ops old
-    → IsPlaced (key_of i) cause (kept_run i) old new → AreKept (ops ++ i ∷ []) new
+abbrev pub PlacedAreAtoms : Type 0
+PlacedAreAtoms =
+    (ops : List Operation) (i : Operation) (cause : Anchor) (old new : List Atom)
+    → IsOneMore ops i → IsInsertAt i cause → AreAtoms ops old
+    → IsPlaced (key_of i) cause (atom_run i) old new → AreAtoms (ops ++ i ∷ []) new
 
 -- the run is what an Insert inserts, under its key
 abbrev pub IsRunOf : Operation → Run → Type 0
@@ -62,22 +61,22 @@ IsRunOf i r = (cause : Anchor) × (bytes : List ℕ) × (i.kind ≡ insert cause
     × (r.site ≡ i.site) × (r.len ≡ length bytes) × (r.key ≡ key_of i)
 
 -- the piece of this run has these characters
-abbrev pub PieceIsFirstKept : Type 0
-PieceIsFirstKept = (i : Operation) (r : Run) → IsRunOf i r → chars_of (piece_of r) ≡ kept_run i
+abbrev pub PieceIsFirstAtoms : Type 0
+PieceIsFirstAtoms = (i : Operation) (r : Run) → IsRunOf i r → chars_of (piece_of r) ≡ atom_run i
 
 -- none of the pieces has one of these names
 abbrev pub Avoid : Range → List (ℕ × Piece) → Type 0
 Avoid r items = All (λ m. (c : CharName) → IsIn (range_of m.1) c → IsIn r c → ⊥) items
 
 -- a change of a piece is this one, character by character
-abbrev pub ChangesEach : (Piece → Piece) → (Kept → Kept) → Type 0
+abbrev pub ChangesEach : (Piece → Piece) → (Atom → Atom) → Type 0
 ChangesEach change each = (p : Piece)
     → (range_of (change p) ≡ range_of p) × ((c : CharName) → char_of (change p) c ≡ each (char_of p c))
 
 -- a piece that is changed changes the characters of its names, and no others
 abbrev pub ChangeIsOfItsNames : Type 0
 ChangeIsOfItsNames =
-    (change : Piece → Piece) (each : Kept → Kept) (ahead behind : List (ℕ × Piece)) (tag : ℕ) (p : Piece)
+    (change : Piece → Piece) (each : Atom → Atom) (ahead behind : List (ℕ × Piece)) (tag : ℕ) (p : Piece)
     → ChangesEach change each → Avoid (range_of p) ahead → Avoid (range_of p) behind
     → spelled (ahead ++ (tag, change p) ∷ behind)
     ≡ map (if_named (range_of p ∷ []) each) (spelled (ahead ++ (tag, p) ∷ behind))

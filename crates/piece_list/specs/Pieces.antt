@@ -6,7 +6,7 @@ use Rattle.looks.specs.declared.looks.Looks.{Looks}
 use Rattle.char_files.specs.CharName.{CharName}
 use Rattle.char_files.specs.declared.TheConstants.{MAX_FILE}
 use Rattle.operations.specs.NameSet.{Range, names_of}
-use Rattle.tree_order.specs.Registers.{Kept, offered, offered_if}
+use Rattle.tree_order.specs.Registers.{Atom, offered, offered_if}
 use Rattle.piece_list.specs.declared.piece.Piece.{Piece}
 use Rattle.piece_list.specs.declared.piece.TheConstants.{MAX_PIECE}
 use Rattle.piece_list.specs.declared.run.Run.{Run}
@@ -16,7 +16,7 @@ abbrev pub range_of : Piece → Range
 range_of p = record { site = p.site; at = p.off; len = p.len }
 
 -- a character of this name, with the piece's key and registers
-abbrev pub char_of : Piece → CharName → Kept
+abbrev pub char_of : Piece → CharName → Atom
 char_of p c = record {
   name = c;
   key = p.key;
@@ -27,7 +27,7 @@ char_of p c = record {
 }
 
 -- its characters
-abbrev pub chars_of : Piece → List Kept
+abbrev pub chars_of : Piece → List Atom
 chars_of p = map (char_of p) (names_of (range_of p))
 
 -- one character at least and 4,096 at most, all of them within the file of a site, whose number has 16 bits

@@ -6,7 +6,7 @@ use Rattle.looks.specs.declared.key.Key.{Key}
 use Rattle.char_files.specs.declared.name.Anchor.{Anchor}
 use Rattle.char_files.specs.declared.name.Anchor.TheVariants.{Root, At}
 use Rattle.piece_raw.specs.Ring.{last_tag}
-use Rattle.tree_order.specs.Registers.{Kept}
+use Rattle.tree_order.specs.Registers.{Atom}
 use Rattle.piece_list.specs.declared.piece.Piece.{Piece}
 use Rattle.piece_list.specs.declared.place.Place.{Place}
 use Rattle.piece_list.specs.Held.{IsPlaceOf}
@@ -15,7 +15,7 @@ use Rattle.piece_list.specs.Laws.{EndAt, BeginNotAbove, IsPieceGap}
 use Rattle.piece_list.specs.Spelled.{spelled, HasName}
 
 -- the anchor is the root, or one of the characters has its name
-abbrev pub HasAnchor : List Kept → Anchor → Type 0
+abbrev pub HasAnchor : List Atom → Anchor → Type 0
 HasAnchor chars Root = Unit {0}
 HasAnchor chars (At c) = HasName chars c
 

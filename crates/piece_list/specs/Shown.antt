@@ -5,10 +5,10 @@ use Rattle.looks.specs.declared.key.Key.{Key}
 use Rattle.looks.specs.declared.looks.Looks.{Looks}
 use Rattle.char_files.specs.CharName.{CharName}
 use Rattle.operations.specs.NameSet.{names_of}
-use Rattle.tree_order.specs.Registers.{Kept, kept_looks}
+use Rattle.tree_order.specs.Registers.{Atom, atom_looks}
 use Rattle.piece_list.specs.declared.piece.Piece.{Piece}
 use Rattle.piece_list.specs.declared.run.Run.{Run}
-use Rattle.piece_list.specs.Spelled.{names_of_kept, shown_chars}
+use Rattle.piece_list.specs.Spelled.{names_of_atoms, shown_chars}
 
 -- what is told of a character that is shown: its name, the key of its Insert, and its looks
 pub record Appearance : Type 0 where
@@ -16,9 +16,9 @@ pub record Appearance : Type 0 where
   pub key : Key
   pub looks : Looks
 
--- what is told of a character that is kept
-abbrev pub appearance_of : Kept → Appearance
-appearance_of k = record { name = k.name; key = k.key; looks = kept_looks k }
+-- what is told of an atom
+abbrev pub appearance_of : Atom → Appearance
+appearance_of k = record { name = k.name; key = k.key; looks = atom_looks k }
 
 -- what a run tells of its character of this name
 abbrev pub appearance_in : Run → CharName → Appearance
@@ -41,6 +41,6 @@ abbrev pub shown_runs : List (ℕ × Piece) → List Run
 shown_runs items = map (λ m. run_of m.1) (filter (λ m. not m.1.hidden.value) items)
 
 -- so many of the characters up to the one of this name are shown, itself among them
-abbrev pub AreShownTo : List Kept → CharName → ℕ → Type 0
+abbrev pub AreShownTo : List Atom → CharName → ℕ → Type 0
 AreShownTo chars c n =
-    (k : ℕ) → slice_get (names_of_kept chars) k ≡ Some c → n ≡ length (shown_chars (take (k + 1) chars))
+    (k : ℕ) → slice_get (names_of_atoms chars) k ≡ Some c → n ≡ length (shown_chars (take (k + 1) chars))

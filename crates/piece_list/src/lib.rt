@@ -1,7 +1,6 @@
 //! A text as a list of pieces, the neighbouring characters of a site's file that were changed alike.
 #![tactic(auto)]
 
-pub mod laws;
 mod limits;
 mod list;
 mod piece;

@@ -9,8 +9,8 @@ use char_files::Name;
 use looks::Key;
 use std::marker::Model;
 
-/// How often a name was compared with a piece, or a piece's key was looked at. Both are done here and nowhere else,
-/// and each adds one, up to the greatest `u64`. This project's own.
+/// How often a name was compared with a piece, or a piece's key was looked at. Finding and placing do both here, and
+/// each adds one, up to the greatest `u64`. This project's own.
 #[derive(Drop)]
 pub(crate) struct Steps {
     count: u64,

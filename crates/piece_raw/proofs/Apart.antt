@@ -7,7 +7,7 @@ use lib.Dec.{eqb_refl}
 use mathlib.Core.Bool.{Bool}
 use denote.RawPtr.{Ptr, block_ptr, null_ptr}
 use Rattle.piece_raw.specs.Linked.{Linked, linked, same_ptr, last_from, IsApart, HasNext, HasPrev, places}
-use Rattle.piece_raw.specs.Linked.{set_value}
+use Rattle.piece_raw.specs.Linked.{IsAt, AtNode, set_value}
 use Rattle.piece_raw.proofs.Splits.{cons_head, cons_tail, cut_last, all_left, all_right, distinct_without}
 use Rattle.piece_raw.proofs.Splits.{distinct_differs, distinct_with, alike_cut, unpush}
 
@@ -150,6 +150,14 @@ module _ {V : Type 0} where
       → (xs ≡ us) × (n ≡ m) × (ys ≡ vs)
   same_node ns xs n ys us m vs d a b at = same_cut (λ (k : Linked V). k.at)
       xs n ys us m vs (subst (λ l. IsApart (places l)) a d) (sym a ∙ b) at
+
+  -- what holds of one node at p holds of the node at p
+  pub at_node : (ns : List (Linked V)) (p : Ptr) → IsApart (places ns) → (at : IsAt ns p)
+      (P : List (Linked V) → Linked V → List (Linked V) → Type 0) → P at.0 at.1 at.2 → AtNode ns p P
+  at_node ns p d at P h us m ws cut e =
+      let same = same_node ns at.0 at.1 at.2 us m ws d at.3 cut (at.4 ∙ sym e) in
+      subst (λ (k : List (Linked V) × Linked V × List (Linked V)). P k.0 k.1 k.2)
+      (λ i. (same.0 i, same.1 i, same.2 i)) h
 
   set_value_elsewhere : (p : Ptr) (w : V) (ns : List (Linked V)) →
       AllByRecursion (λ (m : Linked V). same_ptr p m.at ≡ false) ns → set_value p w ns ≡ ns

@@ -1,9 +1,13 @@
 pub mod Apart
 pub mod Blocks
 pub mod Left
+pub mod Lending
 pub mod Matching
 pub mod Memory
 pub mod Pairs
+pub mod Serving
 pub mod Sharing
 pub mod Splits
+pub mod Standing
+pub mod Walks
 pub mod Writing

@@ -3,6 +3,7 @@
 --     word_had, word_made, mark_made      a value of one pointer, and one of no bytes
 -- edge_out, edge_in, path_cut, path_glue, values_cut, values_glue      the links and the pairs are taken
 -- apart and put together
+--     next_seen, prev_seen, value_at      what lent links lend of a node
 --     fresh              a node with room for its links lies apart from every node of a path
 use mathlib.Core.Path.{◌≡◌, refl, sym, ap, subst}
 use mathlib.Core.Bool.{true, false}
@@ -18,7 +19,7 @@ use base.Fml.{Fml, Lft, Share, ftrue, feq, fat, froom, flft}
 use prog.Model.{Model}
 use types.Logic.{Logic, sem}
 use contract.Monad.{fact, fact_i, fact_use}
-use types.Kit.{Item, Goal, Seq, Step, Soaks, step, mean, prop, ‵, raw, some, ◌⊛◌, ◌$◌, ◌∵◌, !, qed, by, move}
+use types.Kit.{Item, ⋆, Goal, Seq, Step, Soaks, step, mean, prop, ‵, raw, some, ◌⊛◌, ◌$◌, ◌∵◌, !, qed, by, move}
 use types.Kit.{keep, drop, use0, use1, use2, pick, split, check, show, frame, fsplit, fjoin, fpick, fpack}
 use types.Kit.{feq_i, feq_l, rewrite, done}
 use denote.RattleType.{RattleType, Valss}
@@ -33,13 +34,15 @@ use denote.Opens.{Shut}
 use denote.Shadow.{makes_shadow}
 use denote.Steps.{nothing, only, peeks, looks, shuts}
 use denote.Struct.Laws.{RawPtr-laws}
+use denote.Struct.Lending.{lent_at}
 use denote.Struct.Struct.{Shape, Struct, within}
 use denote.Struct.Owning.{shape}
 use borrow.Table.OneValue.{part_in, part_out}
 use Rattle.std.proofs.RcSteps.{Good, word}
-use Rattle.piece_raw.specs.Linked.{Linked, same_ptr, last_from}
+use Rattle.piece_raw.specs.Linked.{Linked, same_ptr, last_from, places, HasNext, HasPrev, IsAt}
 use Rattle.piece_raw.specs.Ownership.{prev_of, next_of, link_room, edge, path, edge_lent, path_lent}
-use Rattle.piece_raw.specs.Ownership.{value_offset, value_owns, values_own, value_lent, values_lent}
+use Rattle.piece_raw.specs.Ownership.{value_offset, value_of, value_owns, values_own, value_lent, values_lent}
+use Rattle.piece_raw.specs.Ownership.{links_lent}
 use Rattle.piece_raw.specs.contracts.links.Links as L-type
 use Rattle.piece_raw.specs.contracts.block.NodePtr as N-type
 use Rattle.piece_raw.specs.contracts.block.Room as R-type
@@ -244,7 +247,7 @@ module _ {M : Type 1} {𝓤 : Ura M} (𝓛 : Logic 𝓤) where
       use2 𝓛 (‵ (path x (xs ++ ys))) (path_glue x xs ys) $ move ! (1 ∷ 0 ∷ []) $ fjoin ! $ done !
 
   -- the edge from p to q, where a and ps have them in a row
-  pub edge_seen : (κ : Lft) (a : Ptr) (ps xs : List Ptr) (p q : Ptr) (ys : List Ptr) →
+  edge_seen : (κ : Lft) (a : Ptr) (ps xs : List Ptr) (p q : Ptr) (ys : List Ptr) →
       a ∷ ps ≡ xs ++ p ∷ q ∷ ys → ent 𝓤 (sem 𝓛 (path_lent a ps κ)) (sem 𝓛 (edge_lent p q κ))
   edge_seen κ a ps [] p q ys e =
       let first : a ≡ p = cc in let rest : ps ≡ q ∷ ys = cc in
@@ -256,6 +259,16 @@ module _ {M : Type 1} {𝓤 : Ura M} (𝓛 : Logic 𝓤) where
       let rest : b ∷ ps ≡ xs ++ p ∷ q ∷ ys = cc in
       via 𝓤 (sem 𝓛 (path_lent b ps κ)) (snd∗ 𝓤 (sem 𝓛 (edge_lent a b κ)) (sem 𝓛 (path_lent b ps κ)))
       (edge_seen κ b ps xs p q ys rest)
+
+  pub next_seen : (κ : Lft) (a : Ptr) (ps : List Ptr) (p q : Ptr) → HasNext (a ∷ ps) p q →
+      ent 𝓤 (sem 𝓛 (path_lent a ps κ)) (sem 𝓛 (lent_at RawPtr (next_of p) q κ))
+  next_seen κ a ps p q h = via 𝓤 (sem 𝓛 (edge_lent p q κ)) (edge_seen κ a ps h.0 p q h.1 h.2)
+      (fst∗ 𝓤 _ (sem 𝓛 (lent_at RawPtr (prev_of q) p κ)))
+
+  pub prev_seen : (κ : Lft) (a : Ptr) (ps : List Ptr) (p q : Ptr) → HasPrev (a ∷ ps) p q →
+      ent 𝓤 (sem 𝓛 (path_lent a ps κ)) (sem 𝓛 (lent_at RawPtr (prev_of p) q κ))
+  prev_seen κ a ps p q h = via 𝓤 (sem 𝓛 (edge_lent q p κ)) (edge_seen κ a ps h.0 q p h.1 h.2)
+      (snd∗ 𝓤 (sem 𝓛 (lent_at RawPtr (next_of q) p κ)) _)
 
   module _ (E : Of) where
     abbrev Values : List (Member E) → Fml
@@ -275,10 +288,19 @@ module _ {M : Type 1} {𝓤 : Ura M} (𝓛 : Logic 𝓤) where
         fsplit ! $ move ! (2 ∷ 1 ∷ []) $
         use2 𝓛 (‵ (Values (xs ++ n ∷ ys))) (values_glue xs n ys) $ move ! (1 ∷ 0 ∷ []) $ fjoin ! $ done !
 
-    pub value_seen : (κ : Lft) (xs : List (Member E)) (n : Member E) (ys : List (Member E)) →
+    value_seen : (κ : Lft) (xs : List (Member E)) (n : Member E) (ys : List (Member E)) →
         ent 𝓤 (sem 𝓛 (values_lent (RV E) (xs ++ n ∷ ys) κ)) (sem 𝓛 (value_lent (RV E) n κ))
     value_seen κ [] n ys = fst∗ 𝓤 _ (sem 𝓛 (values_lent (RV E) ys κ))
     value_seen κ (x ∷ xs) n ys = via 𝓤 _ (snd∗ 𝓤 (sem 𝓛 (value_lent (RV E) x κ)) _) (value_seen κ xs n ys)
+
+    -- the value of the node at p
+    pub value_at : (κ : Lft) (t : Member E) (ns : List (Member E)) (p : Ptr) (at : IsAt (t ∷ ns) p) → ent 𝓤
+        (sem 𝓛 (links_lent (RV E) t ns κ)) (sem 𝓛 (lent_at (RV E) (value_of (RV E) p) at.1.value κ))
+    value_at κ t ns p at =
+        via 𝓤 _ (snd∗ 𝓤 (sem 𝓛 (path_lent t.at (places ns ++ t.at ∷ []) κ)) _)
+        (subst (λ (k : List (Member E) × Ptr). ent 𝓤 (sem 𝓛 (values_lent (RV E) k.0 κ))
+        (sem 𝓛 (lent_at (RV E) (value_of (RV E) k.1) at.1.value κ))) (λ i. (sym at.3 i, at.4 i))
+        (value_seen κ at.0 at.1 at.2))
 
 module _ {M : Type 1} {𝓤 : Ura M} (𝓛 : Logic 𝓤) (𝓜 : Model 𝓤 𝓛.H) where
   clash : (p x : Ptr) → ent 𝓤 (sep 𝓤 (sem 𝓛 (room_for ty_ptr p)) (sem 𝓛 (lies_at RawPtr full_share p x)))
@@ -298,23 +320,20 @@ module _ {M : Type 1} {𝓤 : Ura M} (𝓛 : Logic 𝓤) (𝓜 : Model 𝓤 𝓛
         | false ↦ λ e. fact_i 𝓤 (same_ptr p q ≡ false) (F q) e
       ]) refl
 
+  -- room for the links of the node at p, beside an edge from a to b whose pointers lie with q and with r
+  abbrev ends : (p q a r b : Ptr) → List (Item 𝓤)
+  ends p q a r b = ‵ (link_room p) ∷ ‵ (lies_at RawPtr full_share (next_of q) b)
+      ∷ ‵ (lies_at RawPtr full_share (prev_of r) a) ∷ []
+
   fresh_source : (p a b : Ptr) → ent 𝓤 (sep 𝓤 (sem 𝓛 (link_room p)) (sem 𝓛 (edge a b)))
       (fact 𝓤 (same_ptr p a ≡ false))
-  fresh_source p a b = differ p a (λ r. sep 𝓤 (sem 𝓛 (link_room p))
-      (sep 𝓤 (sem 𝓛 (lies_at RawPtr full_share (next_of r) b)) (sem 𝓛 (lies_at RawPtr full_share (prev_of b)
-      a))))
-      (qed 𝓛 (‵ (link_room p) ∷ ‵ (lies_at RawPtr full_share (next_of p) b)
-      ∷ ‵ (lies_at RawPtr full_share (prev_of b) a) ∷ []) ∵ fsplit ! $ keep ! (1 ∷ 2 ∷ []) $
-      by ! (clash (next_of p) b))
+  fresh_source p a b = differ p a (λ q. ⋆ 𝓛 (ends p q a b b)) (qed 𝓛 (ends p p a b b) ∵ fsplit ! $
+      keep ! (1 ∷ 2 ∷ []) $ by ! (clash (next_of p) b))
 
   fresh_target : (p a b : Ptr) → ent 𝓤 (sep 𝓤 (sem 𝓛 (link_room p)) (sem 𝓛 (edge a b)))
       (fact 𝓤 (same_ptr p b ≡ false))
-  fresh_target p a b = differ p b (λ r. sep 𝓤 (sem 𝓛 (link_room p))
-      (sep 𝓤 (sem 𝓛 (lies_at RawPtr full_share (next_of a) b)) (sem 𝓛 (lies_at RawPtr full_share (prev_of r)
-      a))))
-      (qed 𝓛 (‵ (link_room p) ∷ ‵ (lies_at RawPtr full_share (next_of a) b)
-      ∷ ‵ (lies_at RawPtr full_share (prev_of p) a) ∷ []) ∵ fsplit ! $ keep ! (0 ∷ 3 ∷ []) $
-      by ! (clash (prev_of p) a))
+  fresh_target p a b = differ p b (λ r. ⋆ 𝓛 (ends p a a r b)) (qed 𝓛 (ends p a a p b) ∵ fsplit ! $
+      keep ! (0 ∷ 3 ∷ []) $ by ! (clash (prev_of p) a))
 
   fresh_along : (p a : Ptr) (ps : List Ptr) → ent 𝓤 (sep 𝓤 (sem 𝓛 (link_room p)) (sem 𝓛 (path a ps)))
       (fact 𝓤 (IsFresh p ps))

@@ -7,7 +7,7 @@ use Rattle.std.proofs.lemmas.Bool.{cases_lt}
 use Rattle.std.proofs.lemmas.List.{take_all, take_min, take-set-le, length-drop, length-set}
 use Rattle.std.proofs.lemmas.List.{length-append, get_or_append_left, get_or_push, get_or-set_same, get_or-set_other}
 use Rattle.rank_index.specs.declared.groups.TheConstants.{GROUP}
-use Rattle.rank_index.specs.Chunks.{Stretch, members_of}
+use Rattle.rank_index.specs.Chunks.{ChunkSeen, members_of}
 use Rattle.rank_index.specs.Groups.{AreGroups, AreSums, weight_to}
 use Rattle.rank_index.specs.Ranked.{weight_of}
 use Rattle.rank_index.proofs.ChunkRank.{weight_of-append}
@@ -16,20 +16,20 @@ use Rattle.rank_index.proofs.Tagged.{Members}
 use Rattle.rank_index.proofs.Weights.{weight_at, weight_parts, weight_to-most}
 
 -- so many chunks more
-pub weight_to-more : (chunks : List Stretch) (n k : ℕ)
+pub weight_to-more : (chunks : List ChunkSeen) (n k : ℕ)
     → weight_to chunks (n + k) ≡ weight_to chunks n + weight_of (members_of (take k (drop n chunks)))
 weight_to-more chunks n k =
-    ap (λ (l : List Stretch). weight_of (members_of l)) (take-add n k chunks)
+    ap (λ (l : List ChunkSeen). weight_of (members_of l)) (take-add n k chunks)
     ∙ ap weight_of (members_of-append (take n chunks) (take k (drop n chunks)))
     ∙ weight_of-append (members_of (take n chunks)) (members_of (take k (drop n chunks)))
 
 -- all of them
-pub weight_to-all : (chunks : List Stretch) (n : ℕ) → length chunks ≤ n
+pub weight_to-all : (chunks : List ChunkSeen) (n : ℕ) → length chunks ≤ n
     → weight_to chunks n ≡ weight_of (members_of chunks)
-weight_to-all chunks n le = ap (λ (l : List Stretch). weight_of (members_of l)) (take_all n chunks le)
+weight_to-all chunks n le = ap (λ (l : List ChunkSeen). weight_of (members_of l)) (take_all n chunks le)
 
 -- a group more has its sum
-pub group_more : (groups : List ℕ) (chunks : List Stretch) (n s : ℕ)
+pub group_more : (groups : List ℕ) (chunks : List ChunkSeen) (n s : ℕ)
     → AreSums groups chunks
     → n ≡ min GROUP (length chunks - GROUP * length groups)
     → s ≡ weight_of (members_of (take n (drop (GROUP * length groups) chunks)))
@@ -39,11 +39,11 @@ group_more groups chunks n s sums capped is k lt =
     let done : ℕ = GROUP * length groups in
     elim (eq-or-lt_of_le within) [
       | inl last ↦
-          let rest : List Stretch = drop done chunks in
+          let rest : List ChunkSeen = drop done chunks in
           let count : n ≡ min GROUP (length rest) =
           capped ∙ ap (min GROUP) (sym (length-drop done chunks)) in
           let sum : s ≡ weight_of (members_of (take GROUP rest)) =
-          is ∙ ap (λ (l : List Stretch). weight_of (members_of l))
+          is ∙ ap (λ (l : List ChunkSeen). weight_of (members_of l))
           (ap (λ (m : ℕ). take m rest) count ∙ take_min GROUP rest) in
           let next : GROUP * (k + 1) ≡ done + GROUP = omega (arith, last) in
           omega (
@@ -58,7 +58,7 @@ group_more groups chunks n s sums capped is k lt =
     ]
 
 -- a chunk with other members
-weight_to-set : (chunks : List Stretch) (place n : ℕ) (c d : Stretch) → place < length chunks
+weight_to-set : (chunks : List ChunkSeen) (place n : ℕ) (c d : ChunkSeen) → place < length chunks
     → c ≡ get_or chunks place c → place < n
     → weight_to (set chunks place d) n + weight_of c.members ≡ weight_to chunks n + weight_of d.members
 weight_to-set chunks place n c d lt is past =
@@ -69,18 +69,18 @@ weight_to-set chunks place n c d lt is past =
       changed d,
       weight_parts chunks n,
       weight_parts (set chunks place d) n,
-      ap (λ (l : List Stretch). weight_of (members_of l)) (drop-set-lt n chunks place d past),
+      ap (λ (l : List ChunkSeen). weight_of (members_of l)) (drop-set-lt n chunks place d past),
     )
 
 -- the sum of its group goes with it, and the others stay
-pub groups_set : (groups : List ℕ) (chunks : List Stretch) (place : ℕ) (c d : Stretch) (s : ℕ)
+pub groups_set : (groups : List ℕ) (chunks : List ChunkSeen) (place : ℕ) (c d : ChunkSeen) (s : ℕ)
     → place < length chunks → c ≡ get_or chunks place c → AreGroups groups chunks
     → s + weight_of c.members ≡ get_or groups (place / GROUP) 0 + weight_of d.members
     → AreGroups (set groups (place / GROUP) s) (set chunks place d)
 groups_set groups chunks place c d s lt is are told =
     let g : ℕ = place / GROUP in
     let within : g < length groups = omega (arith, lt, are.all) in
-    let weight : List Stretch → ℕ = λ (l : List Stretch). weight_of (members_of l) in
+    let weight : List ChunkSeen → ℕ = λ (l : List ChunkSeen). weight_of (members_of l) in
     let low : (n : ℕ) → n ≤ place → weight_to (set chunks place d) n ≡ weight_to chunks n =
     λ (n : ℕ) (le : n ≤ place). ap weight (take-set-le n chunks place d le) in
     let high : (n : ℕ) → place < n
@@ -121,31 +121,31 @@ groups_set groups chunks place c d s lt is are told =
     }
 
 -- a sum tells of no more than all chunks, and of no less than one of its own
-pub group_among : (groups : List ℕ) (chunks : List Stretch) (k : ℕ) → AreGroups groups chunks → k < length groups
+pub group_among : (groups : List ℕ) (chunks : List ChunkSeen) (k : ℕ) → AreGroups groups chunks → k < length groups
     → get_or groups k 0 ≤ weight_of (members_of chunks)
 group_among groups chunks k are lt =
     omega (arith, are.sums k lt, weight_to-most chunks (GROUP * (k + 1)))
 
-pub in_group : (groups : List ℕ) (chunks : List Stretch) (place : ℕ) (c : Stretch) → place < length chunks
+pub in_group : (groups : List ℕ) (chunks : List ChunkSeen) (place : ℕ) (c : ChunkSeen) → place < length chunks
     → c ≡ get_or chunks place c → AreGroups groups chunks
     → weight_of c.members ≤ get_or groups (place / GROUP) 0
 in_group groups chunks place c lt is are =
     let g : ℕ = place / GROUP in
-    let none : Stretch = record { members = []; home = 0 } in
+    let none : ChunkSeen = record { members = []; home = 0 } in
     let next : GROUP * (g + 1) ≡ GROUP * g + GROUP = omega arith in
     omega (
       arith,
       are.sums g (omega (arith, lt, are.all)),
-      ap (λ (l : List Stretch). weight_of (members_of l)) (take-set-le (GROUP * g) chunks place none (omega arith)),
+      ap (λ (l : List ChunkSeen). weight_of (members_of l)) (take-set-le (GROUP * g) chunks place none (omega arith)),
       weight_to-set chunks place (GROUP * (g + 1)) c none lt is (omega arith),
       ap (weight_to (set chunks place none)) next,
       weight_to-more (set chunks place none) (GROUP * g) GROUP,
     )
 
 -- a single chunk without members
-pub groups_alone : (c : Stretch) → c.members ≡ [] → AreGroups (0 ∷ []) (c ∷ [])
+pub groups_alone : (c : ChunkSeen) → c.members ≡ [] → AreGroups (0 ∷ []) (c ∷ [])
 groups_alone c none =
-    let chunks : List Stretch = c ∷ [] in
+    let chunks : List ChunkSeen = c ∷ [] in
     let weightless : weight_of (members_of chunks) ≡ 0 = ap (λ (l : Members). weight_of (l ++ [])) none in
     record {
       sums = λ (k : ℕ) (lt : k < 1).

@@ -6,7 +6,7 @@ use Rattle.std.proofs.lemmas.List.Elements.{All-cons, All-nil, All-head, All-tai
 use Rattle.std.proofs.lemmas.Option.{same_Some, slice_get_within}
 use Rattle.piece_raw.specs.Ring.{HasTag, AreTags}
 use Rattle.rank_index.specs.declared.chunk.TheConstants.{MOST, HALF}
-use Rattle.rank_index.specs.Chunks.{Stretch, members_of, AreEntered, AreHomes, AreHalfFull, AreTied, IsHalved}
+use Rattle.rank_index.specs.Chunks.{ChunkSeen, members_of, AreEntered, AreHomes, AreHalfFull, AreTied, IsHalved}
 use Rattle.rank_index.specs.Chunks.{IsPlaceOf, HasRoom}
 use Rattle.rank_index.proofs.Homes.{homes_kept}
 use Rattle.std.specs.List.{insert}
@@ -17,11 +17,11 @@ use Rattle.rank_index.proofs.Tagged.{Members, AreApart, HasTag-append, HasTag-le
 use Rattle.rank_index.proofs.Tagged.{apart_left, apart_right}
 
 -- half full chunks have many members
-half_full : (chunks : List Stretch) → All (λ c. HALF ≤ length c.members) chunks
+half_full : (chunks : List ChunkSeen) → All (λ c. HALF ≤ length c.members) chunks
     → HALF * length chunks ≤ length (members_of chunks)
 half_full [] all = omega arith
 half_full (c ∷ chunks) all =
-    let P : Stretch → Type 0 = λ (d : Stretch). HALF ≤ length d.members in
+    let P : ChunkSeen → Type 0 = λ (d : ChunkSeen). HALF ≤ length d.members in
     let here : HALF ≤ length c.members = All-head P c chunks all in
     omega (
       arith,
@@ -31,7 +31,7 @@ half_full (c ∷ chunks) all =
     )
 
 -- a full chunk among them tells of half a chunk more
-pub full_among : (chunks : List Stretch) (place : ℕ) (c : Stretch) → AreHalfFull chunks
+pub full_among : (chunks : List ChunkSeen) (place : ℕ) (c : ChunkSeen) → AreHalfFull chunks
     → slice_get chunks place ≡ Some c → MOST ≤ length c.members
     → HALF * (length chunks + 1) ≤ length (members_of chunks)
 full_among chunks place c half at full =
@@ -40,34 +40,34 @@ full_among chunks place c half at full =
     ap length cut ∙ length-append ahead (c ∷ behind) in
     let members : length (members_of chunks)
     ≡ length (members_of ahead) + (length c.members + length (members_of behind)) =
-    ap (λ (l : List Stretch). length (members_of l)) cut ∙ ap length (members_of-seam ahead c behind)
+    ap (λ (l : List ChunkSeen). length (members_of l)) cut ∙ ap length (members_of-seam ahead c behind)
     ∙ length-append (members_of ahead) (c.members ++ members_of behind)
     ∙ ap (λ (n : ℕ). length (members_of ahead) + n) (length-append c.members (members_of behind)) in
     elim half [
       | inl one ↦ omega (arith, members, full, one)
       | inr all ↦
-          let P : Stretch → Type 0 = λ (d : Stretch). HALF ≤ length d.members in
+          let P : ChunkSeen → Type 0 = λ (d : ChunkSeen). HALF ≤ length d.members in
           let (left, here, right) = all_parts P ahead c behind (subst (All P) cut all) in
           omega (arith, members, full, count, half_full ahead left, half_full behind right)
     ]
 
 -- its place is that of one of them
-pub full_within : (chunks : List Stretch) (place : ℕ)
-    → (c : Stretch) × (slice_get chunks place ≡ Some c) × (length c.members ≡ MOST) → place < length chunks
+pub full_within : (chunks : List ChunkSeen) (place : ℕ)
+    → (c : ChunkSeen) × (slice_get chunks place ≡ Some c) × (length c.members ≡ MOST) → place < length chunks
 full_within chunks place (c, at, full) = slice_get_within chunks place c at
 
-none : (xs : List Stretch) → length xs ≡ 0 → All (λ c. HALF ≤ length c.members) xs
-none [] e = All-nil (λ (c : Stretch). HALF ≤ length c.members)
+none : (xs : List ChunkSeen) → length xs ≡ 0 → All (λ c. HALF ≤ length c.members) xs
+none [] e = All-nil (λ (c : ChunkSeen). HALF ≤ length c.members)
 none (x ∷ xs) e = absurd (omega arith)
 
 -- the same chunks, with one of them in two parts
-module _ (ahead : List Stretch) (whole front rest : Stretch) (behind : List Stretch)
+module _ (ahead : List ChunkSeen) (whole front rest : ChunkSeen) (behind : List ChunkSeen)
     (parts : whole.members ≡ front.members ++ rest.members)
   where
-    abbrev old : List Stretch
+    abbrev old : List ChunkSeen
     old = ahead ++ whole ∷ behind
 
-    abbrev new : List Stretch
+    abbrev new : List ChunkSeen
     new = ahead ++ front ∷ rest ∷ behind
 
     members_halved : members_of new ≡ members_of old
@@ -83,8 +83,8 @@ module _ (ahead : List Stretch) (whole front rest : Stretch) (behind : List Stre
         → ((tag : ℕ) → (HasTag rest.members tag → ⊥) → slice_get after tag ≡ slice_get before tag)
         → AreHomes after new
     homes_halved before after apart are same entered others =
-        let P : Stretch → Type 0 = λ (c : Stretch). AreEntered before c.home c.members in
-        let Q : Stretch → Type 0 = λ (c : Stretch). AreEntered after c.home c.members in
+        let P : ChunkSeen → Type 0 = λ (c : ChunkSeen). AreEntered before c.home c.members in
+        let Q : ChunkSeen → Type 0 = λ (c : ChunkSeen). AreEntered after c.home c.members in
         let in_whole : (tag : ℕ) → HasTag rest.members tag → HasTag whole.members tag =
         λ (tag : ℕ) (h : HasTag rest.members tag).
         subst (λ (l : Members). HasTag l tag) (sym parts) (HasTag-right front.members rest.members tag h) in
@@ -108,7 +108,7 @@ module _ (ahead : List Stretch) (whole front rest : Stretch) (behind : List Stre
 
     halves_halved : AreHalfFull old → length front.members ≡ HALF → length rest.members ≡ HALF → AreHalfFull new
     halves_halved half first second =
-        let P : Stretch → Type 0 = λ (c : Stretch). HALF ≤ length c.members in
+        let P : ChunkSeen → Type 0 = λ (c : ChunkSeen). HALF ≤ length c.members in
         let count : length old ≡ length ahead + length (whole ∷ behind) = length-append ahead (whole ∷ behind) in
         let both : All P ahead × All P behind = elim half [
           | inl one ↦ (none ahead (omega (arith, count, one)), none behind (omega (arith, count, one)))
@@ -131,7 +131,7 @@ module _ (ahead : List Stretch) (whole front rest : Stretch) (behind : List Stre
     }
 
 -- there is one chunk more; where there are as few as before, all is as it was
-pub same_if_few : (at : ℕ) (was now : List Stretch) → IsHalved at was now → length now ≤ length was → now ≡ was
+pub same_if_few : (at : ℕ) (was now : List ChunkSeen) → IsHalved at was now → length now ≤ length was → now ≡ was
 same_if_few at was now halved few =
     absurd (omega (
       arith,
@@ -143,21 +143,21 @@ same_if_few at was now halved few =
     ))
 
 -- where a member of the whole is now
-module _ (at : ℕ) (was now : List Stretch) (halved : IsHalved at was now) where
+module _ (at : ℕ) (was now : List ChunkSeen) (halved : IsHalved at was now) where
   pub at_front : slice_get now at ≡ Some halved.front
   at_front =
-      subst (λ (l : List Stretch). slice_get l at ≡ Some halved.front) (sym halved.is)
+      subst (λ (l : List ChunkSeen). slice_get l at ≡ Some halved.front) (sym halved.is)
       (ap (slice_get (halved.ahead ++ halved.front ∷ halved.rest ∷ halved.behind)) halved.place
       ∙ get-seam halved.ahead halved.front (halved.rest ∷ halved.behind))
 
   pub at_rest : slice_get now (at + 1) ≡ Some halved.rest
   at_rest =
-      let longer : List Stretch = halved.ahead ++ halved.front ∷ [] in
+      let longer : List ChunkSeen = halved.ahead ++ halved.front ∷ [] in
       let is : now ≡ longer ++ halved.rest ∷ halved.behind =
       halved.is ∙ sym (append_assoc halved.ahead (halved.front ∷ []) (halved.rest ∷ halved.behind)) in
       let next : at + 1 ≡ length longer =
       omega (arith, halved.place, length-append halved.ahead (halved.front ∷ [])) in
-      subst (λ (l : List Stretch). slice_get l (at + 1) ≡ Some halved.rest) (sym is)
+      subst (λ (l : List ChunkSeen). slice_get l (at + 1) ≡ Some halved.rest) (sym is)
       (ap (slice_get (longer ++ halved.rest ∷ halved.behind)) next ∙ get-seam longer halved.rest halved.behind)
 
   pub room_at_front : HasRoom now at
@@ -169,12 +169,12 @@ module _ (at : ℕ) (was now : List Stretch) (halved : IsHalved at was now) wher
   in_a_half : (tag : ℕ) → IsPlaceOf was at tag → HasTag halved.front.members tag ⊎ HasTag halved.rest.members tag
   in_a_half tag (c, there, has) =
       let whole : slice_get was at ≡ Some halved.whole =
-      subst (λ (l : List Stretch). slice_get l at ≡ Some halved.whole) (sym halved.was)
+      subst (λ (l : List ChunkSeen). slice_get l at ≡ Some halved.whole) (sym halved.was)
       (ap (slice_get (halved.ahead ++ halved.whole ∷ halved.behind)) halved.place
       ∙ get-seam halved.ahead halved.whole halved.behind) in
       let same : c ≡ halved.whole = same_Some c halved.whole (sym there ∙ whole) in
       HasTag-append halved.front.members halved.rest.members tag
-      (subst (λ (l : Members). HasTag l tag) (ap (λ (d : Stretch). d.members) same ∙ halved.parts) has)
+      (subst (λ (l : Members). HasTag l tag) (ap (λ (d : ChunkSeen). d.members) same ∙ halved.parts) has)
 
   pub behind_in_rest : (tag : ℕ) → IsPlaceOf was at tag → (HasTag halved.front.members tag → ⊥)
       → IsPlaceOf now (at + 1) tag
@@ -184,25 +184,25 @@ module _ (at : ℕ) (was now : List Stretch) (halved : IsHalved at was now) wher
   ]
 
   -- what the code reads at the place is the front
-  pub in_front : (tag : ℕ) (c : Stretch) → c ≡ get_or now at c → HasTag c.members tag
+  pub in_front : (tag : ℕ) (c : ChunkSeen) → c ≡ get_or now at c → HasTag c.members tag
       → HasTag halved.front.members tag
   in_front tag c is has =
-      subst (λ (d : Stretch). HasTag d.members tag) (is_read now at halved.front c at_front is) has
+      subst (λ (d : ChunkSeen). HasTag d.members tag) (is_read now at halved.front c at_front is) has
 
-  pub from_front : (tag : ℕ) → HasTag halved.front.members tag → (c : Stretch) → c ≡ get_or now at c
+  pub from_front : (tag : ℕ) → HasTag halved.front.members tag → (c : ChunkSeen) → c ≡ get_or now at c
       → HasTag c.members tag
   from_front tag has c is =
-      subst (λ (d : Stretch). HasTag d.members tag) (sym (is_read now at halved.front c at_front is)) has
+      subst (λ (d : ChunkSeen). HasTag d.members tag) (sym (is_read now at halved.front c at_front is)) has
 
 -- what the code makes of the chunk that it reads at a place
-module _ (chunks : List Stretch) (at : ℕ) (whole front rest : Stretch) (lt : at < length chunks)
+module _ (chunks : List ChunkSeen) (at : ℕ) (whole front rest : ChunkSeen) (lt : at < length chunks)
     (is_read : whole ≡ get_or chunks at whole) (parts : whole.members ≡ front.members ++ rest.members)
     (halves : (length front.members ≡ HALF) × (length rest.members ≡ HALF))
   where
-    abbrev made : List Stretch
+    abbrev made : List ChunkSeen
     made = insert (set chunks at front) (at + 1) rest
 
-    made_of : (ahead behind : List Stretch) → at ≡ length ahead → set chunks at front ≡ ahead ++ front ∷ behind
+    made_of : (ahead behind : List ChunkSeen) → at ≡ length ahead → set chunks at front ≡ ahead ++ front ∷ behind
         → made ≡ ahead ++ front ∷ rest ∷ behind
     made_of ahead behind place e =
         (λ i. insert (e i) (place i + 1) rest) ∙ insert-behind ahead front rest behind

@@ -7,7 +7,7 @@ use Rattle.std.proofs.lemmas.List.{take_more}
 use Rattle.std.proofs.lemmas.List.Elements.{All-weaker, All-cons, All-nil, All-head, All-tail}
 use Rattle.std.proofs.lemmas.Option.{slice_get_within, slice_get-get_or, get_or_from_slice_get}
 use Rattle.piece_raw.specs.Ring.{HasTag, IsPushed}
-use Rattle.rank_index.specs.Chunks.{Stretch, members_of, AreEntered, AreHomes}
+use Rattle.rank_index.specs.Chunks.{ChunkSeen, members_of, AreEntered, AreHomes}
 use Rattle.rank_index.proofs.Pieces.{all_parts, all_whole, all_at, get-left, get-seam, cut_read}
 use Rattle.rank_index.proofs.Stretches.{chunk_with}
 use Rattle.rank_index.proofs.Tagged.{Members, HasTag-append, HasTag-cons, HasTag-left, HasTag-right, HasTag-nil}
@@ -26,12 +26,12 @@ module _ {X : Type 0} where
   get-set_other (y ∷ xs) (suc k) zero x ne = refl
   get-set_other (y ∷ xs) (suc k) (suc j) x ne = get-set_other xs k j x (λ (e : j ≡ k). ne (ap suc e))
 
-pub home_at : (homes : List ℕ) (chunks : List Stretch) (place : ℕ) (c : Stretch) (tag : ℕ) → AreHomes homes chunks
+pub home_at : (homes : List ℕ) (chunks : List ChunkSeen) (place : ℕ) (c : ChunkSeen) (tag : ℕ) → AreHomes homes chunks
     → slice_get chunks place ≡ Some c → HasTag c.members tag → slice_get homes tag ≡ Some c.home
 home_at homes chunks place c tag are at has =
-    all_at (λ (d : Stretch). AreEntered homes d.home d.members) chunks place c are at tag has
+    all_at (λ (d : ChunkSeen). AreEntered homes d.home d.members) chunks place c are at tag has
 
-pub tag_within : (homes : List ℕ) (chunks : List Stretch) (tag : ℕ) → AreHomes homes chunks
+pub tag_within : (homes : List ℕ) (chunks : List ChunkSeen) (tag : ℕ) → AreHomes homes chunks
     → HasTag (members_of chunks) tag → tag < length homes
 tag_within homes chunks tag are h =
     let (place, (c, at, has)) = chunk_with chunks tag h in
@@ -87,15 +87,15 @@ HasTag-read members k d lt =
     (m.1, (take k members, drop (suc k) members, cut_read members k m lt (read_same members k d lt)))
 
 -- a new member is entered behind all others
-pub homes_pushed : (homes : List ℕ) (ahead : List Stretch) (c d : Stretch) (behind : List Stretch)
+pub homes_pushed : (homes : List ℕ) (ahead : List ChunkSeen) (c d : ChunkSeen) (behind : List ChunkSeen)
     (after : Option ℕ) (tag w : ℕ) → AreHomes homes (ahead ++ c ∷ behind) → d.home ≡ c.home → tag ≡ length homes
     → IsPushed c.members after tag w d.members → AreHomes (homes ++ d.home ∷ []) (ahead ++ d ∷ behind)
 homes_pushed homes ahead c d behind after tag w are same next (xs, ys, was, last, is) =
-    let P : Stretch → Type 0 = λ (e : Stretch). AreEntered homes e.home e.members in
-    let Q : Stretch → Type 0 = λ (e : Stretch). AreEntered (homes ++ d.home ∷ []) e.home e.members in
+    let P : ChunkSeen → Type 0 = λ (e : ChunkSeen). AreEntered homes e.home e.members in
+    let Q : ChunkSeen → Type 0 = λ (e : ChunkSeen). AreEntered (homes ++ d.home ∷ []) e.home e.members in
     let (left, here, right) = all_parts P ahead c behind are in
-    let kept : (e : Stretch) → P e → Q e =
-    λ (e : Stretch) (p : P e) (t : ℕ) (has : HasTag e.members t).
+    let kept : (e : ChunkSeen) → P e → Q e =
+    λ (e : ChunkSeen) (p : P e) (t : ℕ) (has : HasTag e.members t).
     get-left homes (d.home ∷ []) t e.home (p t has) in
     let old : (t : ℕ) → HasTag (xs ++ ys) t → slice_get (homes ++ d.home ∷ []) t ≡ Some d.home =
     λ (t : ℕ) (has : HasTag (xs ++ ys) t).
@@ -117,12 +117,12 @@ homes_pushed homes ahead c d behind after tag w are same next (xs, ys, was, last
 -- what is entered elsewhere stays, for chunks of which no member is among these
 pub homes_kept : (old new : List ℕ) (others : Members)
     → ((tag : ℕ) → (HasTag others tag → ⊥) → slice_get new tag ≡ slice_get old tag)
-    → (chunks : List Stretch) → ((tag : ℕ) → HasTag others tag → HasTag (members_of chunks) tag → ⊥)
+    → (chunks : List ChunkSeen) → ((tag : ℕ) → HasTag others tag → HasTag (members_of chunks) tag → ⊥)
     → AreHomes old chunks → AreHomes new chunks
-homes_kept old new others same [] apart are = All-nil (λ (e : Stretch). AreEntered new e.home e.members)
+homes_kept old new others same [] apart are = All-nil (λ (e : ChunkSeen). AreEntered new e.home e.members)
 homes_kept old new others same (c ∷ chunks) apart are =
-    let P : Stretch → Type 0 = λ (e : Stretch). AreEntered old e.home e.members in
-    let Q : Stretch → Type 0 = λ (e : Stretch). AreEntered new e.home e.members in
+    let P : ChunkSeen → Type 0 = λ (e : ChunkSeen). AreEntered old e.home e.members in
+    let Q : ChunkSeen → Type 0 = λ (e : ChunkSeen). AreEntered new e.home e.members in
     let here : Q c = λ (tag : ℕ) (has : HasTag c.members tag).
     same tag (λ (h : HasTag others tag). apart tag h (HasTag-left c.members (members_of chunks) tag has))
     ∙ All-head P c chunks are tag has in
@@ -131,7 +131,7 @@ homes_kept old new others same (c ∷ chunks) apart are =
     (All-tail P c chunks are))
 
 -- a tag of the second part of a chunk's members has its place in the table
-pub part_within : (homes : List ℕ) (chunks : List Stretch) (place : ℕ) (c : Stretch) (front rest : Members)
+pub part_within : (homes : List ℕ) (chunks : List ChunkSeen) (place : ℕ) (c : ChunkSeen) (front rest : Members)
     → AreHomes homes chunks → slice_get chunks place ≡ Some c → c.members ≡ front ++ rest
     → (tag : ℕ) → HasTag rest tag → tag < length homes
 part_within homes chunks place c front rest are at parts tag has =

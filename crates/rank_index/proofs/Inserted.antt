@@ -7,7 +7,7 @@ use Rattle.std.proofs.Math.ListN.{set}
 use Rattle.std.proofs.lemmas.List.Elements.{All-cons, All-nil}
 use Rattle.piece_raw.specs.Ring.{HasTag, AreTags, IsPushed, last_tag}
 use Rattle.rank_index.specs.declared.chunk.TheConstants.{HALF}
-use Rattle.rank_index.specs.Chunks.{Stretch, members_of, AreEntered, AreHalfFull, AreTied}
+use Rattle.rank_index.specs.Chunks.{ChunkSeen, members_of, AreEntered, AreHalfFull, AreTied}
 use Rattle.rank_index.specs.Chunks.{IsPlaceBehind}
 use Rattle.rank_index.specs.Ranked.{weight_of}
 use Rattle.rank_index.proofs.ChunkRank.{weight_of-append, weight_of-cut}
@@ -17,11 +17,11 @@ use Rattle.rank_index.proofs.Stretches.{members_of-seam}
 use Rattle.rank_index.proofs.Tagged.{Members, HasTag-nil, tags_pushed}
 
 -- no members at all
-pub tied_empty : (c : Stretch) → c.members ≡ [] → AreTied [] (c ∷ [])
+pub tied_empty : (c : ChunkSeen) → c.members ≡ [] → AreTied [] (c ∷ [])
 unfolding IsDistinct
 tied_empty c e =
     let none : members_of (c ∷ []) ≡ [] = ap (λ (l : Members). l ++ []) e in
-    let P : Stretch → Type 0 = λ (d : Stretch). AreEntered [] d.home d.members in
+    let P : ChunkSeen → Type 0 = λ (d : ChunkSeen). AreEntered [] d.home d.members in
     let no_tags : AreTags {T = ℕ} [] = (tt, tt) in
     record {
       tags = subst AreTags (sym none) no_tags;
@@ -33,10 +33,10 @@ tied_empty c e =
     }
 
 -- a chunk with as many members at least
-pub half_full : (ahead : List Stretch) (c d : Stretch) (behind : List Stretch) → length c.members ≤ length d.members
+pub half_full : (ahead : List ChunkSeen) (c d : ChunkSeen) (behind : List ChunkSeen) → length c.members ≤ length d.members
     → AreHalfFull (ahead ++ c ∷ behind) → AreHalfFull (ahead ++ d ∷ behind)
 half_full ahead c d behind le half =
-    let P : Stretch → Type 0 = λ (e : Stretch). HALF ≤ length e.members in
+    let P : ChunkSeen → Type 0 = λ (e : ChunkSeen). HALF ≤ length e.members in
     elim half [
       | inl one ↦ inl (omega (arith, one, length-append ahead (c ∷ behind), length-append ahead (d ∷ behind)))
       | inr all ↦
@@ -53,7 +53,7 @@ last_tag-append [] ys tag e = e
 last_tag-append (x ∷ xs) ys tag e = last_tag-cons x (xs ++ ys) tag (last_tag-append xs ys tag e)
 
 -- what stands last ahead of the place in the chunk stands last ahead of it in the whole
-last_ahead : (chunks ahead : List Stretch) (place : ℕ) (xs : Members) (after : Option ℕ) → place ≡ length ahead
+last_ahead : (chunks ahead : List ChunkSeen) (place : ℕ) (xs : Members) (after : Option ℕ) → place ≡ length ahead
     → IsPlaceBehind chunks place after → last_tag xs ≡ after → last_tag (members_of ahead ++ xs) ≡ after
 last_ahead chunks [] place xs after at behind e = e
 last_ahead chunks (c ∷ ahead) place xs None at behind e = absurd (omega (arith, at, behind))
@@ -71,7 +71,7 @@ pub weight_pushed : (old new : Members) (after : Option ℕ) (tag w : ℕ) → I
 weight_pushed old new after tag w (xs, ys, was, last, is) =
     omega (arith, ap weight_of is, ap weight_of was, weight_of-cut xs (tag, w) ys, weight_of-append xs ys)
 
-module _ (ahead : List Stretch) (c d : Stretch) (behind : List Stretch) where
+module _ (ahead : List ChunkSeen) (c d : ChunkSeen) (behind : List ChunkSeen) where
   pushed_in_all : (place : ℕ) (after : Option ℕ) (tag w : ℕ) → place ≡ length ahead
       → IsPlaceBehind (ahead ++ c ∷ behind) place after → IsPushed c.members after tag w d.members
       → IsPushed (members_of (ahead ++ c ∷ behind)) after tag w (members_of (ahead ++ d ∷ behind))
@@ -112,22 +112,22 @@ module _ (ahead : List Stretch) (c d : Stretch) (behind : List Stretch) where
       }
 
 -- the same of the chunk that the code reads at a place and changes there
-module _ (chunks : List Stretch) (place : ℕ) (c d : Stretch) (lt : place < length chunks)
+module _ (chunks : List ChunkSeen) (place : ℕ) (c d : ChunkSeen) (lt : place < length chunks)
     (is : c ≡ get_or chunks place c) (after : Option ℕ) (tag w : ℕ)
     (is_behind : IsPlaceBehind chunks place after) (put : IsPushed c.members after tag w d.members)
   where
     pub pushed_here : IsPushed (members_of chunks) after tag w (members_of (set chunks place d))
     pushed_here =
         let (ahead, behind, cut, at, changed) = seam_at chunks place c lt is in
-        subst (λ (l : List Stretch). IsPushed (members_of chunks) after tag w (members_of l)) (sym (changed d))
-        (subst (λ (l : List Stretch). IsPushed (members_of l) after tag w (members_of (ahead ++ d ∷ behind)))
+        subst (λ (l : List ChunkSeen). IsPushed (members_of chunks) after tag w (members_of l)) (sym (changed d))
+        (subst (λ (l : List ChunkSeen). IsPushed (members_of l) after tag w (members_of (ahead ++ d ∷ behind)))
         (sym cut) (pushed_in_all ahead c d behind place after tag w at
-        (subst (λ (l : List Stretch). IsPlaceBehind l place after) cut is_behind) put))
+        (subst (λ (l : List ChunkSeen). IsPlaceBehind l place after) cut is_behind) put))
 
     pub tied_pushed_here : (homes : List ℕ) → d.home ≡ c.home → tag ≡ length (members_of chunks)
         → AreTied homes chunks → AreTied (homes ++ d.home ∷ []) (set chunks place d)
     tied_pushed_here homes same next tied =
         let (ahead, behind, cut, at, changed) = seam_at chunks place c lt is in
         subst (AreTied (homes ++ d.home ∷ [])) (sym (changed d)) (tied_pushed ahead c d behind homes place after
-        tag w at (subst (λ (l : List Stretch). IsPlaceBehind l place after) cut is_behind) put same
-        (next ∙ ap (λ (l : List Stretch). length (members_of l)) cut) (subst (AreTied homes) cut tied))
+        tag w at (subst (λ (l : List ChunkSeen). IsPlaceBehind l place after) cut is_behind) put same
+        (next ∙ ap (λ (l : List ChunkSeen). length (members_of l)) cut) (subst (AreTied homes) cut tied))

@@ -8,7 +8,7 @@ use Rattle.std.proofs.lemmas.Bool.Decides.{eqb_tells}
 use Rattle.std.proofs.lemmas.List.{take-append-drop, length-take-le}
 use Rattle.std.proofs.lemmas.Option.{same_Some, slice_get_within, slice_get_read, get_or_from_slice_get}
 use Rattle.piece_raw.specs.Ring.{HasTag}
-use Rattle.rank_index.specs.Chunks.{Stretch, members_of, AreHomes, ArePlaced, AreToldTo, HomesDiffer, IsPlaceOf}
+use Rattle.rank_index.specs.Chunks.{ChunkSeen, members_of, AreHomes, ArePlaced, AreToldTo, HomesDiffer, IsPlaceOf}
 use Rattle.rank_index.proofs.Homes.{get-set_same, get-set_other, home_at}
 use Rattle.rank_index.proofs.Pieces.{get-left}
 use Rattle.rank_index.proofs.Stretches.{chunk_with}
@@ -30,10 +30,10 @@ module _ {X : Type 0} (x d : X) (ys : List X) where
   ]
 
 -- the tables tell the chunk of a member
-module _ (chunks : List Stretch) (places homes : List ℕ) (tag : ℕ) (are : AreHomes homes chunks)
+module _ (chunks : List ChunkSeen) (places homes : List ℕ) (tag : ℕ) (are : AreHomes homes chunks)
     (placed : ArePlaced places chunks) (here : HasTag (members_of chunks) tag)
   where
-    told_home : (d : ℕ) → (c : Stretch) × (slice_get homes tag ≡ Some c.home) × (get_or homes tag d ≡ c.home)
+    told_home : (d : ℕ) → (c : ChunkSeen) × (slice_get homes tag ≡ Some c.home) × (get_or homes tag d ≡ c.home)
         × (place : ℕ) × (slice_get places c.home ≡ Some place) × (slice_get chunks place ≡ Some c) × HasTag c.members tag
     told_home d =
         let (place, (c, at, has)) = chunk_with chunks tag here in
@@ -60,7 +60,7 @@ module _ (chunks : List Stretch) (places homes : List ℕ) (tag : ℕ) (are : Ar
         (c, ap (slice_get chunks) told ∙ there, has)
 
 -- a chunk changed at its place, under the same home
-pub placed_set : (places : List ℕ) (chunks : List Stretch) (at : ℕ) (c d : Stretch) → at < length chunks
+pub placed_set : (places : List ℕ) (chunks : List ChunkSeen) (at : ℕ) (c d : ChunkSeen) → at < length chunks
     → c ≡ get_or chunks at c → d.home ≡ c.home → ArePlaced places chunks → ArePlaced places (set chunks at d)
 placed_set places chunks at c d lt is same placed =
     let long : length (set chunks at d) ≡ length chunks = length-set chunks at d in
@@ -72,7 +72,7 @@ placed_set places chunks at c d lt is same placed =
             let there' : slice_get (set chunks at d) at ≡ Some e =
             subst (λ (n : ℕ). slice_get (set chunks at d) n ≡ Some e) here.1 there in
             let is_d : d ≡ e = same_Some d e (sym (get-set_same chunks at d lt) ∙ there') in
-            ap (slice_get places) (ap (λ (s : Stretch). s.home) (sym is_d) ∙ same) ∙ was ∙ ap Some (sym here.1)
+            ap (slice_get places) (ap (λ (s : ChunkSeen). s.home) (sym is_d) ∙ same) ∙ was ∙ ap Some (sym here.1)
         | inr other ↦
             placed.told k e (omega (arith, below, long)) (sym (get-set_other chunks at k d other.1) ∙ there)
       ];
@@ -80,36 +80,36 @@ placed_set places chunks at c d lt is same placed =
     }
 
 -- the table tells the chunks ahead of this place, and has room to tell each, under a home of its own
-pub record IsToldTo (places : List ℕ) (chunks : List Stretch) (from : ℕ) : Type 0 where
+pub record IsToldTo (places : List ℕ) (chunks : List ChunkSeen) (from : ℕ) : Type 0 where
   pub ahead : AreToldTo places chunks from
   pub homes : HomesDiffer chunks
-  pub within : (k : ℕ) (c : Stretch) → slice_get chunks k ≡ Some c → c.home < length places
+  pub within : (k : ℕ) (c : ChunkSeen) → slice_get chunks k ≡ Some c → c.home < length places
 
 -- a chunk more, under the next home
-module _ (places : List ℕ) (chunks : List Stretch) (placed : ArePlaced places chunks) (at : ℕ)
-    (le : at ≤ length chunks) (rest : Stretch) (fresh : rest.home ≡ length places)
+module _ (places : List ℕ) (chunks : List ChunkSeen) (placed : ArePlaced places chunks) (at : ℕ)
+    (le : at ≤ length chunks) (rest : ChunkSeen) (fresh : rest.home ≡ length places)
   where
-    abbrev made : List Stretch
+    abbrev made : List ChunkSeen
     made = insert chunks at rest
 
     -- where the table has the chunk at a place: there, nowhere, or one place ahead
-    abbrev WasAt : ℕ → Stretch → Type 0
+    abbrev WasAt : ℕ → ChunkSeen → Type 0
     WasAt k d = ((k < at) × (slice_get places d.home ≡ Some k))
         ⊎ (((k ≡ at) × (d.home ≡ length places))
         ⊎ ((j : ℕ) × (k ≡ suc j) × (at ≤ j) × (slice_get places d.home ≡ Some j)))
 
-    was_at : (k : ℕ) (d : Stretch) → slice_get made k ≡ Some d → WasAt k d
+    was_at : (k : ℕ) (d : ChunkSeen) → slice_get made k ≡ Some d → WasAt k d
     was_at k d there =
         let long : length (take at chunks) ≡ at = length-take-le at chunks le in
         let whole : (n : ℕ) → slice_get (take at chunks ++ drop at chunks) n ≡ Some d
         → slice_get places d.home ≡ Some n = λ n e.
         let is : slice_get chunks n ≡ Some d =
-        subst (λ (l : List Stretch). slice_get l n ≡ Some d) (take-append-drop at chunks) e in
+        subst (λ (l : List ChunkSeen). slice_get l n ≡ Some d) (take-append-drop at chunks) e in
         placed.told n d (slice_get_within chunks n d is) is in
         elim (around_seam rest d (drop at chunks) (take at chunks) k there) [
           | inl w ↦ inl (omega (arith, w.0, long), whole k w.1)
           | inr more ↦ elim more [
-            | inl w ↦ inr (inl (omega (arith, w.0, long), ap (λ (s : Stretch). s.home) w.1 ∙ fresh))
+            | inl w ↦ inr (inl (omega (arith, w.0, long), ap (λ (s : ChunkSeen). s.home) w.1 ∙ fresh))
             | inr w ↦ inr (inr (w.0, w.1, omega (arith, w.2, long), whole w.0 w.3))
           ]
         ]
@@ -123,7 +123,7 @@ module _ (places : List ℕ) (chunks : List Stretch) (placed : ArePlaced places 
       ]
     ]
 
-    homes_within : (v k : ℕ) (d : Stretch) → slice_get made k ≡ Some d → d.home < length (places ++ v ∷ [])
+    homes_within : (v k : ℕ) (d : ChunkSeen) → slice_get made k ≡ Some d → d.home < length (places ++ v ∷ [])
     homes_within v k d there =
         let long : length (places ++ v ∷ []) ≡ length places + 1 = length-append places (v ∷ []) in
         elim (was_at k d there) [
@@ -134,7 +134,7 @@ module _ (places : List ℕ) (chunks : List Stretch) (placed : ArePlaced places 
           ]
         ]
 
-    one_place : (c d : Stretch) (j k : ℕ) → c.home ≡ d.home → slice_get places c.home ≡ Some j
+    one_place : (c d : ChunkSeen) (j k : ℕ) → c.home ≡ d.home → slice_get places c.home ≡ Some j
         → slice_get places d.home ≡ Some k → j ≡ k
     one_place c d j k same at_j at_k = same_Some j k (sym at_j ∙ ap (slice_get places) same ∙ at_k)
 
@@ -166,11 +166,11 @@ module _ (places : List ℕ) (chunks : List Stretch) (placed : ArePlaced places 
     ]
 
 -- a chunk that is changed under its home, and a new one directly behind it, under the next home
-module _ (places : List ℕ) (chunks : List Stretch) (placed : ArePlaced places chunks) (at : ℕ) (c d rest : Stretch)
+module _ (places : List ℕ) (chunks : List ChunkSeen) (placed : ArePlaced places chunks) (at : ℕ) (c d rest : ChunkSeen)
     (lt : at < length chunks) (is : c ≡ get_or chunks at c) (same : d.home ≡ c.home)
     (fresh : rest.home ≡ length places)
   where
-    abbrev changed : List Stretch
+    abbrev changed : List ChunkSeen
     changed = set chunks at d
 
     le : at + 1 ≤ length changed
@@ -187,11 +187,11 @@ module _ (places : List ℕ) (chunks : List Stretch) (placed : ArePlaced places 
     }
 
 -- one chunk alone
-pub placed_alone : (c : Stretch) → c.home ≡ 0 → ArePlaced (0 ∷ []) (c ∷ [])
+pub placed_alone : (c : ChunkSeen) → c.home ≡ 0 → ArePlaced (0 ∷ []) (c ∷ [])
 placed_alone c first = record {
   told = λ k d below there.
       let front : k ≡ 0 = omega (arith, below) in
       let is : c ≡ d = same_Some c d (subst (λ (n : ℕ). slice_get (c ∷ []) n ≡ Some d) front there) in
-      ap (slice_get (0 ∷ [])) (ap (λ (s : Stretch). s.home) (sym is) ∙ first) ∙ ap Some (sym front);
+      ap (slice_get (0 ∷ [])) (ap (λ (s : ChunkSeen). s.home) (sym is) ∙ first) ∙ ap Some (sym front);
   counted = refl;
 }

@@ -5,7 +5,7 @@ use Rattle.std.specs.List.{AllByRecursion, IsDistinct}
 use Rattle.std.proofs.Math.ListN.{set, get_or}
 use Rattle.std.proofs.lemmas.List.{map-append, length-map}
 use Rattle.piece_raw.specs.Ring.{HasTag, AreTags, tags, with_value}
-use Rattle.rank_index.specs.Chunks.{Stretch, members_of, AreEntered, AreTied}
+use Rattle.rank_index.specs.Chunks.{ChunkSeen, members_of, AreEntered, AreTied}
 use Rattle.rank_index.specs.Ranked.{weight_of}
 use Rattle.rank_index.proofs.Inserted.{half_full}
 use Rattle.rank_index.proofs.Pieces.{all_parts, all_whole, cut_read, seam_at}
@@ -35,7 +35,7 @@ tag_stays tag w (x ∷ xs) t h = elim (HasTag-cons (x.0, cond (x.0 == tag) w x.1
   | inr rest ↦ HasTag-right (x ∷ []) xs t (tag_stays tag w xs t rest)
 ]
 
-module _ (ahead : List Stretch) (c d : Stretch) (behind : List Stretch) (tag w : ℕ)
+module _ (ahead : List ChunkSeen) (c d : ChunkSeen) (behind : List ChunkSeen) (tag w : ℕ)
     (is : d.members ≡ with_value tag w c.members)
   where
     pub reweighed_in_all : AreTags (members_of (ahead ++ c ∷ behind)) → HasTag c.members tag
@@ -60,7 +60,7 @@ module _ (ahead : List Stretch) (c d : Stretch) (behind : List Stretch) (tag w :
     pub tied_reweighed : (homes : List ℕ) → d.home ≡ c.home → HasTag c.members tag
         → AreTied homes (ahead ++ c ∷ behind) → AreTied homes (ahead ++ d ∷ behind)
     tied_reweighed homes same here tied =
-        let P : Stretch → Type 0 = λ (e : Stretch). AreEntered homes e.home e.members in
+        let P : ChunkSeen → Type 0 = λ (e : ChunkSeen). AreEntered homes e.home e.members in
         let (left, entered, right) = all_parts P ahead c behind tied.entered in
         let all : members_of (ahead ++ d ∷ behind) ≡ with_value tag w (members_of (ahead ++ c ∷ behind)) =
         reweighed_in_all tied.tags here in
@@ -78,30 +78,30 @@ module _ (ahead : List Stretch) (c d : Stretch) (behind : List Stretch) (tag w :
         }
 
 -- the members of the chunk that the code reads stand apart
-pub apart_read : (chunks : List Stretch) (place : ℕ) (c : Stretch) → place < length chunks
+pub apart_read : (chunks : List ChunkSeen) (place : ℕ) (c : ChunkSeen) → place < length chunks
     → c ≡ get_or chunks place c → AreApart (members_of chunks) → AreApart c.members
 apart_read chunks place c lt is_read apart =
     apart_here (take place chunks) c (drop (suc place) chunks)
-    (subst (λ (l : List Stretch). AreApart (members_of l)) (cut_read chunks place c lt is_read) apart)
+    (subst (λ (l : List ChunkSeen). AreApart (members_of l)) (cut_read chunks place c lt is_read) apart)
 
 -- what the members weigh and will weigh: those of the one chunk, and the rest
-pub record Weighs (chunks : List Stretch) (c : Stretch) (tag w : ℕ) : Type 0 where
+pub record Weighs (chunks : List ChunkSeen) (c : ChunkSeen) (tag w : ℕ) : Type 0 where
   pub rest : ℕ
   pub was : weight_of (members_of chunks) ≡ weight_of c.members + rest
   pub is : weight_of (with_value tag w (members_of chunks)) ≡ weight_of (with_value tag w c.members) + rest
 
 -- the same of the chunk that the code reads at a place and changes there
-module _ (chunks : List Stretch) (place tag : ℕ) (c : Stretch) (read : IsReadFor chunks place tag c) (d : Stretch)
+module _ (chunks : List ChunkSeen) (place tag : ℕ) (c : ChunkSeen) (read : IsReadFor chunks place tag c) (d : ChunkSeen)
     (w : ℕ) (is : d.members ≡ with_value tag w c.members)
   where
     pub reweighed_here : AreTags (members_of chunks)
         → members_of (set chunks place d) ≡ with_value tag w (members_of chunks)
     reweighed_here are =
         let (ahead, behind, cut, at, changed) = seam_at chunks place c read.within read.is in
-        let old : List Stretch → Members = λ (l : List Stretch). with_value tag w (members_of l) in
+        let old : List ChunkSeen → Members = λ (l : List ChunkSeen). with_value tag w (members_of l) in
         ap members_of (changed d)
         ∙ reweighed_in_all ahead c d behind tag w is
-        (subst (λ (l : List Stretch). AreTags (members_of l)) cut are) read.here
+        (subst (λ (l : List ChunkSeen). AreTags (members_of l)) cut are) read.here
         ∙ ap old (sym cut)
 
     pub tied_reweighed_here : (homes : List ℕ) → d.home ≡ c.home → AreTied homes chunks
@@ -112,10 +112,10 @@ module _ (chunks : List Stretch) (place tag : ℕ) (c : Stretch) (read : IsReadF
         (tied_reweighed ahead c d behind tag w is homes same read.here (subst (AreTied homes) cut tied))
 
 -- what it weighs beside the other chunks
-pub weighs_here : (chunks : List Stretch) (place tag : ℕ) (c : Stretch) → IsReadFor chunks place tag c → (w : ℕ)
+pub weighs_here : (chunks : List ChunkSeen) (place tag : ℕ) (c : ChunkSeen) → IsReadFor chunks place tag c → (w : ℕ)
     → AreTags (members_of chunks) → Weighs chunks c tag w
 weighs_here chunks place tag c read w are =
-    let d : Stretch = record { members = with_value tag w c.members; home = c.home } in
+    let d : ChunkSeen = record { members = with_value tag w c.members; home = c.home } in
     let (rest, was, changed) = weight_at chunks place c read.within read.is in
     record {
       rest = rest;

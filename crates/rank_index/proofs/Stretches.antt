@@ -4,20 +4,20 @@ use Rattle.std.proofs.Common.{get_or, inl, inr, refl, sym, subst}
 use Rattle.std.proofs.lemmas.Grind.{flat_map-append}
 use Rattle.std.proofs.lemmas.Option.{slice_get_within}
 use Rattle.piece_raw.specs.Ring.{HasTag}
-use Rattle.rank_index.specs.Chunks.{Stretch, members_of, IsPlaceOf}
+use Rattle.rank_index.specs.Chunks.{ChunkSeen, members_of, IsPlaceOf}
 use Rattle.rank_index.proofs.Pieces.{is_read}
 use Rattle.rank_index.proofs.Tagged.{HasTag-nil, HasTag-append, HasTag-left, AreApart}
 use Rattle.rank_index.proofs.Tagged.{no_tag_twice, apart_left, apart_right}
 
-pub members_of-append : (xs ys : List Stretch) → members_of (xs ++ ys) ≡ members_of xs ++ members_of ys
-members_of-append xs ys = flat_map-append (λ (c : Stretch). c.members) xs ys
+pub members_of-append : (xs ys : List ChunkSeen) → members_of (xs ++ ys) ≡ members_of xs ++ members_of ys
+members_of-append xs ys = flat_map-append (λ (c : ChunkSeen). c.members) xs ys
 
-pub members_of-seam : (ahead : List Stretch) (c : Stretch) (behind : List Stretch)
+pub members_of-seam : (ahead : List ChunkSeen) (c : ChunkSeen) (behind : List ChunkSeen)
     → members_of (ahead ++ c ∷ behind) ≡ members_of ahead ++ (c.members ++ members_of behind)
 members_of-seam ahead c behind = members_of-append ahead (c ∷ behind)
 
 -- each member is in some chunk
-pub chunk_with : (chunks : List Stretch) (tag : ℕ) → HasTag (members_of chunks) tag
+pub chunk_with : (chunks : List ChunkSeen) (tag : ℕ) → HasTag (members_of chunks) tag
     → (place : ℕ) × IsPlaceOf chunks place tag
 chunk_with [] tag h = absurd (HasTag-nil tag h)
 chunk_with (c ∷ chunks) tag h = elim (HasTag-append c.members (members_of chunks) tag h) [
@@ -26,25 +26,25 @@ chunk_with (c ∷ chunks) tag h = elim (HasTag-append c.members (members_of chun
 ]
 
 -- the chunk that the code reads at a member's place
-module _ (chunks : List Stretch) (place tag : ℕ) (found : IsPlaceOf chunks place tag) where
+module _ (chunks : List ChunkSeen) (place tag : ℕ) (found : IsPlaceOf chunks place tag) where
   pub is_within : place < length chunks
   is_within = slice_get_within chunks place found.0 found.1
 
-  has_here : (c : Stretch) → c ≡ get_or chunks place c → HasTag c.members tag
+  has_here : (c : ChunkSeen) → c ≡ get_or chunks place c → HasTag c.members tag
   has_here c is =
-      subst (λ (d : Stretch). HasTag d.members tag) (sym (is_read chunks place found.0 c found.1 is)) found.2
+      subst (λ (d : ChunkSeen). HasTag d.members tag) (sym (is_read chunks place found.0 c found.1 is)) found.2
 
 -- the chunk at this place is read, and has the member of this tag
-pub record IsReadFor (chunks : List Stretch) (place tag : ℕ) (c : Stretch) : Type 0 where
+pub record IsReadFor (chunks : List ChunkSeen) (place tag : ℕ) (c : ChunkSeen) : Type 0 where
   pub within : place < length chunks
   pub is : c ≡ get_or chunks place c
   pub here : HasTag c.members tag
 
 -- so is the chunk at the place that the tables tell, of the chunks that were seen there
-pub read_for : (seen chunks : List Stretch) (place tag : ℕ) (c : Stretch) → seen ≡ chunks
+pub read_for : (seen chunks : List ChunkSeen) (place tag : ℕ) (c : ChunkSeen) → seen ≡ chunks
     → IsPlaceOf seen place tag → c ≡ get_or chunks place c → IsReadFor chunks place tag c
 read_for seen chunks place tag c same told is =
-    let found : IsPlaceOf chunks place tag = subst (λ (l : List Stretch). IsPlaceOf l place tag) same told in
+    let found : IsPlaceOf chunks place tag = subst (λ (l : List ChunkSeen). IsPlaceOf l place tag) same told in
     record {
       within = is_within chunks place tag found;
       is = is;
@@ -52,21 +52,21 @@ read_for seen chunks place tag c same told is =
     }
 
 -- the members of one chunk stand apart from the others
-pub apart_here : (ahead : List Stretch) (c : Stretch) (behind : List Stretch)
+pub apart_here : (ahead : List ChunkSeen) (c : ChunkSeen) (behind : List ChunkSeen)
     → AreApart (members_of (ahead ++ c ∷ behind)) → AreApart c.members
 apart_here ahead c behind d =
     apart_left c.members (members_of behind)
     (apart_right (members_of ahead) (c.members ++ members_of behind)
     (subst AreApart (members_of-seam ahead c behind) d))
 
-pub not_ahead : (ahead : List Stretch) (c : Stretch) (behind : List Stretch) (tag : ℕ)
+pub not_ahead : (ahead : List ChunkSeen) (c : ChunkSeen) (behind : List ChunkSeen) (tag : ℕ)
     → AreApart (members_of (ahead ++ c ∷ behind)) → HasTag c.members tag → HasTag (members_of ahead) tag → ⊥
 not_ahead ahead c behind tag d here other =
     no_tag_twice (members_of ahead) (c.members ++ members_of behind) tag
     (subst AreApart (members_of-seam ahead c behind) d) other
     (HasTag-left c.members (members_of behind) tag here)
 
-pub not_behind : (ahead : List Stretch) (c : Stretch) (behind : List Stretch) (tag : ℕ)
+pub not_behind : (ahead : List ChunkSeen) (c : ChunkSeen) (behind : List ChunkSeen) (tag : ℕ)
     → AreApart (members_of (ahead ++ c ∷ behind)) → HasTag c.members tag → HasTag (members_of behind) tag → ⊥
 not_behind ahead c behind tag d here other =
     no_tag_twice c.members (members_of behind) tag

@@ -1,19 +1,19 @@
 -- What the sums of groups of chunks are.
 use Rattle.std.specs.Prelude.{◌≡◌, ℕ, ◌+◌, ◌*◌, ◌<◌, ◌≤◌, List, length, take, get_or}
 use Rattle.rank_index.specs.declared.groups.TheConstants.{GROUP}
-use Rattle.rank_index.specs.Chunks.{Stretch, members_of}
+use Rattle.rank_index.specs.Chunks.{ChunkSeen, members_of}
 use Rattle.rank_index.specs.Ranked.{weight_of}
 
 -- what the first chunks weigh, so many of them
-abbrev pub weight_to : List Stretch → ℕ → ℕ
+abbrev pub weight_to : List ChunkSeen → ℕ → ℕ
 weight_to chunks n = weight_of (members_of (take n chunks))
 
 -- each sum is that of the next chunks, one group of them, from the front on
-abbrev pub AreSums : List ℕ → List Stretch → Type 0
+abbrev pub AreSums : List ℕ → List ChunkSeen → Type 0
 AreSums groups chunks = (k : ℕ) → k < length groups
     → weight_to chunks (GROUP * k) + get_or groups k 0 ≡ weight_to chunks (GROUP * (k + 1))
 
 -- and no chunk is left out
-pub record AreGroups (groups : List ℕ) (chunks : List Stretch) : Type 0 where
+pub record AreGroups (groups : List ℕ) (chunks : List ChunkSeen) : Type 0 where
   pub sums : AreSums groups chunks
   pub all : length chunks ≤ GROUP * length groups

@@ -30,11 +30,11 @@ pub(crate) struct Chunk {
 
 impl Model for Chunk {
     ghost use Rattle.std.specs.Prelude.{◌≡◌, ◌<◌, ◌≤◌, ◌^◌, vec_len, vec_capacity};
-    ghost use Rattle.rank_index.specs.Chunks.{Stretch};
+    ghost use Rattle.rank_index.specs.Chunks.{ChunkSeen};
     ghost use Rattle.rank_index.specs.declared.chunk.TheConstants.{MOST};
     ghost use Rattle.rank_index.specs.Ranked.{weight_of};
 
-    ghost Value = { Stretch };
+    ghost Value = { ChunkSeen };
 
     ghost view = { λ c. record { members = c.members.items; home = c.home } };
 

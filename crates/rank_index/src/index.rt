@@ -3,7 +3,7 @@ ghost use Rattle.std.specs.Prelude.{vec_len, vec_capacity};
 ghost use Rattle.looks.specs.Refusal.{RefusedForMemoryAlone};
 ghost use Rattle.piece_raw.specs.Ring.{HasTag, IsPushed, AreTags, with_value};
 ghost use Rattle.piece_raw.specs.declared.TheConstants.{MAX_TAGS};
-ghost use Rattle.rank_index.specs.Chunks.{Stretch, members_of, AreEntered, AreHomes, AreTied, AreEmpty};
+ghost use Rattle.rank_index.specs.Chunks.{ChunkSeen, members_of, AreEntered, AreHomes, AreTied, AreEmpty};
 ghost use Rattle.rank_index.specs.Chunks.{AreToldTo, ArePlaced, HomesDiffer, IsPlaceOf, IsPlaceBehind, HasRoom, IsHalved};
 ghost use Rattle.rank_index.specs.Ranked.{weight_of, IsRank, IsFound};
 
@@ -103,7 +103,7 @@ fn enter(homes: &mut [usize], chunk: &Chunk)
 fn renumber(places: &mut [usize], chunks: &[Chunk], from: usize)
     requires ahead { AreToldTo places.old chunks.now from }
     requires homes { HomesDiffer chunks.now }
-    requires within { (place : ℕ) (c : Stretch) → slice_get chunks.now place ≡ Some c → c.home < length places.old }
+    requires within { (place : ℕ) (c : ChunkSeen) → slice_get chunks.now place ≡ Some c → c.home < length places.old }
     ensures { AreToldTo places.new chunks.now (length chunks.now) }
 {
     for place in from..chunks.len() {
@@ -119,7 +119,7 @@ fn halve(
     homes: &mut [usize],
     place: usize,
 )
-    requires full { (c : Stretch) × (slice_get chunks.old.items place ≡ Some c) × (length c.members ≡ MOST) }
+    requires full { (c : ChunkSeen) × (slice_get chunks.old.items place ≡ Some c) × (length c.members ≡ MOST) }
     requires spare { 0 < vec_len spare.old }
     requires empty { AreEmpty spare.old.items }
     requires tied { AreTied homes.old chunks.old.items }

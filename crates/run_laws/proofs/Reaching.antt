@@ -1,9 +1,7 @@
 -- What a script comes to, and what its texts answer.
-use Rattle.std.proofs.Common.{◌≡◌, ◌≢◌, ℕ, ◌-◌, true, false, Bool, List, [], length, sym, ap, subst, ◌∙◌, inl, inr}
-use Rattle.std.specs.Prelude.{MatchBool, slice_get}
-use Rattle.std.proofs.lemmas.Option.{same_Some}
+use Rattle.std.proofs.Common.{◌≡◌, ◌≢◌, ℕ, true, false, Bool, List, [], length, sym, ap, subst, inl, inr}
+use Rattle.std.specs.Prelude.{MatchBool}
 use Rattle.texts.specs.TextState.{TextState}
-use Rattle.machine.specs.DeskState.{DeskState}
 use Rattle.looks.specs.declared.refusal.Refusal.{Refusal}
 use Rattle.machine_laws.specs.Laws.{IsReachedText, PrintTheSame, Reached, begins, goes_on}
 use Rattle.machine.specs.Machine.{Event, IsTextAt, Prints, Query, Replies, Reply, State, merges, new_state, prints, query, refuses, sends, settles, stops, takes}
@@ -12,6 +10,7 @@ use Rattle.script_io.specs.Lines.{without_return}
 use Rattle.run_laws.specs.Laws.{AreAnsweredTheSame, EachTraceIsReached, IsTraced}
 use Rattle.script_runs.specs.Trace.{Step, Trace, is_silent}
 use Rattle.script_runs.specs.Trace.{begins as starts, goes_on as follows}
+use Rattle.machine_laws.proofs.OneReply.{one_text}
 
 -- one line further
 line_reached : (first count : ℕ) (s : State) (silent : Bool) (e : Event) (answer : List ℕ) (new : State) → Reached first count s → MatchBool silent ((answer ≡ []) × (new ≡ s)) (Step s e answer new) → Reached first count new
@@ -23,12 +22,6 @@ trace_reached first count n script answers s starts = begins
 trace_reached first count n script answers s (follows {n = before} {script = front} {answers = said} {s = old} raw answer new trace is_raw answered) =
     let line = without_return raw in
     line_reached first count old (is_silent line) (event_in old.first (length old.desks) line) answer new (trace_reached first count before front said old trace) answered
-
--- a desk has one text of a number
-one_text : (s : State) (i text : ℕ) (t u : TextState) → IsTextAt s i text t → IsTextAt s i text u → t ≡ u
-one_text s i text t u (d, at, is_t) (d', at', is_u) =
-    let same : d ≡ d' = same_Some d d' (sym at ∙ at') in
-    same_Some t u (sym is_t ∙ ap (λ (x : DeskState). slice_get x.texts (text - 1)) same ∙ is_u)
 
 -- the lines of a reply that prints
 lines_in : Reply → List ℕ

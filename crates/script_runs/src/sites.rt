@@ -17,7 +17,6 @@ use looks::Refusal;
 use machine::MAX_TEXT;
 use script_events::{Delivery, Edit, Escaped, Event, Query, Save, event_in};
 use script_io::{MAX_LINE, Output};
-use set_laws::unions::front_is_held;
 use std::alloc::Global;
 use std::io::Write;
 use std::marker::Model;
@@ -251,7 +250,6 @@ impl Sites {
             let (front, back) = self.desks.split_at_mut(other);
             front[desk].merge(text, &back[0])
         } else {
-            front_is_held();
             self.desks[desk].has_text(text);
             Ok(0)
         }

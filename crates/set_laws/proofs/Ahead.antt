@@ -13,7 +13,7 @@ use Rattle.set_laws.proofs.Covered.{good_part_closed}
 use Rattle.set_laws.proofs.OneMore.{with_one}
 
 -- a first part holds no others
-first_part_within : (ops : List Operation) (n : ℕ) → IsPartOf (take n ops) ops
+pub first_part_within : (ops : List Operation) (n : ℕ) → IsPartOf (take n ops) ops
 first_part_within ops n op held =
     subst (λ (xs : List Operation). Contains xs op) (take-append-drop n ops)
     (Contains-append_left (take n ops) (drop n ops) op held)

@@ -6,7 +6,7 @@ use Rattle.std.proofs.lemmas.List.Elements.{Contains-append_left, Contains-push,
 use Rattle.operations.specs.Operation.{Operation}
 use Rattle.tree_order.specs.Good.{Good}
 use Rattle.set_laws.specs.Sets.{IsPartOf, AreIdentified}
-use Rattle.set_laws.specs.Verdict.{Verdict, wait, bad_offset, bad_stamp, ready, HasVerdict, IsNew}
+use Rattle.set_laws.specs.Verdict.{Verdict, wait, misfit, low_stamp, ready, HasVerdict, IsNew}
 use Rattle.set_laws.specs.Closure.{IsFreedBy, HoldsWhatItFrees, IsClosure, HasOneClosure}
 use Rattle.set_laws.specs.Closure.{IsGreatestGoodPart, GrowsByWhatIsFreed, NoneIsReady, IsKept, AllWait}
 use Rattle.set_laws.proofs.Covered.{covered_is_good}
@@ -44,10 +44,10 @@ IsNewAndReady set op = IsNew set op × HasVerdict set op ready
 ready_by_verdict : (set : List Operation) (op : Operation) → IsNew set op → (v : Verdict)
     → HasVerdict set op v → (IsNewAndReady set op → ⊥) ⊎ IsNewAndReady set op
 ready_by_verdict set op new wait h = inl (λ is. let same = same_verdict set op wait ready h is.1 in cc)
-ready_by_verdict set op new bad_offset h =
-    inl (λ is. let same = same_verdict set op bad_offset ready h is.1 in cc)
-ready_by_verdict set op new bad_stamp h =
-    inl (λ is. let same = same_verdict set op bad_stamp ready h is.1 in cc)
+ready_by_verdict set op new misfit h =
+    inl (λ is. let same = same_verdict set op misfit ready h is.1 in cc)
+ready_by_verdict set op new low_stamp h =
+    inl (λ is. let same = same_verdict set op low_stamp ready h is.1 in cc)
 ready_by_verdict set op new ready h = inr (new, h)
 
 ready_or_not : (set : List Operation) (op : Operation) → (IsNewAndReady set op → ⊥) ⊎ IsNewAndReady set op
@@ -198,11 +198,11 @@ module _ (all : List Operation) (known : AreIdentified all) where
     where
       none : (op : Operation) → IsNew taken op → HasVerdict taken op ready
           → (Contains taken op ⊎ Contains waiting op)
-          ⊎ (HasVerdict taken op bad_offset ⊎ HasVerdict taken op bad_stamp) → ⊥
+          ⊎ (HasVerdict taken op misfit ⊎ HasVerdict taken op low_stamp) → ⊥
       none op new is (inl (inl there)) = new.unheld (op, there, refl, refl)
       none op new is (inl (inr left)) = let same = same_verdict taken op wait ready (waits op left) is in cc
-      none op new is (inr (inl h)) = let same = same_verdict taken op bad_offset ready h is in cc
-      none op new is (inr (inr h)) = let same = same_verdict taken op bad_stamp ready h is in cc
+      none op new is (inr (inl h)) = let same = same_verdict taken op misfit ready h is in cc
+      none op new is (inr (inr h)) = let same = same_verdict taken op low_stamp ready h is in cc
 
 -- as what is taken in grows, what was kept or refused stays so
 pub kept_on : (taken more waiting all : List Operation) → AreIdentified all → Good taken → Good more
@@ -220,8 +220,8 @@ kept_on taken more waiting all known good good' grows within kept = record {
         elim (kept.others op held) [
           | inl (inl there) ↦ inl (inl (grows op there))
           | inl (inr left) ↦ inl (inr left)
-          | inr (inl h) ↦ inr (inl (last bad_offset (inl refl) h))
-          | inr (inr h) ↦ inr (inr (last bad_stamp (inr refl) h))
+          | inr (inl h) ↦ inr (inl (last misfit (inl refl) h))
+          | inr (inr h) ↦ inr (inr (last low_stamp (inr refl) h))
         ]
   ];
 }

@@ -18,7 +18,7 @@ use Rattle.set_laws.proofs.Files.{here_is_char, char_is_here, follows_by_front, 
 use Rattle.set_laws.proofs.Files.{next_file, past_front}
 use Rattle.set_laws.proofs.OneMore.{with_one, with_one_identified}
 
-greatest-push : (f : Operation → ℕ) (ops : List Operation) (op : Operation)
+pub greatest-push : (f : Operation → ℕ) (ops : List Operation) (op : Operation)
     → greatest f (ops ++ op ∷ []) ≡ max (f op) (greatest f ops)
 greatest-push f [] op = refl
 greatest-push f (o ∷ ops) op = let rest = greatest-push f ops op in omega (arith, rest)

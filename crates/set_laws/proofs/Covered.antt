@@ -6,8 +6,9 @@ use Rattle.std.proofs.lemmas.List.Elements.{Contains-append_left, Contains-appen
 use Rattle.std.proofs.lemmas.List.Elements.{Contains-append_cases}
 use Rattle.char_files.specs.CharName.{CharName}
 use Rattle.operations.specs.Operation.{Operation, OpKind, insert, delete, restore, change_looks, appended_len}
+use Rattle.operations.specs.Operation.{Begins}
 use Rattle.operations.specs.Operation.{InsertsBy, Inserts}
-use Rattle.tree_order.specs.Good.{Good, Begins, IsCauseOf, file_before}
+use Rattle.tree_order.specs.Good.{Good, IsCauseOf, file_before}
 use Rattle.tree_order.specs.Laws.{AreSameSet}
 use Rattle.set_laws.specs.Sets.{IsPartOf, AreIdentified, HaveEqualFronts}
 use Rattle.set_laws.proofs.Fronts.{HasPredecessors, held_up_to, held_to_front, up_to_front}

@@ -9,8 +9,9 @@ use Rattle.tree_order.specs.Tree.{IsChar}
 use Rattle.set_laws.specs.Fronts.{front_of, file_len, IsHeld, IsHere}
 use Rattle.set_laws.specs.Sets.{IsPartOf, AreIdentified}
 use Rattle.set_laws.specs.Verdict.{IsNew, FollowsOn}
+use Rattle.tree_order.proofs.Files.{file_before_grows}
 use Rattle.set_laws.proofs.Fronts.{up_to_front, held_to_front}
-use Rattle.set_laws.proofs.Lengths.{same_file, appended_by, appended_none, file_grows, find_stretch}
+use Rattle.set_laws.proofs.Lengths.{same_file, appended_by, appended_none, find_stretch}
 use Rattle.set_laws.proofs.Covered.{IsInSpan, in_span, from_span}
 
 -- a name below its file's end is a character
@@ -57,7 +58,7 @@ char_is_here ops good known name (i, is) =
     let span = in_span i.site (file_before ops i.site i.seq) i.kind name (good.begins i is.held) is.inserts in
     let len = appended_by ops known i is.held in
     let front = up_to_front ops i is.held in
-    let grows = file_grows ops i.site (suc i.seq) (suc (front_of ops i.site)) (omega arith) in
+    let grows = file_before_grows ops i.site (suc i.seq) (suc (front_of ops i.site)) (omega arith) in
     let below : name.off < file_len ops i.site = let b = span.below in omega arith in
     subst (λ (s : ℕ). name.off < file_len ops s) (sym span.on) below
 

@@ -7,6 +7,7 @@ use Rattle.operations.specs.Operation.{Operation, appended_len}
 use Rattle.tree_order.specs.Good.{appended_len_at, file_before}
 use Rattle.set_laws.specs.Fronts.{IsHeld}
 use Rattle.set_laws.specs.Sets.{IsPartOf, AreIdentified}
+use Rattle.tree_order.proofs.Files.{file_before_grows}
 use Rattle.set_laws.proofs.Picking.{Contains-head, Contains-tail, Contains-cases, Contains-none}
 
 -- an operation of the identity is held, and tells what is appended, or nothing is appended under it
@@ -98,18 +99,6 @@ appended_none ops site seq none =
       | inr nothing ↦ nothing.1
     ]
 
--- a site's file only grows
-pub file_grows : (ops : List Operation) (site m n : ℕ) → m ≤ n
-    → file_before ops site m ≤ file_before ops site n
-file_grows ops site zero zero le = omega arith
-file_grows ops site (suc m) zero le = absurd (omega arith)
-file_grows ops site m (suc n) le =
-    elim (cases_lt n m) [
-      | inl lt ↦ let same : m ≡ suc n = omega arith in omega (arith, ap (file_before ops site) same)
-      | inr ge ↦ let grows : file_before ops site m ≤ file_before ops site n = file_grows ops site m n ge in
-          omega arith
-    ]
-
 -- each offset of a file is in what one seq appends
 pub find_stretch : (ops : List Operation) (site n off : ℕ) → off < file_before ops site n
     → (seq : ℕ) × (seq < n) × (file_before ops site seq ≤ off) × (off < file_before ops site (suc seq))
@@ -127,9 +116,9 @@ pub one_stretch : (ops : List Operation) (site m n off : ℕ) → file_before op
     → off < file_before ops site (suc n) → m ≡ n
 one_stretch ops site m n off from to from' to' =
     elim (cases_lt m n) [
-      | inl less ↦ let grows = file_grows ops site (suc m) n (omega arith) in absurd (omega arith)
+      | inl less ↦ let grows = file_before_grows ops site (suc m) n (omega arith) in absurd (omega arith)
       | inr more ↦ elim (cases_lt n m) [
-        | inl less ↦ let grows = file_grows ops site (suc n) m (omega arith) in absurd (omega arith)
+        | inl less ↦ let grows = file_before_grows ops site (suc n) m (omega arith) in absurd (omega arith)
         | inr same ↦ omega arith
       ]
     ]

@@ -1,4 +1,5 @@
 pub mod Ahead
+pub mod ByVerdict
 pub mod Closing
 pub mod Counting
 pub mod Covered

@@ -4,19 +4,19 @@ use Rattle.std.proofs.Common.{sym, ap, subst, ◌∙◌, arith}
 use Rattle.std.proofs.lemmas.Bool.{cases_eq}
 use Rattle.std.proofs.lemmas.List.Elements.{Contains-append_left, Contains-push, Contains-push_cases}
 use Rattle.char_files.specs.CharName.{CharName}
-use Rattle.operations.specs.Operation.{Operation, Inserts, Mentions}
-use Rattle.tree_order.specs.Good.{Good, Begins, IsPredecessor, IsCauseOf, file_before}
+use Rattle.operations.specs.Operation.{Operation, Inserts, Mentions, Begins}
+use Rattle.tree_order.specs.Good.{Good, IsPredecessor, IsCauseOf, file_before}
 use Rattle.tree_order.specs.Tree.{IsChar}
 use Rattle.set_laws.specs.Fronts.{file_len, IsHeld}
 use Rattle.set_laws.specs.Sets.{AreIdentified}
-use Rattle.set_laws.specs.Verdict.{IsNew, FollowsOn, IsPlaced, HasForeignNames, IsAboveCauses}
+use Rattle.set_laws.specs.Verdict.{IsNew, FollowsOn, FitsFile, HasForeignNames, IsAboveCauses}
 use Rattle.set_laws.proofs.Fronts.{held_up_to}
 use Rattle.set_laws.proofs.Covered.{in_span, one_insert, AreLaid, part_file}
 use Rattle.set_laws.proofs.Files.{here_is_char, next_file}
 
 -- names that are placed or foreign are characters
 pub mentioned_are_chars : (ops : List Operation) → Good ops → AreIdentified ops → (op : Operation)
-    → IsPlaced ops op → HasForeignNames ops op → (name : CharName) → Mentions op name → IsChar ops name
+    → FitsFile ops op → HasForeignNames ops op → (name : CharName) → Mentions op name → IsChar ops name
 mentioned_are_chars ops good known op placed foreign name m =
     here_is_char ops good known name (elim (cases_eq name.site op.site) [
       | inl own ↦ placed.own name m own
@@ -60,7 +60,7 @@ module _ (ops : List Operation) (op : Operation) where
   }
 
   module _ (good : Good ops) (known : AreIdentified ops) (new : IsNew ops op) (follows : FollowsOn ops op)
-      (placed : IsPlaced ops op) (foreign : HasForeignNames ops op) (above : IsAboveCauses ops op) where
+      (placed : FitsFile ops op) (foreign : HasForeignNames ops op) (above : IsAboveCauses ops op) where
     known' : AreIdentified with_one
     known' = with_one_identified known new
 

@@ -1,11 +1,11 @@
 -- What a greater good set says of an operation that follows on.
 use Rattle.std.proofs.Common.{◌≡◌, ℕ, ◌<◌, inl, inr, List, Contains, sym, subst, ◌∙◌}
-use Rattle.operations.specs.Operation.{Operation}
-use Rattle.tree_order.specs.Good.{Good, Begins, file_before}
+use Rattle.operations.specs.Operation.{Operation, Begins}
+use Rattle.tree_order.specs.Good.{Good, file_before}
 use Rattle.set_laws.specs.Fronts.{file_len}
 use Rattle.set_laws.specs.Sets.{IsPartOf, AreIdentified}
-use Rattle.set_laws.specs.Verdict.{IsNew, FollowsOn, IsPlaced, HasForeignNames, IsAboveCauses, HasVerdict}
-use Rattle.set_laws.specs.Verdict.{wait, bad_offset, bad_stamp, ready}
+use Rattle.set_laws.specs.Verdict.{IsNew, FollowsOn, FitsFile, HasForeignNames, IsAboveCauses, HasVerdict}
+use Rattle.set_laws.specs.Verdict.{wait, misfit, low_stamp, ready}
 use Rattle.set_laws.specs.Growing.{NeverMakesAGoodSet, RefusalsLast}
 use Rattle.set_laws.proofs.Lengths.{part_identified}
 use Rattle.set_laws.proofs.Files.{next_file, here_is_char, char_is_here}
@@ -13,7 +13,7 @@ use Rattle.set_laws.proofs.Files.{next_file, here_is_char, char_is_here}
 module _ (ops more : List Operation) (op : Operation) (good : Good ops) (good' : Good more)
     (known : AreIdentified more) (within : IsPartOf ops more) where
   -- in a good set that has it, it is placed and stands above its causes
-  pub placed_if_held : IsNew ops op → Contains more op → FollowsOn ops op → IsPlaced ops op
+  pub placed_if_held : IsNew ops op → Contains more op → FollowsOn ops op → FitsFile ops op
   placed_if_held new held follows =
       let file : file_len ops op.site ≡ file_before more op.site op.seq =
       next_file ops more good within known op new follows in
@@ -41,8 +41,8 @@ module _ (ops more : List Operation) (op : Operation) (good : Good ops) (good' :
       next_file ops more good within known op (new_before new) follows
       ∙ sym (next_file more more good' (λ x held. held) known op new (follows_later follows))
 
-  placed_by_end : (a b : List Operation) → file_len a op.site ≡ file_len b op.site → IsPlaced a op
-      → IsPlaced b op
+  placed_by_end : (a b : List Operation) → file_len a op.site ≡ file_len b op.site → FitsFile a op
+      → FitsFile b op
   placed_by_end a b same placed = record {
     begins = subst (Begins op.kind) same placed.begins;
     own = λ name m on. subst (λ (s : ℕ). name.off < file_len b s) (sym on)
@@ -58,11 +58,11 @@ module _ (ops more : List Operation) (op : Operation) (good : Good ops) (good' :
       (i, record { held = within i is.held; inserts = is.inserts })
 
   pub refusals_last : IsNew more op → RefusalsLast ops op more
-  refusals_last new bad_offset which h = (
+  refusals_last new misfit which h = (
     follows_later h.0,
     λ placed. h.1 (placed_by_end more ops (sym (same_end new h.0)) placed),
   )
-  refusals_last new bad_stamp which h = (
+  refusals_last new low_stamp which h = (
     follows_later h.0,
     placed_by_end ops more (same_end new h.0) h.1,
     foreign_later h.2,
@@ -74,12 +74,12 @@ module _ (ops more : List Operation) (op : Operation) (good : Good ops) (good' :
   refusals_last new ready (inr e) h = absurd cc
 
 -- what is refused never makes a good set
-pub bad_offset_never : (ops : List Operation) (op : Operation) → Good ops → IsNew ops op
-    → HasVerdict ops op bad_offset → NeverMakesAGoodSet ops op
-bad_offset_never ops op good new (follows, misplaced) more known within held good' =
+pub misfit_never : (ops : List Operation) (op : Operation) → Good ops → IsNew ops op
+    → HasVerdict ops op misfit → NeverMakesAGoodSet ops op
+misfit_never ops op good new (follows, misplaced) more known within held good' =
     misplaced (placed_if_held ops more op good good' known within new held follows)
 
-pub bad_stamp_never : (ops : List Operation) (op : Operation) → Good ops
-    → HasVerdict ops op bad_stamp → NeverMakesAGoodSet ops op
-bad_stamp_never ops op good (follows, placed, foreign, low) more known within held good' =
+pub low_stamp_never : (ops : List Operation) (op : Operation) → Good ops
+    → HasVerdict ops op low_stamp → NeverMakesAGoodSet ops op
+low_stamp_never ops op good (follows, placed, foreign, low) more known within held good' =
     low (above_if_held ops more op good good' known within held)

@@ -6,13 +6,13 @@ use Rattle.std.proofs.lemmas.Bool.{cases_lt, cases_eq}
 use Rattle.char_files.specs.CharName.{CharName}
 use Rattle.char_files.specs.declared.name.Anchor.TheVariants.{Root, At}
 use Rattle.operations.specs.NameSet.{Range, IsIn, IsAmong}
-use Rattle.operations.specs.Operation.{Operation, OpKind, insert, delete, restore, change_looks}
+use Rattle.operations.specs.Operation.{Operation, OpKind, insert, delete, restore, change_looks, Begins}
 use Rattle.operations.specs.Operation.{InsertsBy, Inserts, Mentions, MentionsBy}
-use Rattle.tree_order.specs.Good.{Good, Begins, IsPredecessor, IsCauseOf}
+use Rattle.tree_order.specs.Good.{Good, IsPredecessor, IsCauseOf}
 use Rattle.set_laws.specs.Fronts.{file_len, IsHeld, IsHere}
 use Rattle.set_laws.specs.Sets.{AreIdentified}
-use Rattle.set_laws.specs.Verdict.{FollowsOn, IsPlaced, HasForeignNames, IsAboveCauses, HasVerdict, Verdict}
-use Rattle.set_laws.specs.Verdict.{wait, bad_offset, bad_stamp, ready}
+use Rattle.set_laws.specs.Verdict.{FollowsOn, FitsFile, HasForeignNames, IsAboveCauses, HasVerdict, Verdict}
+use Rattle.set_laws.specs.Verdict.{wait, misfit, low_stamp, ready}
 use Rattle.set_laws.specs.Growing.{HasOneVerdict, MissesACause}
 use Rattle.set_laws.proofs.Files.{char_is_here}
 use Rattle.set_laws.proofs.Picking.{search_list}
@@ -173,7 +173,7 @@ names_here_or_not ops op Asked asked =
       ]
     ]) op
 
-placed_or_not : (ops : List Operation) (op : Operation) → IsPlaced ops op ⊎ (IsPlaced ops op → ⊥)
+placed_or_not : (ops : List Operation) (op : Operation) → FitsFile ops op ⊎ (FitsFile ops op → ⊥)
 placed_or_not ops op =
     elim (begins_or_not op.kind (file_len ops op.site)) [
       | inr apart ↦ inr (λ placed. apart placed.begins)
@@ -214,13 +214,13 @@ some_verdict ops op =
     elim (follows_or_not ops op) [
       | inr none ↦ (wait, inl none)
       | inl follows ↦ elim (placed_or_not ops op) [
-        | inr misplaced ↦ (bad_offset, (follows, misplaced))
+        | inr misplaced ↦ (misfit, (follows, misplaced))
         | inl placed ↦ elim (foreign_or_not ops op) [
           | inr found ↦
               (wait, inr (follows, placed, λ foreign. found.2.1 (foreign found.0 found.1 found.2.0)))
           | inl foreign ↦ elim (above_or_not ops op) [
             | inl above ↦ (ready, (follows, placed, foreign, above))
-            | inr low ↦ (bad_stamp, (follows, placed, foreign, low))
+            | inr low ↦ (low_stamp, (follows, placed, foreign, low))
           ]
         ]
       ]
@@ -230,27 +230,27 @@ some_verdict ops op =
 pub same_verdict : (ops : List Operation) (op : Operation) (v w : Verdict) → HasVerdict ops op v
     → HasVerdict ops op w → v ≡ w
 same_verdict ops op wait wait p q = refl
-same_verdict ops op bad_offset bad_offset p q = refl
-same_verdict ops op bad_stamp bad_stamp p q = refl
+same_verdict ops op misfit misfit p q = refl
+same_verdict ops op low_stamp low_stamp p q = refl
 same_verdict ops op ready ready p q = refl
-same_verdict ops op wait bad_offset (inl none) q = absurd (none q.0)
-same_verdict ops op wait bad_offset (inr p) q = absurd (q.1 p.1)
-same_verdict ops op wait bad_stamp (inl none) q = absurd (none q.0)
-same_verdict ops op wait bad_stamp (inr p) q = absurd (p.2 q.2)
+same_verdict ops op wait misfit (inl none) q = absurd (none q.0)
+same_verdict ops op wait misfit (inr p) q = absurd (q.1 p.1)
+same_verdict ops op wait low_stamp (inl none) q = absurd (none q.0)
+same_verdict ops op wait low_stamp (inr p) q = absurd (p.2 q.2)
 same_verdict ops op wait ready (inl none) q = absurd (none q.0)
 same_verdict ops op wait ready (inr p) q = absurd (p.2 q.2)
-same_verdict ops op bad_offset wait p (inl none) = absurd (none p.0)
-same_verdict ops op bad_offset wait p (inr q) = absurd (p.1 q.1)
-same_verdict ops op bad_offset bad_stamp p q = absurd (p.1 q.1)
-same_verdict ops op bad_offset ready p q = absurd (p.1 q.1)
-same_verdict ops op bad_stamp wait p (inl none) = absurd (none p.0)
-same_verdict ops op bad_stamp wait p (inr q) = absurd (q.2 p.2)
-same_verdict ops op bad_stamp bad_offset p q = absurd (q.1 p.1)
-same_verdict ops op bad_stamp ready p q = absurd (p.3 q.3)
+same_verdict ops op misfit wait p (inl none) = absurd (none p.0)
+same_verdict ops op misfit wait p (inr q) = absurd (p.1 q.1)
+same_verdict ops op misfit low_stamp p q = absurd (p.1 q.1)
+same_verdict ops op misfit ready p q = absurd (p.1 q.1)
+same_verdict ops op low_stamp wait p (inl none) = absurd (none p.0)
+same_verdict ops op low_stamp wait p (inr q) = absurd (q.2 p.2)
+same_verdict ops op low_stamp misfit p q = absurd (q.1 p.1)
+same_verdict ops op low_stamp ready p q = absurd (p.3 q.3)
 same_verdict ops op ready wait p (inl none) = absurd (none p.0)
 same_verdict ops op ready wait p (inr q) = absurd (q.2 p.2)
-same_verdict ops op ready bad_offset p q = absurd (q.1 p.1)
-same_verdict ops op ready bad_stamp p q = absurd (q.3 p.3)
+same_verdict ops op ready misfit p q = absurd (q.1 p.1)
+same_verdict ops op ready low_stamp p q = absurd (q.3 p.3)
 
 pub one_verdict : (ops : List Operation) (op : Operation) → HasOneVerdict ops op
 one_verdict ops op =

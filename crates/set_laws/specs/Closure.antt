@@ -4,7 +4,7 @@ use Rattle.operations.specs.Operation.{Operation}
 use Rattle.tree_order.specs.Good.{Good}
 use Rattle.tree_order.specs.Laws.{AreSameSet}
 use Rattle.set_laws.specs.Sets.{IsPartOf}
-use Rattle.set_laws.specs.Verdict.{wait, bad_offset, bad_stamp, ready, HasVerdict, IsNew}
+use Rattle.set_laws.specs.Verdict.{wait, misfit, low_stamp, ready, HasVerdict, IsNew}
 
 -- the set has the operation's causes, and it is good over them: some of the set are good, and so with it
 pub record IsFreedBy (ops : List Operation) (op : Operation) : Type 0 where
@@ -56,7 +56,7 @@ pub record IsKept (taken waiting all : List Operation) : Type 0 where
   pub taken_in : IsPartOf taken all
   pub kept_waiting : IsPartOf waiting all
   pub others : (op : Operation) → Contains all op → (Contains taken op ⊎ Contains waiting op)
-      ⊎ (HasVerdict taken op bad_offset ⊎ HasVerdict taken op bad_stamp)
+      ⊎ (HasVerdict taken op misfit ⊎ HasVerdict taken op low_stamp)
 
 -- each operation waits
 abbrev pub AllWait : List Operation → List Operation → Type 0

@@ -2,13 +2,13 @@
 use Rattle.std.specs.Prelude.{◌≡◌, ℕ, ◌+◌, ◌-◌, ◌<◌, ◌≤◌, ◌⊎◌, ◌↔◌, List, [], ◌∷◌, ◌++◌, ◌==◌, max, Contains}
 use Rattle.std.specs.Prelude.{if◌then◌else◌}
 use Rattle.char_files.specs.CharName.{CharName}
-use Rattle.operations.specs.Operation.{Operation, Mentions, appended_len}
-use Rattle.tree_order.specs.Good.{Good, Begins, IsPredecessor, IsCauseOf}
+use Rattle.operations.specs.Operation.{Operation, Mentions, appended_len, Begins}
+use Rattle.tree_order.specs.Good.{Good, IsPredecessor, IsCauseOf}
 use Rattle.tree_order.specs.Tree.{IsChar, IsInsertOf}
 use Rattle.set_laws.specs.Fronts.{front_of, file_len, greatest_stamp, greatest_stamp_of}
 use Rattle.set_laws.specs.Fronts.{IsHeld, IsHere}
 use Rattle.set_laws.specs.Sets.{IsPartOf, AreIdentified}
-use Rattle.set_laws.specs.Verdict.{Verdict, wait, bad_offset, bad_stamp, ready, HasVerdict, FollowsOn}
+use Rattle.set_laws.specs.Verdict.{Verdict, wait, misfit, low_stamp, ready, HasVerdict, FollowsOn}
 
 -- there is one verdict, and no other
 pub record HasOneVerdict (ops : List Operation) (op : Operation) : Type 0 where
@@ -30,13 +30,13 @@ NeverMakesAGoodSet ops op = (more : List Operation) → AreIdentified more → I
 -- the verdict says what the operation makes of a good set
 pub record GrowsByVerdict (ops : List Operation) (op : Operation) : Type 0 where
   pub ready : HasVerdict ops op ready ↔ Good (ops ++ op ∷ [])
-  pub bad_offset : HasVerdict ops op bad_offset → NeverMakesAGoodSet ops op
-  pub bad_stamp : HasVerdict ops op bad_stamp → NeverMakesAGoodSet ops op
+  pub misfit : HasVerdict ops op misfit → NeverMakesAGoodSet ops op
+  pub low_stamp : HasVerdict ops op low_stamp → NeverMakesAGoodSet ops op
   pub wait : HasVerdict ops op wait → MissesACause ops op
 
 -- what is refused is refused by each greater good set, until its identity is held there
 abbrev pub RefusalsLast : List Operation → Operation → List Operation → Type 0
-RefusalsLast ops op more = (verdict : Verdict) → (verdict ≡ bad_offset) ⊎ (verdict ≡ bad_stamp)
+RefusalsLast ops op more = (verdict : Verdict) → (verdict ≡ misfit) ⊎ (verdict ≡ low_stamp)
     → HasVerdict ops op verdict → HasVerdict more op verdict
 
 -- what counts tell of a new operation: which names are characters, whether it follows on, and the stamp of

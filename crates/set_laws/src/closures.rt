@@ -41,12 +41,6 @@ pub fn closed_where_none_is_ready()
         → IsClosure all set ↔ NoneIsReady all set }
 {}
 
-/// A law: as what is taken in grows, what was kept or refused stays so.
-pub fn kept_goes_on()
-    ensures { (taken more waiting all : List Operation) → AreIdentified all → Good taken → Good more
-        → IsPartOf taken more → IsPartOf more all → IsKept taken waiting all → IsKept more waiting all }
-{}
-
 /// A law: where all that isn't taken in waits or was refused, what is taken in is the closure of all.
 pub fn kept_and_waiting_is_closed()
     ensures { (taken waiting all : List Operation) → AreIdentified all → Good taken → IsKept taken waiting all

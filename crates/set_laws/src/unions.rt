@@ -6,8 +6,7 @@ ghost use Rattle.tree_order.specs.Laws.{AreSameSet};
 ghost use Rattle.tree_order.specs.Tree.{IsChar};
 ghost use Rattle.set_laws.specs.Fronts.{IsHere};
 ghost use Rattle.set_laws.specs.Sets.{AreIdentified, UnionIsGood, UnionsAreSets, UnionsShowSets};
-ghost use Rattle.set_laws.specs.Sets.{HaveEqualFronts, AreHeldToTheFront, HasToTheFront};
-ghost use Rattle.set_laws.specs.Sets.{HasCausesAhead, KeepsCauses};
+ghost use Rattle.set_laws.specs.Sets.{HasCausesAhead, HaveEqualFronts, KeepsCauses};
 
 use tree_order::laws::only_the_set_counts;
 
@@ -34,22 +33,11 @@ pub fn equal_fronts_tell_equal_sets()
         → AreSameSet a b }
 {}
 
-/// A law: a good set holds the identities of each site up to its front, and no others.
-pub fn front_is_held()
-    ensures { (ops : List Operation) → Good ops → AreIdentified ops → AreHeldToTheFront ops }
-{}
-
 /// A law: the names that are here, those whose offsets are below the length of their site's file, are the
 /// characters of a good set.
 pub fn names_here_are_the_characters()
     ensures { (ops : List Operation) (name : CharName) → Good ops → AreIdentified ops
         → IsHere ops name ↔ IsChar ops name }
-{}
-
-/// A law: of the operations of another list, a good set has those up to its fronts, and no others. So what a
-/// merge has to take are those past the fronts.
-pub fn front_tells_what_is_held()
-    ensures { (a b : List Operation) → Good a → AreIdentified (a ++ b) → HasToTheFront a b }
 {}
 
 /// A law: in a list that keeps causes, each operation's causes stand ahead of it.

@@ -1,6 +1,7 @@
-ghost use Rattle.std.specs.Prelude.{◌≡◌, ◌≢◌, ◌↔◌, ℕ, List, IsTrue, OnErr, OnOk, None, Some};
-ghost use Rattle.shelf.specs.Files.{Counts};
-ghost use Rattle.shelf.specs.Memory.{HasNoFile, files_in};
+ghost use Rattle.std.specs.Prelude.{◌≡◌, ◌≢◌, ◌↔◌, ◌≤◌, ◌⊎◌, ℕ, List, IsTrue, IsErr, IsErrOf, IfErr, IfOk, OnErr, OnOk};
+ghost use Rattle.std.specs.Prelude.{IsOkUnless, None, Some};
+ghost use Rattle.shelf.specs.Files.{Counts, OthersStay};
+ghost use Rattle.shelf.specs.Memory.{HasNoFile, calls_left, files_in};
 
 use crate::shelf::Shelf;
 use looks::Refusal;
@@ -40,6 +41,7 @@ impl MemoryShelf {
         ensures files { self.new.files ≡ self.old.files }
         ensures failures { self.new.failures ≡ self.old.failures }
         ensures told { IsTrue result ↔ (self.old.good_calls ≡ Some 0) }
+        ensures left { self.new.good_calls ≡ calls_left self.old.good_calls }
     {
         match self.good_calls {
             None => false,
@@ -58,6 +60,7 @@ impl MemoryShelf {
     fn count(&mut self)
         ensures files { self.new.files ≡ self.old.files }
         ensures failures { Counts self.old.failures self.new.failures }
+        ensures left { self.new.good_calls ≡ self.old.good_calls }
     {
         self.failures = self.failures.saturating_add(1);
     }
@@ -66,7 +69,9 @@ impl MemoryShelf {
     fn keep(&mut self, name: &str, bytes: &[u8]) -> Result<(), AllocError>
         ensures ok { OnOk result (files_in self.new.files name.now ≡ Some bytes.now) }
         ensures others { (other : List ℕ) → other ≢ name.now → files_in self.new.files other ≡ files_in self.old.files other }
+        ensures err { OnErr result (files_in self.new.files name.now ≡ files_in self.old.files name.now) }
         ensures failures { self.new.failures ≡ self.old.failures }
+        ensures left { self.new.good_calls ≡ self.old.good_calls }
     {
         let key = String::from_str(self.alloc, name)?;
         let bytes = Vec::from_slice(self.alloc, bytes)?;
@@ -80,7 +85,19 @@ impl Shelf for MemoryShelf {
 
     ghost faults = { λ m. m.failures };
 
-    fn read(&mut self, alloc: Global, name: &str) -> Result<Vec<u8>, Refusal> {
+    // As each shelf does; and it fails exactly where it was told to or has no such file.
+    fn read(&mut self, alloc: Global, name: &str) -> Result<Vec<u8>, Refusal>
+        ensures ok { IfOk result (λ bytes. files_in self.old.files name.now ≡ Some bytes.items) }
+        ensures files { self.new.files ≡ self.old.files }
+        ensures errors { IfErr result (λ e. (e ≡ Refusal.ReadFault) ⊎ (e ≡ Refusal.OutOfMemory)) }
+        ensures fault { IsErrOf result Refusal.ReadFault → Counts self.old.failures self.new.failures }
+        ensures rises { self.old.failures ≤ self.new.failures }
+        ensures told { self.old.good_calls ≡ Some 0 → IsErrOf result Refusal.ReadFault }
+        ensures absent { files_in self.old.files name.now ≡ None → IsErrOf result Refusal.ReadFault }
+        ensures good { (bytes : List ℕ) → self.old.good_calls ≢ Some 0 → files_in self.old.files name.now ≡ Some bytes
+            → IsOkUnless result Refusal.OutOfMemory }
+        ensures left { self.new.good_calls ≡ calls_left self.old.good_calls }
+    {
         if self.is_to_fail() {
             self.count();
             return Err(Refusal::ReadFault);
@@ -94,7 +111,17 @@ impl Shelf for MemoryShelf {
         }
     }
 
-    fn write(&mut self, name: &str, bytes: &[u8]) -> Result<(), Refusal> {
+    // As each shelf does; and where it fails the file is as before.
+    fn write(&mut self, name: &str, bytes: &[u8]) -> Result<(), Refusal>
+        ensures ok { OnOk result (files_in self.new.files name.now ≡ Some bytes.now) }
+        ensures others { OthersStay (Some (files_in self.old.files)) (Some (files_in self.new.files)) name.now }
+        ensures errors { IfErr result (λ e. e ≡ Refusal.WriteFault) }
+        ensures fault { OnErr result (Counts self.old.failures self.new.failures) }
+        ensures rises { self.old.failures ≤ self.new.failures }
+        ensures told { self.old.good_calls ≡ Some 0 → IsErr result }
+        ensures same { OnErr result (files_in self.new.files name.now ≡ files_in self.old.files name.now) }
+        ensures left { self.new.good_calls ≡ calls_left self.old.good_calls }
+    {
         if !self.is_to_fail() && self.keep(name, bytes).is_ok() {
             return Ok(());
         }

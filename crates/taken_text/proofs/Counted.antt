@@ -1,7 +1,7 @@
 -- What a taken text shows: how many characters, and which one at a position.
 use Rattle.std.proofs.Common.{◌≡◌, ℕ, ◌<◌, not, inl, inr, List, Option, Some, length, get_or, map, All, Contains}
 use Rattle.std.proofs.Common.{sym, ap, subst, ◌∙◌, arith}
-use Rattle.std.specs.Prelude.{IfSome, slice_get, slice_index, ◌↔◌}
+use Rattle.std.specs.Prelude.{IfSome, slice_get, slice_index}
 use Rattle.std.specs.Option.{option_map}
 use Rattle.std.proofs.lemmas.List.{length-map, get_or-map}
 use Rattle.std.proofs.lemmas.List.Elements.{All-filter, Contains-get_or}
@@ -11,90 +11,81 @@ use Rattle.char_files.specs.CharFiles.{Files, bytes_of}
 use Rattle.char_files.specs.CharName.{CharName}
 use Rattle.char_files.specs.declared.character.Char.{Char}
 use Rattle.operations.specs.Operation.{Operation}
-use Rattle.tree_order.specs.Good.{Good}
-use Rattle.tree_order.specs.Registers.{Kept, HasRegisters, kept_looks}
-use Rattle.tree_order.specs.RegisterLaws.{TellRegisters}
+use Rattle.tree_order.specs.Registers.{Atom, atom_looks}
 use Rattle.tree_order.specs.Tree.{IsChar}
 use Rattle.set_laws.specs.Fronts.{IsHere}
-use Rattle.set_laws.specs.Sets.{AreIdentified}
-use Rattle.piece_list.specs.Spelled.{spelled, shown_chars, names_of_kept}
+use Rattle.set_laws.proofs.Files.{char_is_here}
+use Rattle.piece_list.specs.Spelled.{spelled, shown_chars, names_of_atoms}
 use Rattle.piece_list.specs.declared.piece.Piece.{Piece}
 use Rattle.taken_text.specs.Taken.{TakenSeen, IsTaken, char_in, seen_in, shown_of}
-use Rattle.taken_text.proofs.Spelling.{all_tell, shown_of_kept}
-
--- the laws of what registers tell, and of the names that are here
-abbrev pub AllTell : Type 0
-AllTell = (ops : List Operation) → Good ops → (k : Kept) → HasRegisters ops k → TellRegisters ops k
-
-abbrev pub HereAreChars : Type 0
-HereAreChars = (ops : List Operation) (name : CharName) → Good ops → AreIdentified ops → IsHere ops name ↔ IsChar ops name
+use Rattle.taken_text.proofs.Spelling.{all_tell, shown_of_atoms}
 
 -- a name's byte is in its site's file
 abbrev pub HasByteIn : Files → CharName → Type 0
 HasByteIn files c = c.off < length (bytes_of files c.site)
 
--- what is shown are the kept characters that aren't hidden
-pub shown_now : AllTell → (ops : List Operation) (items : List (ℕ × Piece)) (files : Files) (now : TakenSeen)
+-- what is shown are the atoms that aren't hidden
+pub shown_now : (ops : List Operation) (items : List (ℕ × Piece)) (files : Files) (now : TakenSeen)
     → seen_in ops items files ≡ now → IsTaken ops items files
     → shown_of now ≡ map (char_in files) (shown_chars (spelled items))
-shown_now tell ops items files now seen t =
+shown_now ops items files now seen t =
     sym (ap shown_of seen)
-    ∙ shown_of_kept ops files (spelled items) (all_tell ops (tell ops t.good) (spelled items) t.kept.registers)
+    ∙ shown_of_atoms ops files (spelled items) (all_tell ops t.good (spelled items) t.atoms.registers)
 
-pub count_now : AllTell → (ops : List Operation) (items : List (ℕ × Piece)) (files : Files) (now : TakenSeen)
+pub count_now : (ops : List Operation) (items : List (ℕ × Piece)) (files : Files) (now : TakenSeen)
     → seen_in ops items files ≡ now → IsTaken ops items files
     → length (shown_of now) ≡ length (shown_chars (spelled items))
-count_now tell ops items files now seen t =
-    ap (length {A = Char}) (shown_now tell ops items files now seen t) ∙ length-map (shown_chars (spelled items)) (char_in files)
+count_now ops items files now seen t =
+    ap (length {A = Char}) (shown_now ops items files now seen t) ∙ length-map (shown_chars (spelled items)) (char_in files)
 
--- a character that is kept has a byte
-name_kept : (kept : List Kept) (k : Kept) → Contains kept k → Contains (names_of_kept kept) k.name
-name_kept kept k (i, lt, is) =
-    let name : Kept → CharName = λ (o : Kept). o.name in
-    (i, omega (arith, length-map kept name), get_or-map name kept i k k.name lt ∙ ap name is)
+-- an atom has a byte
+name_of_atom : (atoms : List Atom) (k : Atom) → Contains atoms k → Contains (names_of_atoms atoms) k.name
+name_of_atom atoms k (i, lt, is) =
+    let name : Atom → CharName = λ (o : Atom). o.name in
+    (i, omega (arith, length-map atoms name), get_or-map name atoms i k k.name lt ∙ ap name is)
 
-pub have_bytes : HereAreChars → (ops : List Operation) (items : List (ℕ × Piece)) (files : Files) → IsTaken ops items files
+pub have_bytes : (ops : List Operation) (items : List (ℕ × Piece)) (files : Files) → IsTaken ops items files
     → All (λ k. HasByteIn files k.name) (spelled items)
-have_bytes law ops items files t = λ i d lt.
-    let k : Kept = get_or (spelled items) i d in
-    let char : IsChar ops k.name = (t.kept.order.each k.name).0 (name_kept (spelled items) k (Contains-get_or (spelled items) i d lt)) in
-    let here : IsHere ops k.name = (law ops k.name t.good t.identified).1 char in
+have_bytes ops items files t = λ i d lt.
+    let k : Atom = get_or (spelled items) i d in
+    let char : IsChar ops k.name = (t.atoms.order.each k.name).0 (name_of_atom (spelled items) k (Contains-get_or (spelled items) i d lt)) in
+    let here : IsHere ops k.name = char_is_here ops t.good t.identified k.name char in
     omega (arith, here, t.bytes.lengths k.name.site)
 
 -- the character that is shown at a position, of the name and looks that the pieces tell
-module _ (tell : AllTell) (law : HereAreChars) (ops : List Operation) (items : List (ℕ × Piece)) (files : Files) (now : TakenSeen)
+module _ (ops : List Operation) (items : List (ℕ × Piece)) (files : Files) (now : TakenSeen)
     (seen : seen_in ops items files ≡ now) (t : IsTaken ops items files) (pos : ℕ) (within : pos < length (shown_of now)) where
   pub is_within : pos < length (shown_chars (spelled items))
-  is_within = omega (arith, within, count_now tell ops items files now seen t)
+  is_within = omega (arith, within, count_now ops items files now seen t)
 
-  module _ (name : CharName) (looks : Looks) (told : IfSome (slice_get (shown_chars (spelled items)) pos) (λ k. (name ≡ k.name) × (looks ≡ kept_looks k))) where
-    there : (k : Kept) × (slice_get (shown_chars (spelled items)) pos ≡ Some k) × (name ≡ k.name) × (looks ≡ kept_looks k)
+  module _ (name : CharName) (looks : Looks) (told : IfSome (slice_get (shown_chars (spelled items)) pos) (λ k. (name ≡ k.name) × (looks ≡ atom_looks k))) where
+    there : (k : Atom) × (slice_get (shown_chars (spelled items)) pos ≡ Some k) × (name ≡ k.name) × (looks ≡ atom_looks k)
     there =
         elim (slice_get_cases (shown_chars (spelled items)) pos).1 [
           | inl found ↦
               let (k, lt, is, same) = found in
-              let both = subst (λ (o : Option Kept). IfSome o (λ (j : Kept). (name ≡ j.name) × (looks ≡ kept_looks j))) is told in
+              let both = subst (λ (o : Option Atom). IfSome o (λ (j : Atom). (name ≡ j.name) × (looks ≡ atom_looks j))) is told in
               (k, is, both.0, both.1)
           | inr past ↦ absurd (omega (arith, is_within, past.0))
         ]
 
     pub has_byte_in : HasByteIn files name
     has_byte_in =
-        let k : Kept = there.0 in
-        let shown : List Kept = shown_chars (spelled items) in
-        let Has : Kept → Type 0 = λ (o : Kept). HasByteIn files o.name in
-        let all : All Has shown = All-filter (λ (o : Kept). not o.hidden.value) Has (spelled items) (have_bytes law ops items files t) in
+        let k : Atom = there.0 in
+        let shown : List Atom = shown_chars (spelled items) in
+        let Has : Atom → Type 0 = λ (o : Atom). HasByteIn files o.name in
+        let all : All Has shown = All-filter (λ (o : Atom). not o.hidden.value) Has (spelled items) (have_bytes ops items files t) in
         subst (HasByteIn files) (sym there.2)
         (subst Has (get_or_from_slice_get shown pos k k there.1) (all pos k (slice_get_within shown pos k there.1)))
 
     pub char_shown : (byte : ℕ) → byte ≡ slice_index (bytes_of files name.site) name.off
         → slice_get (shown_of now) pos ≡ Some (record { name = name; byte = byte; looks = looks })
     char_shown byte is =
-        let k : Kept = there.0 in
-        let shown : List Kept = shown_chars (spelled items) in
-        ap (λ (cs : List Char). slice_get cs pos) (shown_now tell ops items files now seen t)
+        let k : Atom = there.0 in
+        let shown : List Atom = shown_chars (spelled items) in
+        ap (λ (cs : List Char). slice_get cs pos) (shown_now ops items files now seen t)
         ∙ slice_get-map (char_in files) shown pos
         ∙ ap (option_map (char_in files)) there.1
-        ∙ ap (λ (c : CharName). Some (record { name = c; byte = slice_index (bytes_of files c.site) c.off; looks = kept_looks k })) (sym there.2)
+        ∙ ap (λ (c : CharName). Some (record { name = c; byte = slice_index (bytes_of files c.site) c.off; looks = atom_looks k })) (sym there.2)
         ∙ ap (λ (l : Looks). Some (record { name = name; byte = slice_index (bytes_of files name.site) name.off; looks = l })) (sym there.3)
         ∙ ap (λ (b : ℕ). Some (record { name = name; byte = b; looks = looks })) (sym is)

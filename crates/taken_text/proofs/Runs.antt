@@ -3,7 +3,7 @@ use Rattle.std.proofs.Common.{◌≡◌, ℕ, ◌+◌, ◌-◌, ◌<◌, ◌≤�
 use Rattle.std.proofs.Common.{Option, Some, None, refl, sym, ap, subst, ◌∙◌, arith}
 use Rattle.std.specs.Iterator.{YieldsFirst}
 use Rattle.std.specs.List.{flat_map}
-use Rattle.std.proofs.lemmas.List.{map-append, length-map, length-append, get_or-map, get_or_append_left, get_or-append-add}
+use Rattle.std.proofs.lemmas.List.{map-append, length-map, get_or-map}
 use Rattle.std.proofs.lemmas.List.Elements.{All-map, All-head, All-tail, All-cons, All-nil}
 use Rattle.std.proofs.lemmas.List.FromFn.{length-map-range_with_len, get_or-map-range_with_len}
 use Rattle.char_files.specs.CharFiles.{Files, bytes_of}
@@ -11,11 +11,12 @@ use Rattle.char_files.specs.CharName.{CharName}
 use Rattle.char_files.specs.declared.TheConstants.{MAX_FILE}
 use Rattle.char_files.specs.declared.character.Char.{Char}
 use Rattle.operations.specs.NameSet.{names_of}
-use Rattle.tree_order.specs.Registers.{Kept}
+use Rattle.tree_order.specs.Registers.{Atom}
 use Rattle.piece_list.specs.Shown.{Appearance, appearance_of, appearance_in, appearances_in}
 use Rattle.piece_list.specs.declared.run.Run.{Run}
 use Rattle.taken_text.specs.Shown.{with_byte, chars_of_run, chars_of_runs, runs_left, IsInFile, AreInFiles}
 use Rattle.taken_text.specs.Taken.{char_in}
+use Rattle.piece_list.proofs.Gap.{all_left, all_right}
 use Rattle.taken_text.proofs.Counted.{HasByteIn}
 
 -- the characters of runs are those that the runs tell of
@@ -25,14 +26,14 @@ chars_told files (r ∷ runs) =
     ap (λ (cs : List Char). chars_of_run files r ++ cs) (chars_told files runs)
     ∙ sym (map-append (with_byte files) (appearances_in r) (flat_map appearances_in runs))
 
-chars_kept : (files : Files) (kept : List Kept) → map (with_byte files) (map appearance_of kept) ≡ map (char_in files) kept
-chars_kept files [] = refl
-chars_kept files (k ∷ kept) = ap (λ (cs : List Char). char_in files k ∷ cs) (chars_kept files kept)
+atoms_with_bytes : (files : Files) (atoms : List Atom) → map (with_byte files) (map appearance_of atoms) ≡ map (char_in files) atoms
+atoms_with_bytes files [] = refl
+atoms_with_bytes files (k ∷ atoms) = ap (λ (cs : List Char). char_in files k ∷ cs) (atoms_with_bytes files atoms)
 
 -- so they are the characters that are told of
-pub chars_of_walk : (files : Files) (kept : List Kept) (runs : List Run) → flat_map appearances_in runs ≡ map appearance_of kept
-    → chars_of_runs files runs ≡ map (char_in files) kept
-chars_of_walk files kept runs told = chars_told files runs ∙ ap (map (with_byte files)) told ∙ chars_kept files kept
+pub chars_of_walk : (files : Files) (atoms : List Atom) (runs : List Run) → flat_map appearances_in runs ≡ map appearance_of atoms
+    → chars_of_runs files runs ≡ map (char_in files) atoms
+chars_of_walk files atoms runs told = chars_told files runs ∙ ap (map (with_byte files)) told ∙ atoms_with_bytes files atoms
 
 -- a run's first character
 chars_first : (files : Files) (r : Run) → 0 < r.len
@@ -66,15 +67,6 @@ last_byte files r some all =
     subst (λ (a : Appearance). HasByteIn files a.name) at (all i d (omega (arith, length-map names (appearance_in r)))) in
     omega (arith, has)
 
--- what holds of both parts' elements
-front_of : {X : Type 0} (P : X → Type 0) (xs ys : List X) → All P (xs ++ ys) → All P xs
-front_of P xs ys all = λ i d lt.
-    subst P (get_or_append_left xs ys d i lt) (all i d (omega (arith, length-append xs ys)))
-
-rest_of : {X : Type 0} (P : X → Type 0) (xs ys : List X) → All P (xs ++ ys) → All P ys
-rest_of P xs ys all = λ i d lt.
-    subst P (get_or-append-add xs ys i d) (all (length xs + i) d (omega (arith, length-append xs ys)))
-
 in_files : (files : Files) (runs : List Run) → All (λ run. 0 < run.len) runs → All (λ run. run.off + run.len ≤ MAX_FILE) runs
     → All (λ a. HasByteIn files a.name) (flat_map appearances_in runs) → AreInFiles files runs
 in_files files [] some within all = All-nil (IsInFile files)
@@ -87,18 +79,18 @@ in_files files (r ∷ runs) some within all =
     (record {
       some = here;
       within = All-head Within r runs within;
-      held = last_byte files r here (front_of Has (appearances_in r) (flat_map appearances_in runs) all);
+      held = last_byte files r here (all_left Has (appearances_in r) (flat_map appearances_in runs) all);
     })
     (in_files files runs (All-tail Some' r runs some) (All-tail Within r runs within)
-    (rest_of Has (appearances_in r) (flat_map appearances_in runs) all))
+    (all_right Has (appearances_in r) (flat_map appearances_in runs) all))
 
 -- the runs of a walk are in the files
-pub walk_in_files : (files : Files) (kept : List Kept) → All (λ k. HasByteIn files k.name) kept
+pub walk_in_files : (files : Files) (atoms : List Atom) → All (λ k. HasByteIn files k.name) atoms
     → (runs : List Run) → All (λ run. 0 < run.len) runs → All (λ run. run.off + run.len ≤ MAX_FILE) runs
-    → flat_map appearances_in runs ≡ map appearance_of kept → AreInFiles files runs
-walk_in_files files kept have runs some within told =
+    → flat_map appearances_in runs ≡ map appearance_of atoms → AreInFiles files runs
+walk_in_files files atoms have runs some within told =
     let Has : Appearance → Type 0 = λ (a : Appearance). HasByteIn files a.name in
-    in_files files runs some within (subst (All Has) (sym told) (All-map Has appearance_of kept have))
+    in_files files runs some within (subst (All Has) (sym told) (All-map Has appearance_of atoms have))
 
 -- a run without its first character
 abbrev pub without_first : Run → Run

@@ -11,7 +11,7 @@ use Rattle.char_files.specs.declared.TheConstants.{MAX_FILE}
 use Rattle.char_files.specs.declared.character.Char.{Char}
 use Rattle.operations.specs.NameSet.{names_of, names_in, set_of}
 use Rattle.operations.specs.Operation.{Operation}
-use Rattle.tree_order.specs.Registers.{Kept}
+use Rattle.tree_order.specs.Registers.{Atom}
 use Rattle.piece_list.specs.RunCuts.{AreWithin}
 use Rattle.piece_list.specs.Shown.{Appearance, appearance_of, appearance_in, appearances_in}
 use Rattle.piece_list.specs.Spelled.{spelled, shown_chars}
@@ -19,7 +19,7 @@ use Rattle.piece_list.specs.declared.piece.Piece.{Piece}
 use Rattle.piece_list.specs.declared.run.Run.{Run}
 use Rattle.taken_text.specs.Shown.{range_of_run}
 use Rattle.taken_text.specs.Taken.{TakenSeen, IsTaken, char_in, seen_in, shown_of, names_between}
-use Rattle.taken_text.proofs.Counted.{AllTell, HereAreChars, HasByteIn, have_bytes, shown_now}
+use Rattle.taken_text.proofs.Counted.{HasByteIn, have_bytes, shown_now}
 
 -- a stretch of what a function gives
 pub range_map : {X Y : Type 0} (f : X → Y) (xs : List X) (beg end : ℕ)
@@ -39,29 +39,29 @@ names_told (r ∷ runs) =
     ∙ ap (λ (l : List CharName). map (λ (a : Appearance). a.name) (appearances_in r) ++ l) (names_told runs)
     ∙ sym (map-append (λ (a : Appearance). a.name) (appearances_in r) (flat_map appearances_in runs))
 
-names_kept : (files : Files) (kept : List Kept)
-    → map (λ (a : Appearance). a.name) (map appearance_of kept) ≡ map (λ (c : Char). c.name) (map (char_in files) kept)
-names_kept files [] = refl
-names_kept files (k ∷ kept) = ap (λ (l : List CharName). k.name ∷ l) (names_kept files kept)
+names_of_all : (files : Files) (atoms : List Atom)
+    → map (λ (a : Appearance). a.name) (map appearance_of atoms) ≡ map (λ (c : Char). c.name) (map (char_in files) atoms)
+names_of_all files [] = refl
+names_of_all files (k ∷ atoms) = ap (λ (l : List CharName). k.name ∷ l) (names_of_all files atoms)
 
 -- of pieces and what is told of them between two positions
-module _ (tell : AllTell) (ops : List Operation) (items : List (ℕ × Piece)) (files : Files) (now : TakenSeen)
+module _ (ops : List Operation) (items : List (ℕ × Piece)) (files : Files) (now : TakenSeen)
     (seen : seen_in ops items files ≡ now) (t : IsTaken ops items files) (beg end : ℕ) where
-  -- the kept characters that are shown there
-  abbrev pub part : List Kept
+  -- the atoms that are shown there
+  abbrev pub part : List Atom
   part = slice_range (shown_chars (spelled items)) beg end
 
   pub part_shown : slice_range (shown_of now) beg end ≡ map (char_in files) part
   part_shown =
-      ap (λ (cs : List Char). slice_range cs beg end) (shown_now tell ops items files now seen t)
+      ap (λ (cs : List Char). slice_range cs beg end) (shown_now ops items files now seen t)
       ∙ range_map (char_in files) (shown_chars (spelled items)) beg end
 
-  pub part_has_bytes : HereAreChars → All (λ k. HasByteIn files k.name) part
-  part_has_bytes law =
-      let Has : Kept → Type 0 = λ (k : Kept). HasByteIn files k.name in
+  pub part_has_bytes : All (λ k. HasByteIn files k.name) part
+  part_has_bytes =
+      let Has : Atom → Type 0 = λ (k : Atom). HasByteIn files k.name in
       All-take Has (end - beg) (drop beg (shown_chars (spelled items)))
       (All-drop Has beg (shown_chars (spelled items))
-      (All-filter (λ (k : Kept). not k.hidden.value) Has (spelled items) (have_bytes law ops items files t)))
+      (All-filter (λ (k : Atom). not k.hidden.value) Has (spelled items) (have_bytes ops items files t)))
 
   module _ (runs : List Run) (walked : flat_map appearances_in runs ≡ slice_range (map appearance_of (shown_chars (spelled items))) beg end) where
     pub part_told : flat_map appearances_in runs ≡ map appearance_of part
@@ -70,7 +70,7 @@ module _ (tell : AllTell) (ops : List Operation) (items : List (ℕ × Piece)) (
     -- so the runs' names are the set's
     pub names_are : set_of (names_in (map range_of_run runs)) ≡ names_between now beg end
     names_are =
-        ap set_of (names_told runs ∙ ap (map (λ (a : Appearance). a.name)) part_told ∙ names_kept files part
+        ap set_of (names_told runs ∙ ap (map (λ (a : Appearance). a.name)) part_told ∙ names_of_all files part
         ∙ ap (map (λ (c : Char). c.name)) (sym part_shown))
 
 -- the runs behind the first

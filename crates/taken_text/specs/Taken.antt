@@ -6,7 +6,7 @@ use Rattle.char_files.specs.declared.character.Char.{Char}
 use Rattle.operations.specs.NameSet.{Range, set_of}
 use Rattle.operations.specs.Operation.{Operation}
 use Rattle.tree_order.specs.Good.{Good}
-use Rattle.tree_order.specs.Registers.{Kept, AreKept, kept_looks}
+use Rattle.tree_order.specs.Registers.{Atom, AreAtoms, atom_looks}
 use Rattle.tree_order.specs.Shown.{AreChars, is_visible}
 use Rattle.tree_order.specs.Tree.{HasByte}
 use Rattle.set_laws.specs.Fronts.{file_len}
@@ -35,12 +35,12 @@ shown_of t = filter (λ c. is_visible t.operations c.name) t.chars
 abbrev pub names_between : TakenSeen → ℕ → ℕ → List Range
 names_between t beg end = set_of (map (λ c. c.name) (slice_range (shown_of t) beg end))
 
--- a character as it is kept, with its byte
-abbrev pub char_in : Files → Kept → Char
+-- an atom with its byte
+abbrev pub char_in : Files → Atom → Char
 char_in files k = record {
   name = k.name;
   byte = slice_index (bytes_of files k.name.site) k.name.off;
-  looks = kept_looks k;
+  looks = atom_looks k;
 }
 
 -- what a log, pieces and files are seen as together
@@ -59,5 +59,5 @@ pub record IsTaken (ops : List Operation) (items : List (ℕ × Piece)) (files :
   pub good : Good ops
   pub in_order : KeepsCauses ops
   pub identified : AreIdentified ops
-  pub kept : AreKept ops (spelled items)
+  pub atoms : AreAtoms ops (spelled items)
   pub bytes : HoldBytes ops files

@@ -18,9 +18,7 @@ use char_files::{Buffer, MAX_FILE};
 use looks::Refusal;
 use operations::{NameRange, NameSet};
 use piece_list::Between;
-use set_laws::unions::names_here_are_the_characters;
 use std::alloc::Global;
-use tree_order::laws::registers::registers_tell_what_is_shown;
 
 // The names of these runs, run by run. Refused `OutOfMemory` alone.
 fn ranges_of(alloc: Global, runs: Between<'_>) -> Result<Vec<NameRange>, Refusal>
@@ -52,13 +50,11 @@ fn taken_out(alloc: Global, chars: Shown<'_>) -> Result<Buffer, Refusal>
 }
 
 impl TakenText {
-    // The characters that are shown from `beg` to `end`, one after the other.
-    pub(crate) fn shown_between(&self, beg: u64, end: u64) -> Shown<'_>
+    /// The characters that are shown from `beg` to `end`, one after the other. It takes no memory.
+    pub fn shown_between(&self, beg: u64, end: u64) -> Shown<'_>
         requires { beg ≤ end }
         ensures { result ≡ slice_range (shown_of self.now) beg end }
     {
-        registers_tell_what_is_shown();
-        names_here_are_the_characters();
         Shown::of(self.pieces.walk_between(beg, end), &self.files)
     }
 
@@ -74,7 +70,6 @@ impl TakenText {
             → MAX_RANGES < length (names_between self.now beg end) }
         ensures errors { IfErr result (λ e. (e ≡ Refusal.Scattered) ⊎ (e ≡ Refusal.OutOfMemory)) }
     {
-        registers_tell_what_is_shown();
         NameSet::of_all(ranges_of(self.alloc, self.pieces.walk_between(beg, end))?)
     }
 
@@ -103,7 +98,6 @@ impl TakenText {
         ensures { IsTrue result
             ↔ ((c : CharName) → IsAmong names.now c → IsTrue (is_visible self.now.operations c)) }
     {
-        registers_tell_what_is_shown();
         !self.pieces.has_hidden(names)
     }
 }

@@ -2,28 +2,21 @@ ghost use Rattle.std.specs.Prelude.{◌≡◌, ◌<◌, ◌↔◌, [], ◌∷◌
 ghost use Rattle.std.specs.Prelude.{IfOk, IfSome, IsSome, OnOk, OnErr};
 ghost use Rattle.looks.specs.Refusal.{RefusedForMemoryAlone};
 ghost use Rattle.char_files.specs.CharFiles.{SameBytes};
-ghost use Rattle.operations.specs.Operation.{insert};
-ghost use Rattle.tree_order.specs.Good.{key_of as key_by};
+ghost use Rattle.char_files.specs.declared.name.Anchor.{Anchor};
+ghost use Rattle.tree_order.specs.Insertion.{IsInsertAt};
 ghost use Rattle.tree_order.specs.Shown.{IsPlace};
 ghost use Rattle.tree_order.specs.Tree.{IsChar};
 ghost use Rattle.set_laws.specs.Verdict.{HasVerdict, IsNew, ready};
-ghost use Rattle.taken_text.specs.Lower.{Lower};
 ghost use Rattle.taken_text.specs.Taken.{IsDefined, IsTaken, shown_of};
 
 use crate::shown::Shown;
-use char_files::{Anchor, Char, CharFiles, Name};
-use looks::{Key, Looks, Refusal};
+use char_files::{Char, CharFiles, Name};
+use looks::Refusal;
 use op_log::Log;
 use operations::{Kind, Op};
-use piece_list::laws::{a_piece_of_a_run_is_kept, a_placed_run_is_kept};
 use piece_list::{PieceList, Run};
-use set_laws::closures::nothing_is_good;
-use set_laws::growing::{counts_go_on, counts_tell_what_is_here, good_sets_grow_by_verdict};
-use set_laws::unions::{front_is_held, lists_that_keep_causes_grow, names_here_are_the_characters};
 use std::alloc::Global;
 use std::marker::Model;
-use tree_order::laws::registers::{a_kept_list_is_offered, registers_tell_what_is_shown};
-use tree_order::laws::sequential::one_writer_goes_behind_causes;
 
 /// The operations that a replica has taken in, found by their identities at once, and the characters that they
 /// make: a list of pieces over append-only files. This project's own.
@@ -45,59 +38,40 @@ impl Model for TakenText {
     ghost invariant = { λ t. IsTaken t.log.ops t.pieces.items t.files };
 }
 
-// The laws of sets that taking in rests on. A proof gets them by calling this.
-fn the_laws_of_sets()
-    ensures { Lower }
-{
-    good_sets_grow_by_verdict();
-    counts_tell_what_is_here();
-    front_is_held();
-    counts_go_on();
-    lists_that_keep_causes_grow();
-}
-
-// An operation's key.
-fn key_of(op: &Op) -> Key
-    ensures { result ≡ key_by op.now }
-{
-    Key {
-        stamp: op.stamp(),
-        site: op.site().get(),
-    }
-}
-
 // Takes in an Insert: its bytes go to the end of its site's file, and its run among the pieces.
 fn insert_run(
     log: &Log,
     pieces: &mut PieceList,
     files: &mut CharFiles,
     op: &Op,
-    cause: Anchor,
-    at: u32,
-    looks: &Looks,
-    bytes: &[u8],
 ) -> Result<(), Refusal>
     requires taken { IsTaken log.now.ops pieces.old.items files.old }
     requires new { IsNew log.now.ops op.now }
     requires ready { HasVerdict log.now.ops op.now ready }
-    requires insert { op.now.kind ≡ insert cause at looks.now bytes.now }
+    requires insert { (cause : Anchor) × IsInsertAt op.now cause }
     ensures ok { OnOk result (IsTaken (log.now.ops ++ op.now ∷ []) pieces.new.items files.new) }
     ensures errors { RefusedForMemoryAlone result }
     ensures err { OnErr result ((pieces.new.items ≡ pieces.old.items) × SameBytes files.old files.new) }
 {
-    the_laws_of_sets();
-    a_piece_of_a_run_is_kept();
-    a_placed_run_is_kept();
     op.has_spelling();
+    let Kind::Insert {
+        cause,
+        at,
+        looks,
+        bytes,
+    } = op.kind()
+    else {
+        unreachable!()
+    };
     let run = Run {
         site: op.site(),
-        off: at,
+        off: *at,
         len: bytes.len() as u32,
-        key: key_of(op),
+        key: op.key(),
         looks: looks.copy(),
     };
     files.reserve(op.site(), bytes.len())?;
-    pieces.place(run, cause)?;
+    pieces.place(run, *cause)?;
     match files.append(op.site(), bytes) {
         Ok(_) => Ok(()),
         Err(_) => unreachable!(),
@@ -113,16 +87,9 @@ fn apply(log: &Log, pieces: &mut PieceList, files: &mut CharFiles, op: &Op) -> R
     ensures errors { RefusedForMemoryAlone result }
     ensures err { OnErr result ((pieces.new.items ≡ pieces.old.items) × SameBytes files.old files.new) }
 {
-    the_laws_of_sets();
-    a_kept_list_is_offered();
-    let key = key_of(op);
+    let key = op.key();
     match op.kind() {
-        Kind::Insert {
-            cause,
-            at,
-            looks,
-            bytes,
-        } => insert_run(log, pieces, files, op, *cause, *at, looks, bytes),
+        Kind::Insert { .. } => insert_run(log, pieces, files, op),
         Kind::Delete { names } => pieces.hide(names, key),
         Kind::Restore { names } => pieces.reveal(names, key),
         Kind::ChangeLooks { sel, looks, names } => pieces.relook(names, *sel, looks, key),
@@ -135,8 +102,6 @@ impl TakenText {
         ensures ok { IfOk result (λ t. t ≡ record { operations = []; chars = [] }) }
         ensures errors { RefusedForMemoryAlone result }
     {
-        nothing_is_good();
-        one_writer_goes_behind_causes();
         Ok(TakenText {
             log: Log::new(alloc),
             pieces: PieceList::new(alloc)?,
@@ -150,7 +115,6 @@ impl TakenText {
     pub fn is_defined(&self)
         ensures { IsDefined self.now }
     {
-        registers_tell_what_is_shown();
         let _ = &self.log;
     }
 
@@ -165,7 +129,6 @@ impl TakenText {
     pub fn shown_len(&self) -> u64
         ensures { result ≡ length (shown_of self.now) }
     {
-        registers_tell_what_is_shown();
         self.pieces.shown_len()
     }
 
@@ -174,8 +137,6 @@ impl TakenText {
         requires { pos < length (shown_of self.now) }
         ensures { slice_get (shown_of self.now) pos ≡ Some result }
     {
-        registers_tell_what_is_shown();
-        names_here_are_the_characters();
         let (name, looks) = self.pieces.shown_at(pos);
         Char {
             name,
@@ -190,7 +151,6 @@ impl TakenText {
         ensures here { IsSome result ↔ IsChar self.now.operations name }
         ensures place { IfSome result (IsPlace self.now.operations (Anchor.At name)) }
     {
-        registers_tell_what_is_shown();
         self.pieces.shown_to(name)
     }
 
@@ -212,7 +172,6 @@ impl TakenText {
         ensures errors { RefusedForMemoryAlone result }
         ensures err { OnErr result (self.new ≡ self.old) }
     {
-        the_laws_of_sets();
         self.log.reserve(op.site())?;
         apply(&self.log, &mut self.pieces, &mut self.files, &op)?;
         self.log.push(op);

@@ -17,7 +17,7 @@ use Rattle.operations.specs.Reading.{LooksAreTold}
 use Rattle.operations.specs.Spelling.{number_spelling}
 use Rattle.text_file.specs.declared.TheConstants.{MAX_TEXT}
 use Rattle.text_file.specs.declared.loading.Head.{Head}
-use Rattle.text_file.specs.Files.{tag, run_spelling, formatted, IsText, IsFormatted}
+use Rattle.text_file.specs.Files.{tag, run_spelling, formatted, HasFile, IsFormatted}
 use Rattle.text_file.specs.Files.{IsFileOf, IsNoFile, OneText, plain_bytes}
 use Rattle.text_file.specs.Heads.{head_spelling, cut, AreSpelled, IsRead}
 use Rattle.text_file.proofs.Cuts.{head_of, chars_of, InLooks, cut_heads, cut_chars, cut_runs, cut_in_looks}
@@ -87,7 +87,7 @@ module _ (maximal : RunsAreMaximal) where
       ∙ ap items_of (cut_again runs) ∙ (maximal items).1
 
   -- a text's file is read so
-  pub text_read : (items : List Item) → IsText items
+  pub text_read : (items : List Item) → HasFile items
       → IsRead (heads_of items) (bytes_of items) (read_spelling (heads_of items) (bytes_of items))
   text_read items text =
       let runs : List Stretch = maximal_runs items in
@@ -253,7 +253,7 @@ module _ (told : LooksAreTold) (maximal : RunsAreMaximal) where
           (sym (all ∙ append-nil heads), both.0, both.1)
       go (h ∷ todo) all back len = absurd (omega (arith, ap length all, length-append heads (h ∷ todo), len))
 
-  pub formatted_told : (a b : List Item) (rest : List ℕ) → IsText a → IsText b
+  pub formatted_told : (a b : List Item) (rest : List ℕ) → HasFile a → HasFile b
       → formatted b ≡ formatted a ++ rest → (a ≡ b) × (rest ≡ [])
   formatted_told a b rest a_text b_text e =
       let a_read : List ℕ = read_spelling (heads_of a) (bytes_of a) in
@@ -269,7 +269,7 @@ module _ (told : LooksAreTold) (maximal : RunsAreMaximal) where
         t.2,
       )
 
-  pub one_text_shares : (a b : List Item) → IsText a → IsText b → formatted a ≡ formatted b → a ≡ b
+  pub one_text_shares : (a b : List Item) → HasFile a → HasFile b → formatted a ≡ formatted b → a ≡ b
   one_text_shares a b a_text b_text e =
       (formatted_told a b [] a_text b_text (sym e ∙ sym (append-nil (formatted a)))).0
 

@@ -25,7 +25,7 @@ formatted items =
     ++ number_spelling w32 (length items) ++ map (λ c. c.0) items
 
 -- a text that has a file: at most 2^20 characters, each in looks that there are
-pub record IsText (items : List Item) : Type 0 where
+pub record HasFile (items : List Item) : Type 0 where
   pub few : length items ≤ MAX_TEXT
   pub looks : AllByRecursion (λ c. IsLooks c.1) items
 
@@ -48,7 +48,7 @@ plain_bytes (a ∷ b ∷ rest) =
 
 -- the formatted file of these characters
 pub record IsFormatted (items : List Item) (file : List ℕ) : Type 0 where
-  pub text : IsText items
+  pub text : HasFile items
   pub spelled : file ≡ formatted items
 
 -- a plain file, which doesn't begin with the tag, of these characters, in the default looks
@@ -71,9 +71,9 @@ OneText = (a b : List Item) (file : List ℕ) → IsFileOf a file → IsFileOf b
 
 -- no two texts share a formatted file
 abbrev pub NoneIsShared : Type 0
-NoneIsShared = (a b : List Item) → IsText a → IsText b → formatted a ≡ formatted b → a ≡ b
+NoneIsShared = (a b : List Item) → HasFile a → HasFile b → formatted a ≡ formatted b → a ≡ b
 
 -- no formatted file begins another one
 abbrev pub NoneBeginsAnother : Type 0
 NoneBeginsAnother =
-    (a b : List Item) (rest : List ℕ) → IsText a → IsText b → formatted b ≡ formatted a ++ rest → rest ≡ []
+    (a b : List Item) (rest : List ℕ) → HasFile a → HasFile b → formatted b ≡ formatted a ++ rest → rest ≡ []

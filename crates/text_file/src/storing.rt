@@ -6,12 +6,12 @@ ghost use Rattle.looks.specs.Looks.{IsLooks};
 ghost use Rattle.looks.specs.Refusal.{RefusedForMemoryAlone};
 ghost use Rattle.char_files.specs.Stretch.{items_of};
 ghost use Rattle.operations.specs.Spelling.{number_spelling};
-ghost use Rattle.text_file.specs.Files.{run_spelling, formatted, IsText, IsFileOf};
+ghost use Rattle.text_file.specs.Files.{run_spelling, formatted, HasFile, IsFileOf};
 
 use crate::MAX_TEXT;
 use crate::filling::push_char;
 use byteorder::{BigEndian, ByteOrder};
-use char_files::{Buffer, Run, Source};
+use char_files::{Buffer, LooksRun, Source};
 use looks::Refusal;
 use operations::write_looks;
 use std::alloc::{AllocError, Global};
@@ -20,7 +20,7 @@ use std::alloc::{AllocError, Global};
 fn copy_of<S: Source>(alloc: Global, source: &S) -> Result<Buffer, Refusal>
     requires { length (S.items source.now) ≤ MAX_TEXT }
     ensures ok { IfOk result (λ text. text ≡ S.items source.now) }
-    ensures text { IfOk result (λ text. IsText text) }
+    ensures text { IfOk result (λ text. HasFile text) }
     ensures errors { RefusedForMemoryAlone result }
 {
     let mut text = Buffer::new(alloc);
@@ -41,7 +41,7 @@ fn put_u32(out: &mut Vec<u8>, number: u32) -> Result<(), AllocError>
     out.extend_from_slice(&bytes)
 }
 
-fn put_run(out: &mut Vec<u8>, run: &Run) -> Result<(), Refusal>
+fn put_run(out: &mut Vec<u8>, run: &LooksRun) -> Result<(), Refusal>
     requires { length run.now.bytes ≤ MAX_TEXT }
     ensures ok { OnOk result (out.new.items ≡ out.old.items ++ run_spelling run.now) }
     ensures errors { RefusedForMemoryAlone result }
@@ -51,7 +51,7 @@ fn put_run(out: &mut Vec<u8>, run: &Run) -> Result<(), Refusal>
     Ok(())
 }
 
-fn put_runs(out: &mut Vec<u8>, runs: &[Run]) -> Result<(), Refusal>
+fn put_runs(out: &mut Vec<u8>, runs: &[LooksRun]) -> Result<(), Refusal>
     requires { length (items_of runs.now) ≤ MAX_TEXT }
     ensures ok { OnOk result (out.new.items ≡ out.old.items ++ flat_map run_spelling runs.now) }
     ensures errors { RefusedForMemoryAlone result }
@@ -62,7 +62,7 @@ fn put_runs(out: &mut Vec<u8>, runs: &[Run]) -> Result<(), Refusal>
     Ok(())
 }
 
-fn put_chars(out: &mut Vec<u8>, runs: &[Run]) -> Result<(), AllocError>
+fn put_chars(out: &mut Vec<u8>, runs: &[LooksRun]) -> Result<(), AllocError>
     ensures { OnOk result (out.new.items ≡ out.old.items ++ flat_map (λ r. r.bytes) runs.now) }
 {
     for run in runs {

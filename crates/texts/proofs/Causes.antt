@@ -13,7 +13,7 @@ use Rattle.char_files.specs.declared.character.Char.{Char}
 use Rattle.char_files.specs.declared.name.Anchor.{Anchor}
 use Rattle.char_files.specs.declared.name.Anchor.TheVariants.{Root, At}
 use Rattle.operations.specs.Operation.{Operation, insert, MentionsBy}
-use Rattle.tree_order.specs.Insertion.{EndsAt, IsBehind}
+use Rattle.tree_order.specs.Insertion.{EndsAt, IsJustBehind}
 use Rattle.tree_order.specs.Order.{IsOrder}
 use Rattle.tree_order.specs.Shown.{up_to}
 use Rattle.tree_order.specs.Tree.{IsChar}
@@ -23,7 +23,7 @@ use Rattle.texts.specs.Text.{IsAnchor}
 
 -- the position is that behind the anchor
 pub anchor_is_behind : (shown : List Char) (pos : ℕ) → pos ≤ length shown
-    → IsBehind (map (λ s. s.name) shown) (anchor_before shown pos) pos
+    → IsJustBehind (map (λ s. s.name) shown) (anchor_before shown pos) pos
 anchor_is_behind shown zero within = refl
 anchor_is_behind shown (suc k) within =
     let apart : eqb (suc k) 0 ≡ false = grind (arith, nat_tests) in
@@ -41,7 +41,7 @@ old_if_mentioned ops Root at looks bytes old name m = absurd m
 old_if_mentioned ops (At c) at looks bytes old name m = subst (IsChar ops) (sym m) old
 
 pub old_if_behind : (ops : List Operation) (names : List CharName) (a : Anchor) (pos : ℕ) → All (IsChar ops) names
-    → IsBehind names a pos → IsAnchor ops a
+    → IsJustBehind names a pos → IsAnchor ops a
 old_if_behind ops names Root pos are behind = tt
 old_if_behind ops names (At c) pos are (k, at, next) =
     All-contains (IsChar ops) names c are

@@ -7,17 +7,23 @@ use Rattle.char_files.specs.CharName.{CharName}
 use Rattle.char_files.specs.declared.character.Char.{Char}
 use Rattle.operations.specs.Operation.{Operation}
 use Rattle.tree_order.specs.Good.{Good}
-use Rattle.tree_order.specs.Laws.{AreSameSet, HasOneOrder, SaysTheSame, ShowsOneText}
+use Rattle.tree_order.specs.Laws.{HasOneOrder}
 use Rattle.tree_order.specs.Looks.{HasLooks}
 use Rattle.tree_order.specs.OneEach.{HasOneEach}
 use Rattle.tree_order.specs.Order.{IsOrder}
 use Rattle.tree_order.specs.Shown.{AreChars, is_visible}
 use Rattle.tree_order.specs.Tree.{HasByte, IsChar}
-use Rattle.set_laws.specs.Sets.{AreIdentified, HaveEqualFronts}
+use Rattle.set_laws.specs.Sets.{AreIdentified}
 use Rattle.texts.specs.Laws.{ShowsTheDefinition, OperationsTellTheText, FrontsTellTheText, HasOneTextWith}
+use Rattle.texts.specs.Laws.{GrownTextsKeepTheOrder}
 use Rattle.texts.specs.Text.{IsText}
 use Rattle.texts.specs.TextState.{TextState, shown_of}
-use Rattle.texts.proofs.OwnStep.{CausesStayAhead, char_stays}
+use Rattle.tree_order.proofs.Before.{has_order}
+use Rattle.tree_order.proofs.OneText.{one_each, shows_one_text}
+use Rattle.tree_order.proofs.SameSet.{before, says_the_same}
+use Rattle.set_laws.proofs.Ahead.{causes_kept_with_one}
+use Rattle.set_laws.proofs.Covered.{same_by_fronts}
+use Rattle.texts.proofs.OwnStep.{char_stays}
 
 -- the names of those that pass are the names that pass
 one_passes : (b : Bool) (c : Char) (xs : List Char) (names : List CharName) → map (λ s. s.name) xs ≡ names
@@ -52,18 +58,13 @@ shown_are_chars t is =
     (All-filter (is_visible t.operations) (IsChar t.operations) s.order
     (λ k d lt. (s.in_order.each _).0 (Contains-get_or s.order k d lt)))
 
--- the laws that a good set has one order, and that names tell characters
-pub record TellChars : Type 0 where
-  pub order : (ops : List Operation) → Good ops → HasOneOrder ops
-  pub each : (ops : List Operation) → Good ops → (names : List CharName) → All (IsChar ops) names
-      → HasOneEach ops names
-
-module _ (laws : TellChars) (ops : List Operation) (good : Good ops) where
+-- a good set has one order, and names tell characters
+module _ (ops : List Operation) (good : Good ops) where
   names : HasOneOrder ops
-  names = laws.order ops good
+  names = has_order ops good
 
   each : HasOneEach ops names.order
-  each = laws.each ops good names.order (λ k d lt. (names.is.each _).0 (Contains-get_or names.order k d lt))
+  each = one_each ops good names.order (λ k d lt. (names.is.each _).0 (Contains-get_or names.order k d lt))
 
   -- there is a list of all characters, and no other
   pub has_chars : (chars : List Char) × AreChars ops chars
@@ -78,51 +79,53 @@ module _ (laws : TellChars) (ops : List Operation) (good : Good ops) where
   one_chars a b p q = is_each a p ∙ sym (is_each b q)
 
 -- one operation more, of which the set with it is good, leaves one text
-pub one_text_with : TellChars → CausesStayAhead → (t : TextState) (op : Operation) → IsText t → Good (t.operations ++ op ∷ [])
+pub one_text_with : (t : TextState) (op : Operation) → IsText t → Good (t.operations ++ op ∷ [])
     → AreIdentified (t.operations ++ op ∷ []) → op.text ≡ t.text → HasOneTextWith t op
-one_text_with laws causes t op is good known own =
+one_text_with t op is good known own =
     let with_one : List Operation = t.operations ++ op ∷ [] in
-    let (chars, are) = has_chars laws with_one good in
+    let (chars, are) = has_chars with_one good in
     record {
       new = record t { operations = with_one; order = chars };
       is = record {
         good = good;
-        in_order = causes t.operations op is.in_order good;
+        in_order = causes_kept_with_one t.operations op is.in_order good;
         identified = known;
         of_text = All-push (λ (o : Operation). o.text ≡ t.text) t.operations op is.of_text own;
         chars = are;
-        kept = λ c among. char_stays t.operations op c (is.kept c among);
+        deleted = λ c among. char_stays t.operations op c (is.deleted c among);
         waiting = is.waiting;
       };
       grown = refl;
       only = λ other is' e.
           let are' : AreChars with_one other.order = subst (λ (ops : List Operation). AreChars ops other.order)
           (ap (λ (u : TextState). u.operations) e) is'.chars in
-          let same : other.order ≡ chars = one_chars laws with_one good other.order chars are' are in
+          let same : other.order ≡ chars = one_chars with_one good other.order chars are' are in
           e ∙ ap (λ (order : List Char). record t { operations = with_one; order = order }) same;
     }
 
+-- the order stays in what has grown
+pub grown_keeps_the_order : GrownTextsKeepTheOrder
+grown_keeps_the_order t u is is' within c d ahead =
+    (is'.chars.order.ahead c d).1 (before t.operations u.operations within c d ((is.chars.order.ahead c d).0 ahead))
+
 -- what the same operations tell is one text
-pub operations_tell : TellChars → ((a b : List Operation) → AreSameSet a b → Good a → SaysTheSame a b)
-    → ((ops : List Operation) → Good ops → ShowsOneText ops) → OperationsTellTheText
-operations_tell laws law one_text t u is is' same =
-    let says = law t.operations u.operations same is.good in
+pub operations_tell : OperationsTellTheText
+operations_tell t u is is' same =
+    let says = says_the_same t.operations u.operations same is.good in
     let moved : AreChars u.operations t.order = record {
       order = says.order (map (λ c. c.name) t.order) is.chars.order;
       bytes = λ k d lt. says.bytes _ _ (is.chars.bytes k d lt);
       looks = λ k d lt. says.looks _ _ (is.chars.looks k d lt);
     } in
-    let text = one_text u.operations is'.good in
+    let text = shows_one_text u.operations is'.good in
     record {
-      order = one_chars laws u.operations is'.good t.order u.order moved is'.chars;
+      order = one_chars u.operations is'.good t.order u.order moved is'.chars;
       shown =
           text.only (shown_of t) (says.shown (shown_of t) (shows_the_definition t is))
           ∙ sym (text.only (shown_of u) (shows_the_definition u is'));
     }
 
 -- and equal fronts tell the operations
-pub fronts_tell : OperationsTellTheText
-    → ((a b : List Operation) → Good a → Good b → AreIdentified (a ++ b) → HaveEqualFronts a b → AreSameSet a b)
-    → FrontsTellTheText
-fronts_tell told equal t u is is' known fronts =
-    told t u is is' (equal t.operations u.operations is.good is'.good known fronts)
+pub fronts_tell : FrontsTellTheText
+fronts_tell t u is is' known fronts =
+    operations_tell t u is is' (same_by_fronts t.operations u.operations is.good is'.good known fronts)

@@ -12,7 +12,7 @@ use Rattle.set_laws.specs.Verdict.{IsNew, HasVerdict}
 use Rattle.waiting_room.specs.Judged.{verdict_of}
 use Rattle.waiting_room.specs.Room.{IsFirstToLeave, StaysWaiting, without}
 use Rattle.waiting_room.specs.declared.judging.Verdict.{Verdict}
-use Rattle.waiting_room.specs.declared.judging.Verdict.TheVariants.{Wait, BadOffset, BadStamp, Ready}
+use Rattle.waiting_room.specs.declared.judging.Verdict.TheVariants.{Wait, Misfit, LowStamp, Ready}
 use Rattle.texts.specs.Draining.{AllStay, Drains, ends, stops, takes_in, throws_away}
 use Rattle.texts.specs.Draining.{IsNextOut, IsThrownAway, LeavesRoom}
 use Rattle.texts.specs.Text.{IsText}
@@ -84,8 +84,8 @@ pub thrown_away : (t : TextState) (op : Operation) (v : Verdict) → v ≢ Ready
     → (¬ StaysWaiting t.operations op) → IsNew t.operations op → HasVerdict t.operations op (verdict_of v)
     → IsThrownAway t op
 thrown_away t op Wait other own leaves new has = absurd (leaves (new, has))
-thrown_away t op BadOffset other own leaves new has = inr (inl (own, new, has))
-thrown_away t op BadStamp other own leaves new has = inr (inr (own, new, has))
+thrown_away t op Misfit other own leaves new has = inr (inl (own, new, has))
+thrown_away t op LowStamp other own leaves new has = inr (inr (own, new, has))
 thrown_away t op Ready other own leaves new has = absurd (other refl)
 
 -- what drains the text of now drains the first one, of which so many were taken in and thrown away by now

@@ -8,20 +8,14 @@ use Rattle.std.proofs.lemmas.List.Elements.{Contains-append_cases, Contains-appe
 use Rattle.std.proofs.lemmas.List.Elements.{Contains-push_cases}
 use Rattle.operations.specs.Operation.{Operation}
 use Rattle.set_laws.specs.Fronts.{IsHeld}
-use Rattle.set_laws.specs.Sets.{AreIdentified, IsInConflict, IsPartOf}
-
--- a part of what is identified is identified
-pub identified_part : (a b : List Operation) → IsPartOf a b → AreIdentified b → AreIdentified a
-identified_part a b part known = record {
-  counted = λ op held. known.counted op (part op held);
-  unique = λ x y in_x in_y. known.unique x y (part x in_x) (part y in_y);
-}
+use Rattle.set_laws.specs.Sets.{AreIdentified, IsInConflict}
+use Rattle.set_laws.proofs.Lengths.{part_identified}
 
 -- an operation that is held agrees with all that are
 known_with_held : (ops : List Operation) (op : Operation) → AreIdentified ops → Contains ops op
     → AreIdentified (ops ++ op ∷ [])
 known_with_held ops op known held =
-    identified_part (ops ++ op ∷ []) ops
+    part_identified (ops ++ op ∷ []) ops
     (λ o h. elim (Contains-push_cases ops op o h) [
       | inl there ↦ there
       | inr is ↦ subst (Contains ops) is held

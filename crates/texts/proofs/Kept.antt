@@ -6,10 +6,7 @@ use Rattle.char_files.specs.Stretch.{Item}
 use Rattle.char_files.specs.declared.character.Char.{Char}
 use Rattle.operations.specs.NameSet.{Range}
 use Rattle.operations.specs.Operation.{Operation}
-use Rattle.tree_order.specs.Good.{Good}
-use Rattle.set_laws.specs.Sets.{AreIdentified}
 use Rattle.texts.specs.Edit.{with_operation}
-use Rattle.texts.specs.Laws.{HasOneTextWith}
 use Rattle.texts.specs.Order.{order_after}
 use Rattle.texts.specs.Taking.{HasTaken}
 use Rattle.texts.specs.Text.{AreCharNames, IsText}
@@ -28,23 +25,18 @@ pub kept_grows : (ops : List Operation) (op : Operation) (names : List Range) �
     → AreCharNames (ops ++ op ∷ []) names
 kept_grows ops op names kept c among = char_stays ops op c (kept c among)
 
--- the law that an operation more leaves one text
-abbrev pub OneTextWith : Type 0
-OneTextWith = (t : TextState) (op : Operation) → IsText t → Good (t.operations ++ op ∷ [])
-    → AreIdentified (t.operations ++ op ∷ []) → op.text ≡ t.text → HasOneTextWith t op
-
--- by it, taking an own operation in leaves its characters as they are defined
-pub taken_is_own : OneTextWith → (t : TextState) (op : Operation) → IsText t → op.text ≡ t.text
+-- taking an own operation in leaves its characters as they are defined
+pub taken_is_own : (t : TextState) (op : Operation) → IsText t → op.text ≡ t.text
     → IsText (with_operation t op) → (new : TextState) → HasTaken t op new
     → new ≡ record t { operations = t.operations ++ op ∷ []; order = order_after t.order op }
-taken_is_own law t op is own with_own new taken =
-    taken_is_one law t op is own (record t { operations = t.operations ++ op ∷ []; order = order_after t.order op })
+taken_is_own t op is own with_own new taken =
+    taken_is_one t op is own (record t { operations = t.operations ++ op ∷ []; order = order_after t.order op })
     refl (record {
       good = with_own.good;
       in_order = with_own.in_order;
       identified = with_own.identified;
       of_text = with_own.of_text;
       chars = with_own.chars;
-      kept = kept_grows t.operations op t.last_set is.kept;
+      deleted = kept_grows t.operations op t.last_set is.deleted;
       waiting = with_own.waiting;
     }) new taken

@@ -5,20 +5,21 @@ use Rattle.std.specs.List.{filter, slice_range}
 use Rattle.std.proofs.lemmas.List.{drop-map, take-map}
 use Rattle.char_files.specs.Stretch.{Item}
 use Rattle.char_files.specs.declared.character.Char.{Char}
-use Rattle.operations.specs.NameSet.{IsAmong, SetOfHasTheNames}
+use Rattle.operations.specs.NameSet.{IsAmong}
 use Rattle.texts.specs.Edit.{names_shown, stretch_named}
 use Rattle.texts.specs.Laws.{ADeleteKeepsItsStretch, NamesStretch}
 use Rattle.texts.specs.Order.{is_named}
 use Rattle.texts.specs.Text.{IsText}
 use Rattle.texts.specs.TextState.{TextState, shown_items, shown_of}
+use Rattle.operations.proofs.SetOf.{IsAmong-set_of}
 use Rattle.texts.proofs.OwnStretch.{is_picked, names_differ}
 
-module _ (law : SetOfHasTheNames) (t : TextState) (beg end : ℕ) (is : IsText t) where
+module _ (t : TextState) (beg end : ℕ) (is : IsText t) where
   abbrev item : Char → Item
   item c = (c.byte, c.looks)
 
   pub names_stretch : NamesStretch t (names_shown t beg end) beg end
-  names_stretch c = (law (map (λ s. s.name) (slice_range (shown_of t) beg end))).1 c
+  names_stretch c = IsAmong-set_of (map (λ s. s.name) (slice_range (shown_of t) beg end)) c
 
   -- an end ahead of beg makes a stretch as empty as that from beg to beg
   picked : filter (is_named (names_shown t beg end)) (shown_of t) ≡ slice_range (shown_of t) beg end
@@ -36,5 +37,5 @@ module _ (law : SetOfHasTheNames) (t : TextState) (beg end : ℕ) (is : IsText t
       ap (map item) picked ∙ sym (take-map item (end - beg) (drop beg (shown_of t)))
       ∙ ap (take (end - beg)) (sym (drop-map item beg (shown_of t)))
 
-pub keeps_its_stretch : SetOfHasTheNames → ADeleteKeepsItsStretch
-keeps_its_stretch law t beg end is = (names_stretch law t beg end is, stretch_kept law t beg end is)
+pub keeps_its_stretch : ADeleteKeepsItsStretch
+keeps_its_stretch t beg end is = (names_stretch t beg end is, stretch_kept t beg end is)

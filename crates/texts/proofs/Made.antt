@@ -23,14 +23,15 @@ use Rattle.set_laws.specs.Fronts.{file_len, front_of, greatest_stamp}
 use Rattle.waiting_room.specs.Room.{is_behind}
 use Rattle.texts.specs.declared.TheConstants.{MAX_SEQ}
 use Rattle.texts.specs.Edit.{names_shown, own_op, stretch_named, with_operation}
-use Rattle.texts.specs.Laws.{ADeleteKeepsItsStretch, NamesStretch}
+use Rattle.texts.specs.Laws.{NamesStretch}
 use Rattle.texts.specs.Order.{chars_of, order_after, put}
 use Rattle.texts.specs.Outcome.{is_scattered, passes_file, refusal_for}
 use Rattle.texts.specs.Own.{IsWhyNot, SendsOne}
 use Rattle.texts.specs.Taking.{HasTaken}
 use Rattle.texts.specs.Text.{AreCharNames, IsText}
 use Rattle.texts.specs.TextState.{TextState, shown_items, shown_of}
-use Rattle.texts.proofs.Kept.{OneTextWith, taken_is_own}
+use Rattle.texts.proofs.KeptStretch.{keeps_its_stretch}
+use Rattle.texts.proofs.Kept.{taken_is_own}
 
 -- nothing was done where something refused it
 pub not_made : (t : TextState) (op : Operation) (sent : List (List ℕ)) (result : Result (Unit {0}) Refusal)
@@ -48,16 +49,16 @@ why_not_gathered t op false refused why (inl is) scattered = absurd (let no = sc
 why_not_gathered t op false refused why (inr is) scattered = inr (is, inl refused)
 
 -- what making an operation that isn't refused gives, where nothing but the operations and the order changes
-pub made : OneTextWith → (t : TextState) (op : Operation) → IsText t → op.text ≡ t.text
+pub made : (t : TextState) (op : Operation) → IsText t → op.text ≡ t.text
     → IsText (with_operation t op) → (result : Result (Unit {0}) Refusal) (new : TextState)
     (sent sent' : List (List ℕ)) → refusal_for t op.kind ≡ None
     → OnOk result (HasTaken t op new × (sent' ≡ sent ++ spelling op ∷ []))
     → IfErr result (λ e. e ≡ OutOfMemory) → OnErr result ((new ≡ t) × (sent' ≡ sent))
     → with_operation t op ≡ record t { operations = t.operations ++ op ∷ []; order = order_after t.order op }
     → SendsOne t op result new sent sent'
-made law t op is own with_own (Ok done) new sent sent' allowed ok memory err same =
-    (allowed, taken_is_own law t op is own with_own new ok.0 ∙ sym same, ok.1)
-made law t op is own with_own (Err why) new sent sent' allowed ok memory err same =
+made t op is own with_own (Ok done) new sent sent' allowed ok memory err same =
+    (allowed, taken_is_own t op is own with_own new ok.0 ∙ sym same, ok.1)
+made t op is own with_own (Err why) new sent sent' allowed ok memory err same =
     (inr (memory, inl allowed), err.0, err.1)
 
 -- operations of equal parts are equal
@@ -172,10 +173,10 @@ stretch_long t beg end within =
     length-take-le (end - beg) (drop beg (shown_items t)) (omega (arith, all, behind, within))
 
 -- so long a stretch does a Delete of it keep
-pub keeps_so_much : ADeleteKeepsItsStretch → (t : TextState) → IsText t → (beg end : ℕ) → end ≤ length (shown_of t)
+pub keeps_so_much : (t : TextState) → IsText t → (beg end : ℕ) → end ≤ length (shown_of t)
     → passes_file t (delete (names_shown t beg end)) ≡ nat_lt MAX_FILE (end - beg)
-keeps_so_much law t is beg end within =
-    ap (nat_lt MAX_FILE) (ap (length {A = Item}) (law t beg end is).1 ∙ stretch_long t beg end within)
+keeps_so_much t is beg end within =
+    ap (nat_lt MAX_FILE) (ap (length {A = Item}) (keeps_its_stretch t beg end is).1 ∙ stretch_long t beg end within)
 
 -- an Insert has no names that may be scattered
 one_of_four : (a b c d : Bool)
@@ -231,4 +232,4 @@ pub kept_by : (t new : TextState) (names : List Range) → IsText (with_operatio
     → HasTaken t (own_op t (delete names)) new → AreCharNames new.operations names
 kept_by t new names text taken =
     subst (λ (ops : List Operation). AreCharNames ops names) (sym (ap (λ (x : TextState). x.operations) taken.grown))
-    text.kept
+    text.deleted

@@ -19,8 +19,11 @@ use Rattle.texts.specs.Taking.{HasTaken, HasTakenAll, IsJudged}
 use Rattle.texts.specs.Text.{IsText}
 use Rattle.texts.specs.TextState.{TextState}
 use Rattle.texts.specs.declared.merge_refusal.MergeRefusal.TheVariants.{Stopped}
-use Rattle.texts.proofs.Joined.{identified_part}
-use Rattle.texts.proofs.News.{first_part, next_passes, next_fails, parts_filtered, FrontsTell, AreReady, news_of}
+use Rattle.set_laws.proofs.Fronts.{has_to_the_front}
+use Rattle.set_laws.proofs.Freed.{ready_from_others}
+use Rattle.set_laws.proofs.Lengths.{part_identified}
+use Rattle.set_laws.proofs.Ahead.{first_part_within}
+use Rattle.texts.proofs.News.{next_passes, next_fails, parts_filtered, news_of}
 use Rattle.texts.proofs.News.{held_or_new, held_with_news}
 
 -- what a call says where it is refused, and where it isn't
@@ -44,9 +47,7 @@ pub record CanTakeOver (start other : TextState) : Type 0 where
   pub is_other : IsText other
   pub can : CanMerge start other
   pub once : AllPairs (λ a b. a ≢ b) other.operations
-  pub fronts : FrontsTell
   pub ahead : HasCausesAhead other.operations
-  pub are_ready : AreReady
 
 -- of the first i operations of the other text those that weren't held are taken over
 pub record IsTakenTo (start other : TextState) (i done : ℕ) (now : TextState) : Type 0 where
@@ -76,7 +77,7 @@ module _ {start other now : TextState} {i done : ℕ} (u : IsTakenTo start other
   ops_now = ap (λ (t : TextState). t.operations) u.taken.grown
 
   told : HasToTheFront start.operations other.operations
-  told = u.by.fronts start.operations other.operations u.by.is.good can.identified
+  told = has_to_the_front start.operations other.operations u.by.is.good can.identified
 
   stays_held : IsPartOf start.operations now.operations
   stays_held op h =
@@ -86,7 +87,7 @@ module _ {start other now : TextState} {i done : ℕ} (u : IsTakenTo start other
   first_held : IsPartOf first now.operations
   first_held op h =
       subst (λ (ops : List Operation). Contains ops op) (sym ops_now)
-      (held_or_new start other.operations first told (first_part other.operations i) op h)
+      (held_or_new start other.operations first told (first_part_within other.operations i) op h)
 
   only_first : IsPartOf now.operations (start.operations ++ first)
   only_first op h =
@@ -94,19 +95,19 @@ module _ {start other now : TextState} {i done : ℕ} (u : IsTakenTo start other
 
   known : AreIdentified (now.operations ++ other.operations)
   known =
-      identified_part (now.operations ++ other.operations) (start.operations ++ other.operations)
+      part_identified (now.operations ++ other.operations) (start.operations ++ other.operations)
       (λ op h. elim (Contains-append_cases now.operations other.operations op h) [
         | inr there ↦ Contains-append_right start.operations other.operations op there
         | inl here ↦ elim (Contains-append_cases start.operations first op (only_first op here)) [
           | inl held ↦ Contains-append_left start.operations other.operations op held
           | inr ahead ↦
-              Contains-append_right start.operations other.operations op (first_part other.operations i op ahead)
+              Contains-append_right start.operations other.operations op (first_part_within other.operations i op ahead)
         ]
       ])
       can.identified
 
   told_now : HasToTheFront now.operations other.operations
-  told_now = u.by.fronts now.operations other.operations u.taken.is.good known
+  told_now = has_to_the_front now.operations other.operations u.taken.is.good known
 
   -- no more are taken in than were looked at
   pub few : i ≤ length other.operations → done ≤ i
@@ -190,7 +191,7 @@ module _ {start other now : TextState} {i done : ℕ} (u : IsTakenTo start other
         } in (
           texts_are_one,
           new,
-          u.by.are_ready now.operations other.operations op u.taken.is.good u.by.is_other.good known here new
+          ready_from_others now.operations other.operations op u.taken.is.good u.by.is_other.good known here new
               (λ p there cause. first_held p (u.by.ahead i op p at there cause)),
         )
 

@@ -8,16 +8,16 @@ use Rattle.std.proofs.lemmas.List.Elements.{All-contains, All-contains_itself, A
 use Rattle.std.proofs.lemmas.List.Elements.{Contains-append_left, Contains-append_right, filter-append, filter_more}
 use Rattle.std.proofs.lemmas.Option.{get_or_from_slice_get, slice_get_within}
 use Rattle.operations.specs.Operation.{Operation}
-use Rattle.tree_order.specs.Good.{Good}
-use Rattle.tree_order.specs.Laws.{AreSameSet, SaysTheSame}
-use Rattle.set_laws.specs.Growing.{HoldsCausesAmong}
-use Rattle.set_laws.specs.Sets.{AreIdentified, HasToTheFront, IsPartOf}
-use Rattle.set_laws.specs.Verdict.{HasVerdict, IsNew, ready}
-use Rattle.texts.specs.Laws.{MergesShowTheUnion, ShowsTheDefinition}
+use Rattle.tree_order.specs.Laws.{AreSameSet}
+use Rattle.set_laws.specs.Sets.{HasToTheFront, IsPartOf}
+use Rattle.texts.specs.Laws.{MergesShowTheUnion}
 use Rattle.texts.specs.Merge.{IsUnionOf, Merges, MergesShort, is_past_front, news}
 use Rattle.texts.specs.Text.{IsText}
 use Rattle.texts.specs.TextState.{TextState, shown_of}
 use Rattle.texts.specs.declared.merge_refusal.MergeRefusal.{MergeRefusal}
+use Rattle.tree_order.proofs.SameSet.{says_the_same}
+use Rattle.set_laws.proofs.Fronts.{has_to_the_front}
+use Rattle.texts.proofs.Chars.{shows_the_definition}
 
 -- what passes is kept
 kept_if_it_passes : (p : Operation → Bool) (ops : List Operation) (op : Operation) → Contains ops op → p op ≡ true
@@ -39,12 +39,6 @@ kept_if_it_passes p (o ∷ ops) op (suc k, lt, is) passes =
 there_before_filter : (p : Operation → Bool) (ops : List Operation) → IsPartOf (filter p ops) ops
 there_before_filter p ops op held =
     All-contains (Contains ops) (filter p ops) op (All-filter p (Contains ops) ops (All-contains_itself ops)) held
-
--- a first part is a part
-pub first_part : (ops : List Operation) (n : ℕ) → IsPartOf (take n ops) ops
-first_part ops n op held =
-    subst (λ (xs : List Operation). Contains xs op) (take-append-drop n ops)
-    (Contains-append_left (take n ops) (drop n ops) op held)
 
 -- a filter passes the next element, or drops it
 next_filtered : (p : Operation → Bool) (ops : List Operation) (i : ℕ) (op : Operation) → slice_get ops i ≡ Some op
@@ -71,15 +65,6 @@ pub parts_filtered : (p : Operation → Bool) (ops : List Operation) (i : ℕ)
 parts_filtered p ops i =
     ap (filter p) (sym (take-append-drop i ops)) ∙ filter-append p (take i ops) (drop i ops)
 
--- of operations that b has, a has those up to its fronts
-abbrev pub FrontsTell : Type 0
-FrontsTell = (a b : List Operation) → Good a → AreIdentified (a ++ b) → HasToTheFront a b
-
--- an operation of another good set is ready where its causes among those are held
-abbrev pub AreReady : Type 0
-AreReady = (ops others : List Operation) (op : Operation) → Good ops → Good others → AreIdentified (ops ++ others)
-    → Contains others op → IsNew ops op → HoldsCausesAmong ops others op → HasVerdict ops op ready
-
 -- those of a list that aren't held here
 abbrev pub news_of : TextState → List Operation → List Operation
 news_of t ops = filter (is_past_front t) ops
@@ -105,11 +90,10 @@ held_with_news t ops op h =
     ]
 
 -- a merge shows the union
-pub shows_the_union : FrontsTell → ShowsTheDefinition
-    → ((a b : List Operation) → AreSameSet a b → Good a → SaysTheSame a b) → MergesShowTheUnion
-shows_the_union fronts shows counts t other new count is is' (can, number, taken) =
+pub shows_the_union : MergesShowTheUnion
+shows_the_union t other new count is is' (can, number, taken) =
     let both : List Operation = t.operations ++ other.operations in
-    let told = fronts t.operations other.operations is.good can.identified in
+    let told = has_to_the_front t.operations other.operations is.good can.identified in
     let now : new.operations ≡ t.operations ++ news t other = ap (λ (u : TextState). u.operations) taken.grown in
     let same : AreSameSet new.operations both = λ op. (
       λ h. held_with_news t other.operations op (subst (λ (ops : List Operation). Contains ops op) now h),
@@ -121,12 +105,12 @@ shows_the_union fronts shows counts t other new count is is' (can, number, taken
     ) in
     record {
       operations = same;
-      shown = (counts new.operations both same taken.is.good).shown (shown_of new) (shows new taken.is);
+      shown = (says_the_same new.operations both same taken.is.good).shown (shown_of new) (shows_the_definition new taken.is);
     }
 
 -- where a merge was done, the text shows the union
-pub union_where_done : MergesShowTheUnion → (t other new : TextState) (result : Result ℕ MergeRefusal) → IsText t
+pub union_where_done : (t other new : TextState) (result : Result ℕ MergeRefusal) → IsText t
     → IsText other → Merges t other result new ⊎ MergesShort t other result new → OnOk result (IsUnionOf t other new)
-union_where_done law t other new (Ok count) is is' (inl merges) = law t other new count is is' merges
-union_where_done law t other new (Ok count) is is' (inr short) = absurd short
-union_where_done law t other new (Err why) is is' merges = tt
+union_where_done t other new (Ok count) is is' (inl merges) = shows_the_union t other new count is is' merges
+union_where_done t other new (Ok count) is is' (inr short) = absurd short
+union_where_done t other new (Err why) is is' merges = tt

@@ -14,14 +14,12 @@ use Rattle.looks.specs.declared.key.Key.{Key}
 use Rattle.looks.specs.declared.looks.Looks.{Looks}
 use Rattle.char_files.specs.CharName.{CharName}
 use Rattle.char_files.specs.declared.character.Char.{Char}
-use Rattle.operations.specs.NameSet.{Range, IsIn, IsAmong, range_contains}
-use Rattle.operations.specs.Operation.{Operation, delete, restore, change_looks}
-use Rattle.tree_order.specs.Good.{Good, key_of}
+use Rattle.operations.specs.NameSet.{Range, IsAmong, range_contains}
+use Rattle.operations.specs.Operation.{Operation, delete, restore, change_looks, key_of}
 use Rattle.tree_order.specs.Last.{IsLast}
-use Rattle.tree_order.specs.Laws.{TheLastSwitchDecides}
 use Rattle.tree_order.specs.Looks.{HasLooks, IsLastToSet, Sets, looks_by}
 use Rattle.tree_order.specs.Order.{IsOrder}
-use Rattle.tree_order.specs.RegisterLaws.{InsertsNone, KeepsTheOrder}
+use Rattle.tree_order.specs.RegisterLaws.{InsertsNone}
 use Rattle.tree_order.specs.Shown.{AreChars, SwitchesBy, deletes_by, hides, is_visible, restores_by}
 use Rattle.tree_order.specs.Tree.{HasByte}
 use Rattle.texts.specs.Edit.{own_op}
@@ -29,19 +27,10 @@ use Rattle.texts.specs.Laws.{IsOwnEdit}
 use Rattle.texts.specs.Order.{dressed, is_named, with_looks}
 use Rattle.texts.specs.Text.{AreCharNames, IsText}
 use Rattle.texts.specs.TextState.{TextState, shown_of}
-use Rattle.texts.proofs.OwnStep.{byte_stays, last_stays, looks_stay, own_step, GrowthLaws, IsOwnStep}
-
--- the laws that are cited
-abbrev pub OrderStays : Type 0
-OrderStays = (ops : List Operation) (op : Operation) → Good (ops ++ op ∷ []) → InsertsNone op
-    → KeepsTheOrder ops op
-
-abbrev pub LastSwitchDecides : Type 0
-LastSwitchDecides = (ops : List Operation) → Good ops → (c : CharName) → TheLastSwitchDecides ops c
-
--- what the test of a set tells
-range_contains_is : (r : Range) (c : CharName) → (range_contains r c ≡ true) ↔ IsIn r c
-range_contains_is r c = (λ e. grind (arith, nat_tests), λ h. grind (arith, nat_tests))
+use Rattle.tree_order.proofs.RegisterLists.{keeps_the_order}
+use Rattle.tree_order.proofs.Visibility.{last_switch_decides}
+use Rattle.tree_order.proofs.ShownLemmas.{range_contains_is}
+use Rattle.texts.proofs.OwnStep.{byte_stays, last_stays, looks_stay, own_step, IsOwnStep}
 
 pub named_is : (names : List Range) (c : Char) → (is_named names c ≡ true) ↔ IsAmong names c.name
 named_is names c = (
@@ -130,11 +119,11 @@ module _ (t : TextState) (op : Operation) (step : IsOwnStep t op) where
   }
 
 -- one that hides or shows leaves all characters where they are, with their bytes and looks
-switched_chars : OrderStays → (t : TextState) (op : Operation) → IsText t → IsOwnStep t op → InsertsNone op
+switched_chars : (t : TextState) (op : Operation) → IsText t → IsOwnStep t op → InsertsNone op
     → ((c : CharName) (selects : Selection → Bool) → Sets op selects c → ⊥)
     → AreChars (t.operations ++ op ∷ []) t.order
-switched_chars stays t op is step none sets_none = record {
-  order = stays t.operations op step.one.larger none (map (λ c. c.name) t.order) is.chars.order;
+switched_chars t op is step none sets_none = record {
+  order = keeps_the_order t.operations op step.one.larger none (map (λ c. c.name) t.order) is.chars.order;
   bytes = All-weaker (λ c. HasByte t.operations c.name c.byte)
       (λ c. HasByte (t.operations ++ op ∷ []) c.name c.byte)
       (λ (c : Char) h. byte_stays t.operations op c.name c.byte h) t.order is.chars.bytes;
@@ -144,17 +133,16 @@ switched_chars stays t op is step none sets_none = record {
 }
 
 -- a Delete
-module _ (growth : GrowthLaws) (stays : OrderStays) (decides : LastSwitchDecides) (t : TextState)
-    (names : List Range) (is : IsText t) (old : AreCharNames t.operations names) where
+module _ (t : TextState) (names : List Range) (is : IsText t) (old : AreCharNames t.operations names) where
   deletes : IsOwnStep t (own_op t (delete names))
-  deletes = own_step growth t (delete names) is tt old
+  deletes = own_step t (delete names) is tt old
 
   hidden : (c : Char) (b : Bool) → is_named names c ≡ b
       → is_visible (t.operations ++ own_op t (delete names) ∷ []) c.name
       ≡ (not b && is_visible t.operations c.name)
   hidden c true e =
       let op : Operation = own_op t (delete names) in
-      (decides (t.operations ++ op ∷ []) deletes.one.larger c.name).last op
+      (last_switch_decides (t.operations ++ op ∷ []) deletes.one.larger c.name).last op
       (is_last t op deletes (λ o. SwitchesBy o.kind c.name) ((named_is names c).0 e))
   hidden c false e = visible_stays t.operations (own_op t (delete names)) c.name e refl
 
@@ -164,7 +152,7 @@ module _ (growth : GrowthLaws) (stays : OrderStays) (decides : LastSwitchDecides
       record {
         new = deletes.new;
         ready = deletes.ready;
-        text = deletes.text (switched_chars stays t op is deletes (λ c h. h) (λ c selects h. elim h [
+        text = deletes.text (switched_chars t op is deletes (λ c h. h) (λ c selects h. elim h [
           | inl inserts ↦ inserts
           | inr changes ↦ changes
         ]));
@@ -177,17 +165,16 @@ module _ (growth : GrowthLaws) (stays : OrderStays) (decides : LastSwitchDecides
       }
 
 -- a Restore
-module _ (growth : GrowthLaws) (stays : OrderStays) (decides : LastSwitchDecides) (t : TextState)
-    (names : List Range) (is : IsText t) (old : AreCharNames t.operations names) where
+module _ (t : TextState) (names : List Range) (is : IsText t) (old : AreCharNames t.operations names) where
   restores : IsOwnStep t (own_op t (restore names))
-  restores = own_step growth t (restore names) is tt old
+  restores = own_step t (restore names) is tt old
 
   visible : (c : Char) (b : Bool) → is_named names c ≡ b
       → is_visible (t.operations ++ own_op t (restore names) ∷ []) c.name
       ≡ (b || is_visible t.operations c.name)
   visible c true e =
       let op : Operation = own_op t (restore names) in
-      (decides (t.operations ++ op ∷ []) restores.one.larger c.name).last op
+      (last_switch_decides (t.operations ++ op ∷ []) restores.one.larger c.name).last op
       (is_last t op restores (λ o. SwitchesBy o.kind c.name) ((named_is names c).0 e))
   visible c false e = visible_stays t.operations (own_op t (restore names)) c.name refl e
 
@@ -198,7 +185,7 @@ module _ (growth : GrowthLaws) (stays : OrderStays) (decides : LastSwitchDecides
       record {
         new = restores.new;
         ready = restores.ready;
-        text = restores.text (switched_chars stays t op is restores (λ c h. h) (λ c selects h. elim h [
+        text = restores.text (switched_chars t op is restores (λ c h. h) (λ c selects h. elim h [
           | inl inserts ↦ inserts
           | inr changes ↦ changes
         ]));
@@ -208,7 +195,7 @@ module _ (growth : GrowthLaws) (stays : OrderStays) (decides : LastSwitchDecides
       }
 
 -- a ChangeLooks
-module _ (growth : GrowthLaws) (stays : OrderStays) (t : TextState) (sel : Selection) (looks : Looks)
+module _ (t : TextState) (sel : Selection) (looks : Looks)
     (names : List Range) (is : IsText t) (old : AreCharNames t.operations names) where
   abbrev op : Operation
   op = own_op t (change_looks sel looks names)
@@ -223,7 +210,7 @@ module _ (growth : GrowthLaws) (stays : OrderStays) (t : TextState) (sel : Selec
   relooked_if b c = if b then dressed sel looks c else c
 
   changes : IsOwnStep t op
-  changes = own_step growth t (change_looks sel looks names) is tt old
+  changes = own_step t (change_looks sel looks names) is tt old
 
   -- names and bytes stay
   name_stays : (c : Char) (b : Bool) → (relooked_if b c).name ≡ c.name
@@ -274,7 +261,7 @@ module _ (growth : GrowthLaws) (stays : OrderStays) (t : TextState) (sel : Selec
   chars : AreChars with_op (map relooked t.order)
   chars = record {
     order = subst (IsOrder with_op) (sym (names_stay t.order))
-        (stays t.operations op changes.one.larger (λ c h. h) (map (λ c. c.name) t.order) is.chars.order);
+        (keeps_the_order t.operations op changes.one.larger (λ c h. h) (map (λ c. c.name) t.order) is.chars.order);
     bytes = All-map (λ c. HasByte with_op c.name c.byte) relooked t.order
         (All-weaker (λ c. HasByte t.operations c.name c.byte)
         (λ c. HasByte with_op (relooked c).name (relooked c).byte)

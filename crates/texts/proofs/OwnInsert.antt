@@ -1,7 +1,7 @@
 -- An own Insert is the latest of all, and so stands directly behind its cause.
 use Rattle.std.proofs.Common.{◌≡◌, ℕ, ◌<◌, ◌≤◌, inl, inr, Bool}
 use Rattle.std.proofs.Common.{List, [], ◌∷◌, ◌++◌, length, take, drop, map, refl, sym, subst, ◌∙◌}
-use Rattle.std.proofs.Common.{Contains, arith}
+use Rattle.std.proofs.Common.{arith}
 use Rattle.std.specs.Prelude.{All}
 use Rattle.std.proofs.lemmas.List.{take-map, drop-map, take-append-drop, map-append}
 use Rattle.std.proofs.lemmas.List.Elements.{All-append, All-drop, All-map}
@@ -13,14 +13,11 @@ use Rattle.char_files.specs.CharName.{CharName}
 use Rattle.char_files.specs.declared.character.Char.{Char}
 use Rattle.char_files.specs.declared.name.Anchor.{Anchor}
 use Rattle.operations.specs.Operation.{Operation, Inserts, insert}
-use Rattle.tree_order.specs.Good.{Good}
-use Rattle.tree_order.specs.Insertion.{IsBehind, run_of}
-use Rattle.tree_order.specs.Laws.{ShowsOneText}
+use Rattle.tree_order.specs.Insertion.{IsJustBehind, run_of}
 use Rattle.tree_order.specs.Looks.{HasLooks, Sets}
 use Rattle.tree_order.specs.Order.{IsOrder}
-use Rattle.tree_order.specs.RegisterLaws.{OffersItsValues, TellRegisters, first_kept}
-use Rattle.tree_order.specs.Registers.{Kept, HasRegisters}
-use Rattle.tree_order.specs.Sequential.{LatestGoesBehindCause, LatestIsPlainEdit, char_by}
+use Rattle.tree_order.specs.RegisterLaws.{first_atom}
+use Rattle.tree_order.specs.Sequential.{char_by}
 use Rattle.tree_order.specs.Shown.{AreChars, IsShown}
 use Rattle.tree_order.specs.Tree.{HasByte, IsChar}
 use Rattle.set_laws.specs.Fronts.{file_len}
@@ -29,20 +26,15 @@ use Rattle.texts.specs.Laws.{OwnInsertIsPlain, shown_with_run}
 use Rattle.texts.specs.Order.{chars_of, count_to, put}
 use Rattle.texts.specs.Text.{IsAnchor, IsText}
 use Rattle.texts.specs.TextState.{TextState, shown_of}
+use Rattle.tree_order.proofs.Latest.{behind_cause}
+use Rattle.tree_order.proofs.OneText.{shows_one_text}
+use Rattle.tree_order.proofs.PlaceOfShown.{plain_edit}
+use Rattle.tree_order.proofs.RegisterLists.{offers_its_values}
+use Rattle.tree_order.proofs.RegistersTell.{tell}
 use Rattle.texts.proofs.Causes.{anchor_is_behind, ends_at, old_if_behind, old_if_mentioned}
 use Rattle.texts.proofs.Chars.{shown_are_chars, shows_the_definition}
-use Rattle.texts.proofs.OwnStep.{byte_stays, looks_stay, own_step, GrowthLaws, IsOwnStep}
+use Rattle.texts.proofs.OwnStep.{byte_stays, looks_stay, own_step, IsOwnStep}
 use Rattle.texts.proofs.RunChars.{names_in_run, names_of_chars, run_is_chars}
-
--- the laws that are cited
-pub record Lower : Type 0 where
-  pub growth : GrowthLaws
-  pub behind : LatestGoesBehindCause
-  pub plain : LatestIsPlainEdit
-  pub offers : (ops : List Operation) (op : Operation) → Good ops → Good (ops ++ op ∷ [])
-      → (Contains ops op → ⊥) → OffersItsValues ops op
-  pub tell : (ops : List Operation) → Good ops → (k : Kept) → HasRegisters ops k → TellRegisters ops k
-  pub text : (ops : List Operation) → Good ops → ShowsOneText ops
 
 -- what holds of each character of both holds of each where a run was put in
 All-put : (P : Char → Type 0) (order run : List Char) (n : ℕ) → All P order → All P run
@@ -55,7 +47,7 @@ names_of_put : (order run : List Char) (n : ℕ) (names : List CharName) → map
     → map (λ c. c.name) (put order n run) ≡ put (map (λ c. c.name) order) n names
 names_of_put order run n names e = simp (map-append, take-map, drop-map, e)
 
-module _ (lower : Lower) (t : TextState) (pos : ℕ) (looks : Looks) (bytes : List ℕ) (is : IsText t)
+module _ (t : TextState) (pos : ℕ) (looks : Looks) (bytes : List ℕ) (is : IsText t)
     (in_text : pos ≤ length (shown_of t)) where
   abbrev ops : List Operation
   ops = t.operations
@@ -76,7 +68,7 @@ module _ (lower : Lower) (t : TextState) (pos : ℕ) (looks : Looks) (bytes : Li
   run = chars_of t.site at looks bytes
 
   -- the cause is the root or a character
-  behind : IsBehind (map (λ s. s.name) (shown_of t)) cause pos
+  behind : IsJustBehind (map (λ s. s.name) (shown_of t)) cause pos
   behind = anchor_is_behind (shown_of t) pos in_text
 
   old : IsAnchor ops cause
@@ -84,7 +76,7 @@ module _ (lower : Lower) (t : TextState) (pos : ℕ) (looks : Looks) (bytes : Li
 
   -- so the Insert is ready
   step : IsOwnStep t own
-  step = own_step lower.growth t (insert cause at looks bytes) is refl (old_if_mentioned ops cause at looks bytes old)
+  step = own_step t (insert cause at looks bytes) is refl (old_if_mentioned ops cause at looks bytes old)
 
   -- its run stands directly behind its cause
   order : IsOrder with_own (map (λ c. c.name) (put t.order (count_to t.order cause) run))
@@ -93,7 +85,7 @@ module _ (lower : Lower) (t : TextState) (pos : ℕ) (looks : Looks) (bytes : Li
       let k = count_to t.order cause in
       let parts : IsOrder ops (take k names ++ drop k names) =
       subst (IsOrder ops) (sym (take-append-drop k names)) is.chars.order in
-      let put_in = lower.behind ops own cause (take k names) (drop k names) step.one step.latest refl parts
+      let put_in = behind_cause ops own cause (take k names) (drop k names) step.one step.latest refl parts
       (ends_at ops t.order cause is.chars.order old) in
       subst (IsOrder with_own)
       (sym (names_of_put t.order run k (run_of own) (names_of_chars t.site looks at bytes))) put_in
@@ -112,10 +104,10 @@ module _ (lower : Lower) (t : TextState) (pos : ℕ) (looks : Looks) (bytes : Li
   run_looks =
       let P : Char → Type 0 = λ c. HasLooks with_own c.name c.looks in
       let by : CharName → Char = char_by own.kind in
-      let offers = lower.offers ops own is.good step.one.larger step.one.new in
+      let offers = offers_its_values ops own is.good step.one.larger step.one.new in
       subst (λ (chars : List Char). All P chars) (run_is_chars t.site looks cause at bytes)
       (All-map P by (run_of own) (All-weaker (Inserts own) (λ (c : CharName). P (by c))
-      (λ c h. (lower.tell with_own step.one.larger (first_kept own c) (offers.new c h)).looks) (run_of own)
+      (λ c h. (tell with_own step.one.larger (first_atom own c) (offers.new c h)).looks) (run_of own)
       (names_in_run t.site looks cause at bytes)))
 
   -- and the old ones have theirs
@@ -147,21 +139,21 @@ module _ (lower : Lower) (t : TextState) (pos : ℕ) (looks : Looks) (bytes : Li
   shown : shown_of (with_operation t own) ≡ shown_with_run t pos looks bytes
   shown =
       let was = shows_the_definition t is in
-      let plain = lower.plain ops own cause (shown_of t) pos step.one step.latest refl was behind in
+      let plain = plain_edit ops own cause (shown_of t) pos step.one step.latest refl was behind in
       let is_plain : IsShown with_own (put (shown_of t) pos run) = subst
       (λ (chars : List Char). IsShown with_own (put (shown_of t) pos chars))
       (run_is_chars t.site looks cause at bytes) plain in
-      let shows = lower.text with_own step.one.larger in
+      let shows = shows_one_text with_own step.one.larger in
       shows.only (shown_of (with_operation t own)) (shows_the_definition (with_operation t own) text)
       ∙ sym (shows.only (put (shown_of t) pos run) is_plain)
 
 -- an own Insert is an edit of a plain list
-pub is_plain : Lower → OwnInsertIsPlain
-is_plain lower t pos looks bytes is in_text =
-    let s = step lower t pos looks bytes is in_text in
+pub insert_is_plain : OwnInsertIsPlain
+insert_is_plain t pos looks bytes is in_text =
+    let s = step t pos looks bytes is in_text in
     record {
       new = s.new;
       ready = s.ready;
-      text = text lower t pos looks bytes is in_text;
-      shown = shown lower t pos looks bytes is in_text;
+      text = text t pos looks bytes is in_text;
+      shown = shown t pos looks bytes is in_text;
     }

@@ -7,29 +7,22 @@ use Rattle.std.proofs.lemmas.List.{take-append-drop}
 use Rattle.looks.specs.Sel.{Selection}
 use Rattle.looks.specs.declared.looks.Looks.{Looks}
 use Rattle.looks.specs.Looks.{plain_looks}
-use Rattle.char_files.specs.Runs.{RunsAreMaximal}
 use Rattle.char_files.specs.declared.character.Char.{Char}
 use Rattle.operations.specs.Operation.{Operation, OpKind, change_looks, delete, restore}
 use Rattle.texts.specs.Edit.{Edit, after, deletion, first_part, insertion, is_in_text, is_restored, looks_change}
 use Rattle.texts.specs.Edit.{names_shown, own_op, plan, recalling, restoration, shown_after, with_operation}
-use Rattle.texts.specs.Laws.{ADeleteKeepsItsStretch, IsOwnEdit, IsPlainPart, OwnDeleteIsPlain, OwnEditsArePlain}
-use Rattle.texts.specs.Laws.{OwnInsertIsPlain, OwnLooksArePlain, OwnRestoreShows, after_part}
+use Rattle.texts.specs.Laws.{IsOwnEdit, IsPlainPart, OwnEditsArePlain}
+use Rattle.texts.specs.Laws.{after_part}
 use Rattle.texts.specs.Order.{cut, dress, dressed, with_selected}
 use Rattle.texts.specs.Text.{IsText}
 use Rattle.texts.specs.TextState.{TextState, shown_of}
-use Rattle.texts.proofs.OwnPieces.{CountsGoOn, insertion_is_plain}
+use Rattle.texts.proofs.KeptStretch.{keeps_its_stretch}
+use Rattle.texts.proofs.OwnChange.{restore_shows}
+use Rattle.texts.proofs.OwnPieces.{insertion_is_plain}
+use Rattle.texts.proofs.OwnStretch as stretch
+use Rattle.texts.proofs.OwnStretch.{delete_is_plain}
 use Rattle.texts.proofs.Restored.{nothing_hidden}
 use Rattle.texts.proofs.Selected.{dressed_again}
-
--- the laws of each edit
-pub record PlainLaws : Type 0 where
-  pub counts : CountsGoOn
-  pub runs : RunsAreMaximal
-  pub inserts : OwnInsertIsPlain
-  pub deletes : OwnDeleteIsPlain
-  pub looks : OwnLooksArePlain
-  pub restores : OwnRestoreShows
-  pub kept : ADeleteKeepsItsStretch
 
 module _ (t : TextState) (e : Edit) (is : IsText t) where
   -- an edit that makes nothing leaves what it is to show
@@ -74,14 +67,14 @@ dress_none sel looks xs beg end e =
     cut_none xs beg end e ∙ ap (λ (front : List Char). front ++ drop end xs) (sym (append-nil (take beg xs)))
     ∙ ap (λ (n : ℕ). take beg xs ++ map (dressed sel looks) (take n (drop beg xs)) ++ drop end xs) (sym short)
 
-module _ (laws : PlainLaws) (t : TextState) (is : IsText t) (n : ℕ) where
+module _ (t : TextState) (is : IsText t) (n : ℕ) where
   deletion_is_plain : (beg end : ℕ) (some : Bool) → ltb beg end ≡ some → beg ≤ end
       → n ≤ length (plan t (deletion beg end)) → IsPlainPart t (deletion beg end) n
   deletion_is_plain beg end true some rising le =
       let kind : OpKind = delete (names_shown t beg end) in
       one_made t (deletion beg end) is kind n
       (ap (λ (b : Bool). cond b (own_op t kind ∷ []) []) some)
-      (laws.deletes t (names_shown t beg end) beg end is rising (laws.kept t beg end is).0) (λ k. refl) le
+      (delete_is_plain t (names_shown t beg end) beg end is rising (keeps_its_stretch t beg end is).0) (λ k. refl) le
   deletion_is_plain beg end false none rising le =
       let equal : beg ≡ end = omega (arith, ltb-false beg end none) in
       let kind : OpKind = delete (names_shown t beg end) in
@@ -99,8 +92,8 @@ module _ (laws : PlainLaws) (t : TextState) (is : IsText t) (n : ℕ) where
         one_made t (looks_change beg end sel looks) is kind n
         (ap (λ (b : Bool). cond b (own_op t kind ∷ []) []) some)
         (subst (IsOwnEdit t kind) (dressed_again sel looks plain_looks (shown_of t) beg end)
-        (laws.looks t sel (with_selected sel looks plain_looks) (names_shown t beg end) beg end is rising
-        (laws.kept t beg end is).0))
+        (stretch.looks_are_plain t sel (with_selected sel looks plain_looks) (names_shown t beg end) beg end is rising
+        (keeps_its_stretch t beg end is).0))
         (λ k. refl) le
     looks_are_plain false none rising le =
         let equal : beg ≡ end = omega (arith, ltb-false beg end none) in
@@ -116,7 +109,7 @@ module _ (laws : PlainLaws) (t : TextState) (is : IsText t) (n : ℕ) where
   restoration_is_plain false some le =
       one_made t restoration is (restore t.last_set) n
       (ap (λ (b : Bool). cond b [] (own_op t (restore t.last_set) ∷ [])) some)
-      (laws.restores t t.last_set is is.kept) (λ k. refl) le
+      (restore_shows t t.last_set is is.deleted) (λ k. refl) le
 
   rising : (beg end : ℕ) → (leb beg end && leb end (length (shown_of t))) ≡ true → beg ≤ end
   rising beg end within =
@@ -124,7 +117,7 @@ module _ (laws : PlainLaws) (t : TextState) (is : IsText t) (n : ℕ) where
 
   pub each_is_plain : (e : Edit) → IsTrue (is_in_text t e) → n ≤ length (plan t e) → IsPlainPart t e n
   each_is_plain (insertion pos items) within le =
-      insertion_is_plain laws.runs laws.counts laws.inserts t pos items n is
+      insertion_is_plain t pos items n is
       (leb-true pos (length (shown_of t)) within)
   each_is_plain (deletion beg end) within le =
       deletion_is_plain beg end (ltb beg end) refl (rising beg end within) le
@@ -132,9 +125,9 @@ module _ (laws : PlainLaws) (t : TextState) (is : IsText t) (n : ℕ) where
       looks_are_plain beg end sel looks (ltb beg end) refl (rising beg end within) le
   each_is_plain restoration within le = restoration_is_plain (is_restored t) refl le
   each_is_plain (recalling pos) within le =
-      let whole = insertion_is_plain laws.runs laws.counts laws.inserts t pos t.last_stretch n is
+      let whole = insertion_is_plain t pos t.last_stretch n is
       (leb-true pos (length (shown_of t)) within) in
       record { text = whole.text; whole = whole.whole; part = whole.part }
 
-pub edits_are_plain : PlainLaws → OwnEditsArePlain
-edits_are_plain laws t e n is within le = each_is_plain laws t is n e within le
+pub edits_are_plain : OwnEditsArePlain
+edits_are_plain t e n is within le = each_is_plain t is n e within le

@@ -7,37 +7,25 @@ use Rattle.std.specs.Prelude.{All}
 use Rattle.looks.specs.Sel.{Selection}
 use Rattle.looks.specs.declared.looks.Looks.{Looks}
 use Rattle.char_files.specs.CharName.{CharName}
-use Rattle.operations.specs.Operation.{Operation, OpKind, MentionsBy, insert, delete, restore, change_looks}
-use Rattle.tree_order.specs.Good.{Begins, Good}
+use Rattle.operations.specs.Operation.{Operation, OpKind, MentionsBy, insert, delete, restore, change_looks, Begins}
+use Rattle.tree_order.specs.Good.{Good}
 use Rattle.tree_order.specs.Insertion.{IsOneMore}
 use Rattle.tree_order.specs.Looks.{HasLooks, IsLastToSet, Sets}
 use Rattle.tree_order.specs.Sequential.{IsLatest}
 use Rattle.tree_order.specs.Shown.{AreChars}
 use Rattle.tree_order.specs.Tree.{HasByte, IsChar}
 use Rattle.set_laws.specs.Fronts.{greatest, front_of, greatest_stamp, file_len}
-use Rattle.set_laws.specs.Growing.{AreToldByCounts, GrowsByVerdict, IsOwnNext}
-use Rattle.set_laws.specs.Sets.{AreIdentified, AreHeldToTheFront, KeepsCauses}
+use Rattle.set_laws.specs.Growing.{AreToldByCounts, IsOwnNext}
+use Rattle.set_laws.specs.Sets.{AreIdentified}
 use Rattle.set_laws.specs.Verdict.{HasVerdict, IsNew, ready}
 use Rattle.texts.specs.Edit.{own_op, set_after, with_operation}
 use Rattle.texts.specs.Order.{order_after}
 use Rattle.texts.specs.Text.{AreCharNames, IsText}
 use Rattle.texts.specs.TextState.{TextState}
-
--- the law that a list that keeps causes goes on so
-abbrev pub CausesStayAhead : Type 0
-CausesStayAhead = (ops : List Operation) (op : Operation) → KeepsCauses ops → Good (ops ++ op ∷ [])
-    → KeepsCauses (ops ++ op ∷ [])
-
--- the laws of good sets with one operation more
-pub record GrowthLaws : Type 0 where
-  pub held : (ops : List Operation) → Good ops → AreIdentified ops → AreHeldToTheFront ops
-  pub counts : (ops : List Operation) (op : Operation) → Good ops → AreIdentified ops → IsNew ops op
-      → AreToldByCounts ops op
-  pub ready : (ops : List Operation) (op : Operation) → Good ops → AreIdentified ops → IsOwnNext ops op
-      → HasVerdict ops op ready
-  pub grows : (ops : List Operation) (op : Operation) → Good ops → AreIdentified ops → IsNew ops op
-      → GrowsByVerdict ops op
-  pub causes : CausesStayAhead
+use Rattle.set_laws.proofs.Ahead.{causes_kept_with_one}
+use Rattle.set_laws.proofs.Counting.{own_next_ready, told_by_counts}
+use Rattle.set_laws.proofs.Fronts.{are_held_to_the_front}
+use Rattle.set_laws.proofs.ByVerdict.{grows_by_verdict}
 
 -- the operation may be taken in, is the latest, and leaves a text where its characters are those defined
 pub record IsOwnStep (t : TextState) (op : Operation) : Type 0 where
@@ -68,7 +56,7 @@ kept_names t (delete names) old kept = old
 kept_names t (restore names) old kept = kept
 kept_names t (change_looks sel looks names) old kept = kept
 
-module _ (laws : GrowthLaws) (t : TextState) (kind : OpKind) (is : IsText t)
+module _ (t : TextState) (kind : OpKind) (is : IsText t)
     (begins : Begins kind (file_len t.operations t.site))
     (old : (name : CharName) → MentionsBy kind name → IsChar t.operations name) where
   abbrev ops : List Operation
@@ -84,12 +72,12 @@ module _ (laws : GrowthLaws) (t : TextState) (kind : OpKind) (is : IsText t)
   new = record {
     counted = omega arith;
     unheld = λ held.
-        let up = ((laws.held ops is.good is.identified t.site (front_of ops t.site + 1)).0 held).1 in
+        let up = ((are_held_to_the_front ops is.good is.identified t.site (front_of ops t.site + 1)).0 held).1 in
         omega arith;
   }
 
   told : AreToldByCounts ops own
-  told = laws.counts ops own is.good is.identified new
+  told = told_by_counts ops own is.good is.identified new
 
   next : IsOwnNext ops own
   next = record {
@@ -100,10 +88,10 @@ module _ (laws : GrowthLaws) (t : TextState) (kind : OpKind) (is : IsText t)
   }
 
   is_ready : HasVerdict ops own ready
-  is_ready = laws.ready ops own is.good is.identified next
+  is_ready = own_next_ready ops own is.good is.identified next
 
   larger : Good with_own
-  larger = (laws.grows ops own is.good is.identified new).ready.0 is_ready
+  larger = (grows_by_verdict ops own is.good is.identified new).ready.0 is_ready
 
   identified : AreIdentified with_own
   identified = record {
@@ -123,11 +111,11 @@ module _ (laws : GrowthLaws) (t : TextState) (kind : OpKind) (is : IsText t)
     latest = below (λ (op : Operation). op.stamp) ops (greatest_stamp ops + 1) (omega arith);
     text = λ chars. record {
       good = larger;
-      in_order = laws.causes ops own is.in_order larger;
+      in_order = causes_kept_with_one ops own is.in_order larger;
       identified = identified;
       of_text = All-push (λ (o : Operation). o.text ≡ t.text) ops own is.of_text refl;
       chars = chars;
-      kept = λ c among. char_stays ops own c (kept_names t kind old is.kept c among);
+      deleted = λ c among. char_stays ops own c (kept_names t kind old is.deleted c among);
       waiting = is.waiting;
     };
   }

@@ -17,11 +17,12 @@ use Rattle.operations.specs.NameSet.{Range, IsAmong}
 use Rattle.operations.specs.Operation.{delete, change_looks}
 use Rattle.tree_order.specs.Shown.{is_visible}
 use Rattle.tree_order.specs.Tree.{IsChar}
-use Rattle.texts.specs.Laws.{IsOwnEdit, NamesStretch, OwnDeleteHides, OwnDeleteIsPlain}
-use Rattle.texts.specs.Laws.{OwnLooksAreGiven, OwnLooksArePlain}
+use Rattle.texts.specs.Laws.{IsOwnEdit, NamesStretch, OwnDeleteIsPlain}
+use Rattle.texts.specs.Laws.{OwnLooksArePlain}
 use Rattle.texts.specs.Order.{cut, dress, dressed, is_named, with_looks}
 use Rattle.texts.specs.Text.{AreCharNames, IsText}
 use Rattle.texts.specs.TextState.{TextState, shown_of}
+use Rattle.texts.proofs.OwnChange.{delete_hides, looks_are_given}
 use Rattle.texts.proofs.Chars.{shown_are_chars, shows_the_definition}
 use Rattle.texts.proofs.OwnChange.{named_is}
 
@@ -183,14 +184,14 @@ are_char_names t names beg end is rising exact c among =
     (All-take P (end - beg) (map name (drop beg shown)) chars) in
     All-contains P (map name (slice_range shown beg end)) c stretch ((exact c).0 among)
 
-pub delete_is_plain : OwnDeleteHides → OwnDeleteIsPlain
-delete_is_plain law t names beg end is rising exact =
+pub delete_is_plain : OwnDeleteIsPlain
+delete_is_plain t names beg end is rising exact =
     subst (IsOwnEdit t (delete names))
     (is_cut (shown_of t) names beg end rising (names_differ t is) exact)
-    (law t names is (are_char_names t names beg end is rising exact))
+    (delete_hides t names is (are_char_names t names beg end is rising exact))
 
-pub looks_are_plain : OwnLooksAreGiven → OwnLooksArePlain
-looks_are_plain law t sel looks names beg end is rising exact =
+pub looks_are_plain : OwnLooksArePlain
+looks_are_plain t sel looks names beg end is rising exact =
     subst (IsOwnEdit t (change_looks sel looks names))
     (is_dressed (shown_of t) names beg end rising (names_differ t is) exact sel looks)
-    (law t sel looks names is (are_char_names t names beg end is rising exact))
+    (looks_are_given t sel looks names is (are_char_names t names beg end is rising exact))

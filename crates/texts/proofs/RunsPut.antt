@@ -7,12 +7,13 @@ use Rattle.std.proofs.lemmas.Grind.{flat_map-append}
 use Rattle.std.proofs.lemmas.List.{length-append, length-drop, length-take-le, map-append, take-append-drop}
 use Rattle.std.proofs.Math.Seq.{drop-append_seam, take-append_seam}
 use Rattle.looks.specs.declared.looks.Looks.{Looks}
-use Rattle.char_files.specs.Runs.{RunsAreMaximal, maximal_runs}
+use Rattle.char_files.specs.Runs.{maximal_runs}
 use Rattle.char_files.specs.Stretch.{Item, Stretch, items_of, items_of_run}
 use Rattle.char_files.specs.declared.character.Char.{Char}
 use Rattle.operations.specs.declared.kind.TheConstants.{MAX_INSERT}
 use Rattle.texts.specs.Edit.{parts_from, parts_of, pieces_of}
 use Rattle.texts.specs.Order.{chars_from, chars_of, put}
+use Rattle.char_files.proofs.MaximalRuns.{maximal_items}
 
 -- ---- the parts of a run have its characters
 
@@ -51,8 +52,8 @@ items_of_all_parts (r ∷ runs) =
     ∙ ap (λ (more : List Item). more ++ items_of (flat_map parts_of runs)) (items_of_parts r.looks [] r.bytes)
     ∙ ap (λ (more : List Item). items_of_run r ++ more) (items_of_all_parts runs)
 
-pub items_of_pieces : RunsAreMaximal → (items : List Item) → items_of (pieces_of items) ≡ items
-items_of_pieces law items = items_of_all_parts (maximal_runs items) ∙ (law items).1
+pub items_of_pieces : (items : List Item) → items_of (pieces_of items) ≡ items
+items_of_pieces items = items_of_all_parts (maximal_runs items) ∙ maximal_items items
 
 -- ---- characters of runs, one behind the other in the site's file
 

@@ -11,7 +11,6 @@ use Rattle.looks.specs.declared.refusal.Refusal.TheVariants.{OutOfMemory, Scatte
 use Rattle.operations.specs.Operation.{Operation}
 use Rattle.operations.specs.Spelling.{spelling}
 use Rattle.texts.specs.Edit.{Edit, after, plan, with_operation}
-use Rattle.texts.specs.Laws.{OwnEditsArePlain}
 use Rattle.texts.specs.Outcome.{EditsSending, TakesMemory, count_standing, first_refusal}
 use Rattle.texts.specs.Outcome.{refusal_for, refusal_or}
 use Rattle.texts.specs.Own.{SendsOne, answer_of_one, refused_behind}
@@ -19,6 +18,7 @@ use Rattle.texts.specs.Text.{IsText}
 use Rattle.texts.specs.TextState.{TextState, shown_of}
 use Rattle.texts.specs.Edit.{is_in_text}
 use Rattle.texts.specs.declared.edit_refusal.EditRefusal.TheVariants.{Whole, Partial}
+use Rattle.texts.proofs.OwnParts.{edits_are_plain}
 
 abbrev Stop : Type 0
 Stop = Option (ℕ × Refusal)
@@ -130,7 +130,7 @@ in_position pos len within = le-leb pos len within
 pub in_range : (beg end len : ℕ) → beg ≤ end → end ≤ len → IsTrue (nat_le beg end && nat_le end len)
 in_range beg end len rising within = rw (le-leb beg end rising) (le-leb end len within)
 
-module _ (plain : OwnEditsArePlain) (t : TextState) (e : Edit) (is : IsText t) (in_text : IsTrue (is_in_text t e))
+module _ (t : TextState) (e : Edit) (is : IsText t) (in_text : IsTrue (is_in_text t e))
   where
     -- an edit whose operations were all made
     pub ended : (n : ℕ) (now : TextState) (sent sent' : List (List ℕ))
@@ -138,7 +138,7 @@ module _ (plain : OwnEditsArePlain) (t : TextState) (e : Edit) (is : IsText t) (
     ended n now sent sent' u =
         let all = all_stand t (plan t e) n now sent sent' u in
         let here = stand t (plan t e) n now sent sent' [] u in
-        let part = plain t e n is in_text here.2 in (
+        let part = edits_are_plain t e n is in_text here.2 in (
           map spelling (take n (plan t e)),
           here.1,
           ap shown_of here.0 ∙ part.whole all.1,
@@ -168,7 +168,7 @@ module _ (plain : OwnEditsArePlain) (t : TextState) (e : Edit) (is : IsText t) (
         → EditsSending t e (Err (Partial n why)) new sent sent''
     stopped n op rest why now new sent sent' sent'' u some same none which =
         let here = stand t (plan t e) n now sent sent' (op ∷ rest) u in
-        let part = plain t e n is in_text here.2 in (
+        let part = edits_are_plain t e n is in_text here.2 in (
           map spelling (take n (plan t e)),
           none ∙ here.1,
           ap shown_of (same ∙ here.0) ∙ part.part some,

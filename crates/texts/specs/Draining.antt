@@ -5,7 +5,7 @@ use Rattle.looks.specs.declared.refusal.Refusal.{Refusal}
 use Rattle.looks.specs.declared.refusal.Refusal.TheVariants.{OutOfMemory}
 use Rattle.operations.specs.Operation.{Operation}
 use Rattle.set_laws.specs.Fronts.{IsHeld}
-use Rattle.set_laws.specs.Verdict.{bad_offset, bad_stamp, ready}
+use Rattle.set_laws.specs.Verdict.{misfit, low_stamp, ready}
 use Rattle.waiting_room.specs.Room.{StaysWaiting, without}
 use Rattle.texts.specs.Taking.{HasTaken, IsJudged}
 use Rattle.texts.specs.TextState.{TextState, with_room}
@@ -22,7 +22,7 @@ pub record IsNextOut (t : TextState) (ahead : List Operation) (op : Operation) (
 -- the operation's identity is held, or it is refused
 abbrev pub IsThrownAway : TextState → Operation → Type 0
 IsThrownAway t op =
-    IsHeld t.operations op.site op.seq ⊎ (IsJudged t op bad_offset ⊎ IsJudged t op bad_stamp)
+    IsHeld t.operations op.site op.seq ⊎ (IsJudged t op misfit ⊎ IsJudged t op low_stamp)
 
 -- Again and again the first waiting operation, in order of arrival, that is held or doesn't wait for a cause leaves
 -- the room: one that is ready is taken in, any other is thrown away. So many are taken in and so many thrown away.

@@ -8,8 +8,9 @@ use Rattle.char_files.specs.declared.character.Char.{Char}
 use Rattle.operations.specs.NameSet.{Range, IsAmong}
 use Rattle.operations.specs.Operation.{Operation, OpKind, delete, restore, change_looks}
 use Rattle.tree_order.specs.Laws.{AreSameSet}
+use Rattle.tree_order.specs.Order.{IsAheadIn}
 use Rattle.tree_order.specs.Shown.{IsShown, is_visible}
-use Rattle.set_laws.specs.Sets.{AreIdentified, HaveEqualFronts}
+use Rattle.set_laws.specs.Sets.{AreIdentified, HaveEqualFronts, IsPartOf}
 use Rattle.set_laws.specs.Verdict.{HasVerdict, IsNew, ready}
 use Rattle.set_laws.specs.Fronts.{file_len}
 use Rattle.texts.specs.Edit.{Edit, after, first_part, is_in_text, names_shown, own_insert, own_op, plan}
@@ -32,6 +33,16 @@ ShowsTheDefinition = (t : TextState) → IsText t → IsShown t.operations (show
 abbrev pub OperationsTellTheText : Type 0
 OperationsTellTheText = (t u : TextState) → IsText t → IsText u → AreSameSet t.operations u.operations
     → AreAlike t u
+
+-- the characters of t stand in u in the order in which they stand in t
+abbrev pub KeepsTheOrder : TextState → TextState → Type 0
+KeepsTheOrder t u = (c d : CharName)
+    → IsAheadIn (map (λ s. s.name) t.order) c d → IsAheadIn (map (λ s. s.name) u.order) c d
+
+-- they do so in every text that has taken in what t has, and more
+abbrev pub GrownTextsKeepTheOrder : Type 0
+GrownTextsKeepTheOrder = (t u : TextState) → IsText t → IsText u → IsPartOf t.operations u.operations
+    → KeepsTheOrder t u
 
 -- two texts of equal fronts are alike, if no identity is used twice
 abbrev pub FrontsTellTheText : Type 0

@@ -9,14 +9,14 @@ use Rattle.operations.specs.Reading.{SpellsNone}
 use Rattle.operations.specs.Spelling.{HasSpelling, spelling}
 use Rattle.set_laws.specs.Fronts.{IsHeld}
 use Rattle.set_laws.specs.Sets.{IsInConflict}
-use Rattle.set_laws.specs.Verdict.{Verdict, IsNew, wait, bad_offset, bad_stamp, ready}
+use Rattle.set_laws.specs.Verdict.{Verdict, IsNew, wait, misfit, low_stamp, ready}
 use Rattle.waiting_room.specs.declared.room.TheConstants.{MAX_WAITING}
 use Rattle.texts.specs.Draining.{Drains}
 use Rattle.texts.specs.Taking.{HasTaken, IsJudged}
 use Rattle.texts.specs.TextState.{TextState, with_room}
 use Rattle.texts.specs.declared.fate.Fate.{Fate}
 use Rattle.texts.specs.declared.fate.Fate.TheVariants.{OtherText, Known, Conflicting, AlreadyWaits, Wait}
-use Rattle.texts.specs.declared.fate.Fate.TheVariants.{WrongOffset, LowStamp, Ready}
+use Rattle.texts.specs.declared.fate.Fate.TheVariants.{Misfit, LowStamp, Ready}
 use Rattle.texts.specs.declared.took.Took.{Took}
 use Rattle.texts.specs.declared.took.Took.TheVariants.{Taken, Repeat, Waits}
 
@@ -42,8 +42,8 @@ HasFate t op Known = (op.text ≡ t.text) × Contains t.operations op
 HasFate t op Conflicting = (op.text ≡ t.text) × IsConflicting t op
 HasFate t op AlreadyWaits = (op.text ≡ t.text) × IsNew t.operations op × Contains t.waiting_room op
 HasFate t op Wait = IsJudgedAnew t op wait
-HasFate t op WrongOffset = IsJudgedAnew t op bad_offset
-HasFate t op LowStamp = IsJudgedAnew t op bad_stamp
+HasFate t op Misfit = IsJudgedAnew t op misfit
+HasFate t op LowStamp = IsJudgedAnew t op low_stamp
 HasFate t op Ready = IsJudgedAnew t op ready
 
 -- nothing changed, and this is the answer
@@ -74,7 +74,7 @@ Becomes t op Known = Stays t (Ok Repeat)
 Becomes t op Conflicting = Stays t (Err Conflict)
 Becomes t op AlreadyWaits = Stays t (Ok Waits)
 Becomes t op Wait = Enters t op
-Becomes t op WrongOffset = Stays t (Err BadOffset)
+Becomes t op Misfit = Stays t (Err BadOffset)
 Becomes t op LowStamp = Stays t (Err BadStamp)
 Becomes t op Ready = TakesIn t op false
 

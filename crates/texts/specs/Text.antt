@@ -30,7 +30,7 @@ pub record IsText (t : TextState) : Type 0 where
   pub identified : AreIdentified t.operations
   pub of_text : All (λ op. op.text ≡ t.text) t.operations
   pub chars : AreChars t.operations t.order
-  pub kept : AreCharNames t.operations t.last_set
+  pub deleted : AreCharNames t.operations t.last_set
   pub waiting : AreWaitingFor t.text t.waiting_room
 
 -- the anchor is the root or a character

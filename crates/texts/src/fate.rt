@@ -12,7 +12,7 @@ pub enum Fate {
     /// A cause of it isn't held.
     Wait,
     /// It begins elsewhere than its site's file ends, or names an own character behind that end.
-    WrongOffset,
+    Misfit,
     /// Its stamp isn't above each cause's.
     LowStamp,
     /// It may be taken in.

@@ -1,4 +1,5 @@
-ghost use Rattle.std.specs.Prelude.{◌≡◌, ◌<◌, ◌≤◌, ◌++◌, ◌↔◌, length, slice_get, IfSome, IfOk, IsSome, IsTrue};
+ghost use Rattle.std.specs.Prelude.{◌≡◌, ◌<◌, ◌≤◌, ◌++◌, ◌↔◌, length, slice_get, slice_range, Some, IfSome, IfOk};
+ghost use Rattle.std.specs.Prelude.{IsSome, IsTrue};
 ghost use Rattle.std.specs.Prelude.{OnOk, OnErr};
 ghost use Rattle.looks.specs.Refusal.{RefusedForMemoryAlone};
 ghost use Rattle.set_laws.specs.Fronts.{AreSites, front_of};
@@ -21,7 +22,6 @@ mod pieces;
 mod taking;
 mod waiting;
 
-use crate::laws::the_fronts_tell_the_text;
 use char_files::{Anchor, Buffer, SiteNo, TextNo};
 use looks::{Looks, Refusal};
 use operations::{NameSet, Op};
@@ -116,15 +116,30 @@ impl Replica {
 
     /// Whether both have taken in the same operations of each site, by their numbers. Where no identity was
     /// used twice, both then show the same.
+    #[tactic(auto, using(crate::proofs::Chars::fronts_tell))]
     pub fn has_fronts_of(&self, other: &Replica) -> bool
         ensures fronts { IsTrue result ↔ HaveEqualFronts self.now.operations other.now.operations }
         ensures alike { IsTrue result → AreIdentified (self.now.operations ++ other.now.operations)
             → AreAlike self.now other.now }
     {
-        the_fronts_tell_the_text();
         self.is_text();
         other.is_text();
         self.taken.log().has_fronts_of(other.taken.log())
+    }
+
+    /// How many operations were taken in.
+    pub fn taken_len(&self) -> u64
+        ensures { result ≡ length self.now.operations }
+    {
+        self.taken.log().len()
+    }
+
+    /// The operation that was taken in at this place, from 0. It takes no memory.
+    pub fn taken(&self, place: u64) -> &Op
+        requires { place < length self.now.operations }
+        ensures { slice_get self.now.operations place ≡ Some result.now }
+    {
+        &self.taken.log().ops()[place as usize]
     }
 
     /// How many operations wait for a cause, at most 64.
@@ -155,6 +170,15 @@ impl Replica {
         ensures { result ≡ shown_of self.now }
     {
         self.taken.shown()
+    }
+
+    /// The characters shown from `beg` to `end`, one after the other. It takes no memory.
+    pub fn shown_between(&self, beg: u64, end: u64) -> Shown<'_>
+        requires rising { beg ≤ end }
+        requires in_text { end ≤ length (shown_of self.now) }
+        ensures { result ≡ slice_range (shown_of self.now) beg end }
+    {
+        self.taken.shown_between(beg, end)
     }
 
     /// What a character hangs on that is typed behind the first `pos` characters shown: the last of them, or

@@ -7,8 +7,8 @@ use Rattle.looks.specs.Key.{is_below}
 use Rattle.char_files.specs.CharName.{CharName}
 use Rattle.char_files.specs.declared.name.Anchor.{Anchor}
 use Rattle.char_files.specs.declared.name.Anchor.TheVariants.{Root, At}
-use Rattle.operations.specs.Operation.{Operation, Inserts}
-use Rattle.tree_order.specs.Good.{Good, key_of}
+use Rattle.operations.specs.Operation.{Operation, Inserts, key_of}
+use Rattle.tree_order.specs.Good.{Good}
 use Rattle.tree_order.specs.Tree.{IsInsertOf, IsPath, Leads, parent_by}
 use Rattle.tree_order.proofs.Files.{before, hangs}
 use Rattle.tree_order.proofs.Paths.{LastStep, last_step}

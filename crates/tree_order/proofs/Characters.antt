@@ -9,7 +9,7 @@ use Rattle.operations.specs.NameSet.{IsIn}
 use Rattle.operations.specs.Operation.{Operation, OpKind, insert, delete, restore, change_looks, Inserts}
 use Rattle.operations.specs.Operation.{InsertsBy}
 use Rattle.tree_order.specs.Tree.{IsChar}
-use Rattle.tree_order.proofs.Files.{same_name}
+use Rattle.operations.proofs.WithName.{same_name}
 use Rattle.tree_order.proofs.Sorted.{Contains-head, Contains-tail, Contains-cons_cases}
 
 -- len names of a site from at on

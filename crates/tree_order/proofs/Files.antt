@@ -9,15 +9,10 @@ use Rattle.char_files.specs.CharName.{CharName}
 use Rattle.char_files.specs.declared.name.Anchor.{Anchor}
 use Rattle.char_files.specs.declared.name.Anchor.TheVariants.{Root, At}
 use Rattle.operations.specs.Operation.{Operation, OpKind, insert, delete, restore, change_looks, appended_len}
+use Rattle.operations.specs.Operation.{Begins}
 use Rattle.operations.specs.Operation.{InsertsBy, MentionsBy, Mentions}
-use Rattle.tree_order.specs.Good.{Good, Begins, appended_len_at, file_before}
+use Rattle.tree_order.specs.Good.{Good, appended_len_at, file_before}
 use Rattle.tree_order.specs.Tree.{IsInsertOf, parent_by}
-
--- a name is its site and its offset
-pub same_name : (m n : CharName) → m.site ≡ n.site → m.off ≡ n.off → m ≡ n
-same_name m n e f =
-    let name_at : ℕ → ℕ → CharName = λ a b. record { site = a; off = b } in
-    ap (λ (a : ℕ). name_at a m.off) e ∙ ap (λ (b : ℕ). name_at n.site b) f
 
 -- what an operation appends is what its site appends under its seq
 pub appended_by : (ops : List Operation) (op : Operation) → ((other : Operation) → Contains ops other

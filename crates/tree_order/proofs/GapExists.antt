@@ -6,8 +6,7 @@ use Rattle.std.proofs.lemmas.List.Elements.{All-nil, All-cons, Contains-append_r
 use Rattle.looks.specs.Key.{is_below}
 use Rattle.looks.specs.declared.key.Key.{Key}
 use Rattle.char_files.specs.CharName.{CharName}
-use Rattle.operations.specs.Operation.{Operation}
-use Rattle.tree_order.specs.Good.{key_of}
+use Rattle.operations.specs.Operation.{Operation, key_of}
 use Rattle.tree_order.specs.Insertion.{IsGap, IsAbove, BeginsNotAbove}
 use Rattle.tree_order.specs.Insertion.{OrderGainsRun, run_of}
 use Rattle.tree_order.specs.Tree.{IsChar}
@@ -18,7 +17,7 @@ use Rattle.tree_order.proofs.UpTo.{AtCause, parts_at_cause}
 use Rattle.tree_order.proofs.Sorted.{Contains-head, Contains-tail}
 
 -- the longest stretch of greater keys that begins a list, and the rest
-record Stretch (ops : List Operation) (key : Key) (chars : List CharName) : Type 0 where
+record Segment (ops : List Operation) (key : Key) (chars : List CharName) : Type 0 where
   skipped : List CharName
   behind : List CharName
   parts : chars ≡ skipped ++ behind
@@ -26,7 +25,7 @@ record Stretch (ops : List Operation) (key : Key) (chars : List CharName) : Type
   stops : BeginsNotAbove ops key behind
 
 stretch_of : (ops : List Operation) (key : Key) (chars : List CharName)
-    → ((c : CharName) → Contains chars c → IsChar ops c) → Stretch ops key chars
+    → ((c : CharName) → Contains chars c → IsChar ops c) → Segment ops key chars
 stretch_of ops key [] all = record {
   skipped = [];
   behind = [];
@@ -38,7 +37,7 @@ stretch_of ops key (c ∷ chars) all =
     let (j, is) = all c (Contains-head c chars) in
     elim (cases_Bool (is_below key (key_of j))) [
       | inl above ↦
-          let rest : Stretch ops key chars =
+          let rest : Segment ops key chars =
           stretch_of ops key chars (λ d h. all d (Contains-tail c chars d h)) in
           record {
             skipped = c ∷ rest.skipped;
@@ -62,7 +61,7 @@ gains_run ops i cause order larger one at is is' =
     let old : (c : CharName) → Contains first.behind c → IsChar ops c =
     λ c h. (is.each c).0 (subst (λ (xs : List CharName). Contains xs c) (sym first.parts)
     (Contains-append_right first.ahead first.behind c h)) in
-    let then : Stretch ops (key_of i) first.behind = stretch_of ops (key_of i) first.behind old in
+    let then : Segment ops (key_of i) first.behind = stretch_of ops (key_of i) first.behind old in
     let parts : order ≡ first.ahead ++ then.skipped ++ then.behind =
     first.parts ∙ ap (λ (xs : List CharName). first.ahead ++ xs) then.parts
     ∙ sym (append_assoc first.ahead then.skipped then.behind) in

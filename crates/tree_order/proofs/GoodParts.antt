@@ -6,16 +6,16 @@ use Rattle.char_files.specs.CharName.{CharName}
 use Rattle.operations.specs.Operation.{Operation, Inserts}
 use Rattle.tree_order.specs.Good.{Good, IsPredecessor}
 use Rattle.tree_order.specs.Tree.{IsChar}
-use Rattle.tree_order.specs.GoodEach.{Agree, AgreesWithAll, FollowsOn, MentionsCharacters, BeginsAtEnd}
-use Rattle.tree_order.specs.GoodEach.{OwnNamesAreEarlier, IsAbove, IsAboveCauses}
+use Rattle.tree_order.specs.GoodEach.{Agree, AgreesWithAll, HasPredecessor, MentionsCharacters, BeginsAtEnd}
+use Rattle.tree_order.specs.GoodEach.{OwnNamesAreEarlier, IsAbove, IsAboveEachCause}
 
 pub record Parts (ops : List Operation) : Type 0 where
   pub identities : All (AgreesWithAll ops) ops
-  pub predecessors : All (FollowsOn ops) ops
+  pub predecessors : All (HasPredecessor ops) ops
   pub mentions : All (MentionsCharacters ops) ops
   pub begins : All (BeginsAtEnd ops) ops
   pub own : All (OwnNamesAreEarlier ops) ops
-  pub stamps : All (IsAboveCauses ops) ops
+  pub stamps : All (IsAboveEachCause ops) ops
 
 -- what holds of each operation that is held
 each_held : (P : Operation → Type 0) (ops : List Operation) → ((op : Operation) → Contains ops op → P op)
@@ -45,14 +45,14 @@ parts ops good = record {
       each_held (AgreesWithAll ops) ops (λ a held. each_held _ ops (λ b other. good.identities a b held
       other));
   predecessors =
-      each_held (FollowsOn ops) ops (λ op held later. any_held (λ p. IsPredecessor p op) ops
+      each_held (HasPredecessor ops) ops (λ op held later. any_held (λ p. IsPredecessor p op) ops
       (good.predecessors op held later));
   mentions =
       each_held (MentionsCharacters ops) ops (λ op held name m. character ops name
       (good.mentions op name held m));
   begins = each_held (BeginsAtEnd ops) ops good.begins;
   own = each_held (OwnNamesAreEarlier ops) ops (λ op held name. good.own op name held);
-  stamps = each_held (IsAboveCauses ops) ops
+  stamps = each_held (IsAboveEachCause ops) ops
       (λ op held. each_held _ ops (λ p other. good.stamps op p held other));
 }
 
@@ -63,11 +63,11 @@ good_by ops p =
     record {
       identities = λ a b held other. at (Agree a) (at (AgreesWithAll ops) p.identities a held) b other;
       predecessors =
-          λ op held later. held_any (λ q. IsPredecessor q op) ops (at (FollowsOn ops) p.predecessors op held
+          λ op held later. held_any (λ q. IsPredecessor q op) ops (at (HasPredecessor ops) p.predecessors op held
           later);
       mentions =
           λ op name held m. insert_held ops name (at (MentionsCharacters ops) p.mentions op held name m);
       begins = at (BeginsAtEnd ops) p.begins;
       own = λ op name held. at (OwnNamesAreEarlier ops) p.own op held name;
-      stamps = λ op q held other. at (IsAbove op) (at (IsAboveCauses ops) p.stamps op held) q other;
+      stamps = λ op q held other. at (IsAbove op) (at (IsAboveEachCause ops) p.stamps op held) q other;
     }

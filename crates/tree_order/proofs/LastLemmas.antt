@@ -8,8 +8,7 @@ use Rattle.std.proofs.lemmas.List.{take_more}
 use Rattle.std.proofs.lemmas.List.Elements.{Contains-push_cases}
 use Rattle.looks.specs.Key.{is_below}
 use Rattle.looks.specs.declared.key.Key.{Key}
-use Rattle.operations.specs.Operation.{Operation}
-use Rattle.tree_order.specs.Good.{key_of}
+use Rattle.operations.specs.Operation.{Operation, key_of}
 
 -- an operation that sets it, and no one of the seen ones has a greater key
 pub record IsLastOf (Sets : Operation → Type 0) (ops seen : List Operation) (op : Operation) : Type 0 where
@@ -65,9 +64,9 @@ module _ (Sets : Operation → Type 0) (ops : List Operation) (n : ℕ) (op : Op
   }
 
   -- one more operation that doesn't set it, or whose key isn't greater
-  pub last_kept : (last : Operation) → IsLastOf Sets ops (take n ops) last
+  pub last_stays : (last : Operation) → IsLastOf Sets ops (take n ops) last
       → ¬ (Sets op × (is_below (key_of last) (key_of op) ≡ true)) → IsLastOf Sets ops (take (n + 1) ops) last
-  last_kept last so_far not_over = record {
+  last_stays last so_far not_over = record {
     held = so_far.held;
     sets = so_far.sets;
     greatest = λ other h s. elim (among_more other h) [
@@ -78,8 +77,8 @@ module _ (Sets : Operation → Type 0) (ops : List Operation) (n : ℕ) (op : Op
   }
 
   -- one more operation that doesn't set it, where none did
-  pub none_kept : NoneSets Sets (take n ops) → ¬ Sets op → NoneSets Sets (take (n + 1) ops)
-  none_kept none not other h s = elim (among_more other h) [
+  pub none_stays : NoneSets Sets (take n ops) → ¬ Sets op → NoneSets Sets (take (n + 1) ops)
+  none_stays none not other h s = elim (among_more other h) [
     | inl seen ↦ none other seen s
     | inr e ↦ not (subst Sets (sym e) s)
   ]
@@ -93,10 +92,10 @@ module _ (Sets : Operation → Type 0) (ops : List Operation) (n : ℕ) (op : Op
   last_after view (Some o) some none sets over = last_taken (view o) some sets over
 
   -- it is what was found so far
-  pub kept_after : {X : Type 0} (view : X → Operation) (last : Option X)
+  pub stays_after : {X : Type 0} (view : X → Operation) (last : Option X)
       → IfSome last (λ o. IsLastOf Sets ops (take n ops) (view o)) → IfNone last (NoneSets Sets (take n ops))
       → ¬ (Sets op × IfSome last (λ o. is_below (key_of (view o)) (key_of op) ≡ true))
       → IfSome last (λ o. IsLastOf Sets ops (take (n + 1) ops) (view o))
       × IfNone last (NoneSets Sets (take (n + 1) ops))
-  kept_after view None some none not_over = (tt, none_kept none (λ sets. not_over (sets, tt)))
-  kept_after view (Some o) some none not_over = (last_kept (view o) some not_over, tt)
+  stays_after view None some none not_over = (tt, none_stays none (λ sets. not_over (sets, tt)))
+  stays_after view (Some o) some none not_over = (last_stays (view o) some not_over, tt)

@@ -7,8 +7,7 @@ use Rattle.std.proofs.lemmas.List.Elements.{All-contains, All-head, All-nil, Con
 use Rattle.looks.specs.Key.{is_below}
 use Rattle.char_files.specs.CharName.{CharName}
 use Rattle.char_files.specs.declared.name.Anchor.{Anchor}
-use Rattle.operations.specs.Operation.{Operation}
-use Rattle.tree_order.specs.Good.{key_of}
+use Rattle.operations.specs.Operation.{Operation, key_of}
 use Rattle.tree_order.specs.Tree.{IsChar}
 use Rattle.tree_order.specs.Order.{IsOrder}
 use Rattle.tree_order.specs.Insertion.{IsGap, IsInsertAt, EndsAt, IsAbove, BeginsNotAbove, run_of}

@@ -6,7 +6,7 @@ pub mod Files
 pub mod Gap
 pub mod GapExists
 pub mod GoodParts
-pub mod KeptWithRun
+pub mod AtomsWithRun
 pub mod LastLemmas
 pub mod Latest
 pub mod NewVisible

@@ -10,9 +10,8 @@ use Rattle.looks.specs.Sel.{Selection}
 use Rattle.looks.specs.declared.looks.Looks.{Looks}
 use Rattle.char_files.specs.CharName.{CharName}
 use Rattle.char_files.specs.declared.name.Anchor.{Anchor}
-use Rattle.operations.specs.Operation.{Operation, OpKind, insert, delete, restore, change_looks, Inserts}
+use Rattle.operations.specs.Operation.{Operation, OpKind, insert, delete, restore, change_looks, Inserts, key_of}
 use Rattle.operations.specs.Operation.{Mentions, MentionsBy}
-use Rattle.tree_order.specs.Good.{key_of}
 use Rattle.tree_order.specs.Tree.{IsChar}
 use Rattle.tree_order.specs.Insertion.{IsOneMore, IsInsertAt, HasCauseBy}
 use Rattle.tree_order.specs.Looks.{HasLooks, IsLastToSet, ChangesBy, Sets, looks_by}

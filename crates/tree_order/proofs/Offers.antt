@@ -10,13 +10,12 @@ use Rattle.looks.specs.declared.key.Key.{Key}
 use Rattle.looks.specs.declared.looks.Looks.{Looks}
 use Rattle.looks.specs.declared.register.Register.{Register}
 use Rattle.operations.specs.NameSet.{Range, IsAmong, range_contains}
-use Rattle.operations.specs.Operation.{Operation, OpKind, insert, delete, restore, change_looks, Inserts}
-use Rattle.tree_order.specs.Good.{key_of}
+use Rattle.operations.specs.Operation.{Operation, OpKind, insert, delete, restore, change_looks, Inserts, key_of}
 use Rattle.tree_order.specs.Tree.{IsInsertOf}
 use Rattle.tree_order.specs.Looks.{looks_by, ChangesBy, Sets}
 use Rattle.tree_order.specs.Shown.{SwitchesBy, is_delete}
-use Rattle.tree_order.specs.Registers.{SetsHidden, IsRegister, Kept, HasRegisters, offered, offered_if}
-use Rattle.tree_order.specs.Registers.{switched, relooked, if_named, kept_by, kept_after}
+use Rattle.tree_order.specs.Registers.{SetsHidden, IsRegister, Atom, HasRegisters, offered, offered_if}
+use Rattle.tree_order.specs.Registers.{switched, relooked, if_named, atom_by, atom_after}
 use Rattle.tree_order.proofs.LastLemmas.{irreflexive, above_both}
 use Rattle.tree_order.proofs.SameSet.{insert_of}
 use Rattle.tree_order.proofs.ShownLemmas.{among_is}
@@ -25,8 +24,8 @@ use Rattle.tree_order.proofs.ShownLemmas.{among_is}
 module _ {V : Type 0} (Sets : Operation → Type 0) (gives : OpKind → V) (ops : List Operation) (op : Operation)
     (r : Register V) (is : IsRegister Sets gives ops r) where
   -- the register stays where the operation doesn't set it, or has no greater key
-  kept_register : (Sets op → is_below r.key (key_of op) ≡ false) → IsRegister Sets gives (ops ++ op ∷ []) r
-  kept_register low = record {
+  atom_register : (Sets op → is_below r.key (key_of op) ≡ false) → IsRegister Sets gives (ops ++ op ∷ []) r
+  atom_register low = record {
     last = is.last;
     is = record {
       held = Contains-append_left ops (op ∷ []) is.last is.is.held;
@@ -71,16 +70,16 @@ module _ {V : Type 0} (Sets : Operation → Type 0) (gives : OpKind → V) (ops 
           → IsRegister Sets gives (ops ++ op ∷ [])
           (cond b (record { key = key_of op; value = gives op.kind }) r)
       go true more = taken_register sets more
-      go false low = kept_register (λ s. low)
+      go false low = atom_register (λ s. low)
 
   -- the same where a test tells whether the operation sets it
   offered_register_if : (selected : Bool) → (selected ≡ true → Sets op) → (Sets op → selected ≡ true)
       → IsRegister Sets gives (ops ++ op ∷ []) (offered_if selected r (key_of op) (gives op.kind))
   offered_register_if true sets tells = offered_register (sets refl)
-  offered_register_if false sets tells = kept_register (λ s. absurd (false≢true (tells s)))
+  offered_register_if false sets tells = atom_register (λ s. absurd (false≢true (tells s)))
 
--- what is kept of a character, with one operation more that doesn't insert it
-module _ (ops : List Operation) (op : Operation) (k : Kept) (has : HasRegisters ops k)
+-- an atom, with one operation more that doesn't insert it
+module _ (ops : List Operation) (op : Operation) (k : Atom) (has : HasRegisters ops k)
     (old : ¬ Inserts op k.name) where
   -- the key stays
   same_key : (i : Operation) × IsInsertOf (ops ++ op ∷ []) k.name i × (k.key ≡ key_of i)
@@ -107,9 +106,9 @@ module _ (ops : List Operation) (op : Operation) (k : Kept) (has : HasRegisters 
             → HasRegisters (ops ++ op ∷ []) (record k { hidden = r })
         registers r is_register = record {
           key = same_key;
-          font = kept_register _ _ ops op k.font has.font (λ s. absurd (not_set _ s));
-          colour = kept_register _ _ ops op k.colour has.colour (λ s. absurd (not_set _ s));
-          offset = kept_register _ _ ops op k.offset has.offset (λ s. absurd (not_set _ s));
+          font = atom_register _ _ ops op k.font has.font (λ s. absurd (not_set _ s));
+          colour = atom_register _ _ ops op k.colour has.colour (λ s. absurd (not_set _ s));
+          offset = atom_register _ _ ops op k.offset has.offset (λ s. absurd (not_set _ s));
           hidden = is_register;
         }
 
@@ -121,7 +120,7 @@ module _ (ops : List Operation) (op : Operation) (k : Kept) (has : HasRegisters 
             (subst (λ (v : Bool). IsRegister (λ o. SetsHidden o k.name) is_delete (ops ++ op ∷ [])
             (offered k.hidden (key_of op) v)) is (offered_register _ _ ops op k.hidden has.hidden sets))
         go false out =
-            registers k.hidden (kept_register _ _ ops op k.hidden has.hidden (λ s. elim s [
+            registers k.hidden (atom_register _ _ ops op k.hidden has.hidden (λ s. elim s [
               | inl inserts ↦ absurd (old inserts)
               | inr switches ↦
                   absurd (false≢true (sym out ∙ (among_is names k.name).1 (back switches)))
@@ -131,10 +130,10 @@ module _ (ops : List Operation) (op : Operation) (k : Kept) (has : HasRegisters 
     same_registers : ¬ SwitchesBy op.kind k.name → HasRegisters (ops ++ op ∷ []) k
     same_registers out = record {
       key = same_key;
-      font = kept_register _ _ ops op k.font has.font (λ s. absurd (not_set _ s));
-      colour = kept_register _ _ ops op k.colour has.colour (λ s. absurd (not_set _ s));
-      offset = kept_register _ _ ops op k.offset has.offset (λ s. absurd (not_set _ s));
-      hidden = kept_register _ _ ops op k.hidden has.hidden (λ s. elim s [
+      font = atom_register _ _ ops op k.font has.font (λ s. absurd (not_set _ s));
+      colour = atom_register _ _ ops op k.colour has.colour (λ s. absurd (not_set _ s));
+      offset = atom_register _ _ ops op k.offset has.offset (λ s. absurd (not_set _ s));
+      hidden = atom_register _ _ ops op k.hidden has.hidden (λ s. elim s [
         | inl inserts ↦ absurd (old inserts)
         | inr switches ↦ absurd (out switches)
       ]);
@@ -154,7 +153,7 @@ module _ (ops : List Operation) (op : Operation) (k : Kept) (has : HasRegisters 
       ]
 
       hidden : IsRegister (λ o. SetsHidden o k.name) is_delete (ops ++ op ∷ []) k.hidden
-      hidden = kept_register _ _ ops op k.hidden has.hidden (λ s. elim s [
+      hidden = atom_register _ _ ops op k.hidden has.hidden (λ s. elim s [
         | inl inserts ↦ absurd (old inserts)
         | inr switches ↦ absurd (subst (λ (kind : OpKind). SwitchesBy kind k.name) is switches)
       ])
@@ -186,22 +185,22 @@ module _ (ops : List Operation) (op : Operation) (k : Kept) (has : HasRegisters 
           λ selects s. false≢true (sym out ∙ (among_is names k.name).1 (changes selects s).1) in
           record {
             key = same_key;
-            font = kept_register _ _ ops op k.font has.font (λ s. absurd (apart _ s));
-            colour = kept_register _ _ ops op k.colour has.colour (λ s. absurd (apart _ s));
-            offset = kept_register _ _ ops op k.offset has.offset (λ s. absurd (apart _ s));
+            font = atom_register _ _ ops op k.font has.font (λ s. absurd (apart _ s));
+            colour = atom_register _ _ ops op k.colour has.colour (λ s. absurd (apart _ s));
+            offset = atom_register _ _ ops op k.offset has.offset (λ s. absurd (apart _ s));
             hidden = hidden;
           }
 
 -- the registers of a character with one operation more, which doesn't insert it
-pub registers_after : (ops : List Operation) (op : Operation) (k : Kept) → HasRegisters ops k
-    → ¬ Inserts op k.name → HasRegisters (ops ++ op ∷ []) (kept_after op k)
+pub registers_after : (ops : List Operation) (op : Operation) (k : Atom) → HasRegisters ops k
+    → ¬ Inserts op k.name → HasRegisters (ops ++ op ∷ []) (atom_after op k)
 registers_after ops op k has old = go op.kind refl
   where
     none : (kind : OpKind) → op.kind ≡ kind → ((selects : Selection → Bool) → ¬ ChangesBy kind selects k.name)
         → (selects : Selection → Bool) → ¬ ChangesBy op.kind selects k.name
     none kind is out selects h = out selects (subst (λ (o : OpKind). ChangesBy o selects k.name) is h)
 
-    go : (kind : OpKind) → op.kind ≡ kind → HasRegisters (ops ++ op ∷ []) (kept_by kind (key_of op) k)
+    go : (kind : OpKind) → op.kind ≡ kind → HasRegisters (ops ++ op ∷ []) (atom_by kind (key_of op) k)
     go (insert cause at looks bytes) is =
         same_registers ops op k has old (none _ is (λ selects h. h))
         (λ h. subst (λ (o : OpKind). SwitchesBy o k.name) is h)

@@ -10,8 +10,8 @@ use Rattle.std.proofs.lemmas.List.{take-append-drop}
 use Rattle.std.proofs.lemmas.List.Elements.{Contains-get_or}
 use Rattle.std.proofs.lemmas.Option.{slice_get_read}
 use Rattle.char_files.specs.CharName.{CharName}
-use Rattle.operations.specs.Operation.{Operation, OpKind, insert, delete, appended_len, InsertsBy}
-use Rattle.tree_order.specs.Good.{Good, Begins, appended_len_at, file_before}
+use Rattle.operations.specs.Operation.{Operation, OpKind, insert, delete, appended_len, InsertsBy, Begins}
+use Rattle.tree_order.specs.Good.{Good, appended_len_at, file_before}
 use Rattle.tree_order.specs.Order.{IsOrder}
 use Rattle.tree_order.specs.Insertion.{IsOneMore, IsInsertAt, HasCauseBy, run_of}
 use Rattle.tree_order.specs.Sequential.{AreOfOneWriter, IsLatest, OneWriterGoesBehindCauses}

@@ -11,7 +11,7 @@ use Rattle.char_files.specs.CharName.{CharName}
 use Rattle.char_files.specs.declared.name.Anchor.TheVariants.{Root, At}
 use Rattle.tree_order.specs.Sequential.{PlaceIsBehind, LatestIsPlainEdit}
 use Rattle.tree_order.specs.Shown.{is_visible, up_to}
-use Rattle.tree_order.proofs.Files.{same_name}
+use Rattle.operations.proofs.WithName.{same_name}
 use Rattle.tree_order.proofs.ShownLatest.{shown_at_place}
 use Rattle.tree_order.proofs.Sorted.{AllPairs-tail, before_members}
 use Rattle.tree_order.proofs.Turns.{names_differ}

@@ -10,26 +10,26 @@ use Rattle.looks.specs.declared.looks.Looks.{Looks}
 use Rattle.char_files.specs.CharName.{CharName}
 use Rattle.char_files.specs.declared.character.Char.{Char}
 use Rattle.operations.specs.NameSet.{Range, range_contains}
-use Rattle.operations.specs.Operation.{Operation, OpKind, insert, delete, restore, change_looks, Inserts}
-use Rattle.tree_order.specs.Good.{Good, key_of}
+use Rattle.operations.specs.Operation.{Operation, OpKind, insert, delete, restore, change_looks, Inserts, key_of}
+use Rattle.tree_order.specs.Good.{Good}
 use Rattle.tree_order.specs.Tree.{IsChar, HasByte}
 use Rattle.tree_order.specs.Order.{IsOrder}
 use Rattle.tree_order.specs.Looks.{HasLooks}
 use Rattle.tree_order.specs.Shown.{is_visible, IsShown}
-use Rattle.tree_order.specs.Registers.{Kept, HasRegisters, AreKept, kept_looks, switched, relooked, if_named}
-use Rattle.tree_order.specs.Registers.{kept_by, kept_after}
-use Rattle.tree_order.specs.RegisterLaws.{TellRegisters, Named, shown_of_kept, without_bytes, ShowsKept}
+use Rattle.tree_order.specs.Registers.{Atom, HasRegisters, AreAtoms, atom_looks, switched, relooked, if_named}
+use Rattle.tree_order.specs.Registers.{atom_by, atom_after}
+use Rattle.tree_order.specs.RegisterLaws.{TellRegisters, Named, shown_of_atoms, without_bytes, ShowsAtoms}
 use Rattle.tree_order.specs.RegisterLaws.{OffersItsValues}
-use Rattle.tree_order.specs.RegisterLaws.{HasOneKept, InsertsNone, KeepsTheOrder, ShowsByOffers, KeptAfter}
+use Rattle.tree_order.specs.RegisterLaws.{HasOneAtoms, InsertsNone, KeepsTheOrder, ShowsByOffers, AtomsAfter}
 use Rattle.tree_order.proofs.Before.{has_order, IsOrder-from_sorted, sorted_from_IsOrder}
 use Rattle.tree_order.proofs.Offers.{registers_after}
 use Rattle.tree_order.proofs.OneText.{one_order, one_looks}
-use Rattle.tree_order.proofs.RegistersTell.{tell, has_registers, one_kept, first_registers}
+use Rattle.tree_order.proofs.RegistersTell.{tell, has_registers, one_atoms, first_registers}
 use Rattle.tree_order.proofs.SameSet.{Within, char, before}
 use Rattle.tree_order.proofs.Tree.{one_insert}
 
 -- an operation leaves a character its name
-if_named-name : (names : List Range) (change : Kept → Kept) (k : Kept) → (change k).name ≡ k.name
+if_named-name : (names : List Range) (change : Atom → Atom) (k : Atom) → (change k).name ≡ k.name
     → (if_named names change k).name ≡ k.name
 if_named-name names change k same = go (list_any (λ r. range_contains r k.name) names)
   where
@@ -37,164 +37,164 @@ if_named-name names change k same = go (list_any (λ r. range_contains r k.name)
     go true = same
     go false = refl
 
-kept_by-name : (kind : OpKind) (key : Key) (k : Kept) → (kept_by kind key k).name ≡ k.name
-kept_by-name (insert cause at looks bytes) key k = refl
-kept_by-name (delete names) key k = if_named-name names (switched true key) k refl
-kept_by-name (restore names) key k = if_named-name names (switched false key) k refl
-kept_by-name (change_looks sel looks names) key k = if_named-name names (relooked sel looks key) k refl
+atom_by-name : (kind : OpKind) (key : Key) (k : Atom) → (atom_by kind key k).name ≡ k.name
+atom_by-name (insert cause at looks bytes) key k = refl
+atom_by-name (delete names) key k = if_named-name names (switched true key) k refl
+atom_by-name (restore names) key k = if_named-name names (switched false key) k refl
+atom_by-name (change_looks sel looks names) key k = if_named-name names (relooked sel looks key) k refl
 
-kept_after-names : (op : Operation) (kept : List Kept)
-    → map (λ k. k.name) kept ≡ map (λ k. k.name) (map (kept_after op) kept)
-kept_after-names op [] = refl
-kept_after-names op (k ∷ kept) =
-    ap (λ (c : CharName). c ∷ map (λ (j : Kept). j.name) kept) (sym (kept_by-name op.kind (key_of op) k))
-    ∙ ap (λ (cs : List CharName). (kept_after op k).name ∷ cs) (kept_after-names op kept)
+atom_after-names : (op : Operation) (atoms : List Atom)
+    → map (λ k. k.name) atoms ≡ map (λ k. k.name) (map (atom_after op) atoms)
+atom_after-names op [] = refl
+atom_after-names op (k ∷ atoms) =
+    ap (λ (c : CharName). c ∷ map (λ (j : Atom). j.name) atoms) (sym (atom_by-name op.kind (key_of op) k))
+    ∙ ap (λ (cs : List CharName). (atom_after op k).name ∷ cs) (atom_after-names op atoms)
 
--- a list of names is kept
-kept_of : (ops : List Operation) (names : List CharName) → All (IsChar ops) names
-    → (kept : List Kept) × (map (λ k. k.name) kept ≡ names) × All (HasRegisters ops) kept
-kept_of ops [] all = ([], refl, All-nil (HasRegisters ops))
-kept_of ops (c ∷ names) all =
+-- the atoms of a list of names
+atoms_of : (ops : List Operation) (names : List CharName) → All (IsChar ops) names
+    → (atoms : List Atom) × (map (λ k. k.name) atoms ≡ names) × All (HasRegisters ops) atoms
+atoms_of ops [] all = ([], refl, All-nil (HasRegisters ops))
+atoms_of ops (c ∷ names) all =
     let (k, name, has) = has_registers ops c (All-head (IsChar ops) c names all) in
-    let (kept, same, registers) = kept_of ops names (All-tail (IsChar ops) c names all) in (
-      k ∷ kept,
-      ap (λ (x : CharName). x ∷ map (λ (j : Kept). j.name) kept) name
+    let (atoms, same, registers) = atoms_of ops names (All-tail (IsChar ops) c names all) in (
+      k ∷ atoms,
+      ap (λ (x : CharName). x ∷ map (λ (j : Atom). j.name) atoms) name
           ∙ ap (λ (xs : List CharName). c ∷ xs) same,
-      All-cons (HasRegisters ops) k kept has registers,
+      All-cons (HasRegisters ops) k atoms has registers,
     )
 
 module _ (ops : List Operation) (good : Good ops) where
   -- of the names those that the registers tell to be visible are visible
-  visible_names : (kept : List Kept) → All (TellRegisters ops) kept
-      → filter (is_visible ops) (map (λ k. k.name) kept) ≡ map (λ k. k.name) (filter (λ k. not k.hidden.value)
-      kept)
+  visible_names : (atoms : List Atom) → All (TellRegisters ops) atoms
+      → filter (is_visible ops) (map (λ k. k.name) atoms) ≡ map (λ k. k.name) (filter (λ k. not k.hidden.value)
+      atoms)
   visible_names [] all = refl
-  visible_names (k ∷ kept) all =
-      let here = (All-head (TellRegisters ops) k kept all).visible in
-      let rest = visible_names kept (All-tail (TellRegisters ops) k kept all) in
+  visible_names (k ∷ atoms) all =
+      let here = (All-head (TellRegisters ops) k atoms all).visible in
+      let rest = visible_names atoms (All-tail (TellRegisters ops) k atoms all) in
       rw here (go (not k.hidden.value) rest)
     where
-      go : (b : Bool) → filter (is_visible ops) (map (λ j. j.name) kept)
-          ≡ map (λ j. j.name) (filter (λ j. not j.hidden.value) kept)
-          → cond b (k.name ∷ filter (is_visible ops) (map (λ j. j.name) kept))
-          (filter (is_visible ops) (map (λ j. j.name) kept))
-          ≡ map (λ j. j.name) (cond b (k ∷ filter (λ j. not j.hidden.value) kept)
-          (filter (λ j. not j.hidden.value) kept))
+      go : (b : Bool) → filter (is_visible ops) (map (λ j. j.name) atoms)
+          ≡ map (λ j. j.name) (filter (λ j. not j.hidden.value) atoms)
+          → cond b (k.name ∷ filter (is_visible ops) (map (λ j. j.name) atoms))
+          (filter (is_visible ops) (map (λ j. j.name) atoms))
+          ≡ map (λ j. j.name) (cond b (k ∷ filter (λ j. not j.hidden.value) atoms)
+          (filter (λ j. not j.hidden.value) atoms))
       go true rest = ap (λ (cs : List CharName). k.name ∷ cs) rest
       go false rest = rest
 
   -- characters of the same names have the same looks
-  same_named : (shown : List Char) (kept : List Kept) → map (λ s. s.name) shown ≡ map (λ k. k.name) kept
-      → All (λ s. HasLooks ops s.name s.looks) shown → All (TellRegisters ops) kept
-      → without_bytes shown ≡ map (λ k. record { name = k.name; looks = kept_looks k }) kept
+  same_named : (shown : List Char) (atoms : List Atom) → map (λ s. s.name) shown ≡ map (λ k. k.name) atoms
+      → All (λ s. HasLooks ops s.name s.looks) shown → All (TellRegisters ops) atoms
+      → without_bytes shown ≡ map (λ k. record { name = k.name; looks = atom_looks k }) atoms
   same_named [] [] names looks all = refl
-  same_named [] (k ∷ kept) names looks all = absurd cc
+  same_named [] (k ∷ atoms) names looks all = absurd cc
   same_named (s ∷ shown) [] names looks all = absurd cc
-  same_named (s ∷ shown) (k ∷ kept) names looks all =
+  same_named (s ∷ shown) (k ∷ atoms) names looks all =
       let name : s.name ≡ k.name = cc in
-      let rest : map (λ (x : Char). x.name) shown ≡ map (λ (j : Kept). j.name) kept = cc in
+      let rest : map (λ (x : Char). x.name) shown ≡ map (λ (j : Atom). j.name) atoms = cc in
       let has : HasLooks ops k.name s.looks = subst (λ (c : CharName). HasLooks ops c s.looks) name
       (All-head (λ (x : Char). HasLooks ops x.name x.looks) s shown looks) in
-      let same : s.looks ≡ kept_looks k =
-      one_looks ops good k.name s.looks (kept_looks k) has (All-head (TellRegisters ops) k kept all).looks in
+      let same : s.looks ≡ atom_looks k =
+      one_looks ops good k.name s.looks (atom_looks k) has (All-head (TellRegisters ops) k atoms all).looks in
       let made : CharName → Looks → Named = λ c l. record { name = c; looks = l } in
       ap (λ (c : CharName). made c s.looks ∷ without_bytes shown) name
       ∙ ap (λ (l : Looks). made k.name l ∷ without_bytes shown) same
-      ∙ ap (λ (ns : List Named). made k.name (kept_looks k) ∷ ns)
-      (same_named shown kept rest (All-tail (λ (x : Char). HasLooks ops x.name x.looks) s shown looks)
-      (All-tail (TellRegisters ops) k kept all))
+      ∙ ap (λ (ns : List Named). made k.name (atom_looks k) ∷ ns)
+      (same_named shown atoms rest (All-tail (λ (x : Char). HasLooks ops x.name x.looks) s shown looks)
+      (All-tail (TellRegisters ops) k atoms all))
 
-  -- and those that have the kept looks have looks
-  has_kept_looks : (shown : List Char) (kept : List Kept)
-      → without_bytes shown ≡ map (λ k. record { name = k.name; looks = kept_looks k }) kept
-      → All (TellRegisters ops) kept → All (λ s. HasLooks ops s.name s.looks) shown
-  has_kept_looks [] kept same all = All-nil (λ (s : Char). HasLooks ops s.name s.looks)
-  has_kept_looks (s ∷ shown) [] same all = absurd cc
-  has_kept_looks (s ∷ shown) (k ∷ kept) same all =
+  -- and those that have the atoms' looks have looks
+  has_atom_looks : (shown : List Char) (atoms : List Atom)
+      → without_bytes shown ≡ map (λ k. record { name = k.name; looks = atom_looks k }) atoms
+      → All (TellRegisters ops) atoms → All (λ s. HasLooks ops s.name s.looks) shown
+  has_atom_looks [] atoms same all = All-nil (λ (s : Char). HasLooks ops s.name s.looks)
+  has_atom_looks (s ∷ shown) [] same all = absurd cc
+  has_atom_looks (s ∷ shown) (k ∷ atoms) same all =
       let made : CharName → Looks → Named = λ c l. record { name = c; looks = l } in
-      let first : made s.name s.looks ≡ made k.name (kept_looks k) = cc in
+      let first : made s.name s.looks ≡ made k.name (atom_looks k) = cc in
       let name : s.name ≡ k.name = ap (λ (n : Named). n.name) first in
-      let looks : s.looks ≡ kept_looks k = ap (λ (n : Named). n.looks) first in
+      let looks : s.looks ≡ atom_looks k = ap (λ (n : Named). n.looks) first in
       let rest : without_bytes shown
-      ≡ map (λ (j : Kept). record { name = j.name; looks = kept_looks j }) kept =
+      ≡ map (λ (j : Atom). record { name = j.name; looks = atom_looks j }) atoms =
       cc in
       let has : HasLooks ops s.name s.looks =
       subst (λ (c : CharName). HasLooks ops c s.looks) (sym name)
       (subst (λ (l : Looks). HasLooks ops k.name l) (sym looks)
-      (All-head (TellRegisters ops) k kept all).looks) in
+      (All-head (TellRegisters ops) k atoms all).looks) in
       All-cons (λ (x : Char). HasLooks ops x.name x.looks) s shown has
-      (has_kept_looks shown kept rest (All-tail (TellRegisters ops) k kept all))
+      (has_atom_looks shown atoms rest (All-tail (TellRegisters ops) k atoms all))
 
   names_shown : (shown : List Char)
       → map (λ (n : Named). n.name) (without_bytes shown) ≡ map (λ s. s.name) shown
   names_shown [] = refl
   names_shown (s ∷ shown) = ap (λ (cs : List CharName). s.name ∷ cs) (names_shown shown)
 
-  names_kept : (kept : List Kept)
-      → map (λ (n : Named). n.name) (map (λ (k : Kept). record { name = k.name; looks = kept_looks k }) kept)
-      ≡ map (λ k. k.name) kept
-  names_kept [] = refl
-  names_kept (k ∷ kept) = ap (λ (cs : List CharName). k.name ∷ cs) (names_kept kept)
+  names_of_all : (atoms : List Atom)
+      → map (λ (n : Named). n.name) (map (λ (k : Atom). record { name = k.name; looks = atom_looks k }) atoms)
+      ≡ map (λ k. k.name) atoms
+  names_of_all [] = refl
+  names_of_all (k ∷ atoms) = ap (λ (cs : List CharName). k.name ∷ cs) (names_of_all atoms)
 
-  all_tell : (kept : List Kept) → All (HasRegisters ops) kept → All (TellRegisters ops) kept
-  all_tell kept all = λ i d lt. tell ops good _ (all i d lt)
+  all_tell : (atoms : List Atom) → All (HasRegisters ops) atoms → All (TellRegisters ops) atoms
+  all_tell atoms all = λ i d lt. tell ops good _ (all i d lt)
 
-  pub shows_kept : (kept : List Kept) → AreKept ops kept → ShowsKept ops kept
-  shows_kept kept are shown = (there, back)
+  pub shows_atoms : (atoms : List Atom) → AreAtoms ops atoms → ShowsAtoms ops atoms
+  shows_atoms atoms are shown = (there, back)
     where
-      all : All (TellRegisters ops) (filter (λ k. not k.hidden.value) kept)
-      all = All-filter (λ (k : Kept). not k.hidden.value) (TellRegisters ops) kept
-          (all_tell kept are.registers)
+      all : All (TellRegisters ops) (filter (λ k. not k.hidden.value) atoms)
+      all = All-filter (λ (k : Atom). not k.hidden.value) (TellRegisters ops) atoms
+          (all_tell atoms are.registers)
 
-      visible : filter (is_visible ops) (map (λ k. k.name) kept)
-          ≡ map (λ k. k.name) (filter (λ k. not k.hidden.value) kept)
-      visible = visible_names kept (all_tell kept are.registers)
+      visible : filter (is_visible ops) (map (λ k. k.name) atoms)
+          ≡ map (λ k. k.name) (filter (λ k. not k.hidden.value) atoms)
+      visible = visible_names atoms (all_tell atoms are.registers)
 
       there : IsShown ops shown
-          → (without_bytes shown ≡ shown_of_kept kept) × All (λ s. HasByte ops s.name s.byte) shown
+          → (without_bytes shown ≡ shown_of_atoms atoms) × All (λ s. HasByte ops s.name s.byte) shown
       there is =
-          let order = one_order ops good is.order (map (λ (k : Kept). k.name) kept) is.in_order are.order in
+          let order = one_order ops good is.order (map (λ (k : Atom). k.name) atoms) is.in_order are.order in
           let names = is.visible ∙ ap (filter (is_visible ops)) order ∙ visible in
-          (same_named shown (filter (λ k. not k.hidden.value) kept) names is.looks all, is.bytes)
+          (same_named shown (filter (λ k. not k.hidden.value) atoms) names is.looks all, is.bytes)
 
-      back : (without_bytes shown ≡ shown_of_kept kept) × All (λ s. HasByte ops s.name s.byte) shown
+      back : (without_bytes shown ≡ shown_of_atoms atoms) × All (λ s. HasByte ops s.name s.byte) shown
           → IsShown ops shown
       back (same, bytes) = record {
-        order = map (λ k. k.name) kept;
+        order = map (λ k. k.name) atoms;
         in_order = are.order;
         visible = sym (names_shown shown) ∙ ap (map (λ (n : Named). n.name)) same
-            ∙ names_kept (filter (λ k. not k.hidden.value) kept) ∙ sym visible;
+            ∙ names_of_all (filter (λ k. not k.hidden.value) atoms) ∙ sym visible;
         bytes = bytes;
-        looks = has_kept_looks shown (filter (λ k. not k.hidden.value) kept) same all;
+        looks = has_atom_looks shown (filter (λ k. not k.hidden.value) atoms) same all;
       }
 
-  -- two lists that are kept of the same names are one
-  one_list : (a b : List Kept) → map (λ k. k.name) a ≡ map (λ k. k.name) b → All (HasRegisters ops) a
+  -- two lists of atoms of the same names are one
+  one_list : (a b : List Atom) → map (λ k. k.name) a ≡ map (λ k. k.name) b → All (HasRegisters ops) a
       → All (HasRegisters ops) b → a ≡ b
   one_list [] [] names p q = refl
   one_list [] (k ∷ b) names p q = absurd cc
   one_list (j ∷ a) [] names p q = absurd cc
   one_list (j ∷ a) (k ∷ b) names p q =
       let name : j.name ≡ k.name = cc in
-      let rest : map (λ (x : Kept). x.name) a ≡ map (λ (x : Kept). x.name) b = cc in
-      ap (λ (x : Kept). x ∷ a) (one_kept ops good j k name (All-head (HasRegisters ops) j a p)
+      let rest : map (λ (x : Atom). x.name) a ≡ map (λ (x : Atom). x.name) b = cc in
+      ap (λ (x : Atom). x ∷ a) (one_atoms ops good j k name (All-head (HasRegisters ops) j a p)
       (All-head (HasRegisters ops) k b q))
-      ∙ ap (λ (xs : List Kept). k ∷ xs) (one_list a b rest (All-tail (HasRegisters ops) j a p)
+      ∙ ap (λ (xs : List Atom). k ∷ xs) (one_list a b rest (All-tail (HasRegisters ops) j a p)
       (All-tail (HasRegisters ops) k b q))
 
-  pub has_one_kept : HasOneKept ops
-  has_one_kept =
+  pub has_one_atoms : HasOneAtoms ops
+  has_one_atoms =
       let one = has_order ops good in
-      let (kept, names, registers) = kept_of ops one.order (λ k d lt.
+      let (atoms, names, registers) = atoms_of ops one.order (λ k d lt.
       (one.is.each _).0 (Contains-get_or one.order k d lt)) in
-      let is : AreKept ops kept = record {
+      let is : AreAtoms ops atoms = record {
         order = subst (IsOrder ops) (sym names) one.is;
         registers = registers;
       } in
       record {
-        kept = kept;
+        atoms = atoms;
         is = is;
-        only = λ other are. one_list other kept (one_order ops good _ _ are.order is.order) are.registers
+        only = λ other are. one_list other atoms (one_order ops good _ _ are.order is.order) are.registers
             registers;
       }
 
@@ -219,21 +219,21 @@ module _ (ops : List Operation) (op : Operation) (good : Good (ops ++ op ∷ [])
       (λ i j d less lt. before ops (ops ++ op ∷ []) within _ _
       (sorted_from_IsOrder ops order is i j d less lt))
 
-  pub shows_by_offers : (k : Kept) → HasRegisters ops k → ShowsByOffers ops op k
+  pub shows_by_offers : (k : Atom) → HasRegisters ops k → ShowsByOffers ops op k
   shows_by_offers k has =
-      let told = tell (ops ++ op ∷ []) good (kept_after op k) (registers_after ops op k has (none k.name)) in
-      let name = kept_by-name op.kind (key_of op) k in
+      let told = tell (ops ++ op ∷ []) good (atom_after op k) (registers_after ops op k has (none k.name)) in
+      let name = atom_by-name op.kind (key_of op) k in
       record {
         visible = ap (is_visible (ops ++ op ∷ [])) (sym name) ∙ told.visible;
-        looks = subst (λ (c : CharName). HasLooks (ops ++ op ∷ []) c (kept_looks (kept_after op k))) name
+        looks = subst (λ (c : CharName). HasLooks (ops ++ op ∷ []) c (atom_looks (atom_after op k))) name
             told.looks;
       }
 
-  pub kept_list : KeptAfter ops op
-  kept_list kept are = record {
-    order = subst (IsOrder (ops ++ op ∷ [])) (kept_after-names op kept)
-        (keeps_the_order (map (λ (k : Kept). k.name) kept) are.order);
-    registers = All-map (HasRegisters (ops ++ op ∷ [])) (kept_after op) kept
+  pub atom_list : AtomsAfter ops op
+  atom_list atoms are = record {
+    order = subst (IsOrder (ops ++ op ∷ [])) (atom_after-names op atoms)
+        (keeps_the_order (map (λ (k : Atom). k.name) atoms) are.order);
+    registers = All-map (HasRegisters (ops ++ op ∷ [])) (atom_after op) atoms
         (λ k d lt. registers_after ops op _ (are.registers k d lt) (none _));
   }
 

@@ -10,15 +10,15 @@ use Rattle.looks.specs.declared.key.Key.{Key}
 use Rattle.looks.specs.declared.register.Register.{Register}
 use Rattle.char_files.specs.CharName.{CharName}
 use Rattle.operations.specs.NameSet.{IsAmong}
-use Rattle.operations.specs.Operation.{Operation, OpKind, insert, delete, restore, change_looks, Inserts}
+use Rattle.operations.specs.Operation.{Operation, OpKind, insert, delete, restore, change_looks, Inserts, key_of}
 use Rattle.operations.specs.Operation.{InsertsBy, MentionsBy}
-use Rattle.tree_order.specs.Good.{Good, key_of}
+use Rattle.tree_order.specs.Good.{Good}
 use Rattle.tree_order.specs.Last.{IsLast}
 use Rattle.tree_order.specs.Tree.{IsChar, IsInsertOf}
 use Rattle.tree_order.specs.Looks.{looks_by, ChangesBy, Sets, HasLooks}
 use Rattle.tree_order.specs.Shown.{is_visible, SwitchesBy, is_delete}
-use Rattle.tree_order.specs.Registers.{SetsHidden, IsRegister, Kept, HasRegisters}
-use Rattle.tree_order.specs.RegisterLaws.{TellRegisters, first_kept}
+use Rattle.tree_order.specs.Registers.{SetsHidden, IsRegister, Atom, HasRegisters}
+use Rattle.tree_order.specs.RegisterLaws.{TellRegisters, first_atom}
 use Rattle.tree_order.proofs.LastLemmas.{irreflexive}
 use Rattle.tree_order.proofs.OneText.{one_last}
 use Rattle.tree_order.proofs.ShownLemmas.{among_is}
@@ -68,7 +68,7 @@ below_from_stamp : (a b : Operation) → a.stamp < b.stamp → is_below (key_of 
 below_from_stamp a b lt = grind (arith, nat_tests)
 
 -- the registers of a good set tell what is shown
-pub tell : (ops : List Operation) → Good ops → (k : Kept) → HasRegisters ops k → TellRegisters ops k
+pub tell : (ops : List Operation) → Good ops → (k : Atom) → HasRegisters ops k → TellRegisters ops k
 tell ops good k has = record { visible = visible; looks = looks }
   where
     looks : HasLooks ops k.name (record {
@@ -116,7 +116,7 @@ register_of Sets gives ops (last, is) = (
 
 -- a character has registers
 pub has_registers : (ops : List Operation) (c : CharName) → IsChar ops c
-    → (k : Kept) × (k.name ≡ c) × HasRegisters ops k
+    → (k : Atom) × (k.name ≡ c) × HasRegisters ops k
 has_registers ops c (i, is) =
     let (font, f) = register_of (λ o. Sets o (λ s. s.font) c) (λ kind. (looks_by kind).font) ops
     (has_last ops (λ s. s.font) c (i, is)) in
@@ -145,11 +145,11 @@ module _ (ops : List Operation) (good : Good ops) where
       same_register r s (p.key ∙ ap key_of one ∙ sym q.key)
       (p.value ∙ ap (λ (o : Operation). gives o.kind) one ∙ sym q.value)
 
-  -- two that are kept of one name are one
-  same_kept : (j k : Kept) → j.name ≡ k.name → j.key ≡ k.key → j.font ≡ k.font → j.colour ≡ k.colour
+  -- two atoms of one name are one
+  same_atom : (j k : Atom) → j.name ≡ k.name → j.key ≡ k.key → j.font ≡ k.font → j.colour ≡ k.colour
       → j.offset ≡ k.offset → j.hidden ≡ k.hidden → j ≡ k
-  same_kept j k name key font colour offset hidden =
-      let made : CharName → Key → Register (List ℕ) → Register ℕ → Register ℤ → Register Bool → Kept =
+  same_atom j k name key font colour offset hidden =
+      let made : CharName → Key → Register (List ℕ) → Register ℕ → Register ℤ → Register Bool → Atom =
       λ n e f c o h. record { name = n; key = e; font = f; colour = c; offset = o; hidden = h } in
       ap (λ (n : CharName). made n j.key j.font j.colour j.offset j.hidden) name
       ∙ ap (λ (e : Key). made k.name e j.font j.colour j.offset j.hidden) key
@@ -158,12 +158,12 @@ module _ (ops : List Operation) (good : Good ops) where
       ∙ ap (λ (o : Register ℤ). made k.name k.key k.font k.colour o j.hidden) offset
       ∙ ap (λ (h : Register Bool). made k.name k.key k.font k.colour k.offset h) hidden
 
-  pub one_kept : (j k : Kept) → j.name ≡ k.name → HasRegisters ops j → HasRegisters ops k → j ≡ k
-  one_kept j k name p q =
+  pub one_atoms : (j k : Atom) → j.name ≡ k.name → HasRegisters ops j → HasRegisters ops k → j ≡ k
+  one_atoms j k name p q =
       let insert_is : p.key.0 ≡ q.key.0 =
       one_insert ops good k.name p.key.0 q.key.0 (subst (λ (c : CharName). IsInsertOf ops c p.key.0) name
       p.key.1) q.key.1 in
-      same_kept j k name (p.key.2 ∙ ap key_of insert_is ∙ sym q.key.2)
+      same_atom j k name (p.key.2 ∙ ap key_of insert_is ∙ sym q.key.2)
       (one_register _ _ j.font k.font (subst (λ (c : CharName). IsRegister (λ o. Sets o (λ s. s.font) c)
       (λ kind. (looks_by kind).font) ops j.font) name p.font) q.font)
       (one_register _ _ j.colour k.colour (subst (λ (c : CharName). IsRegister (λ o. Sets o (λ s. s.colour) c)
@@ -185,7 +185,7 @@ module _ (ops : List Operation) (good : Good ops) where
 
   -- the registers of a character that the operation inserts
   pub first_registers : (op : Operation) (c : CharName) → Inserts op c → ¬ IsChar ops c
-      → HasRegisters (ops ++ op ∷ []) (first_kept op c)
+      → HasRegisters (ops ++ op ∷ []) (first_atom op c)
   first_registers op c inserts out = record {
     key = (op, record { held = Contains-push ops op; inserts = inserts }, refl);
     font = looks_register (λ s. s.font) (λ kind. (looks_by kind).font);

@@ -10,10 +10,10 @@ use Rattle.operations.specs.NameSet.{Range, IsIn, names_of}
 use Rattle.operations.specs.Operation.{Operation, OpKind, insert, Inserts, InsertsBy}
 use Rattle.tree_order.specs.Insertion.{run_by, run_of, HasCauseBy, IsInsertAt}
 use Rattle.tree_order.specs.Tree.{Leads, parent_by}
-use Rattle.tree_order.proofs.Files.{same_name}
+use Rattle.operations.proofs.WithName.{same_name}
 
 -- the names of a range are those that are in it
-in_names : (r : Range) (c : CharName) → Contains (names_of r) c → IsIn r c
+pub in_names : (r : Range) (c : CharName) → Contains (names_of r) c → IsIn r c
 in_names r c (k, lt, e) =
     let name : ℕ → CharName = λ (off : ℕ). record { site = r.site; off = off } in
     let few : k < r.len = omega (arith, length-map-range_with_len name r.at r.len) in
@@ -23,7 +23,7 @@ in_names r c (k, lt, e) =
     let off : r.at + k ≡ c.off = ap (λ (x : CharName). x.off) is in
     (sym site, omega arith, omega arith)
 
-names_have : (r : Range) (c : CharName) → IsIn r c → Contains (names_of r) c
+pub names_have : (r : Range) (c : CharName) → IsIn r c → Contains (names_of r) c
 names_have r c (site, from, to) =
     let name : ℕ → CharName = λ (off : ℕ). record { site = r.site; off = off } in
     let few : c.off - r.at < r.len = omega arith in

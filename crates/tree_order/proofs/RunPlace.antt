@@ -6,8 +6,7 @@ use Rattle.looks.specs.Key.{is_below}
 use Rattle.char_files.specs.CharName.{CharName}
 use Rattle.char_files.specs.declared.name.Anchor.{Anchor}
 use Rattle.char_files.specs.declared.name.Anchor.TheVariants.{Root, At}
-use Rattle.operations.specs.Operation.{Operation, Inserts}
-use Rattle.tree_order.specs.Good.{key_of}
+use Rattle.operations.specs.Operation.{Operation, Inserts, key_of}
 use Rattle.tree_order.specs.Insertion.{IsOneMore}
 use Rattle.tree_order.specs.Tree.{IsChar, IsInsertOf, IsParent, IsPath, Leads}
 use Rattle.tree_order.specs.Order.{Before, TurnsAhead}

@@ -8,8 +8,8 @@ use Rattle.tree_order.specs.Good.{Good}
 use Rattle.tree_order.specs.Tree.{IsParent, IsPath, IsDescendant, parent_by}
 use Rattle.tree_order.specs.Order.{Before}
 use Rattle.tree_order.specs.Laws.{RunsStayTogether}
+use Rattle.operations.proofs.WithName.{same_name}
 use Rattle.tree_order.proofs.Before.{trail_from_Before}
-use Rattle.tree_order.proofs.Files.{same_name}
 use Rattle.tree_order.proofs.Paths.{Leads-append}
 use Rattle.tree_order.proofs.Trails.{Trail, Trail-from_prefix, Trail-irreflexive, Trail-transitive}
 use Rattle.tree_order.proofs.Trails.{cases_longer}

@@ -14,8 +14,8 @@ use Rattle.char_files.specs.CharName.{CharName}
 use Rattle.char_files.specs.declared.character.Char.{Char}
 use Rattle.char_files.specs.declared.name.Anchor.{Anchor}
 use Rattle.char_files.specs.declared.name.Anchor.TheVariants.{At}
-use Rattle.operations.specs.Operation.{Operation, appended_len}
-use Rattle.tree_order.specs.Good.{Good, Begins, key_of, appended_len_at, file_before}
+use Rattle.operations.specs.Operation.{Operation, appended_len, Begins, key_of}
+use Rattle.tree_order.specs.Good.{Good, appended_len_at, file_before}
 use Rattle.tree_order.specs.Tree.{IsChar, IsInsertOf, IsParent, IsProperPrefix, Leads, HasByte}
 use Rattle.tree_order.specs.Order.{Before, HasGreaterKey, TurnsAhead, IsOrder}
 use Rattle.tree_order.specs.Looks.{IsLastToSet, HasLooks}

@@ -13,8 +13,8 @@ use Rattle.looks.specs.declared.looks.Looks.{Looks}
 use Rattle.char_files.specs.CharName.{CharName}
 use Rattle.char_files.specs.declared.character.Char.{Char}
 use Rattle.operations.specs.NameSet.{IsAmong}
-use Rattle.operations.specs.Operation.{Operation, OpKind, insert, delete, restore, change_looks, InsertsBy}
-use Rattle.tree_order.specs.Good.{Good, key_of}
+use Rattle.operations.specs.Operation.{Operation, OpKind, insert, delete, restore, change_looks, InsertsBy, key_of}
+use Rattle.tree_order.specs.Good.{Good}
 use Rattle.tree_order.specs.Tree.{IsChar, HasByte, byte_by}
 use Rattle.tree_order.specs.Last.{IsLast}
 use Rattle.tree_order.specs.Looks.{HasLooks, IsLastToSet, Sets, ChangesBy, looks_by}

@@ -14,8 +14,8 @@ use Rattle.tree_order.specs.Good.{Good}
 use Rattle.tree_order.specs.Tree.{IsChar, IsPath}
 use Rattle.tree_order.specs.Order.{Before}
 use Rattle.tree_order.specs.SortedPaths.{names_of_paths, AreSortedPaths, Gains}
+use Rattle.operations.proofs.WithName.{same_name}
 use Rattle.tree_order.proofs.Before.{Before-total}
-use Rattle.tree_order.proofs.Files.{same_name}
 use Rattle.tree_order.proofs.LastLemmas.{take_one_more}
 use Rattle.tree_order.proofs.Sorted.{Contains-insert}
 

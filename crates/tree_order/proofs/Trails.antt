@@ -8,11 +8,11 @@ use Rattle.looks.specs.declared.key.Key.{Key}
 use Rattle.char_files.specs.CharName.{CharName}
 use Rattle.char_files.specs.declared.name.Anchor.{Anchor}
 use Rattle.char_files.specs.declared.name.Anchor.TheVariants.{At}
-use Rattle.operations.specs.Operation.{Operation}
-use Rattle.tree_order.specs.Good.{Good, key_of}
+use Rattle.operations.specs.Operation.{Operation, key_of}
+use Rattle.tree_order.specs.Good.{Good}
 use Rattle.tree_order.specs.Tree.{IsProperPrefix, Leads}
 use Rattle.tree_order.specs.Order.{HasGreaterKey, TurnsAhead}
-use Rattle.tree_order.proofs.Files.{same_name}
+use Rattle.operations.proofs.WithName.{same_name}
 use Rattle.tree_order.proofs.Tree.{one_insert, siblings_differ}
 
 -- names are equal or not

@@ -10,12 +10,13 @@ use Rattle.looks.specs.declared.key.Key.{Key}
 use Rattle.char_files.specs.CharName.{CharName}
 use Rattle.char_files.specs.declared.name.Anchor.{Anchor}
 use Rattle.char_files.specs.declared.name.Anchor.TheVariants.{Root, At}
-use Rattle.operations.specs.Operation.{Operation}
-use Rattle.tree_order.specs.Good.{Good, key_of, file_before}
+use Rattle.operations.specs.Operation.{Operation, key_of}
+use Rattle.tree_order.specs.Good.{Good, file_before}
 use Rattle.tree_order.specs.Tree.{IsChar, IsInsertOf, IsParent, IsPath, Leads, parent_by}
 use Rattle.tree_order.specs.Order.{HasGreaterKey}
 use Rattle.tree_order.specs.Laws.{KeysDiffer}
-use Rattle.tree_order.proofs.Files.{same_name, IsInStretch, in_stretch, before, IsFirst, IsNext, hangs}
+use Rattle.operations.proofs.WithName.{same_name}
+use Rattle.tree_order.proofs.Files.{IsInStretch, in_stretch, before, IsFirst, IsNext, hangs}
 use Rattle.tree_order.proofs.Files.{file_before_grows}
 use Rattle.tree_order.proofs.Paths.{Leads-append, Leads-end, LastStep, last_step}
 

@@ -10,10 +10,10 @@ use Rattle.looks.specs.Key.{is_below}
 use Rattle.char_files.specs.CharName.{CharName}
 use Rattle.char_files.specs.declared.name.Anchor.{Anchor}
 use Rattle.char_files.specs.declared.name.Anchor.TheVariants.{At}
-use Rattle.operations.specs.Operation.{Operation, OpKind, insert, delete, restore, change_looks, Inserts}
+use Rattle.operations.specs.Operation.{Operation, OpKind, insert, delete, restore, change_looks, Inserts, key_of}
 use Rattle.operations.specs.Operation.{InsertsBy}
 use Rattle.operations.specs.Spelling.{HasSpelling, IsKind}
-use Rattle.tree_order.specs.Good.{Good, key_of}
+use Rattle.tree_order.specs.Good.{Good}
 use Rattle.tree_order.specs.Tree.{IsChar, IsInsertOf, IsPath, IsProperPrefix, Leads, parent_by}
 use Rattle.tree_order.specs.Order.{HasGreaterKey, TurnsAhead, Before}
 use Rattle.tree_order.proofs.Before.{trail_from_Before}

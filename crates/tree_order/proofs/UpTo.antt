@@ -13,7 +13,7 @@ use Rattle.tree_order.specs.Sequential.{up_to_anchor}
 use Rattle.tree_order.specs.Shown.{is_visible, place, up_to}
 use Rattle.tree_order.specs.Tree.{IsChar}
 use Rattle.tree_order.specs.Order.{IsOrder}
-use Rattle.tree_order.proofs.Files.{same_name}
+use Rattle.operations.proofs.WithName.{same_name}
 use Rattle.tree_order.proofs.OneMore.{held}
 use Rattle.tree_order.proofs.Sorted.{Contains-cons_cases}
 use Rattle.tree_order.proofs.Turns.{names_differ}

@@ -8,8 +8,9 @@ use Rattle.std.proofs.lemmas.List.Folds.{Any-from_list_any, list_any_at}
 use Rattle.looks.specs.Key.{is_below}
 use Rattle.char_files.specs.CharName.{CharName}
 use Rattle.operations.specs.NameSet.{Range}
-use Rattle.operations.specs.Operation.{Operation, OpKind, insert, delete, restore, change_looks}
-use Rattle.tree_order.specs.Good.{Good, key_of}
+use Rattle.operations.specs.Operation.{Operation, OpKind, insert, delete, restore, change_looks, key_of}
+use Rattle.tree_order.specs.Good.{Good}
+use Rattle.tree_order.specs.Laws.{TheLastSwitchDecides}
 use Rattle.tree_order.specs.Shown.{deletes_by, restores_by, hides, is_visible, SwitchesBy}
 use Rattle.tree_order.specs.Shown.{IsLastToSwitch, is_delete}
 use Rattle.tree_order.proofs.ShownLemmas.{among_is}
@@ -91,3 +92,7 @@ module _ (ops : List Operation) (good : Good ops) (c : CharName) (last : Operati
           ap not (passes (hides ops c) ops last is.held (and_from _ _ deletes (ap not none_over)))
       go (restore names) e = ap not (none_passes (hides ops c) ops (none_hides names e))
       go (change_looks sel looks names) e = absurd (subst (λ (k : OpKind). SwitchesBy k c) e is.sets)
+
+-- both, of each character of a good set
+pub last_switch_decides : (ops : List Operation) → Good ops → (c : CharName) → TheLastSwitchDecides ops c
+last_switch_decides ops good c = record { none = untouched ops c; last = decided ops good c }

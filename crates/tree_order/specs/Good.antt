@@ -1,14 +1,8 @@
 -- The operations that a replica has taken in: which sets of them are good. They are lists here, read as sets.
 use Rattle.std.specs.Prelude.{◌≡◌, ℕ, zero, suc, ◌+◌, ◌<◌, ◌⊎◌, List, [], ◌∷◌, ◌==◌, ◌&&◌, if◌then◌else◌}
 use Rattle.std.specs.Prelude.{Contains}
-use Rattle.looks.specs.declared.key.Key.{Key}
 use Rattle.char_files.specs.CharName.{CharName}
-use Rattle.operations.specs.Operation.{Operation, OpKind, insert, delete, restore, change_looks, appended_len}
-use Rattle.operations.specs.Operation.{Inserts, Mentions}
-
--- the key of an operation
-abbrev pub key_of : Operation → Key
-key_of op = record { stamp = op.stamp; site = op.site }
+use Rattle.operations.specs.Operation.{Operation, Begins, Inserts, Mentions, appended_len}
 
 -- how many bytes the site's operation of this seq appends to its file, 0 where there is none
 abbrev pub appended_len_at : List Operation → ℕ → ℕ → ℕ
@@ -28,13 +22,6 @@ IsPredecessor p op = (p.site ≡ op.site) × (p.seq + 1 ≡ op.seq)
 -- p is a cause of op: its predecessor, or the Insert of a name that it mentions
 abbrev pub IsCauseOf : Operation → Operation → Type 0
 IsCauseOf p op = IsPredecessor p op ⊎ ((name : CharName) × Mentions op name × Inserts p name)
-
--- an Insert says this length of its site's file
-abbrev pub Begins : OpKind → ℕ → Type 0
-Begins (insert cause at looks bytes) len = at ≡ len
-Begins (delete names) len = Unit {0}
-Begins (restore names) len = Unit {0}
-Begins (change_looks sel looks names) len = Unit {0}
 
 -- what a replica can have taken in
 pub record Good (ops : List Operation) : Type 0 where

@@ -1,8 +1,8 @@
 -- What makes a set of operations good, of one operation each.
 use Rattle.std.specs.Prelude.{◌≡◌, ℕ, ◌<◌, List, map, All, Any}
 use Rattle.char_files.specs.CharName.{CharName}
-use Rattle.operations.specs.Operation.{Operation, Mentions}
-use Rattle.tree_order.specs.Good.{IsPredecessor, IsCauseOf, Begins, file_before}
+use Rattle.operations.specs.Operation.{Operation, Mentions, Begins}
+use Rattle.tree_order.specs.Good.{IsPredecessor, IsCauseOf, file_before}
 use Rattle.tree_order.specs.Tree.{IsChar}
 
 -- if a and b have one identity, they are one operation
@@ -14,8 +14,8 @@ abbrev pub AgreesWithAll : List Operation → Operation → Type 0
 AgreesWithAll ops a = All (Agree a) ops
 
 -- the predecessor is held, unless the operation is its site's first
-abbrev pub FollowsOn : List Operation → Operation → Type 0
-FollowsOn ops op = 1 < op.seq → Any (λ p. IsPredecessor p op) ops
+abbrev pub HasPredecessor : List Operation → Operation → Type 0
+HasPredecessor ops op = 1 < op.seq → Any (λ p. IsPredecessor p op) ops
 
 -- the names that are mentioned are characters
 abbrev pub MentionsCharacters : List Operation → Operation → Type 0
@@ -38,8 +38,8 @@ abbrev pub IsAbove : Operation → Operation → Type 0
 IsAbove op p = IsCauseOf p op → p.stamp < op.stamp
 
 -- the stamp is greater than those of the causes
-abbrev pub IsAboveCauses : List Operation → Operation → Type 0
-IsAboveCauses ops op = All (IsAbove op) ops
+abbrev pub IsAboveEachCause : List Operation → Operation → Type 0
+IsAboveEachCause ops op = All (IsAbove op) ops
 
 -- for each operation how long its site's file is before it
 abbrev pub file_starts : List Operation → List ℕ

@@ -7,8 +7,8 @@ use Rattle.char_files.specs.CharName.{CharName}
 use Rattle.char_files.specs.declared.name.Anchor.{Anchor}
 use Rattle.char_files.specs.declared.name.Anchor.TheVariants.{Root, At}
 use Rattle.operations.specs.NameSet.{names_of}
-use Rattle.operations.specs.Operation.{Operation, OpKind, insert}
-use Rattle.tree_order.specs.Good.{Good, key_of}
+use Rattle.operations.specs.Operation.{Operation, OpKind, insert, key_of}
+use Rattle.tree_order.specs.Good.{Good}
 use Rattle.tree_order.specs.Tree.{IsInsertOf}
 use Rattle.tree_order.specs.Order.{IsOrder}
 
@@ -59,9 +59,9 @@ EndsAt ahead Root = ahead ≡ []
 EndsAt ahead (At c) = (front : List CharName) × (ahead ≡ front ++ c ∷ [])
 
 -- n is the index behind the anchor in the list; that behind the root is 0
-abbrev pub IsBehind : List CharName → Anchor → ℕ → Type 0
-IsBehind names Root n = n ≡ 0
-IsBehind names (At c) n = (k : ℕ) × (slice_get names k ≡ Some c) × (n ≡ k + 1)
+abbrev pub IsJustBehind : List CharName → Anchor → ℕ → Type 0
+IsJustBehind names Root n = n ≡ 0
+IsJustBehind names (At c) n = (k : ℕ) × (slice_get names k ≡ Some c) × (n ≡ k + 1)
 
 -- The gap for i's run, where ahead, skipped and behind make up the order: skipped is the longest stretch of
 -- characters of greater key that follows the cause.

@@ -4,8 +4,8 @@ use Rattle.looks.specs.declared.looks.Looks.{Looks}
 use Rattle.char_files.specs.CharName.{CharName}
 use Rattle.char_files.specs.declared.character.Char.{Char}
 use Rattle.char_files.specs.declared.name.Anchor.{Anchor}
-use Rattle.operations.specs.Operation.{Operation}
-use Rattle.tree_order.specs.Good.{Good, key_of}
+use Rattle.operations.specs.Operation.{Operation, key_of}
+use Rattle.tree_order.specs.Good.{Good}
 use Rattle.tree_order.specs.Tree.{IsChar, IsInsertOf, IsDescendant, HasByte}
 use Rattle.tree_order.specs.Looks.{HasLooks}
 use Rattle.tree_order.specs.Order.{Before, IsAheadIn, IsOrder}

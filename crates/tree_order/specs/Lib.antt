@@ -2,7 +2,7 @@ pub mod Attribute
 pub mod Good
 pub mod GoodEach
 pub mod Insertion
-pub mod KeptInsertion
+pub mod AtomInsertion
 pub mod Last
 pub mod Laws
 pub mod Looks

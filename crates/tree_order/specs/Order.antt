@@ -3,8 +3,7 @@ use Rattle.std.specs.Prelude.{◌≡◌, ◌≢◌, ℕ, ◌<◌, ◌⊎◌, ◌
 use Rattle.std.specs.Prelude.{slice_get}
 use Rattle.looks.specs.Key.{is_below}
 use Rattle.char_files.specs.CharName.{CharName}
-use Rattle.operations.specs.Operation.{Operation}
-use Rattle.tree_order.specs.Good.{key_of}
+use Rattle.operations.specs.Operation.{Operation, key_of}
 use Rattle.tree_order.specs.Tree.{IsChar, IsInsertOf, IsPath, IsProperPrefix}
 
 -- the key of c is greater than that of d; a character's key is its Insert's

@@ -11,7 +11,7 @@ use Rattle.tree_order.specs.Tree.{byte_by}
 use Rattle.tree_order.specs.Order.{IsOrder}
 use Rattle.tree_order.specs.Looks.{looks_by}
 use Rattle.tree_order.specs.Shown.{IsShown, IsPlace, is_visible, up_to}
-use Rattle.tree_order.specs.Insertion.{IsBehind, IsOneMore, IsInsertAt, IsGap, EndsAt, run_of}
+use Rattle.tree_order.specs.Insertion.{IsJustBehind, IsOneMore, IsInsertAt, IsGap, EndsAt, run_of}
 
 -- a character of an Insert, with its byte and the looks of the Insert
 abbrev pub char_by : OpKind → CharName → Char
@@ -58,14 +58,14 @@ LatestIsShownAtPlace =
 abbrev pub PlaceIsBehind : Type 0
 PlaceIsBehind =
     (ops : List Operation) (anchor : Anchor) (shown : List Char) (n : ℕ)
-    → Good ops → IsShown ops shown → IsBehind (map (λ s. s.name) shown) anchor n → IsPlace ops anchor n
+    → Good ops → IsShown ops shown → IsJustBehind (map (λ s. s.name) shown) anchor n → IsPlace ops anchor n
 
 -- the latest Insert, typed behind the first n characters shown, shows its run behind them, as in a plain list
 abbrev pub LatestIsPlainEdit : Type 0
 LatestIsPlainEdit =
     (ops : List Operation) (i : Operation) (cause : Anchor) (shown : List Char) (n : ℕ)
     → IsOneMore ops i → IsLatest ops i → IsInsertAt i cause
-    → IsShown ops shown → IsBehind (map (λ s. s.name) shown) cause n
+    → IsShown ops shown → IsJustBehind (map (λ s. s.name) shown) cause n
     → IsShown (ops ++ i ∷ []) (take n shown ++ chars_of_run i ++ drop n shown)
 
 -- the names up to the anchor, and with it; none for the root

@@ -8,8 +8,7 @@ use Rattle.char_files.specs.declared.character.Char.{Char}
 use Rattle.char_files.specs.declared.name.Anchor.{Anchor}
 use Rattle.char_files.specs.declared.name.Anchor.TheVariants.{Root, At}
 use Rattle.operations.specs.NameSet.{IsAmong, range_contains}
-use Rattle.operations.specs.Operation.{Operation, OpKind, insert, delete, restore, change_looks}
-use Rattle.tree_order.specs.Good.{key_of}
+use Rattle.operations.specs.Operation.{Operation, OpKind, insert, delete, restore, change_looks, key_of}
 use Rattle.tree_order.specs.Last.{IsLast}
 use Rattle.tree_order.specs.Tree.{HasByte}
 use Rattle.tree_order.specs.Order.{IsOrder}

@@ -1,6 +1,6 @@
 ghost use Rattle.std.specs.Prelude.{◌≡◌, ◌↔◌, true, IsTrue};
 ghost use Rattle.looks.specs.Key.{is_below};
-ghost use Rattle.tree_order.specs.Good.{key_of};
+ghost use Rattle.operations.specs.Operation.{key_of};
 ghost use Rattle.tree_order.specs.Tree.{IsChar};
 ghost use Rattle.tree_order.specs.Looks.{looks_by, ChangesBy, Sets, IsLastToSet, HasLooks};
 ghost use Rattle.tree_order.specs.Attribute.{selects};

@@ -1,11 +1,11 @@
 ghost use Rattle.std.specs.Prelude.{◌≡◌, ◌+◌, ◌<◌, ◌≤◌, ◌↔◌, All, Any, IfOk, IsTrue};
 ghost use Rattle.looks.specs.Refusal.{RefusedForMemoryAlone};
-ghost use Rattle.operations.specs.Operation.{appended_len};
+ghost use Rattle.operations.specs.Operation.{appended_len, Begins};
 ghost use Rattle.operations.specs.declared.kind.TheConstants.{MAX_INSERT};
-ghost use Rattle.tree_order.specs.GoodEach.{Agree, AgreesWithAll, FollowsOn, MentionsCharacters};
-ghost use Rattle.tree_order.specs.GoodEach.{BeginsAtEnd, OwnNamesBelow, OwnNamesAreEarlier, IsAboveCauses};
+ghost use Rattle.tree_order.specs.GoodEach.{Agree, AgreesWithAll, HasPredecessor, MentionsCharacters};
+ghost use Rattle.tree_order.specs.GoodEach.{BeginsAtEnd, OwnNamesBelow, OwnNamesAreEarlier, IsAboveEachCause};
 ghost use Rattle.tree_order.specs.GoodEach.{file_starts};
-ghost use Rattle.tree_order.specs.Good.{Good, IsPredecessor, IsCauseOf, Begins, appended_len_at, file_before};
+ghost use Rattle.tree_order.specs.Good.{Good, IsPredecessor, IsCauseOf, appended_len_at, file_before};
 
 use crate::lookup::{has_char, inserts};
 use char_files::SiteNo;
@@ -51,7 +51,7 @@ fn has_predecessor(ops: &[Op], op: &Op) -> bool
 
 // Whether each operation is its site's first or has its predecessor.
 fn predecessors_are_held(ops: &[Op]) -> bool
-    ensures { IsTrue result ↔ All (FollowsOn ops.now) ops.now }
+    ensures { IsTrue result ↔ All (HasPredecessor ops.now) ops.now }
 {
     ops.iter()
         .all(|op| op.seq() <= 1 || has_predecessor(ops, op))
@@ -116,22 +116,14 @@ fn file_starts(alloc: Global, ops: &[Op]) -> Result<Vec<u64>, Refusal>
     Ok(starts.collect(alloc)?)
 }
 
-// Whether an Insert says this length of its site's file; the other kinds say none.
-fn begins(op: &Op, len: u64) -> bool
-    ensures { IsTrue result ↔ Begins op.now.kind len }
-{
-    match op.kind() {
-        Kind::Insert { at, .. } => u64::from(*at) == len,
-        Kind::Delete { .. } | Kind::Restore { .. } | Kind::ChangeLooks { .. } => true,
-    }
-}
-
 // Whether each Insert begins where its site's file ended before it.
 fn inserts_begin(ops: &[Op], starts: &[u64]) -> bool
     requires { starts.now ≡ file_starts ops.now }
     ensures { IsTrue result ↔ All (BeginsAtEnd ops.now) ops.now }
 {
-    ops.iter().zip(starts).all(|(op, start)| begins(op, *start))
+    ops.iter()
+        .zip(starts)
+        .all(|(op, start)| op.begins_at(*start))
 }
 
 // Whether the names of its own site that the operation mentions stand below this end of its file.
@@ -160,7 +152,7 @@ fn is_cause_of(p: &Op, op: &Op) -> bool
 
 // Whether the operation's stamp is greater than those of its causes.
 fn is_above_causes(ops: &[Op], op: &Op) -> bool
-    ensures { IsTrue result ↔ IsAboveCauses ops.now op.now }
+    ensures { IsTrue result ↔ IsAboveEachCause ops.now op.now }
 {
     ops.iter()
         .all(|p| p.stamp() < op.stamp() || !is_cause_of(p, op))
@@ -168,7 +160,7 @@ fn is_above_causes(ops: &[Op], op: &Op) -> bool
 
 // Whether each stamp is greater than those of the operation's causes.
 fn stamps_rise(ops: &[Op]) -> bool
-    ensures { IsTrue result ↔ All (IsAboveCauses ops.now) ops.now }
+    ensures { IsTrue result ↔ All (IsAboveEachCause ops.now) ops.now }
 {
     ops.iter().all(|op| is_above_causes(ops, op))
 }

@@ -1,11 +1,9 @@
-ghost use Rattle.std.specs.Prelude.{List, All};
+ghost use Rattle.std.specs.Prelude.{List};
 ghost use Rattle.char_files.specs.CharName.{CharName};
 ghost use Rattle.operations.specs.Operation.{Operation};
 ghost use Rattle.tree_order.specs.Good.{Good};
 ghost use Rattle.tree_order.specs.Laws.{KeysDiffer, IsStrictTotalOrder, HasOneOrder, RunsStayTogether};
 ghost use Rattle.tree_order.specs.Laws.{TheLastSwitchDecides, ShowsOneText, AreSameSet, SaysTheSame};
-ghost use Rattle.tree_order.specs.OneEach.{HasOneEach};
-ghost use Rattle.tree_order.specs.Tree.{IsChar};
 
 pub mod insertion;
 pub mod registers;
@@ -41,13 +39,6 @@ pub fn the_last_switch_decides()
 /// A law: a good set shows a text, and only one, in which each anchor has a place, and only one.
 pub fn there_is_one_text()
     ensures { (ops : List Operation) → Good ops → ShowsOneText ops }
-{}
-
-/// A law: in a good set the characters of any names, hidden ones too, have each a byte and looks, and only
-/// one of each.
-pub fn there_is_one_character_each()
-    ensures { (ops : List Operation) → Good ops → (names : List CharName) → All (IsChar ops) names
-        → HasOneEach ops names }
 {}
 
 /// A law: of a list of operations only the set counts, not their order, nor how often one stands in it.

@@ -1,11 +1,9 @@
 ghost use Rattle.std.specs.Prelude.{◌≡◌, ◌↔◌, IsTrue, IfSome, IfNone};
 ghost use Rattle.looks.specs.Key.{is_below};
-ghost use Rattle.operations.specs.Operation.{Inserts};
-ghost use Rattle.tree_order.specs.Good.{key_of};
+ghost use Rattle.operations.specs.Operation.{Inserts, key_of};
 ghost use Rattle.tree_order.specs.Tree.{IsChar, IsInsertOf, parent_by, byte_by};
 
 use char_files::{Anchor, Name};
-use looks::Key;
 use operations::{Kind, Op};
 
 // Whether the operation inserts the character.
@@ -64,19 +62,9 @@ pub(crate) fn byte_of(op: &Op, c: Name) -> u8
     }
 }
 
-// The key of the operation.
-fn key_of(op: &Op) -> Key
-    ensures { result ≡ key_of op.now }
-{
-    Key {
-        stamp: op.stamp(),
-        site: op.site().get(),
-    }
-}
-
 // Whether the key of the second operation is greater.
 pub(crate) fn is_key_below(op: &Op, other: &Op) -> bool
     ensures { result ≡ is_below (key_of op.now) (key_of other.now) }
 {
-    key_of(op) < key_of(other)
+    op.key() < other.key()
 }

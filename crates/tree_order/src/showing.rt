@@ -2,8 +2,8 @@ ghost use Rattle.std.specs.Prelude.{◌≡◌, ◌↔◌, true, Contains, IsTrue
 ghost use Rattle.looks.specs.Key.{is_below};
 ghost use Rattle.looks.specs.Refusal.{RefusedForMemoryAlone};
 ghost use Rattle.char_files.specs.declared.name.Anchor.TheVariants.{At};
-ghost use Rattle.operations.specs.Operation.{Operation};
-ghost use Rattle.tree_order.specs.Good.{Good, key_of};
+ghost use Rattle.operations.specs.Operation.{Operation, key_of};
+ghost use Rattle.tree_order.specs.Good.{Good};
 ghost use Rattle.tree_order.specs.Tree.{IsChar, HasByte};
 ghost use Rattle.tree_order.specs.Looks.{HasLooks};
 ghost use Rattle.tree_order.specs.Shown.{is_visible, SwitchesBy, IsLastToSwitch, is_delete, IsShown, IsPlace};

@@ -1,5 +1,4 @@
 pub mod Above
-pub mod Each
 pub mod Entries
 pub mod Past
 pub mod Some

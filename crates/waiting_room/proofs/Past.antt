@@ -10,7 +10,7 @@ use Rattle.char_files.specs.CharName.{CharName}
 use Rattle.operations.specs.Operation.{Operation}
 use Rattle.operations.specs.NameSet.{Range, IsRange, IsAmong}
 use Rattle.set_laws.specs.Fronts.{file_len}
-use Rattle.waiting_room.specs.Room.{HasNamePast, GoesPast, IsBehind}
+use Rattle.waiting_room.specs.Room.{HasNamePast, IsAhead, IsBehind}
 
 -- the test of the names asks whether one is past the end, where M are the names
 pub any_past : (names : List CharName) (M : CharName → Type 0) (site end : ℕ)
@@ -61,7 +61,7 @@ by_ranges names site end ranges = (
 
 -- a site is behind where one that waits goes past its file
 pub by_files : (ops room : List Operation) (site : ℕ)
-    → ((op : Operation) × Contains room op × GoesPast op site (file_len ops site)) ↔ IsBehind ops room site
+    → ((op : Operation) × Contains room op × IsAhead op site (file_len ops site)) ↔ IsBehind ops room site
 by_files ops room site = (
   λ h. let (op, held, past) = h in (
     op,

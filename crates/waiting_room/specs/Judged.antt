@@ -7,13 +7,13 @@ use Rattle.tree_order.specs.Tree.{IsInsertOf}
 use Rattle.set_laws.specs.Fronts.{IsHere}
 use Rattle.set_laws.specs.Verdict as defined
 use Rattle.waiting_room.specs.declared.judging.Verdict.{Verdict}
-use Rattle.waiting_room.specs.declared.judging.Verdict.TheVariants.{Wait, BadOffset, BadStamp, Ready}
+use Rattle.waiting_room.specs.declared.judging.Verdict.TheVariants.{Wait, Misfit, LowStamp, Ready}
 
 -- a verdict of the code, as the definition has it
 abbrev pub verdict_of : Verdict → defined.Verdict
 verdict_of Wait = defined.wait
-verdict_of BadOffset = defined.bad_offset
-verdict_of BadStamp = defined.bad_stamp
+verdict_of Misfit = defined.misfit
+verdict_of LowStamp = defined.low_stamp
 verdict_of Ready = defined.ready
 
 -- own names that are mentioned stand below this end of the site's file

@@ -66,16 +66,16 @@ abbrev pub mentions_past : Operation → (site end : ℕ) → Bool
 mentions_past op site end = list_any (λ name. name.site == site && nat_le end name.off) (mentioned_names op)
 
 -- whether the operation is one of the site itself, or mentions such a name
-abbrev pub goes_past : Operation → (site end : ℕ) → Bool
-goes_past op site end = op.site == site || mentions_past op site end
+abbrev pub is_ahead : Operation → (site end : ℕ) → Bool
+is_ahead op site end = op.site == site || mentions_past op site end
 
 -- the same, as a fact
-abbrev pub GoesPast : Operation → (site end : ℕ) → Type 0
-GoesPast op site end = (op.site ≡ site) ⊎ HasNamePast (Mentions op) site end
+abbrev pub IsAhead : Operation → (site end : ℕ) → Type 0
+IsAhead op site end = (op.site ≡ site) ⊎ HasNamePast (Mentions op) site end
 
 -- whether an operation of the site itself waits, or one that mentions a name of the site that isn't here
 abbrev pub is_behind : (ops room : List Operation) → ℕ → Bool
-is_behind ops room site = list_any (λ op. goes_past op site (file_len ops site)) room
+is_behind ops room site = list_any (λ op. is_ahead op site (file_len ops site)) room
 
 -- the same, as a fact
 abbrev pub IsBehind : (ops room : List Operation) → ℕ → Type 0

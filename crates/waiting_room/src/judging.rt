@@ -1,17 +1,15 @@
 ghost use Rattle.std.specs.Prelude.{◌≡◌, ℕ, ◌<◌, ◌↔◌, IsTrue};
 ghost use Rattle.char_files.specs.CharName.{CharName};
-ghost use Rattle.operations.specs.Operation.{Operation, Mentions};
-ghost use Rattle.tree_order.specs.Good.{Begins};
+ghost use Rattle.operations.specs.Operation.{Operation, Mentions, Begins};
 ghost use Rattle.set_laws.specs.Fronts.{IsHere};
-ghost use Rattle.set_laws.specs.Verdict.{IsNew, FollowsOn, IsPlaced, HasForeignNames, IsAboveCauses, HasVerdict};
+ghost use Rattle.set_laws.specs.Verdict.{IsNew, FollowsOn, FitsFile, HasForeignNames, IsAboveCauses, HasVerdict};
 ghost use Rattle.waiting_room.specs.Judged.{verdict_of, HasOwnNamesBelow, HasLowerInsert, IsAboveInserts};
 ghost use Rattle.waiting_room.specs.Judged.{IsAbovePredecessor};
 
 use crate::held::Held;
 use crate::mentions::mentions_past;
 use char_files::Name;
-use operations::{Kind, Op, named};
-use set_laws::growing::{counts_tell_what_is_here, one_stamp_a_name_is_enough};
+use operations::{Op, named};
 
 /// What becomes of an operation that is handed in. This project's own.
 #[derive(Clone, Copy, Debug, PartialEq, Eq)]
@@ -20,9 +18,9 @@ pub enum Verdict {
     Wait,
     /// It is refused: its offset isn't the end of its site's file, or it names an own character behind that
     /// end (refusal 4).
-    BadOffset,
+    Misfit,
     /// It is refused: its stamp isn't above each cause's (refusal 5).
-    BadStamp,
+    LowStamp,
     /// It may be taken in.
     Ready,
 }
@@ -33,18 +31,7 @@ fn follows_on<H: Held>(op: &Op, held: &H) -> bool
     ensures { IsTrue result ↔ FollowsOn (H.ops held.now) op.now }
 {
     held.are_good();
-    counts_tell_what_is_here();
     op.seq() - 1 <= held.front(op.site())
-}
-
-// Whether an Insert says this length of its site's file; the other kinds say none.
-fn begins(op: &Op, len: u32) -> bool
-    ensures { IsTrue result ↔ Begins op.now.kind len }
-{
-    match op.kind() {
-        Kind::Insert { at, .. } => *at == len,
-        Kind::Delete { .. } | Kind::Restore { .. } | Kind::ChangeLooks { .. } => true,
-    }
 }
 
 // Whether the names of its own site that the operation mentions stand below this end of its file.
@@ -55,11 +42,11 @@ fn has_own_names_below(op: &Op, len: u32) -> bool
 }
 
 // Whether what the operation says of its own site's file is so.
-fn is_placed<H: Held>(op: &Op, held: &H) -> bool
-    ensures { IsTrue result ↔ IsPlaced (H.ops held.now) op.now }
+fn fits_file<H: Held>(op: &Op, held: &H) -> bool
+    ensures { IsTrue result ↔ FitsFile (H.ops held.now) op.now }
 {
     let len = held.file_len(op.site());
-    begins(op, len) && has_own_names_below(op, len)
+    op.begins_at(u64::from(len)) && has_own_names_below(op, len)
 }
 
 // Whether the name's Insert is held.
@@ -108,8 +95,6 @@ fn is_above_causes<H: Held>(op: &Op, held: &H) -> bool
     ensures { IsTrue result ↔ IsAboveCauses (H.ops held.now) op.now }
 {
     held.are_good();
-    counts_tell_what_is_here();
-    one_stamp_a_name_is_enough();
     is_above_predecessor(op, held) && is_above_inserts(op, held)
 }
 
@@ -125,14 +110,14 @@ pub fn judge<H: Held>(op: &Op, held: &H) -> Verdict
     if !follows_on(op, held) {
         return Verdict::Wait;
     }
-    if !is_placed(op, held) {
-        return Verdict::BadOffset;
+    if !fits_file(op, held) {
+        return Verdict::Misfit;
     }
     if !has_foreign_names(op, held) {
         return Verdict::Wait;
     }
     if !is_above_causes(op, held) {
-        return Verdict::BadStamp;
+        return Verdict::LowStamp;
     }
     Verdict::Ready
 }

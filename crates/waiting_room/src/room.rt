@@ -1,8 +1,8 @@
 ghost use Rattle.std.specs.Prelude.{◌≡◌, ◌<◌, ◌≤◌, ◌↔◌, [], length, slice_get, All, Some, IfSome, IfNone, IsTrue};
 ghost use Rattle.set_laws.specs.Sets.{AreIdentified};
 ghost use Rattle.set_laws.specs.Verdict.{IsNew};
-ghost use Rattle.waiting_room.specs.Room.{GoesPast, IsBehind, IsFirstToLeave, IsWaitingAs, Offers};
-ghost use Rattle.waiting_room.specs.Room.{StaysWaiting, goes_past, is_behind, without};
+ghost use Rattle.waiting_room.specs.Room.{IsAhead, IsBehind, IsFirstToLeave, IsWaitingAs, Offers};
+ghost use Rattle.waiting_room.specs.Room.{StaysWaiting, is_ahead, is_behind, without};
 
 use crate::held::Held;
 use crate::judging::{Verdict, judge};
@@ -11,7 +11,6 @@ use char_files::SiteNo;
 use indexmap::IndexMap;
 use looks::Refusal;
 use operations::Op;
-use set_laws::unions::front_is_held;
 use std::alloc::Global;
 use std::marker::Model;
 
@@ -32,7 +31,6 @@ fn is_new<H: Held>(op: &Op, held: &H) -> bool
     ensures { IsTrue result ↔ IsNew (H.ops held.now) op.now }
 {
     held.are_good();
-    front_is_held();
     held.front(op.site()) < op.seq()
 }
 
@@ -44,9 +42,9 @@ fn stays_waiting<H: Held>(op: &Op, held: &H) -> bool
 }
 
 // Whether the operation is one of the site itself, or mentions a name of the site at or past this end of its file.
-fn goes_past(op: &Op, site: SiteNo, end: u32) -> bool
-    ensures value { result ≡ goes_past op.now site end }
-    ensures means { IsTrue result ↔ GoesPast op.now site end }
+fn is_ahead(op: &Op, site: SiteNo, end: u32) -> bool
+    ensures value { result ≡ is_ahead op.now site end }
+    ensures means { IsTrue result ↔ IsAhead op.now site end }
 {
     op.site() == site || mentions_past(op, site, end)
 }
@@ -189,6 +187,6 @@ impl Room {
         ensures means { IsTrue result ↔ IsBehind (H.ops held.now) self.now site }
     {
         let end = held.file_len(site);
-        self.ops.values().any(|op| goes_past(op, site, end))
+        self.ops.values().any(|op| is_ahead(op, site, end))
     }
 }

@@ -1,6 +1,4 @@
 //! Operations by their fields, and logs of them.
-ghost use Rattle.std.specs.Prelude.{◌↔◌, IsTrue};
-ghost use Rattle.tree_order.specs.Good.{Begins};
 
 use super::is;
 use char_files::{Anchor, Name, SiteNo, TextNo};
@@ -77,20 +75,10 @@ pub(super) fn is_told(op: &Op, alloc: Global, told: Told, what: &'static str) ->
     is(op.is_same(&want), what)
 }
 
-// Whether the operation begins where its site's file is so long.
-fn begins(op: &Op, len: u32) -> bool
-    ensures { IsTrue result ↔ Begins op.now.kind len }
-{
-    match op.kind() {
-        Kind::Insert { at, .. } => *at == len,
-        Kind::Delete { .. } | Kind::Restore { .. } | Kind::ChangeLooks { .. } => true,
-    }
-}
-
 // Takes the operation in, if it is its site's next.
 fn take(log: &mut Log, op: Op) -> Result<(), Fail> {
     let next = u64::from(log.front(op.site())) + 1;
-    let is_next = u64::from(op.seq()) == next && begins(&op, log.file_len(op.site()));
+    let is_next = u64::from(op.seq()) == next && op.begins_at(u64::from(log.file_len(op.site())));
     if is_next && log.reserve(op.site()).is_ok() {
         log.push(op);
         return Ok(());

@@ -29,12 +29,12 @@ const BEHIND_IT: &[Case] = &[
     (
         "of the same stamp as its cause",
         SAME_STAMP,
-        Verdict::BadStamp,
+        Verdict::LowStamp,
     ),
     (
         "at 1 of a file without bytes",
         (2, 1, 2, Does::Insert(Some((2, 0)), 1, b"Y")),
-        Verdict::BadOffset,
+        Verdict::Misfit,
     ),
     (
         "above its cause",
@@ -49,12 +49,12 @@ const BEHIND_IT: &[Case] = &[
     (
         "of the same stamp as its predecessor",
         (1, 2, 1, Does::Insert(None, 6, b"!")),
-        Verdict::BadStamp,
+        Verdict::LowStamp,
     ),
     (
         "not at the end of its file",
         (1, 2, 2, Does::Insert(None, 5, b"!")),
-        Verdict::BadOffset,
+        Verdict::Misfit,
     ),
     (
         "deletes an own character",
@@ -64,12 +64,12 @@ const BEHIND_IT: &[Case] = &[
     (
         "deletes an own character behind the end of its file",
         (1, 2, 2, Does::Delete(&[(1, 6)])),
-        Verdict::BadOffset,
+        Verdict::Misfit,
     ),
     (
         "a bad offset counts ahead of a name that isn't here",
         (1, 2, 2, Does::Insert(Some((2, 0)), 5, b"!")),
-        Verdict::BadOffset,
+        Verdict::Misfit,
     ),
     (
         "and that ahead of a bad stamp",

@@ -11,9 +11,9 @@ use operations::Op;
 use std::alloc::Global;
 use std::test::Fail;
 
-// What is kept of a character: its name, its byte and its registers.
+// A character: its name, its byte and its registers.
 #[derive(Clone, Copy)]
-struct Kept {
+struct Atom {
     name: (u16, u32),
     byte: u8,
     font: Register<&'static [u8]>,
@@ -22,11 +22,11 @@ struct Kept {
     hidden: Register<bool>,
 }
 
-// Operations, the last of which comes last, and what is kept of all characters before it, in their order.
+// Operations, the last of which comes last, and all characters before it, in their order.
 struct Case {
     what: &'static str,
     all: &'static [Told],
-    before: &'static [Kept],
+    before: &'static [Atom],
     // The bytes that are shown before, and with the last operation.
     shown: &'static [u8],
     shown_after: &'static [u8],
@@ -34,7 +34,7 @@ struct Case {
 
 const FIRST: Key = Key { stamp: 1, site: 1 };
 
-const A: Kept = Kept {
+const A: Atom = Atom {
     name: (1, 0),
     byte: b'a',
     font: Register {
@@ -55,20 +55,20 @@ const A: Kept = Kept {
     },
 };
 
-const B: Kept = Kept {
+const B: Atom = Atom {
     name: (1, 1),
     byte: b'b',
     ..A
 };
 
-const C: Kept = Kept {
+const C: Atom = Atom {
     name: (1, 2),
     byte: b'c',
     ..A
 };
 
 // Site 2's character, typed behind the first one while site 1 went on.
-const X: Kept = Kept {
+const X: Atom = Atom {
     name: (2, 0),
     byte: b'x',
     font: Register {
@@ -115,7 +115,7 @@ const CASES: &[Case] = &[
         before: &[
             A,
             X,
-            Kept {
+            Atom {
                 hidden: Register {
                     key: Key { stamp: 3, site: 2 },
                     value: true,
@@ -137,7 +137,7 @@ const CASES: &[Case] = &[
         ],
         before: &[
             A,
-            Kept {
+            Atom {
                 hidden: Register {
                     key: Key { stamp: 2, site: 2 },
                     value: true,
@@ -159,7 +159,7 @@ const CASES: &[Case] = &[
         ],
         before: &[
             A,
-            Kept {
+            Atom {
                 hidden: Register {
                     key: Key { stamp: 3, site: 1 },
                     value: false,
@@ -189,14 +189,14 @@ const CASES: &[Case] = &[
             ),
         ],
         before: &[
-            Kept {
+            Atom {
                 colour: Register {
                     key: Key { stamp: 2, site: 2 },
                     value: 5,
                 },
                 ..A
             },
-            Kept {
+            Atom {
                 colour: Register {
                     key: Key { stamp: 2, site: 2 },
                     value: 5,
@@ -220,52 +220,52 @@ fn has_name(ranges: Ranges, (site, off): (u16, u32)) -> bool {
 }
 
 // Offers the selected values: 1 for the font, 2 for the colour, 4 for the offset, or their sum.
-fn offer_looks(kept: &mut Kept, key: Key, bits: u8, (font, colour, offset): LooksParts) {
+fn offer_looks(atom: &mut Atom, key: Key, bits: u8, (font, colour, offset): LooksParts) {
     if bits % 2 == 1 {
-        kept.font.offer(key, font);
+        atom.font.offer(key, font);
     }
     if bits / 2 % 2 == 1 {
-        kept.colour.offer(key, colour);
+        atom.colour.offer(key, colour);
     }
     if bits / 4 == 1 {
-        kept.offset.offer(key, offset);
+        atom.offset.offer(key, offset);
     }
 }
 
 // Offers what the operation gives to this character, if it names it.
-fn offer(kept: &mut Kept, key: Key, does: Does) {
+fn offer(atom: &mut Atom, key: Key, does: Does) {
     match does {
-        Does::Delete(ranges) if has_name(ranges, kept.name) => kept.hidden.offer(key, true),
-        Does::Restore(ranges) if has_name(ranges, kept.name) => kept.hidden.offer(key, false),
-        Does::ChangeLooks(bits, looks, ranges) if has_name(ranges, kept.name) => {
-            offer_looks(kept, key, bits, looks);
+        Does::Delete(ranges) if has_name(ranges, atom.name) => atom.hidden.offer(key, true),
+        Does::Restore(ranges) if has_name(ranges, atom.name) => atom.hidden.offer(key, false),
+        Does::ChangeLooks(bits, looks, ranges) if has_name(ranges, atom.name) => {
+            offer_looks(atom, key, bits, looks);
         }
         _ => {}
     }
 }
 
-// What is kept of a character with one operation more, if there is one.
-fn with_more(mut kept: Kept, more: Option<Told>) -> Kept {
+// A character with one operation more, if there is one.
+fn with_more(mut atom: Atom, more: Option<Told>) -> Atom {
     if let Some((site, _, stamp, does)) = more {
-        offer(&mut kept, Key { stamp, site }, does);
+        offer(&mut atom, Key { stamp, site }, does);
     }
-    kept
+    atom
 }
 
 // Whether the character is shown with this byte and these looks.
-fn is_shown_so(kept: &Kept, byte: u8, shown: &Char) -> bool {
-    let looks = (kept.font.value, kept.colour.value, kept.offset.value);
-    Some(shown.name) == name(kept.name)
+fn is_shown_so(atom: &Atom, byte: u8, shown: &Char) -> bool {
+    let looks = (atom.font.value, atom.colour.value, atom.offset.value);
+    Some(shown.name) == name(atom.name)
         && shown.byte == byte
-        && kept.byte == byte
+        && atom.byte == byte
         && are_looks(&shown.looks, looks)
 }
 
 // Whether these are the names of all characters.
-fn are_all(order: &[Name], kept: &[Kept]) -> bool {
+fn are_all(order: &[Name], atoms: &[Atom]) -> bool {
     let mut left = order.iter();
-    for kept in kept {
-        if left.next().copied() != name(kept.name) {
+    for atom in atoms {
+        if left.next().copied() != name(atom.name) {
             return false;
         }
     }
@@ -273,17 +273,17 @@ fn are_all(order: &[Name], kept: &[Kept]) -> bool {
 }
 
 // Whether those are shown, with these bytes, that aren't hidden.
-fn are_shown(shown: &[Char], kept: &[Kept], more: Option<Told>, bytes: &[u8]) -> bool {
+fn are_shown(shown: &[Char], atoms: &[Atom], more: Option<Told>, bytes: &[u8]) -> bool {
     let mut rest = shown.iter().zip(bytes);
-    for before in kept {
-        let kept = with_more(*before, more);
-        if kept.hidden.value {
+    for before in atoms {
+        let atom = with_more(*before, more);
+        if atom.hidden.value {
             continue;
         }
         let Some((c, byte)) = rest.next() else {
             return false;
         };
-        if !is_shown_so(&kept, *byte, c) {
+        if !is_shown_so(&atom, *byte, c) {
             return false;
         }
     }

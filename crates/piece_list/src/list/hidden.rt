@@ -2,7 +2,7 @@
 
 ghost use Rattle.std.specs.Prelude.{◌≡◌, ◌-◌, ◌<◌, ◌↔◌, [], ◌∷◌, IsTrue, Contains};
 ghost use Rattle.operations.specs.NameSet.{IsIn, IsAmong};
-ghost use Rattle.tree_order.specs.Registers.{Kept};
+ghost use Rattle.tree_order.specs.Registers.{Atom};
 ghost use Rattle.piece_list.specs.Changing.{AreHere};
 ghost use Rattle.piece_list.specs.Spelled.{spelled, HasName};
 
@@ -16,7 +16,7 @@ impl PieceList {
     fn hidden_from(&self, name: Name) -> (bool, u32)
         requires { HasName (spelled self.now.items) name }
         ensures some { name.off < result.1 }
-        ensures alike { (k : Kept) → Contains (spelled self.now.items) k
+        ensures alike { (k : Atom) → Contains (spelled self.now.items) k
             → IsIn (record { site = name.site; at = name.off; len = result.1 - name.off }) k.name
             → k.hidden.value ≡ result.0 }
     {
@@ -34,7 +34,7 @@ impl PieceList {
     fn has_hidden_in(&self, range: NameRange) -> bool
         requires { AreHere (range ∷ []) (spelled self.now.items) }
         ensures { IsTrue result
-            ↔ ((k : Kept) × Contains (spelled self.now.items) k × IsIn range k.name × IsTrue k.hidden.value) }
+            ↔ ((k : Atom) × Contains (spelled self.now.items) k × IsIn range k.name × IsTrue k.hidden.value) }
     {
         let end = range.at() + range.len();
         let mut at = range.at();
@@ -55,7 +55,7 @@ impl PieceList {
     /// found by one entry of a table.
     pub fn has_hidden(&self, names: &NameSet) -> bool
         requires { AreHere names.now (spelled self.now.items) }
-        ensures { IsTrue result ↔ ((k : Kept) × Contains (spelled self.now.items) k × IsAmong names.now k.name
+        ensures { IsTrue result ↔ ((k : Atom) × Contains (spelled self.now.items) k × IsAmong names.now k.name
             × IsTrue k.hidden.value) }
     {
         for range in names.ranges() {

@@ -158,7 +158,7 @@ fn put(
 
 impl PieceList {
     // Where the anchor stands; `None` for the root.
-    fn find(&mut self, cause: Anchor) -> Option<Place>
+    fn locate_cause(&mut self, cause: Anchor) -> Option<Place>
         requires { HasAnchor (spelled self.old.items) cause }
         ensures place { IsAnchorPlace self.old.items cause result }
         ensures seen { self.new ≡ record { items = self.old.items; steps = compared cause } }
@@ -191,7 +191,7 @@ impl PieceList {
         ensures err { OnErr result
             (self.new ≡ record { items = self.old.items; steps = compared cause }) }
     {
-        let found = self.find(cause);
+        let found = self.locate_cause(cause);
         self.pieces.reserve(2)?;
         self.index.reserve(2)?;
         self.tags.reserve(run.site, run.off + run.len)?;

@@ -4,7 +4,7 @@ ghost use Rattle.std.specs.Prelude.{◌≡◌, ◌+◌, ◌<◌, ◌≤◌, ◌�
 ghost use Rattle.std.specs.Prelude.{IsSome, IfSome, slice_get};
 ghost use Rattle.std.specs.Iterator.{YieldsFirst, item_count};
 ghost use Rattle.std.specs.List.{flat_map};
-ghost use Rattle.tree_order.specs.Registers.{Kept, kept_looks};
+ghost use Rattle.tree_order.specs.Registers.{Atom, atom_looks};
 ghost use Rattle.char_files.specs.declared.TheConstants.{MAX_FILE};
 ghost use Rattle.piece_list.specs.Held.{IsPlaceOf};
 ghost use Rattle.piece_list.specs.RunCuts.{AreWithin, HasFront};
@@ -60,7 +60,7 @@ impl PieceList {
     /// It reads one entry of a table.
     pub fn key_of(&self, name: Name) -> Option<Key>
         ensures here { IsSome result ↔ HasName (spelled self.now.items) name }
-        ensures key { IfSome result (λ key. (k : Kept) → Contains (spelled self.now.items) k → k.name ≡ name
+        ensures key { IfSome result (λ key. (k : Atom) → Contains (spelled self.now.items) k → k.name ≡ name
             → k.key ≡ key) }
     {
         let place = self.place_of(name)?;
@@ -105,7 +105,7 @@ impl PieceList {
     pub fn shown_at(&self, pos: u64) -> (Name, Looks)
         requires { pos < length (shown_chars (spelled self.now.items)) }
         ensures { IfSome (slice_get (shown_chars (spelled self.now.items)) pos)
-            (λ k. (result.0 ≡ k.name) × (result.1 ≡ kept_looks k)) }
+            (λ k. (result.0 ≡ k.name) × (result.1 ≡ atom_looks k)) }
     {
         let place = self.locate_pos(pos);
         numbers_differ(&self.pieces);

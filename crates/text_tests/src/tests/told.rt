@@ -107,7 +107,7 @@ fn is_ready(text: &TakenText, op: &Op) -> bool
     }
     match judge(op, &GoodLog::new(log)) {
         Verdict::Ready => true,
-        Verdict::Wait | Verdict::BadOffset | Verdict::BadStamp => false,
+        Verdict::Wait | Verdict::Misfit | Verdict::LowStamp => false,
     }
 }
 

@@ -8,7 +8,6 @@ ghost use Rattle.texts.specs.TextState.{shown_of};
 
 use super::Replica;
 use super::own::may_be_named;
-use crate::laws::{a_delete_keeps_its_stretch, an_own_delete_is_plain, there_is_one_text_with_it};
 use crate::outbox::Outbox;
 use looks::Refusal;
 use operations::Kind;
@@ -27,9 +26,6 @@ impl Replica {
         ensures { SendsOne self.old (own_op self.old (delete (names_shown self.old beg end))) result self.new
             outbox.old outbox.new }
     {
-        a_delete_keeps_its_stretch();
-        an_own_delete_is_plain();
-        there_is_one_text_with_it();
         self.is_text();
         if let Some(why) = self.refusal_for(end - beg) {
             return Err(why);

@@ -11,10 +11,6 @@ ghost use Rattle.texts.specs.TextState.{shown_of};
 
 use super::Replica;
 use super::own::may_be_named;
-use crate::laws::{
-    a_delete_keeps_its_stretch, an_own_restore_shows, own_looks_are_plain,
-    there_is_one_text_with_it,
-};
 use crate::outbox::Outbox;
 use looks::{Looks, Refusal, Sel};
 use operations::Kind;
@@ -55,9 +51,6 @@ impl Replica {
             (change_looks sel (with_selected sel looks.now plain_looks) (names_shown self.old beg end)))
             result self.new outbox.old outbox.new }
     {
-        a_delete_keeps_its_stretch();
-        own_looks_are_plain();
-        there_is_one_text_with_it();
         self.is_text();
         if let Some(why) = self.refusal_for(0) {
             return Err(why);
@@ -77,8 +70,6 @@ impl Replica {
         ensures { SendsOne self.old (own_op self.old (restore self.old.last_set)) result self.new
             outbox.old outbox.new }
     {
-        an_own_restore_shows();
-        there_is_one_text_with_it();
         self.is_text();
         if let Some(why) = self.refusal_for(0) {
             return Err(why);

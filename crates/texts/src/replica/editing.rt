@@ -11,7 +11,6 @@ ghost use Rattle.texts.specs.TextState.{shown_items, shown_of};
 use super::Replica;
 use super::own::answer_of_one;
 use crate::edit_refusal::EditRefusal;
-use crate::laws::own_edits_are_plain;
 use crate::outbox::Outbox;
 use char_files::Buffer;
 use looks::{Looks, Refusal, Sel};
@@ -56,7 +55,6 @@ impl Replica {
         requires in_text { end ≤ length (shown_of self.old) }
         ensures { EditsSending self.old (deletion beg end) result self.new outbox.old outbox.new }
     {
-        own_edits_are_plain();
         self.is_text();
         if beg == end {
             return Ok(0);
@@ -81,7 +79,6 @@ impl Replica {
         requires in_text { end ≤ length (shown_of self.old) }
         ensures { EditsSending self.old (looks_change beg end sel looks.now) result self.new outbox.old outbox.new }
     {
-        own_edits_are_plain();
         self.is_text();
         if beg == end {
             return Ok(0);
@@ -97,7 +94,6 @@ impl Replica {
     pub fn restore(&mut self, outbox: &mut Outbox) -> Result<u32, EditRefusal>
         ensures { EditsSending self.old restoration result self.new outbox.old outbox.new }
     {
-        own_edits_are_plain();
         self.is_text();
         if self.taken.are_shown(&self.set) {
             return Ok(0);

@@ -14,7 +14,6 @@ use super::Replica;
 use super::own::refused_behind;
 use super::pieces::{Piece, Pieces};
 use crate::edit_refusal::EditRefusal;
-use crate::laws::{an_own_insert_is_plain, own_edits_are_plain, there_is_one_text_with_it};
 use crate::outbox::Outbox;
 use char_files::{Anchor, Buffer};
 use looks::{Looks, Refusal};
@@ -28,7 +27,6 @@ impl Replica {
         ensures value { result ≡ anchor_before (shown_of self.now) pos }
         ensures cause { IsCause self.now.site (file_len self.now.operations self.now.site) result }
     {
-        an_own_insert_is_plain();
         self.is_text();
         let cause = self.anchor_after(pos);
         if let Anchor::At(name) = cause {
@@ -80,8 +78,6 @@ impl Replica {
         ensures longer { OnOk result
             (length (shown_of self.new) ≡ length (shown_of self.old) + length piece.now.bytes) }
     {
-        an_own_insert_is_plain();
-        there_is_one_text_with_it();
         self.is_text();
         if let Some(why) = self.insert_refusal(piece.bytes.len()) {
             return Err(why);
@@ -101,7 +97,6 @@ impl Replica {
         requires in_text { pos ≤ length (shown_of self.old) }
         ensures { EditsSending self.old (insertion pos buffer.now) result self.new outbox.old outbox.new }
     {
-        own_edits_are_plain();
         self.is_text();
         // No buffer has more than 2^24 characters, and each piece has one at least.
         let _ = buffer.len();

@@ -8,12 +8,9 @@ ghost use Rattle.texts.specs.Merge.{AreInConflict, CanMerge, IsUnionOf, Merges, 
 ghost use Rattle.texts.specs.Taking.{HasTaken, IsJudged};
 
 use super::Replica;
-use crate::laws::merges_show_the_union;
 use crate::merge_refusal::MergeRefusal;
 use looks::Refusal;
 use operations::Op;
-use set_laws::growing::ready_where_causes_are_held;
-use set_laws::unions::{causes_stand_ahead, front_tells_what_is_held};
 
 impl Replica {
     // Whether no other operation is held under this one's identity.
@@ -57,9 +54,6 @@ impl Replica {
         self.is_text();
         other.is_text();
         other.taken.log().are_held_to_the_front();
-        causes_stand_ahead();
-        front_tells_what_is_held();
-        ready_where_causes_are_held();
         let mut done = 0;
         for op in other.taken.log().ops() {
             if self.front(op.site()) < op.seq() {
@@ -88,7 +82,6 @@ impl Replica {
         if !self.agrees_with(other) {
             return Err(MergeRefusal::Whole(Refusal::Conflict));
         }
-        merges_show_the_union();
         self.is_text();
         other.is_text();
         self.take_news(other)

@@ -25,8 +25,8 @@ impl Replica {
         self.taken.is_defined();
         match judge(op, &GoodLog::new(self.taken.log())) {
             Verdict::Wait => Fate::Wait,
-            Verdict::BadOffset => Fate::WrongOffset,
-            Verdict::BadStamp => Fate::LowStamp,
+            Verdict::Misfit => Fate::Misfit,
+            Verdict::LowStamp => Fate::LowStamp,
             Verdict::Ready => Fate::Ready,
         }
     }
@@ -103,7 +103,7 @@ impl Replica {
             Fate::Conflicting => Err(Refusal::Conflict),
             Fate::AlreadyWaits => Ok(Took::Waits),
             Fate::Wait => self.let_wait(op),
-            Fate::WrongOffset => Err(Refusal::BadOffset),
+            Fate::Misfit => Err(Refusal::BadOffset),
             Fate::LowStamp => Err(Refusal::BadStamp),
             Fate::Ready => self.take_in(op),
         }

@@ -1,7 +1,7 @@
 //! Where the run of one Insert more goes, and what is shown then.
 
 ghost use Rattle.tree_order.specs.Insertion.{RunGoesIntoGap, OrderGainsRun};
-ghost use Rattle.tree_order.specs.KeptInsertion.{RunGoesBehindGreaterKeys};
+ghost use Rattle.tree_order.specs.AtomInsertion.{RunGoesBehindGreaterKeys};
 ghost use Rattle.tree_order.specs.Sequential.{ShownGainsRun};
 
 /// A law, for one Insert more: the order of the larger set is the order with the run put in, in one stretch,

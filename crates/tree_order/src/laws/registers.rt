@@ -3,24 +3,24 @@
 ghost use Rattle.std.specs.Prelude.{List, [], ◌∷◌, ◌++◌, Contains};
 ghost use Rattle.operations.specs.Operation.{Operation};
 ghost use Rattle.tree_order.specs.Good.{Good};
-ghost use Rattle.tree_order.specs.Registers.{Kept, HasRegisters, AreKept};
-ghost use Rattle.tree_order.specs.RegisterLaws.{TellRegisters, ShowsKept, HasOneKept, InsertsNone};
-ghost use Rattle.tree_order.specs.RegisterLaws.{KeepsTheOrder, ShowsByOffers, KeptAfter, OffersItsValues};
+ghost use Rattle.tree_order.specs.Registers.{Atom, HasRegisters, AreAtoms};
+ghost use Rattle.tree_order.specs.RegisterLaws.{TellRegisters, ShowsAtoms, HasOneAtoms, InsertsNone};
+ghost use Rattle.tree_order.specs.RegisterLaws.{ShowsByOffers, OffersItsValues};
 
 /// A law: the registers of a character tell whether it is visible, and its looks.
 pub fn registers_tell_what_is_shown()
-    ensures { (ops : List Operation) → Good ops → (k : Kept) → HasRegisters ops k → TellRegisters ops k }
+    ensures { (ops : List Operation) → Good ops → (k : Atom) → HasRegisters ops k → TellRegisters ops k }
 {}
 
 /// The same law, for one who has all characters in order with their registers: what is shown are those that
-/// aren't hidden, in the looks that they are kept with, each with its byte.
-pub fn a_kept_list_tells_what_is_shown()
-    ensures { (ops : List Operation) → Good ops → (kept : List Kept) → AreKept ops kept → ShowsKept ops kept }
+/// aren't hidden, in their atoms' looks, each with its byte.
+pub fn atoms_tell_what_is_shown()
+    ensures { (ops : List Operation) → Good ops → (atoms : List Atom) → AreAtoms ops atoms → ShowsAtoms ops atoms }
 {}
 
 /// A law: a good set has a list of all characters in order with their registers, and only one.
-pub fn there_is_one_kept_list()
-    ensures { (ops : List Operation) → Good ops → HasOneKept ops }
+pub fn there_is_one_atom_list()
+    ensures { (ops : List Operation) → Good ops → HasOneAtoms ops }
 {}
 
 /// A law, for one new operation more: the registers of an old character are the old ones, offered its values
@@ -30,21 +30,9 @@ pub fn registers_are_offered()
         → (Contains ops op → ⊥) → OffersItsValues ops op }
 {}
 
-/// A law: one Delete, Restore or ChangeLooks more moves no character.
-pub fn the_order_stays()
-    ensures { (ops : List Operation) (op : Operation) → Good (ops ++ op ∷ []) → InsertsNone op
-        → KeepsTheOrder ops op }
-{}
-
 /// A law, for one Delete, Restore or ChangeLooks more: a character is visible, and has the looks, as its old
 /// registers tell that were offered the operation's values under its key, attribute by attribute.
 pub fn offers_tell_what_is_shown()
     ensures { (ops : List Operation) (op : Operation) → Good (ops ++ op ∷ []) → InsertsNone op
-        → (k : Kept) → HasRegisters ops k → ShowsByOffers ops op k }
-{}
-
-/// The same law, for one who has all characters in order with their registers.
-pub fn a_kept_list_is_offered()
-    ensures { (ops : List Operation) (op : Operation) → Good (ops ++ op ∷ []) → InsertsNone op
-        → KeptAfter ops op }
+        → (k : Atom) → HasRegisters ops k → ShowsByOffers ops op k }
 {}

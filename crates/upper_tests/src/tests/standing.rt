@@ -25,9 +25,9 @@ const SHOWN: &[(u8, u16, u32)] = &[
     (b'e', 1, 2),
 ];
 
-fn shows_all(replica: &Replica) -> Result<(), Fail> {
-    let mut shown = replica.shown();
-    for (byte, site, off) in SHOWN {
+// These characters, and no more.
+fn shows(mut shown: Shown<'_>, wants: &[(u8, u16, u32)]) -> Result<(), Fail> {
+    for (byte, site, off) in wants {
         let char = shown.next().ok_or("a character")?;
         let name = (char.name.site().get(), char.name.off());
         is(name == (*site, *off), "a name")?;
@@ -37,6 +37,20 @@ fn shows_all(replica: &Replica) -> Result<(), Fail> {
         )?;
     }
     is(shown.next().is_none(), "all of them")
+}
+
+// The characters shown from a position to another, where the text has these.
+fn between(replica: &Replica, beg: u64, end: u64) -> Option<Shown<'_>> {
+    if end < beg || replica.shown_len() < end {
+        return None;
+    }
+    Some(replica.shown_between(beg, end))
+}
+
+fn shows_all(replica: &Replica) -> Result<(), Fail> {
+    shows(replica.shown(), SHOWN)?;
+    shows(between(replica, 2, 4).ok_or("a stretch")?, &SHOWN[2..4])?;
+    shows(between(replica, 6, 6).ok_or("nothing")?, &[])
 }
 
 // What a character hangs on that is typed at this position.
@@ -82,10 +96,27 @@ fn has_its_fronts(replica: &Replica) -> Result<(), Fail> {
     is(replica.sites()?.as_slice() == wants.as_slice(), "the sites")
 }
 
+// The site and the seq of each operation, in the order of taking.
+const OPERATIONS: &[(u16, u32)] = &[(1, 1), (2, 1)];
+
+fn has_its_operations(replica: &Replica) -> Result<(), Fail> {
+    is(replica.taken_len() == 2, "two operations")?;
+    for place in 0..replica.taken_len() {
+        let op = replica.taken(place);
+        let told = (op.site().get(), op.seq());
+        is(
+            OPERATIONS.get(place as usize) == Some(&told),
+            "an operation",
+        )?;
+    }
+    Ok(())
+}
+
 fn stands_as_told(replica: &Replica) -> Result<(), Fail> {
     shows_all(replica)?;
     has_its_places(replica)?;
     has_its_anchors(replica)?;
+    has_its_operations(replica)?;
     has_its_fronts(replica)
 }
 

@@ -1,27 +1,33 @@
-use Rattle.std.proofs.Common.{◌≡◌, ◌-◌, ◌<◌, ◌≤◌, ℕ, length, take, drop, refl, sym, ◌∙◌, subst, arith}
-use Rattle.std.proofs.lemmas.List.{length-map}
-use Rattle.char_files.specs.Stretch.{Item}
+use Rattle.std.proofs.Common.{◌≡◌, ◌-◌, ◌<◌, take, drop, sym, ◌∙◌, subst, arith}
 use Rattle.reader_scanner.specs.Place.{Place, bytes_of}
 use Rattle.reader_scanner.specs.Tokens.{IsTokenAt}
 use Rattle.command_words.specs.Commands.{name_of}
-use Rattle.command_words.proofs.Words.{IsNear, word_is, word_of_call, named_short}
+use Rattle.command_words.proofs.Words.{IsNear, is_near, word_is, word_of_call, ends_behind, named_short}
 use Rattle.command_words.proofs.calls.command_at.Goals as goal
+
+pub returns-then-end-pos-clause-none : goal.returns-then-end-pos-clause-none
+returns-then-end-pos-clause-none g c =
+    let bytes = bytes_of (g.S.Source.items c.args.source.now) in
+    let near : IsNear bytes c.args.pos c.word_begin-beg.result c.word_end-end.result =
+    is_near (g.S.Source.items c.args.source.now) c.args.pos c.word_begin-beg.result c.word_end-end.result
+    c.word_begin-beg.ensures.order c.word_end-end.ensures.order c.word_end-end.ensures.within
+    c.word_begin-beg.ensures.each c.word_end-end.ensures.each c.word_begin-beg.ensures.before
+    c.word_end-end.ensures.behind in
+    λ _ call is.
+    let some : c.args.pos < c.word_end-end.result =
+    ends_behind bytes c.args.pos c.word_begin-beg.result c.word_end-end.result near call is in
+    absurd (omega (arith, some, c.if-end-pos.true))
 
 pub returns-in_err-command-clause-none : goal.returns-in_err-command-clause-none
 returns-in_err-command-clause-none g c =
     let bytes = bytes_of (g.S.Source.items c.args.source.now) in
     let beg = c.word_begin-beg.result in
     let end = c.word_end-end.result in
-    let same = length-map (g.S.Source.items c.args.source.now) (λ (i : Item). i.0) in
-    let near : IsNear bytes c.args.pos beg end = record {
-      from = c.word_begin-beg.ensures.order;
-      to = c.word_end-end.ensures.order;
-      within = omega (arith, c.word_end-end.ensures.within, same);
-      left = c.word_begin-beg.ensures.each;
-      right = c.word_end-end.ensures.each;
-      before = c.word_begin-beg.ensures.before;
-      behind = λ inside. c.word_end-end.ensures.behind (omega (arith, inside, same));
-    } in
+    let near : IsNear bytes c.args.pos c.word_begin-beg.result c.word_end-end.result =
+    is_near (g.S.Source.items c.args.source.now) c.args.pos c.word_begin-beg.result c.word_end-end.result
+    c.word_begin-beg.ensures.order c.word_end-end.ensures.order c.word_end-end.ensures.within
+    c.word_begin-beg.ensures.each c.word_end-end.ensures.each c.word_begin-beg.ensures.before
+    c.word_end-end.ensures.behind in
     λ _ call is.
     let word : name_of call.command ≡ take (end - beg) (drop beg bytes) =
     word_of_call bytes c.args.pos beg end near call is in
@@ -34,16 +40,11 @@ returns-clause-some g c =
     let bytes = bytes_of (g.S.Source.items c.args.source.now) in
     let beg = c.word_begin-beg.result in
     let end = c.word_end-end.result in
-    let same = length-map (g.S.Source.items c.args.source.now) (λ (i : Item). i.0) in
-    let near : IsNear bytes c.args.pos beg end = record {
-      from = c.word_begin-beg.ensures.order;
-      to = c.word_end-end.ensures.order;
-      within = omega (arith, c.word_end-end.ensures.within, same);
-      left = c.word_begin-beg.ensures.each;
-      right = c.word_end-end.ensures.each;
-      before = c.word_begin-beg.ensures.before;
-      behind = λ inside. c.word_end-end.ensures.behind (omega (arith, inside, same));
-    } in
+    let near : IsNear bytes c.args.pos c.word_begin-beg.result c.word_end-end.result =
+    is_near (g.S.Source.items c.args.source.now) c.args.pos c.word_begin-beg.result c.word_end-end.result
+    c.word_begin-beg.ensures.order c.word_end-end.ensures.order c.word_end-end.ensures.within
+    c.word_begin-beg.ensures.each c.word_end-end.ensures.each c.word_begin-beg.ensures.before
+    c.word_end-end.ensures.behind in
     let looked : c.as_slice.result.now ≡ take (end - beg) (drop beg bytes) =
     c.as_slice.ensures.value ∙ c.word_between.ensures in
     let named : take (end - beg) (drop beg bytes) ≡ name_of c.in_ok-command.command =

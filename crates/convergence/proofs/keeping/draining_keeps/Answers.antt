@@ -3,4 +3,4 @@ use Rattle.convergence.proofs.keeping.draining_keeps.Goals as goal
 
 pub returns : goal.returns
 returns c = λ t new drained dropped stopped all text keeps drains.
-    kept_draining c.kept_goes_on.ensures all text keeps drains
+    kept_draining all text keeps drains

@@ -9,20 +9,20 @@ use Rattle.texts.specs.TextState.{TextState}
 use Rattle.texts.specs.declared.merge_refusal.MergeRefusal.{MergeRefusal}
 use Rattle.texts.specs.declared.merge_refusal.MergeRefusal.TheVariants.{Whole, Stopped}
 use Rattle.convergence.specs.Keeping.{Keeps, merged}
-use Rattle.convergence.proofs.Kept.{KeptGoesOn, kept_with_all}
+use Rattle.convergence.proofs.Kept.{kept_with_all}
 use Rattle.convergence.proofs.keeping.merging_keeps.Goals as goal
 
 -- nothing more is kept where nothing is taken in
 same_kept : (t new : TextState) (all : List Operation) → Keeps t all → new ≡ t → Keeps new (all ++ [])
 same_kept t new all keeps same = rw same (subst (Keeps t) (sym (append-nil all)) keeps)
 
-module _ (goes_on : KeptGoesOn) (t other new : TextState) (all : List Operation) (text : IsText t)
+module _ (t other new : TextState) (all : List Operation) (text : IsText t)
     (keeps : Keeps t all) where
   -- all is kept where memory is there
   kept : (result : Result ℕ MergeRefusal) → Merges t other result new
       → AreIdentified (all ++ merged t other result) → Keeps new (all ++ merged t other result)
   kept (Ok count) (can, counted, has) known =
-      kept_with_all goes_on t new (news t other) all text keeps has known
+      kept_with_all t new (news t other) all text keeps has known
   kept (Err (Whole WrongText)) (apart, same) known = same_kept t new all keeps same
   kept (Err (Whole Conflict)) (on, conflict, same) known = same_kept t new all keeps same
   kept (Err (Whole why)) never known = absurd never
@@ -32,11 +32,11 @@ module _ (goes_on : KeptGoesOn) (t other new : TextState) (all : List Operation)
   kept_short : (result : Result ℕ MergeRefusal) → MergesShort t other result new
       → AreIdentified (all ++ merged t other result) → Keeps new (all ++ merged t other result)
   kept_short (Err (Stopped done)) (can, less, has) known =
-      kept_with_all goes_on t new (take done (news t other)) all text keeps has known
+      kept_with_all t new (take done (news t other)) all text keeps has known
   kept_short result never known = absurd never
 
 pub returns : goal.returns
 returns c = λ t other new result all text text' keeps merges known. elim merges [
-  | inl whole ↦ kept c.kept_goes_on.ensures t other new all text keeps result whole known
-  | inr short ↦ kept_short c.kept_goes_on.ensures t other new all text keeps result short known
+  | inl whole ↦ kept t other new all text keeps result whole known
+  | inr short ↦ kept_short t other new all text keeps result short known
 ]

@@ -3,7 +3,6 @@ use Rattle.std.proofs.Common.{MatchBool, Result, Ok, Err, Contains, sym, subst, 
 use Rattle.looks.specs.declared.refusal.Refusal.{Refusal}
 use Rattle.looks.specs.declared.refusal.Refusal.TheVariants.{RoomFull}
 use Rattle.operations.specs.Operation.{Operation}
-use Rattle.operations.specs.Reading.{NoneIsShared}
 use Rattle.set_laws.specs.Sets.{AreIdentified}
 use Rattle.waiting_room.specs.declared.room.TheConstants.{MAX_WAITING}
 use Rattle.texts.specs.Take.{Becomes, HasFate, Stays, Takes, TakesIn, TakesShort, Tells}
@@ -11,12 +10,12 @@ use Rattle.texts.specs.Text.{IsText}
 use Rattle.texts.specs.TextState.{TextState, with_room}
 use Rattle.texts.specs.declared.fate.Fate.{Fate}
 use Rattle.texts.specs.declared.fate.Fate.TheVariants.{OtherText, Known, Conflicting, AlreadyWaits, Wait}
-use Rattle.texts.specs.declared.fate.Fate.TheVariants.{WrongOffset, LowStamp, Ready}
+use Rattle.texts.specs.declared.fate.Fate.TheVariants.{Misfit, LowStamp, Ready}
 use Rattle.texts.specs.declared.took.Took.{Took}
 use Rattle.texts.specs.declared.took.Took.TheVariants.{Waits}
 use Rattle.convergence.specs.Keeping.{Keeps, KeptByDraining, is_handed_in}
-use Rattle.convergence.proofs.Kept.{IsSettled, KeptGoesOn, kept_as_it_is, kept_waiting_more}
-use Rattle.convergence.proofs.Kept.{kept_with_all}
+use Rattle.convergence.proofs.Fates.{one_told}
+use Rattle.convergence.proofs.Kept.{IsSettled, kept_as_it_is, kept_waiting_more, kept_with_all}
 use Rattle.convergence.proofs.keeping.taking_keeps.Goals as goal
 
 -- what was handed in is kept, with the operation where it counts
@@ -25,14 +24,14 @@ IsKeptWith message all result new = MatchBool (is_handed_in result)
     ((op : Operation) → Tells message op → AreIdentified (all ++ op ∷ []) → Keeps new (all ++ op ∷ []))
     (Keeps new all)
 
-module _ (draining : KeptByDraining) (goes_on : KeptGoesOn) (one : NoneIsShared) (t : TextState)
+module _ (draining : KeptByDraining) (t : TextState)
     (message : List ℕ) (all : List Operation) (text : IsText t) (keeps : Keeps t all) where
   -- it is enough to keep the operation that the message tells
   kept_if_told : (op : Operation) → Tells message op → (new : TextState)
       → (AreIdentified (all ++ op ∷ []) → Keeps new (all ++ op ∷ []))
       → (other : Operation) → Tells message other → AreIdentified (all ++ other ∷ []) → Keeps new (all ++ other ∷ [])
   kept_if_told op told new kept other told' known =
-      let same : op ≡ other = one op other told.valid told'.valid (sym told.spelled ∙ told'.spelled) in
+      let same : op ≡ other = one_told message op other told told' in
       subst (λ (o : Operation). AreIdentified (all ++ o ∷ []) → Keeps new (all ++ o ∷ [])) same kept known
 
   -- one that waits or is settled changes nothing
@@ -67,7 +66,7 @@ module _ (draining : KeptByDraining) (goes_on : KeptGoesOn) (one : NoneIsShared)
   kept_taken_in op told stopped result new (with_op, drained, dropped, has, drains, answer) =
       rw answer (kept_if_told op told new (λ known.
       draining with_op new drained dropped stopped (all ++ op ∷ []) has.is
-      (kept_with_all goes_on t with_op (op ∷ []) all text keeps has known) drains))
+      (kept_with_all t with_op (op ∷ []) all text keeps has known) drains))
 
   -- whatever becomes of the operation
   kept_by_fate : (op : Operation) → Tells message op → (fate : Fate) → HasFate t op fate
@@ -81,7 +80,7 @@ module _ (draining : KeptByDraining) (goes_on : KeptGoesOn) (one : NoneIsShared)
       rw answer (rw same (kept_unchanged op told (inl is.2)))
   kept_by_fate op told Wait is result new enters =
       kept_entering op told (nat_lt (length t.waiting_room) MAX_WAITING) result new enters
-  kept_by_fate op told WrongOffset is result new (answer, same) =
+  kept_by_fate op told Misfit is result new (answer, same) =
       rw answer (rw same (kept_unchanged op told (inr (inr (inl is.1.2)))))
   kept_by_fate op told LowStamp is result new (answer, same) =
       rw answer (rw same (kept_unchanged op told (inr (inr (inr is.1.2)))))
@@ -98,5 +97,5 @@ module _ (draining : KeptByDraining) (goes_on : KeptGoesOn) (one : NoneIsShared)
 
 pub returns : goal.returns
 returns c = λ t new message result all text keeps takes.
-    kept_by_taking c.draining_keeps.ensures c.kept_goes_on.ensures c.one_spelling.ensures.one t message all text keeps
+    kept_by_taking c.draining_keeps.ensures t message all text keeps
     result new takes

@@ -15,7 +15,7 @@ use Rattle.texts.specs.Take.{Becomes, HasFate, Stays, Takes}
 use Rattle.texts.specs.TextState.{TextState, with_room}
 use Rattle.texts.specs.declared.fate.Fate.{Fate}
 use Rattle.texts.specs.declared.fate.Fate.TheVariants.{OtherText, Known, Conflicting, AlreadyWaits, Wait}
-use Rattle.texts.specs.declared.fate.Fate.TheVariants.{WrongOffset, LowStamp, Ready}
+use Rattle.texts.specs.declared.fate.Fate.TheVariants.{Misfit, LowStamp, Ready}
 use Rattle.texts.specs.declared.took.Took.{Took}
 use Rattle.texts.specs.declared.took.Took.TheVariants.{Waits}
 use Rattle.convergence.proofs.OwnOperations.{IsBy, after_operations, after_room, not_behind, own_plan}
@@ -58,7 +58,7 @@ module _ (t : TextState) (stay : AllStay t) where
   all_stay_by_fate op AlreadyWaits is result new (answer, same) = subst AllStay (sym same) stay
   all_stay_by_fate op Wait (apart, (of_text, unheld, waits)) result new enters =
       all_stay_entered op (unheld, waits) (nat_lt (length t.waiting_room) MAX_WAITING) result new enters
-  all_stay_by_fate op WrongOffset is result new (answer, same) = subst AllStay (sym same) stay
+  all_stay_by_fate op Misfit is result new (answer, same) = subst AllStay (sym same) stay
   all_stay_by_fate op LowStamp is result new (answer, same) = subst AllStay (sym same) stay
   all_stay_by_fate op Ready is result new (with_op, drained, dropped, has, drains, answer) =
       all_stay_drained drains refl

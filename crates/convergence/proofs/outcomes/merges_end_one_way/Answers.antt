@@ -2,7 +2,4 @@ use Rattle.convergence.proofs.OneMerge.{merge_one_way}
 use Rattle.convergence.proofs.outcomes.merges_end_one_way.Goals as goal
 
 pub returns : goal.returns
-returns c = merge_one_way (record {
-  order = c.there_is_one_order.ensures;
-  each = c.there_is_one_character_each.ensures;
-})
+returns c = merge_one_way

@@ -1,7 +1,7 @@
 use Rattle.std.proofs.Common.{◌≡◌, ℕ, ◌+◌, ◌-◌, ◌*◌, ◌∷◌, ◌++◌, [], List, length, take, drop, min, ap, ◌∙◌, arith}
 use Rattle.std.proofs.lemmas.List.{length-append}
 use Rattle.rank_index.specs.declared.groups.TheConstants.{GROUP}
-use Rattle.rank_index.specs.Chunks.{Stretch, members_of}
+use Rattle.rank_index.specs.Chunks.{ChunkSeen, members_of}
 use Rattle.rank_index.specs.Ranked.{weight_of}
 use Rattle.rank_index.proofs.Grouped.{weight_to-more, group_more}
 use Rattle.rank_index.proofs.Weights.{weight_to-most}
@@ -41,7 +41,7 @@ push_reserved-requires c =
 pub loop-done-preserved : goal.loop-done-preserved
 loop-done-preserved c =
     let groups : List ℕ = c.loop-done.groups.items in
-    let chunks : List Stretch = c.args.chunks.now in
+    let chunks : List ChunkSeen = c.args.chunks.now in
     let sum : ℕ = c.weight_in.result in
     let pushed : c.push_reserved.new.self.items ≡ groups ++ sum ∷ [] = c.push_reserved.ensures.items in
     let count : length c.push_reserved.new.self.items ≡ length groups + 1 =

@@ -3,7 +3,7 @@ use Rattle.std.specs.List.{insert}
 use Rattle.std.proofs.Math.ListN.{set}
 use Rattle.std.proofs.lemmas.List.Elements.{All-pop}
 use Rattle.std.proofs.lemmas.Option.{slice_get_read}
-use Rattle.rank_index.specs.Chunks.{Stretch, AreTied, IsHalved}
+use Rattle.rank_index.specs.Chunks.{ChunkSeen, AreTied, IsHalved}
 use Rattle.rank_index.proofs.Halved.{full_within, halved_here, tied_here}
 use Rattle.rank_index.proofs.Homes.{part_within}
 use Rattle.rank_index.proofs.Placed.{IsToldTo, told_behind}
@@ -15,7 +15,7 @@ told : (c : After-halve) → IsToldTo (c.args.places.now.items ++ c.len-home.res
     (insert (set c.args.chunks.now.items c.args.place c.halve.new.self) (c.args.place + 1) c.halve.new.rest)
     (c.args.place + 1)
 told c =
-    let chunks : List Stretch = c.args.chunks.now.items in
+    let chunks : List ChunkSeen = c.args.chunks.now.items in
     let fresh : c.halve.new.rest.home ≡ length c.args.places.now.items =
     omega (arith, c.halve.ensures.homes.1, c.move_to.ensures.home, c.len-home.ensures, c.args.places.now.ok.0) in
     told_behind c.args.places.now.items chunks c.requires.placed c.args.place c.index_mut.result.now c.halve.new.self
@@ -24,8 +24,8 @@ told c =
 
 pub enter-requires : goal.enter-requires
 enter-requires c =
-    let chunks : List Stretch = c.args.chunks.now.items in
-    let whole : Stretch = c.index_mut.result.now in
+    let chunks : List ChunkSeen = c.args.chunks.now.items in
+    let whole : ChunkSeen = c.index_mut.result.now in
     let there : slice_get chunks c.args.place ≡ Some whole =
     slice_get_read chunks (length chunks) c.args.place whole refl (full_within chunks c.args.place c.requires.full)
     c.index_mut.ensures.value in
@@ -59,19 +59,19 @@ renumber-requires-clause-within c =
 
 pub returns-clause-halved : goal.returns-clause-halved
 returns-clause-halved c =
-    let chunks : List Stretch = c.args.chunks.now.items in
+    let chunks : List ChunkSeen = c.args.chunks.now.items in
     subst (IsHalved c.args.place chunks) (sym c.in-Ok.ensures.items) (halved_here chunks c.args.place
     c.index_mut.result.now c.halve.new.self c.halve.new.rest (full_within chunks c.args.place c.requires.full)
     c.index_mut.ensures.value c.halve.ensures.parts c.halve.ensures.halves)
 
 pub returns-clause-empty : goal.returns-clause-empty
 returns-clause-empty c =
-    (All-pop (λ (d : Stretch). d.members ≡ []) c.args.spare.now.items c.pop.new.self.items c.pop.result
+    (All-pop (λ (d : ChunkSeen). d.members ≡ []) c.args.spare.now.items c.pop.new.self.items c.pop.result
     c.pop.ensures.items c.requires.empty).0
 
 pub returns-clause-tied : goal.returns-clause-tied
 returns-clause-tied c =
-    let chunks : List Stretch = c.args.chunks.now.items in
+    let chunks : List ChunkSeen = c.args.chunks.now.items in
     subst (AreTied c.enter.new.homes) (sym c.in-Ok.ensures.items) (tied_here chunks c.args.place
     c.index_mut.result.now c.halve.new.self c.halve.new.rest (full_within chunks c.args.place c.requires.full)
     c.index_mut.ensures.value c.halve.ensures.parts c.halve.ensures.halves c.args.homes.now c.enter.new.homes

@@ -2,16 +2,16 @@ use Rattle.std.proofs.Common.{◌≡◌, ℕ, ◌+◌, ◌<◌, ◌≤◌, List,
 use Rattle.std.proofs.lemmas.Option.{same_Some, slice_get_read, slice_get_within}
 use Rattle.piece_raw.specs.Ring.{HasTag}
 use Rattle.rank_index.specs.declared.chunk.TheConstants.{MOST}
-use Rattle.rank_index.specs.Chunks.{Stretch, IsPlaceOf, IsPlaceBehind, IsHalved}
+use Rattle.rank_index.specs.Chunks.{ChunkSeen, IsPlaceOf, IsPlaceBehind, IsHalved}
 use Rattle.rank_index.proofs.Halved.{full_among, at_front, in_front, from_front, same_if_few, behind_in_rest, room_at_front, room_at_rest}
 use Rattle.rank_index.proofs.index.place_behind.Goals as goal
 use Rattle.rank_index.proofs.index.place_behind.Goals.{in-Some, in-None}
 
 pub halve-requires-clause-spare : goal.halve-requires-clause-spare
 halve-requires-clause-spare c =
-    let chunks : List Stretch = c.args.chunks.now.items in
+    let chunks : List ChunkSeen = c.args.chunks.now.items in
     let place : ℕ = c.match-after.place in
-    let whole : Stretch = c.index.result.now in
+    let whole : ChunkSeen = c.index.result.now in
     let within : place < length chunks = elim c.match-after.branch [
       | in-Some w ↦
           let (there, at, has) = w.chunk_of-place.ensures in
@@ -36,13 +36,13 @@ halve-requires-clause-spare c =
 
 pub returns-in-Some-after-clause-place : goal.returns-in-Some-after-clause-place
 returns-in-Some-after-clause-place c =
-    let old : List Stretch = c.args.chunks.now.items in
-    let new : List Stretch = c.halve.new.chunks.items in
+    let old : List ChunkSeen = c.args.chunks.now.items in
+    let new : List ChunkSeen = c.halve.new.chunks.items in
     let place : ℕ = c.match-after.place in
     let halved : IsHalved place old new = c.halve.ensures.halved in
     let tag : ℕ = c.in-Some-after.tag in
     let absent : HasTag halved.front.members tag → ⊥ = λ (h : HasTag halved.front.members tag).
-    let seen : (d : Stretch) → d ≡ get_or new place d → HasTag d.members tag =
+    let seen : (d : ChunkSeen) → d ≡ get_or new place d → HasTag d.members tag =
     from_front place old new halved tag h in
     let found : c.has.result ≡ true = search (rules, c.has.ensures.1, seen) in
     true≢false (sym found ∙ c.if-not-has.true) in
@@ -50,7 +50,7 @@ returns-in-Some-after-clause-place c =
       | in-Some w ↦
           let same : w.in-Some.tag ≡ tag = same_Some w.in-Some.tag tag (sym w.after-is ∙ c.in-Some-after.is) in
           let there : IsPlaceOf old place w.in-Some.tag =
-          subst (λ (l : List Stretch). IsPlaceOf l place w.in-Some.tag) w.deref.ensures.value
+          subst (λ (l : List ChunkSeen). IsPlaceOf l place w.in-Some.tag) w.deref.ensures.value
           (subst (λ (n : ℕ). IsPlaceOf w.deref.result.now n w.in-Some.tag) (sym w.place-is)
           w.chunk_of-place.ensures) in
           subst (IsPlaceBehind new (place + 1)) (sym (w.in-Some.is ∙ ap Some same))
@@ -66,11 +66,11 @@ returns-in-Some-after-clause-room c =
 
 pub returns-in_default-clause-place : goal.returns-in_default-clause-place
 returns-in_default-clause-place c =
-    let new : List Stretch = c.halve.new.chunks.items in
+    let new : List ChunkSeen = c.halve.new.chunks.items in
     let place : ℕ = c.match-after.place in
     let halved : IsHalved place c.args.chunks.now.items new = c.halve.ensures.halved in
     let tag : ℕ = c.in-Some-after.tag in
-    let seen : (d : Stretch) → d ≡ get_or new place d → HasTag d.members tag → HasTag halved.front.members tag =
+    let seen : (d : ChunkSeen) → d ≡ get_or new place d → HasTag d.members tag → HasTag halved.front.members tag =
     in_front place c.args.chunks.now.items new halved tag in
     let has : HasTag halved.front.members tag = search (rules, seen, c.has.ensures.0 c.if-not-has.false) in
     let there : IsPlaceOf new place tag =

@@ -2,7 +2,7 @@ use Rattle.std.proofs.lemmas.Bool.{iff_false}
 use Rattle.operations.specs.Operation.{Operation}
 use Rattle.tree_order.specs.Attribute.{selects}
 use Rattle.tree_order.specs.Looks.{Sets}
-use Rattle.tree_order.proofs.LastLemmas.{last_taken, last_kept}
+use Rattle.tree_order.proofs.LastLemmas.{last_taken, last_stays}
 use Rattle.tree_order.proofs.attributes.last_to_set.Goals as goal
 use Rattle.tree_order.proofs.attributes.last_to_set.Goals.{then-sets_over, else-sets_over}
 
@@ -20,8 +20,8 @@ loop-op-preserved c =
           c.loop-op.invariant over.0 over.1 in
           rw w.last-is taken
       | else-sets_over w ↦
-          let kept =
-          last_kept sets ops n op c.loop-op-test.true c.op-item.is c.loop-op.last.now
+          let stays =
+          last_stays sets ops n op c.loop-op-test.true c.op-item.is c.loop-op.last.now
           c.loop-op.invariant (iff_false c.sets_over.ensures w.if-sets_over.false) in
-          rw w.last-is kept
+          rw w.last-is stays
     ]

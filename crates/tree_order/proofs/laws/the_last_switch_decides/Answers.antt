@@ -1,5 +1,5 @@
-use Rattle.tree_order.proofs.Visibility.{untouched, decided}
+use Rattle.tree_order.proofs.Visibility.{last_switch_decides}
 use Rattle.tree_order.proofs.laws.the_last_switch_decides.Goals as goal
 
 pub returns : goal.returns
-returns c = λ ops good name. record { none = untouched ops name; last = decided ops good name }
+returns c = last_switch_decides

@@ -3,7 +3,7 @@ use Rattle.std.specs.Prelude.{IfNone}
 use Rattle.std.proofs.lemmas.Bool.{iff_false}
 use Rattle.operations.specs.Operation.{Operation}
 use Rattle.tree_order.specs.Shown.{SwitchesBy}
-use Rattle.tree_order.proofs.LastLemmas.{NoneSets, last_after, kept_after}
+use Rattle.tree_order.proofs.LastLemmas.{NoneSets, last_after, stays_after}
 use Rattle.tree_order.proofs.showing.last_to_switch.Goals as goal
 use Rattle.tree_order.proofs.showing.last_to_switch.Goals.{then-switches_over, else-switches_over}
 
@@ -21,9 +21,9 @@ loop-op-preserved c =
           so_far.some so_far.none over.0 over.1 in
           rw w.last-is record { some = taken; none = tt }
       | else-switches_over w ↦
-          let kept = kept_after sets ops n op c.loop-op-test.true c.op-item.is (λ o. o.now) c.loop-op.last
+          let stays = stays_after sets ops n op c.loop-op-test.true c.op-item.is (λ o. o.now) c.loop-op.last
           so_far.some so_far.none (iff_false c.switches_over.ensures w.if-switches_over.false) in
-          rw w.last-is record { some = kept.0; none = kept.1 }
+          rw w.last-is record { some = stays.0; none = stays.1 }
     ]
 
 pub returns-clause-none : goal.returns-clause-none

@@ -4,7 +4,7 @@ use Rattle.std.proofs.lemmas.Iterator.Consumers.{YieldsList-from_first}
 use Rattle.char_files.specs.CharName.{CharName}
 use Rattle.operations.specs.Operation.{Mentions}
 use Rattle.set_laws.specs.Fronts.{IsHere}
-use Rattle.waiting_room.proofs.Each.{each_name}
+use Rattle.tree_order.proofs.Each.{each_name}
 use Rattle.waiting_room.proofs.judging.has_foreign_names.Goals as goal
 
 pub returns : goal.returns

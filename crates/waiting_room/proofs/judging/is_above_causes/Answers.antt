@@ -1,4 +1,5 @@
 use Rattle.std.proofs.lemmas.Bool.{both_ways}
+use Rattle.set_laws.proofs.Counting.{above_causes, told_by_counts}
 use Rattle.waiting_room.proofs.Above.{lower_stamps, above_predecessor, above_inserts}
 use Rattle.waiting_room.proofs.judging.is_above_causes.Goals as goal
 
@@ -8,8 +9,8 @@ returns-then-is_above_predecessor g c =
     let op = c.args.op.now in
     let good = c.are_good.ensures.good in
     let known = c.are_good.ensures.identified in
-    let told = c.counts_tell_what_is_here.ensures ops op good known c.requires.new in (
-      λ e. c.one_stamp_a_name_is_enough.ensures ops op good known
+    let told = told_by_counts ops op good known c.requires.new in (
+      λ e. above_causes ops op good known
           (lower_stamps ops op (c.is_above_predecessor.ensures.0 c.if-is_above_predecessor.true)
           (c.is_above_inserts.ensures.0 e)),
       λ above. c.is_above_inserts.ensures.1

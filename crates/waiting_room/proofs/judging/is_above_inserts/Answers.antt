@@ -4,7 +4,7 @@ use Rattle.std.proofs.lemmas.Iterator.Consumers.{YieldsList-from_first}
 use Rattle.char_files.specs.CharName.{CharName}
 use Rattle.operations.specs.Operation.{Mentions}
 use Rattle.waiting_room.specs.Judged.{HasLowerInsert}
-use Rattle.waiting_room.proofs.Each.{each_name}
+use Rattle.tree_order.proofs.Each.{each_name}
 use Rattle.waiting_room.proofs.judging.is_above_inserts.Goals as goal
 
 pub returns : goal.returns

@@ -1,7 +1,6 @@
 use Rattle.std.proofs.Common.{rules, ◌≡◌, ℕ, ◌+◌, ◌<◌, max, List, [], ◌∷◌, ◌++◌, length, sym, subst}
 use Rattle.std.proofs.Common.{arith}
-use Rattle.operations.specs.Operation.{Operation, appended_len}
-use Rattle.tree_order.specs.Good.{Begins}
+use Rattle.operations.specs.Operation.{Operation, appended_len, Begins}
 use Rattle.set_laws.specs.Fronts.{file_len}
 use Rattle.op_log.specs.Seen.{LogSeen}
 use Rattle.op_log.specs.Tables.{table_of, end_of}

@@ -1,6 +1,6 @@
 use Rattle.std.proofs.Common.{◌≡◌, ◌≤◌, true, false, List, length, refl, subst, arith}
 use Rattle.operations.specs.NameSet.{Range, IsAmong}
-use Rattle.tree_order.specs.Registers.{Kept}
+use Rattle.tree_order.specs.Registers.{Atom}
 use Rattle.piece_list.specs.Spelled.{spelled}
 use Rattle.piece_list.proofs.ChangedNames.{is_false, true_is_not}
 use Rattle.piece_list.proofs.HiddenNames.{NoneHidden, more_ranges, none_of_all}
@@ -8,7 +8,7 @@ use Rattle.piece_list.proofs.list.PieceList.has_hidden.Goals as goal
 
 pub loop-range-preserved : goal.loop-range-preserved
 loop-range-preserved c =
-    let ks : List Kept = spelled c.args.self.now.items in
+    let ks : List Atom = spelled c.args.self.now.items in
     let none : NoneHidden ks c.range-item.result =
     λ k has held. is_false k.hidden.value (λ hidden.
     let told : c.has_hidden_in.result ≡ true = c.has_hidden_in.ensures.1 (k, has, held, hidden) in
@@ -18,7 +18,7 @@ loop-range-preserved c =
 
 pub returns : goal.returns
 returns c =
-    let ks : List Kept = spelled c.args.self.now.items in
+    let ks : List Atom = spelled c.args.self.now.items in
     let all : length c.ranges-range-items.result.now ≤ c.loop-range.range-index = omega (arith, c.loop-range-test.false) in (
       λ hidden. absurd (true_is_not false hidden refl),
       λ (k, has, named, hidden). absurd (true_is_not k.hidden.value hidden

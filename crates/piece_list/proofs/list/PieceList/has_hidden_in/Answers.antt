@@ -1,7 +1,7 @@
 use Rattle.std.proofs.Common.{◌≡◌, ◌-◌, List, refl, ap, sym, subst, ◌∙◌, arith}
 use Rattle.char_files.specs.CharName.{CharName}
 use Rattle.operations.specs.NameSet.{IsIn}
-use Rattle.tree_order.specs.Registers.{Kept}
+use Rattle.tree_order.specs.Registers.{Atom}
 use Rattle.piece_list.specs.Spelled.{spelled}
 use Rattle.piece_list.proofs.ChangedNames.{range}
 use Rattle.piece_list.proofs.HiddenNames.{one_hidden}
@@ -10,7 +10,7 @@ use Rattle.piece_list.proofs.list.PieceList.has_hidden_in.Goals as goal
 pub returns-then-hidden : goal.returns-then-hidden
 returns-then-hidden c =
     let name : CharName = c.in-Some.name in
-    let ks : List Kept = spelled c.args.self.now.items in
+    let ks : List Atom = spelled c.args.self.now.items in
     let site : name.site ≡ c.args.range.site =
     ap (λ (d : CharName). d.site) c.in-Some.ensures.value ∙ c.site.ensures in
     let off : name.off ≡ c.loop-at.at = ap (λ (d : CharName). d.off) c.in-Some.ensures.value in

@@ -1,5 +1,5 @@
 use Rattle.std.proofs.Common.{◌≡◌, ℕ, List, Contains, ap, sym, subst}
-use Rattle.tree_order.specs.Registers.{Kept}
+use Rattle.tree_order.specs.Registers.{Atom}
 use Rattle.piece_list.specs.declared.piece.Piece.{Piece}
 use Rattle.piece_list.specs.Held.{PiecesSeen, IsPlaceOf}
 use Rattle.piece_list.specs.Spelled.{spelled}
@@ -15,5 +15,5 @@ returns-clause-key c = λ k has same.
     c.in_ok-place.ensures.place in
     let there : Contains (spelled items) k =
     subst (λ (l : List (ℕ × Piece)). Contains (spelled l) k) (sym seen) has in
-    ap (λ (o : Kept). o.key) (char_of_place items c.self.inside.tags c.numbers_differ.ensures c.self.invariant.0
+    ap (λ (o : Atom). o.key) (char_of_place items c.self.inside.tags c.numbers_differ.ensures c.self.invariant.0
     c.in_ok-place.place c.args.name c.value_at.result.now at c.value_at.ensures k there same)

@@ -1,6 +1,6 @@
 use Rattle.std.proofs.Common.{◌≡◌, ℕ, List, ◌∷◌, ◌++◌, Option, ap, subst, ◌∙◌}
 use Rattle.operations.specs.NameSet.{IsIn}
-use Rattle.tree_order.specs.Registers.{Kept}
+use Rattle.tree_order.specs.Registers.{Atom}
 use Rattle.piece_list.specs.declared.piece.Piece.{Piece}
 use Rattle.piece_list.specs.Held.{PiecesSeen}
 use Rattle.piece_list.specs.Pieces.{range_of, piece_of}
@@ -17,11 +17,11 @@ put-requires-clause-part c =
     let old : Items = c.args.self.now.items in
     let items : Items = c.end_at-end.new.pieces.items in
     let same : c.reserve.new.self.items ≡ old =
-    c.reserve.ensures.unchanged.0 ∙ ap (λ (v : PiecesSeen). v.items) (c.self.view_is ∙ c.find-found.ensures.seen) in
+    c.reserve.ensures.unchanged.0 ∙ ap (λ (v : PiecesSeen). v.items) (c.self.view_is ∙ c.locate_cause-found.ensures.seen) in
     let parted : IsPartedAt old items c.end_at-end.result c.args.cause =
-    subst (λ (l : Items). IsAnchorPlace l c.args.cause c.find-found.result
+    subst (λ (l : Items). IsAnchorPlace l c.args.cause c.locate_cause-found.result
     → IsPartedAt l items c.end_at-end.result c.args.cause) same (c.end_at-end.ensures.parted c.args.cause)
-    c.find-found.ensures.place in
+    c.locate_cause-found.ensures.place in
     skip_part old items c.args.run.key c.end_at-end.result c.skip-last.result c.self.inside.steps
     c.skip-last.new.steps c.args.cause parted c.skip-last.ensures
 
@@ -30,13 +30,13 @@ put-requires-clause-new c = λ d is has.
     let old : Items = c.args.self.now.items in
     let items : Items = c.end_at-end.new.pieces.items in
     let same : c.reserve.new.self.items ≡ old =
-    c.reserve.ensures.unchanged.0 ∙ ap (λ (v : PiecesSeen). v.items) (c.self.view_is ∙ c.find-found.ensures.seen) in
+    c.reserve.ensures.unchanged.0 ∙ ap (λ (v : PiecesSeen). v.items) (c.self.view_is ∙ c.locate_cause-found.ensures.seen) in
     let parted : IsPartedAt old items c.end_at-end.result c.args.cause =
-    subst (λ (l : Items). IsAnchorPlace l c.args.cause c.find-found.result
+    subst (λ (l : Items). IsAnchorPlace l c.args.cause c.locate_cause-found.result
     → IsPartedAt l items c.end_at-end.result c.args.cause) same (c.end_at-end.ensures.parted c.args.cause)
-    c.find-found.ensures.place in
+    c.locate_cause-found.ensures.place in
     c.requires.new d (subst (λ (p : Piece). IsIn (range_of p) d) c.of_run.ensures is)
-    (subst (λ (ks : List Kept). HasName ks d) (parted_spells old items c.end_at-end.result c.args.cause parted)
+    (subst (λ (ks : List Atom). HasName ks d) (parted_spells old items c.end_at-end.result c.args.cause parted)
     has)
 
 pub returns-clause-steps : goal.returns-clause-steps
@@ -44,13 +44,13 @@ returns-clause-steps c =
     let old : Items = c.args.self.now.items in
     let items : Items = c.end_at-end.new.pieces.items in
     let same : c.reserve.new.self.items ≡ old =
-    c.reserve.ensures.unchanged.0 ∙ ap (λ (v : PiecesSeen). v.items) (c.self.view_is ∙ c.find-found.ensures.seen) in
+    c.reserve.ensures.unchanged.0 ∙ ap (λ (v : PiecesSeen). v.items) (c.self.view_is ∙ c.locate_cause-found.ensures.seen) in
     let parted : IsPartedAt old items c.end_at-end.result c.args.cause =
-    subst (λ (l : Items). IsAnchorPlace l c.args.cause c.find-found.result
+    subst (λ (l : Items). IsAnchorPlace l c.args.cause c.locate_cause-found.result
     → IsPartedAt l items c.end_at-end.result c.args.cause) same (c.end_at-end.ensures.parted c.args.cause)
-    c.find-found.ensures.place in
+    c.locate_cause-found.ensures.place in
     let steps : c.self.inside.steps ≡ compared c.args.cause =
-    ap (λ (v : PiecesSeen). v.steps) (c.self.view_is ∙ c.find-found.ensures.seen) in
+    ap (λ (v : PiecesSeen). v.steps) (c.self.view_is ∙ c.locate_cause-found.ensures.seen) in
     let last : Option ℕ = c.skip-last.result in
     put_in_gap old items c.put.new.pieces.items c.args.cause (piece_of c.args.run) c.end_at-end.result last
     c.skip-last.new.steps parted

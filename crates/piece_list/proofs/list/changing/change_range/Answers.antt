@@ -1,7 +1,7 @@
 use Rattle.std.proofs.Common.{◌≡◌, ℕ, ◌+◌, ◌-◌, ◌<◌, [], ◌∷◌, List, map, refl, sym, ap, subst, ◌∙◌, arith}
 use Rattle.char_files.specs.CharName.{CharName}
 use Rattle.operations.specs.NameSet.{IsIn}
-use Rattle.tree_order.specs.Registers.{Kept, if_named}
+use Rattle.tree_order.specs.Registers.{Atom, if_named}
 use Rattle.piece_list.specs.declared.piece.Piece.{Piece}
 use Rattle.piece_list.specs.Changing.{changed_char, IsEdge}
 use Rattle.piece_list.specs.Spelled.{spelled}
@@ -11,10 +11,10 @@ use Rattle.piece_list.proofs.list.changing.change_range.Goals as goal
 
 pub loop-at-init : goal.loop-at-init
 loop-at-init c =
-    let each : Kept → Kept = changed_char c.args.change.now in
+    let each : Atom → Atom = changed_char c.args.change.now in
     let site : ℕ = c.args.range.site in
     let from : ℕ = c.args.range.at in
-    let old : List Kept = spelled c.args.pieces.now.items in
+    let old : List Atom = spelled c.args.pieces.now.items in
     let end : from + c.args.range.len ≡ c.at.result + c.len.result =
     omega (arith, c.at.ensures, c.len.ensures.value) in
     let none : c.at-at.result - from ≡ 0 = omega (arith, c.at-at.ensures) in

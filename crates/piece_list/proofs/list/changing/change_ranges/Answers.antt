@@ -1,6 +1,6 @@
 use Rattle.std.proofs.Common.{ℕ, [], ◌∷◌, List, map, take, refl, sym, ap, subst, ◌∙◌, arith}
 use Rattle.operations.specs.NameSet.{Range}
-use Rattle.tree_order.specs.Registers.{Kept, if_named}
+use Rattle.tree_order.specs.Registers.{Atom, if_named}
 use Rattle.piece_list.specs.declared.piece.Piece.{Piece}
 use Rattle.piece_list.specs.Changing.{changed_char, IsEdge}
 use Rattle.piece_list.specs.Spelled.{spelled}
@@ -38,7 +38,7 @@ change_range-requires-clause-begins c =
 
 pub loop-range-preserved : goal.loop-range-preserved
 loop-range-preserved c =
-    let each : Kept → Kept = changed_char c.args.change.now in
+    let each : Atom → Atom = changed_char c.args.change.now in
     let r : Range = c.range-item.result in
     record {
       entered = c.change_range.ensures.entered;

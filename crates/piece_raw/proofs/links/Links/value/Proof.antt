@@ -1,177 +1,47 @@
 -- `value` shows the value that the links lend. Assumes `Logic`.
-use mathlib.Core.Path.{◌≡◌, refl, sym, ap, subst, ◌∙◌}
-use Prim.Native.Nat.{ℕ, ◌+◌}
-use mathlib.Core.List.{List, [], ◌∷◌, ◌++◌}
-use seplogic.Ra.Ura.{Ura}
-use base.Fraction.{full_share}
+use mathlib.Core.Path.{◌≡◌, refl}
+use Prim.Native.Nat.{◌+◌}
+use mathlib.Core.List.{List, [], ◌∷◌}
 use mir.Syntax.{Fn, named}
 use mir.MapTy.{inst_fn}
 use mir.Val.{Val, vptr}
-use base.Logic.{SProp, ent}
-use base.Fml.{Lft, Share, Fml, ftrue, fat, flft}
-use prog.Wp.{Env, Calls, Loops, WpFn, Tables}
-use types.Logic.{Logic}
-use contract.Monad.{fact}
-use contract.Running.{tables, tables_of}
-use sound.WpLaws.{WpFn-mono}
-use types.Kit.{Item, ⋆, ‵, ◌⊛◌, at_ret, ◌$◌, ◌∵◌, !, qed, by, move, keep, drop, use1, split, join, rewrite}
-use types.Kit.{fsplit, fjoin, feq_i, feq_l, suffices, frame, done}
+use base.Fml.{flft}
+use types.Kit.{‵, at_ret, ◌$◌, ◌∵◌, !, qed, by, keep, feq_i, fjoin}
 use types.Part.{whole, sub}
 use types.Run.{stop, hop, fld, from, of_opd, addr, first, blocks, exec, returns, enter}
 use types.ByLocal.{alloc_all, pass_all, free_all, look_at, look_in_at, get, sets, sets_last, env}
-use denote.Exit.{yes, no}
-use denote.RattleType.{owns}
 use denote.Memory.{hidden_shr}
-use denote.Param.{layout}
-use denote.RawPtr.{Ptr, block_ptr, null_ptr, in_a_block}
-use denote.Ref.{Bor, ShrRef}
-use denote.Builtin.{RefOf}
+use denote.RawPtr.{block_ptr}
+use denote.Ref.{ShrRef}
 use denote.Signature.{plain}
-use denote.Opens.{hide, unhide}
-use denote.Steps.{nothing}
-use denote.Struct.Lending.{lent_at}
-use denote.Triple.Carry.{spared}
-use denote.Triple.Clauses.{Clauses, Ended, closing}
-use denote.Triple.Entry.{on_entry}
-use denote.Triple.Spec.{Meets, triple_of}
-use denote.Triple.Table.{entered, run_framed}
-use denote.Triple.Walked.{says, needs, Stays, stay_dropped, walk_of, ends_at, Goes-dropped, walk_Meets}
 use Rattle.std.proofs.VecSteps.Shapes.{after}
 use Rattle.std.proofs.RcSteps.{word, word-Good}
 use Rattle.piece_raw.specs.Linked.{IsAt, AtNode}
-use Rattle.piece_raw.specs.Ownership.{value_of, values_lent}
-use Rattle.piece_raw.proofs.Apart.{same_node}
-use Rattle.piece_raw.proofs.Memory.{Of, args, RV, vo, Member, Lr, Np, word_had, value_seen}
-use types.ByLocal.{take_at, give_at}
+use Rattle.piece_raw.proofs.Apart.{at_node}
+use Rattle.piece_raw.proofs.Memory.{Of, args, RV, vo, value_at}
+use Rattle.piece_raw.proofs.Walks.{𝓣, looks}
 use Rattle.piece_raw.specs.contracts.links.Links.value.Key.{name as #self}
 use Rattle.piece_raw.proofs.links.Links.value.Statement as stated
 use Rattle.piece_raw.proofs.links.Links.value.Code as code
 
-module _ (E : Of) where
-  abbrev function : Fn
-  function = inst_fn (args E) code.function
-
-  abbrev ended : Ended
-  ended = record {
-    signature = record {
-      lifetimes = 1;
-      outlives = [];
-      params = RefOf (0 ∷ [])
-          tt (plain (λ _. Lr E)) (λ _. tt) ∷ plain (λ _. Np E) ∷ [];
-      result = plain (λ κs. ShrRef (named 0)
-          κs.0 (RV E));
-    };
-    kept = (yes, (no, tt));
-  }
-
-  abbrev stayed : Stays ended.signature.params ended.kept
-  stayed = (
-    stay_dropped (RefOf (0 ∷ []) tt (plain (λ _. Lr E)) (λ _. tt))
-        yes,
-    (stay_dropped (plain (λ _. Np E)) no, tt),
-  )
-
-  abbrev Asks : (Lr E).Denot → (Np E).Denot → Type 0
-  Asks d node = IsAt (d.trailer ∷ d.nodes) node.ptr
-
-  abbrev Gives0 : (Lr E).Denot → (Np E).Denot → Bor E.row.Denot → Type 0
-  Gives0 d node r = AtNode (d.trailer ∷ d.nodes) node.ptr (λ _ n _. r.now ≡ n.value)
-
-  abbrev spec : {M : Type 1} {𝓤 : Ura M} (𝓛 : Logic 𝓤) → Clauses 𝓤 ended
-  spec {𝓤 = 𝓤} 𝓛 κs a = record {
-    ghost = Unit {0};
-    requires = λ _. fact 𝓤 (Asks a.0.now a.1.0);
-    ensures =
-        λ _ r w. fact 𝓤 (Gives0 a.0.now a.1.0 r);
-  }
-
-module _ (E : Of) {M : Type 1} {𝓤 : Ura M} (𝓛 : Logic 𝓤) (C : Calls 𝓤 𝓛.H) (Λ : Loops 𝓤 𝓛.H) (κ : Lft)
-    (q : Share) (rb ro : ℕ) (d : (Lr E).Denot) (node : (Np E).Denot) (us0 us1 : List Val) where
-  open 𝓛 use {H, A}
-
-  abbrev self : Bor (Lr E).Denot
-  self = record { ref_ptr = (rb, ro); now = d }
-
-  abbrev bound : (walk_of 𝓛 (ended E) (stayed E) (spec E 𝓛)).Ghost
-  bound = (((κ, tt), (q, tt), tt, (self, (node, tt)), (us0, (us1, tt))), tt)
-
-  abbrev Post : Val → SProp 𝓤
-  Post = (walk_of 𝓛 (ended E) (stayed E) (spec E 𝓛)).post bound
-
-  exits : (r : (ShrRef (named 0) κ (RV E)).Denot) (v : Val) → Gives0 E d node r →
-      ent 𝓤 (⋆ 𝓛 (‵ (flft κ q) ∷ ‵ ((ShrRef (named 0) κ (RV E)).own_val r (v ∷ [])) ∷ [])) (Post v)
-  exits r v g0 =
-      qed 𝓛 (‵ (flft κ q) ∷ ‵ ((ShrRef (named 0) κ (RV E)).own_val r (v ∷ [])) ∷ []) ∵
-      suffices ! _ (ends_at 𝓛 (ended E) (stayed E) (spec E 𝓛) bound v r (tt, (tt, tt)) (tt, (tt, tt))) $
-      says ! g0 $
-      nothing ! $ move ! (1 ∷ 0 ∷ []) $ join ! $ frame ! $ nothing ! $ nothing ! $ fjoin ! $ nothing ! $
-      fjoin ! $ done !
-
-  abbrev Had : List (Item 𝓤)
-  Had = ‵ (hidden_shr (Lr E) κ d rb ro) ∷ ‵ (flft κ q) ∷ []
-
-  walk : Asks E d node → ent 𝓤 (⋆ 𝓛 Had) (WpFn 𝓤 H C Λ (function E) (vptr rb ro ∷ word node.ptr ∷ []) Post)
-  walk asked =
-      let n : Member E = asked.1 in
-      let Seen : Ptr → Fml = λ p. lent_at (RV E) (value_of (RV E) p) n.value κ in
-      qed 𝓛 Had ∵ enter ! C Λ (function E) (vptr rb ro ∷ word node.ptr ∷ []) _ $
-      alloc_all ! (λ l. pass_all ! refl ((tt, tt), (word-Good [] node.ptr, tt)) $
-      let En : Env 𝓤 H = env (function E).locals l in
-      unhide ! $ fsplit ! $ drop ! $ fsplit ! $ drop ! $ rewrite ! 0 (λ (ns : List (Member E)). ‵
-      (values_lent (RV E) ns κ)) asked.3 refl $
-      use1 𝓛 (‵ (Seen n.at)) (value_seen 𝓛 E κ asked.0 n asked.2) $
-      in_a_block ! n.at Seen (qed 𝓛 (‵ (Seen null_ptr) ∷ []) ∵ fsplit ! $ keep ! (0 ∷ []) $
-      done !) (λ pb po e.
-      let ep : node.ptr ≡ block_ptr pb po = sym asked.4 ∙ e in
-      let val : Bor E.row.Denot = record { ref_ptr = (pb, po + vo E); now = n.value } in
-      let v : Val = vptr pb (po + vo E) in
-      take_at ! 2 $ rewrite ! 0 (λ (p : Ptr). ‵ (fat full_share (layout (Np E)) (l 2) 0 (word p))) ep refl $
-      give_at ! 2 $
-      first ! $ blocks ! $ sets_last ! (addr ! (from ! (fld ! refl (hop ! (look_in_at ! 2 (sub ! 0 refl
-      (whole !))) (fld ! refl (stop !)))))) refl (tt, tt) $
-      exec ! C Λ En (after 1 (function E).body) (at_ret En Post) $
-      sets ! (of_opd ! (get ! refl)) refl (tt, tt) $
-      fsplit ! $ drop ! $ hide ! $ feq_i ! (List Val) (v ∷ []) (v ∷ []) refl $ fjoin ! $
-      returns ! (look_at ! 0 refl) $ free_all ! refl $ keep ! (1 ∷ 0 ∷ []) $
-      by ! (exits val v (λ us m ws cut at.
-      ap (λ (k : Member E). k.value) (same_node (d.trailer ∷ d.nodes)
-      asked.0 n asked.2 us m ws d.apart asked.3 cut (asked.4 ∙ sym at)).1))))
-
-  entry : Asks E d node → ent 𝓤 (on_entry 𝓛 (ended E).signature (κ, tt) (q, tt) (self, (node, tt))
-      (us0, (us1, tt))) (WpFn 𝓤 H C Λ (function E) (us0 ++ (us1 ++ [])) Post)
-  entry asked =
-      qed 𝓛 ((‵ (flft κ q) ⊛ ‵ ftrue) ∷ ‵ (owns (ShrRef (named 0) κ (Lr E) ∷ Np E ∷ []) (self, (node, tt))
-      (us0, (us1, tt))) ∷ []) ∵
-      split ! $ move ! (2 ∷ []) $
-      fsplit ! $
-      fsplit ! $ feq_l ! (λ e0.
-      move ! (1 ∷ []) $
-      fsplit ! $
-      word_had ! node.ptr us1 (λ e1.
-      keep ! (1 ∷ 2 ∷ []) $
-      by ! (subst (λ (ws : List Val × List Val). ent 𝓤 (⋆ 𝓛 Had) (WpFn 𝓤 H C Λ (function E)
-      (ws.0 ++ (ws.1 ++ [])) Post)) (λ j. (sym e0 j, sym e1 j)) (walk asked))))
-
-meets : (E : Of) {M : Type 1} {𝓤 : Ura M} (𝓛 : Logic 𝓤) (𝓣 : Tables 𝓤 𝓛.H)
-    → Meets 𝓛 (ended E).signature (WpFn 𝓤 𝓛.H 𝓣.C 𝓣.Λ (function E)) (closing 𝓛 (ended E) (spec E 𝓛))
-meets E {𝓤 = 𝓤} 𝓛 𝓣 =
-    walk_Meets 𝓛 (ended E) (stayed E) (
-      Goes-dropped 𝓛 1 (RefOf (0 ∷ []) tt (plain (λ _. Lr E)) (λ _. tt))
-          yes (λ κs x f. refl),
-      (Goes-dropped 𝓛 1 (plain (λ _. Np E)) no (λ κs x f. refl), tt),
-    ) (spec E 𝓛)
-    (WpFn 𝓤 𝓛.H 𝓣.C 𝓣.Λ (function E)) (WpFn-mono 𝓤 𝓛.H 𝓛.laws 𝓣 (function E))
-    (λ z. needs 𝓤 (Asks E z.0.3.0.now z.0.3.1.0) _ (entry E 𝓛 𝓣.C 𝓣.Λ z.0.0.0 z.0.1.0 z.0.3.0.ref_ptr.0
-    z.0.3.0.ref_ptr.1 z.0.3.0.now z.0.3.1.0 z.0.4.0 z.0.4.1.0))
-
 pub value_spec : {M : Type 1} → stated.statement M
-unfolding tables_of
 value_spec 𝓤 𝓛 𝓜 𝓡 wired X LX y =
     let E : Of = record { row = X; laws = LX } in
-    let 𝓣 : Tables 𝓤 𝓛.H = tables_of 𝓤 𝓛.H 𝓜 (tables 𝓤 𝓛.H 𝓜 𝓡 𝓡.env) in
-    let k = #self (args E) in
-    spared 𝓛 (ended E).signature (𝓡.run (𝓡.env k)) (run_framed 𝓤 𝓛.H 𝓜 𝓡 (𝓡.env k)) 1 (X.lives, tt)
-    (closing 𝓛 (ended E) (spec E 𝓛))
-    (entered 𝓤 𝓛.H (triple_of 𝓛 (ended E).signature (closing 𝓛 (ended E) (spec E 𝓛))) 𝓣.C 𝓣.Λ k (function E)
-    (code.unfolded 𝓤 𝓛.H 𝓜 𝓡 wired (X, tt)) (meets E 𝓛 𝓣))
+    let e : Fn = inst_fn (args E) code.function in
+    looks E (plain (λ κs. ShrRef (named 0) κs.0 (RV E))) 𝓛 𝓜 𝓡
+    (λ d node. IsAt (d.trailer ∷ d.nodes) node.ptr)
+    (λ κs d node r. AtNode (d.trailer ∷ d.nodes) node.ptr (λ _ n _. r.now ≡ n.value)) (RV E) (vo E)
+    (λ κs x b o. record { ref_ptr = (b, o + vo E); now = x }) (λ d node at. at.1.value)
+    (λ κ d node. value_at 𝓛 E κ d.trailer d.nodes node.ptr)
+    (λ κs d node at b o ep. at_node (d.trailer ∷ d.nodes) node.ptr d.apart at (λ _ n _. at.1.value ≡ n.value) refl)
+    (#self (args E)) e (code.unfolded 𝓤 𝓛.H 𝓜 𝓡 wired (X, tt)) (λ κs q rb ro b o x Post exits.
+    let v : Val = vptr b (o + vo E) in
+    qed 𝓛 (‵ (hidden_shr (RV E) κs.0 x b (o + vo E)) ∷ ‵ (flft κs.0 q) ∷ []) ∵
+    enter ! (𝓣 𝓛 𝓜 𝓡).C (𝓣 𝓛 𝓜 𝓡).Λ e (vptr rb ro ∷ word (block_ptr b o) ∷ []) _ $
+    alloc_all ! (λ l. pass_all ! refl ((tt, tt), (word-Good [] (block_ptr b o), tt)) $
+    first ! $ blocks ! $ sets_last ! (addr ! (from ! (fld ! refl (hop ! (look_in_at ! 2 (sub ! 0 refl
+    (whole !))) (fld ! refl (stop !)))))) refl (tt, tt) $
+    exec ! (𝓣 𝓛 𝓜 𝓡).C (𝓣 𝓛 𝓜 𝓡).Λ (env e.locals l) (after 1 e.body) (at_ret (env e.locals l) Post) $
+    sets ! (of_opd ! (get ! refl)) refl (tt, tt) $ feq_i ! (List Val) (v ∷ []) (v ∷ []) refl $ fjoin ! $
+    returns ! (look_at ! 0 refl) $ free_all ! refl $ keep ! (1 ∷ 0 ∷ []) $ by ! (exits v)))
     ((y.0.0, y.0.1, tt, y.0.3, y.0.4), y.1)

@@ -1,7 +1,7 @@
 use Rattle.std.proofs.Common.{◌≡◌, ℕ, zero, suc, ◌<◌, List, [], ◌∷◌, get_or, refl, sym, ap, subst, ◌∙◌, arith}
 use Rattle.char_files.specs.CharName.{CharName}
 use Rattle.operations.specs.NameSet.{Range, IsIn, IsAmong, of_name}
-use Rattle.tree_order.specs.Registers.{Kept}
+use Rattle.tree_order.specs.Registers.{Atom}
 use Rattle.piece_list.specs.Changing.{AreHere}
 use Rattle.piece_list.specs.Spelled.{spelled, HasName}
 use Rattle.piece_tests.proofs.tests.shown.hide_one.Goals as goal
@@ -17,7 +17,7 @@ one_name name c zero r lt at (site, from, to) =
     ap (λ (s : ℕ). named s name.off) (own ∙ sym site) ∙ ap (named c.site) off
 one_name name c (suc k) r lt at inside = absurd (omega arith)
 
-one_here : (names : List Range) (chars : List Kept) (name : CharName) → names ≡ of_name name ∷ []
+one_here : (names : List Range) (chars : List Atom) (name : CharName) → names ≡ of_name name ∷ []
     → HasName chars name → AreHere names chars
 one_here names chars name is has = λ c among.
     let (k, r, lt, at, inside) = subst (λ (l : List Range). IsAmong l c) is among in

@@ -1,7 +1,7 @@
 use Rattle.std.proofs.Common.{◌≡◌, ◌+◌, ◌-◌, ◌++◌, length, take, drop, refl, sym, ap, ◌∙◌, arith}
 use Rattle.std.proofs.lemmas.List.{take-append-drop, take_rest}
 use Rattle.rank_index.specs.declared.chunk.TheConstants.{HALF}
-use Rattle.rank_index.specs.Chunks.{Stretch}
+use Rattle.rank_index.specs.Chunks.{ChunkSeen}
 use Rattle.rank_index.specs.Ranked.{weight_of}
 use Rattle.rank_index.proofs.ChunkRank.{weight_of-more_le}
 use Rattle.rank_index.proofs.ChunkHalves.{all_moved, parts_weigh}
@@ -17,7 +17,7 @@ moved c =
 
 -- what is kept is the first
 kept : (c : After-sum) → c.truncate.new.self.items ≡ take HALF c.args.self.now.members
-kept c = c.truncate.ensures.items ∙ ap (λ (s : Stretch). take HALF s.members) c.self.view_is
+kept c = c.truncate.ensures.items ∙ ap (λ (s : ChunkSeen). take HALF s.members) c.self.view_is
 
 -- both weigh what all did
 weighs : (c : After-sum)
@@ -29,13 +29,13 @@ weighs c =
       ap weight_of (kept c),
       ap weight_of (moved c),
       parts_weigh c.args.self.now.members HALF,
-      ap (λ (s : Stretch). weight_of s.members) c.self.view_is,
+      ap (λ (s : ChunkSeen). weight_of s.members) c.self.view_is,
     )
 
 pub loop-member-init : goal.loop-member-init
 loop-member-init c = record {
   whole = take_rest c.deref.result.now HALF ∙ ap (drop HALF) c.deref.ensures.value
-      ∙ ap (λ (s : Stretch). drop HALF s.members) c.self.view_is;
+      ∙ ap (λ (s : ChunkSeen). drop HALF s.members) c.self.view_is;
   moved = c.requires.empty;
   home = refl;
 }
@@ -50,7 +50,7 @@ push-requires-clause-total c =
       ap weight_of c.loop-member.invariant.moved,
       ap weight_of c.loop-member.invariant.whole,
       parts_weigh old HALF,
-      ap (λ (s : Stretch). weight_of s.members) c.self.view_is,
+      ap (λ (s : ChunkSeen). weight_of s.members) c.self.view_is,
       c.self.invariant.1,
     )
 

@@ -1,6 +1,6 @@
 use Rattle.std.proofs.Common.{◌≡◌, length, ap, arith}
 use Rattle.std.specs.List.{insert}
-use Rattle.rank_index.specs.Chunks.{Stretch}
+use Rattle.rank_index.specs.Chunks.{ChunkSeen}
 use Rattle.rank_index.specs.Ranked.{weight_of}
 use Rattle.rank_index.proofs.ChunkPlace.{weight_of-insert}
 use Rattle.rank_index.proofs.chunk.Chunk.insert_after.Goals as goal
@@ -16,14 +16,14 @@ invariant_of-self c =
         arith,
         more,
         ap weight_of put,
-        ap (λ (s : Stretch). weight_of s.members) c.self.view_is,
+        ap (λ (s : ChunkSeen). weight_of s.members) c.self.view_is,
         c.requires.total,
       ),
       omega (
         arith,
         c.in-Ok.ensures.len,
         c.self.inside.members.ok.0,
-        ap (λ (s : Stretch). length s.members) c.self.view_is,
+        ap (λ (s : ChunkSeen). length s.members) c.self.view_is,
         c.requires.room,
       ),
       omega (arith, c.in-Ok.ensures.capacity, c.self.invariant.3),

@@ -1,5 +1,5 @@
 use Rattle.std.proofs.Common.{◌≡◌, ℕ, ◌<◌, get_or, length, ap, arith}
-use Rattle.rank_index.specs.Chunks.{Stretch}
+use Rattle.rank_index.specs.Chunks.{ChunkSeen}
 use Rattle.rank_index.specs.Ranked.{weight_of}
 use Rattle.rank_index.proofs.ChunkRank.{weight_of-more_le}
 use Rattle.rank_index.proofs.ChunkPlace.{place_within, set_at, weight_of-set}
@@ -10,7 +10,7 @@ overflow_add-self c =
     let items = c.self.inside.members.items in
     let place = c.in-Some.place in
     let m = c.index.result.now in
-    let same : items ≡ c.args.self.now.members = ap (λ (s : Stretch). s.members) c.self.view_is in
+    let same : items ≡ c.args.self.now.members = ap (λ (s : ChunkSeen). s.members) c.self.view_is in
     let lt : place < length items =
     omega (arith, place_within c.args.self.now.members c.args.tag place c.in-Some.ensures.place, ap length same) in
     let read : m.1 ≡ (get_or items place m).1 = ap (λ (n : ℕ × ℕ). n.1) c.index.ensures in
@@ -30,7 +30,7 @@ invariant_of-self c =
     let place = c.in-Some.place in
     let m = c.index.result.now in
     let n = c.index_mut.result.now in
-    let same : items ≡ c.args.self.now.members = ap (λ (s : Stretch). s.members) c.self.view_is in
+    let same : items ≡ c.args.self.now.members = ap (λ (s : ChunkSeen). s.members) c.self.view_is in
     let lt : place < length items =
     omega (arith, place_within c.args.self.now.members c.args.tag place c.in-Some.ensures.place, ap length same) in
     let read : m.1 ≡ (get_or items place m).1 = ap (λ (k : ℕ × ℕ). k.1) c.index.ensures in (
@@ -53,6 +53,6 @@ invariant_of-self c =
 pub returns-clause-members : goal.returns-clause-members
 returns-clause-members c =
     let same : c.self.inside.members.items ≡ c.args.self.now.members =
-    ap (λ (s : Stretch). s.members) c.self.view_is in
+    ap (λ (s : ChunkSeen). s.members) c.self.view_is in
     set_at c.self.inside.members.items c.args.self.now.members c.args.tag c.in-Some.place c.args.weight
     c.index_mut.result.now same c.index_mut.ensures.value c.in-Some.ensures.place c.requires.once

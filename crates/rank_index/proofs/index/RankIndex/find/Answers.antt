@@ -1,6 +1,6 @@
 use Rattle.std.proofs.Common.{◌≡◌, ◌+◌, ◌-◌, List, length, take, drop, ap, subst, ◌∙◌, arith}
 use Rattle.std.proofs.lemmas.List.{take_rest}
-use Rattle.rank_index.specs.Chunks.{Stretch, members_of}
+use Rattle.rank_index.specs.Chunks.{ChunkSeen, members_of}
 use Rattle.rank_index.specs.Groups.{weight_to}
 use Rattle.rank_index.specs.Ranked.{Ranked, weight_of, IsFound}
 use Rattle.rank_index.proofs.Tagged.{Members}
@@ -22,7 +22,7 @@ passed : (c : After-deref-3)
     → c.args.pos ≡ weight_to c.self.inside.chunks.items c.group_at-place.result.0 + c.group_at-place.result.1
 passed c =
     c.group_at-place.ensures.left
-    ∙ ap (λ (l : List Stretch). weight_to l c.group_at-place.result.0 + c.group_at-place.result.1)
+    ∙ ap (λ (l : List ChunkSeen). weight_to l c.group_at-place.result.0 + c.group_at-place.result.1)
     c.deref-2.ensures.value
 
 pub found_in-requires : goal.found_in-requires
@@ -30,7 +30,7 @@ found_in-requires c =
     let at = (goal.at.found_in-requires c).After-deref-3 in
     omega (
       arith,
-      ap (λ (l : List Stretch). weight_of (members_of l)) (rest at),
+      ap (λ (l : List ChunkSeen). weight_of (members_of l)) (rest at),
       passed at,
       weight_parts c.self.inside.chunks.items c.group_at-place.result.0,
       ap (λ (r : Ranked). weight_of r.items) c.self.view_is,
@@ -40,7 +40,7 @@ found_in-requires c =
 pub returns : goal.returns
 returns c =
     let at = (goal.at.returns c).After-deref-3 in
-    let in_rest = subst (λ (l : List Stretch). IsFound (members_of l) c.group_at-place.result.1 c.found_in.result.0
+    let in_rest = subst (λ (l : List ChunkSeen). IsFound (members_of l) c.group_at-place.result.1 c.found_in.result.0
     c.found_in.result.1) (rest at) c.found_in.ensures in
     record {
       found = subst (λ (l : Members). IsFound l c.args.pos c.found_in.result.0 c.found_in.result.1)

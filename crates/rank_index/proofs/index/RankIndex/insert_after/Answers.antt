@@ -4,7 +4,7 @@ use Rattle.std.proofs.lemmas.List.{get_or_read, take_at}
 use Rattle.std.proofs.lemmas.Option.{slice_get_within}
 use Rattle.piece_raw.specs.Ring.{IsPushed}
 use Rattle.rank_index.specs.declared.groups.TheConstants.{GROUP}
-use Rattle.rank_index.specs.Chunks.{Stretch, members_of, AreTied}
+use Rattle.rank_index.specs.Chunks.{ChunkSeen, members_of, AreTied}
 use Rattle.rank_index.specs.Groups.{AreGroups}
 use Rattle.rank_index.specs.Ranked.{Ranked, weight_of}
 use Rattle.rank_index.proofs.Grouped.{group_among, groups_set}
@@ -48,7 +48,7 @@ pub regroup_if_grown-requires-clause-total : goal.regroup_if_grown-requires-clau
 regroup_if_grown-requires-clause-total c =
     omega (
       arith,
-      ap (λ (l : List Stretch). weight_of (members_of l)) c.deref.ensures.value,
+      ap (λ (l : List ChunkSeen). weight_of (members_of l)) c.deref.ensures.value,
       ap weight_of c.place_behind-place.ensures.members,
       c.self.invariant.4,
     )
@@ -107,10 +107,10 @@ insert_after-requires-clause-total c =
 pub invariant_of-self : goal.invariant_of-self
 invariant_of-self c =
     let at = goal.at.invariant_of-self c in
-    let chunks : List Stretch = c.place_behind-place.new.chunks.items in
+    let chunks : List ChunkSeen = c.place_behind-place.new.chunks.items in
     let homes : List ℕ = c.place_behind-place.new.homes in
     let place : ℕ = c.place_behind-place.result in
-    let chunk : Stretch = c.insert_after.new.self in
+    let chunk : ChunkSeen = c.insert_after.new.self in
     let lt : place < length chunks = within at.After-index_mut-chunk in
     let are = grouped at.After-regroup_if_grown in
     let is_same : members_of chunks ≡ c.args.self.now.items = same at.After-index_mut-chunk in

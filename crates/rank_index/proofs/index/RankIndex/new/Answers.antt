@@ -1,6 +1,6 @@
 use Rattle.std.proofs.Common.{◌≡◌, ℕ, List, [], ◌∷◌, ◌++◌, length, sym, ap, subst, ◌∙◌, arith}
 use Rattle.std.proofs.lemmas.List.Elements.{All-nil}
-use Rattle.rank_index.specs.Chunks.{Stretch, members_of, AreEmpty, AreTied}
+use Rattle.rank_index.specs.Chunks.{ChunkSeen, members_of, AreEmpty, AreTied}
 use Rattle.rank_index.specs.Ranked.{weight_of}
 use Rattle.rank_index.proofs.Grouped.{groups_alone}
 use Rattle.rank_index.proofs.Inserted.{tied_empty}
@@ -11,19 +11,19 @@ use Rattle.rank_index.proofs.index.RankIndex.new.Goals as goal
 pub invariant_of-result : goal.invariant_of-result
 invariant_of-result c =
     let chunk = c.in_ok-new.field-0 in
-    let none : chunk.members ≡ [] = ap (λ (s : Stretch). s.members) c.in_ok-new.ensures.ok in
+    let none : chunk.members ≡ [] = ap (λ (s : ChunkSeen). s.members) c.in_ok-new.ensures.ok in
     let one : c.push.new.self.items ≡ chunk ∷ [] =
-    c.in_ok-push.ensures.items ∙ ap (λ (l : List Stretch). l ++ chunk ∷ []) c.new-chunks.ensures.items in
-    let first : chunk.home ≡ 0 = ap (λ (s : Stretch). s.home) c.in_ok-new.ensures.ok in
+    c.in_ok-push.ensures.items ∙ ap (λ (l : List ChunkSeen). l ++ chunk ∷ []) c.new-chunks.ensures.items in
+    let first : chunk.home ≡ 0 = ap (λ (s : ChunkSeen). s.home) c.in_ok-new.ensures.ok in
     let places : c.push-2.new.self.items ≡ 0 ∷ [] =
     c.in_ok-push-2.ensures.items ∙ ap (λ (l : List ℕ). l ++ 0 ∷ []) c.new-places.ensures.items in
     let groups : c.push-3.new.self.items ≡ 0 ∷ [] =
     c.in_ok-push-3.ensures.items ∙ ap (λ (l : List ℕ). l ++ 0 ∷ []) c.new-groups.ensures.items in
     let weightless : weight_of (members_of c.push.new.self.items) ≡ 0 =
-    ap (λ (l : List Stretch). weight_of (members_of l)) one ∙ ap (λ (l : Members). weight_of (l ++ [])) none in (
-      subst (λ (l : List Stretch). AreTied c.new-2.result.items l) (sym one)
+    ap (λ (l : List ChunkSeen). weight_of (members_of l)) one ∙ ap (λ (l : Members). weight_of (l ++ [])) none in (
+      subst (λ (l : List ChunkSeen). AreTied c.new-2.result.items l) (sym one)
           (subst (λ (l : List ℕ). AreTied l (chunk ∷ [])) (sym c.new-2.ensures.items) (tied_empty chunk none)),
-      subst AreEmpty (sym c.new-3.ensures.items) (All-nil (λ (s : Stretch). s.members ≡ [])),
+      subst AreEmpty (sym c.new-3.ensures.items) (All-nil (λ (s : ChunkSeen). s.members ≡ [])),
       omega (arith, c.new-3.ensures.len, c.push.new.self.ok),
       sym weightless,
       omega (arith, weightless),

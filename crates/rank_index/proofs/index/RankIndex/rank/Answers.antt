@@ -1,5 +1,5 @@
 use Rattle.std.proofs.Common.{◌≡◌, ℕ, ◌+◌, List, length, sym, ap, subst, ◌∙◌, arith}
-use Rattle.rank_index.specs.Chunks.{Stretch, members_of}
+use Rattle.rank_index.specs.Chunks.{ChunkSeen, members_of}
 use Rattle.rank_index.specs.Groups.{weight_to}
 use Rattle.rank_index.specs.Ranked.{Ranked, IsRank}
 use Rattle.rank_index.proofs.Stretches.{IsReadFor, is_within, read_for}
@@ -19,7 +19,7 @@ is_read c =
 ahead : (c : After-index) → c.weight_ahead.result ≡ weight_to c.self.inside.chunks.items c.chunk_of-place.result
 ahead c =
     c.weight_ahead.ensures
-    ∙ ap (λ (l : List Stretch). weight_to l c.chunk_of-place.result) c.deref-5.ensures.value
+    ∙ ap (λ (l : List ChunkSeen). weight_to l c.chunk_of-place.result) c.deref-5.ensures.value
 
 pub weight_ahead-requires-clause-groups : goal.weight_ahead-requires-clause-groups
 weight_ahead-requires-clause-groups c = rw (c.deref-4.ensures.value, c.deref-5.ensures.value) c.self.invariant.7

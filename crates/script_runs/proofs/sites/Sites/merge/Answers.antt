@@ -4,6 +4,7 @@ use Rattle.std.specs.Vec.{with_items}
 use Rattle.std.proofs.lemmas.List.{length-append, length-set, with_items_is}
 use Rattle.std.proofs.lemmas.Option.{slice_get_read}
 use Rattle.machine.specs.Machine.{State}
+use Rattle.set_laws.proofs.Fronts.{are_held_to_the_front}
 use Rattle.script_runs.proofs.Merging.{merged_into_back, merged_into_front, merged_itself}
 use Rattle.script_runs.proofs.sites.Sites.merge.Goals as goal
 
@@ -41,4 +42,4 @@ returns-else-desk-other c =
     let at_i : slice_get desks c.args.desk ≡ Some c.index.result.now = slice_get_read desks (length desks) c.args.desk c.index.result.now refl in_run c.index.ensures in
     let (t, is_t, is) = c.has_text.ensures in
     let same : c.args.other ≡ c.args.desk = omega (arith, c.if-other-desk.false, c.if-desk-other.false) in
-    rw (← c.self.view_is, same) (merged_itself s c.args.desk c.args.text c.index.result.now at_i t is_t is c.front_is_held.ensures)
+    rw (← c.self.view_is, same) (merged_itself s c.args.desk c.args.text c.index.result.now at_i t is_t is are_held_to_the_front)

@@ -21,4 +21,4 @@ push-requires-clause-next c =
     let t = c.self.inside in
     let taken = subst (λ ops. IsTaken ops t.pieces.items t.files) (sym c.reserve.ensures.ops) c.self.invariant in
     let same : c.reserve.new.self.ops ≡ c.args.self.now.operations = c.reserve.ensures.ops ∙ ap (λ (s : TakenSeen). s.operations) c.self.view_is in
-    is_next c.the_laws_of_sets.ensures c.reserve.new.self.ops c.args.op taken.good taken.identified (subst (λ ops. IsNew ops c.args.op) (sym same) c.requires.new) (subst (λ ops. HasVerdict ops c.args.op ready) (sym same) c.requires.ready)
+    is_next c.reserve.new.self.ops c.args.op taken.good taken.identified (subst (λ ops. IsNew ops c.args.op) (sym same) c.requires.new) (subst (λ ops. HasVerdict ops c.args.op ready) (sym same) c.requires.ready)

@@ -15,10 +15,10 @@ use Rattle.taken_text.proofs.taken_text.TakenText.are_shown.Goals as goal
 here : (c : goal.After-self) → AreHere c.args.names.now (spelled c.self.inside.pieces.items)
 here c =
     let t = c.self.inside in
-    let kept = spelled t.pieces.items in
+    let atoms = spelled t.pieces.items in
     let ops : t.log.ops ≡ c.args.self.now.operations = ap (λ (s : TakenSeen). s.operations) c.self.view_is in
-    chars_are_here t.log.ops kept c.self.invariant.kept
-    (all_tell t.log.ops (c.registers_tell_what_is_shown.ensures t.log.ops c.self.invariant.good) kept c.self.invariant.kept.registers)
+    chars_are_here t.log.ops atoms c.self.invariant.atoms
+    (all_tell t.log.ops c.self.invariant.good atoms c.self.invariant.atoms.registers)
     c.args.names.now (λ name named. subst (λ (l : List Operation). IsChar l name) (sym ops) (c.requires name named))
 
 pub has_hidden-requires : goal.has_hidden-requires
@@ -27,10 +27,10 @@ has_hidden-requires c = here c
 pub returns : goal.returns
 returns c =
     let t = c.self.inside in
-    let kept = spelled t.pieces.items in
+    let atoms = spelled t.pieces.items in
     let ops : t.log.ops ≡ c.args.self.now.operations = ap (λ (s : TakenSeen). s.operations) c.self.view_is in
     subst (λ (l : List Operation). IsTrue (not c.has_hidden.result)
     ↔ ((name : CharName) → IsAmong c.args.names.now name → IsTrue (is_visible l name))) ops
-    (all_visible t.log.ops kept c.self.invariant.kept
-    (all_tell t.log.ops (c.registers_tell_what_is_shown.ensures t.log.ops c.self.invariant.good) kept c.self.invariant.kept.registers)
+    (all_visible t.log.ops atoms c.self.invariant.atoms
+    (all_tell t.log.ops c.self.invariant.good atoms c.self.invariant.atoms.registers)
     c.args.names.now (here c.before) c.has_hidden.result c.has_hidden.ensures)

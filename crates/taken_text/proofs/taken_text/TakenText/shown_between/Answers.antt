@@ -6,24 +6,21 @@ use Rattle.taken_text.proofs.taken_text.TakenText.shown_between.Goals as goal
 pub of-requires : goal.of-requires
 of-requires c =
     let t = c.self.inside in
-    let tell = c.registers_tell_what_is_shown.ensures in
     let runs = c.walk_between.result in
     walk_in_files t.files
-    (part tell t.log.ops t.pieces.items t.files c.args.self.now c.self.view_is c.self.invariant c.args.beg c.args.end)
-    (part_has_bytes tell t.log.ops t.pieces.items t.files c.args.self.now c.self.view_is c.self.invariant c.args.beg c.args.end
-    c.names_here_are_the_characters.ensures)
+    (part t.log.ops t.pieces.items t.files c.args.self.now c.self.view_is c.self.invariant c.args.beg c.args.end)
+    (part_has_bytes t.log.ops t.pieces.items t.files c.args.self.now c.self.view_is c.self.invariant c.args.beg c.args.end)
     runs c.walk_between.ensures.some c.walk_between.ensures.within
-    (part_told tell t.log.ops t.pieces.items t.files c.args.self.now c.self.view_is c.self.invariant c.args.beg c.args.end
+    (part_told t.log.ops t.pieces.items t.files c.args.self.now c.self.view_is c.self.invariant c.args.beg c.args.end
     runs c.walk_between.ensures.shown)
 
 pub returns : goal.returns
 returns c =
     let t = c.self.inside in
-    let tell = c.registers_tell_what_is_shown.ensures in
     let runs = c.walk_between.result in
     c.of.ensures
     ∙ chars_of_walk t.files
-    (part tell t.log.ops t.pieces.items t.files c.args.self.now c.self.view_is c.self.invariant c.args.beg c.args.end) runs
-    (part_told tell t.log.ops t.pieces.items t.files c.args.self.now c.self.view_is c.self.invariant c.args.beg c.args.end
+    (part t.log.ops t.pieces.items t.files c.args.self.now c.self.view_is c.self.invariant c.args.beg c.args.end) runs
+    (part_told t.log.ops t.pieces.items t.files c.args.self.now c.self.view_is c.self.invariant c.args.beg c.args.end
     runs c.walk_between.ensures.shown)
-    ∙ sym (part_shown tell t.log.ops t.pieces.items t.files c.args.self.now c.self.view_is c.self.invariant c.args.beg c.args.end)
+    ∙ sym (part_shown t.log.ops t.pieces.items t.files c.args.self.now c.self.view_is c.self.invariant c.args.beg c.args.end)

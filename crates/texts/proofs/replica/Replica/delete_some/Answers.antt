@@ -16,6 +16,8 @@ use Rattle.texts.specs.Outcome.{passes_file, refusal_for}
 use Rattle.texts.specs.Taking.{HasTaken, IsJudged}
 use Rattle.texts.specs.Text.{AreCharNames}
 use Rattle.texts.specs.TextState.{TextState, shown_items, shown_of}
+use Rattle.texts.proofs.KeptStretch.{keeps_its_stretch}
+use Rattle.texts.proofs.OwnStretch.{delete_is_plain}
 use Rattle.texts.proofs.Kept.{items_between, taken_is_own}
 use Rattle.texts.proofs.Made.{fits_stretch, gathered_few, has_names, keeps_so_much, kept_by, kept_is, not_made}
 use Rattle.texts.proofs.Made.{not_made_then, why_not_gathered}
@@ -25,21 +27,21 @@ use Rattle.texts.proofs.replica.Replica.delete_some.Goals.{After-is_text, After-
 -- the set that is named is that of the stretch
 stretch_is : (c : After-is_text)
     → NamesStretch c.args.self.now (names_shown c.args.self.now c.args.beg c.args.end) c.args.beg c.args.end
-stretch_is c = (c.a_delete_keeps_its_stretch.ensures c.args.self.now c.args.beg c.args.end c.is_text.ensures).0
+stretch_is c = (keeps_its_stretch c.args.self.now c.args.beg c.args.end c.is_text.ensures).0
 
 -- so its Delete is a plain edit
 is_plain : (c : After-is_text)
     → IsOwnEdit c.args.self.now (delete (names_shown c.args.self.now c.args.beg c.args.end))
     (cut (shown_of c.args.self.now) c.args.beg c.args.end)
 is_plain c =
-    c.an_own_delete_is_plain.ensures c.args.self.now (names_shown c.args.self.now c.args.beg c.args.end) c.args.beg
+    delete_is_plain c.args.self.now (names_shown c.args.self.now c.args.beg c.args.end) c.args.beg
     c.args.end c.is_text.ensures (omega (arith, c.requires.some)) (stretch_is c)
 
 file_is : (c : After-is_text)
     → passes_file c.args.self.now (delete (names_shown c.args.self.now c.args.beg c.args.end))
     ≡ nat_lt MAX_FILE (c.args.end - c.args.beg)
 file_is c =
-    keeps_so_much c.a_delete_keeps_its_stretch.ensures c.args.self.now c.is_text.ensures c.args.beg c.args.end
+    keeps_so_much c.args.self.now c.is_text.ensures c.args.beg c.args.end
     c.requires.in_text
 
 -- the names that were gathered are its names, and they are few enough
@@ -52,7 +54,7 @@ is_allowed : (c : After-may_be_named)
 is_allowed c =
     let t = c.args.self.now in
     let names = names_shown t c.args.beg c.args.end in
-    let file = keeps_so_much c.a_delete_keeps_its_stretch.ensures t c.is_text.ensures c.args.beg c.args.end
+    let file = keeps_so_much t c.is_text.ensures c.args.beg c.args.end
     c.requires.in_text in
     gathered_few t (delete names) c.in_ok-names.names names (c.in_default.ensures.none (delete names) file)
     (names_are c) c.may_be_named.ensures.few
@@ -156,12 +158,12 @@ returns c =
     let same = names_are at.After-may_be_named in
     let taken = subst (λ (ns : List Range). HasTaken t (own_op t (delete ns)) c.make.new.self) same
     c.in_ok-make.ensures.ok.0 in
-    let own = taken_is_own c.there_is_one_text_with_it.ensures t (own_op t (delete names)) c.is_text.ensures refl
+    let own = taken_is_own t (own_op t (delete names)) c.is_text.ensures refl
     (is_plain at.After-is_text).text c.make.new.self taken in
     let stretch : c.in_ok-stretch.stretch ≡ stretch_named t names =
     c.in_ok-stretch.ensures.ok ∙ items_between _ c.args.beg c.args.end
     ∙ ap (λ (x : TextState). slice_range (shown_items x) c.args.beg c.args.end) c.self.view_is
-    ∙ sym (c.a_delete_keeps_its_stretch.ensures t c.args.beg c.args.end c.is_text.ensures).1 in
+    ∙ sym (keeps_its_stretch t c.args.beg c.args.end c.is_text.ensures).1 in
     let sent = c.args.outbox.now in
     let told = subst (λ (ns : List Range). c.make.new.outbox ≡ sent ++ spelling (own_op t (delete ns)) ∷ []) same
     c.in_ok-make.ensures.ok.1 in

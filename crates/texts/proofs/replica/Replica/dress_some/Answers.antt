@@ -15,6 +15,8 @@ use Rattle.texts.specs.Order.{dress, with_selected}
 use Rattle.texts.specs.Outcome.{refusal_for}
 use Rattle.texts.specs.Taking.{HasTaken, IsJudged}
 use Rattle.texts.specs.TextState.{TextState, shown_of}
+use Rattle.texts.proofs.KeptStretch.{keeps_its_stretch}
+use Rattle.texts.proofs.OwnStretch.{looks_are_plain}
 use Rattle.texts.proofs.Made.{gathered_few, has_names, made, not_made, same_change, why_not_gathered}
 use Rattle.texts.proofs.replica.Replica.dress_some.Goals as goal
 use Rattle.texts.proofs.replica.Replica.dress_some.Goals.{After-is_text, After-may_be_named}
@@ -28,7 +30,7 @@ change c =
 -- the set that is named is that of the stretch
 stretch_is : (c : After-is_text)
     → NamesStretch c.args.self.now (names_shown c.args.self.now c.args.beg c.args.end) c.args.beg c.args.end
-stretch_is c = (c.a_delete_keeps_its_stretch.ensures c.args.self.now c.args.beg c.args.end c.is_text.ensures).0
+stretch_is c = (keeps_its_stretch c.args.self.now c.args.beg c.args.end c.is_text.ensures).0
 
 -- so the change is a plain edit
 is_plain : (c : After-is_text)
@@ -36,7 +38,7 @@ is_plain : (c : After-is_text)
     (dress c.args.sel (with_selected c.args.sel c.args.looks.now plain_looks) (shown_of c.args.self.now) c.args.beg
     c.args.end)
 is_plain c =
-    c.own_looks_are_plain.ensures c.args.self.now c.args.sel (with_selected c.args.sel c.args.looks.now plain_looks)
+    looks_are_plain c.args.self.now c.args.sel (with_selected c.args.sel c.args.looks.now plain_looks)
     (names_shown c.args.self.now c.args.beg c.args.end) c.args.beg c.args.end c.is_text.ensures
     (omega (arith, c.requires.some)) (stretch_is c)
 
@@ -110,6 +112,6 @@ returns c =
     × (c.make.new.outbox ≡ sent ++ spelling (own_op t k) ∷ [])))
     (same_change c.args.sel _ _ _ _ c.selected-looks.ensures.value (names_are at.After-may_be_named))
     c.make.ensures.ok in
-    made c.there_is_one_text_with_it.ensures t (own_op t (change at.After-is_text)) c.is_text.ensures refl
+    made t (own_op t (change at.After-is_text)) c.is_text.ensures refl
     (is_plain at.After-is_text).text c.make.result c.make.new.self sent c.make.new.outbox
     (is_allowed at.After-may_be_named) ok c.make.ensures.errors c.make.ensures.err refl

@@ -12,6 +12,7 @@ use Rattle.texts.specs.Laws.{IsPlainEdit}
 use Rattle.texts.specs.Outcome.{refusal_for}
 use Rattle.texts.specs.Taking.{HasTaken, IsJudged}
 use Rattle.texts.specs.TextState.{shown_of}
+use Rattle.texts.proofs.OwnInsert.{insert_is_plain}
 use Rattle.texts.proofs.Made.{longer, made, not_made}
 use Rattle.texts.proofs.replica.Replica.insert_piece.Goals as goal
 use Rattle.texts.proofs.replica.Replica.insert_piece.Goals.{After-insert_refusal, After-is_text, After-piece}
@@ -20,7 +21,7 @@ use Rattle.texts.proofs.replica.Replica.insert_piece.Goals.{After-insert_refusal
 is_plain : (c : After-is_text)
     → IsPlainEdit c.args.self.now c.args.pos c.args.piece.now.looks c.args.piece.now.bytes
 is_plain c =
-    c.an_own_insert_is_plain.ensures c.args.self.now c.args.pos c.args.piece.now.looks c.args.piece.now.bytes
+    insert_is_plain c.args.self.now c.args.pos c.args.piece.now.looks c.args.piece.now.bytes
     c.is_text.ensures c.requires.in_text
 
 -- what its length tells is why it is refused
@@ -83,7 +84,7 @@ returns-clause-sends c =
     let ok = subst (λ (k : OpKind). OnOk c.make.result (HasTaken t (own_op t k) c.make.new.self
     × (c.make.new.outbox ≡ sent ++ spelling (own_op t k) ∷ [])))
     (kind_is at.After-piece (kind_of c.in_ok-kind.kind) c.in_ok-kind.ensures.0) c.make.ensures.ok in
-    made c.there_is_one_text_with_it.ensures t (own_insert t c.args.pos p.looks p.bytes) c.is_text.ensures refl
+    made t (own_insert t c.args.pos p.looks p.bytes) c.is_text.ensures refl
     (is_plain at.After-is_text).text c.make.result c.make.new.self sent c.make.new.outbox
     (refused_so at.After-insert_refusal ∙ c.in_default.is) ok c.make.ensures.errors c.make.ensures.err refl
 

@@ -24,7 +24,7 @@ returns-in-Err c =
     let left = subst (λ (ps : List Stretch). IsUnderWay t (plan t e) (inserts now at ps) c.loop-piece.done now sent c.loop-piece.outbox)
     c.in-Some.ensures.steps u in
     subst (λ (r : EditRefusal). EditsSending t e (Err r) new sent c.insert_piece.new.outbox) (sym c.refused_behind.ensures)
-    (refused c.own_edits_are_plain.ensures t e c.is_text.ensures
+    (refused t e c.is_text.ensures
     (in_position c.args.pos (length (shown_of t)) c.requires.in_text) c.loop-piece.done op rest c.in-Err.why now new sent
     c.loop-piece.outbox c.insert_piece.new.outbox left
     (λ h. absurd (never_scattered now (anchor_before (shown_of now) at) (file_len now.operations now.site) p.looks p.bytes h))
@@ -64,7 +64,7 @@ returns c =
     let e = insertion c.args.pos c.args.buffer.now in
     let now = c.loop-piece.self in
     let sent = c.args.outbox.now in
-    ended c.own_edits_are_plain.ensures t e c.is_text.ensures
+    ended t e c.is_text.ensures
     (in_position c.args.pos (length (shown_of t)) c.requires.in_text) c.loop-piece.done now sent c.loop-piece.outbox
     (subst (λ (ps : List Stretch). IsUnderWay t (plan t e) (inserts now c.loop-piece.at ps) c.loop-piece.done now sent c.loop-piece.outbox)
     c.in-None.ensures.steps.0 u)

@@ -6,6 +6,7 @@ use Rattle.operations.specs.Operation.{insert, MentionsBy}
 use Rattle.set_laws.specs.Fronts.{file_len}
 use Rattle.texts.specs.Edit.{anchor_before}
 use Rattle.texts.specs.TextState.{shown_of}
+use Rattle.texts.proofs.OwnInsert.{insert_is_plain}
 use Rattle.texts.proofs.replica.Replica.own_cause.Goals as goal
 
 pub returns-in-At-clause-cause : goal.returns-in-At-clause-cause
@@ -15,7 +16,7 @@ returns-in-At-clause-cause c =
     let name = c.in-At.name in
     let is : anchor_before (shown_of t) c.args.pos ≡ At name = sym c.anchor_after-cause.ensures ∙ c.in-At.is in
     let mentioned = subst (λ (a : Anchor). MentionsBy (insert a at plain_looks []) name) (sym is) refl in
-    let plain = c.an_own_insert_is_plain.ensures t c.args.pos plain_looks [] c.is_text.ensures c.requires.in_text in (
+    let plain = insert_is_plain t c.args.pos plain_looks [] c.is_text.ensures c.requires.in_text in (
       omega arith,
       omega arith,
       omega arith,

@@ -8,6 +8,7 @@ use Rattle.texts.specs.Edit.{own_op}
 use Rattle.texts.specs.Outcome.{refusal_for}
 use Rattle.texts.specs.Taking.{HasTaken, IsJudged}
 use Rattle.texts.specs.TextState.{TextState}
+use Rattle.texts.proofs.OwnChange.{restore_shows}
 use Rattle.texts.proofs.Made.{made, not_made}
 use Rattle.texts.proofs.replica.Replica.show_again.Goals as goal
 
@@ -37,7 +38,7 @@ make-requires-clause-valid c =
 pub make-requires-clause-ready : goal.make-requires-clause-ready
 make-requires-clause-ready c =
     let t = c.args.self.now in
-    let plain = c.an_own_restore_shows.ensures t t.last_set c.is_text.ensures c.is_text.ensures.kept in
+    let plain = restore_shows t t.last_set c.is_text.ensures c.is_text.ensures.deleted in
     let names_are : c.in_ok-names.names ≡ t.last_set = c.in_ok-names.ensures.ok ∙ ap (λ (t : TextState). t.last_set) c.self.view_is in
     subst (λ (names : List Range). IsJudged t (own_op t (restore names)) ready) (sym names_are)
     (refl, plain.new, plain.ready)
@@ -45,11 +46,11 @@ make-requires-clause-ready c =
 pub returns : goal.returns
 returns c =
     let t = c.args.self.now in
-    let plain = c.an_own_restore_shows.ensures t t.last_set c.is_text.ensures c.is_text.ensures.kept in
+    let plain = restore_shows t t.last_set c.is_text.ensures c.is_text.ensures.deleted in
     let allowed : refusal_for t (restore t.last_set) ≡ None = c.in_default.ensures.none (restore t.last_set) refl in
     let names_are : c.in_ok-names.names ≡ t.last_set = c.in_ok-names.ensures.ok ∙ ap (λ (t : TextState). t.last_set) c.self.view_is in
     let sent = c.args.outbox.now in
     let ok = subst (λ (names : List Range). OnOk c.make.result (HasTaken t (own_op t (restore names)) c.make.new.self × (c.make.new.outbox ≡ sent ++ spelling (own_op t (restore names)) ∷ [])))
     names_are c.make.ensures.ok in
-    made c.there_is_one_text_with_it.ensures t (own_op t (restore t.last_set)) c.is_text.ensures refl plain.text
+    made t (own_op t (restore t.last_set)) c.is_text.ensures refl plain.text
     c.make.result c.make.new.self sent c.make.new.outbox allowed ok c.make.ensures.errors c.make.ensures.err refl

@@ -5,6 +5,7 @@ use Rattle.set_laws.specs.Fronts.{front_of}
 use Rattle.texts.specs.Merge.{MergesShort}
 use Rattle.texts.specs.TextState.{TextState}
 use Rattle.texts.specs.declared.merge_refusal.MergeRefusal.TheVariants.{Stopped}
+use Rattle.set_laws.proofs.Ahead.{causes_ahead}
 use Rattle.texts.proofs.Merging.{all_taken, begun, few, is_ready, one_passed, one_taken, standing_at, stopped}
 use Rattle.texts.proofs.Merging.{when_err, when_ok}
 use Rattle.texts.proofs.replica.Replica.take_news.Goals as goal
@@ -18,10 +19,8 @@ loop-op-init c =
       is_other = c.is_text-2.ensures;
       can = c.requires;
       once = subst (λ (ops : List Operation). AllPairs (λ a b. a ≢ b) ops) held c.are_held_to_the_front.ensures.once;
-      fronts = c.front_tells_what_is_held.ensures;
-      ahead = c.causes_stand_ahead.ensures c.args.other.now.operations c.is_text-2.ensures.in_order
+      ahead = causes_ahead c.args.other.now.operations c.is_text-2.ensures.in_order
           c.is_text-2.ensures.identified;
-      are_ready = c.ready_where_causes_are_held.ensures;
     })
 
 pub take_over-requires : goal.take_over-requires
