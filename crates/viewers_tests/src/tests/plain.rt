@@ -80,17 +80,19 @@ pub(super) fn open(rows: &mut [u32], viewer: u32, row: Option<usize>) -> bool {
     true
 }
 
+// The viewer that takes these rows as theirs closes: the one above, or else below.
+fn heir(rows: &[u32], first: usize, end: usize) -> u32 {
+    let row = first.checked_sub(1).unwrap_or(end);
+    rows.get(row).copied().unwrap_or(0)
+}
+
 // Closes a viewer; whether it is there.
 pub(super) fn close(rows: &mut [u32], viewer: u32) -> bool {
     let Some(first) = top(rows, viewer) else {
         return false;
     };
     let end = first.saturating_add(height(rows, viewer));
-    let heir = match first.checked_sub(1) {
-        Some(above) => rows.get(above),
-        None => rows.get(end),
-    };
-    let heir = heir.copied().unwrap_or(0);
+    let heir = heir(rows, first, end);
     give(rows, first, end, heir);
     true
 }

@@ -25,6 +25,13 @@ impl Dice {
         number.checked_rem(end).unwrap_or(0)
     }
 
+    // A number from 1 up to the next one, which no viewer has yet.
+    fn viewer(&mut self, next: u32) -> u32 {
+        let number = u32::try_from(self.below(next as usize)).unwrap_or(0);
+        number.saturating_add(1)
+    }
+
+    // A row of the screen, or none that is named.
     fn row(&mut self, height: usize) -> Option<usize> {
         if self.below(5) == 0 {
             None
@@ -105,7 +112,7 @@ fn changes(screen: &mut Screen<u32>, plain: &mut Plain, dice: &mut Dice) -> Resu
     if kind < 5 {
         return opens(screen, plain, dice);
     }
-    let viewer = (dice.below(plain.next as usize) as u32).saturating_add(1);
+    let viewer = dice.viewer(plain.next);
     if kind < 7 {
         return closes(screen, plain, viewer);
     }
