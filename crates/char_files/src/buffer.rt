@@ -4,7 +4,7 @@ ghost use Rattle.looks.specs.Refusal.{RefusedForMemoryAlone};
 ghost use Rattle.char_files.specs.Stretch.{items_of, AreRuns, EndsIn};
 
 use crate::MAX_FILE;
-use crate::run::Run;
+use crate::looks_run::LooksRun;
 use looks::{Looks, Refusal};
 use std::alloc::{AllocError, Global};
 use std::marker::Model;
@@ -14,7 +14,7 @@ use std::marker::Model;
 /// Oberon's buffers (Project Oberon, chapter 5); the bound is this project's own.
 #[derive(Debug, Drop)]
 pub struct Buffer {
-    runs: Vec<Run>,
+    runs: Vec<LooksRun>,
     len: u64,
 }
 
@@ -30,7 +30,7 @@ impl Model for Buffer {
 }
 
 // Whether the last run has these looks.
-fn ends_in(runs: &[Run], looks: &Looks) -> bool
+fn ends_in(runs: &[LooksRun], looks: &Looks) -> bool
     ensures { IsTrue result ↔ EndsIn runs.now looks.now }
 {
     match runs.last() {
@@ -40,7 +40,7 @@ fn ends_in(runs: &[Run], looks: &Looks) -> bool
 }
 
 // Puts the bytes at the end, all of them or none.
-fn push_bytes(runs: &mut Vec<Run>, bytes: &[u8], looks: &Looks) -> Result<(), AllocError>
+fn push_bytes(runs: &mut Vec<LooksRun>, bytes: &[u8], looks: &Looks) -> Result<(), AllocError>
     ensures ok { OnOk result
         (items_of runs.new.items ≡ items_of runs.old.items ++ map (λ b. (b, looks.now)) bytes.now) }
     ensures maximal { AreRuns runs.old.items → AreRuns runs.new.items }
@@ -53,7 +53,7 @@ fn push_bytes(runs: &mut Vec<Run>, bytes: &[u8], looks: &Looks) -> Result<(), Al
         let last = runs.len() - 1;
         return runs[last].push_all(bytes);
     }
-    let run = Run::new(*runs.allocator(), looks.copy(), bytes)?;
+    let run = LooksRun::new(*runs.allocator(), looks.copy(), bytes)?;
     runs.push(run)?;
     Ok(())
 }
@@ -85,7 +85,7 @@ impl Buffer {
     }
 
     /// The characters as maximal runs of equal looks.
-    pub fn runs(&self) -> &[Run]
+    pub fn runs(&self) -> &[LooksRun]
         ensures value { items_of result.now ≡ self.now }
         ensures maximal { AreRuns result.now }
     {

@@ -2,7 +2,7 @@ ghost use Rattle.std.specs.Prelude.{◌≡◌, ◌<◌, length, map, slice_get, 
 ghost use Rattle.char_files.specs.Stretch.{items_of};
 
 use crate::buffer::Buffer;
-use crate::run::Run;
+use crate::looks_run::LooksRun;
 use looks::Looks;
 
 /// Characters with their looks, read by position. No call takes memory.
@@ -25,7 +25,7 @@ pub trait Source {
 }
 
 // The character at this position of the runs' characters.
-fn item_at(runs: &[Run], pos: usize) -> (u8, Looks)
+fn item_at(runs: &[LooksRun], pos: usize) -> (u8, Looks)
     requires { pos < length (items_of runs.now) }
     ensures { slice_get (items_of runs.now) pos ≡ Some result }
 {

@@ -61,6 +61,8 @@ on_line bytes k col on =
 
 pub is_located : (bytes : List ℕ) (width k col : ℕ) → IsLocated bytes width k col
 is_located bytes width k col = record {
+  at = λ on. omega (arith, on);
+  end = λ past. omega (arith, past);
   on = on_line bytes k col;
   shown = λ on wide. cell-sign width col (line_at bytes k) wide on ∙ ap sign_of (sym (on_line bytes k col on));
   blank = λ past wide. cell-blank width col (line_at bytes k) wide past;

@@ -1,5 +1,5 @@
 -- The laws of lines and rows.
-use Rattle.std.specs.Prelude.{◌≡◌, ◌≢◌, ℕ, suc, ◌-◌, ◌<◌, ◌≤◌, List, [], ◌∷◌, ◌++◌, length, take, drop}
+use Rattle.std.specs.Prelude.{◌≡◌, ◌≢◌, ℕ, suc, ◌+◌, ◌-◌, ◌<◌, ◌≤◌, List, [], ◌∷◌, ◌++◌, length, take, drop}
 use Rattle.std.specs.Prelude.{slice_index, slice_set}
 use Rattle.line_drawing.specs.declared.drawing.TheConstants.{LINE_END}
 use Rattle.line_drawing.specs.Lines.{lines, line_at, ends_in, beg_of, end_of}
@@ -51,6 +51,8 @@ LiesOnOneLine bytes pos = pos ≤ length bytes
 -- the position of the cell in this column of line k: that of the byte that the cell shows; past the line's last byte
 -- that of the line's end, which is the length on the last line and on the blank rows below it
 pub record IsLocated (bytes : List ℕ) (width k col : ℕ) : Type 0 where
+  pub at : col < length (line_at bytes k) → place_of (beg_of bytes k) (end_of bytes k) col ≡ beg_of bytes k + col
+  pub end : length (line_at bytes k) ≤ col → place_of (beg_of bytes k) (end_of bytes k) col ≡ end_of bytes k
   pub on : col < length (line_at bytes k)
       → slice_index bytes (place_of (beg_of bytes k) (end_of bytes k) col) ≡ slice_index (line_at bytes k) col
   pub shown : col < length (line_at bytes k) → col < width

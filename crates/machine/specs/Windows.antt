@@ -1,6 +1,6 @@
 -- A site's screen: what its viewers show, its caret, and what is selected. Neither cells nor positions are kept: both follow
 -- from the texts.
-use Rattle.std.specs.Prelude.{ℕ, suc, ◌+◌, ◌-◌, ◌/◌, ◌^◌, ◌==◌, ◌&&◌, ◌||◌, not, nat_le, nat_lt, Bool, false, if◌then◌else◌}
+use Rattle.std.specs.Prelude.{ℕ, ◌+◌, ◌-◌, ◌^◌, ◌==◌, ◌&&◌, ◌||◌, not, nat_le, nat_lt, Bool, false, if◌then◌else◌}
 use Rattle.std.specs.Prelude.{List, [], ◌∷◌, ◌++◌, length, map, filter, take, min, max}
 use Rattle.std.specs.Prelude.{Option, Some, None, option_map, Result, Ok, Err, slice_get}
 use Rattle.std.specs.Option.{option_and_then, option_map_or}
@@ -15,7 +15,7 @@ use Rattle.texts.specs.TextState.{TextState, shown_of}
 use Rattle.line_drawing.specs.Lines.{beg_of, ends_in}
 use Rattle.line_drawing.specs.Rows.{Row, row_of, place_of}
 use Rattle.viewers.specs.Screen.{ScreenSeen, area_of, has, seats_of, viewer_at, with_seats}
-use Rattle.viewers.specs.Tracks.{can_move, can_open, closed, height_at, moved, opened, place as seat_of, top}
+use Rattle.viewers.specs.Tracks.{can_move, can_open, closed, moved, opened, place as seat_of, row_for}
 use Rattle.viewers.specs.declared.screen.Area.{Area}
 use Rattle.viewers.specs.declared.screen.Track.{Track}
 use Rattle.viewers.specs.declared.screen.Track.TheVariants.{User, System}
@@ -176,18 +176,6 @@ track_of w v = if has w.tracks.user v then User else System
 -- the screen with these seats in a track
 abbrev pub with_track : Screened → Track → List Seat → Screened
 with_track w track seats = record w { tracks = with_seats w.tracks track seats }
-
--- the index of the tallest seat, the topmost of equals
-abbrev pub tallest : List Seat → ℕ
-tallest [] = 0
-tallest (s ∷ []) = 0
-tallest (s ∷ t ∷ seats) =
-    if nat_le (height_at (t ∷ seats) (tallest (t ∷ seats))) s.height then 0 else suc (tallest (t ∷ seats))
-
--- the row at which a viewer opens: the one that is named, or the middle of the tallest viewer
-abbrev pub row_for : List Seat → Option ℕ → ℕ
-row_for seats (Some row) = row
-row_for seats None = top seats (tallest seats) + height_at seats (tallest seats) / 2
 
 -- whether a row that is named lies below the screen
 abbrev pub is_row_below : Screened → Option ℕ → Bool

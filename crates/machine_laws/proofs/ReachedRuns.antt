@@ -16,6 +16,7 @@ use Rattle.texts.specs.Edit.{Edit, insertion, recalling}
 use Rattle.texts.specs.Laws.{OwnEditsArePlain}
 use Rattle.texts.specs.Text.{IsText}
 use Rattle.texts.specs.TextState.{TextState, shown_of, with_room}
+use Rattle.convergence.proofs.OneWay.{text_with_room}
 use Rattle.machine.specs.DeskState.{DeskState, InText, IsTextOf}
 use Rattle.machine.specs.Machine.{Does, Event, InDesk, Reply, Short, State, TakesText, copy, edit, merge, message_in, messages_of}
 use Rattle.machine.specs.Machine.{new_state, query, refuses, settle, unknown}
@@ -31,7 +32,6 @@ use Rattle.machine.specs.Windows.{pointed, pointed_in, scroll, select, shown_by,
 use Rattle.machine_laws.proofs.OneReply.{one_element}
 use Rattle.machine_laws.proofs.OneRunReply.{ComesTo, shown_parts}
 use Rattle.machine_laws.proofs.Reaching.{does_texts, in_desk, in_text, set_old, short_texts}
-use Rattle.machine_laws.proofs.Rooms.{with_room-is_text}
 use Rattle.machine_laws.specs.Laws.{AreTexts, CaretHasText, IsSound, WhatARunReachesIsSound, WhatIsReachedIsDefined}
 use Rattle.machine_laws.specs.Laws.{begins, run_begins, run_goes_on}
 
@@ -424,8 +424,8 @@ module _ (s : RunState) (i : ℕ) (d : DeskState) (w : Screened) (sound : IsSoun
       ) refl)
     where
       emptied : (t u : TextState) → u ≡ with_room t [] → IsText t → IsText u
-      emptied t u is_u is = subst IsText (sym is_u) (with_room-is_text t []
-          (record { of_text = All-nil _; identified = none; few = omega arith }) is)
+      emptied t u is_u is = subst IsText (sym is_u) (text_with_room t [] is
+          (record { of_text = All-nil _; identified = none; few = omega arith }))
 
   arranges : (out : Arranged) (r : RunReply) (new : RunState) → LeavesCaret d out
       → ComesTo s i out r new → IsSound new

@@ -10,14 +10,14 @@ use Rattle.looks.specs.declared.refusal.Refusal.TheVariants.{RoomFull}
 use Rattle.operations.specs.Operation.{Operation}
 use Rattle.set_laws.specs.Fronts.{IsHeld}
 use Rattle.set_laws.specs.Sets.{AreIdentified, IsPartOf}
-use Rattle.texts.specs.Draining.{Drains, IsNextOut, ends, stops, takes_in, throws_away}
+use Rattle.texts.specs.Draining.{Drains, ends, stops, takes_in, throws_away}
 use Rattle.texts.specs.Take.{Enters, HasFate, Stays}
 use Rattle.texts.specs.Text.{AreWaitingFor, IsText}
 use Rattle.texts.specs.TextState.{TextState, with_room}
 use Rattle.texts.specs.declared.fate.Fate.TheVariants.{Wait}
 use Rattle.texts.specs.declared.took.Took.{Took}
 use Rattle.texts.specs.declared.took.Took.TheVariants.{Waits}
-use Rattle.convergence.proofs.OneWay.{room_without}
+use Rattle.convergence.proofs.OneWay.{text_with_room, text_without}
 
 -- what holds of all holds of a part
 part_all : (P : Operation → Type 0) (a b : List Operation) → IsPartOf a b → All P b → All P a
@@ -55,19 +55,6 @@ pub by_test : (b : Bool) (P Q : Type 0) → MatchBool b P Q → ((b ≡ true) ×
 by_test true P Q h = inl (refl, h)
 by_test false P Q h = inr (refl, h)
 
--- a text in which others wait is what its operations define
-pub with_room-is_text : (t : TextState) (room : List Operation) → AreWaitingFor t.text room → IsText t
-    → IsText (with_room t room)
-with_room-is_text t room waiting is = record {
-  good = is.good;
-  in_order = is.in_order;
-  identified = is.identified;
-  of_text = is.of_text;
-  chars = is.chars;
-  deleted = is.deleted;
-  waiting = waiting;
-}
-
 -- what enters the room leaves a text that is what its operations define
 pub entered : (t : TextState) (op : Operation) (result : Result Took Refusal) (new : TextState)
     → Enters t op result new → HasFate t op Wait → IsText t → IsText new
@@ -81,16 +68,9 @@ entered t op result new enters (unheld, (of_it, is_new, verdict)) is =
             identified = identified_with t.waiting_room op is.waiting.identified is_new.counted unheld;
             few = omega (arith, place, length-append t.waiting_room (op ∷ []));
           } in
-          subst IsText (sym there_is_a_place.1.1) (with_room-is_text t (t.waiting_room ++ op ∷ []) more is)
+          subst IsText (sym there_is_a_place.1.1) (text_with_room t (t.waiting_room ++ op ∷ []) is more)
       | inr there_is_none ↦ subst IsText (sym there_is_none.1.1) is
     ]
-
--- so is one that an operation left
-left : (t : TextState) (ahead behind : List Operation) (op : Operation) → IsNextOut t ahead op behind → IsText t
-    → IsText (with_room t (ahead ++ behind))
-left t ahead behind op next is =
-    let room = subst (AreWaitingFor t.text) next.room is.waiting in
-    with_room-is_text t (ahead ++ behind) (room_without t.text ahead behind op room) is
 
 -- draining leaves a text that is what its operations define
 pub drained_is_text : {t new : TextState} {drained dropped : ℕ} {stopped : Bool} → Drains t drained dropped stopped new
@@ -99,4 +79,4 @@ drained_is_text (ends all) is = is
 drained_is_text (stops ahead behind op next judged) is = is
 drained_is_text (takes_in ahead behind op next judged taken rest) is = drained_is_text rest taken.is
 drained_is_text {t} (throws_away ahead behind op next thrown rest) is =
-    drained_is_text rest (left t ahead behind op next is)
+    drained_is_text rest (text_without t ahead behind op is next)

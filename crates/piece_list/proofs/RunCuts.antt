@@ -10,30 +10,30 @@ use Rattle.std.proofs.lemmas.List.Elements.{All-cons, All-head, All-nil, All-tai
 use Rattle.std.proofs.lemmas.List.FromFn.{length-map-range_with_len, take-map-range_with_len}
 use Rattle.char_files.specs.CharName.{CharName}
 use Rattle.char_files.specs.declared.TheConstants.{MAX_FILE}
-use Rattle.piece_list.specs.declared.name_run.NameRun.{NameRun}
+use Rattle.piece_list.specs.declared.run.Run.{Run}
 use Rattle.piece_list.specs.RunCuts.{AreWithin, first_chars}
 use Rattle.piece_list.specs.Shown.{Appearance, appearance_in, appearances_in}
 
 -- what runs tell of their characters
-abbrev pub told : List NameRun → List Appearance
+abbrev pub told : List Run → List Appearance
 told runs = flat_map appearances_in runs
 
 -- a run's first n characters, and what it is without them
-abbrev pub run_to : ℕ → NameRun → NameRun
+abbrev pub run_to : ℕ → Run → Run
 run_to n r = record r { len = min r.len n }
 
-abbrev pub run_from : ℕ → NameRun → NameRun
+abbrev pub run_from : ℕ → Run → Run
 run_from n r = record r { off = r.off + n; len = r.len - n }
 
-abbrev name_in : NameRun → ℕ → CharName
+abbrev name_in : Run → ℕ → CharName
 name_in r off = record { site = r.site; off = off }
 
-told_len : (r : NameRun) → length (appearances_in r) ≡ r.len
+told_len : (r : Run) → length (appearances_in r) ≡ r.len
 told_len r =
     length-map (map (name_in r) (range_with_len r.off r.len)) (appearance_in r)
     ∙ length-map-range_with_len (name_in r) r.off r.len
 
-cut_short : (n : ℕ) (r : NameRun) → n ≤ r.len → appearances_in (run_to n r) ≡ take n (appearances_in r)
+cut_short : (n : ℕ) (r : Run) → n ≤ r.len → appearances_in (run_to n r) ≡ take n (appearances_in r)
 cut_short n r le =
     let least : min r.len n ≡ n = min-eq_right le in
     ap (λ (m : ℕ). map (appearance_in r) (map (name_in r) (range_with_len r.off m))) least
@@ -53,19 +53,19 @@ later_numbers from (suc len) (suc n) le =
     ∙ ap (λ (a : ℕ). range_with_len a (len - n)) on
     ∙ ap (range_with_len (from + suc n)) less
 
-cut_ahead : (n : ℕ) (r : NameRun) → n ≤ r.len → appearances_in (run_from n r) ≡ drop n (appearances_in r)
+cut_ahead : (n : ℕ) (r : Run) → n ≤ r.len → appearances_in (run_from n r) ≡ drop n (appearances_in r)
 cut_ahead n r le =
     ap (λ (offs : List ℕ). map (appearance_in r) (map (name_in r) offs)) (sym (later_numbers r.off r.len n le))
     ∙ ap (map (appearance_in r)) (sym (drop-map (name_in r) n (range_with_len r.off r.len)))
     ∙ sym (drop-map (appearance_in r) n (map (name_in r) (range_with_len r.off r.len)))
 
 -- none of them
-pub none_wanted : (runs : List NameRun) → first_chars 0 runs ≡ []
+pub none_wanted : (runs : List Run) → first_chars 0 runs ≡ []
 none_wanted [] = refl
 none_wanted (r ∷ runs) = refl
 
 -- the first characters of runs tell of the first characters
-pub first_tell : (n : ℕ) (runs : List NameRun) → told (first_chars n runs) ≡ take n (told runs)
+pub first_tell : (n : ℕ) (runs : List Run) → told (first_chars n runs) ≡ take n (told runs)
 first_tell n [] = sym (take-nil n)
 first_tell zero (r ∷ runs) = refl
 first_tell (suc n) (r ∷ runs) =
@@ -77,7 +77,7 @@ first_tell (suc n) (r ∷ runs) =
           let short : m ≤ r.len = omega arith in
           let few : m ≤ length own = omega (arith, told_len r) in
           ap (λ (k : ℕ). appearances_in (run_to m r) ++ told (first_chars k runs)) none
-          ∙ ap (λ (rest : List NameRun). appearances_in (run_to m r) ++ told rest) (none_wanted runs)
+          ∙ ap (λ (rest : List Run). appearances_in (run_to m r) ++ told rest) (none_wanted runs)
           ∙ append-nil (appearances_in (run_to m r))
           ∙ cut_short m r short
           ∙ sym (take-append-le m own (told runs) few)
@@ -101,34 +101,34 @@ least_cut n k =
       | inr le ↦ ap (λ (m : ℕ). n - m) (min-eq_left le)
     ]
 
-first_of : (n : ℕ) (r : NameRun) (rest : List NameRun) → 0 < n
+first_of : (n : ℕ) (r : Run) (rest : List Run) → 0 < n
     → first_chars n (r ∷ rest) ≡ run_to n r ∷ first_chars (n - r.len) rest
 first_of zero r rest lt = absurd (omega arith)
 first_of (suc n) r rest lt = refl
 
-pub reads_one : (n : ℕ) (runs rest : List NameRun) (r q : NameRun) → 0 < n → runs ≡ r ∷ rest → q ≡ run_to n r
+pub reads_one : (n : ℕ) (runs rest : List Run) (r q : Run) → 0 < n → runs ≡ r ∷ rest → q ≡ run_to n r
     → first_chars n runs ≡ q ∷ first_chars (n - q.len) rest
 reads_one n runs rest r q lt is cut =
     ap (first_chars n) is
     ∙ first_of n r rest lt
     ∙ ap (λ (k : ℕ). run_to n r ∷ first_chars k rest) (sym (least_cut n r.len))
-    ∙ ap (λ (x : NameRun). x ∷ first_chars (n - x.len) rest) (sym cut)
+    ∙ ap (λ (x : Run). x ∷ first_chars (n - x.len) rest) (sym cut)
 
 -- it is cut where not all of it is wanted
-pub is_cut : (n : ℕ) (r : NameRun) → n < r.len → record r { len = n } ≡ run_to n r
+pub is_cut : (n : ℕ) (r : Run) → n < r.len → record r { len = n } ≡ run_to n r
 is_cut n r lt =
     let few : n ≤ r.len = omega arith in
     ap (λ (k : ℕ). record r { len = k }) (sym (min-eq_right few))
 
-pub is_whole : (n : ℕ) (r : NameRun) → r.len ≤ n → r ≡ run_to n r
+pub is_whole : (n : ℕ) (r : Run) → r.len ≤ n → r ≡ run_to n r
 is_whole n r le = ap (λ (k : ℕ). record r { len = k }) (sym (min-eq_left le))
 
 -- and they are within their files
-pub first_within : (n : ℕ) (runs : List NameRun) → AreWithin runs → AreWithin (first_chars n runs)
+pub first_within : (n : ℕ) (runs : List Run) → AreWithin runs → AreWithin (first_chars n runs)
 first_within n [] all = all
-first_within zero (r ∷ runs) all = All-nil (λ (run : NameRun). (0 < run.len) × (run.off + run.len ≤ MAX_FILE))
+first_within zero (r ∷ runs) all = All-nil (λ (run : Run). (0 < run.len) × (run.off + run.len ≤ MAX_FILE))
 first_within (suc n) (r ∷ runs) all =
-    let Is : NameRun → Type 0 = λ (run : NameRun). (0 < run.len) × (run.off + run.len ≤ MAX_FILE) in
+    let Is : Run → Type 0 = λ (run : Run). (0 < run.len) × (run.off + run.len ≤ MAX_FILE) in
     let here : Is r = All-head Is r runs all in
     All-cons Is (run_to (suc n) r) (first_chars (suc n - r.len) runs)
     (elim (cases_lt (suc n) r.len) [
@@ -143,7 +143,7 @@ first_within (suc n) (r ∷ runs) all =
     (first_within (suc n - r.len) runs (All-tail Is r runs all))
 
 -- a run's front is left out
-pub skips_front : (n : ℕ) (r : NameRun) (runs : List NameRun) → n < r.len
+pub skips_front : (n : ℕ) (r : Run) (runs : List Run) → n < r.len
     → told (run_from n r ∷ runs) ≡ drop n (told (r ∷ runs))
 skips_front n r runs lt =
     let few : n ≤ length (appearances_in r) = omega (arith, told_len r) in
@@ -151,8 +151,8 @@ skips_front n r runs lt =
     ap (λ (front : List Appearance). front ++ told runs) (cut_ahead n r le)
     ∙ sym (drop-append-le n (appearances_in r) (told runs) few)
 
-pub front_within : (n : ℕ) (r : NameRun) (runs : List NameRun) → n < r.len → AreWithin (r ∷ runs) → AreWithin (run_from n r ∷ runs)
+pub front_within : (n : ℕ) (r : Run) (runs : List Run) → n < r.len → AreWithin (r ∷ runs) → AreWithin (run_from n r ∷ runs)
 front_within n r runs lt all =
-    let Is : NameRun → Type 0 = λ (run : NameRun). (0 < run.len) × (run.off + run.len ≤ MAX_FILE) in
+    let Is : Run → Type 0 = λ (run : Run). (0 < run.len) × (run.off + run.len ≤ MAX_FILE) in
     let here : Is r = All-head Is r runs all in
     All-cons Is (run_from n r) runs (omega arith, omega (arith, here.1)) (All-tail Is r runs all)

@@ -14,7 +14,7 @@ use Rattle.operations.specs.NameSet.{names_of}
 use Rattle.tree_order.specs.Registers.{Atom}
 use Rattle.piece_list.specs.declared.piece.Piece.{Piece}
 use Rattle.piece_list.specs.declared.place.Place.{Place}
-use Rattle.piece_list.specs.declared.name_run.NameRun.{NameRun}
+use Rattle.piece_list.specs.declared.run.Run.{Run}
 use Rattle.piece_list.specs.Held.{IsPlaceOf}
 use Rattle.piece_list.specs.Pieces.{range_of, char_of, chars_of, IsPiece}
 use Rattle.piece_list.specs.Shown.{Appearance, appearance_of, appearance_in, appearances_in, run_of}
@@ -189,7 +189,7 @@ runs_tell (m ∷ items) =
     ∙ sym (ap (map appearance_of) (shown_cons m items))
 
 -- what holds of each piece as a run holds of each of them
-pub runs_are : (P : NameRun → Type 0) → ((p : Piece) → IsPiece p → P (run_of p)) → (items : Items)
+pub runs_are : (P : Run → Type 0) → ((p : Piece) → IsPiece p → P (run_of p)) → (items : Items)
     → ArePieces items → All P (shown_runs items)
 runs_are P holds [] pieces = All-nil P
 runs_are P holds (m ∷ items) pieces =

@@ -6,7 +6,7 @@ use Rattle.std.proofs.lemmas.List.{length-map, map-append}
 use Rattle.std.proofs.Math.Seq.{drop-append-add}
 use Rattle.char_files.specs.declared.TheConstants.{MAX_FILE}
 use Rattle.piece_list.specs.declared.piece.Piece.{Piece}
-use Rattle.piece_list.specs.declared.name_run.NameRun.{NameRun}
+use Rattle.piece_list.specs.declared.run.Run.{Run}
 use Rattle.piece_list.specs.Pieces.{IsPiece}
 use Rattle.piece_list.specs.RunCuts.{AreWithin, HasFront}
 use Rattle.piece_list.specs.Shown.{Appearance, appearance_of, run_of, shown_runs}
@@ -25,7 +25,7 @@ module _ (items xs ys : Items) (tag : ℕ) (p : Piece) (is : items ≡ xs ++ (ta
   abbrev behind : Items
   behind = (tag, p) ∷ ys
 
-  abbrev left : List NameRun
+  abbrev left : List Run
   left = shown_runs behind
 
   pub tells_from : (pos within : ℕ) → pos ≡ shown_in xs + within
@@ -51,7 +51,7 @@ module _ (items xs ys : Items) (tag : ℕ) (p : Piece) (is : items ≡ xs ++ (ta
 
   pub within_from : ArePieces items → AreWithin left
   within_from pieces =
-      let Is : NameRun → Type 0 = λ (run : NameRun). (0 < run.len) × (run.off + run.len ≤ MAX_FILE) in
+      let Is : Run → Type 0 = λ (run : Run). (0 < run.len) × (run.off + run.len ≤ MAX_FILE) in
       let those : ArePieces behind =
       all_right (λ (m : ℕ × Piece). IsPiece m.1) xs behind (subst ArePieces is pieces) in
       runs_are Is (λ q piece. (piece.0, piece.2)) behind those

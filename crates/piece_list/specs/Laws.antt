@@ -11,7 +11,7 @@ use Rattle.tree_order.specs.Insertion.{IsOneMore, IsInsertAt}
 use Rattle.tree_order.specs.AtomInsertion.{atom_run}
 use Rattle.tree_order.specs.Registers.{Atom, AreAtoms, if_named}
 use Rattle.piece_list.specs.declared.piece.Piece.{Piece}
-use Rattle.piece_list.specs.declared.name_run.NameRun.{NameRun}
+use Rattle.piece_list.specs.declared.run.Run.{Run}
 use Rattle.piece_list.specs.Pieces.{range_of, char_of, chars_of, piece_of, front_of, rest_of}
 use Rattle.piece_list.specs.Placed.{IsPlaced}
 use Rattle.piece_list.specs.Spelled.{spelled, ArePieces}
@@ -56,13 +56,13 @@ PlacedAreAtoms =
     → IsPlaced (key_of i) cause (atom_run i) old new → AreAtoms (ops ++ i ∷ []) new
 
 -- the run is what an Insert inserts, under its key
-abbrev pub IsRunOf : Operation → NameRun → Type 0
+abbrev pub IsRunOf : Operation → Run → Type 0
 IsRunOf i r = (cause : Anchor) × (bytes : List ℕ) × (i.kind ≡ insert cause r.off r.looks bytes)
     × (r.site ≡ i.site) × (r.len ≡ length bytes) × (r.key ≡ key_of i)
 
 -- the piece of this run has these characters
 abbrev pub PieceIsFirstAtoms : Type 0
-PieceIsFirstAtoms = (i : Operation) (r : NameRun) → IsRunOf i r → chars_of (piece_of r) ≡ atom_run i
+PieceIsFirstAtoms = (i : Operation) (r : Run) → IsRunOf i r → chars_of (piece_of r) ≡ atom_run i
 
 -- none of the pieces has one of these names
 abbrev pub Avoid : Range → List (ℕ × Piece) → Type 0

@@ -9,7 +9,7 @@ use Rattle.operations.specs.NameSet.{Range, names_of}
 use Rattle.tree_order.specs.Registers.{Atom, offered, offered_if}
 use Rattle.piece_list.specs.declared.piece.Piece.{Piece}
 use Rattle.piece_list.specs.declared.piece.TheConstants.{MAX_PIECE}
-use Rattle.piece_list.specs.declared.name_run.NameRun.{NameRun}
+use Rattle.piece_list.specs.declared.run.Run.{Run}
 
 -- the names of its characters
 abbrev pub range_of : Piece → Range
@@ -43,7 +43,7 @@ abbrev pub rest_of : ℕ → Piece → Piece
 rest_of n p = record p { off = p.off + n; len = p.len - n }
 
 -- the piece of a run: all is set under its key, and nothing is hidden
-abbrev pub piece_of : NameRun → Piece
+abbrev pub piece_of : Run → Piece
 piece_of r = record {
   site = r.site;
   off = r.off;

@@ -7,7 +7,7 @@ use Rattle.char_files.specs.CharName.{CharName}
 use Rattle.operations.specs.NameSet.{names_of}
 use Rattle.tree_order.specs.Registers.{Atom, atom_looks}
 use Rattle.piece_list.specs.declared.piece.Piece.{Piece}
-use Rattle.piece_list.specs.declared.name_run.NameRun.{NameRun}
+use Rattle.piece_list.specs.declared.run.Run.{Run}
 use Rattle.piece_list.specs.Spelled.{names_of_atoms, shown_chars}
 
 -- what is told of a character that is shown: its name, the key of its Insert, and its looks
@@ -21,11 +21,11 @@ abbrev pub appearance_of : Atom → Appearance
 appearance_of k = record { name = k.name; key = k.key; looks = atom_looks k }
 
 -- what a run tells of its character of this name
-abbrev pub appearance_in : NameRun → CharName → Appearance
+abbrev pub appearance_in : Run → CharName → Appearance
 appearance_in r c = record { name = c; key = r.key; looks = r.looks }
 
 -- what a run tells of its characters
-abbrev pub appearances_in : NameRun → List Appearance
+abbrev pub appearances_in : Run → List Appearance
 appearances_in r = map (appearance_in r) (names_of (record { site = r.site; at = r.off; len = r.len }))
 
 -- the looks of a piece's characters
@@ -33,11 +33,11 @@ abbrev pub looks_of : Piece → Looks
 looks_of p = record { font = p.font.value; colour = p.colour.value; offset = p.offset.value }
 
 -- a piece as a run
-abbrev pub run_of : Piece → NameRun
+abbrev pub run_of : Piece → Run
 run_of p = record { site = p.site; off = p.off; len = p.len; key = p.key; looks = looks_of p }
 
 -- the pieces that aren't hidden, as runs
-abbrev pub shown_runs : List (ℕ × Piece) → List NameRun
+abbrev pub shown_runs : List (ℕ × Piece) → List Run
 shown_runs items = map (λ m. run_of m.1) (filter (λ m. not m.1.hidden.value) items)
 
 -- so many of the characters up to the one of this name are shown, itself among them

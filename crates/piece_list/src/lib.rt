@@ -3,14 +3,14 @@
 
 mod limits;
 mod list;
-mod name_run;
 mod piece;
 mod place;
+mod run;
 mod steps;
 mod tags;
 
 pub use limits::the_limits;
 pub use list::{Between, PieceList, Walk};
-pub use name_run::NameRun;
 pub use piece::{MAX_PIECE, Piece};
 pub use place::Place;
+pub use run::Run;

@@ -3,7 +3,7 @@ ghost use Rattle.piece_list.specs.Pieces.{IsPiece, front_of, rest_of, piece_of};
 ghost use Rattle.piece_list.specs.Pieces.{switched_piece, relooked_piece};
 ghost use Rattle.piece_list.specs.Shown.{looks_of, run_of};
 
-use crate::name_run::NameRun;
+use crate::run::Run;
 use char_files::SiteNo;
 use looks::{Colour, FontName, Key, Looks, Register, Sel};
 
@@ -33,7 +33,7 @@ pub struct Piece {
 
 impl Piece {
     /// The piece of a run, shown.
-    pub fn of_run(run: NameRun) -> Piece
+    pub fn of_run(run: Run) -> Piece
         ensures { result ≡ piece_of run }
     {
         let Looks {
@@ -66,10 +66,10 @@ impl Piece {
     }
 
     // The run of all its characters.
-    pub(crate) fn run(&self) -> NameRun
+    pub(crate) fn run(&self) -> Run
         ensures { result ≡ run_of self.now }
     {
-        NameRun {
+        Run {
             site: self.site,
             off: self.off,
             len: self.len,

@@ -24,8 +24,8 @@ module _ (E : Of) (rb ro : ℕ) (d : (Lr E).Denot) (xs ys : List (Member E)) (vs
       (fsep (One E d.trailer) (fsep ((Mark E).own_val (tt, tt) vs)
       (cell_at full_share (Lr E).mir vs rb ro))))
 
-  pub put_back : {M : Type 1} {𝓤 : Ura M} (𝓛 : Logic 𝓤) (p : Ptr) (n : Member E) (b o : ℕ) → d.nodes ≡ xs ++ n ∷ ys
-      → n.at ≡ p → n.at ≡ block_ptr b o → (w : E.row.Denot)
+  pub put_back : {M : Type 1} {𝓤 : Ura M} (𝓛 : Logic 𝓤) (p : Ptr) (n : Member E) (b o : ℕ) →
+      d.nodes ≡ xs ++ n ∷ ys → n.at ≡ p → n.at ≡ block_ptr b o → (w : E.row.Denot)
       → ent 𝓤 (sep 𝓤 (sem 𝓛 ((mem (RV E)).own_at w b (o + vo E))) (sem 𝓛 Rest))
       (sem 𝓛 ((mem (Lr E)).own_at (with_value d p w) rb ro))
   unfolding part_of
@@ -42,5 +42,5 @@ module _ (E : Of) (rb ro : ℕ) (d : (Lr E).Denot) (xs ys : List (Member E)) (vs
       rewrite ! 4 (λ (ps : List Ptr). ‵ (path d.trailer.at (ps ++ d.trailer.at ∷ [])))
       (sym (places-set_value p w d.nodes)) refl $
       move ! (4 ∷ 1 ∷ 0 ∷ []) $ fjoin3 ! $ move ! (1 ∷ 0 ∷ []) $ fjoin ! $ move ! (1 ∷ 0 ∷ []) $ fjoin ! $
-      fpack ! (List Val) (λ us. fsep (cell_at full_share (Lr E).mir us rb ro) ((Lr E).own_val (with_value d p w) us))
-      vs $ done !
+      fpack ! (List Val) (λ us. fsep (cell_at full_share (Lr E).mir us rb ro)
+      ((Lr E).own_val (with_value d p w) us)) vs $ done !

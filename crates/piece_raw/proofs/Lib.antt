@@ -8,5 +8,6 @@ pub mod Pairs
 pub mod Serving
 pub mod Sharing
 pub mod Splits
+pub mod Standing
 pub mod Walks
 pub mod Writing

@@ -6,10 +6,11 @@ use Rattle.std.specs.List.{AllByRecursion}
 use Rattle.std.proofs.lemmas.List.{map-append}
 use Rattle.std.proofs.lemmas.Option.{slice_get_within}
 use denote.RawPtr.{Ptr}
+use Rattle.piece_raw.specs.declared.block.Block.{Block}
 use Rattle.piece_raw.specs.declared.nodes.Member.{Member}
 use Rattle.piece_raw.specs.Linked.{Linked, same_ptr, last_from, places, round, IsApart, HasNext, HasPrev}
 use Rattle.piece_raw.specs.Ring.{tags, stops, Follows, last_tag}
-use Rattle.piece_raw.specs.Tied.{Held, item_of, members, stop_of, IsAmong, IsStop, IsHeld, Matches}
+use Rattle.piece_raw.specs.Tied.{Held, item_of, members, stop_of, IsAmong, IsStop, IsHeld, Matches, spots}
 use Rattle.piece_raw.proofs.Splits.{cons_head, cons_tail, nil_ne_cut, last_from-push, cut_last, all_left}
 use Rattle.piece_raw.proofs.Splits.{all_right, all_both, distinct_differs}
 use Rattle.piece_raw.proofs.Apart.{same_ptr_refl, same_ptr_symm, same_node}
@@ -80,7 +81,7 @@ module _ {T : Type 0} where
           (λ i. sym at i ∷ (stops-members ns h i ++ sym at i ∷ [])) ∙
           ap (λ l. stop_of t ∷ l) (sym (map-append stop_of ns (t ∷ [])))
 
-      pub stops_step : (ns : List (N T)) → AllHeld ps ns → (xs : List (N T)) (x y : N T) (zs : List (N T)) →
+      stops_step : (ns : List (N T)) → AllHeld ps ns → (xs : List (N T)) (x y : N T) (zs : List (N T)) →
           t ∷ (ns ++ t ∷ []) ≡ xs ++ x ∷ y ∷ zs → Follows (members ns) (stop_of x) (stop_of y)
       stops_step ns h xs x y zs e = (
         map stop_of xs,
@@ -141,7 +142,7 @@ module _ {T : Type 0} where
   )
 
   -- the node before x
-  pub step_before : (t : N T) (ns xs : List (N T)) (x : N T) (ys : List (N T)) → t ∷ ns ≡ xs ++ x ∷ ys →
+  step_before : (t : N T) (ns xs : List (N T)) (x : N T) (ys : List (N T)) → t ∷ ns ≡ xs ++ x ∷ ys →
       (y : N T) × (us : List (N T)) × (vs : List (N T)) × (t ∷ (ns ++ t ∷ []) ≡ us ++ y ∷ x ∷ vs)
       × IsAmong (t ∷ ns) y
   step_before t ns [] x ys c =
@@ -165,7 +166,7 @@ module _ {T : Type 0} where
         (last.0, x ∷ ys, cut),
       )
 
-  pub round_step : (t : N T) (ns xs : List (N T)) (x y : N T) (zs : List (N T)) →
+  round_step : (t : N T) (ns xs : List (N T)) (x y : N T) (zs : List (N T)) →
       t ∷ (ns ++ t ∷ []) ≡ xs ++ x ∷ y ∷ zs → HasNext (round t ns) x.at y.at
   round_step t ns xs x y zs e = (
     places xs,
@@ -202,7 +203,8 @@ module _ {T : Type 0} where
   prev_stop t ns stop (x, among, is) p at =
       let step = step_before t ns among.0 x among.1 among.2 in (
         step.0,
-        subst (λ (q : Ptr). HasPrev (round t ns) q step.0.at) (sym at) (round_step t ns step.1 step.0 x step.2 step.3),
+        subst (λ (q : Ptr). HasPrev (round t ns) q step.0.at) (sym at)
+            (round_step t ns step.1 step.0 x step.2 step.3),
         step.4,
         λ ps none held. subst (λ (c : Option ℕ). Follows (members ns) (stop_of step.0) c) is
             (stops_step ps t none ns held step.1 step.0 x step.2 step.3),
@@ -383,7 +385,7 @@ module _ {T : Type 0} where
       }
 
   -- the node of the table's last place
-  pub last_node : (ps : List Ptr) (p : Ptr) (ns : List (N T)) → Matches (ps ++ p ∷ []) ns →
+  last_node : (ps : List Ptr) (p : Ptr) (ns : List (N T)) → Matches (ps ++ p ∷ []) ns →
       (xs : List (N T)) × (x : N T) × (ys : List (N T)) × (ns ≡ xs ++ x ∷ ys) × (x.at ≡ p)
       × (stop_of x ≡ Some (length ps))
   last_node ps p ns h =
@@ -394,3 +396,14 @@ module _ {T : Type 0} where
       let spot : Some x.at ≡ Some p = sym here.2 ∙ ap (slice_get (ps ++ p ∷ [])) tag ∙
       slice_get-cut ps p [] in
       (was.1.0, x, was.1.1, was.1.2, (let at : x.at ≡ p = cc in at), was.2)
+
+  -- where b's block is the last of a table, its node is among those of the table, and has the last place
+  pub last_block : {A : Type 0} (blocks items : List (Block (Held T) A)) (b : Block (Held T) A) →
+      blocks ≡ items ++ b ∷ [] → (ns : List (N T)) → Matches (spots blocks) ns →
+      Matches (spots items ++ b.node.ptr ∷ []) ns
+      × ((xs : List (N T)) × (x : N T) × (ys : List (N T)) × (ns ≡ xs ++ x ∷ ys) × (x.at ≡ b.node.ptr)
+      × (stop_of x ≡ Some (length (spots items))))
+  last_block blocks items b e ns h =
+      let whole = subst (λ (ps : List Ptr). Matches ps ns)
+      (ap spots e ∙ map-append (λ d. d.node.ptr) items (b ∷ [])) h in
+      (whole, last_node (spots items) b.node.ptr ns whole)

@@ -3,6 +3,7 @@
 --     word_had, word_made, mark_made      a value of one pointer, and one of no bytes
 -- edge_out, edge_in, path_cut, path_glue, values_cut, values_glue      the links and the pairs are taken
 -- apart and put together
+--     next_seen, prev_seen, value_at      what lent links lend of a node
 --     fresh              a node with room for its links lies apart from every node of a path
 use mathlib.Core.Path.{◌≡◌, refl, sym, ap, subst}
 use mathlib.Core.Bool.{true, false}
@@ -246,7 +247,7 @@ module _ {M : Type 1} {𝓤 : Ura M} (𝓛 : Logic 𝓤) where
       use2 𝓛 (‵ (path x (xs ++ ys))) (path_glue x xs ys) $ move ! (1 ∷ 0 ∷ []) $ fjoin ! $ done !
 
   -- the edge from p to q, where a and ps have them in a row
-  pub edge_seen : (κ : Lft) (a : Ptr) (ps xs : List Ptr) (p q : Ptr) (ys : List Ptr) →
+  edge_seen : (κ : Lft) (a : Ptr) (ps xs : List Ptr) (p q : Ptr) (ys : List Ptr) →
       a ∷ ps ≡ xs ++ p ∷ q ∷ ys → ent 𝓤 (sem 𝓛 (path_lent a ps κ)) (sem 𝓛 (edge_lent p q κ))
   edge_seen κ a ps [] p q ys e =
       let first : a ≡ p = cc in let rest : ps ≡ q ∷ ys = cc in

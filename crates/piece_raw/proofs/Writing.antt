@@ -1,7 +1,7 @@
 -- Tags are distinct, so that a write to one member changes no other.
-use Rattle.std.proofs.Common.{◌≡◌, ℕ, ◌<◌, ◌==◌, true, false, IsSome, IfSome, cond, List, [], ◌∷◌, ◌++◌}
-use Rattle.std.proofs.Common.{length, slice_get, Option, Some, None, option_map, inl, inr, refl, sym, ap, ◌∙◌}
-use Rattle.std.proofs.Common.{subst, arith, length-append, true≢false}
+use Rattle.std.proofs.Common.{◌≡◌, ℕ, ◌<◌, ◌==◌, true, false, cond, List, [], ◌∷◌, ◌++◌, length, slice_get}
+use Rattle.std.proofs.Common.{Option, Some, inl, inr, refl, sym, ap, ◌∙◌, subst, arith, length-append}
+use Rattle.std.proofs.Common.{true≢false}
 use Rattle.std.specs.List.{AllByRecursion, IsDistinct}
 use Rattle.std.proofs.lemmas.List.{map-append}
 use Rattle.std.proofs.lemmas.Option.{slice_get_within}
@@ -9,12 +9,11 @@ use Rattle.std.proofs.lemmas.Bool.{cases_eq, ne_eqb, eqb-false}
 use denote.RawPtr.{Ptr}
 use Rattle.piece_raw.specs.declared.nodes.Member.{Member}
 use Rattle.piece_raw.specs.Linked.{linked, same_ptr, places, IsApart, set_value}
-use Rattle.piece_raw.specs.Ring.{tags, AreTags, with_value, HasTag}
+use Rattle.piece_raw.specs.Ring.{tags, AreTags, with_value}
 use Rattle.piece_raw.specs.Tied.{Held, members, stop_of, IsAmong, IsStop, IsHeld, Matches}
-use Rattle.piece_raw.proofs.Splits.{cons_head, cons_tail, all_left, all_right, all_both, distinct_differs}
+use Rattle.piece_raw.proofs.Splits.{all_left, all_right, all_both, distinct_differs}
 use Rattle.piece_raw.proofs.Apart.{same_ptr_refl, set_value-cut}
 use Rattle.piece_raw.proofs.Matching.{N, members-append, members-cons, among-with, among-without, stop-some}
-use Rattle.piece_raw.proofs.Matching.{cut_members}
 
 same_number : (a b : ℕ) → (a == b) ≡ (b == a)
 same_number a b = elim (cases_eq a b) [
@@ -171,61 +170,3 @@ module _ {T : Type 0} where
           ap members now-cut ∙ members-append xs (new ∷ ys) ∙ sym (with_value-cut (members xs)
           m.tag m.value (members ys) w (subst (λ (l : List (ℕ × T)). IsDistinct ◌==◌ (tags l))
           before (tags-distinct ps ns h.held d))) ∙ ap (with_value m.tag w) (sym before)
-
-  -- a cursor can stand on each member
-  pub stop-member : (ps : List Ptr) (t : N T) (ns : List (N T)) → Matches ps ns → (tag : ℕ) →
-      HasTag (members ns) tag → IsStop (t ∷ ns) (Some tag)
-  stop-member ps t ns h tag has =
-      let on = cut_members ps ns h.held has.1.0 tag has.0 has.1.1 has.1.2 in
-      (on.1, (t ∷ on.0, on.2, ap (λ l. t ∷ l) on.4), stop-some on.1 on.3 on.5 ∙ ap (λ p. Some p.0) on.6)
-
-  pub stop-trailer : (t : N T) (ns : List (N T)) → t.value ≡ None → IsStop (t ∷ ns) None
-  stop-trailer t ns e = (t, ([], ns, refl), ap (option_map (λ (m : Member T). m.tag)) e)
-
-  -- where there is a member, or nothing is named, a cursor can stand
-  pub stop-member-if : (ps : List Ptr) (t : N T) (ns : List (N T)) → Matches ps ns → t.value ≡ None →
-      (stop : Option ℕ) → IfSome stop (HasTag (members ns)) → IsStop (t ∷ ns) stop
-  stop-member-if ps t ns h none None has = stop-trailer t ns none
-  stop-member-if ps t ns h none (Some tag) has = stop-member ps t ns h tag has
-
-  at_stop : (ps : List Ptr) (t : N T) (ns : List (N T)) → AllByRecursion (IsHeld ps) ns → t.value ≡ None →
-      (tag : ℕ) (xs : List (N T)) (x : N T) (ys : List (N T)) → t ∷ ns ≡ xs ++ x ∷ ys → stop_of x ≡ Some tag
-      → (xs : List (N T)) × (x : N T) × (ys : List (N T)) × (m : Member T) × (ns ≡ xs ++ x ∷ ys)
-      × (x.value ≡ Some m) × (m.tag ≡ tag)
-  at_stop ps t ns h none tag [] x ys c s = let same = cons_head t x ns ys c in
-      let at = sym (ap (option_map (λ (m : Member T). m.tag)) none) ∙ ap stop_of same ∙ s in cc
-  at_stop ps t ns h none tag (z ∷ xs) x ys c s =
-      let rest = cons_tail t z ns (xs ++ x ∷ ys) c in let here = (all_right (IsHeld ps) xs (x ∷ ys)
-      (subst (AllByRecursion (IsHeld ps)) rest h)).0 in
-      let both : Some here.0.tag ≡ Some tag = sym (stop-some x here.0 here.1) ∙ s in
-      (xs, x, ys, here.0, rest, here.1, (let same : here.0.tag ≡ tag = cc in same))
-
-  -- where a cursor stands there is a member
-  pub member-stop : (ps : List Ptr) (t : N T) (ns : List (N T)) → Matches ps ns → t.value ≡ None →
-      (tag : ℕ) → IsStop (t ∷ ns) (Some tag)
-      → (xs : List (N T)) × (x : N T) × (ys : List (N T)) × (m : Member T) × (ns ≡ xs ++ x ∷ ys)
-      × (x.value ≡ Some m) × (m.tag ≡ tag)
-  member-stop ps t ns h none tag s = at_stop ps t ns h.held none tag s.1.0 s.0 s.1.1 s.1.2 s.2
-
-  pub has-stop : (ps : List Ptr) (t : N T) (ns : List (N T)) → Matches ps ns → t.value ≡ None → (tag : ℕ) →
-      IsStop (t ∷ ns) (Some tag) → HasTag (members ns) tag
-  has-stop ps t ns h none tag s =
-      let on = member-stop ps t ns h none tag s in (
-        on.3.value,
-        (
-          members on.0,
-          members on.2,
-          ap members on.4 ∙ members-append on.0 (on.1 ∷ on.2) ∙
-              ap (λ l. members on.0 ++ l) (members-cons on.1 on.3 on.2 on.5) ∙
-              ap (λ k. members on.0 ++ (k, on.3.value) ∷ members on.2) on.6,
-        ),
-      )
-
-  pub has-stop-if : (ps : List Ptr) (t : N T) (ns : List (N T)) → Matches ps ns → t.value ≡ None →
-      (stop : Option ℕ) → IsStop (t ∷ ns) stop → IfSome stop (HasTag (members ns))
-  has-stop-if ps t ns h none None s = tt
-  has-stop-if ps t ns h none (Some tag) s = has-stop ps t ns h none tag s
-
-pub some_of : {X : Type 0} (o : Option X) → IsSome o → (x : X) × (o ≡ Some x)
-some_of None h = cc
-some_of (Some x) h = (x, refl)

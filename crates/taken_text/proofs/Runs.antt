@@ -13,14 +13,14 @@ use Rattle.char_files.specs.declared.character.Char.{Char}
 use Rattle.operations.specs.NameSet.{names_of}
 use Rattle.tree_order.specs.Registers.{Atom}
 use Rattle.piece_list.specs.Shown.{Appearance, appearance_of, appearance_in, appearances_in}
-use Rattle.piece_list.specs.declared.name_run.NameRun.{NameRun}
+use Rattle.piece_list.specs.declared.run.Run.{Run}
 use Rattle.taken_text.specs.Shown.{with_byte, chars_of_run, chars_of_runs, runs_left, IsInFile, AreInFiles}
 use Rattle.taken_text.specs.Taken.{char_in}
 use Rattle.piece_list.proofs.Gap.{all_left, all_right}
 use Rattle.taken_text.proofs.Counted.{HasByteIn}
 
 -- the characters of runs are those that the runs tell of
-chars_told : (files : Files) (runs : List NameRun) → chars_of_runs files runs ≡ map (with_byte files) (flat_map appearances_in runs)
+chars_told : (files : Files) (runs : List Run) → chars_of_runs files runs ≡ map (with_byte files) (flat_map appearances_in runs)
 chars_told files [] = refl
 chars_told files (r ∷ runs) =
     ap (λ (cs : List Char). chars_of_run files r ++ cs) (chars_told files runs)
@@ -31,12 +31,12 @@ atoms_with_bytes files [] = refl
 atoms_with_bytes files (k ∷ atoms) = ap (λ (cs : List Char). char_in files k ∷ cs) (atoms_with_bytes files atoms)
 
 -- so they are the characters that are told of
-pub chars_of_walk : (files : Files) (atoms : List Atom) (runs : List NameRun) → flat_map appearances_in runs ≡ map appearance_of atoms
+pub chars_of_walk : (files : Files) (atoms : List Atom) (runs : List Run) → flat_map appearances_in runs ≡ map appearance_of atoms
     → chars_of_runs files runs ≡ map (char_in files) atoms
 chars_of_walk files atoms runs told = chars_told files runs ∙ ap (map (with_byte files)) told ∙ atoms_with_bytes files atoms
 
 -- a run's first character
-chars_first : (files : Files) (r : NameRun) → 0 < r.len
+chars_first : (files : Files) (r : Run) → 0 < r.len
     → chars_of_run files r ≡ with_byte files (appearance_in r (record { site = r.site; off = r.off }))
     ∷ chars_of_run files (record r { off = r.off + 1; len = r.len - 1 })
 chars_first files r some = go r.len some
@@ -51,7 +51,7 @@ chars_first files r some = go r.len some
         ap (λ (m : ℕ). with_byte files (appearance_in r (record { site = r.site; off = r.off })) ∷ chars (r.off + 1) m) less
 
 -- a run's last character has its byte, so they all do
-last_byte : (files : Files) (r : NameRun) → 0 < r.len → All (λ (a : Appearance). HasByteIn files a.name) (appearances_in r)
+last_byte : (files : Files) (r : Run) → 0 < r.len → All (λ (a : Appearance). HasByteIn files a.name) (appearances_in r)
     → r.off + r.len ≤ length (bytes_of files r.site)
 last_byte files r some all =
     let name : ℕ → CharName = λ (off : ℕ). record { site = r.site; off = off } in
@@ -67,13 +67,13 @@ last_byte files r some all =
     subst (λ (a : Appearance). HasByteIn files a.name) at (all i d (omega (arith, length-map names (appearance_in r)))) in
     omega (arith, has)
 
-in_files : (files : Files) (runs : List NameRun) → All (λ run. 0 < run.len) runs → All (λ run. run.off + run.len ≤ MAX_FILE) runs
+in_files : (files : Files) (runs : List Run) → All (λ run. 0 < run.len) runs → All (λ run. run.off + run.len ≤ MAX_FILE) runs
     → All (λ a. HasByteIn files a.name) (flat_map appearances_in runs) → AreInFiles files runs
 in_files files [] some within all = All-nil (IsInFile files)
 in_files files (r ∷ runs) some within all =
     let Has : Appearance → Type 0 = λ (a : Appearance). HasByteIn files a.name in
-    let Some' : NameRun → Type 0 = λ (run : NameRun). 0 < run.len in
-    let Within : NameRun → Type 0 = λ (run : NameRun). run.off + run.len ≤ MAX_FILE in
+    let Some' : Run → Type 0 = λ (run : Run). 0 < run.len in
+    let Within : Run → Type 0 = λ (run : Run). run.off + run.len ≤ MAX_FILE in
     let here : 0 < r.len = All-head Some' r runs some in
     All-cons (IsInFile files) r runs
     (record {
@@ -86,57 +86,57 @@ in_files files (r ∷ runs) some within all =
 
 -- the runs of a walk are in the files
 pub walk_in_files : (files : Files) (atoms : List Atom) → All (λ k. HasByteIn files k.name) atoms
-    → (runs : List NameRun) → All (λ run. 0 < run.len) runs → All (λ run. run.off + run.len ≤ MAX_FILE) runs
+    → (runs : List Run) → All (λ run. 0 < run.len) runs → All (λ run. run.off + run.len ≤ MAX_FILE) runs
     → flat_map appearances_in runs ≡ map appearance_of atoms → AreInFiles files runs
 walk_in_files files atoms have runs some within told =
     let Has : Appearance → Type 0 = λ (a : Appearance). HasByteIn files a.name in
     in_files files runs some within (subst (All Has) (sym told) (All-map Has appearance_of atoms have))
 
 -- a run without its first character
-abbrev pub without_first : NameRun → NameRun
+abbrev pub without_first : Run → Run
 without_first r = record r { off = r.off + 1; len = r.len - 1 }
 
 -- a run was read on by one character: the rest of it is read next, or the run behind it
-abbrev pub ReadsOn : NameRun → List NameRun → Option NameRun → List NameRun → Type 0
+abbrev pub ReadsOn : Run → List Run → Option Run → List Run → Type 0
 ReadsOn r rest next behind =
     ((0 < r.len - 1) × (next ≡ Some (without_first r)) × (behind ≡ rest))
-    ⊎ ((r.len - 1 ≡ 0) × YieldsFirst (λ (runs : List NameRun). runs) rest next behind)
+    ⊎ ((r.len - 1 ≡ 0) × YieldsFirst (λ (runs : List Run). runs) rest next behind)
 
-none_left : (files : Files) (r : NameRun) → r.len - 1 ≡ 0 → chars_of_run files (without_first r) ≡ []
+none_left : (files : Files) (r : Run) → r.len - 1 ≡ 0 → chars_of_run files (without_first r) ≡ []
 none_left files r none =
     ap (λ (n : ℕ). map (with_byte files) (map (appearance_in r) (names_of (record { site = r.site; at = r.off + 1; len = n })))) none
 
-next_left : (files : Files) (rest : List NameRun) (next : Option NameRun) (behind : List NameRun) → YieldsFirst (λ (runs : List NameRun). runs) rest next behind
+next_left : (files : Files) (rest : List Run) (next : Option Run) (behind : List Run) → YieldsFirst (λ (runs : List Run). runs) rest next behind
     → chars_of_runs files rest ≡ chars_of_runs files (runs_left next behind)
 next_left files rest None behind is = ap (chars_of_runs files) is.0
 next_left files rest (Some r) behind is = ap (chars_of_runs files) is
 
-chars_left : (files : Files) (r : NameRun) (rest : List NameRun) (next : Option NameRun) (behind : List NameRun) → ReadsOn r rest next behind
+chars_left : (files : Files) (r : Run) (rest : List Run) (next : Option Run) (behind : List Run) → ReadsOn r rest next behind
     → chars_of_run files (without_first r) ++ chars_of_runs files rest ≡ chars_of_runs files (runs_left next behind)
 chars_left files r rest next behind (inl (some, is, same)) =
-    ap (λ (runs : List NameRun). chars_of_run files (without_first r) ++ chars_of_runs files runs) (sym same)
-    ∙ ap (λ (o : Option NameRun). chars_of_runs files (runs_left o behind)) (sym is)
+    ap (λ (runs : List Run). chars_of_run files (without_first r) ++ chars_of_runs files runs) (sym same)
+    ∙ ap (λ (o : Option Run). chars_of_runs files (runs_left o behind)) (sym is)
 chars_left files r rest next behind (inr (none, is)) =
     ap (λ (cs : List Char). cs ++ chars_of_runs files rest) (none_left files r none) ∙ next_left files rest next behind is
 
 -- so its first character comes, and then what is left
-pub first_and_rest : (files : Files) (r : NameRun) (rest : List NameRun) (next : Option NameRun) (behind : List NameRun) → 0 < r.len → ReadsOn r rest next behind
+pub first_and_rest : (files : Files) (r : Run) (rest : List Run) (next : Option Run) (behind : List Run) → 0 < r.len → ReadsOn r rest next behind
     → chars_of_runs files (r ∷ rest) ≡ with_byte files (appearance_in r (record { site = r.site; off = r.off })) ∷ chars_of_runs files (runs_left next behind)
 first_and_rest files r rest next behind some on =
     ap (λ (cs : List Char). cs ++ chars_of_runs files rest) (chars_first files r some)
     ∙ ap (λ (cs : List Char). with_byte files (appearance_in r (record { site = r.site; off = r.off })) ∷ cs) (chars_left files r rest next behind on)
 
-next_in_files : (files : Files) (rest : List NameRun) (next : Option NameRun) (behind : List NameRun) → YieldsFirst (λ (runs : List NameRun). runs) rest next behind
+next_in_files : (files : Files) (rest : List Run) (next : Option Run) (behind : List Run) → YieldsFirst (λ (runs : List Run). runs) rest next behind
     → AreInFiles files rest → AreInFiles files (runs_left next behind)
 next_in_files files rest None behind is all = All-nil (IsInFile files)
 next_in_files files rest (Some r) behind is all = subst (AreInFiles files) is all
 
 -- which is in the files
-pub left_in_files : (files : Files) (r : NameRun) (rest : List NameRun) (next : Option NameRun) (behind : List NameRun) → ReadsOn r rest next behind
+pub left_in_files : (files : Files) (r : Run) (rest : List Run) (next : Option Run) (behind : List Run) → ReadsOn r rest next behind
     → AreInFiles files (r ∷ rest) → AreInFiles files (runs_left next behind)
 left_in_files files r rest next behind (inl (some, is, same)) all =
     let here : IsInFile files r = All-head (IsInFile files) r rest all in
-    subst (λ (o : Option NameRun). AreInFiles files (runs_left o behind)) (sym is)
+    subst (λ (o : Option Run). AreInFiles files (runs_left o behind)) (sym is)
     (All-cons (IsInFile files) (without_first r) behind
     (record { some = some; within = omega (arith, here.within, here.some); held = omega (arith, here.held, here.some) })
     (subst (AreInFiles files) (sym same) (All-tail (IsInFile files) r rest all)))

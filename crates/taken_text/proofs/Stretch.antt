@@ -16,7 +16,7 @@ use Rattle.piece_list.specs.RunCuts.{AreWithin}
 use Rattle.piece_list.specs.Shown.{Appearance, appearance_of, appearance_in, appearances_in}
 use Rattle.piece_list.specs.Spelled.{spelled, shown_chars}
 use Rattle.piece_list.specs.declared.piece.Piece.{Piece}
-use Rattle.piece_list.specs.declared.name_run.NameRun.{NameRun}
+use Rattle.piece_list.specs.declared.run.Run.{Run}
 use Rattle.taken_text.specs.Shown.{range_of_run}
 use Rattle.taken_text.specs.Taken.{TakenSeen, IsTaken, char_in, seen_in, shown_of, names_between}
 use Rattle.taken_text.proofs.Counted.{HasByteIn, have_bytes, shown_now}
@@ -27,11 +27,11 @@ pub range_map : {X Y : Type 0} (f : X → Y) (xs : List X) (beg end : ℕ)
 range_map f xs beg end = ap (take (end - beg)) (drop-map f beg xs) ∙ take-map f (end - beg) (drop beg xs)
 
 -- the names that are told of runs' characters
-names_of_appearances : (r : NameRun) (cs : List CharName) → map (λ (a : Appearance). a.name) (map (appearance_in r) cs) ≡ cs
+names_of_appearances : (r : Run) (cs : List CharName) → map (λ (a : Appearance). a.name) (map (appearance_in r) cs) ≡ cs
 names_of_appearances r [] = refl
 names_of_appearances r (c ∷ cs) = ap (λ (l : List CharName). c ∷ l) (names_of_appearances r cs)
 
-names_told : (runs : List NameRun)
+names_told : (runs : List Run)
     → names_in (map range_of_run runs) ≡ map (λ (a : Appearance). a.name) (flat_map appearances_in runs)
 names_told [] = refl
 names_told (r ∷ runs) =
@@ -63,7 +63,7 @@ module _ (ops : List Operation) (items : List (ℕ × Piece)) (files : Files) (n
       (All-drop Has beg (shown_chars (spelled items))
       (All-filter (λ (k : Atom). not k.hidden.value) Has (spelled items) (have_bytes ops items files t)))
 
-  module _ (runs : List NameRun) (walked : flat_map appearances_in runs ≡ slice_range (map appearance_of (shown_chars (spelled items))) beg end) where
+  module _ (runs : List Run) (walked : flat_map appearances_in runs ≡ slice_range (map appearance_of (shown_chars (spelled items))) beg end) where
     pub part_told : flat_map appearances_in runs ≡ map appearance_of part
     part_told = walked ∙ range_map appearance_of (shown_chars (spelled items)) beg end
 
@@ -74,5 +74,5 @@ module _ (ops : List Operation) (items : List (ℕ × Piece)) (files : Files) (n
         ∙ ap (map (λ (c : Char). c.name)) (sym part_shown))
 
 -- the runs behind the first
-pub rest_within : (r : NameRun) (runs : List NameRun) → AreWithin (r ∷ runs) → AreWithin runs
-rest_within r runs all = All-tail (λ (run : NameRun). (0 < run.len) × (run.off + run.len ≤ MAX_FILE)) r runs all
+pub rest_within : (r : Run) (runs : List Run) → AreWithin (r ∷ runs) → AreWithin runs
+rest_within r runs all = All-tail (λ (run : Run). (0 < run.len) × (run.off + run.len ≤ MAX_FILE)) r runs all

@@ -26,7 +26,7 @@ use Rattle.piece_list.specs.Placed.{IsPlaced}
 use Rattle.piece_list.specs.Placing.{HasAnchor}
 use Rattle.piece_list.specs.Spelled.{HasName, spelled}
 use Rattle.piece_list.specs.declared.piece.Piece.{Piece}
-use Rattle.piece_list.specs.declared.name_run.NameRun.{NameRun}
+use Rattle.piece_list.specs.declared.run.Run.{Run}
 use Rattle.taken_text.specs.Taken.{IsTaken}
 use Rattle.taken_text.proofs.Bytes.{hold_more, hold_no_more}
 use Rattle.taken_text.proofs.Ready.{begins, none_behind, counted, larger_good, larger_identified, mentioned_atoms, one_more}
@@ -65,7 +65,7 @@ module _ (ops : List Operation) (op : Operation) (items : List (ℕ × Piece)) (
         none_behind ops op taken.good taken.identified new is (spelled items) taken.atoms c (omega (arith, len, h.1))
 
     -- its run put in its place, and its bytes behind its site's
-    pub taken_with_run : (run : NameRun) → IsRunOf op run → (items' : List (ℕ × Piece)) (files' : Files)
+    pub taken_with_run : (run : Run) → IsRunOf op run → (items' : List (ℕ × Piece)) (files' : Files)
         → IsPlaced run.key cause (chars_of (piece_of run)) (spelled items) (spelled items') → bytes_of files' op.site ≡ bytes_of files op.site ++ bytes → OthersStay files op.site files'
         → IsTaken (ops ++ op ∷ []) items' files'
     taken_with_run run of items' files' put own others =

@@ -6,7 +6,7 @@ use Rattle.char_files.specs.declared.TheConstants.{MAX_FILE}
 use Rattle.char_files.specs.declared.character.Char.{Char}
 use Rattle.operations.specs.NameSet.{Range}
 use Rattle.piece_list.specs.Shown.{Appearance, appearances_in}
-use Rattle.piece_list.specs.declared.name_run.NameRun.{NameRun}
+use Rattle.piece_list.specs.declared.run.Run.{Run}
 
 -- what is told of a character, with its byte
 abbrev pub with_byte : Files → Appearance → Char
@@ -17,28 +17,28 @@ with_byte files a = record {
 }
 
 -- a run's characters, each with its byte
-abbrev pub chars_of_run : Files → NameRun → List Char
+abbrev pub chars_of_run : Files → Run → List Char
 chars_of_run files r = map (with_byte files) (appearances_in r)
 
 -- the characters of runs, one run after the other
-abbrev pub chars_of_runs : Files → List NameRun → List Char
+abbrev pub chars_of_runs : Files → List Run → List Char
 chars_of_runs files runs = flat_map (chars_of_run files) runs
 
 -- the run that is being read, and those behind it; none where there is no such run
-abbrev pub runs_left : Option NameRun → List NameRun → List NameRun
+abbrev pub runs_left : Option Run → List Run → List Run
 runs_left None rest = []
 runs_left (Some r) rest = r ∷ rest
 
 -- a run's names
-abbrev pub range_of_run : NameRun → Range
+abbrev pub range_of_run : Run → Range
 range_of_run r = record { site = r.site; at = r.off; len = r.len }
 
 -- a run isn't empty, and its site's file has its bytes
-pub record IsInFile (files : Files) (r : NameRun) : Type 0 where
+pub record IsInFile (files : Files) (r : Run) : Type 0 where
   pub some : 0 < r.len
   pub within : r.off + r.len ≤ MAX_FILE
   pub held : r.off + r.len ≤ length (bytes_of files r.site)
 
 -- so it is with all of these
-abbrev pub AreInFiles : Files → List NameRun → Type 0
+abbrev pub AreInFiles : Files → List Run → Type 0
 AreInFiles files runs = All (IsInFile files) runs

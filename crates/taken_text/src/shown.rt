@@ -4,11 +4,11 @@ ghost use Rattle.piece_list.specs.Shown.{appearance_in};
 ghost use Rattle.taken_text.specs.Shown.{AreInFiles, IsInFile, chars_of_runs, with_byte};
 
 use char_files::{Char, CharFiles, Name};
-use piece_list::{Between, NameRun};
+use piece_list::{Between, Run};
 use std::marker::Model;
 
 // The first character of a run.
-fn first_of(files: &CharFiles, run: &NameRun) -> Char
+fn first_of(files: &CharFiles, run: &Run) -> Char
     requires { IsInFile files.now run.now }
     ensures { result
         ≡ with_byte files.now (appearance_in run.now (record { site = run.now.site; off = run.now.off })) }
@@ -29,7 +29,7 @@ fn first_of(files: &CharFiles, run: &NameRun) -> Char
 pub struct Shown<'a> {
     files: &'a CharFiles,
     // What is left of the run that is being read; none behind the last one.
-    run: Option<NameRun>,
+    run: Option<Run>,
     // The runs behind it.
     walk: Between<'a>,
 }

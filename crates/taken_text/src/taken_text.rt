@@ -14,7 +14,7 @@ use char_files::{Char, CharFiles, Name};
 use looks::Refusal;
 use op_log::Log;
 use operations::{Kind, Op};
-use piece_list::{NameRun, PieceList};
+use piece_list::{PieceList, Run};
 use std::alloc::Global;
 use std::marker::Model;
 
@@ -63,7 +63,7 @@ fn insert_run(
     else {
         unreachable!()
     };
-    let run = NameRun {
+    let run = Run {
         site: op.site(),
         off: *at,
         len: bytes.len() as u32,

@@ -11,7 +11,7 @@ ghost use Rattle.text_file.specs.Files.{run_spelling, formatted, HasFile, IsFile
 use crate::MAX_TEXT;
 use crate::filling::push_char;
 use byteorder::{BigEndian, ByteOrder};
-use char_files::{Buffer, Run, Source};
+use char_files::{Buffer, LooksRun, Source};
 use looks::Refusal;
 use operations::write_looks;
 use std::alloc::{AllocError, Global};
@@ -41,7 +41,7 @@ fn put_u32(out: &mut Vec<u8>, number: u32) -> Result<(), AllocError>
     out.extend_from_slice(&bytes)
 }
 
-fn put_run(out: &mut Vec<u8>, run: &Run) -> Result<(), Refusal>
+fn put_run(out: &mut Vec<u8>, run: &LooksRun) -> Result<(), Refusal>
     requires { length run.now.bytes ≤ MAX_TEXT }
     ensures ok { OnOk result (out.new.items ≡ out.old.items ++ run_spelling run.now) }
     ensures errors { RefusedForMemoryAlone result }
@@ -51,7 +51,7 @@ fn put_run(out: &mut Vec<u8>, run: &Run) -> Result<(), Refusal>
     Ok(())
 }
 
-fn put_runs(out: &mut Vec<u8>, runs: &[Run]) -> Result<(), Refusal>
+fn put_runs(out: &mut Vec<u8>, runs: &[LooksRun]) -> Result<(), Refusal>
     requires { length (items_of runs.now) ≤ MAX_TEXT }
     ensures ok { OnOk result (out.new.items ≡ out.old.items ++ flat_map run_spelling runs.now) }
     ensures errors { RefusedForMemoryAlone result }
@@ -62,7 +62,7 @@ fn put_runs(out: &mut Vec<u8>, runs: &[Run]) -> Result<(), Refusal>
     Ok(())
 }
 
-fn put_chars(out: &mut Vec<u8>, runs: &[Run]) -> Result<(), AllocError>
+fn put_chars(out: &mut Vec<u8>, runs: &[LooksRun]) -> Result<(), AllocError>
     ensures { OnOk result (out.new.items ≡ out.old.items ++ flat_map (λ r. r.bytes) runs.now) }
 {
     for run in runs {

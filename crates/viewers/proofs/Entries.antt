@@ -127,3 +127,22 @@ module _ {C : Type 0} where
   refill-zip ks cs ws n even long =
       let m : n ≡ length (zip ks cs) = long ∙ sym (length-zip ks cs even) in
       λ t. zip (sym (numbers-zip ks cs even) t) (refill (m t) (sym (contents-zip ks cs even) t) ws)
+
+  -- what is read at the index that a call answered is what the viewer shows
+  pub content_read : {R : Type 0} (now : R → C) (o : Option R) (ks : List ℕ) (cs : List C) (v i : ℕ)
+      → length cs ≡ length ks → i ≡ index_of ks v → option_map now o ≡ slice_get cs i
+      → option_map now o ≡ content_of (zip ks cs) v
+  content_read now o ks cs v i even is read =
+      read ∙ ap (slice_get cs) is ∙ sym (content_at_index ks cs v even)
+
+  -- and what is set or taken out there
+  pub set_at : (from below v i : ℕ) (w : C) (ks : List ℕ) (cs : List C) → AreRising from ks below → length cs ≡ length ks
+      → i ≡ index_of ks v → zip ks (slice_set cs i w) ≡ with_entry (zip ks cs) v w
+  set_at from below v i w ks cs rising even is =
+      ap (λ j. zip ks (slice_set cs j w)) is ∙ set-zip from below v w ks cs rising even
+
+  pub removed_at : (from below v i : ℕ) (ks left : List ℕ) (cs rest : List C) → AreRising from ks below → length cs ≡ length ks
+      → i ≡ index_of ks v → left ≡ remove ks i → rest ≡ remove cs i → zip left rest ≡ without (zip ks cs) v
+  removed_at from below v i ks left cs rest rising even is first second =
+      (λ t. zip (first t) (second t)) ∙ ap (λ j. zip (remove ks j) (remove cs j)) is
+      ∙ sym (filter-zip from below v ks cs rising even)

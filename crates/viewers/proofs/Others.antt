@@ -1,23 +1,23 @@
 -- Each viewer but the one that opens, closes or moves, and its neighbour, keeps its area.
-use Rattle.std.proofs.Common.{◌≡◌, ◌≢◌, ℕ, ◌+◌, ◌-◌, ◌<◌, List, [], ◌∷◌, length, Bool, true, false, cond, refl, sym, ap, ◌∙◌, arith, Option, Some, None, Result, Ok, Err, inl, inr}
+use Rattle.std.proofs.Common.{◌≡◌, ◌≢◌, ℕ, ◌+◌, ◌-◌, ◌<◌, List, [], ◌∷◌, length, Bool, true, false, cond, refl, sym, ap, ◌∙◌, arith, Option, Some, None, Result, Ok, Err, eqb, inl, inr, is_some}
 use Rattle.std.specs.Prelude.{◌&&◌, nat_le, nat_lt}
-use Rattle.std.proofs.lemmas.Bool.{leb-true, ltb-true}
+use Rattle.std.proofs.lemmas.Bool.{le-ltb, leb-true, lt-ltb, ltb-true}
 use Rattle.looks.specs.declared.refusal.Refusal.{Refusal}
 use Rattle.looks.specs.declared.refusal.Refusal.TheVariants.{NoRoom}
 use Rattle.viewers.specs.declared.screen.Area.{Area}
 use Rattle.viewers.specs.declared.screen.Track.{Track}
 use Rattle.viewers.specs.declared.screen.Track.TheVariants.{User, System}
 use Rattle.viewers.specs.declared.seats.Seat.{Seat}
-use Rattle.viewers.specs.Laws.{AreUnused, ClosingKeepsOthers, MovingKeepsOthers, OpeningKeepsOthers, OpeningRises, StaysCovered, above, heir_of}
+use Rattle.viewers.specs.Laws.{AreUnused, ClosingKeepsOthers, MovingKeepsOthers, OpeningKeepsOthers, OpeningRises, ShowWhereTheyStand, StaysCovered, above, heir_of}
 use Rattle.viewers.specs.Screen.{ScreenSeen, after_close, after_move, after_open, area_in, area_of, has, user_width}
 use Rattle.viewers.specs.Tracks.{Covers, bottom, can_open, closed, holder, moved, opened, place, top, viewer_in}
-use Rattle.viewers.specs.Viewers.{ViewersSeen, has_room, numbers, with_viewer}
+use Rattle.viewers.specs.Viewers.{ViewersSeen, content_of, has_room, numbers, times, with_viewer}
 use Rattle.viewers.proofs.Covering.{four_rows, row_there}
 use Rattle.viewers.proofs.Keeping.{closed_found, divided_found, found, moved_found, passed, system_area, user_area}
 use Rattle.viewers.proofs.Numbers.{none_next}
 use Rattle.viewers.proofs.Rows.{holder_there}
 use Rattle.viewers.proofs.Screens.{close_covers, move_covers, open_covers}
-use Rattle.viewers.proofs.Seating.{has_times, number_there}
+use Rattle.viewers.proofs.Seating.{has_no_times, has_times, number_there}
 
 pub stays_covered : (height : ℕ) (seats : List Seat) → StaysCovered height seats
 stays_covered height seats high covers v row lt =
@@ -104,6 +104,31 @@ module _ {C : Type 0} where
           let e = has_times s.tracks.system v other in let o = numbered.once v in
           let none = none_next 1 s.next v (numbers s.contents) numbered.rising le in absurd (omega (arith, e, o, none))
       by_tests false false is other = refl
+
+  -- what stands among the numbers has a content
+  content_times : (entries : List (ℕ × C)) (v : ℕ) → is_some (content_of entries v) ≡ nat_lt 0 (times v (numbers entries))
+  content_times [] v = refl
+  content_times (entry ∷ rest) v = by_test (eqb entry.0 v) (content_times rest v)
+    where
+      by_test : (b : Bool) → is_some (content_of rest v) ≡ nat_lt 0 (times v (numbers rest))
+          → is_some (cond b (Some entry.1) (content_of rest v)) ≡ nat_lt 0 (cond b 1 0 + times v (numbers rest))
+      by_test true more = sym (lt-ltb 0 (1 + times v (numbers rest)) (omega arith))
+      by_test false more = let e : times v (numbers rest) ≡ 0 + times v (numbers rest) = omega arith in more ∙ ap (nat_lt 0) e
+
+  pub show_where_they_stand : (s : ViewersSeen C) → ShowWhereTheyStand s
+  show_where_they_stand s numbered v = by_tests (has s.tracks.user v) (has s.tracks.system v) refl refl
+    where
+      by_tests : (a b : Bool) → has s.tracks.user v ≡ a → has s.tracks.system v ≡ b
+          → is_some (cond a (Some (area_in s.tracks.user v 0 (user_width s.tracks.width))) (cond b (Some (area_in s.tracks.system v (user_width s.tracks.width) (s.tracks.width - user_width s.tracks.width))) None)) ≡ is_some (content_of s.contents v)
+      by_tests true b is other =
+          let e = has_times s.tracks.user v is in let o = numbered.once v in
+          sym (content_times s.contents v ∙ lt-ltb 0 (times v (numbers s.contents)) (omega (arith, e, o)))
+      by_tests false true is other =
+          let e = has_times s.tracks.system v other in let o = numbered.once v in
+          sym (content_times s.contents v ∙ lt-ltb 0 (times v (numbers s.contents)) (omega (arith, e, o)))
+      by_tests false false is other =
+          let u = has_no_times s.tracks.user v is in let m = has_no_times s.tracks.system v other in let o = numbered.once v in
+          sym (content_times s.contents v ∙ le-ltb 0 (times v (numbers s.contents)) (omega (arith, u, m, o)))
 
   pub opening_rises : (s : ViewersSeen C) (track : Track) (row : Option ℕ) (c : C) → OpeningRises s track row c
   opening_rises s track row c v ok = by_test (has_room s track row) ok

@@ -1,11 +1,11 @@
 -- What holds of tracks and of numbers, whatever opens, closes and moves.
-use Rattle.std.specs.Prelude.{◌≡◌, ◌≢◌, ℕ, ◌-◌, ◌<◌, ◌≤◌, List, Option, Some, None, Ok, if◌then◌else◌}
+use Rattle.std.specs.Prelude.{◌≡◌, ◌≢◌, ℕ, ◌-◌, ◌<◌, ◌≤◌, List, Option, Some, None, is_some, Ok, if◌then◌else◌}
 use Rattle.viewers.specs.declared.screen.Track.{Track}
 use Rattle.viewers.specs.declared.seats.Seat.{Seat}
 use Rattle.viewers.specs.declared.seats.TheConstants.{MIN_HEIGHT}
 use Rattle.viewers.specs.Screen.{IsScreen, ScreenSeen, after_close, after_closing, after_move, after_moving, after_open, area_of, has, seats_of, with_seats}
 use Rattle.viewers.specs.Tracks.{Covers, heir, place, seat_at, viewer_in}
-use Rattle.viewers.specs.Viewers.{AreViewers, ViewersSeen, after_opening, open_result}
+use Rattle.viewers.specs.Viewers.{AreViewers, ViewersSeen, after_opening, content_of, open_result}
 
 -- a covered track stays covered as a viewer opens, as one closes, and as a top is moved
 abbrev pub StaysCovered : (height : ℕ) → List Seat → Type 0
@@ -17,10 +17,11 @@ StaysCovered height seats = MIN_HEIGHT ≤ height → Covers height seats → (v
 abbrev pub seats_with : ScreenSeen → ℕ → List Seat
 seats_with s v = if has s.user v then s.user else s.system
 
--- the viewer that takes the rows of another as it closes, and the one above another
+-- the viewer that takes the rows of another as that closes
 abbrev pub heir_of : List Seat → ℕ → ℕ
 heir_of seats v = (seat_at seats (heir (place seats v))).number
 
+-- the viewer above another
 abbrev pub above : List Seat → ℕ → ℕ
 above seats v = (seat_at seats (place seats v - 1)).number
 
@@ -41,6 +42,11 @@ MovingKeepsOthers s v row =
     (w : ℕ) → w ≢ v → w ≢ above (seats_with s v) v → area_of (after_moving s v row) w ≡ area_of s w
 
 module _ {C : Type 0} where
+  -- the viewers on the screen are those that show something
+  abbrev pub ShowWhereTheyStand : ViewersSeen C → Type 0
+  ShowWhereTheyStand s =
+      AreViewers s → (v : ℕ) → is_some (area_of s.tracks v) ≡ is_some (content_of s.contents v)
+
   -- numbers from the next one on have no viewer
   abbrev pub AreUnused : ViewersSeen C → Type 0
   AreUnused s = AreViewers s → (v : ℕ) → s.next ≤ v → area_of s.tracks v ≡ None

@@ -61,10 +61,11 @@ module _ {C : Type 0} where
   content_of [] v = None
   content_of (entry ∷ rest) v = if entry.0 == v then Some entry.1 else content_of rest v
 
-  -- the contents without a viewer's, and with another for it
+  -- the contents without a viewer's
   abbrev pub without : List (ℕ × C) → ℕ → List (ℕ × C)
   without contents v = filter (λ entry. not (entry.0 == v)) contents
 
+  -- the contents, with another for a viewer
   abbrev pub with_entry : List (ℕ × C) → ℕ → C → List (ℕ × C)
   with_entry contents v c = map (λ entry. if entry.0 == v then (v, c) else entry) contents
 

@@ -2,7 +2,7 @@ ghost use Rattle.std.specs.Prelude.{ℕ, List, Option};
 ghost use Rattle.viewers.specs.declared.screen.Track.{Track};
 ghost use Rattle.viewers.specs.declared.seats.Seat.{Seat};
 ghost use Rattle.viewers.specs.Laws.{AreUnused, ClosingKeepsOthers, MovingKeepsOthers, OpeningKeepsOthers};
-ghost use Rattle.viewers.specs.Laws.{OpeningRises, StaysCovered};
+ghost use Rattle.viewers.specs.Laws.{OpeningRises, ShowWhereTheyStand, StaysCovered};
 ghost use Rattle.viewers.specs.Screen.{ScreenSeen};
 ghost use Rattle.viewers.specs.Viewers.{ViewersSeen};
 
@@ -17,6 +17,11 @@ pub fn others_keep_their_rows()
     ensures opening { (s : ScreenSeen) (track : Track) (v row : ℕ) → OpeningKeepsOthers s track v row }
     ensures closing { (s : ScreenSeen) (v : ℕ) → ClosingKeepsOthers s v }
     ensures moving { (s : ScreenSeen) (v row : ℕ) → MovingKeepsOthers s v row }
+{}
+
+/// A law: a viewer is on the screen where it shows something, and nowhere else.
+pub fn viewers_show_where_they_stand<C>()
+    ensures { (s : ViewersSeen C) → ShowWhereTheyStand s }
 {}
 
 /// A law: no number is used twice, as a viewer gets one that none has and numbers only rise. What closes or moves leaves the

@@ -1,4 +1,4 @@
-ghost use Rattle.std.specs.Prelude.{◌≡◌, ◌<◌, ◌≤◌, Some as Just, None as Nothing, IfOk, IfSome};
+ghost use Rattle.std.specs.Prelude.{◌≡◌, ◌<◌, ◌≤◌, Some as Just, None as Nothing, IfOk, IfSome, OnErr};
 ghost use Rattle.std.specs.Prelude.{map};
 ghost use Rattle.std.specs.Borrow.{sem};
 ghost use Rattle.std.specs.Option.{option_copied, option_copied_mut};
@@ -100,6 +100,20 @@ impl<C> Screen<C> {
         let _ = &self.next;
     }
 
+    /// How many columns it has.
+    pub fn width(&self) -> usize
+        ensures { result ≡ self.now.tracks.width }
+    {
+        self.tracks.width()
+    }
+
+    /// How many rows it has.
+    pub fn height(&self) -> usize
+        ensures { result ≡ self.now.tracks.height }
+    {
+        self.tracks.height()
+    }
+
     /// The seats of a track, from the top down.
     pub fn seats(&self, track: Track) -> &[Seat]
         ensures { result.now ≡ seats_of self.now.tracks track }
@@ -180,6 +194,7 @@ impl<C> Screen<C> {
     pub fn close(&mut self, viewer: u32) -> Result<C, Refusal>
         ensures value { result ≡ close_result self.old viewer }
         ensures after { self.new ≡ without_viewer self.old viewer }
+        ensures err { OnErr result (self.new ≡ self.old) }
     {
         self.tracks.close(viewer)?;
         let index = index_of(self.numbers.as_slice(), viewer);

@@ -144,6 +144,18 @@ impl Tracks {
         }
     }
 
+    pub fn width(&self) -> usize
+        ensures { result ≡ self.now.width }
+    {
+        self.width
+    }
+
+    pub fn height(&self) -> usize
+        ensures { result ≡ self.now.height }
+    {
+        self.height
+    }
+
     // The seats of a track, from the top down.
     pub fn seats(&self, track: Track) -> &[Seat]
         ensures { result.now ≡ seats_of self.now track }

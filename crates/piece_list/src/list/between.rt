@@ -10,7 +10,7 @@ ghost use Rattle.piece_list.specs.Spelled.{spelled, shown_chars};
 
 use super::PieceList;
 use super::walking::Walk;
-use crate::name_run::NameRun;
+use crate::run::Run;
 use std::marker::Model;
 
 /// The stretches of a text that are shown between two positions, one after the other, without memory: seen as
@@ -18,7 +18,7 @@ use std::marker::Model;
 #[derive(Drop)]
 pub struct Between<'a> {
     // The first run, if it was read ahead: cut at its front.
-    first: Option<NameRun>,
+    first: Option<Run>,
     // The runs behind it.
     walk: Walk<'a>,
     // How many characters are wanted.
@@ -27,7 +27,7 @@ pub struct Between<'a> {
 
 impl<'a> Model for Between<'a> {
     ghost use Rattle.std.specs.Prelude.{List};
-    ghost use Rattle.piece_list.specs.declared.name_run.NameRun.{NameRun as Seen};
+    ghost use Rattle.piece_list.specs.declared.run.Run.{Run as Seen};
     ghost use Rattle.piece_list.specs.RunCuts.{first_chars, with_first};
 
     ghost Value = { List Seen };
@@ -36,13 +36,13 @@ impl<'a> Model for Between<'a> {
 }
 
 impl<'a> Iterator for Between<'a> {
-    type Item = NameRun;
+    type Item = Run;
 
     ghost next_gives = { YieldsFirst (λ runs. runs) };
 
     ghost remaining = { item_count (λ runs. runs) };
 
-    fn next(&mut self) -> Option<NameRun> {
+    fn next(&mut self) -> Option<Run> {
         if self.left == 0 {
             return None;
         }
@@ -59,7 +59,7 @@ impl<'a> Iterator for Between<'a> {
 }
 
 // Takes the first run of a walk, which has more than `n` characters, and leaves its first `n` out.
-fn cut_front(walk: &mut Walk<'_>, n: u64) -> Option<NameRun>
+fn cut_front(walk: &mut Walk<'_>, n: u64) -> Option<Run>
     requires within { AreWithin walk.old }
     requires front { HasFront n walk.old }
     ensures left { flat_map appearances_in (with_first result walk.new)

@@ -16,9 +16,9 @@ ghost use Rattle.piece_list.specs.Spelled.{spelled, HasName};
 ghost use Rattle.piece_list.specs.Tables.{table_of};
 
 use crate::list::{PieceList, cut, numbers_differ};
-use crate::name_run::NameRun;
 use crate::piece::Piece;
 use crate::place::Place;
+use crate::run::Run;
 use crate::steps::Steps;
 use crate::tags::TagTables;
 use char_files::Anchor;
@@ -179,7 +179,7 @@ impl PieceList {
     /// the root or in the list. `steps` counts one comparison that finds the cause, none for the root, and a
     /// look at the key of each piece that is skipped and of the next one. Refused `OutOfMemory` alone; then no
     /// piece has changed, and `steps` counts the comparison. This project's own.
-    pub fn place(&mut self, run: NameRun, cause: Anchor) -> Result<(), Refusal>
+    pub fn place(&mut self, run: Run, cause: Anchor) -> Result<(), Refusal>
         requires run { IsPiece (piece_of run) }
         requires here { HasAnchor (spelled self.old.items) cause }
         requires new { (c : CharName) → IsIn (range_of (piece_of run)) c → ¬ HasName (spelled self.old.items) c }

@@ -12,9 +12,9 @@ ghost use Rattle.piece_list.specs.Shown.{AreShownTo, appearance_of, appearances_
 ghost use Rattle.piece_list.specs.Spelled.{spelled, shown_chars, HasName};
 
 use super::{PieceList, numbers_differ};
-use crate::name_run::NameRun;
 use crate::piece::Piece;
 use crate::place::Place;
+use crate::run::Run;
 use char_files::Name;
 use looks::{Key, Looks};
 use piece_raw::Members;
@@ -29,7 +29,7 @@ pub struct Walk<'a> {
 
 impl<'a> Model for Walk<'a> {
     ghost use Rattle.std.specs.Prelude.{List};
-    ghost use Rattle.piece_list.specs.declared.name_run.NameRun.{NameRun as Seen};
+    ghost use Rattle.piece_list.specs.declared.run.Run.{Run as Seen};
     ghost use Rattle.piece_list.specs.Shown.{shown_runs};
 
     ghost Value = { List Seen };
@@ -38,13 +38,13 @@ impl<'a> Model for Walk<'a> {
 }
 
 impl<'a> Iterator for Walk<'a> {
-    type Item = NameRun;
+    type Item = Run;
 
     ghost next_gives = { YieldsFirst (λ runs. runs) };
 
     ghost remaining = { item_count (λ runs. runs) };
 
-    fn next(&mut self) -> Option<NameRun> {
+    fn next(&mut self) -> Option<Run> {
         while let Some((_, piece)) = self.members.next() {
             if !piece.hidden.value {
                 return Some(piece.run());

@@ -9,7 +9,7 @@ use super::told::{Names, is, name, try_place};
 use char_files::{Anchor, Name};
 use looks::{Key, Refusal};
 use operations::NameSet;
-use piece_list::{NameRun, PieceList};
+use piece_list::{PieceList, Run};
 use std::alloc::Global;
 use std::slice::Iter;
 use std::test::Fail;
@@ -257,7 +257,7 @@ fn next_shown(left: &mut Iter<'_, Known>) -> Option<Known> {
 }
 
 // Whether the next of them that are shown are those of the run.
-fn goes_on(run: &NameRun, left: &mut Iter<'_, Known>) -> bool {
+fn goes_on(run: &Run, left: &mut Iter<'_, Known>) -> bool {
     for i in 0..run.len {
         let Some(known) = next_shown(left) else {
             return false;

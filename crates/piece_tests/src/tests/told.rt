@@ -9,7 +9,7 @@ ghost use Rattle.piece_list.specs.Spelled.{spelled, HasName};
 
 use char_files::{Anchor, MAX_FILE, Name, SiteNo};
 use looks::{Key, Looks, Refusal};
-use piece_list::{MAX_PIECE, NameRun, PieceList, Place};
+use piece_list::{MAX_PIECE, PieceList, Place, Run};
 use std::alloc::Global;
 use std::test::Fail;
 
@@ -33,14 +33,14 @@ pub(super) fn name(site: u16, off: u32) -> Result<Name, Fail> {
 }
 
 // A run under a key of its own site.
-fn run(site: SiteNo, off: u32, len: u32, stamp: u64) -> Result<NameRun, Fail>
+fn run(site: SiteNo, off: u32, len: u32, stamp: u64) -> Result<Run, Fail>
     ensures { IfOk result (λ run. IsPiece (piece_of run)
         × (range_of (piece_of run) ≡ record { site = site; at = off; len = len })) }
 {
     if len == 0 || len > MAX_PIECE || u64::from(off) + u64::from(len) > MAX_FILE {
         return Err("no run".into());
     }
-    Ok(NameRun {
+    Ok(Run {
         site,
         off,
         len,

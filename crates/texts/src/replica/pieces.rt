@@ -4,7 +4,7 @@ ghost use Rattle.std.specs.Prelude.{◌≡◌, ◌≤◌, length};
 ghost use Rattle.std.specs.Iterator.{YieldsFirst, item_count};
 ghost use Rattle.texts.specs.Edit.{pieces_of};
 
-use char_files::{Buffer, Run};
+use char_files::{Buffer, LooksRun};
 use looks::Looks;
 use operations::MAX_INSERT;
 use std::marker::Model;
@@ -31,7 +31,7 @@ impl<'a> Model for Piece<'a> {
 /// The pieces of a stretch, one after the other, without memory: seen as the list of those that are left.
 #[derive(Drop)]
 pub(crate) struct Pieces<'a> {
-    runs: &'a [Run],
+    runs: &'a [LooksRun],
     // How many bytes of the first run are read.
     read: usize,
 }

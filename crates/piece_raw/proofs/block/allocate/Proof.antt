@@ -68,14 +68,16 @@ allocate_spec 𝓤 𝓛 𝓜 𝓡 wired X W LX LW g d dd met md =
     let Z : Al = record { row = W; laws = LW; g = g; d = d; drops = dd } in
     let T = 𝓣 𝓛 𝓜 𝓡 in let e : Fn = inst_fn (args E Z) code.function in
     let R = Takes Z 𝓛 𝓜.mem 𝓡.returns in
-    served E Z [] (plain (λ _. Out E Z)) 𝓛 𝓜 𝓡 (λ κs a _. emp 𝓤) (λ κs a _ r. fact 𝓤 (Gives E Z a r)) tt (λ κs _. tt)
-    (#self (args E Z)) e (code.unfolded 𝓤 𝓛.H 𝓜 𝓡 wired (X, (W, tt)) d dd) (λ κs q rb ro a _ uss others Post within exits.
+    served E Z [] (plain (λ _. Out E Z)) 𝓛 𝓜 𝓡 (λ κs a _. emp 𝓤) (λ κs a _ r. fact 𝓤 (Gives E Z a r)) tt
+    (λ κs _. tt) (#self (args E Z)) e (code.unfolded 𝓤 𝓛.H 𝓜 𝓡 wired (X, (W, tt)) d dd)
+    (λ κs q rb ro a _ uss others Post within exits.
     let κ = κs.0 in
     let ends : (r : (Out E Z).Denot) (v : Val) → Gives E Z a r
     → ent 𝓤 (⋆ 𝓛 (‵ ((Out E Z).own_val r (v ∷ [])) ∷ ‵ (flft κ q) ∷ others ∷ [])) (Post v) = λ r v given.
     qed 𝓛 (‵ ((Out E Z).own_val r (v ∷ [])) ∷ ‵ (flft κ q) ∷ others ∷ []) ∵
     use0 𝓛 (raw (fact 𝓤 (Gives E Z a r))) (fact_i 𝓤 (Gives E Z a r) (emp 𝓤) given) $ by ! (exits r v) in
-    qed 𝓛 (‵ (hidden_shr (RA E Z) κ a rb ro) ∷ ‵ (flft κ q) ∷ others ∷ ‵ ftrue ∷ raw (emp 𝓤) ∷ []) ∵ keep ! (0 ∷ 1 ∷ 2 ∷ []) $
+    qed 𝓛 (‵ (hidden_shr (RA E Z) κ a rb ro) ∷ ‵ (flft κ q) ∷ others ∷ ‵ ftrue ∷ raw (emp 𝓤) ∷ []) ∵
+    keep ! (0 ∷ 1 ∷ 2 ∷ []) $
     enter ! T.C T.Λ e (vptr rb ro ∷ []) _ $
     alloc_all ! (λ l. pass_all ! refl ((tt, tt), tt) $
     let En : Env 𝓤 𝓛.H = env e.locals l in

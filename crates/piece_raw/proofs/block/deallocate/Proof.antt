@@ -8,7 +8,6 @@ use mir.MapTy.{inst_fn}
 use mir.Val.{Val, vptr, vunit, vstruct, of_list}
 use base.Logic.{via, fst∗, emp, id⊢}
 use base.Fml.{froom, flft}
-use prog.Wp.{WpFn}
 use types.Logic.{sem}
 use contract.Monad.{fact}
 use types.Kit.{‵, raw, given, later, await, learn, at_ret, ◌$◌, ◌∵◌, !, qed, by, move, keep, use1, use2}
@@ -36,7 +35,7 @@ use Rattle.piece_raw.proofs.Blocks.{args, RA, Dd, Bl, written, block, block_glue
 use denote.Builtin.{unit}
 use denote.Steps.{heard}
 use denote.Triple.Table.{framed}
-use Rattle.piece_raw.proofs.Walks.{𝓣}
+use Rattle.piece_raw.proofs.Walks.{𝓣, Runs}
 use Rattle.piece_raw.proofs.Serving.{served}
 use Rattle.piece_raw.specs.contracts.block.deallocate.Key.{name as #self}
 use Rattle.piece_raw.proofs.block.deallocate.Statement as stated
@@ -51,19 +50,21 @@ deallocate_spec 𝓤 𝓛 𝓜 𝓡 wired X W LX LW g d dd met md =
     served E Z (plain (λ _. Rm E) ∷ plain (λ _. Bl E Z) ∷ []) (plain (λ _. unit)) 𝓛 𝓜 𝓡
     (λ κs a more. fact 𝓤 ((more.1.0.deed.at ≡ more.0.ptr) × (more.1.0.deed.alloc ≡ a))) (λ κs a more r. emp 𝓤)
     ((λ κs x f. tt), ((λ κs x f. tt), tt)) (λ κs more. (tt, ((tt, (tt, tt)), tt)))
-    (#self (args E Z)) e (code.unfolded 𝓤 𝓛.H 𝓜 𝓡 wired (X, (W, tt)) d dd) (λ κs q rb ro a more uss others Post within exits.
+    (#self (args E Z)) e (code.unfolded 𝓤 𝓛.H 𝓜 𝓡 wired (X, (W, tt)) d dd)
+    (λ κs q rb ro a more uss others Post within exits.
     let κ = κs.0 in let room = more.0 in let slot = more.1.0 in
     let slot_val : Val = pair_val (word slot.node.ptr) mark in
     let slot_typed = pair_Typed (layout (Np E)) (layout (Dd E Z)) (word slot.node.ptr)
     mark (word-Good [] slot.node.ptr) (tt, (tt, tt)) in
     qed 𝓛 (‵ (hidden_shr (RA E Z) κ a rb ro) ∷ ‵ (flft κ q) ∷ others ∷ ‵ (owns (Rm E ∷ Bl E Z ∷ []) more uss)
-    ∷ raw (fact 𝓤 ((slot.deed.at ≡ room.ptr) × (slot.deed.alloc ≡ a))) ∷ []) ∵ move ! (4 ∷ []) $ heard ! _ (λ asked.
-    move ! (3 ∷ []) $ fsplit ! $ fsplit ! $ word_had ! room.ptr uss.0 (λ e1. move ! (1 ∷ []) $ fsplit ! $
+    ∷ raw (fact 𝓤 ((slot.deed.at ≡ room.ptr) × (slot.deed.alloc ≡ a))) ∷ []) ∵ move ! (4 ∷ []) $
+    heard ! _ (λ asked. move ! (3 ∷ []) $ fsplit ! $ fsplit ! $ word_had ! room.ptr uss.0 (λ e1.
+    move ! (1 ∷ []) $ fsplit ! $
     fpick ! (λ vss. fsplit ! $ feq_l ! (λ ev. fsplit3 ! $ word_had ! slot.node.ptr vss.0 (λ en.
     fsplit ! $ mark_had ! E vss.1.0 (λ em.
     let e2 : uss.1.0 ≡ slot_val ∷ [] = ev ∙ (λ i. vstruct (of_list (en i ++ (em i ++ []))) ∷ []) in
     keep ! (3 ∷ 0 ∷ 4 ∷ 5 ∷ 6 ∷ []) $
-    regoal ! (λ (ws : List Val × List Val). prop (WpFn 𝓤 𝓛.H T.C T.Λ e (vptr rb ro ∷ (ws.0 ++ (ws.1 ++ []))) Post))
+    regoal ! (λ (ws : List Val × List Val). prop (Runs 𝓛 𝓜 𝓡 e (vptr rb ro ∷ (ws.0 ++ (ws.1 ++ []))) Post))
     (λ i. (e1 i, e2 i)) refl $
     enter ! T.C T.Λ e (vptr rb ro ∷ word room.ptr ∷ slot_val ∷ []) _ $
     alloc_all ! (λ l. pass_all ! refl ((tt, tt), (word-Good [] room.ptr, (slot_typed, tt))) $

@@ -3,7 +3,7 @@ use Rattle.char_files.specs.CharFiles.{bytes_of}
 use Rattle.looks.specs.declared.looks.Looks.{Looks}
 use Rattle.operations.specs.Operation.{insert}
 use Rattle.operations.specs.Seen.{kind_of}
-use Rattle.piece_list.specs.declared.name_run.NameRun.{NameRun}
+use Rattle.piece_list.specs.declared.run.Run.{Run}
 use Rattle.taken_text.proofs.Taking.{cause_here, names_new, taken_with_run}
 use Rattle.taken_text.proofs.taken_text.insert_run.Goals as goal
 
@@ -33,7 +33,7 @@ returns-clause-ok c =
     let put : bytes_of c.append.new.self site ≡ bytes_of c.reserve.new.self site ++ bytes =
     subst (λ (s : ℕ). bytes_of c.append.new.self s ≡ bytes_of c.reserve.new.self s ++ bytes) c.site-3.ensures
     (c.in-Ok.ensures.ok ∙ ap (λ (bs : List ℕ). bytes_of c.reserve.new.self c.site-3.result ++ bs) c.deref.ensures.value) in
-    let run : NameRun = record {
+    let run : Run = record {
       site = c.site.result;
       off = i.at;
       len = c.len.result;

@@ -2,7 +2,7 @@ use Rattle.std.proofs.Common.{◌≡◌, ℕ, List, [], ◌+◌, ◌<◌, ◌≤
 use Rattle.std.specs.List.{flat_map}
 use Rattle.char_files.specs.declared.TheConstants.{MAX_FILE}
 use Rattle.piece_list.specs.declared.piece.Piece.{Piece}
-use Rattle.piece_list.specs.declared.name_run.NameRun.{NameRun}
+use Rattle.piece_list.specs.declared.run.Run.{Run}
 use Rattle.piece_list.specs.Held.{PiecesSeen}
 use Rattle.piece_list.specs.Shown.{appearances_in, shown_runs}
 use Rattle.piece_list.proofs.Shown.{runs_tell, runs_are}
@@ -22,12 +22,12 @@ returns-clause-shown c =
 
 pub returns-clause-some : goal.returns-clause-some
 returns-clause-some c =
-    let Some : NameRun → Type 0 = λ (run : NameRun). 0 < run.len in
+    let Some : Run → Type 0 = λ (run : Run). 0 < run.len in
     subst (λ (l : List (ℕ × Piece)). All Some (shown_runs l)) (sym (c.behind.ensures [] c.self.inside.pieces.items refl refl))
     (runs_are Some (λ p is. is.0) c.self.inside.pieces.items c.self.invariant.0.pieces)
 
 pub returns-clause-within : goal.returns-clause-within
 returns-clause-within c =
-    let Within : NameRun → Type 0 = λ (run : NameRun). run.off + run.len ≤ MAX_FILE in
+    let Within : Run → Type 0 = λ (run : Run). run.off + run.len ≤ MAX_FILE in
     subst (λ (l : List (ℕ × Piece)). All Within (shown_runs l)) (sym (c.behind.ensures [] c.self.inside.pieces.items refl refl))
     (runs_are Within (λ p is. is.2) c.self.inside.pieces.items c.self.invariant.0.pieces)

@@ -1,5 +1,5 @@
 use Rattle.std.proofs.Common.{List, drop, sym, ap, subst, ◌∙◌}
-use Rattle.piece_list.specs.declared.name_run.NameRun.{NameRun}
+use Rattle.piece_list.specs.declared.run.Run.{Run}
 use Rattle.piece_list.specs.RunCuts.{AreWithin, HasFront}
 use Rattle.piece_list.proofs.RunCuts.{told, skips_front, front_within}
 use Rattle.piece_list.proofs.list.between.cut_front.Goals as goal
@@ -7,7 +7,7 @@ use Rattle.piece_list.proofs.list.between.cut_front.Goals as goal
 pub returns-clause-left : goal.returns-clause-left
 returns-clause-left c =
     skips_front c.args.n c.in_ok-run.run' c.next.new.self (subst (HasFront c.args.n) c.in_ok-run.ensures.steps c.requires.front)
-    ∙ ap (λ (runs : List NameRun). drop c.args.n (told runs)) (sym c.in_ok-run.ensures.steps)
+    ∙ ap (λ (runs : List Run). drop c.args.n (told runs)) (sym c.in_ok-run.ensures.steps)
 
 pub returns-clause-within : goal.returns-clause-within
 returns-clause-within c =

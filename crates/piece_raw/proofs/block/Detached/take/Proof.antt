@@ -8,7 +8,6 @@ use mir.MapTy.{inst_fn}
 use mir.Val.{Val}
 use base.Logic.{emp, never, id⊢}
 use base.Fml.{fat, froom}
-use prog.Wp.{WpFn}
 use types.Kit.{‵, ◌⊛◌, some, given, pick, learn, at_ret, ◌$◌, ◌∵◌, !, qed, by, move, keep, use1, use2, split}
 use types.Kit.{rewrite, fsplit, fjoin, prop, regoal, raw}
 use types.Part.{whole, sub, agg}
@@ -25,7 +24,7 @@ use Rattle.piece_raw.specs.Ownership.{value_owns, value_room}
 use Rattle.piece_raw.proofs.Memory.{Of, args, RV, vo, Rm, Dt, word_had, word_made, value_out}
 use Rattle.piece_raw.proofs.Pairs.{pair_val, pair_Typed, pair_of}
 use Rattle.std.proofs.RawLayout.{as_raw}
-use Rattle.piece_raw.proofs.Walks.{𝓣, takes}
+use Rattle.piece_raw.proofs.Walks.{𝓣, Runs, takes}
 use Rattle.piece_raw.specs.contracts.block.Detached.take.Key.{name as #self}
 use Rattle.piece_raw.proofs.block.Detached.take.Statement as stated
 use Rattle.piece_raw.proofs.block.Detached.take.Code as code
@@ -34,13 +33,13 @@ pub take_spec : {M : Type 1} → stated.statement M
 take_spec 𝓤 𝓛 𝓜 𝓡 wired X LX y =
     let E : Of = record { row = X; laws = LX } in
     let T = 𝓣 𝓛 𝓜 𝓡 in let e : Fn = inst_fn (args E) code.function in
-    takes (plain (λ _. Dt E) ∷ []) (plain (λ _. Tuple (RV E ∷ Rm E ∷ []))) 𝓛 𝓜 𝓡 E (λ a. emp 𝓤)
+    takes E (plain (λ _. Dt E) ∷ []) (plain (λ _. Tuple (RV E ∷ Rm E ∷ []))) 𝓛 𝓜 𝓡 (λ a. emp 𝓤)
     (λ a r. (r.0 ≡ a.0.value) × (r.1.ptr ≡ a.0.ptr)) ((λ κs x f. tt), tt) (λ a. (tt, tt))
     (#self (args E)) e (code.unfolded 𝓤 𝓛.H 𝓜 𝓡 wired (X, tt)) (λ a vss Post exits.
     let p : Ptr = a.0.ptr in let x = a.0.value in
     let room : (Rm E).Denot = record { ptr = p } in
     qed 𝓛 (‵ (owns (Dt E ∷ []) a vss) ∷ raw (emp 𝓤) ∷ []) ∵ fsplit ! $ fsplit ! $ word_had ! p vss.0 (λ e0.
-    regoal ! (λ (ws : List Val). prop (WpFn 𝓤 𝓛.H T.C T.Λ e (ws ++ []) Post)) e0 refl $ keep ! (0 ∷ []) $
+    regoal ! (λ (ws : List Val). prop (Runs 𝓛 𝓜 𝓡 e (ws ++ []) Post)) e0 refl $ keep ! (0 ∷ []) $
     enter ! T.C T.Λ e (word p ∷ []) _ $ alloc_all ! (λ l. pass_all ! refl (word-Good [] p, tt) $
     fsplit ! $ move ! (1 ∷ []) $
     in_a_block ! p (λ q. value_owns (RV E) q x) (id⊢ 𝓤 (never 𝓤)) (λ pb po ep.

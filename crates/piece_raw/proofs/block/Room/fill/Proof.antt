@@ -7,7 +7,6 @@ use mir.Syntax.{Fn}
 use mir.MapTy.{inst_fn}
 use mir.Val.{Val}
 use base.Logic.{emp, never, id⊢}
-use prog.Wp.{WpFn}
 use types.Kit.{‵, at_ret, ◌$◌, ◌∵◌, !, qed, by, move, keep, use2, rewrite, fsplit, fjoin, prop, regoal, raw}
 use types.Part.{whole, sub, agg}
 use types.Run.{init, assigns_last, stop, fld, of_opd, addr, and_then, no_more, first, blocks, exec, returns}
@@ -23,7 +22,7 @@ use Rattle.piece_raw.specs.Ownership.{value_owns, value_room}
 use Rattle.piece_raw.proofs.Memory.{Of, args, RV, vo, Rm, Dt, word_had, word_made, value_in, tells}
 use denote.Memory.{part_at}
 use Rattle.std.proofs.RawLayout.{as_written}
-use Rattle.piece_raw.proofs.Walks.{𝓣, takes}
+use Rattle.piece_raw.proofs.Walks.{𝓣, Runs, takes}
 use Rattle.piece_raw.specs.contracts.block.Room.fill.Key.{name as #self}
 use Rattle.piece_raw.proofs.block.Room.fill.Statement as stated
 use Rattle.piece_raw.proofs.block.Room.fill.Code as code
@@ -32,14 +31,14 @@ pub fill_spec : {M : Type 1} → stated.statement M
 fill_spec 𝓤 𝓛 𝓜 𝓡 wired X LX y =
     let E : Of = record { row = X; laws = LX } in
     let T = 𝓣 𝓛 𝓜 𝓡 in let e : Fn = inst_fn (args E) code.function in
-    takes (plain (λ _. Rm E) ∷ plain (λ _. RV E) ∷ []) (plain (λ _. Dt E)) 𝓛 𝓜 𝓡 E (λ a. emp 𝓤)
+    takes E (plain (λ _. Rm E) ∷ plain (λ _. RV E) ∷ []) (plain (λ _. Dt E)) 𝓛 𝓜 𝓡 (λ a. emp 𝓤)
     (λ a r. (r.ptr ≡ a.0.ptr) × (r.value ≡ a.1.0)) ((λ κs x f. tt), ((λ κs x f. tt), tt)) (λ a. (tt, (tt, tt)))
     (#self (args E)) e (code.unfolded 𝓤 𝓛.H 𝓜 𝓡 wired (X, tt)) (λ a vss Post exits.
     let p : Ptr = a.0.ptr in let x = a.1.0 in
     let node : (Dt E).Denot = record { ptr = p; value = x } in
     qed 𝓛 (‵ (owns (Rm E ∷ RV E ∷ []) a vss) ∷ raw (emp 𝓤) ∷ []) ∵ fsplit ! $ fsplit ! $ word_had ! p vss.0 (λ e0.
     move ! (1 ∷ []) $ fsplit ! $ tells E.row E.laws ! x vss.1.0 (λ u e1 gu.
-    regoal ! (λ (ws : List Val × List Val). prop (WpFn 𝓤 𝓛.H T.C T.Λ e (ws.0 ++ (ws.1 ++ [])) Post))
+    regoal ! (λ (ws : List Val × List Val). prop (Runs 𝓛 𝓜 𝓡 e (ws.0 ++ (ws.1 ++ [])) Post))
     (λ i. (e0 i, e1 i)) refl $ keep ! (2 ∷ 0 ∷ []) $
     enter ! T.C T.Λ e (word p ∷ u ∷ []) _ $ alloc_all ! (λ l. pass_all ! refl (word-Good [] p, (gu, tt)) $
     fsplit ! $ move ! (1 ∷ []) $ in_a_block ! p (value_room (RV E)) (id⊢ 𝓤 (never 𝓤)) (λ pb po ep.

@@ -5,7 +5,6 @@ use mathlib.Core.List.{List, [], ◌∷◌, ◌++◌}
 use mir.Syntax.{Fn}
 use mir.MapTy.{inst_fn}
 use mir.Val.{Val, vptr, vunit}
-use prog.Wp.{WpFn}
 use types.Kit.{use1, use2, ‵, ◌⊛◌, at_ret, ◌$◌, ◌∵◌, !, qed, by, move, keep, split, rewrite, fsplit, fsplit3}
 use types.Kit.{fjoin, fjoin3, feq_i, prop, regoal}
 use types.Part.{whole, sub}
@@ -25,7 +24,7 @@ use Rattle.piece_raw.proofs.Splits.{first_of_push, all_left}
 use Rattle.piece_raw.proofs.Apart.{IsFresh, places_joined, apart_attached}
 use Rattle.piece_raw.proofs.Memory.{Of, args, RV, Member, Lr, Dt, word_had, knows, edge_out, edge_in}
 use Rattle.piece_raw.proofs.Memory.{no_source, no_target, no_room, path_cut, path_glue, values_glue, fresh}
-use Rattle.piece_raw.proofs.Walks.{𝓣, borrowed, changes}
+use Rattle.piece_raw.proofs.Walks.{𝓣, Runs, borrowed, changes}
 use Rattle.piece_raw.specs.contracts.links.Links.attach.Key.{name as #self}
 use Rattle.piece_raw.proofs.links.Links.attach.Statement as stated
 use Rattle.piece_raw.proofs.links.Links.attach.Code as code
@@ -49,7 +48,7 @@ attach_spec 𝓤 𝓛 𝓜 𝓡 wired X LX y =
     ++ t ∷ [] = sym (places_joined xs (n ∷ ys) t ∙ ap (λ ps. places xs ++ node.ptr ∷ ps) on.2) in
     qed 𝓛 (borrowed E 𝓛 κs.0 q links (‵ (owns (Dt E ∷ []) a vss) ∷ [])) ∵ move ! (3 ∷ []) $ fsplit ! $
     fsplit ! $ word_had ! node.ptr vss.0 (λ e2.
-    regoal ! (λ (ws : List Val). prop (WpFn 𝓤 𝓛.H T.C T.Λ e (vptr rb ro ∷ word head.ptr ∷ ws ++ []) Post)) e2 refl $
+    regoal ! (λ (ws : List Val). prop (Runs 𝓛 𝓜 𝓡 e (vptr rb ro ∷ word head.ptr ∷ ws ++ []) Post)) e2 refl $
     keep ! (2 ∷ 3 ∷ 4 ∷ 0 ∷ []) $
     enter ! T.C T.Λ e (vptr rb ro ∷ word head.ptr ∷ word node.ptr ∷ []) _ $
     alloc_all ! (λ l. pass_all ! refl ((tt, tt), (word-Good [] head.ptr, (word-Good [] node.ptr, tt))) $

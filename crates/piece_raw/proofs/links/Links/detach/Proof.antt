@@ -32,8 +32,8 @@ pub detach_spec : {M : Type 1} → stated.statement M
 detach_spec 𝓤 𝓛 𝓜 𝓡 wired X LX y =
     let E : Of = record { row = X; laws = LX } in
     let T = 𝓣 𝓛 𝓜 𝓡 in let e : Fn = inst_fn (args E) code.function in
-    let Cut = λ (r : (Dt E).Denot) (new : (Lr E).Denot) (xs : List (Member E)) (n : Member E) (ys : List (Member E)).
-    (new.nodes ≡ xs ++ ys) × (n ≡ linked r.ptr r.value) in
+    let Cut = λ (r : (Dt E).Denot) (new : (Lr E).Denot) (xs : List (Member E)) (n : Member E)
+    (ys : List (Member E)). (new.nodes ≡ xs ++ ys) × (n ≡ linked r.ptr r.value) in
     changes E [] (plain (λ _. Dt E)) 𝓛 𝓜 𝓡 (λ d node. IsAt d.nodes node.ptr)
     (λ κs d node a r new. AtNode d.nodes node.ptr (Cut r new)) tt (λ κs a. tt)
     (#self (args E)) e (code.unfolded 𝓤 𝓛.H 𝓜 𝓡 wired (X, tt)) (λ κs q links node a vss Post asked exits.
@@ -94,6 +94,6 @@ detach_spec 𝓤 𝓛 𝓜 𝓡 wired X LX y =
     move ! (2 ∷ 0 ∷ 3 ∷ 4 ∷ 5 ∷ []) $ closes ! tt (Lr E) new vs rb ro $
     returns ! (look_at ! 0 refl) $ free_all ! refl $ keep ! (0 ∷ 1 ∷ 2 ∷ 3 ∷ []) $
     regoal ! (λ (p : Ptr). prop (Post (word p))) (sym ep) refl $
-    by ! (exits out (word n.at) new refl (at_node d.nodes node.ptr (apart_places d.trailer.at d.nodes d.apart) asked
-    (Cut out new) (refl, refl)))))))))
+    by ! (exits out (word n.at) new refl (at_node d.nodes node.ptr
+    (apart_places d.trailer.at d.nodes d.apart) asked (Cut out new) (refl, refl)))))))))
     ((y.0.0, y.0.1, tt, y.0.3, y.0.4), y.1)

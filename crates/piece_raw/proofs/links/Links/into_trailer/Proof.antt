@@ -5,7 +5,6 @@ use mathlib.Core.List.{List, [], ◌∷◌, ◌++◌}
 use mir.Syntax.{Fn}
 use mir.MapTy.{inst_fn}
 use mir.Val.{Val}
-use prog.Wp.{WpFn}
 use types.Logic.{sem}
 use contract.Monad.{fact}
 use types.Kit.{‵, ◌$◌, ◌∵◌, !, qed, by, move, keep, rewrite, fsplit, fsplit3, fjoin, prop, regoal}
@@ -21,7 +20,7 @@ use Rattle.piece_raw.specs.Linked.{linked}
 use Rattle.piece_raw.specs.Ownership.{link_room, edge, links_own, detached_owns}
 use Rattle.piece_raw.proofs.Memory.{Of, args, RV, Member, Lr, Np, Dt, mark, mark_had, word_had, word_made}
 use Rattle.piece_raw.proofs.Memory.{stale, edge_out, no_source}
-use Rattle.piece_raw.proofs.Walks.{𝓣, takes}
+use Rattle.piece_raw.proofs.Walks.{𝓣, Runs, takes}
 use Rattle.piece_raw.specs.contracts.links.Links.into_trailer.Key.{name as #self}
 use Rattle.piece_raw.proofs.links.Links.into_trailer.Statement as stated
 use Rattle.piece_raw.proofs.links.Links.into_trailer.Code as code
@@ -30,7 +29,7 @@ pub into_trailer_spec : {M : Type 1} → stated.statement M
 into_trailer_spec 𝓤 𝓛 𝓜 𝓡 wired X LX y =
     let E : Of = record { row = X; laws = LX } in
     let T = 𝓣 𝓛 𝓜 𝓡 in let e : Fn = inst_fn (args E) code.function in
-    takes (plain (λ _. Lr E) ∷ plain (λ _. Np E) ∷ []) (plain (λ _. Dt E)) 𝓛 𝓜 𝓡 E
+    takes E (plain (λ _. Lr E) ∷ plain (λ _. Np E) ∷ []) (plain (λ _. Dt E)) 𝓛 𝓜 𝓡
     (λ a. fact 𝓤 ((a.1.0.ptr ≡ a.0.trailer.at) × (a.0.nodes ≡ []))) (λ a r. a.0.trailer ≡ linked r.ptr r.value)
     ((λ κs x f. tt), ((λ κs x f. tt), tt)) (λ a. (tt, (tt, tt)))
     (#self (args E)) e (code.unfolded 𝓤 𝓛.H 𝓜 𝓡 wired (X, tt)) (λ a vss Post exits.
@@ -38,7 +37,7 @@ into_trailer_spec 𝓤 𝓛 𝓜 𝓡 wired X LX y =
     needs 𝓤 ((p ≡ t.at) × (a.0.nodes ≡ [])) (sem 𝓛 (owns (Lr E ∷ Np E ∷ []) a vss)) (λ asked.
     qed 𝓛 (‵ (owns (Lr E ∷ Np E ∷ []) a vss) ∷ []) ∵ fsplit ! $ fsplit ! $ mark_had ! E vss.0 (λ e0.
     move ! (1 ∷ []) $ fsplit ! $ word_had ! p vss.1.0 (λ e1.
-    regoal ! (λ (ws : List Val × List Val). prop (WpFn 𝓤 𝓛.H T.C T.Λ e (ws.0 ++ (ws.1 ++ [])) Post))
+    regoal ! (λ (ws : List Val × List Val). prop (Runs 𝓛 𝓜 𝓡 e (ws.0 ++ (ws.1 ++ [])) Post))
     (λ i. (e0 i, e1 i)) refl $ keep ! (1 ∷ []) $
     enter ! T.C T.Λ e (mark ∷ word p ∷ []) _ $
     alloc_all ! (λ l. pass_all ! refl ((tt, (tt, tt)), (word-Good [] p, tt)) $

@@ -5,7 +5,6 @@ use mir.Syntax.{Fn}
 use mir.MapTy.{inst_fn}
 use mir.Val.{Val}
 use base.Logic.{emp}
-use prog.Wp.{WpFn}
 use types.Kit.{‵, at_ret, ◌$◌, ◌∵◌, !, qed, by, move, keep, use0, rewrite, fsplit, fjoin, prop, regoal, raw}
 use types.Part.{whole, sub, agg}
 use types.Run.{init, stop, fld, of_opd, and_then, no_more, assigns, assigns_last, first, blocks, exec}
@@ -21,7 +20,7 @@ use Rattle.piece_raw.specs.Linked.{linked}
 use Rattle.piece_raw.specs.Ownership.{link_room, edge}
 use Rattle.piece_raw.proofs.Apart.{apart_one}
 use Rattle.piece_raw.proofs.Memory.{Of, args, Lr, Dt, Mark, mark, mark_made, word_had, edge_in, no_room}
-use Rattle.piece_raw.proofs.Walks.{𝓣, takes}
+use Rattle.piece_raw.proofs.Walks.{𝓣, Runs, takes}
 use Rattle.piece_raw.specs.contracts.links.Links.new.Key.{name as #self}
 use Rattle.piece_raw.proofs.links.Links.new.Statement as stated
 use Rattle.piece_raw.proofs.links.Links.new.Code as code
@@ -30,12 +29,12 @@ pub new_spec : {M : Type 1} → stated.statement M
 new_spec 𝓤 𝓛 𝓜 𝓡 wired X LX y =
     let E : Of = record { row = X; laws = LX } in
     let T = 𝓣 𝓛 𝓜 𝓡 in let e : Fn = inst_fn (args E) code.function in
-    takes (plain (λ _. Dt E) ∷ []) (plain (λ _. Lr E)) 𝓛 𝓜 𝓡 E (λ a. emp 𝓤)
+    takes E (plain (λ _. Dt E) ∷ []) (plain (λ _. Lr E)) 𝓛 𝓜 𝓡 (λ a. emp 𝓤)
     (λ a r. (r.trailer ≡ linked a.0.ptr a.0.value) × (r.nodes ≡ [])) ((λ κs x f. tt), tt) (λ a. (tt, tt))
     (#self (args E)) e (code.unfolded 𝓤 𝓛.H 𝓜 𝓡 wired (X, tt)) (λ a vss Post exits.
     let p : Ptr = a.0.ptr in
     qed 𝓛 (‵ (owns (Dt E ∷ []) a vss) ∷ raw (emp 𝓤) ∷ []) ∵ fsplit ! $ fsplit ! $ word_had ! p vss.0 (λ e0.
-    regoal ! (λ (ws : List Val). prop (WpFn 𝓤 𝓛.H T.C T.Λ e (ws ++ []) Post)) e0 refl $ keep ! (0 ∷ []) $
+    regoal ! (λ (ws : List Val). prop (Runs 𝓛 𝓜 𝓡 e (ws ++ []) Post)) e0 refl $ keep ! (0 ∷ []) $
     enter ! T.C T.Λ e (word p ∷ []) _ $ alloc_all ! (λ l. pass_all ! refl (word-Good [] p, tt) $
     let out : (Lr E).Denot = record {
       mark = record {};

@@ -13,6 +13,6 @@ use Rattle.piece_raw.proofs.links.Links.next.Code as code
 pub next_spec : {M : Type 1} → stated.statement M
 next_spec 𝓤 𝓛 𝓜 𝓡 wired X LX y =
     let E : Of = record { row = X; laws = LX } in
-    reads E 𝓛 𝓜 𝓡 HasNext 1 8 refl (next_seen 𝓛) (λ ps t. same_next (t ∷ ps) t) (#self (args E))
+    reads E HasNext 𝓛 𝓜 𝓡 1 8 refl (next_seen 𝓛) (λ ps t. same_next (t ∷ ps) t) (#self (args E))
     (inst_fn (args E) code.function) (code.unfolded 𝓤 𝓛.H 𝓜 𝓡 wired (X, tt))
     ((y.0.0, y.0.1, tt, y.0.3, y.0.4), y.1)

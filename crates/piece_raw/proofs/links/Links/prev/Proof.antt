@@ -12,6 +12,6 @@ use Rattle.piece_raw.proofs.links.Links.prev.Code as code
 pub prev_spec : {M : Type 1} → stated.statement M
 prev_spec 𝓤 𝓛 𝓜 𝓡 wired X LX y =
     let E : Of = record { row = X; laws = LX } in
-    reads E 𝓛 𝓜 𝓡 HasPrev 0 0 refl (prev_seen 𝓛) same_prev (#self (args E))
+    reads E HasPrev 𝓛 𝓜 𝓡 0 0 refl (prev_seen 𝓛) same_prev (#self (args E))
     (inst_fn (args E) code.function) (code.unfolded 𝓤 𝓛.H 𝓜 𝓡 wired (X, tt))
     ((y.0.0, y.0.1, tt, y.0.3, y.0.4), y.1)

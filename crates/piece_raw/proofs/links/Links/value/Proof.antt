@@ -28,8 +28,9 @@ pub value_spec : {M : Type 1} → stated.statement M
 value_spec 𝓤 𝓛 𝓜 𝓡 wired X LX y =
     let E : Of = record { row = X; laws = LX } in
     let e : Fn = inst_fn (args E) code.function in
-    looks E (plain (λ κs. ShrRef (named 0) κs.0 (RV E))) (λ d node. IsAt (d.trailer ∷ d.nodes) node.ptr)
-    (λ κs d node r. AtNode (d.trailer ∷ d.nodes) node.ptr (λ _ n _. r.now ≡ n.value)) 𝓛 𝓜 𝓡 (RV E) (vo E)
+    looks E (plain (λ κs. ShrRef (named 0) κs.0 (RV E))) 𝓛 𝓜 𝓡
+    (λ d node. IsAt (d.trailer ∷ d.nodes) node.ptr)
+    (λ κs d node r. AtNode (d.trailer ∷ d.nodes) node.ptr (λ _ n _. r.now ≡ n.value)) (RV E) (vo E)
     (λ κs x b o. record { ref_ptr = (b, o + vo E); now = x }) (λ d node at. at.1.value)
     (λ κ d node. value_at 𝓛 E κ d.trailer d.nodes node.ptr)
     (λ κs d node at b o ep. at_node (d.trailer ∷ d.nodes) node.ptr d.apart at (λ _ n _. at.1.value ≡ n.value) refl)

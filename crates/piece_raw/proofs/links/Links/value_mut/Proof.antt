@@ -9,7 +9,6 @@ use mir.MapTy.{inst_fn}
 use mir.Val.{Val, vptr}
 use base.Logic.{SProp, sep, never, id⊢}
 use base.Fml.{GName, ftrue, fat, flft}
-use prog.Wp.{WpFn}
 use types.Logic.{Logic, sem}
 use contract.Monad.{fact}
 use types.Kit.{‵, raw, ◌⊛◌, some, later, await, pick, at_ret, ◌$◌, ◌∵◌, !, qed, move, keep, use1, split, join}
@@ -36,7 +35,7 @@ use Rattle.piece_raw.proofs.Memory.{Of, args, RV, vo, Member, Lr, Np, One, value
 use denote.Follow.{follows, Part, lends_Part}
 use Rattle.piece_raw.specs.Lends.{with_value}
 use Rattle.piece_raw.proofs.Lending.{Rest, put_back}
-use Rattle.piece_raw.proofs.Walks.{𝓣, proved, dropped, all_go, borrowed, enters}
+use Rattle.piece_raw.proofs.Walks.{𝓣, Runs, proved, dropped, all_go, borrowed, enters}
 use Rattle.piece_raw.specs.contracts.links.Links.value_mut.Key.{name as #self}
 use Rattle.piece_raw.proofs.links.Links.value_mut.Statement as stated
 use Rattle.piece_raw.proofs.links.Links.value_mut.Code as code
@@ -74,7 +73,7 @@ value_mut_spec 𝓤 𝓛 𝓜 𝓡 wired X LX y =
     let Post : Val → SProp 𝓤 = (walk_of 𝓛 (called E) (dropped slots) (said E 𝓛)).post z in
     needs 𝓤 (IsAt d.nodes node.ptr) _ (λ asked.
     let xs = asked.0 in let n = asked.1 in let ys = asked.2 in
-    enters E 𝓛 κ q links node [] tt z.0.4.0 z.0.4.1.0 tt (λ vs. WpFn 𝓤 𝓛.H T.C T.Λ e vs Post) (λ passed.
+    enters E 𝓛 κ q links node [] tt z.0.4.0 z.0.4.1.0 tt (λ vs. Runs 𝓛 𝓜 𝓡 e vs Post) (λ passed.
     qed 𝓛 (borrowed E 𝓛 κ q links (‵ ftrue ∷ [])) ∵ keep ! (0 ∷ 1 ∷ 2 ∷ []) $
     enter ! T.C T.Λ e (vptr rb ro ∷ word node.ptr ∷ []) _ $
     alloc_all ! (λ l. pass_all ! refl ((tt, tt), (word-Good [] node.ptr, tt)) $
@@ -97,15 +96,17 @@ value_mut_spec 𝓤 𝓛 𝓜 𝓡 wired X LX y =
     sets ! (of_opd ! (get ! refl)) refl (tt, tt) $
     move ! (3 ∷ 4 ∷ 5 ∷ []) $ fjoin3 ! $ move ! (2 ∷ 3 ∷ 0 ∷ []) $ fjoin3 ! $
     move ! (2 ∷ 3 ∷ 4 ∷ 1 ∷ 0 ∷ []) $ group ! 5 $
-    use1 𝓛 (later (some (λ (δ : GName). raw (Part 𝓛 (Lr E) (RV E) new (named 0) κ q rb ro b at γ rest way n.value δ))))
+    use1 𝓛 (later (some (λ (δ : GName).
+    raw (Part 𝓛 (Lr E) (RV E) new (named 0) κ q rb ro b at γ rest way n.value δ))))
     (lends_Part 𝓛 (Lr E) (RV E) new (named 0) κ q rb ro b at γ rest way ((Lr E).coded.code d)
     ((Lr E).coded.code d) n.value) $ await ! tt $ pick ! (λ δ.
     let r : MutBor E.row.Denot = record { ref_ptr = (b, at); ghost_name = δ; now = n.value } in
     returns ! (look_at ! 0 refl) $ free_all ! refl $ keep ! (0 ∷ []) $
-    use1 𝓛 (‵ ((MutRef (named 0) κ (RV E)).own_val r (vptr b at ∷ [])) ⊛ ‵ (flft κ q) ⊛ ‵ (follows (Lr E) (RV E) γ δ new))
-    (id⊢ 𝓤 _) $ split3 ! $
+    use1 𝓛 (‵ ((MutRef (named 0) κ (RV E)).own_val r (vptr b at ∷ [])) ⊛ ‵ (flft κ q)
+    ⊛ ‵ (follows (Lr E) (RV E) γ δ new)) (id⊢ 𝓤 _) $ split3 ! $
     suffices ! _ (ends_at 𝓛 (called E) (dropped slots) (said E 𝓛) z (vptr b at) r (tt, (tt, tt)) (tt, (tt, tt))) $
     nothing ! $ nothing ! $ fjoin ! $ nothing ! $ fjoin ! $ join ! $ nothing ! $ move ! (2 ∷ 0 ∷ []) $
     join ! $ join ! $ frame ! $
-    says ! (at_node d.nodes node.ptr (apart_places d.trailer.at d.nodes d.apart) asked (λ _ m _. n.value ≡ m.value) refl) $
+    says ! (at_node d.nodes node.ptr (apart_places d.trailer.at d.nodes d.apart) asked
+    (λ _ m _. n.value ≡ m.value) refl) $
     done !))))))) ((y.0.0, y.0.1, tt, y.0.3, y.0.4), y.1)

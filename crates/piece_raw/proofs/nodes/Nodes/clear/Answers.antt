@@ -1,29 +1,23 @@
-use Rattle.std.proofs.Common.{◌≡◌, List, [], ◌∷◌, ◌++◌, refl, sym, ap, ◌∙◌, subst}
+use Rattle.std.proofs.Common.{[], ◌∷◌, sym, refl, ap, ◌∙◌, subst}
 use Rattle.std.specs.List.{AllByRecursion}
-use Rattle.std.proofs.lemmas.List.{map-append}
-use denote.RawPtr.{Ptr}
 use Rattle.piece_raw.specs.Tied.{IsBlock, spots, Matches}
 use Rattle.piece_raw.proofs.Splits.{all_left, all_right}
 use Rattle.piece_raw.proofs.Apart.{apart_places}
-use Rattle.piece_raw.proofs.Matching.{Matches-popped, last_node}
+use Rattle.piece_raw.proofs.Matching.{Matches-popped, last_block}
 use Rattle.piece_raw.proofs.nodes.Nodes.clear.Goals as goal
 
 pub detach-requires : goal.detach-requires
 detach-requires g c =
-    let n = c.loop-block.self in let b = c.in-Some.block in let items = c.pop.new.self.items in
-    let long : spots n.table.items ≡ spots items ++ b.node.ptr ∷ [] = ap spots c.in-Some.ensures.items ∙
-    map-append (λ d. d.node.ptr) items (b ∷ []) in
-    let last = last_node (spots items) b.node.ptr n.links.nodes (subst (λ (ps : List Ptr). Matches ps
-    n.links.nodes) long c.loop-block.invariant.matches) in
+    let n = c.loop-block.self in
+    let last = (last_block n.table.items c.pop.new.self.items c.in-Some.block c.in-Some.ensures.items
+    n.links.nodes c.loop-block.invariant.matches).1 in
     (last.0, last.1, last.2, last.3, last.4)
 
 pub deallocate-requires : goal.deallocate-requires
 deallocate-requires g c =
     let n = c.loop-block.self in let b = c.in-Some.block in let items = c.pop.new.self.items in
-    let long : spots n.table.items ≡ spots items ++ b.node.ptr ∷ [] = ap spots c.in-Some.ensures.items ∙
-    map-append (λ d. d.node.ptr) items (b ∷ []) in
-    let last = last_node (spots items) b.node.ptr n.links.nodes (subst (λ (ps : List Ptr). Matches ps
-    n.links.nodes) long c.loop-block.invariant.matches) in
+    let last = (last_block n.table.items items b c.in-Some.ensures.items n.links.nodes
+    c.loop-block.invariant.matches).1 in
     let out = c.detach.ensures.nodes last.0 last.1 last.2 last.3 last.4 in
     let block = (all_right IsBlock items (b ∷ []) (subst (AllByRecursion IsBlock)
     c.in-Some.ensures.items c.loop-block.invariant.deeds)).0 in
@@ -33,15 +27,12 @@ pub loop-block-preserved : goal.loop-block-preserved
 loop-block-preserved g c =
     let n = c.loop-block.self in let l = n.links in let tied = c.loop-block.invariant in
     let b = c.in-Some.block in let items = c.pop.new.self.items in
-    let long : spots n.table.items ≡ spots items ++ b.node.ptr ∷ [] = ap spots c.in-Some.ensures.items ∙
-    map-append (λ d. d.node.ptr) items (b ∷ []) in
-    let matched = subst (λ (ps : List Ptr). Matches ps l.nodes) long tied.matches in
-    let last = last_node (spots items) b.node.ptr l.nodes matched in
+    let (whole, last) = last_block n.table.items items b c.in-Some.ensures.items l.nodes tied.matches in
     let out = c.detach.ensures.nodes last.0 last.1 last.2 last.3 last.4 in
     record {
       matches = subst (Matches (spots items)) (sym out.0) (Matches-popped (spots items)
           b.node.ptr l.nodes last.0 last.1 last.2 (apart_places l.trailer.at l.nodes l.apart)
-          matched last.3 last.4 last.5);
+          whole last.3 last.4 last.5);
       deeds = all_left IsBlock items (b ∷ []) (subst (AllByRecursion IsBlock)
           c.in-Some.ensures.items tied.deeds);
       trailer_at = tied.trailer_at ∙ ap (λ t. t.at) (sym c.detach.ensures.trailer);

@@ -1,17 +1,11 @@
-use Rattle.piece_raw.specs.Tied.{spots}
-use Rattle.piece_raw.proofs.Writing.{stop-member, has-stop-if}
+use Rattle.piece_raw.proofs.Standing.{stop-member, has-stop-if}
 use Rattle.piece_raw.proofs.ring.Ring.after.Goals as goal
 
 pub next-requires : goal.next-requires
 next-requires g c =
-    let n = c.self.inside.nodes in let tied = c.self.invariant.0 in (
-      tied,
-      stop-member (spots n.table.items) n.links.trailer n.links.nodes tied.matches c.args.tag (rw (←
-          c.self.view_is) at c.requires),
-    )
+    let tied = c.self.invariant.0 in
+    (tied, stop-member c.self.inside.nodes tied c.args.tag (rw (← c.self.view_is) at c.requires))
 
 pub returns-clause-there : goal.returns-clause-there
 returns-clause-there g c =
-    let n = c.self.inside.nodes in let l = n.links in let tied = c.self.invariant.0 in
-    rw (← c.self.view_is) (has-stop-if (spots n.table.items)
-    l.trailer l.nodes tied.matches tied.trailer_empty c.next.result c.next.ensures.there)
+    rw (← c.self.view_is) (has-stop-if c.self.inside.nodes c.self.invariant.0 c.next.result c.next.ensures.there)

@@ -1,12 +1,11 @@
 use Rattle.piece_raw.specs.Tied.{spots}
 use Rattle.piece_raw.proofs.Apart.{apart_places}
-use Rattle.piece_raw.proofs.Writing.{stop-trailer, are_tags, has-stop-if}
+use Rattle.piece_raw.proofs.Standing.{stop-trailer, has-stop-if}
+use Rattle.piece_raw.proofs.Writing.{are_tags}
 use Rattle.piece_raw.proofs.ring.Ring.first.Goals as goal
 
 pub next-requires : goal.next-requires
-next-requires g c =
-    let n = c.self.inside.nodes in let tied = c.self.invariant.0 in
-    (tied, stop-trailer n.links.trailer n.links.nodes tied.trailer_empty)
+next-requires g c = let tied = c.self.invariant.0 in (tied, stop-trailer c.self.inside.nodes tied)
 
 pub returns-clause-tags : goal.returns-clause-tags
 returns-clause-tags g c =
@@ -16,6 +15,4 @@ returns-clause-tags g c =
 
 pub returns-clause-there : goal.returns-clause-there
 returns-clause-there g c =
-    let n = c.self.inside.nodes in let l = n.links in let tied = c.self.invariant.0 in
-    rw (← c.self.view_is) (has-stop-if (spots n.table.items)
-    l.trailer l.nodes tied.matches tied.trailer_empty c.next.result c.next.ensures.there)
+    rw (← c.self.view_is) (has-stop-if c.self.inside.nodes c.self.invariant.0 c.next.result c.next.ensures.there)

@@ -4,7 +4,7 @@ use Rattle.std.proofs.lemmas.List.Elements.{All-head}
 use Rattle.std.specs.Iterator.{YieldsFirst}
 use Rattle.char_files.specs.CharFiles.{Files}
 use Rattle.char_files.specs.declared.character.Char.{Char}
-use Rattle.piece_list.specs.declared.name_run.NameRun.{NameRun}
+use Rattle.piece_list.specs.declared.run.Run.{Run}
 use Rattle.taken_text.specs.Shown.{AreInFiles, IsInFile, chars_of_runs, runs_left}
 use Rattle.taken_text.specs.declared.shown.Shown.TheInside.{Inside}
 use Rattle.taken_text.proofs.Runs.{ReadsOn, first_and_rest, left_in_files}
@@ -28,8 +28,8 @@ reads_on c =
       | then-run-gt0 w ↦ inl (w.if-run-gt0.true, w.self-is, ap (λ (s : Inside). s.walk) w.self-inside-is)
       | else-run-gt0 w ↦ inr (
         omega (arith, w.if-run-gt0.false),
-        subst (λ (o : Option NameRun). YieldsFirst (λ (runs : List NameRun). runs) c.self.inside.walk o c.if-run-gt0.self-inside.walk) (sym w.self-is)
-            (subst (λ (l : List NameRun). YieldsFirst (λ (runs : List NameRun). runs) c.self.inside.walk w.next-self-inside.result l)
+        subst (λ (o : Option Run). YieldsFirst (λ (runs : List Run). runs) c.self.inside.walk o c.if-run-gt0.self-inside.walk) (sym w.self-is)
+            (subst (λ (l : List Run). YieldsFirst (λ (runs : List Run). runs) c.self.inside.walk w.next-self-inside.result l)
             (sym (ap (λ (s : Inside). s.walk) w.self-inside-is)) w.next-self-inside.ensures.steps),
       )
     ]
@@ -37,23 +37,23 @@ reads_on c =
 pub invariant_of-self-2 : goal.invariant_of-self-2
 invariant_of-self-2 c =
     let files : Files = c.self.inside.files.now in
-    let rest : List NameRun = c.self.inside.walk in
+    let rest : List Run = c.self.inside.walk in
     let all : AreInFiles files (c.in_ok-run.run' ∷ rest) =
-    subst (λ (o : Option NameRun). AreInFiles files (runs_left o rest)) (was c) c.self.invariant in
+    subst (λ (o : Option Run). AreInFiles files (runs_left o rest)) (was c) c.self.invariant in
     subst (λ (f : Files). AreInFiles f (runs_left c.if-run-gt0.self c.if-run-gt0.self-inside.walk)) (sym (files_stay c))
     (left_in_files files c.in_ok-run.run' rest c.if-run-gt0.self c.if-run-gt0.self-inside.walk (reads_on c) all)
 
 pub returns-clause-steps : goal.returns-clause-steps
 returns-clause-steps c =
     let files : Files = c.self.inside.files.now in
-    let rest : List NameRun = c.self.inside.walk in
-    let next : Option NameRun = c.if-run-gt0.self in
-    let behind : List NameRun = c.if-run-gt0.self-inside.walk in
+    let rest : List Run = c.self.inside.walk in
+    let next : Option Run = c.if-run-gt0.self in
+    let behind : List Run = c.if-run-gt0.self-inside.walk in
     let all : AreInFiles files (c.in_ok-run.run' ∷ rest) =
-    subst (λ (o : Option NameRun). AreInFiles files (runs_left o rest)) (was c) c.self.invariant in
+    subst (λ (o : Option Run). AreInFiles files (runs_left o rest)) (was c) c.self.invariant in
     let here : IsInFile files c.in_ok-run.run' = All-head (IsInFile files) c.in_ok-run.run' rest all in
     sym c.self.view_is
-    ∙ ap (λ (o : Option NameRun). chars_of_runs files (runs_left o rest)) (was c)
+    ∙ ap (λ (o : Option Run). chars_of_runs files (runs_left o rest)) (was c)
     ∙ first_and_rest files c.in_ok-run.run' rest next behind here.some (reads_on c)
     ∙ ap (λ (a : Char). a ∷ chars_of_runs files (runs_left next behind)) (sym c.first_of-char.ensures)
     ∙ ap (λ (f : Files). c.first_of-char.result ∷ chars_of_runs f (runs_left next behind)) (sym (files_stay c))

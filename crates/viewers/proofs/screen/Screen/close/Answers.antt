@@ -5,7 +5,7 @@ use Rattle.std.specs.List.{remove, zip}
 use Rattle.std.specs.Option.{ok_or}
 use Rattle.looks.specs.declared.refusal.Refusal.TheVariants.{NoViewer}
 use Rattle.viewers.specs.Viewers.{AreNumbered, index_of}
-use Rattle.viewers.proofs.Entries.{all_kept, content_at_index, content_nowhere, filter-zip}
+use Rattle.viewers.proofs.Entries.{all_kept, content_at_index, content_nowhere, removed_at}
 use Rattle.viewers.proofs.Numbers.{index_there}
 use Rattle.viewers.proofs.Screens.{closing_nowhere, closing_there, numbered_closed}
 use Rattle.viewers.proofs.screen.Screen.close.Goals as goal
@@ -91,11 +91,8 @@ returns-clause-after g c =
     let i = c.self.inside in
     let is : c.index_of-index.result ≡ index_of i.numbers.items c.args.viewer =
     c.index_of-index.ensures ∙ ap (λ l. index_of l c.args.viewer) c.as_slice.ensures.value in
-    let kept = filter-zip 1 i.next c.args.viewer i.numbers.items i.contents.items c.self.invariant.0.rising c.self.invariant.1 in
-    let left = c.remove.ensures.items ∙ ap (remove i.numbers.items) is in
-    let rest = c.remove-2.ensures.items ∙ ap (remove i.contents.items) is in
-    rw (← c.self.view_is) (λ t. record {
-      tracks = c.close.ensures.after t;
-      next = i.next;
-      contents = ((λ u. zip (left u) (rest u)) ∙ sym kept) t;
-    })
+    let rest = removed_at 1 i.next c.args.viewer c.index_of-index.result i.numbers.items c.remove.new.self.items
+    i.contents.items c.remove-2.new.self.items c.self.invariant.0.rising c.self.invariant.1 is c.remove.ensures.items
+    c.remove-2.ensures.items in
+    rw (← c.self.view_is)
+    (λ t. record { tracks = c.close.ensures.after t; next = i.next; contents = rest t })

@@ -8,7 +8,7 @@ returns g c =
     let even : length cs ≡ length ks = c.self.invariant.1 in
     rw (← c.self.view_is) (
       (
-        refl,
+        refl {a = c.as_mut_slice.result.ghost_name},
         λ w t. record {
           tracks = c.self.inside.tracks;
           next = c.self.inside.next;

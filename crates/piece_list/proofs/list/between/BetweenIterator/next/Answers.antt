@@ -1,6 +1,6 @@
 use Rattle.std.proofs.Common.{rules, ◌≡◌, ◌<◌, ◌≤◌, ℕ, ◌-◌, length, List, [], ◌∷◌, Option, sym, ap, ◌∙◌, arith}
 use Rattle.std.proofs.lemmas.Grind.{common_steps}
-use Rattle.piece_list.specs.declared.name_run.NameRun.{NameRun}
+use Rattle.piece_list.specs.declared.run.Run.{Run}
 use Rattle.piece_list.specs.declared.list.between.Between.TheInside.{Inside}
 use Rattle.piece_list.specs.RunCuts.{first_chars, with_first}
 use Rattle.piece_list.proofs.RunCuts.{none_wanted, reads_one, is_cut, is_whole, run_to}
@@ -10,14 +10,14 @@ use Rattle.piece_list.proofs.list.between.BetweenIterator.next.Goals as goal
 
 pub returns-then-self-eq0-clause-steps : goal.returns-then-self-eq0-clause-steps
 returns-then-self-eq0-clause-steps c =
-    let runs : List NameRun = with_first c.self.inside.first c.self.inside.walk in
+    let runs : List Run = with_first c.self.inside.first c.self.inside.walk in
     let zero : c.self.inside.left ≡ 0 = omega (arith, c.if-self-eq0.true) in
     let none : c.args.self.now ≡ [] =
     sym c.self.view_is ∙ ap (λ (n : ℕ). first_chars n runs) zero ∙ none_wanted runs in
     (none, none)
 
 -- what is left of a value's runs, the front run among them
-abbrev runs_of : Inside → List NameRun
+abbrev runs_of : Inside → List Run
 runs_of s = with_first s.first s.walk
 
 left_stays : (c : goal.After-self-1) → c.match-take.self-inside.left ≡ c.self.inside.left
@@ -32,15 +32,15 @@ is_first : (c : goal.After-self-1) → runs_of c.self.inside ≡ c.match-take.ru
 is_first c =
     elim c.match-take.branch [
       | in-Some w ↦
-          ap (λ (o : Option NameRun). with_first o c.self.inside.walk) (sym w.in-Some.ensures.value)
-          ∙ ap (λ (r : NameRun). r ∷ c.self.inside.walk) (sym w.run-is)
-          ∙ ap (λ (o : Option NameRun). c.match-take.run ∷ with_first o c.self.inside.walk) (sym c.take.ensures.after)
+          ap (λ (o : Option Run). with_first o c.self.inside.walk) (sym w.in-Some.ensures.value)
+          ∙ ap (λ (r : Run). r ∷ c.self.inside.walk) (sym w.run-is)
+          ∙ ap (λ (o : Option Run). c.match-take.run ∷ with_first o c.self.inside.walk) (sym c.take.ensures.after)
           ∙ ap (λ (s : Inside). c.match-take.run ∷ runs_of s) (sym w.self-inside-is)
       | in-None+in_ok-run-in-None w ↦
-          ap (λ (o : Option NameRun). with_first o c.self.inside.walk) (sym w.in-None.ensures.value)
+          ap (λ (o : Option Run). with_first o c.self.inside.walk) (sym w.in-None.ensures.value)
           ∙ w.in_ok-run-in-None.ensures.steps
-          ∙ ap (λ (r : NameRun). r ∷ w.next.new.self) (sym w.run-is)
-          ∙ ap (λ (o : Option NameRun). c.match-take.run ∷ with_first o w.next.new.self) (sym c.take.ensures.after)
+          ∙ ap (λ (r : Run). r ∷ w.next.new.self) (sym w.run-is)
+          ∙ ap (λ (o : Option Run). c.match-take.run ∷ with_first o w.next.new.self) (sym c.take.ensures.after)
           ∙ ap (λ (s : Inside). c.match-take.run ∷ runs_of s) (sym w.self-inside-is)
     ]
 
@@ -48,7 +48,7 @@ is_first c =
 is_what_is_wanted : (c : goal.After-self-1) → c.if-self-from.run ≡ run_to c.self.inside.left c.match-take.run
 is_what_is_wanted c =
     let stays : c.match-take.self-inside.left ≡ c.self.inside.left = left_stays c in
-    let r : NameRun = c.match-take.run in
+    let r : Run = c.match-take.run in
     elim c.if-self-from.branch [
       | then-self-from w ↦
           let less : c.self.inside.left < r.len = omega (arith, stays, w.if-self-from.true, c.from.ensures) in
@@ -61,8 +61,8 @@ is_what_is_wanted c =
 pub returns-clause-steps : goal.returns-clause-steps
 returns-clause-steps c =
     let left : ℕ = c.self.inside.left in
-    let q : NameRun = c.if-self-from.run in
-    let behind : List NameRun = runs_of c.match-take.self-inside in
+    let q : Run = c.if-self-from.run in
+    let behind : List Run = runs_of c.match-take.self-inside in
     let some : 0 < left = omega (arith, c.if-self-eq0.false) in
     sym c.self.view_is
     ∙ reads_one left (runs_of c.self.inside) behind c.match-take.run q some (is_first c) (is_what_is_wanted c)
@@ -71,7 +71,7 @@ returns-clause-steps c =
 
 pub returns-clause-goes : goal.returns-clause-goes
 returns-clause-goes c =
-    let rest : List NameRun =
+    let rest : List Run =
     first_chars (c.match-take.self-inside.left - c.from-2.result) (runs_of c.match-take.self-inside) in
     let steps : c.args.self.now ≡ c.if-self-from.run ∷ rest = returns-clause-steps c in
     let fewer : length rest < length c.args.self.now = omega (arith, ap length steps) in

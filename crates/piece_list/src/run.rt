@@ -4,7 +4,7 @@ use looks::{Key, Looks};
 /// Neighbouring names of one site's file in one key and one set of looks: what an Insert puts into a text,
 /// or a stretch of what is shown. This project's own.
 #[derive(Debug, Drop, PartialEq, Eq)]
-pub struct NameRun {
+pub struct Run {
     pub site: SiteNo,
     /// The first name's offset in the site's file, below 2^24.
     pub off: u32,

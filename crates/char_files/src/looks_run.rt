@@ -6,12 +6,12 @@ use std::marker::Model;
 
 /// Neighbouring characters of equal looks, one at least.
 #[derive(Debug, Drop)]
-pub struct Run {
+pub struct LooksRun {
     looks: Looks,
     bytes: Vec<u8>,
 }
 
-impl Model for Run {
+impl Model for LooksRun {
     ghost use Rattle.std.specs.Prelude.{◌≢◌, []};
     ghost use Rattle.char_files.specs.Stretch.{Stretch};
 
@@ -22,13 +22,13 @@ impl Model for Run {
     ghost invariant = { λ r. r.bytes.items ≢ [] };
 }
 
-impl Run {
+impl LooksRun {
     // Characters of these looks.
-    pub(crate) fn new(alloc: Global, looks: Looks, bytes: &[u8]) -> Result<Run, AllocError>
+    pub(crate) fn new(alloc: Global, looks: Looks, bytes: &[u8]) -> Result<LooksRun, AllocError>
         requires { bytes.now ≢ [] }
         ensures { IfOk result (λ run. run ≡ record { looks = looks; bytes = bytes.now }) }
     {
-        Ok(Run {
+        Ok(LooksRun {
             looks,
             bytes: Vec::from_slice(alloc, bytes)?,
         })
@@ -43,11 +43,11 @@ impl Run {
         Ok(())
     }
 
-    pub(crate) fn copy(&self) -> Result<Run, AllocError>
+    pub(crate) fn copy(&self) -> Result<LooksRun, AllocError>
         ensures { IfOk result (λ run. run ≡ self.now) }
     {
         let alloc = *self.bytes.allocator();
-        Ok(Run {
+        Ok(LooksRun {
             looks: self.looks.copy(),
             bytes: Vec::from_slice(alloc, &self.bytes)?,
         })
