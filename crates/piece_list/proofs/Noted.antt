@@ -1,18 +1,19 @@
 -- What a note tells, piece by piece.
-use Rattle.std.proofs.Common.{◌≡◌, ℕ, ◌+◌, ◌-◌, ◌<◌, ◌≤◌, Bool, true, false, cond, not, List, [], ◌∷◌, ◌++◌}
+use Rattle.std.proofs.Common.{◌≡◌, ℕ, ◌+◌, ◌-◌, ◌<◌, ◌≤◌, Bool, true, false, cond, List, [], ◌∷◌, ◌++◌}
 use Rattle.std.proofs.Common.{length, get_or, take, drop, map, All, refl, sym, ap, subst, ◌∙◌, arith, append_assoc}
 use Rattle.std.proofs.lemmas.List.{append-nil, map-append, length-map}
 use Rattle.std.proofs.lemmas.List.Sums.{sum_by_more, sum_by_more_le}
-use Rattle.std.proofs.lemmas.List.Elements.{All-append, All-cons, All-nil, All-head, All-tail}
+use Rattle.std.proofs.lemmas.List.Elements.{All-append, All-cons, All-nil}
 use Rattle.std.proofs.Math.Seq.{take-append_seam, drop-append_seam, take-append-add}
+use Rattle.looks.specs.declared.key.Key.{Key}
+use Rattle.looks.specs.declared.looks.Looks.{Looks}
 use Rattle.char_files.specs.CharName.{CharName}
-use Rattle.operations.specs.NameSet.{Range, IsIn, IsAmong, names_of}
+use Rattle.operations.specs.NameSet.{Range, IsAmong, names_of}
 use Rattle.tree_order.specs.Registers.{Atom}
 use Rattle.piece_raw.specs.Ring.{AreTags, IsMember, with_value}
 use Rattle.rank_index.specs.Ranked.{IsRank}
 use Rattle.list_changes.specs.declared.change.Change.{Change}
-use Rattle.list_changes.specs.declared.change.ChangeKind.{ChangeKind}
-use Rattle.list_changes.specs.declared.change.ChangeKind.TheVariants.{Insert, Delete, Replace}
+use Rattle.list_changes.specs.declared.change.ChangeKind.TheVariants.{Replace}
 use Rattle.list_changes.specs.Changes.{AreAlike, Trades, Makes, Leads}
 use Rattle.list_changes.proofs.Leading.{leads-append, replaces-keep}
 use Rattle.piece_list.specs.declared.list.changing.Setting.{Setting}
@@ -23,12 +24,11 @@ use Rattle.piece_list.specs.Changing.{changed_piece}
 use Rattle.piece_list.specs.Held.{weighed}
 use Rattle.piece_list.specs.Noted.{appearances, names_shown, SameName, Notes, IsOf, IsNoted, kind_of}
 use Rattle.piece_list.specs.Noted.{ShowsOther, ShowsTheSame, name_count}
-use Rattle.piece_list.specs.Pieces.{range_of, char_of, chars_of}
-use Rattle.looks.specs.declared.key.Key.{Key}
-use Rattle.looks.specs.declared.looks.Looks.{Looks}
+use Rattle.piece_list.specs.Pieces.{range_of, chars_of}
 use Rattle.piece_list.specs.Shown.{Appearance, appearance_of, appearance_in, appearances_in, run_of, looks_of}
 use Rattle.piece_list.specs.Spelled.{spelled, shown_chars}
 use Rattle.piece_list.proofs.ChangedPiece.{changes_each}
+use Rattle.piece_list.proofs.ChangedNames.{only_range}
 use Rattle.piece_list.proofs.Changes.{in_range}
 use Rattle.piece_list.proofs.Cutting.{written}
 use Rattle.piece_list.proofs.Found.{one_value}
@@ -92,9 +92,8 @@ trades (Switch false key) beg p w same (was, is) =
     (hidden_tells p was, omega (arith, count_tells w is))
 trades (Relook sel looks key) beg p w same (shown, is) =
     let len : w.len ≡ p.len = ap (λ (r : Range). r.len) same in
-    let names : range_of w ≡ range_of p = same in
     let come : told_by w ≡ map (appearance_in (run_of w)) (names_of (range_of p)) =
-    shown_tells w is ∙ ap (λ (r : Range). map (appearance_in (run_of w)) (names_of r)) names in (
+    shown_tells w is ∙ ap (λ (r : Range). map (appearance_in (run_of w)) (names_of r)) same in (
       subst (λ (l : List Appearance). AreAlike SameName l (told_by w)) (sym (shown_tells p shown))
           (subst (AreAlike SameName (appearances_in (run_of p))) (sym come)
           (alike_in (run_of p) (run_of w) (names_of (range_of p)))),
@@ -316,10 +315,7 @@ range_fits ranges i r lt is =
 -- a set has the names of each of its ranges
 pub range_among : (ranges : List Range) (i : ℕ) (r : Range) (c : CharName) → i < length ranges
     → r ≡ get_or ranges i r → IsAmong (r ∷ []) c → IsAmong ranges c
-range_among ranges i r c lt at (k, x, few, there, held) =
-    let first : k ≡ 0 = omega arith in
-    let same : x ≡ r = sym there ∙ ap (λ (j : ℕ). get_or (r ∷ []) j x) first in
-    (i, r, lt, sym at, subst (λ (s : Range). IsIn s c) same held)
+range_among ranges i r c lt at held = (i, r, lt, sym at, only_range r c held)
 
 -- one piece more of a range
 pub noted_on : (setting : Setting) (r : Range) (name : CharName) (to : ℕ) (old mid new : List Change)
@@ -328,12 +324,8 @@ pub noted_on : (setting : Setting) (r : Range) (name : CharName) (to : ℕ) (old
     → IsNoted setting (record { site = name.site; at = name.off; len = to - name.off } ∷ []) mid new between now
     → IsNoted setting (r ∷ []) old new was now
 noted_on setting r name to old mid new was between now site from ends one two =
+    let part : Range = record { site = name.site; at = name.off; len = to - name.off } in
     noted_more setting (r ∷ []) old mid new was between now one
-    (noted_wider setting (record { site = name.site; at = name.off; len = to - name.off } ∷ []) (r ∷ []) mid new
-    between now (λ c (k, x, few, there, held).
-    let first : k ≡ 0 = omega arith in
-    let same : x ≡ record { site = name.site; at = name.off; len = to - name.off } =
-    sym there ∙ ap (λ (j : ℕ). get_or (record { site = name.site; at = name.off; len = to - name.off } ∷ []) j x) first in
-    let inside : IsIn (record { site = name.site; at = name.off; len = to - name.off }) c =
-    subst (λ (s : Range). IsIn s c) same held in
-    (0, r, omega arith, refl, (inside.0 ∙ site, omega (arith, inside.1, from), omega (arith, inside.2, ends)))) two)
+    (noted_wider setting (part ∷ []) (r ∷ []) mid new between now (λ c held.
+    let (own, low, high) = only_range part c held in
+    (0, r, omega arith, refl, (own ∙ site, omega (arith, low, from), omega (arith, high, ends)))) two)

@@ -1,7 +1,6 @@
 -- How a note tells what a change of characters makes of what is shown.
 use Rattle.std.specs.Prelude.{◌≡◌, ℕ, ◌++◌, Bool, true, false, not, List, map, take, drop, All}
 use Rattle.std.specs.List.{sum_by}
-use Rattle.looks.specs.declared.key.Key.{Key}
 use Rattle.char_files.specs.CharName.{CharName}
 use Rattle.operations.specs.NameSet.{Range, IsAmong}
 use Rattle.list_changes.specs.declared.change.Change.{Change}

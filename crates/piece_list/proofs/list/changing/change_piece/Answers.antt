@@ -1,5 +1,5 @@
 use Rattle.std.proofs.Common.{◌≡◌, ℕ, ◌^◌, ◌+◌, ◌≤◌, List, [], ◌∷◌, length, map, sym, ap, subst, ◌∙◌, arith}
-use Rattle.std.proofs.Common.{◌-◌, ◌<◌, ◌++◌, nat_lt, true}
+use Rattle.std.proofs.Common.{◌-◌, ◌++◌, nat_lt, true}
 use Rattle.std.proofs.lemmas.Bool.Decides.{nat_tests}
 use Rattle.operations.specs.NameSet.{Range}
 use Rattle.list_changes.specs.declared.change.Change.{Change}
@@ -228,7 +228,8 @@ returns-clause-noted c = λ free.
           c.if-shows_other.note.items c.requires.indexed t.member
           (c.apply-shows_other.ensures.other o.if-shows_other.true).1 rank
           (ap (λ n. n.items) o.note-is ∙ put
-          ∙ ap (λ (kind : ChangeKind). c.args.note.now.items ++ record { kind = kind; beg = beg; end = beg + w.len } ∷ []) o.kind.ensures)
+          ∙ ap (λ (kind : ChangeKind). c.args.note.now.items
+          ++ record { kind = kind; beg = beg; end = beg + w.len } ∷ []) o.kind.ensures)
       | else-shows_other o ↦
           let asked : nat_lt c.len.result c.capacity.result ≡ true =
           grind (arith, nat_tests, free, c.len.ensures, c.capacity.ensures) in
@@ -239,7 +240,9 @@ returns-clause-noted c = λ free.
           (c.apply-shows_other.ensures.same asked
           (λ other. true_is_not c.apply-shows_other.result other o.if-shows_other.false)))
     ] in
-    subst (λ (l : Items). set (record { site = c.args.name.site; at = c.args.name.off; len = w.off + w.len - c.args.name.off } ∷ []) l)
+    let names : Range =
+    record { site = c.args.name.site; at = c.args.name.off; len = w.off + w.len - c.args.name.off } in
+    subst (set (names ∷ []))
     (sym (put_at_cursor c.seek.new.self items c.in-Some.tag c.args.pieces.now.room w c.seek.ensures))
     (subst (λ (r : Range). set (r ∷ []) (with_value c.in-Some.tag w items))
     (same_names v w c.args.name t.same t.held t.off) told)

@@ -1,4 +1,4 @@
-use Rattle.std.proofs.Common.{◌∙◌, ap, sym, arith}
+use Rattle.std.proofs.Common.{arith}
 use Rattle.piece_list.proofs.Noted.{one_range_more}
 use Rattle.piece_list.proofs.list.changing.count_names.Goals as goal
 
