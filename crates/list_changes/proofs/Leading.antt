@@ -1,7 +1,8 @@
 -- What changes lead to.
-use Rattle.std.proofs.Common.{◌≡◌, ℕ, zero, suc, ◌+◌, ◌<◌, ◌≤◌, List, [], ◌∷◌, ◌++◌, length, take, map, true}
+use Rattle.std.proofs.Common.{◌≡◌, ℕ, zero, suc, ◌+◌, ◌<◌, ◌≤◌, List, [], ◌∷◌, ◌++◌, length, take, map, All, true}
 use Rattle.std.proofs.Common.{sym, ap, subst, ◌∙◌, refl, arith, length-append, nat_lt}
 use Rattle.std.proofs.lemmas.List.{take-append-le, map-append, length-map}
+use Rattle.std.proofs.lemmas.List.Elements.{All-head, All-tail}
 use borrow.Author.Tests.{ltb-true}
 use Rattle.list_changes.specs.declared.change.ChangeKind.{ChangeKind}
 use Rattle.list_changes.specs.declared.change.ChangeKind.TheVariants.{Insert, Delete, Replace}
@@ -99,13 +100,31 @@ module _ {X Y : Type 0} (Alike : X → X → Type 0) (f : X → Y) where
   map-three xs ys zs =
       map-append f xs (ys ++ zs) ∙ ap (λ (l : List Y). map f xs ++ l) (map-append f ys zs)
 
+  -- what f tells of a list is as before, where it is of what came in the place of what went
+  told-alike : (front gone come back a b : List X) → map f come ≡ map f gone → a ≡ front ++ (gone ++ back)
+      → b ≡ front ++ (come ++ back) → map f b ≡ map f a
+  told-alike front gone come back a b alike was now =
+      ap (map f) now ∙ map-three front come back
+      ∙ ap (λ (l : List Y). map f front ++ (l ++ map f back)) alike
+      ∙ sym (map-three front gone back) ∙ sym (ap (map f) was)
+
+  -- replaces keep what f tells of a list
+  pub replaces-keep : ((x y : X) → Alike x y → f y ≡ f x) → (changes : List Change) (a b : List X)
+      → All (λ change. change.kind ≡ Replace) changes → Leads Alike changes a b → map f b ≡ map f a
+  replaces-keep agree [] a b all same = ap (map f) same
+  replaces-keep agree (change ∷ changes) a b all (mid, made, more) =
+      let IsReplace : Change → Type 0 = λ (one : Change). one.kind ≡ Replace in
+      let trades : Trades Alike Replace change.beg change.end made.gone made.come =
+      subst (λ (kind : ChangeKind). Trades Alike kind change.beg change.end made.gone made.come)
+      (All-head IsReplace change changes all) made.trades in
+      replaces-keep agree changes mid b (All-tail IsReplace change changes all) more
+      ∙ told-alike made.front made.gone made.come made.back a mid (alike-map agree made.gone made.come trades.0)
+      made.before made.after
+
   replaced : (last : ℕ) (front gone come back a b : List X) → map f come ≡ map f gone → last < length a
       → a ≡ front ++ (gone ++ back) → b ≡ front ++ (come ++ back) → AreSameUpTo f last a b
   replaced last front gone come back a b alike lt was now =
-      let all : map f b ≡ map f a =
-      ap (map f) now ∙ map-three front come back
-      ∙ ap (λ (l : List Y). map f front ++ (l ++ map f back)) alike
-      ∙ sym (map-three front gone back) ∙ sym (ap (map f) was) in
+      let all : map f b ≡ map f a = told-alike front gone come back a b alike was now in
       record {
         reaches = omega (arith, lt, ap length all, length-map a f, length-map b f);
         same = take-map (suc last) b ∙ ap (take (suc last)) all ∙ sym (take-map (suc last) a);

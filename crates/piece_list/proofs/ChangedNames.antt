@@ -7,7 +7,7 @@ use Rattle.std.proofs.lemmas.Bool.{cases_lt}
 use Rattle.std.proofs.lemmas.List.{get_or-take, get_or_default, length-take}
 use Rattle.std.proofs.lemmas.List.Folds.{Any-from_list_any, list_any_more}
 use Rattle.char_files.specs.CharName.{CharName}
-use Rattle.operations.specs.NameSet.{Range, IsIn, IsAhead, IsSet, range_contains}
+use Rattle.operations.specs.NameSet.{Range, IsIn, IsAmong, IsAhead, IsSet, range_contains}
 use Rattle.tree_order.specs.Registers.{Atom, if_named}
 use Rattle.piece_list.specs.Changing.{AreHere}
 use Rattle.piece_list.specs.Spelled.{names_of_atoms, HasName}
@@ -26,6 +26,13 @@ is_false false out = refl
 
 pub true_is_not : (b : Bool) → b ≡ true → b ≡ false → ⊥
 true_is_not b has hasnt = absurd cc
+
+-- the names of one range
+pub only_range : (r : Range) (c : CharName) → IsAmong (r ∷ []) c → IsIn r c
+only_range r c (k, x, few, there, held) =
+    let first : k ≡ 0 = omega arith in
+    let same : x ≡ r = sym there ∙ ap (λ (j : ℕ). get_or (r ∷ []) j x) first in
+    subst (λ (s : Range). IsIn s c) same held
 
 -- a map that changes nothing, and one map after another
 map_same : (f : Atom → Atom) → ((k : Atom) → f k ≡ k) → (ks : List Atom) → map f ks ≡ ks
@@ -204,8 +211,5 @@ module _ (each : Atom → Atom) (keeps : (k : Atom) → (each k).name ≡ k.name
   pub range_here : (names ranges : List Range) (i : ℕ) (r : Range) (old now : List Atom)
       → i < length ranges → r ≡ get_or ranges i r → AreHere ranges old
       → now ≡ map (if_named names each) old → AreHere (r ∷ []) now
-  range_here names ranges i r old now lt at here is = λ c (k, x, few, there, held).
-      let first : k ≡ 0 = omega arith in
-      let same : x ≡ r = sym there ∙ ap (λ (j : ℕ). get_or (r ∷ []) j x) first in
-      still_here names c old now is
-      (here c (i, r, lt, sym at, subst (λ (s : Range). IsIn s c) same held))
+  range_here names ranges i r old now lt at here is = λ c held.
+      still_here names c old now is (here c (i, r, lt, sym at, only_range r c held))

@@ -10,8 +10,8 @@ use Rattle.operations.specs.NameSet.{Range, IsIn}
 use Rattle.piece_raw.specs.Ring.{Ring, ring, AreTags, IsMember, HasTag, IsAtCursor, with_value}
 use Rattle.piece_raw.specs.Ring.{with_value_at}
 use Rattle.tree_order.specs.Registers.{Atom, if_named}
-use Rattle.piece_list.specs.declared.list.changing.Change.{Change}
-use Rattle.piece_list.specs.declared.list.changing.Change.TheVariants.{Switch, Relook}
+use Rattle.piece_list.specs.declared.list.changing.Setting.{Setting}
+use Rattle.piece_list.specs.declared.list.changing.Setting.TheVariants.{Switch, Relook}
 use Rattle.piece_list.specs.declared.piece.Piece.{Piece}
 use Rattle.piece_list.specs.declared.place.Place.{Place}
 use Rattle.piece_list.specs.Changing.{IsEdge, changed_piece, changed_char}
@@ -34,12 +34,12 @@ abbrev Entered : Tables → ℕ × Piece → Type 0
 Entered tables m = (c : CharName) → IsIn (range_of m.1) c → tag_at tables c ≡ Some m.0
 
 -- a change of a piece is one of its characters
-pub changes_each : (change : Change) → ChangesEach (changed_piece change) (changed_char change)
+pub changes_each : (setting : Setting) → ChangesEach (changed_piece setting) (changed_char setting)
 changes_each (Switch hidden key) p = (refl, λ c. refl)
 changes_each (Relook sel looks key) p = (refl, λ c. refl)
 
 -- and keeps their names
-pub keeps_name : (change : Change) (k : Atom) → (changed_char change k).name ≡ k.name
+pub keeps_name : (setting : Setting) (k : Atom) → (changed_char setting k).name ≡ k.name
 keeps_name (Switch hidden key) k = refl
 keeps_name (Relook sel looks key) k = refl
 
@@ -110,14 +110,14 @@ has_tag items tag s w (v, (xs, ys, is)) =
     let put : ℕ × Piece → ℕ × Piece = λ (m : ℕ × Piece). (m.0, cond (m.0 == tag) w m.1) in
     (cond (s == tag) w v, (map put xs, map put ys, ap (map put) is ∙ map-append put xs ((s, v) ∷ ys)))
 
-module _ (change : Change) (old : Items) (tables : Tables) (tag : ℕ) (p w : Piece) (tags : AreTags old)
-    (are : AreEntered old tables) (member : IsMember old tag p) (is_w : w ≡ changed_piece change p)
+module _ (setting : Setting) (old : Items) (tables : Tables) (tag : ℕ) (p w : Piece) (tags : AreTags old)
+    (are : AreEntered old tables) (member : IsMember old tag p) (is_w : w ≡ changed_piece setting p)
   where
     abbrev new : Items
     new = with_value tag w old
 
     same_range : range_of w ≡ range_of p
-    same_range = ap range_of is_w ∙ (changes_each change p).0
+    same_range = ap range_of is_w ∙ (changes_each setting p).0
 
     -- the change of one piece
     parts : (xs ys : Items) → old ≡ xs ++ (tag, p) ∷ ys → new ≡ xs ++ (tag, w) ∷ ys
@@ -170,7 +170,7 @@ module _ (change : Change) (old : Items) (tables : Tables) (tag : ℕ) (p w : Pi
               place_has_name new place c (place_stays place c is);
         }
 
-    pub changed_there : spelled new ≡ map (if_named (range_of p ∷ []) (changed_char change)) (spelled old)
+    pub changed_there : spelled new ≡ map (if_named (range_of p ∷ []) (changed_char setting)) (spelled old)
     changed_there =
         let (xs, ys, is) = member in
         let here : AreTags (xs ++ (tag, p) ∷ ys) = subst AreTags is tags in
@@ -181,12 +181,12 @@ module _ (change : Change) (old : Items) (tables : Tables) (tag : ℕ) (p w : Pi
         let own : Entered tables (tag, p) = All-head (Entered tables) (tag, p) ys behind in
         ap spelled (parts xs ys is)
         ∙ ap (λ (q : Piece). spelled (xs ++ (tag, q) ∷ ys)) is_w
-        ∙ of_its_names (changed_piece change) (changed_char change) xs ys tag p (changes_each change)
+        ∙ of_its_names (changed_piece setting) (changed_char setting) xs ys tag p (changes_each setting)
         (avoids tables tag p xs own (all_left (Entered tables) xs ((tag, p) ∷ ys) all)
         (ahead_others xs ys tag p here))
         (avoids tables tag p ys own (All-tail (Entered tables) (tag, p) ys behind)
         (behind_others xs ys tag p here))
-        ∙ sym (ap (λ (l : Items). map (if_named (range_of p ∷ []) (changed_char change)) (spelled l)) is)
+        ∙ sym (ap (λ (l : Items). map (if_named (range_of p ∷ []) (changed_char setting)) (spelled l)) is)
 
 -- the piece that a step changes, before it and after it
 pub record IsTurn (items : Items) (tag : ℕ) (p w : Piece) (name : CharName) : Type 0 where
@@ -197,15 +197,15 @@ pub record IsTurn (items : Items) (tag : ℕ) (p w : Piece) (name : CharName) : 
   pub end : w.off + w.len ≡ p.off + p.len
   pub fits : p.off + p.len ≤ MAX_FILE
 
-pub turn : (change : Change) (r : Ring Piece) (items : Items) (tables : Tables) (tag room : ℕ) (p w : Piece)
+pub turn : (setting : Setting) (r : Ring Piece) (items : Items) (tables : Tables) (tag room : ℕ) (p w : Piece)
     (name : CharName) → AreTags items → AreEntered items tables → HasName (spelled items) name
     → IsEdge name.site name.off items → r ≡ ring items (Some tag) room → IsAtCursor r p
-    → Some tag ≡ tag_at tables name → w ≡ changed_piece change p → IsTurn items tag p w name
-turn change r items tables tag room p w name tags are here begins is_ring at entry is_w =
+    → Some tag ≡ tag_at tables name → w ≡ changed_piece setting p → IsTurn items tag p w name
+turn setting r items tables tag room p w name tags are here begins is_ring at entry is_w =
     let member : IsMember items tag p = at_cursor r items tag room p is_ring at in
     let held : IsIn (range_of p) name =
     entered_holds items tables tags are name here tag p member (sym entry) in
-    let same : range_of w ≡ range_of p = ap range_of is_w ∙ (changes_each change p).0 in
+    let same : range_of w ≡ range_of p = ap range_of is_w ∙ (changes_each setting p).0 in
     record {
       member = member;
       held = held;

@@ -29,7 +29,7 @@ not_contained r c out = go (range_contains r c) refl
     go false e = refl
 
 -- a piece's names are in its range
-in_range : (p : Piece) → All (IsIn (range_of p)) (names_of (range_of p))
+pub in_range : (p : Piece) → All (IsIn (range_of p)) (names_of (range_of p))
 in_range p = λ i d lt.
     let name : ℕ → CharName = λ (off : ℕ). record { site = p.site; off = off } in
     let few : i < p.len = omega (arith, length-map-range_with_len name p.off p.len) in

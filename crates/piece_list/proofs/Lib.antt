@@ -11,6 +11,7 @@ pub mod Few
 pub mod Found
 pub mod Gap
 pub mod HiddenNames
+pub mod Noted
 pub mod Order
 pub mod Parts
 pub mod Placing

@@ -163,7 +163,7 @@ place_at items xs ys tag p pos i is at shown lt =
     (p, (xs, ys, is), lt, refl, refl)
 
 -- the runs of a list tell of the characters that it shows
-told : (p : Piece) (cs : List CharName)
+pub told : (p : Piece) (cs : List CharName)
     → map (appearance_in (run_of p)) cs ≡ map appearance_of (map (char_of p) cs)
 told p [] = refl
 told p (c ∷ cs) = ap (λ (l : List Appearance). appearance_of (char_of p c) ∷ l) (told p cs)

@@ -4,8 +4,8 @@ use Rattle.char_files.specs.CharName.{CharName}
 use Rattle.operations.specs.NameSet.{Range, IsAmong}
 use Rattle.tree_order.specs.Registers.{Atom, switched, relooked}
 use Rattle.piece_list.specs.declared.piece.Piece.{Piece}
-use Rattle.piece_list.specs.declared.list.changing.Change.{Change}
-use Rattle.piece_list.specs.declared.list.changing.Change.TheVariants.{Switch, Relook}
+use Rattle.piece_list.specs.declared.list.changing.Setting.{Setting}
+use Rattle.piece_list.specs.declared.list.changing.Setting.TheVariants.{Switch, Relook}
 use Rattle.piece_list.specs.Pieces.{switched_piece, relooked_piece}
 use Rattle.piece_list.specs.Spelled.{HasName}
 
@@ -14,12 +14,12 @@ abbrev pub AreHere : List Range → List Atom → Type 0
 AreHere names chars = (c : CharName) → IsAmong names c → HasName chars c
 
 -- the piece after the change
-abbrev pub changed_piece : Change → Piece → Piece
+abbrev pub changed_piece : Setting → Piece → Piece
 changed_piece (Switch hidden key) p = switched_piece hidden key p
 changed_piece (Relook sel looks key) p = relooked_piece sel looks key p
 
 -- the character after the change
-abbrev pub changed_char : Change → Atom → Atom
+abbrev pub changed_char : Setting → Atom → Atom
 changed_char (Switch hidden key) k = switched hidden key k
 changed_char (Relook sel looks key) k = relooked sel looks key k
 

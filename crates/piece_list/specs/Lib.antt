@@ -1,6 +1,7 @@
 pub mod Changing
 pub mod Held
 pub mod Laws
+pub mod Noted
 pub mod Pieces
 pub mod Placed
 pub mod Placing

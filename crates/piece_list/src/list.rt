@@ -37,6 +37,7 @@ pub struct PieceList {
     // How many characters each piece shows, under its number.
     index: RankIndex,
     steps: Steps,
+    alloc: Global,
 }
 
 impl Model for PieceList {
@@ -131,6 +132,7 @@ impl PieceList {
             tags: TagTables::new(alloc),
             index: RankIndex::new(alloc)?,
             steps: Steps::none(),
+            alloc,
         })
     }
 

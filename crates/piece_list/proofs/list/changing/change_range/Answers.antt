@@ -1,4 +1,5 @@
 use Rattle.std.proofs.Common.{◌≡◌, ℕ, ◌+◌, ◌-◌, ◌<◌, [], ◌∷◌, List, map, refl, sym, ap, subst, ◌∙◌, arith}
+use Rattle.std.specs.Prelude.{vec_len, vec_capacity}
 use Rattle.char_files.specs.CharName.{CharName}
 use Rattle.operations.specs.NameSet.{IsIn}
 use Rattle.tree_order.specs.Registers.{Atom, if_named}
@@ -7,11 +8,12 @@ use Rattle.piece_list.specs.Changing.{changed_char, IsEdge}
 use Rattle.piece_list.specs.Spelled.{spelled}
 use Rattle.piece_list.proofs.ChangedNames.{range, no_range, name_here, range_grows}
 use Rattle.piece_list.proofs.ChangedPiece.{keeps_name}
+use Rattle.piece_list.proofs.Noted.{noted_none, noted_on}
 use Rattle.piece_list.proofs.list.changing.change_range.Goals as goal
 
 pub loop-at-init : goal.loop-at-init
 loop-at-init c =
-    let each : Atom → Atom = changed_char c.args.change.now in
+    let each : Atom → Atom = changed_char c.args.setting.now in
     let site : ℕ = c.args.range.site in
     let from : ℕ = c.args.range.at in
     let old : List Atom = spelled c.args.pieces.now.items in
@@ -28,11 +30,15 @@ loop-at-init c =
       entered = c.requires.entered;
       indexed = c.requires.indexed;
       changed = sym (ap (λ (n : ℕ). map (if_named (range site from n ∷ []) each) old) none
-          ∙ no_range each (keeps_name c.args.change.now) site from old);
+          ∙ no_range each (keeps_name c.args.setting.now) site from old);
       room = refl;
       index_room = refl;
       many = refl;
       firsts = λ tag d is. is;
+      entries = omega arith;
+      capacity = omega arith;
+      noted = λ room. noted_none c.args.setting.now (c.args.range ∷ []) c.args.note.now.items
+          c.args.pieces.now.items c.args.pieces.now.items refl;
     }
 
 pub change_piece-at-requires-clause-here : goal.change_piece-at-requires-clause-here
@@ -43,7 +49,7 @@ change_piece-at-requires-clause-here c =
     let off : name.off ≡ c.loop-at.at = ap (λ (d : CharName). d.off) c.in-Some.ensures.value in
     let held : IsIn c.args.range name =
     (site, omega (arith, c.loop-at.invariant.low), omega (arith, c.loop-at.invariant.behind, c.loop-at-test.true)) in
-    name_here (changed_char c.args.change.now) (keeps_name c.args.change.now)
+    name_here (changed_char c.args.setting.now) (keeps_name c.args.setting.now)
     (range c.args.range.site c.args.range.at (c.loop-at.at - c.args.range.at) ∷ []) c.args.range name
     (spelled c.args.pieces.now.items) (spelled c.loop-at.pieces.items) c.requires.here
     c.loop-at.invariant.changed held
@@ -69,7 +75,7 @@ loop-at-preserved c =
       ends = c.change_piece-at.ensures.edges c.args.range.site end c.loop-at.invariant.ends;
       entered = c.change_piece-at.ensures.entered;
       indexed = c.change_piece-at.ensures.indexed;
-      changed = range_grows (changed_char c.args.change.now) (keeps_name c.args.change.now)
+      changed = range_grows (changed_char c.args.setting.now) (keeps_name c.args.setting.now)
           c.args.range.site c.args.range.at c.loop-at.at to name (spelled c.args.pieces.now.items)
           (spelled c.loop-at.pieces.items) (spelled new) is c.loop-at.invariant.low
           (omega arith) c.loop-at.invariant.changed c.change_piece-at.ensures.changed;
@@ -77,4 +83,31 @@ loop-at-preserved c =
       index_room = c.change_piece-at.ensures.index_room ∙ c.loop-at.invariant.index_room;
       many = c.change_piece-at.ensures.many ∙ c.loop-at.invariant.many;
       firsts = λ tag d is. c.change_piece-at.ensures.firsts tag d (c.loop-at.invariant.firsts tag d is);
+      entries = omega (
+        arith,
+        c.loop-at.invariant.entries,
+        c.loop-at.invariant.low,
+        c.change_piece-at.ensures.entries,
+      );
+      capacity = omega (arith, c.loop-at.invariant.capacity, c.change_piece-at.ensures.capacity);
+      noted = λ room.
+          let free : vec_len c.loop-at.note < vec_capacity c.loop-at.note = omega (
+            arith,
+            room,
+            c.loop-at.invariant.entries,
+            c.loop-at.invariant.capacity,
+            c.loop-at.invariant.low,
+            c.loop-at.invariant.behind,
+            c.loop-at-test.true,
+          ) in
+          noted_on c.args.setting.now c.args.range name to c.args.note.now.items c.loop-at.note.items
+          c.change_piece-at.new.note.items c.args.pieces.now.items c.loop-at.pieces.items new site
+          (omega (arith, c.loop-at.invariant.low))
+          (omega (
+            arith,
+            c.loop-at.invariant.behind,
+            c.change_piece-at.ensures.within end within
+                (subst (λ (s : ℕ). IsEdge s end c.loop-at.pieces.items) (sym site) c.loop-at.invariant.ends),
+          ))
+          (c.loop-at.invariant.noted room) (c.change_piece-at.ensures.noted free);
     }

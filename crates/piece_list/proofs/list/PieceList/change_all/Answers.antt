@@ -3,7 +3,7 @@ use Rattle.operations.specs.NameSet.{Range, IsAmong}
 use Rattle.piece_list.specs.declared.piece.Piece.{Piece}
 use Rattle.piece_list.specs.Held.{PiecesSeen}
 use Rattle.piece_list.specs.Spelled.{spelled, HasName}
-use Rattle.piece_list.proofs.list.PieceList.change.Goals as goal
+use Rattle.piece_list.proofs.list.PieceList.change_all.Goals as goal
 
 pub change_ranges-requires-clause-here : goal.change_ranges-requires-clause-here
 change_ranges-requires-clause-here c = λ d is.
