@@ -18,7 +18,7 @@ use Rattle.list_changes.specs.Changes.{AreAlike, Trades, Makes, Leads}
 use Rattle.list_changes.proofs.Leading.{leads-append, replaces-keep}
 use Rattle.piece_list.specs.declared.list.changing.Setting.{Setting}
 use Rattle.piece_list.specs.declared.list.changing.Setting.TheVariants.{Switch, Relook}
-use Rattle.piece_list.specs.declared.name_run.NameRun.{NameRun}
+use Rattle.piece_list.specs.declared.run.Run.{Run}
 use Rattle.piece_list.specs.declared.piece.Piece.{Piece}
 use Rattle.piece_list.specs.Changing.{changed_piece}
 use Rattle.piece_list.specs.Held.{weighed}
@@ -53,12 +53,12 @@ count_tells p shown =
     ∙ length-map (chars_of p) appearance_of ∙ count_chars p
 
 -- what is told of names in two runs is of the same characters
-alike_in : (r q : NameRun) (cs : List CharName)
+alike_in : (r q : Run) (cs : List CharName)
     → AreAlike SameName (map (appearance_in r) cs) (map (appearance_in q) cs)
 alike_in r q [] = tt
 alike_in r q (c ∷ cs) = (refl, alike_in r q cs)
 
-names_in : (r : NameRun) (cs : List CharName) → names_shown (map (appearance_in r) cs) ≡ cs
+names_in : (r : Run) (cs : List CharName) → names_shown (map (appearance_in r) cs) ≡ cs
 names_in r [] = refl
 names_in r (c ∷ cs) = ap (λ (l : List CharName). c ∷ l) (names_in r cs)
 
@@ -193,7 +193,7 @@ same_told p w same key (hidden, looks) = go p.hidden.value refl
     go : (b : Bool) → p.hidden.value ≡ b → told_by w ≡ told_by p
     go true is = hidden_tells w (hidden ∙ is) ∙ sym (hidden_tells p is)
     go false is =
-        let run : Range → Key → Looks → NameRun =
+        let run : Range → Key → Looks → Run =
         λ (r : Range) (k : Key) (l : Looks). record { site = r.site; off = r.at; len = r.len; key = k; looks = l } in
         let runs : run_of w ≡ run_of p =
         ap (λ (r : Range). run r w.key (looks_of w)) same
