@@ -12,7 +12,7 @@ use std::alloc::Global;
 use std::test::Fail;
 
 // Looks as a test writes them: the font's name, and the colour.
-type Dress = (&'static [u8], u8);
+pub(super) type Dress = (&'static [u8], u8);
 
 // What is done to a list.
 #[derive(Clone, Copy)]
@@ -36,7 +36,7 @@ fn anchor(cause: Option<(u16, u32)>) -> Result<Anchor, Fail> {
     })
 }
 
-fn looks((font, colour): Dress) -> Result<Looks, Fail> {
+pub(super) fn looks((font, colour): Dress) -> Result<Looks, Fail> {
     Ok(Looks {
         font: FontName::new(font).ok_or("a font")?,
         colour: Colour::new(colour).ok_or("a colour")?,
@@ -95,7 +95,7 @@ fn add_ranges(list: &mut PieceList, names: &mut NameSet, ranges: &[Names]) -> Re
 }
 
 // The set of these names, each of which is in the list.
-fn named(list: &mut PieceList, alloc: Global, ranges: &[Names]) -> Result<NameSet, Fail>
+pub(super) fn named(list: &mut PieceList, alloc: Global, ranges: &[Names]) -> Result<NameSet, Fail>
     ensures { IfOk result (λ set. AreHere set (spelled list.new.items)) }
 {
     let mut set = NameSet::new(alloc);
