@@ -1,15 +1,15 @@
 -- What changes lead to.
 use Rattle.std.proofs.Common.{◌≡◌, ℕ, zero, suc, ◌+◌, ◌<◌, ◌≤◌, List, [], ◌∷◌, ◌++◌, length, take, map, All, true}
-use Rattle.std.proofs.Common.{sym, ap, subst, ◌∙◌, refl, arith, length-append, nat_lt}
+use Rattle.std.proofs.Common.{sym, inl, inr, ap, subst, ◌∙◌, refl, arith, length-append, nat_lt}
 use Rattle.std.proofs.lemmas.List.{take-append-le, map-append, length-map}
 use Rattle.std.proofs.lemmas.List.Elements.{All-head, All-tail}
 use borrow.Author.Tests.{ltb-true}
 use Rattle.list_changes.specs.declared.change.ChangeKind.{ChangeKind}
 use Rattle.list_changes.specs.declared.change.ChangeKind.TheVariants.{Insert, Delete, Replace}
 use Rattle.list_changes.specs.declared.change.Change.{Change}
-use Rattle.list_changes.specs.Changes.{AreAlike, Trades, Makes, Leads}
+use Rattle.list_changes.specs.Changes.{AreAlike, IsOfKind, Trades, Makes, Leads}
 use Rattle.list_changes.specs.Quiet.{is_quiet, is_behind}
-use Rattle.list_changes.specs.Laws.{AreComposed, HasBounds, IsInBounds, AreSameUpTo, KeepsUpTo}
+use Rattle.list_changes.specs.Laws.{AreComposed, HasBounds, IsInBounds, AreSameUpTo, KeepsUpTo, LeadBackByNone}
 
 module _ {X : Type 0} (Alike : X → X → Type 0) where
   -- two lists of changes, one after the other
@@ -70,6 +70,41 @@ module _ {X : Type 0} (Alike : X → X → Type 0) where
             (length made.front + (length made.gone + length made.back)) m) (sym now) both.1);
       }
 
+map-three : {X Y : Type 0} (f : X → Y) (xs ys zs : List X)
+    → map f (xs ++ (ys ++ zs)) ≡ map f xs ++ (map f ys ++ map f zs)
+map-three {X} {Y} f xs ys zs =
+    map-append f xs (ys ++ zs) ∙ ap (λ (l : List Y). map f xs ++ l) (map-append f ys zs)
+
+-- each insert makes a list longer, each delete shorter
+module _ {X : Type 0} (Alike : X → X → Type 0) where
+  by-inserts : (changes : List Change) (a b : List X) → All (IsOfKind Insert) changes → Leads Alike changes a b
+      → length a + length changes ≤ length b
+  by-inserts [] a b all same = omega (arith, ap length same)
+  by-inserts (change ∷ changes) a b all (mid, made, more) =
+      let (kind, some) = All-head (IsOfKind Insert) change changes all in
+      let bounds = subst (λ (k : ChangeKind). IsInBounds k change.beg change.end (length a) (length mid)) kind
+      (within Alike change a mid made).bounds in
+      omega (arith, bounds.1, some, by-inserts changes mid b (All-tail (IsOfKind Insert) change changes all) more)
+
+  by-deletes : (changes : List Change) (a b : List X) → All (IsOfKind Delete) changes → Leads Alike changes a b
+      → length b + length changes ≤ length a
+  by-deletes [] a b all same = omega (arith, ap length same)
+  by-deletes (change ∷ changes) a b all (mid, made, more) =
+      let (kind, some) = All-head (IsOfKind Delete) change changes all in
+      let bounds = subst (λ (k : ChangeKind). IsInBounds k change.beg change.end (length a) (length mid)) kind
+      (within Alike change a mid made).bounds in
+      omega (arith, bounds.1, some, by-deletes changes mid b (All-tail (IsOfKind Delete) change changes all) more)
+
+  none-of : (changes : List Change) → length changes ≡ 0 → changes ≡ []
+  none-of [] is = refl
+  none-of (change ∷ changes) is = absurd (omega arith)
+
+  pub lead-back-by-none : (changes : List Change) (a : List X) → LeadBackByNone Alike changes a
+  lead-back-by-none changes a each leads = none-of changes (elim each [
+    | inl inserts ↦ omega (arith, by-inserts changes a a inserts leads)
+    | inr deletes ↦ omega (arith, by-deletes changes a a deletes leads)
+  ])
+
 module _ {X Y : Type 0} (Alike : X → X → Type 0) (f : X → Y) where
   pub alike-map : ((x y : X) → Alike x y → f y ≡ f x) → (xs ys : List X) → AreAlike Alike xs ys
       → map f ys ≡ map f xs
@@ -96,17 +131,13 @@ module _ {X Y : Type 0} (Alike : X → X → Type 0) (f : X → Y) where
         ∙ sym (ap (λ (l : List X). map f (take (suc last) l)) was);
   }
 
-  map-three : (xs ys zs : List X) → map f (xs ++ (ys ++ zs)) ≡ map f xs ++ (map f ys ++ map f zs)
-  map-three xs ys zs =
-      map-append f xs (ys ++ zs) ∙ ap (λ (l : List Y). map f xs ++ l) (map-append f ys zs)
-
   -- what f tells of a list is as before, where it is of what came in the place of what went
   told-alike : (front gone come back a b : List X) → map f come ≡ map f gone → a ≡ front ++ (gone ++ back)
       → b ≡ front ++ (come ++ back) → map f b ≡ map f a
   told-alike front gone come back a b alike was now =
-      ap (map f) now ∙ map-three front come back
+      ap (map f) now ∙ map-three f front come back
       ∙ ap (λ (l : List Y). map f front ++ (l ++ map f back)) alike
-      ∙ sym (map-three front gone back) ∙ sym (ap (map f) was)
+      ∙ sym (map-three f front gone back) ∙ sym (ap (map f) was)
 
   -- replaces keep what f tells of a list
   pub replaces-keep : ((x y : X) → Alike x y → f y ≡ f x) → (changes : List Change) (a b : List X)
@@ -158,3 +189,38 @@ module _ {X Y : Type 0} (Alike : X → X → Type 0) (f : X → Y) where
       quiet-keeps changes last mid b agree one.reaches
       (λ k d lt. quiet (suc k) d (omega (arith, lt))) more in
       record { reaches = others.reaches; same = others.same ∙ one.same }
+
+-- what changes make of a list they make of what f gives of its elements, where f keeps elements alike
+module _ {X Y : Type 0} (Alike : X → X → Type 0) (AlikeToo : Y → Y → Type 0) (f : X → Y)
+    (keeps : (x y : X) → Alike x y → AlikeToo (f x) (f y)) where
+  alike-mapped : (xs ys : List X) → AreAlike Alike xs ys → AreAlike AlikeToo (map f xs) (map f ys)
+  alike-mapped [] [] alike = tt
+  alike-mapped [] (y ∷ ys) alike = absurd alike
+  alike-mapped (x ∷ xs) [] alike = absurd alike
+  alike-mapped (x ∷ xs) (y ∷ ys) (one, more) = (keeps x y one, alike-mapped xs ys more)
+
+  trades-mapped : (kind : ChangeKind) (beg end : ℕ) (gone come : List X) → Trades Alike kind beg end gone come
+      → Trades AlikeToo kind beg end (map f gone) (map f come)
+  trades-mapped Insert beg end gone come (none, is) = (ap (map f) none, omega (arith, is, length-map come f))
+  trades-mapped Delete beg end gone come (none, is) = (ap (map f) none, omega (arith, is, length-map gone f))
+  trades-mapped Replace beg end gone come (alike, is) =
+      (alike-mapped gone come alike, omega (arith, is, length-map gone f))
+
+  makes-mapped : (change : Change) (a b : List X) → Makes Alike change a b
+      → Makes AlikeToo change (map f a) (map f b)
+  makes-mapped change a b made = record {
+    front = map f made.front;
+    gone = map f made.gone;
+    come = map f made.come;
+    back = map f made.back;
+    before = ap (map f) made.before ∙ map-three f made.front made.gone made.back;
+    after = ap (map f) made.after ∙ map-three f made.front made.come made.back;
+    at = length-map made.front f ∙ made.at;
+    trades = trades-mapped change.kind change.beg change.end made.gone made.come made.trades;
+  }
+
+  pub leads-mapped : (changes : List Change) (a b : List X) → Leads Alike changes a b
+      → Leads AlikeToo changes (map f a) (map f b)
+  leads-mapped [] a b same = ap (map f) same
+  leads-mapped (change ∷ changes) a b (mid, made, more) =
+      (map f mid, makes-mapped change a mid made, leads-mapped changes mid b more)

@@ -1,8 +1,12 @@
 -- What changes make of a list, over elements of any type and any relation of elements that are alike.
-use Rattle.std.specs.Prelude.{◌≡◌, ℕ, ◌+◌, List, [], ◌∷◌, ◌++◌, length}
+use Rattle.std.specs.Prelude.{◌≡◌, ℕ, ◌+◌, ◌<◌, List, [], ◌∷◌, ◌++◌, length}
 use Rattle.list_changes.specs.declared.change.ChangeKind.{ChangeKind}
 use Rattle.list_changes.specs.declared.change.ChangeKind.TheVariants.{Insert, Delete, Replace}
 use Rattle.list_changes.specs.declared.change.Change.{Change}
+
+-- the change is of this kind, and its stretch isn't empty
+abbrev pub IsOfKind : ChangeKind → Change → Type 0
+IsOfKind kind change = (change.kind ≡ kind) × (change.beg < change.end)
 
 -- as many elements, each alike the one in its place
 abbrev pub AreAlike : {X : Type 0} → (X → X → Type 0) → List X → List X → Type 0

@@ -1,10 +1,10 @@
 -- The laws of changes.
-use Rattle.std.specs.Prelude.{◌≡◌, ℕ, suc, ◌+◌, ◌<◌, ◌≤◌, ◌↔◌, List, ◌++◌, length, take, map, Bool, true}
+use Rattle.std.specs.Prelude.{◌≡◌, ℕ, suc, ◌+◌, ◌<◌, ◌≤◌, ◌⊎◌, ◌↔◌, All, List, [], ◌++◌, length, take, map, Bool, true}
 use Rattle.std.specs.List.{AllPass}
 use Rattle.list_changes.specs.declared.change.ChangeKind.{ChangeKind}
 use Rattle.list_changes.specs.declared.change.ChangeKind.TheVariants.{Insert, Delete, Replace}
 use Rattle.list_changes.specs.declared.change.Change.{Change}
-use Rattle.list_changes.specs.Changes.{Leads}
+use Rattle.list_changes.specs.Changes.{IsOfKind, Leads}
 use Rattle.list_changes.specs.Quiet.{is_quiet}
 
 -- the elements for which a test passes
@@ -26,6 +26,11 @@ pub record HasBounds {X : Type 0} (change : Change) (a b : List X) : Type 0 wher
   pub rising : change.beg ≤ change.end
   pub begins : change.beg ≤ length a
   pub bounds : IsInBounds change.kind change.beg change.end (length a) (length b)
+
+-- inserts alone, or deletes alone, that lead from a list to itself are none
+abbrev pub LeadBackByNone : {X : Type 0} → (X → X → Type 0) → List Change → List X → Type 0
+LeadBackByNone Alike changes a =
+    All (IsOfKind Insert) changes ⊎ All (IsOfKind Delete) changes → Leads Alike changes a a → changes ≡ []
 
 -- b reaches to this position too, and what f tells of the elements up to there is as before
 pub record AreSameUpTo {X Y : Type 0} (f : X → Y) (last : ℕ) (a b : List X) : Type 0 where

@@ -1,7 +1,7 @@
 ghost use Rattle.std.specs.Prelude.{ℕ, Bool, List};
 ghost use Rattle.list_changes.specs.declared.change.Change.{Change};
 ghost use Rattle.list_changes.specs.Changes.{Makes};
-ghost use Rattle.list_changes.specs.Laws.{AreComposed, HasBounds, KeepsUpTo, passing};
+ghost use Rattle.list_changes.specs.Laws.{AreComposed, HasBounds, KeepsUpTo, LeadBackByNone, passing};
 
 /// A law: two lists of changes, one after the other, lead where the first leads and then the second.
 pub fn changes_compose()
@@ -20,4 +20,11 @@ pub fn changes_are_within()
 pub fn quiet_changes_keep()
     ensures { (alike : ℕ → ℕ → Bool) (tells : ℕ → ℕ) (changes : List Change) (last : ℕ) (a b : List ℕ)
         → KeepsUpTo (passing alike) tells changes last a b }
+{}
+
+/// A law: what only puts elements in, or only cuts them out, and leads back to the list that it began with is
+/// nothing.
+pub fn no_change_is_told_of_the_same()
+    ensures { (alike : ℕ → ℕ → Bool) (changes : List Change) (a : List ℕ)
+        → LeadBackByNone (passing alike) changes a }
 {}

@@ -12,6 +12,7 @@ pub mod Found
 pub mod Gap
 pub mod HiddenNames
 pub mod Noted
+pub mod NotedRun
 pub mod Order
 pub mod Parts
 pub mod Placing

@@ -14,7 +14,7 @@ use Rattle.piece_raw.specs.Ring.{AreTags, IsMember, with_value}
 use Rattle.rank_index.specs.Ranked.{IsRank}
 use Rattle.list_changes.specs.declared.change.Change.{Change}
 use Rattle.list_changes.specs.declared.change.ChangeKind.TheVariants.{Replace}
-use Rattle.list_changes.specs.Changes.{AreAlike, Trades, Makes, Leads}
+use Rattle.list_changes.specs.Changes.{AreAlike, IsOfKind, Trades, Makes, Leads}
 use Rattle.list_changes.proofs.Leading.{leads-append, replaces-keep}
 use Rattle.piece_list.specs.declared.list.changing.Setting.{Setting}
 use Rattle.piece_list.specs.declared.list.changing.Setting.TheVariants.{Switch, Relook}
@@ -37,7 +37,7 @@ use Rattle.piece_list.proofs.Positions.{Items, shown_in}
 use Rattle.piece_list.proofs.Shown.{shown_by, shown_both, shown_cons, count_chars, told}
 
 -- what a piece shows
-abbrev told_by : Piece → List Appearance
+abbrev pub told_by : Piece → List Appearance
 told_by p = map appearance_of (shown_by p)
 
 hidden_tells : (p : Piece) → p.hidden.value ≡ true → told_by p ≡ []
@@ -47,7 +47,7 @@ shown_tells : (p : Piece) → p.hidden.value ≡ false → told_by p ≡ appeara
 shown_tells p shown =
     ap (λ (b : Bool). map appearance_of (cond b [] (chars_of p))) shown ∙ sym (told p (names_of (range_of p)))
 
-count_tells : (p : Piece) → p.hidden.value ≡ false → length (told_by p) ≡ p.len
+pub count_tells : (p : Piece) → p.hidden.value ≡ false → length (told_by p) ≡ p.len
 count_tells p shown =
     ap (λ (b : Bool). length (map appearance_of (cond b [] (chars_of p)))) shown
     ∙ length-map (chars_of p) appearance_of ∙ count_chars p
@@ -63,7 +63,7 @@ names_in r [] = refl
 names_in r (c ∷ cs) = ap (λ (l : List CharName). c ∷ l) (names_in r cs)
 
 -- a list tells what its pieces show
-parts : (xs ys : Items) (tag : ℕ) (p : Piece)
+pub parts : (xs ys : Items) (tag : ℕ) (p : Piece)
     → appearances (xs ++ (tag, p) ∷ ys) ≡ appearances xs ++ (told_by p ++ appearances ys)
 parts xs ys tag p =
     ap (map appearance_of) (shown_both xs ((tag, p) ∷ ys)
@@ -152,27 +152,27 @@ module _ (setting : Setting) (xs ys : Items) (tag : ℕ) (p w : Piece) (same : r
       (λ i d lt. (0, range_of p, omega arith, refl, in_range p i d lt))
 
 -- the entry is of the setting's sort
-of_sort : (setting : Setting) (xs ys : Items) (tag beg : ℕ) (p w : Piece) → range_of w ≡ range_of p
+of_sort : (setting : Setting) (xs ys : Items) (tag beg : ℕ) (p w : Piece) → range_of w ≡ range_of p → 0 < w.len
     → beg ≡ shown_in xs → ShowsOther setting p w
     → IsOf setting (range_of p ∷ []) (appearances (xs ++ (tag, p) ∷ ys))
     (record { kind = kind_of setting; beg = beg; end = beg + w.len })
-of_sort (Switch hidden key) xs ys tag beg p w same at other = refl
-of_sort (Relook sel looks key) xs ys tag beg p w same at (shown, is) =
-    (refl, named (Relook sel looks key) xs ys tag p w same beg at shown)
+of_sort (Switch hidden key) xs ys tag beg p w same some at other = (refl, omega (arith, some))
+of_sort (Relook sel looks key) xs ys tag beg p w same some at (shown, is) =
+    ((refl, omega (arith, some)), named (Relook sel looks key) xs ys tag p w same beg at shown)
 
 -- one entry more tells of the piece
 pub noted_one : (setting : Setting) (xs ys : Items) (tag beg : ℕ) (p w : Piece) (old new : List Change)
-    → range_of w ≡ range_of p → beg ≡ shown_in xs → ShowsOther setting p w
+    → range_of w ≡ range_of p → 0 < w.len → beg ≡ shown_in xs → ShowsOther setting p w
     → new ≡ old ++ record { kind = kind_of setting; beg = beg; end = beg + w.len } ∷ []
     → IsNoted setting (range_of p ∷ []) old new (xs ++ (tag, p) ∷ ys) (xs ++ (tag, w) ∷ ys)
-noted_one setting xs ys tag beg p w old new same at other put =
+noted_one setting xs ys tag beg p w old new same some at other put =
     let was : List Appearance = appearances (xs ++ (tag, p) ∷ ys) in
     let entry : Change = record { kind = kind_of setting; beg = beg; end = beg + w.len } in
     let Is : Change → Type 0 = λ (change : Change). IsOf setting (range_of p ∷ []) was change in
     record {
       gained = entry ∷ [];
       kept = put;
-      each = All-cons Is entry [] (of_sort setting xs ys tag beg p w same at other) (All-nil Is);
+      each = All-cons Is entry [] (of_sort setting xs ys tag beg p w same some at other) (All-nil Is);
       leads = (appearances (xs ++ (tag, w) ∷ ys), made setting xs ys tag p w same beg at other, refl);
     }
 
@@ -222,10 +222,10 @@ module _ (setting : Setting) (items : Items) (tag : ℕ) (p w : Piece) (are : Ar
   set_there xs ys is = ap (with_value tag w) is ∙ written xs ys tag p w (subst AreTags is are)
 
   pub noted_turn : (index : Weights) (beg : ℕ) (old new : List Change) → index ≡ weighed items
-      → IsMember items tag p → ShowsOther setting p w → IsRank index tag beg
+      → IsMember items tag p → 0 < p.len → ShowsOther setting p w → IsRank index tag beg
       → new ≡ old ++ record { kind = kind_of setting; beg = beg; end = beg + w.len } ∷ []
       → IsNoted setting (range_of p ∷ []) old new items (with_value tag w items)
-  noted_turn index beg old new same member other rank put =
+  noted_turn index beg old new same member some other rank put =
       let (weight, found) = ranked_piece items index tag beg same rank in
       let one : found.piece ≡ p =
       one_value items are tag found.piece p (found.front, found.behind, found.whole) member in
@@ -234,7 +234,8 @@ module _ (setting : Setting) (items : Items) (tag : ℕ) (p w : Piece) (are : Ar
       subst (λ (l : Items). IsNoted setting (range_of p ∷ []) old new l (with_value tag w items)) (sym is)
       (subst (λ (l : Items). IsNoted setting (range_of p ∷ []) old new (found.front ++ (tag, p) ∷ found.behind) l)
       (sym (set_there found.front found.behind is))
-      (noted_one setting found.front found.behind tag beg p w old new range_stays found.ahead_is other put))
+      (noted_one setting found.front found.behind tag beg p w old new range_stays
+      (omega (arith, some, ap (λ (r : Range). r.len) range_stays)) found.ahead_is other put))
 
   pub noted_still : (names : List Range) (old : List Change) → IsMember items tag p → ShowsTheSame p w
       → IsNoted setting names old old items (with_value tag w items)
@@ -270,8 +271,8 @@ sort_from (Switch hidden key) names was mid first then one leads all = all
 sort_from (Relook sel looks key) names was mid first then one leads all =
     let name : Appearance → CharName = λ (s : Appearance). s.name in
     let stays : names_shown mid ≡ names_shown was =
-    replaces-keep SameName name (λ x y same. sym same) first was mid (λ i d lt. (one i d lt).0) leads in
-    subst (λ (l : List CharName). All (λ (change : Change). (change.kind ≡ Replace)
+    replaces-keep SameName name (λ x y same. sym same) first was mid (λ i d lt. (one i d lt).0.0) leads in
+    subst (λ (l : List CharName). All (λ (change : Change). IsOfKind Replace change
     × All (IsAmong names) (drop change.beg (take change.end l))) then) stays all
 
 -- one note goes on where another one ends

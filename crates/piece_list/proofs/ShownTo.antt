@@ -25,7 +25,7 @@ abbrev chars : ℕ × Piece → List Atom
 chars m = chars_of m.1
 
 -- the index of a piece's name
-name_at : (xs ys : Items) (tag : ℕ) (p : Piece) (c : CharName) (i : ℕ) → i < p.len → c.site ≡ p.site
+pub name_at : (xs ys : Items) (tag : ℕ) (p : Piece) (c : CharName) (i : ℕ) → i < p.len → c.site ≡ p.site
     → c.off ≡ p.off + i → (d : CharName)
     → get_or (names_of_atoms (spelled (xs ++ (tag, p) ∷ ys))) (length (spelled xs) + i) d ≡ c
 name_at xs ys tag p c i lt site off d =
@@ -55,7 +55,7 @@ one_index names once c i j li lj at_i at_j =
     ]
 
 -- the characters up to it
-up_to : (xs ys : Items) (tag : ℕ) (p : Piece) (i : ℕ) → i < p.len
+pub up_to : (xs ys : Items) (tag : ℕ) (p : Piece) (i : ℕ) → i < p.len
     → take (length (spelled xs) + i + 1) (spelled (xs ++ (tag, p) ∷ ys))
     ≡ spelled (xs ++ (tag, front_of (i + 1) p) ∷ [])
 up_to xs ys tag p i lt =

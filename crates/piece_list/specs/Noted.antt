@@ -6,7 +6,7 @@ use Rattle.operations.specs.NameSet.{Range, IsAmong}
 use Rattle.list_changes.specs.declared.change.Change.{Change}
 use Rattle.list_changes.specs.declared.change.ChangeKind.{ChangeKind}
 use Rattle.list_changes.specs.declared.change.ChangeKind.TheVariants.{Insert, Delete, Replace}
-use Rattle.list_changes.specs.Changes.{Leads}
+use Rattle.list_changes.specs.Changes.{IsOfKind, Leads}
 use Rattle.piece_list.specs.declared.list.changing.Setting.{Setting}
 use Rattle.piece_list.specs.declared.list.changing.Setting.TheVariants.{Switch, Relook}
 use Rattle.piece_list.specs.declared.piece.Piece.{Piece}
@@ -35,7 +35,7 @@ pub record Notes (Is : Change → Type 0) (old new : List Change) (was now : Lis
 -- other looks for a stretch of what is shown, each character of which has one of these names
 abbrev pub IsReplaceOf : List Range → List Appearance → Change → Type 0
 IsReplaceOf names shown change =
-    (change.kind ≡ Replace) × All (IsAmong names) (drop change.beg (take change.end (names_shown shown)))
+    IsOfKind Replace change × All (IsAmong names) (drop change.beg (take change.end (names_shown shown)))
 
 -- what hides characters deletes them from what is shown, and what shows them again inserts them
 abbrev pub switch_kind : Bool → ChangeKind
@@ -49,7 +49,7 @@ kind_of (Relook sel looks key) = Replace
 
 -- a change of this setting's kind, and a replace of these names alone
 abbrev pub IsOf : Setting → List Range → List Appearance → Change → Type 0
-IsOf (Switch hidden key) names shown change = change.kind ≡ switch_kind hidden
+IsOf (Switch hidden key) names shown change = IsOfKind (switch_kind hidden) change
 IsOf (Relook sel looks key) names shown change = IsReplaceOf names shown change
 
 -- the note tells what the setting makes of what the pieces show

@@ -25,18 +25,18 @@ abbrev pub HasByteIn : Files → CharName → Type 0
 HasByteIn files c = c.off < length (bytes_of files c.site)
 
 -- what is shown are the atoms that aren't hidden
-pub shown_now : (ops : List Operation) (items : List (ℕ × Piece)) (files : Files) (now : TakenSeen)
-    → seen_in ops items files ≡ now → IsTaken ops items files
+pub shown_now : (ops : List Operation) (items : List (ℕ × Piece)) (files : Files) (asked : ℕ) (now : TakenSeen)
+    → seen_in ops items files asked ≡ now → IsTaken ops items files
     → shown_of now ≡ map (char_in files) (shown_chars (spelled items))
-shown_now ops items files now seen t =
+shown_now ops items files asked now seen t =
     sym (ap shown_of seen)
     ∙ shown_of_atoms ops files (spelled items) (all_tell ops t.good (spelled items) t.atoms.registers)
 
-pub count_now : (ops : List Operation) (items : List (ℕ × Piece)) (files : Files) (now : TakenSeen)
-    → seen_in ops items files ≡ now → IsTaken ops items files
+pub count_now : (ops : List Operation) (items : List (ℕ × Piece)) (files : Files) (asked : ℕ) (now : TakenSeen)
+    → seen_in ops items files asked ≡ now → IsTaken ops items files
     → length (shown_of now) ≡ length (shown_chars (spelled items))
-count_now ops items files now seen t =
-    ap (length {A = Char}) (shown_now ops items files now seen t) ∙ length-map (shown_chars (spelled items)) (char_in files)
+count_now ops items files asked now seen t =
+    ap (length {A = Char}) (shown_now ops items files asked now seen t) ∙ length-map (shown_chars (spelled items)) (char_in files)
 
 -- an atom has a byte
 name_of_atom : (atoms : List Atom) (k : Atom) → Contains atoms k → Contains (names_of_atoms atoms) k.name
@@ -53,10 +53,10 @@ have_bytes ops items files t = λ i d lt.
     omega (arith, here, t.bytes.lengths k.name.site)
 
 -- the character that is shown at a position, of the name and looks that the pieces tell
-module _ (ops : List Operation) (items : List (ℕ × Piece)) (files : Files) (now : TakenSeen)
-    (seen : seen_in ops items files ≡ now) (t : IsTaken ops items files) (pos : ℕ) (within : pos < length (shown_of now)) where
+module _ (ops : List Operation) (items : List (ℕ × Piece)) (files : Files) (asked : ℕ) (now : TakenSeen)
+    (seen : seen_in ops items files asked ≡ now) (t : IsTaken ops items files) (pos : ℕ) (within : pos < length (shown_of now)) where
   pub is_within : pos < length (shown_chars (spelled items))
-  is_within = omega (arith, within, count_now ops items files now seen t)
+  is_within = omega (arith, within, count_now ops items files asked now seen t)
 
   module _ (name : CharName) (looks : Looks) (told : IfSome (slice_get (shown_chars (spelled items)) pos) (λ k. (name ≡ k.name) × (looks ≡ atom_looks k))) where
     there : (k : Atom) × (slice_get (shown_chars (spelled items)) pos ≡ Some k) × (name ≡ k.name) × (looks ≡ atom_looks k)
@@ -83,7 +83,7 @@ module _ (ops : List Operation) (items : List (ℕ × Piece)) (files : Files) (n
     char_shown byte is =
         let k : Atom = there.0 in
         let shown : List Atom = shown_chars (spelled items) in
-        ap (λ (cs : List Char). slice_get cs pos) (shown_now ops items files now seen t)
+        ap (λ (cs : List Char). slice_get cs pos) (shown_now ops items files asked now seen t)
         ∙ slice_get-map (char_in files) shown pos
         ∙ ap (option_map (char_in files)) there.1
         ∙ ap (λ (c : CharName). Some (record { name = c; byte = slice_index (bytes_of files c.site) c.off; looks = atom_looks k })) (sym there.2)

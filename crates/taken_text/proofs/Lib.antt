@@ -1,6 +1,7 @@
 pub mod Bytes
 pub mod Counted
 pub mod Nothing
+pub mod Noting
 pub mod Placed
 pub mod Ready
 pub mod Runs

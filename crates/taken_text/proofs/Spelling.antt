@@ -2,7 +2,7 @@
 use Rattle.std.proofs.Common.{◌≡◌, ℕ, Bool, true, false, not, cond, List, [], ◌∷◌, length, map, All, refl, sym, ap, subst, ◌∙◌}
 use Rattle.std.specs.Prelude.{slice_index}
 use Rattle.std.specs.List.{filter}
-use Rattle.std.proofs.lemmas.List.Elements.{All-head, All-tail, All-cons, All-nil, All-map}
+use Rattle.std.proofs.lemmas.List.Elements.{All-filter, All-head, All-tail, All-cons, All-nil, All-map}
 use Rattle.char_files.specs.CharFiles.{Files, SameBytes}
 use Rattle.char_files.specs.CharName.{CharName}
 use Rattle.char_files.specs.declared.character.Char.{Char}
@@ -12,12 +12,12 @@ use Rattle.tree_order.specs.Looks.{HasLooks}
 use Rattle.tree_order.specs.Order.{IsOrder}
 use Rattle.tree_order.specs.Registers.{Atom, HasRegisters, AreAtoms}
 use Rattle.tree_order.specs.RegisterLaws.{TellRegisters}
-use Rattle.tree_order.specs.Shown.{AreChars, is_visible}
+use Rattle.tree_order.specs.Shown.{AreChars, IsShown, is_visible}
 use Rattle.tree_order.specs.Tree.{HasByte, byte_by}
 use Rattle.tree_order.proofs.RegistersTell.{tell}
 use Rattle.piece_list.specs.Spelled.{spelled, shown_chars}
 use Rattle.piece_list.specs.declared.piece.Piece.{Piece}
-use Rattle.taken_text.specs.Taken.{IsTaken, HoldBytes, IsDefined, char_in, seen_in}
+use Rattle.taken_text.specs.Taken.{IsTaken, HoldBytes, IsDefined, char_in, chars_shown, seen_in}
 
 names_of_chars : (files : Files) (atoms : List Atom) → map (λ (c : Char). c.name) (map (char_in files) atoms) ≡ map (λ (k : Atom). k.name) atoms
 names_of_chars files [] = refl
@@ -68,9 +68,41 @@ shown_of_atoms ops files (k ∷ atoms) all =
     go true rest = ap (λ (cs : List Char). char_in files k ∷ cs) rest
     go false rest = rest
 
+-- the names of those that pass are the names that pass
+one_passes : (b : Bool) (c : Char) (xs : List Char) (names : List CharName) → map (λ s. s.name) xs ≡ names
+    → map (λ s. s.name) (cond b (c ∷ xs) xs) ≡ cond b (c.name ∷ names) names
+one_passes true c xs names e = ap (λ (ns : List CharName). c.name ∷ ns) e
+one_passes false c xs names e = e
+
+names_of_passed : (p : CharName → Bool) (chars : List Char)
+    → map (λ s. s.name) (filter (λ c. p c.name) chars) ≡ filter p (map (λ c. c.name) chars)
+names_of_passed p [] = refl
+names_of_passed p (c ∷ chars) =
+    one_passes (p c.name) c (filter (λ (x : Char). p x.name) chars)
+    (filter p (map (λ (x : Char). x.name) chars))
+    (names_of_passed p chars)
+
+-- the visible ones of all characters are what is shown
+pub visible_are_shown : (ops : List Operation) (chars : List Char) → AreChars ops chars
+    → IsShown ops (filter (λ c. is_visible ops c.name) chars)
+visible_are_shown ops chars are = record {
+  order = map (λ c. c.name) chars;
+  in_order = are.order;
+  visible = names_of_passed (is_visible ops) chars;
+  bytes = All-filter (λ c. is_visible ops c.name) (λ c. HasByte ops c.name c.byte) chars are.bytes;
+  looks = All-filter (λ c. is_visible ops c.name) (λ c. HasLooks ops c.name c.looks) chars are.looks;
+}
+
+-- so what the pieces show is what is defined
+pub is_shown : (ops : List Operation) (items : List (ℕ × Piece)) (files : Files) → IsTaken ops items files
+    → IsShown ops (chars_shown items files)
+is_shown ops items files t =
+    subst (IsShown ops) (shown_of_atoms ops files (spelled items) (all_tell ops t.good (spelled items) t.atoms.registers))
+    (visible_are_shown ops (map (char_in files) (spelled items)) (chars_of_taken ops items files t))
+
 -- so all is as it is defined
-pub defined : (ops : List Operation) (items : List (ℕ × Piece)) (files : Files) → IsTaken ops items files → IsDefined (seen_in ops items files)
-defined ops items files t = record {
+pub defined : (ops : List Operation) (items : List (ℕ × Piece)) (files : Files) (asked : ℕ) → IsTaken ops items files → IsDefined (seen_in ops items files asked)
+defined ops items files asked t = record {
   good = t.good;
   in_order = t.in_order;
   identified = t.identified;

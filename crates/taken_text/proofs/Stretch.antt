@@ -45,15 +45,15 @@ names_of_all files [] = refl
 names_of_all files (k ∷ atoms) = ap (λ (l : List CharName). k.name ∷ l) (names_of_all files atoms)
 
 -- of pieces and what is told of them between two positions
-module _ (ops : List Operation) (items : List (ℕ × Piece)) (files : Files) (now : TakenSeen)
-    (seen : seen_in ops items files ≡ now) (t : IsTaken ops items files) (beg end : ℕ) where
+module _ (ops : List Operation) (items : List (ℕ × Piece)) (files : Files) (asked : ℕ) (now : TakenSeen)
+    (seen : seen_in ops items files asked ≡ now) (t : IsTaken ops items files) (beg end : ℕ) where
   -- the atoms that are shown there
   abbrev pub part : List Atom
   part = slice_range (shown_chars (spelled items)) beg end
 
   pub part_shown : slice_range (shown_of now) beg end ≡ map (char_in files) part
   part_shown =
-      ap (λ (cs : List Char). slice_range cs beg end) (shown_now ops items files now seen t)
+      ap (λ (cs : List Char). slice_range cs beg end) (shown_now ops items files asked now seen t)
       ∙ range_map (char_in files) (shown_chars (spelled items)) beg end
 
   pub part_has_bytes : All (λ k. HasByteIn files k.name) part

@@ -36,6 +36,10 @@ pub on_ok : {X E : Type 0} (r : Result X E) (P Q : Type 0) → (P → Q) → OnO
 on_ok (Ok x) P Q f h = f h
 on_ok (Err e) P Q f h = tt
 
+pub both_ok : {X E : Type 0} (r : Result X E) (P Q R : Type 0) → (P → Q → R) → OnOk r P → OnOk r Q → OnOk r R
+both_ok (Ok x) P Q R f h g = f h g
+both_ok (Err e) P Q R f h g = tt
+
 module _ (ops : List Operation) (op : Operation) (items : List (ℕ × Piece)) (files : Files) (taken : IsTaken ops items files) (new : IsNew ops op) (is : HasVerdict ops op ready) where
   told : AreToldByCounts ops op
   told = told_by_counts ops op taken.good taken.identified new

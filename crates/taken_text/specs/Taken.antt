@@ -11,13 +11,15 @@ use Rattle.tree_order.specs.Shown.{AreChars, is_visible}
 use Rattle.tree_order.specs.Tree.{HasByte}
 use Rattle.set_laws.specs.Fronts.{file_len}
 use Rattle.set_laws.specs.Sets.{AreIdentified, KeepsCauses}
-use Rattle.piece_list.specs.Spelled.{spelled}
+use Rattle.piece_list.specs.Spelled.{spelled, shown_chars}
 use Rattle.piece_list.specs.declared.piece.Piece.{Piece}
 
--- the operations in the order of taking, and all characters in order, deleted ones too
+-- the operations in the order of taking, and all characters in order, deleted ones too; and how many operations
+-- there were when the changes were last asked for
 pub record TakenSeen : Type 0 where
   pub operations : List Operation
   pub chars : List Char
+  pub asked : ℕ
 
 -- the operations are good, and were taken in in an order that keeps causes; seqs count from 1, and the characters
 -- are theirs
@@ -43,9 +45,14 @@ char_in files k = record {
   looks = atom_looks k;
 }
 
--- what a log, pieces and files are seen as together
-abbrev pub seen_in : List Operation → List (ℕ × Piece) → Files → TakenSeen
-seen_in ops items files = record { operations = ops; chars = map (char_in files) (spelled items) }
+-- what a log, pieces and files are seen as together, of which so many operations were told
+abbrev pub seen_in : List Operation → List (ℕ × Piece) → Files → ℕ → TakenSeen
+seen_in ops items files asked =
+    record { operations = ops; chars = map (char_in files) (spelled items); asked = asked }
+
+-- what the pieces show, with the files' bytes
+abbrev pub chars_shown : List (ℕ × Piece) → Files → List Char
+chars_shown items files = map (char_in files) (shown_chars (spelled items))
 
 -- the files have the bytes of all Inserts, and no others
 pub record HoldBytes (ops : List Operation) (files : Files) : Type 0 where

@@ -7,42 +7,51 @@ ghost use Rattle.tree_order.specs.Insertion.{IsInsertAt};
 ghost use Rattle.tree_order.specs.Shown.{IsPlace};
 ghost use Rattle.tree_order.specs.Tree.{IsChar};
 ghost use Rattle.set_laws.specs.Verdict.{HasVerdict, IsNew, ready};
-ghost use Rattle.taken_text.specs.Taken.{IsDefined, IsTaken, shown_of};
+ghost use Rattle.taken_text.specs.Noted.{AreChangesSince, GainsChangesOf};
+ghost use Rattle.taken_text.specs.Taken.{IsDefined, IsTaken, chars_shown, shown_of};
 
 use crate::shown::Shown;
 use char_files::{Char, CharFiles, Name};
+use list_changes::Change;
 use looks::Refusal;
 use op_log::Log;
 use operations::{Kind, Op};
 use piece_list::{PieceList, Run};
 use std::alloc::Global;
 use std::marker::Model;
+use std::mem;
 
 /// The operations that a replica has taken in, found by their identities at once, and the characters that they
-/// make: a list of pieces over append-only files. This project's own.
+/// make: a list of pieces over append-only files. What they change of what is shown is noted until it is asked
+/// for. This project's own.
 #[derive(Drop)]
 pub struct TakenText {
     pub(crate) log: Log,
     pub(crate) pieces: PieceList,
     pub(crate) files: CharFiles,
+    // How many operations there were when the changes were last asked for, and those that the others made.
+    asked: u64,
+    note: Vec<Change>,
     pub(crate) alloc: Global,
 }
 
 impl Model for TakenText {
-    ghost use Rattle.taken_text.specs.Taken.{TakenSeen, IsTaken, seen_in};
+    ghost use Rattle.taken_text.specs.Noted.{IsNotedText};
+    ghost use Rattle.taken_text.specs.Taken.{TakenSeen, seen_in};
 
     ghost Value = { TakenSeen };
 
-    ghost view = { λ t. seen_in t.log.ops t.pieces.items t.files };
+    ghost view = { λ t. seen_in t.log.ops t.pieces.items t.files t.asked };
 
-    ghost invariant = { λ t. IsTaken t.log.ops t.pieces.items t.files };
+    ghost invariant = { λ t. IsNotedText t.log.ops t.pieces.items t.files t.asked t.note.items };
 }
 
-// Takes in an Insert: its bytes go to the end of its site's file, and its run among the pieces.
+// Takes in an Insert: its bytes go to the end of its site's file, and its run among the pieces. The note tells of it.
 fn insert_run(
     log: &Log,
     pieces: &mut PieceList,
     files: &mut CharFiles,
+    note: &mut Vec<Change>,
     op: &Op,
 ) -> Result<(), Refusal>
     requires taken { IsTaken log.now.ops pieces.old.items files.old }
@@ -50,8 +59,11 @@ fn insert_run(
     requires ready { HasVerdict log.now.ops op.now ready }
     requires insert { (cause : Anchor) × IsInsertAt op.now cause }
     ensures ok { OnOk result (IsTaken (log.now.ops ++ op.now ∷ []) pieces.new.items files.new) }
+    ensures noted { OnOk result (GainsChangesOf log.now.ops op.now note.old.items note.new.items
+        (chars_shown pieces.old.items files.old) (chars_shown pieces.new.items files.new)) }
     ensures errors { RefusedForMemoryAlone result }
-    ensures err { OnErr result ((pieces.new.items ≡ pieces.old.items) × SameBytes files.old files.new) }
+    ensures err { OnErr result ((pieces.new.items ≡ pieces.old.items) × SameBytes files.old files.new
+        × (note.new.items ≡ note.old.items)) }
 {
     op.has_spelling();
     let Kind::Insert {
@@ -71,41 +83,54 @@ fn insert_run(
         looks: looks.copy(),
     };
     files.reserve(op.site(), bytes.len())?;
-    pieces.place(run, *cause)?;
+    pieces.place_noting(run, *cause, note)?;
     match files.append(op.site(), bytes) {
         Ok(_) => Ok(()),
         Err(_) => unreachable!(),
     }
 }
 
-// Takes in an operation: each kind changes pieces, and an Insert its site's file besides.
-fn apply(log: &Log, pieces: &mut PieceList, files: &mut CharFiles, op: &Op) -> Result<(), Refusal>
+// Takes in an operation: each kind changes pieces, and an Insert its site's file besides. The note tells of it.
+fn apply(
+    log: &Log,
+    pieces: &mut PieceList,
+    files: &mut CharFiles,
+    note: &mut Vec<Change>,
+    op: &Op,
+) -> Result<(), Refusal>
     requires taken { IsTaken log.now.ops pieces.old.items files.old }
     requires new { IsNew log.now.ops op.now }
     requires ready { HasVerdict log.now.ops op.now ready }
     ensures ok { OnOk result (IsTaken (log.now.ops ++ op.now ∷ []) pieces.new.items files.new) }
+    ensures noted { OnOk result (GainsChangesOf log.now.ops op.now note.old.items note.new.items
+        (chars_shown pieces.old.items files.old) (chars_shown pieces.new.items files.new)) }
     ensures errors { RefusedForMemoryAlone result }
-    ensures err { OnErr result ((pieces.new.items ≡ pieces.old.items) × SameBytes files.old files.new) }
+    ensures err { OnErr result ((pieces.new.items ≡ pieces.old.items) × SameBytes files.old files.new
+        × (note.new.items ≡ note.old.items)) }
 {
     let key = op.key();
     match op.kind() {
-        Kind::Insert { .. } => insert_run(log, pieces, files, op),
-        Kind::Delete { names } => pieces.hide(names, key),
-        Kind::Restore { names } => pieces.reveal(names, key),
-        Kind::ChangeLooks { sel, looks, names } => pieces.relook(names, *sel, looks, key),
+        Kind::Insert { .. } => insert_run(log, pieces, files, note, op),
+        Kind::Delete { names } => pieces.hide_noting(names, key, note),
+        Kind::Restore { names } => pieces.reveal_noting(names, key, note),
+        Kind::ChangeLooks { sel, looks, names } => {
+            pieces.relook_noting(names, *sel, looks, key, note)
+        }
     }
 }
 
 impl TakenText {
     /// Nothing taken in, and no characters. Refused `OutOfMemory` alone.
     pub fn new(alloc: Global) -> Result<TakenText, Refusal>
-        ensures ok { IfOk result (λ t. t ≡ record { operations = []; chars = [] }) }
+        ensures ok { IfOk result (λ t. t ≡ record { operations = []; chars = []; asked = 0 }) }
         ensures errors { RefusedForMemoryAlone result }
     {
         Ok(TakenText {
             log: Log::new(alloc),
             pieces: PieceList::new(alloc)?,
             files: CharFiles::new(alloc),
+            asked: 0,
+            note: Vec::new(alloc),
             alloc,
         })
     }
@@ -161,19 +186,36 @@ impl TakenText {
         self.shown_between(0, self.shown_len())
     }
 
+    /// What the operations taken in since the last call changed of what is shown, in their order. They are
+    /// handed out and no longer kept. It takes no memory.
+    pub fn changes(&mut self) -> Vec<Change>
+        ensures told { AreChangesSince self.old.asked self.old.operations result.items (shown_of self.old) }
+        ensures asked { self.new ≡ record self.old { asked = length self.old.operations } }
+    {
+        self.asked = self.log.len();
+        mem::replace(&mut self.note, Vec::new(self.alloc))
+    }
+
     /// Takes in an operation that is ready: it stands behind those that were taken in, and the characters are
-    /// then those that the definition gives of them all (`is_defined`).
+    /// then those that the definition gives of them all (`is_defined`). What it changes of what is shown is noted.
     ///
     /// Refused `OutOfMemory` alone.
     pub fn add(&mut self, op: Op) -> Result<(), Refusal>
         requires new { IsNew self.old.operations op }
         requires ready { HasVerdict self.old.operations op ready }
         ensures ok { OnOk result (self.new.operations ≡ self.old.operations ++ op ∷ []) }
+        ensures asked { self.new.asked ≡ self.old.asked }
         ensures errors { RefusedForMemoryAlone result }
         ensures err { OnErr result (self.new ≡ self.old) }
     {
         self.log.reserve(op.site())?;
-        apply(&self.log, &mut self.pieces, &mut self.files, &op)?;
+        apply(
+            &self.log,
+            &mut self.pieces,
+            &mut self.files,
+            &mut self.note,
+            &op,
+        )?;
         self.log.push(op);
         Ok(())
     }

@@ -1,18 +1,16 @@
 -- All characters of a good set, hidden ones too, each with its byte and the looks that hold.
-use Rattle.std.proofs.Common.{◌≡◌, Bool, true, false, cond, List, [], ◌∷◌, ◌++◌, map, refl, sym, ap, subst, ◌∙◌}
+use Rattle.std.proofs.Common.{◌≡◌, List, [], ◌∷◌, ◌++◌, map, refl, sym, ap, subst, ◌∙◌}
 use Rattle.std.specs.Prelude.{All}
-use Rattle.std.specs.List.{filter}
 use Rattle.std.proofs.lemmas.List.Elements.{All-filter, All-push, Contains-get_or}
 use Rattle.char_files.specs.CharName.{CharName}
 use Rattle.char_files.specs.declared.character.Char.{Char}
 use Rattle.operations.specs.Operation.{Operation}
 use Rattle.tree_order.specs.Good.{Good}
 use Rattle.tree_order.specs.Laws.{HasOneOrder}
-use Rattle.tree_order.specs.Looks.{HasLooks}
 use Rattle.tree_order.specs.OneEach.{HasOneEach}
 use Rattle.tree_order.specs.Order.{IsOrder}
 use Rattle.tree_order.specs.Shown.{AreChars, is_visible}
-use Rattle.tree_order.specs.Tree.{HasByte, IsChar}
+use Rattle.tree_order.specs.Tree.{IsChar}
 use Rattle.set_laws.specs.Sets.{AreIdentified}
 use Rattle.texts.specs.Laws.{ShowsTheDefinition, OperationsTellTheText, FrontsTellTheText, HasOneTextWith}
 use Rattle.texts.specs.Laws.{GrownTextsKeepTheOrder}
@@ -23,32 +21,11 @@ use Rattle.tree_order.proofs.OneText.{one_each, shows_one_text}
 use Rattle.tree_order.proofs.SameSet.{before, says_the_same}
 use Rattle.set_laws.proofs.Ahead.{causes_kept_with_one}
 use Rattle.set_laws.proofs.Covered.{same_by_fronts}
+use Rattle.taken_text.proofs.Spelling.{visible_are_shown}
 use Rattle.texts.proofs.OwnStep.{char_stays}
 
--- the names of those that pass are the names that pass
-one_passes : (b : Bool) (c : Char) (xs : List Char) (names : List CharName) → map (λ s. s.name) xs ≡ names
-    → map (λ s. s.name) (cond b (c ∷ xs) xs) ≡ cond b (c.name ∷ names) names
-one_passes true c xs names e = ap (λ (ns : List CharName). c.name ∷ ns) e
-one_passes false c xs names e = e
-
-names_of_passed : (p : CharName → Bool) (chars : List Char)
-    → map (λ s. s.name) (filter (λ c. p c.name) chars) ≡ filter p (map (λ c. c.name) chars)
-names_of_passed p [] = refl
-names_of_passed p (c ∷ chars) =
-    one_passes (p c.name) c (filter (λ (x : Char). p x.name) chars)
-    (filter p (map (λ (x : Char). x.name) chars))
-    (names_of_passed p chars)
-
 pub shows_the_definition : ShowsTheDefinition
-shows_the_definition t is = record {
-  order = map (λ c. c.name) t.order;
-  in_order = is.chars.order;
-  visible = names_of_passed (is_visible t.operations) t.order;
-  bytes = All-filter (λ c. is_visible t.operations c.name) (λ c. HasByte t.operations c.name c.byte) t.order
-      is.chars.bytes;
-  looks = All-filter (λ c. is_visible t.operations c.name) (λ c. HasLooks t.operations c.name c.looks) t.order
-      is.chars.looks;
-}
+shows_the_definition t is = visible_are_shown t.operations t.order is.chars
 
 -- and what it shows are characters
 pub shown_are_chars : (t : TextState) → IsText t → All (IsChar t.operations) (map (λ s. s.name) (shown_of t))

@@ -7,12 +7,15 @@ use Rattle.char_files.specs.CharName.{CharName}
 use Rattle.char_files.specs.declared.character.Char.{Char}
 use Rattle.operations.specs.NameSet.{Range, IsAmong}
 use Rattle.operations.specs.Operation.{Operation, OpKind, delete, restore, change_looks}
+use Rattle.list_changes.specs.Changes.{Leads}
+use Rattle.list_changes.specs.declared.change.Change.{Change}
 use Rattle.tree_order.specs.Laws.{AreSameSet}
 use Rattle.tree_order.specs.Order.{IsAheadIn}
 use Rattle.tree_order.specs.Shown.{IsShown, is_visible}
 use Rattle.set_laws.specs.Sets.{AreIdentified, HaveEqualFronts, IsPartOf}
 use Rattle.set_laws.specs.Verdict.{HasVerdict, IsNew, ready}
 use Rattle.set_laws.specs.Fronts.{file_len}
+use Rattle.taken_text.specs.Noted.{AreChangesSince, SameChar}
 use Rattle.texts.specs.Edit.{Edit, after, first_part, is_in_text, names_shown, own_insert, own_op, plan}
 use Rattle.texts.specs.Edit.{shown_after, stretch_named, with_operation}
 use Rattle.texts.specs.Merge.{IsUnionOf, Merges}
@@ -43,6 +46,12 @@ KeepsTheOrder t u = (c d : CharName)
 abbrev pub GrownTextsKeepTheOrder : Type 0
 GrownTextsKeepTheOrder = (t u : TextState) → IsText t → IsText u → IsPartOf t.operations u.operations
     → KeepsTheOrder t u
+
+-- what tells the changes by the operations behind the first so many leads from what these show to what is shown
+abbrev pub ChangesLead : Type 0
+ChangesLead = (asked : ℕ) (ops : List Operation) (changes : List Change) (now : List Char)
+    → AreChangesSince asked ops changes now
+    → (was : List Char) × IsShown (take asked ops) was × Leads SameChar changes was now
 
 -- two texts of equal fronts are alike, if no identity is used twice
 abbrev pub FrontsTellTheText : Type 0

@@ -5,7 +5,7 @@ ghost use Rattle.operations.specs.Operation.{Operation};
 ghost use Rattle.tree_order.specs.Good.{Good};
 ghost use Rattle.set_laws.specs.Sets.{AreIdentified};
 ghost use Rattle.texts.specs.Laws.{ShowsTheDefinition, OperationsTellTheText, FrontsTellTheText};
-ghost use Rattle.texts.specs.Laws.{ADeleteKeepsItsStretch, GrownTextsKeepTheOrder, HasOneTextWith};
+ghost use Rattle.texts.specs.Laws.{ADeleteKeepsItsStretch, ChangesLead, GrownTextsKeepTheOrder, HasOneTextWith};
 ghost use Rattle.texts.specs.Laws.{MergesShowTheUnion, OwnEditsArePlain};
 ghost use Rattle.texts.specs.Text.{IsText};
 ghost use Rattle.texts.specs.TextState.{TextState};
@@ -23,6 +23,12 @@ pub fn the_operations_tell_the_text()
 /// A law: the characters of a text keep their order in every text that has taken in more, hidden ones too.
 pub fn grown_texts_keep_the_order()
     ensures { GrownTextsKeepTheOrder }
+{}
+
+/// A law: changes that a text hands out lead, one after the other, from what was shown when they were last asked
+/// for to what is shown now.
+pub fn changes_lead()
+    ensures { ChangesLead }
 {}
 
 /// A law: two texts of equal fronts are alike, if no identity is used twice.

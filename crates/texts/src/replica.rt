@@ -10,7 +10,8 @@ ghost use Rattle.texts.specs.Edit.{anchor_before};
 ghost use Rattle.texts.specs.Laws.{AreAlike};
 ghost use Rattle.texts.specs.Taking.{HasTaken, IsJudged};
 ghost use Rattle.texts.specs.Text.{IsAnchor, IsText};
-ghost use Rattle.texts.specs.TextState.{empty_text, shown_of};
+ghost use Rattle.texts.specs.TextState.{all_told, empty_text, shown_of};
+ghost use Rattle.taken_text.specs.Noted.{AreChangesSince};
 
 mod deleting;
 mod dressing;
@@ -23,6 +24,7 @@ mod taking;
 mod waiting;
 
 use char_files::{Anchor, Buffer, SiteNo, TextNo};
+use list_changes::Change;
 use looks::{Looks, Refusal};
 use operations::{NameSet, Op};
 use std::alloc::Global;
@@ -52,7 +54,7 @@ impl Model for Replica {
     ghost Value = { TextState };
 
     ghost view = { λ r. state_of r.text r.site r.taken.operations r.taken.chars r.room
-        r.stretch r.set };
+        r.stretch r.set r.taken.asked };
 
     ghost invariant = { λ r. All (λ op. op.text ≡ r.text) r.taken.operations
         × All (λ op. op.text ≡ r.text) r.room × AreCharNames r.taken.operations r.set };
@@ -205,6 +207,16 @@ impl Replica {
             Anchor::Root => Some(0),
             Anchor::At(name) => self.taken.place_of(name),
         }
+    }
+
+    /// What the operations taken in since the last call changed of what is shown, in the order of their taking:
+    /// own edits, messages, those that waited, and merges. They lead from what was shown then to what is shown now,
+    /// one after the other; they are handed out, and no longer kept. It takes no memory.
+    pub fn changes(&mut self) -> Vec<Change>
+        ensures told { AreChangesSince self.old.asked self.old.operations result.items (shown_of self.old) }
+        ensures asked { self.new ≡ all_told self.old }
+    {
+        self.taken.changes()
     }
 
     // Takes in an operation that is ready. An `Err` changes nothing.

@@ -13,6 +13,7 @@ ghost use Rattle.piece_list.specs.Noted.{kind_of, name_count};
 ghost use Rattle.piece_list.specs.Spelled.{spelled, HasName};
 ghost use Rattle.piece_raw.specs.Ring.{HasTag};
 ghost use Rattle.rank_index.specs.Ranked.{IsRank, weight_of};
+ghost use Rattle.list_changes.specs.Changes.{IsOfKind};
 ghost use Rattle.list_changes.specs.declared.change.ChangeKind.TheVariants.{Insert, Delete};
 
 use crate::list::{PieceList, cut, numbers_differ};
@@ -402,7 +403,7 @@ impl PieceList {
         ensures few { length self.new.items ≤ length self.old.items + 2 * length names.now }
         ensures firsts { KeepFirsts self.old.items self.new.items }
         ensures steps { self.new.steps ≡ self.old.steps }
-        ensures noted { OnOk result (Notes (λ change. change.kind ≡ Delete)
+        ensures noted { OnOk result (Notes (IsOfKind Delete)
             note.old.items note.new.items (appearances self.old.items) (appearances self.new.items)) }
     {
         self.change_noting(names, &Setting::Switch { hidden: true, key }, note)
@@ -425,7 +426,7 @@ impl PieceList {
         ensures few { length self.new.items ≤ length self.old.items + 2 * length names.now }
         ensures firsts { KeepFirsts self.old.items self.new.items }
         ensures steps { self.new.steps ≡ self.old.steps }
-        ensures noted { OnOk result (Notes (λ change. change.kind ≡ Insert)
+        ensures noted { OnOk result (Notes (IsOfKind Insert)
             note.old.items note.new.items (appearances self.old.items) (appearances self.new.items)) }
     {
         self.change_noting(names, &Setting::Switch { hidden: false, key }, note)

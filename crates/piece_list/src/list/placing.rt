@@ -1,7 +1,8 @@
 //! How a run's piece goes into the list: behind its cause and the pieces of greater key that follow.
 
-ghost use Rattle.std.specs.Prelude.{◌≡◌, ℕ, ◌+◌, ◌<◌, ◌≤◌, List, ◌∷◌, ◌++◌, length, IfSome, OnOk, OnErr};
-ghost use Rattle.std.specs.Prelude.{Some as Just, None as Nothing};
+ghost use Rattle.std.specs.Prelude.{◌≡◌, ℕ, ◌+◌, ◌-◌, ◌<◌, ◌≤◌, List, [], ◌∷◌, ◌++◌, length, OnOk, OnErr};
+ghost use Rattle.std.specs.Prelude.{IfSome, IsSome, vec_len, vec_capacity};
+ghost use Rattle.std.specs.Prelude.{Some as Just, None as Nothing, ◌^◌};
 ghost use Rattle.looks.specs.Refusal.{RefusedForMemoryAlone};
 ghost use Rattle.char_files.specs.CharName.{CharName};
 ghost use Rattle.operations.specs.NameSet.{IsIn};
@@ -9,11 +10,14 @@ ghost use Rattle.piece_raw.specs.Ring.{ring};
 ghost use Rattle.piece_list.specs.Pieces.{range_of, chars_of, IsPiece, piece_of};
 ghost use Rattle.piece_list.specs.Held.{HasPlace, AreEntered, weighed};
 ghost use Rattle.piece_list.specs.Laws.{BeginNotAbove};
+ghost use Rattle.piece_list.specs.Noted.{Notes, appearances};
 ghost use Rattle.piece_list.specs.Placed.{IsPlaced};
 ghost use Rattle.piece_list.specs.Placing.{HasAnchor, compared, IsAnchorPlace, IsParted, HasPart, IsPartedAt};
 ghost use Rattle.piece_list.specs.Placing.{IsCounted, IsNext, IsSkip, IsPutInGap, last_look};
-ghost use Rattle.piece_list.specs.Spelled.{spelled, HasName};
+ghost use Rattle.piece_list.specs.Spelled.{spelled, shown_chars, HasName};
 ghost use Rattle.piece_list.specs.Tables.{table_of};
+ghost use Rattle.list_changes.specs.Changes.{IsOfKind};
+ghost use Rattle.list_changes.specs.declared.change.ChangeKind.TheVariants.{Insert};
 
 use crate::list::{PieceList, cut, numbers_differ};
 use crate::piece::Piece;
@@ -21,7 +25,8 @@ use crate::place::Place;
 use crate::run::Run;
 use crate::steps::Steps;
 use crate::tags::TagTables;
-use char_files::Anchor;
+use char_files::{Anchor, Name};
+use list_changes::{Change, ChangeKind};
 use looks::{Key, Refusal};
 use piece_raw::Ring;
 use rank_index::RankIndex;
@@ -156,6 +161,25 @@ fn put(
     }
 }
 
+// Enters a run in the note, which has room: so many characters are shown up to its first one.
+fn note_run(note: &mut Vec<Change>, to: Option<u64>, len: u32)
+    requires room { vec_len note.old < vec_capacity note.old }
+    requires here { IsSome to }
+    requires some { IfSome to (λ n. 0 < n) }
+    requires small { IfSome to (λ n. n + len < 2 ^ 64) }
+    ensures { IfSome to (λ n. note.new.items
+        ≡ note.old.items ++ record { kind = Insert; beg = n - 1; end = n - 1 + len } ∷ []) }
+{
+    match to {
+        Some(to) => {
+            let (kind, beg) = (ChangeKind::Insert, to - 1);
+            let end = beg + u64::from(len);
+            note.push_reserved(Change { kind, beg, end });
+        }
+        None => unreachable!(),
+    }
+}
+
 impl PieceList {
     // Where the anchor stands; `None` for the root.
     fn locate_cause(&mut self, cause: Anchor) -> Option<Place>
@@ -204,6 +228,46 @@ impl PieceList {
             last,
             Piece::of_run(run),
         );
+        Ok(())
+    }
+
+    // A law: so many characters are shown that they can be counted. A proof gets it by calling this, at no cost.
+    fn are_countable(&self)
+        ensures { length (shown_chars (spelled self.now.items)) ≤ 2 ^ 40 }
+    {
+        numbers_differ(&self.pieces);
+    }
+
+    /// `place`, which notes what comes: one insert.
+    ///
+    /// Refused `OutOfMemory` alone, and then the note's entries stay, too.
+    pub fn place_noting(
+        &mut self,
+        run: Run,
+        cause: Anchor,
+        note: &mut Vec<Change>,
+    ) -> Result<(), Refusal>
+        requires run { IsPiece (piece_of run) }
+        requires here { HasAnchor (spelled self.old.items) cause }
+        requires new { (c : CharName) → IsIn (range_of (piece_of run)) c → ¬ HasName (spelled self.old.items) c }
+        ensures placed { OnOk result (IsPlaced run.key cause (chars_of (piece_of run))
+            (spelled self.old.items) (spelled self.new.items)) }
+        ensures steps { OnOk result
+            (IsPutInGap cause (piece_of run) self.old.items self.new.items self.new.steps) }
+        ensures errors { RefusedForMemoryAlone result }
+        ensures err { OnErr result
+            ((self.new.items ≡ self.old.items) × (note.new.items ≡ note.old.items)) }
+        ensures noted { OnOk result (Notes (IsOfKind Insert)
+            note.old.items note.new.items (appearances self.old.items) (appearances self.new.items)) }
+    {
+        let (site, off, len) = (run.site, run.off, run.len);
+        note.reserve(1)?;
+        self.place(run, cause)?;
+        self.are_countable();
+        match Name::new(site, off) {
+            Some(first) => note_run(note, self.shown_to(first), len),
+            None => unreachable!(),
+        }
         Ok(())
     }
 }

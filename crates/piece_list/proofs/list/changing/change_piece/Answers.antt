@@ -226,6 +226,7 @@ returns-clause-noted c = λ free.
           noted_turn c.args.setting.now items c.in-Some.tag v w c.numbers_differ.ensures
           c.apply-shows_other.ensures.changed c.args.index.now.items beg c.args.note.now.items
           c.if-shows_other.note.items c.requires.indexed t.member
+          (is_piece items c.in-Some.tag v c.requires.entered.pieces t.member).0
           (c.apply-shows_other.ensures.other o.if-shows_other.true).1 rank
           (ap (λ n. n.items) o.note-is ∙ put
           ∙ ap (λ (kind : ChangeKind). c.args.note.now.items

@@ -17,8 +17,8 @@ here c =
     let t = c.self.inside in
     let atoms = spelled t.pieces.items in
     let ops : t.log.ops ≡ c.args.self.now.operations = ap (λ (s : TakenSeen). s.operations) c.self.view_is in
-    chars_are_here t.log.ops atoms c.self.invariant.atoms
-    (all_tell t.log.ops c.self.invariant.good atoms c.self.invariant.atoms.registers)
+    chars_are_here t.log.ops atoms c.self.invariant.taken.atoms
+    (all_tell t.log.ops c.self.invariant.taken.good atoms c.self.invariant.taken.atoms.registers)
     c.args.names.now (λ name named. subst (λ (l : List Operation). IsChar l name) (sym ops) (c.requires name named))
 
 pub has_hidden-requires : goal.has_hidden-requires
@@ -31,6 +31,6 @@ returns c =
     let ops : t.log.ops ≡ c.args.self.now.operations = ap (λ (s : TakenSeen). s.operations) c.self.view_is in
     subst (λ (l : List Operation). IsTrue (not c.has_hidden.result)
     ↔ ((name : CharName) → IsAmong c.args.names.now name → IsTrue (is_visible l name))) ops
-    (all_visible t.log.ops atoms c.self.invariant.atoms
-    (all_tell t.log.ops c.self.invariant.good atoms c.self.invariant.atoms.registers)
+    (all_visible t.log.ops atoms c.self.invariant.taken.atoms
+    (all_tell t.log.ops c.self.invariant.taken.good atoms c.self.invariant.taken.atoms.registers)
     c.args.names.now (here c.before) c.has_hidden.result c.has_hidden.ensures)

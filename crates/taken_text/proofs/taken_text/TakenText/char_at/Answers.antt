@@ -4,14 +4,14 @@ use Rattle.taken_text.proofs.taken_text.TakenText.char_at.Goals as goal
 pub shown_at-name-requires : goal.shown_at-name-requires
 shown_at-name-requires c =
     let t = c.self.inside in
-    is_within t.log.ops t.pieces.items t.files c.args.self.now c.self.view_is c.self.invariant c.args.pos c.requires
+    is_within t.log.ops t.pieces.items t.files t.asked c.args.self.now c.self.view_is c.self.invariant.taken c.args.pos c.requires
 
 pub byte-requires : goal.byte-requires
 byte-requires c =
     let t = c.self.inside in
-    has_byte_in t.log.ops t.pieces.items t.files c.args.self.now c.self.view_is c.self.invariant c.args.pos c.requires c.shown_at-name.result.0 c.shown_at-name.result.1 c.shown_at-name.ensures
+    has_byte_in t.log.ops t.pieces.items t.files t.asked c.args.self.now c.self.view_is c.self.invariant.taken c.args.pos c.requires c.shown_at-name.result.0 c.shown_at-name.result.1 c.shown_at-name.ensures
 
 pub returns : goal.returns
 returns c =
     let t = c.self.inside in
-    char_shown t.log.ops t.pieces.items t.files c.args.self.now c.self.view_is c.self.invariant c.args.pos c.requires c.shown_at-name.result.0 c.shown_at-name.result.1 c.shown_at-name.ensures c.byte.result c.byte.ensures
+    char_shown t.log.ops t.pieces.items t.files t.asked c.args.self.now c.self.view_is c.self.invariant.taken c.args.pos c.requires c.shown_at-name.result.0 c.shown_at-name.result.1 c.shown_at-name.ensures c.byte.result c.byte.ensures

@@ -6,4 +6,4 @@ use Rattle.taken_text.proofs.taken_text.TakenText.is_defined.Goals as goal
 pub returns : goal.returns
 returns c =
     let t = c.self.inside in
-    subst IsDefined c.self.view_is (defined t.log.ops t.pieces.items t.files c.self.invariant)
+    subst IsDefined c.self.view_is (defined t.log.ops t.pieces.items t.files t.asked c.self.invariant.taken)

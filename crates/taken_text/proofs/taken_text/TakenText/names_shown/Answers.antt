@@ -11,7 +11,7 @@ is_set : (c : goal.After-of_all) → set_of (names_in c.in_ok-ranges_of.field-0.
 is_set c =
     let t = c.self.inside in
     ap (λ (ranges : List Range). set_of (names_in ranges)) c.in_ok-ranges_of.ensures.ok
-    ∙ names_are t.log.ops t.pieces.items t.files c.args.self.now c.self.view_is c.self.invariant
+    ∙ names_are t.log.ops t.pieces.items t.files t.asked c.args.self.now c.self.view_is c.self.invariant.taken
     c.args.beg c.args.end c.walk_between.result c.walk_between.ensures.shown
 
 pub returns-clause-ok : goal.returns-clause-ok

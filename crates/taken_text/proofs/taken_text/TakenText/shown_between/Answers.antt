@@ -8,10 +8,10 @@ of-requires c =
     let t = c.self.inside in
     let runs = c.walk_between.result in
     walk_in_files t.files
-    (part t.log.ops t.pieces.items t.files c.args.self.now c.self.view_is c.self.invariant c.args.beg c.args.end)
-    (part_has_bytes t.log.ops t.pieces.items t.files c.args.self.now c.self.view_is c.self.invariant c.args.beg c.args.end)
+    (part t.log.ops t.pieces.items t.files t.asked c.args.self.now c.self.view_is c.self.invariant.taken c.args.beg c.args.end)
+    (part_has_bytes t.log.ops t.pieces.items t.files t.asked c.args.self.now c.self.view_is c.self.invariant.taken c.args.beg c.args.end)
     runs c.walk_between.ensures.some c.walk_between.ensures.within
-    (part_told t.log.ops t.pieces.items t.files c.args.self.now c.self.view_is c.self.invariant c.args.beg c.args.end
+    (part_told t.log.ops t.pieces.items t.files t.asked c.args.self.now c.self.view_is c.self.invariant.taken c.args.beg c.args.end
     runs c.walk_between.ensures.shown)
 
 pub returns : goal.returns
@@ -20,7 +20,7 @@ returns c =
     let runs = c.walk_between.result in
     c.of.ensures
     ∙ chars_of_walk t.files
-    (part t.log.ops t.pieces.items t.files c.args.self.now c.self.view_is c.self.invariant c.args.beg c.args.end) runs
-    (part_told t.log.ops t.pieces.items t.files c.args.self.now c.self.view_is c.self.invariant c.args.beg c.args.end
+    (part t.log.ops t.pieces.items t.files t.asked c.args.self.now c.self.view_is c.self.invariant.taken c.args.beg c.args.end) runs
+    (part_told t.log.ops t.pieces.items t.files t.asked c.args.self.now c.self.view_is c.self.invariant.taken c.args.beg c.args.end
     runs c.walk_between.ensures.shown)
-    ∙ sym (part_shown t.log.ops t.pieces.items t.files c.args.self.now c.self.view_is c.self.invariant c.args.beg c.args.end)
+    ∙ sym (part_shown t.log.ops t.pieces.items t.files t.asked c.args.self.now c.self.view_is c.self.invariant.taken c.args.beg c.args.end)

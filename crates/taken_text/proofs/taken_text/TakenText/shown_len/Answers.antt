@@ -6,4 +6,4 @@ pub returns : goal.returns
 returns c =
     let t = c.self.inside in
     c.shown_len.ensures
-    ∙ sym (count_now t.log.ops t.pieces.items t.files c.args.self.now c.self.view_is c.self.invariant)
+    ∙ sym (count_now t.log.ops t.pieces.items t.files t.asked c.args.self.now c.self.view_is c.self.invariant.taken)

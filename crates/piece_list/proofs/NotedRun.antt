@@ -1,0 +1,124 @@
+-- The entry that tells of a run put into its gap.
+use Rattle.std.proofs.Common.{◌≡◌, ℕ, ◌+◌, ◌-◌, ◌<◌, ◌≤◌, ◌^◌, false, cond, List, [], ◌∷◌, ◌++◌, Option, Some, None, length, get_or, take, map}
+use Rattle.std.proofs.Common.{refl, sym, ap, ◌∙◌, arith}
+use Rattle.std.specs.Prelude.{slice_get, IfSome, IsSome}
+use Rattle.std.proofs.lemmas.List.{map-append, length-append, length-map}
+use Rattle.std.proofs.lemmas.List.Elements.{All-cons, All-nil}
+use Rattle.std.proofs.lemmas.Grind.{flat_map-append}
+use Rattle.std.proofs.lemmas.Option.{slice_get-get_or}
+use Rattle.char_files.specs.CharName.{CharName}
+use Rattle.char_files.specs.declared.name.Anchor.{Anchor}
+use Rattle.list_changes.specs.declared.change.Change.{Change}
+use Rattle.list_changes.specs.declared.change.ChangeKind.TheVariants.{Insert}
+use Rattle.list_changes.specs.Changes.{IsOfKind, Makes}
+use Rattle.tree_order.specs.Registers.{Atom}
+use Rattle.piece_list.specs.declared.piece.Piece.{Piece}
+use Rattle.piece_list.specs.Noted.{appearances, SameName, Notes}
+use Rattle.piece_list.specs.Pieces.{chars_of}
+use Rattle.piece_list.specs.Placing.{IsPutInGap}
+use Rattle.piece_list.specs.Shown.{AreShownTo, appearance_of}
+use Rattle.piece_list.specs.Spelled.{spelled, names_of_atoms, shown_chars, HasName}
+use Rattle.piece_list.proofs.Gap.{name_only}
+use Rattle.piece_list.proofs.Noted.{told_by, count_tells, parts}
+use Rattle.piece_list.proofs.Positions.{Items, shown_in}
+use Rattle.piece_list.proofs.Shown.{count_chars, count_both, count_cons, count_more, shown_both}
+use Rattle.piece_list.proofs.ShownTo.{name_at, up_to}
+
+abbrev chars : ℕ × Piece → List Atom
+chars m = chars_of m.1
+
+module _ (cause : Anchor) (p : Piece) (old new : Items) (steps : ℕ) (put : IsPutInGap cause p old new steps)
+    (some : 0 < p.len) (shown : p.hidden.value ≡ false) where
+  abbrev front : Items
+  front = put.ahead ++ put.skipped
+
+  abbrev first : CharName
+  first = record { site = p.site; off = p.off }
+
+  -- where the first of its names stands among all
+  at : (d : CharName) → get_or (names_of_atoms (spelled new)) (length (spelled front) + 0) d ≡ first
+  at d =
+      ap (λ (l : Items). get_or (names_of_atoms (spelled l)) (length (spelled front) + 0) d) put.put
+      ∙ name_at front put.behind put.tag p first 0 some refl (omega arith) d
+
+  within : length (spelled front) + 0 < length (names_of_atoms (spelled new))
+  within =
+      omega (
+        arith,
+        length-map (spelled new) name_only,
+        ap (λ (l : Items). length (spelled l)) put.put,
+        ap length (flat_map-append chars front ((put.tag, p) ∷ put.behind)),
+        length-append (spelled front) (spelled ((put.tag, p) ∷ put.behind)),
+        length-append (chars_of p) (spelled put.behind),
+        count_chars p,
+      )
+
+  pub first_is_here : HasName (spelled new) first
+  first_is_here = (length (spelled front) + 0, within, at first)
+
+  -- so many are shown up to it
+  count_to_first : (n : ℕ) → AreShownTo (spelled new) first n → n ≡ shown_in front + 1
+  count_to_first n count =
+      let k : ℕ = length (spelled front) + 0 in
+      let found : slice_get (names_of_atoms (spelled new)) k ≡ Some first =
+      slice_get-get_or (names_of_atoms (spelled new)) k first within ∙ ap (λ (c : CharName). Some c) (at first) in
+      count k found
+      ∙ ap (λ (l : Items). length (shown_chars (take (k + 1) (spelled l)))) put.put
+      ∙ ap (λ (ks : List Atom). length (shown_chars ks)) (up_to front put.behind put.tag p 0 some)
+      ∙ count_more front (put.tag, record p { len = 0 + 1 })
+      ∙ omega (arith, ap (λ b. cond b 0 (0 + 1)) shown)
+
+  -- and its end is within what is shown
+  run_fits : (n : ℕ) → AreShownTo (spelled new) first n → n - 1 + p.len ≤ shown_in new
+  run_fits n count =
+      omega (
+        arith,
+        count_to_first n count,
+        ap shown_in put.put,
+        count_both front ((put.tag, p) ∷ put.behind),
+        count_cons (put.tag, p) put.behind,
+        ap (λ b. cond b 0 p.len) shown,
+      )
+
+  was : appearances old ≡ appearances front ++ ([] ++ appearances put.behind)
+  was =
+      ap (λ (ks : List Atom). map appearance_of (shown_chars ks)) (sym put.spells)
+      ∙ ap (map appearance_of) (shown_both front put.behind)
+      ∙ map-append appearance_of (shown_chars (spelled front)) (shown_chars (spelled put.behind))
+
+  run_noted : (n : ℕ) (note note' : List Change) → AreShownTo (spelled new) first n
+      → note' ≡ note ++ record { kind = Insert; beg = n - 1; end = n - 1 + p.len } ∷ []
+      → Notes (IsOfKind Insert) note note' (appearances old) (appearances new)
+  run_noted n note note' count entered =
+      let entry : Change = record { kind = Insert; beg = n - 1; end = n - 1 + p.len } in
+      let made : Makes SameName entry (appearances old) (appearances new) = record {
+        front = appearances front;
+        gone = [];
+        come = told_by p;
+        back = appearances put.behind;
+        before = was;
+        after = ap appearances put.put ∙ parts front put.behind put.tag p;
+        at = length-map (shown_chars (spelled front)) appearance_of ∙ omega (arith, count_to_first n count);
+        trades = (refl, omega (arith, count_tells p shown));
+      } in
+      record {
+        gained = entry ∷ [];
+        kept = entered;
+        each = All-cons (IsOfKind Insert) entry [] (refl, omega (arith, some)) (All-nil (IsOfKind Insert));
+        leads = (appearances new, made, refl);
+      }
+
+  -- the same of what is answered for the first name
+  pub room_for_run : (r : Option ℕ) → p.len ≤ 4096 → shown_in new ≤ 2 ^ 40
+      → IfSome r (AreShownTo (spelled new) first)
+      → IfSome r (λ n. 0 < n) × IfSome r (λ n. n + p.len < 2 ^ 64)
+  room_for_run None few small count = (tt, tt)
+  room_for_run (Some n) few small count =
+      (omega (arith, count_to_first n count), omega (arith, count_to_first n count, run_fits n count))
+
+  pub entered_run : (r : Option ℕ) (note note' : List Change) → IsSome r
+      → IfSome r (AreShownTo (spelled new) first)
+      → IfSome r (λ n. note' ≡ note ++ record { kind = Insert; beg = n - 1; end = n - 1 + p.len } ∷ [])
+      → Notes (IsOfKind Insert) note note' (appearances old) (appearances new)
+  entered_run None note note' is count entered = absurd cc
+  entered_run (Some n) note note' is count entered = run_noted n note note' count entered
