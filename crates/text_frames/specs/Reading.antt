@@ -1,0 +1,40 @@
+-- How a frame reads a text: character by character, each counted.
+use Rattle.std.specs.Prelude.{◌≡◌, ℕ, suc, ◌+◌, ◌-◌, ◌^◌, ◌==◌, List, [], ◌∷◌, length, map, drop, min, if◌then◌else◌}
+use Rattle.std.specs.Prelude.{Option, Some, None}
+use Rattle.char_files.specs.declared.character.Char.{Char}
+use Rattle.line_drawing.specs.declared.drawing.TheConstants.{LINE_END}
+use Rattle.line_drawing.specs.Rows.{Row, cells_of}
+
+-- a count, which stays where it has come to 2^64 - 1
+abbrev pub counted : ℕ → ℕ
+counted n = min n (2 ^ 64 - 1)
+
+-- the bytes of these characters
+abbrev pub bytes_of : List Char → List ℕ
+bytes_of chars = map (λ c. c.byte) chars
+
+-- what a walk over these characters gives next of their line, and what it then has left; nothing where the line ends
+abbrev pub GivesNext : List Char → Option ℕ → List Char → Type 0
+GivesNext [] next left = (next ≡ None) × (left ≡ [])
+GivesNext (c ∷ chars) next left = (next ≡ (if c.byte == LINE_END then None else Some c.byte)) × (left ≡ chars)
+
+-- the bytes ahead of the first that ends a line, or all
+abbrev pub line_ahead : List ℕ → List ℕ
+line_ahead [] = []
+line_ahead (b ∷ bytes) = if b == LINE_END then [] else b ∷ line_ahead bytes
+
+-- what stands behind that line and its end
+abbrev pub behind_line : {X : Type 0} → List ℕ → List X → List X
+behind_line line rest = drop (suc (length line)) rest
+
+-- the row of the line that begins here, where these bytes are left
+abbrev pub row_ahead : (width beg : ℕ) → List ℕ → Row
+row_ahead width beg bytes = record {
+  beg = beg;
+  end = beg + length (line_ahead bytes);
+  cells = cells_of width (line_ahead bytes);
+}
+
+-- a row of nothing, which stands for one that isn't there
+abbrev pub no_row : Row
+no_row = record { beg = 0; end = 0; cells = [] }

@@ -1,0 +1,20 @@
+//! Text frames: rows of cells that show a text from the line of a character on, kept by its changes. Beside them
+//! carets and selections, which are told by characters and not by positions.
+#![tactic(auto)]
+
+mod drawing;
+mod frame;
+mod limits;
+mod marks;
+mod reading;
+mod rows;
+
+pub use frame::Frame;
+pub use limits::the_limits;
+pub use marks::{Caret, Selection};
+
+/// The most columns of a frame; the fewest is 1. This project's own.
+pub const MAX_WIDTH: usize = 200;
+
+/// The most rows of a frame; the fewest is 1. This project's own.
+pub const MAX_ROWS: usize = 99;
