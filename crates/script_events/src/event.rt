@@ -6,7 +6,7 @@ ghost use Rattle.script_events.specs.Script.{verb_event, event_in};
 
 mod edits;
 mod looks_words;
-mod words;
+pub(crate) mod words;
 
 use crate::escaped::Escaped;
 use crate::event::edits::edit_in;

@@ -1,4 +1,3 @@
-use Rattle.std.proofs.Common.{ℕ}
 use Rattle.script_events.proofs.Spelling.{lent_plain}
 use Rattle.script_events.proofs.escaped.Escaped.as_plain.Goals as goal
 

@@ -1,0 +1,5 @@
+//! Tests of how the screen's events are spelled, in a crate of their own so that `script_events` is proved once.
+#![tactic(auto)]
+
+#[cfg(test)]
+mod tests;

@@ -1,0 +1,163 @@
+//! Lines that spell an event of the screen. None of them spells one of texts.
+use super::{COUNT, FIRST, is};
+use char_files::TextNo;
+use script_events::{Arrangement, Cell, Escaped, ScreenEvent, View, event_in, screen_event_in};
+use std::alloc::Global;
+use std::test::Fail;
+use viewers::Track;
+
+// Lines, the desk, and the track, the text and the row of a viewer that is to be opened.
+const OPENED: &[(&str, usize, Track, u16, Option<usize>)] = &[
+    ("2 open user 1", 0, Track::User, 1, None),
+    ("3 open system 16", 1, Track::System, 16, None),
+    ("4 open user 02 0", 2, Track::User, 2, Some(0)),
+    (
+        "2 open system 3 4294967295",
+        0,
+        Track::System,
+        3,
+        Some(4_294_967_295),
+    ),
+];
+
+// Lines, the desk, and what is to be printed of its screen.
+const PRINTED: &[(&str, usize, View)] = &[
+    ("2 views", 0, View::Views),
+    ("3 marks", 1, View::Marks),
+    ("4 show", 2, View::Show),
+];
+
+// Lines, the desk, and the bytes that are to be put in.
+const PUT: &[(&str, usize, &[u8])] = &[
+    ("2 key abc", 0, b"abc"),
+    ("3 key ", 1, b""),
+    ("2 key   a ", 0, b"  a "),
+    ("2 key \\5c\\0d\\fFx", 0, b"\\\x0d\xffx"),
+    ("4 key views", 2, b"views"),
+];
+
+// Lines, the desk, and the cell that is clicked.
+const CLICKED: &[(&str, usize, usize, usize)] = &[
+    ("2 click 10 20", 0, 10, 20),
+    ("4 click 4294967295 0", 2, 4_294_967_295, 0),
+];
+
+// The screen's event that a line spells, which spells none of texts.
+fn event(line: &str) -> Result<ScreenEvent<'_>, Fail> {
+    let line = line.as_bytes();
+    is(event_in(FIRST, COUNT, line).is_none(), "no event of texts")?;
+    match screen_event_in(FIRST, COUNT, line) {
+        Some(event) => Ok(event),
+        None => Err("an event of the screen".into()),
+    }
+}
+
+fn arranges(line: &str, on: usize, want: Arrangement) -> Result<(), Fail> {
+    match event(line)? {
+        ScreenEvent::Arranges { desk, arrangement } => {
+            is(desk == on && arrangement == want, "an arrangement")
+        }
+        _ => Err("an arrangement".into()),
+    }
+}
+
+fn prints(line: &str, on: usize, want: View) -> Result<(), Fail> {
+    match event(line)? {
+        ScreenEvent::Prints { desk, view } => is(desk == on && view == want, "a print"),
+        _ => Err("a print".into()),
+    }
+}
+
+fn clicks(line: &str, on: usize, want: Cell) -> Result<(), Fail> {
+    match event(line)? {
+        ScreenEvent::Clicks { desk, cell } => is(desk == on && cell == want, "a click"),
+        _ => Err("a click".into()),
+    }
+}
+
+fn spells(alloc: Global, bytes: &Escaped, want: &[u8]) -> Result<(), Fail> {
+    let mut decoded = Vec::with_capacity(alloc, bytes.len())?;
+    bytes.decode(&mut decoded);
+    is(decoded.as_slice() == want, "the bytes")
+}
+
+fn puts(alloc: Global, line: &str, on: usize, want: &[u8]) -> Result<(), Fail> {
+    match event(line)? {
+        ScreenEvent::Keys { desk, bytes } => {
+            is(desk == on, "the desk")?;
+            spells(alloc, &bytes, want)
+        }
+        _ => Err("keys".into()),
+    }
+}
+
+fn cell(col: usize, row: usize) -> Cell {
+    Cell { col, row }
+}
+
+#[test]
+fn viewers_are_opened(_rt: HostRuntime) -> Result<(), Fail> {
+    for (line, desk, track, text, row) in OPENED {
+        let text = TextNo::new(*text).ok_or("a text")?;
+        let open = Arrangement::Open {
+            track: *track,
+            text,
+            row: *row,
+        };
+        arranges(line, *desk, open)?;
+    }
+    Ok(())
+}
+
+#[test]
+fn screens_are_arranged(_rt: HostRuntime) -> Result<(), Fail> {
+    arranges("2 close 7", 0, Arrangement::Close { viewer: 7 })?;
+    arranges(
+        "0000000004 close 0000000012",
+        2,
+        Arrangement::Close { viewer: 12 },
+    )?;
+    arranges(
+        "3 move 4294967295 8",
+        1,
+        Arrangement::Move {
+            viewer: u32::MAX,
+            row: 8,
+        },
+    )?;
+    arranges(
+        "2 scroll 5 600",
+        0,
+        Arrangement::Scroll {
+            viewer: 5,
+            line: 600,
+        },
+    )?;
+    arranges(
+        "2 point 79 24",
+        0,
+        Arrangement::Point { cell: cell(79, 24) },
+    )?;
+    arranges(
+        "3 select 9 8 7 6",
+        1,
+        Arrangement::Select {
+            beg: cell(9, 8),
+            end: cell(7, 6),
+        },
+    )
+}
+
+#[test]
+fn screens_are_asked(rt: HostRuntime) -> Result<(), Fail> {
+    for (line, desk, want) in PRINTED {
+        prints(line, *desk, *want)?;
+    }
+    for (line, desk, bytes) in PUT {
+        puts(rt.alloc(), line, *desk, bytes)?;
+    }
+    for (line, desk, col, row) in CLICKED {
+        clicks(line, *desk, cell(*col, *row))?;
+    }
+    Ok(())
+}
