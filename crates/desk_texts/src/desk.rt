@@ -215,8 +215,8 @@ impl Texts {
         run_lines(*self.texts.allocator(), self.replica(text))
     }
 
-    // The replica of a text.
-    fn replica(&self, text: TextNo) -> &Replica
+    /// The replica of a text.
+    pub fn replica(&self, text: TextNo) -> &Replica
         requires { text ≤ MAX_TEXT }
         ensures { IsTextOf self.now text result.now }
     {

@@ -1,0 +1,111 @@
+-- What contracts see of the windows of a site's viewers, and when they show its texts.
+use Rattle.std.specs.Prelude.{◌≡◌, ℕ, suc, ◌-◌, ◌≤◌, List, map, length, true, Option, Some, Result, Ok, Err, IsOk, ◌⊎◌}
+use Rattle.looks.specs.declared.refusal.Refusal.{Refusal}
+use Rattle.looks.specs.declared.refusal.Refusal.TheVariants.{OutOfMemory}
+use Rattle.viewers.specs.Screen.{ScreenSeen, area_of, has, user_width}
+use Rattle.viewers.specs.Viewers.{ViewersSeen, content_of}
+use Rattle.viewers.specs.declared.screen.Area.{Area}
+use Rattle.viewers.specs.declared.screen.Track.{Track}
+use Rattle.viewers.specs.declared.screen.Track.TheVariants.{User, System}
+use Rattle.char_files.specs.declared.name.Anchor.{Anchor}
+use Rattle.list_changes.specs.Changes.{Leads}
+use Rattle.list_changes.specs.declared.change.Change.{Change}
+use Rattle.taken_text.specs.Noted.{SameChar}
+use Rattle.texts.specs.Laws.{KeepsTheOrder}
+use Rattle.texts.specs.Text.{IsAnchor, IsText}
+use Rattle.texts.specs.TextState.{TextState, shown_of}
+use Rattle.machine.specs.DeskState.{DeskState, IsTextOf}
+use Rattle.machine.specs.Windows.{Arranged, Caret, Screened, Selected, Window}
+use Rattle.machine.specs.declared.TheConstants.{MAX_TEXT}
+use Rattle.text_frames.specs.Frames.{FrameSeen, IsDrawn}
+
+-- what a viewer shows: a text, by a frame
+pub record WindowSeen : Type 0 where
+  pub text : ℕ
+  pub frame : FrameSeen
+
+-- the viewers of a site with their windows, its caret, and what is selected
+pub record WindowsSeen : Type 0 where
+  pub viewers : ViewersSeen WindowSeen
+  pub caret : Option Caret
+  pub selected : Option Selected
+
+-- a window as the machine has it: a text, and the character of its first line
+abbrev pub window_of : WindowSeen → Window
+window_of w = record { text = w.text; anchor = w.frame.anchor }
+
+-- all windows so
+abbrev pub windows_of : List (ℕ × WindowSeen) → List (ℕ × Window)
+windows_of contents = map (λ entry. (entry.0, window_of entry.1)) contents
+
+-- a site's screen as the machine has it
+abbrev pub screened : WindowsSeen → Screened
+screened w = record {
+  tracks = w.viewers.tracks;
+  next = w.viewers.next;
+  windows = windows_of w.viewers.contents;
+  caret = w.caret;
+  selected = w.selected;
+}
+
+-- the columns of a track
+abbrev pub width_of : ℕ → Track → ℕ
+width_of width User = user_width width
+width_of width System = width - user_width width
+
+-- a window shows a text of the desk, and is as wide as its viewer's track
+pub record ShowsText (d : DeskState) (tracks : ScreenSeen) (v : ℕ) (w : WindowSeen) : Type 0 where
+  pub on_desk : w.text ≤ MAX_TEXT
+  pub text : TextState
+  pub at : IsTextOf d w.text text
+  pub drawn : IsDrawn w.frame text
+  pub in_user : has tracks.user v ≡ true → w.frame.width ≡ width_of tracks.width User
+  pub in_system : has tracks.system v ≡ true → w.frame.width ≡ width_of tracks.width System
+
+-- all windows do
+abbrev pub AllShow : DeskState → ViewersSeen WindowSeen → Type 0
+AllShow d viewers =
+    (v : ℕ) (w : WindowSeen) → content_of viewers.contents v ≡ Some w → ShowsText d viewers.tracks v w
+
+-- a viewer's window has a row for each of the viewer's but the menu
+abbrev pub HasRows : ViewersSeen WindowSeen → ℕ → Type 0
+HasRows viewers v = (w : WindowSeen) (area : Area) → content_of viewers.contents v ≡ Some w
+    → area_of viewers.tracks v ≡ Some area → suc (length w.frame.rows) ≡ area.height
+
+-- all windows show texts of the desk, in their viewers' rows
+pub record ShowTexts (d : DeskState) (viewers : ViewersSeen WindowSeen) : Type 0 where
+  pub texts : AllShow d viewers
+  pub high : (v : ℕ) → HasRows viewers v
+
+-- the same viewers show the same texts from the same lines on
+pub record AreSameWindows (old new : ViewersSeen WindowSeen) : Type 0 where
+  pub tracks : new.tracks ≡ old.tracks
+  pub next : new.next ≡ old.next
+  pub windows : windows_of new.contents ≡ windows_of old.contents
+
+-- these changes lead from what a text showed to what it shows now; its characters stay, in their order
+pub record Follows (changes : List Change) (t now : TextState) : Type 0 where
+  pub well : IsText t
+  pub order : KeepsTheOrder t now
+  pub kept : (anchor : Anchor) → IsAnchor t.operations anchor → IsAnchor now.operations anchor
+  pub leads : Leads SameChar changes (shown_of t) (shown_of now)
+
+-- a window of the text of this number is told of its changes; a window of another text stays
+pub record Told (number : ℕ) (changes : List Change) (now : TextState) (old new : WindowSeen) : Type 0 where
+  pub text : new.text ≡ old.text
+  pub anchor : new.frame.anchor ≡ old.frame.anchor
+  pub width : new.frame.width ≡ old.frame.width
+  pub rows : length new.frame.rows ≡ length old.frame.rows
+  pub other : (old.text ≡ number → ⊥) → (new ≡ old) × (old.text - 1 ≡ number - 1 → ⊥)
+  pub drawn : old.text ≡ number → (t : TextState) → Follows changes t now → IsDrawn old.frame t → IsDrawn new.frame now
+
+-- a call comes to what the machine says: its answer, and the screen then; a refusal leaves all as it was
+pub record ComesTo {R : Type 0} (out : Arranged) (old : WindowsSeen) (told : R → Option ℕ) (result : Result R Refusal) (new : WindowsSeen) : Type 0 where
+  pub done : (s : Screened) (v : Option ℕ) → out ≡ Ok (s, v)
+      → (r : R) × (result ≡ Ok r) × (told r ≡ v) × (screened new ≡ s)
+  pub refused : (why : Refusal) → out ≡ Err why → (result ≡ Err why) × (new ≡ old)
+
+-- or, where the machine doesn't refuse it, memory is short, and all is as it was
+abbrev pub ComesToOrShort : {R : Type 0} (out : Arranged) (old : WindowsSeen) (told : R → Option ℕ) (result : Result R Refusal) (new : WindowsSeen) → Type 0
+ComesToOrShort out old told result new =
+    ComesTo out old told result new ⊎ (IsOk out × (result ≡ Err OutOfMemory) × (new ≡ old))

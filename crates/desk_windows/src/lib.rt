@@ -1,0 +1,9 @@
+//! The windows of a site's viewers: each shows a text of the site's desk by a frame, which is drawn of that text.
+#![tactic(auto)]
+
+mod fitting;
+mod telling;
+mod window;
+mod windows;
+
+pub use windows::Windows;
