@@ -12,7 +12,7 @@ use Rattle.viewers.specs.Viewers.{ViewersSeen, content_of, numbers, with_content
 use Rattle.texts.specs.TextState.{TextState}
 use Rattle.machine.specs.DeskState.{DeskState, InText, IsTextOf, with_text}
 use Rattle.text_frames.specs.Frames.{IsDrawn}
-use Rattle.desk_windows.specs.Windows.{Follows, ShowTexts, ShowsText, Told, WindowSeen, windows_of}
+use Rattle.desk_windows.specs.Windows.{AreLeft, Follows, ShowTexts, ShowsText, Told, WindowSeen, windows_of}
 
 take_front : {X : Type 0} (ws xs : List X) → take (length ws) (ws ++ xs) ≡ ws
 take_front [] xs = refl
@@ -55,6 +55,19 @@ told_windows number changes now (entry ∷ rest) (w ∷ ws) each =
     λ i. (entry.0, record { text = first.text i; anchor = first.anchor i }) ∷ more i
 
 module _ (number : ℕ) (changes : List Change) (now : TextState) where
+  -- what a loop over these windows tells, told of the viewers' contents
+  pub told_each : (contents : List (ℕ × WindowSeen)) (cs ws : List WindowSeen) → cs ≡ map (λ entry. entry.1) contents
+      → length ws ≡ length cs
+      → ((k : ℕ) (d : WindowSeen) → k < length cs → Told number changes now (slice_index_or cs k d) (slice_index_or ws k d))
+      → (length ws ≡ length contents)
+      × ((k : ℕ) (d : WindowSeen) → k < length (map (λ entry. entry.1) contents)
+      → Told number changes now (slice_index_or (map (λ entry. entry.1) contents) k d) (slice_index_or ws k d))
+  told_each contents cs ws same long told = (
+    long ∙ (ap length same ∙ length-map contents (λ entry. entry.1)),
+    subst (λ (l : List WindowSeen). (k : ℕ) (d : WindowSeen) → k < length l
+        → Told number changes now (slice_index_or l k d) (slice_index_or ws k d)) same told,
+  )
+
   -- a text that this one was told of its changes from
   module _ (d d' : DeskState) (at' : IsTextOf d' number now) where
     follows_now : (t t' : TextState) → IsTextOf d number t → Follows changes t t' → d' ≡ with_text d number t'
@@ -120,6 +133,11 @@ module _ (number : ℕ) (changes : List Change) (now : TextState) where
     found u x e =
         shown_alike (Told number changes now) s.contents ws u x each_told
         (subst (λ (l : List (ℕ × WindowSeen)). content_of l u ≡ Some x) contents_are e)
+
+    pub all_left : AreLeft number changes s (with_contents s ws)
+    all_left u x e =
+        let f = found u x e in
+        (f.0, f.1, record { other = λ apart. (f.2.other apart).0; quiet = f.2.quiet })
 
     pub all_told : (d d' : DeskState) → IsTextOf d' number now → ShowTexts d s → InText (Follows changes) d number d'
         → ShowTexts d' (with_contents s ws)

@@ -1,5 +1,6 @@
 -- What contracts see of the windows of a site's viewers, and when they show its texts.
 use Rattle.std.specs.Prelude.{◌≡◌, ℕ, suc, ◌-◌, ◌≤◌, List, map, length, true, Option, Some, Result, Ok, Err, IsOk, ◌⊎◌}
+use Rattle.std.specs.List.{AllPass}
 use Rattle.looks.specs.declared.refusal.Refusal.{Refusal}
 use Rattle.looks.specs.declared.refusal.Refusal.TheVariants.{OutOfMemory}
 use Rattle.viewers.specs.Screen.{ScreenSeen, area_of, has, user_width}
@@ -17,7 +18,7 @@ use Rattle.texts.specs.TextState.{TextState, shown_of}
 use Rattle.machine.specs.DeskState.{DeskState, IsTextOf}
 use Rattle.machine.specs.Windows.{Arranged, Caret, Screened, Selected, Window}
 use Rattle.machine.specs.declared.TheConstants.{MAX_TEXT}
-use Rattle.text_frames.specs.Frames.{FrameSeen, IsDrawn}
+use Rattle.text_frames.specs.Frames.{FrameSeen, IsDrawn, is_quiet_for}
 
 -- what a viewer shows: a text, by a frame
 pub record WindowSeen : Type 0 where
@@ -98,6 +99,18 @@ pub record Told (number : ℕ) (changes : List Change) (now : TextState) (old ne
   pub rows : length new.frame.rows ≡ length old.frame.rows
   pub other : (old.text ≡ number → ⊥) → (new ≡ old) × (old.text - 1 ≡ number - 1 → ⊥)
   pub drawn : old.text ≡ number → (t : TextState) → Follows changes t now → IsDrawn old.frame t → IsDrawn new.frame now
+  pub quiet : old.text ≡ number → AllPass (is_quiet_for old.frame) changes → new.frame ≡ record old.frame { reads = 0 }
+
+-- a window of another text stays, and one of this text whose frame all changes are quiet for keeps its rows and reads
+-- nothing
+pub record IsLeft (number : ℕ) (changes : List Change) (old new : WindowSeen) : Type 0 where
+  pub other : (old.text ≡ number → ⊥) → new ≡ old
+  pub quiet : old.text ≡ number → AllPass (is_quiet_for old.frame) changes → new.frame ≡ record old.frame { reads = 0 }
+
+-- so it is with what each viewer shows
+abbrev pub AreLeft : (number : ℕ) → List Change → (old new : ViewersSeen WindowSeen) → Type 0
+AreLeft number changes old new = (v : ℕ) (x : WindowSeen) → content_of new.contents v ≡ Some x
+    → (w : WindowSeen) × (content_of old.contents v ≡ Some w) × IsLeft number changes w x
 
 -- a call comes to what the machine says: its answer, and the screen then; a refusal leaves all as it was
 pub record ComesTo {R : Type 0} (out : Arranged) (old : WindowsSeen) (told : R → Option ℕ) (result : Result R Refusal) (new : WindowsSeen) : Type 0 where

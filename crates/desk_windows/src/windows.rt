@@ -5,7 +5,7 @@ ghost use Rattle.looks.specs.declared.refusal.Refusal.TheVariants.{NoRoom};
 ghost use Rattle.viewers.specs.Viewers.{after_opening, has_room};
 ghost use Rattle.machine.specs.DeskState.{DeskState, InText};
 ghost use Rattle.machine.specs.Windows.{arranged, blank_screen, close, is_open, is_row_below, move, open_in, scroll};
-ghost use Rattle.desk_windows.specs.Windows.{ComesTo, ComesToOrShort, Follows, ShowTexts, screened, width_of};
+ghost use Rattle.desk_windows.specs.Windows.{AreLeft, ComesTo, ComesToOrShort, Follows, ShowTexts, screened, width_of};
 
 use crate::fitting::fit_all;
 use crate::telling::tell_each;
@@ -212,12 +212,13 @@ impl Windows {
     }
 
     /// Tells each window of a text of what changed in it. Where the windows showed a site's texts, of which this one alone
-    /// has changed since, and so, they show them as they are now.
+    /// has changed since, and so, they show them as they are now. A window that only quiet changes reach reads nothing.
     pub fn tell(&mut self, texts: &Texts, text: TextNo, changes: &[Change])
         requires { text ≤ MAX_TEXT }
         ensures screen { screened self.new ≡ screened self.old }
         ensures shown { (d : DeskState) → ShowTexts d self.old.viewers
             → InText (Follows changes.now) d text texts.now → ShowTexts texts.now self.new.viewers }
+        ensures left { AreLeft text changes.now self.old.viewers self.new.viewers }
     {
         let replica = texts.replica(text);
         tell_each(self.viewers.contents_mut(), replica, text, changes);
