@@ -23,7 +23,7 @@ use Rattle.reader_scanner.specs.declared.token.TokenValue.TheVariants as value
 use Rattle.text_file.specs.Files.{IsFileOf, IsNoFile, formatted}
 use Rattle.text_file.specs.declared.TheConstants.{MAX_TEXT as MAX_STORED}
 use Rattle.texts.specs.Edit.{Edit, anchor_before, insertion, looks_change, recalling, restoration}
-use Rattle.texts.specs.TextState.{TextState, shown_items, shown_of, with_room}
+use Rattle.texts.specs.TextState.{TextState, all_told, shown_items, shown_of, with_room}
 use Rattle.viewers.specs.Screen.{area_of}
 use Rattle.viewers.specs.declared.screen.Area.{Area}
 use Rattle.viewers.specs.declared.screen.Track.TheVariants.{User, System}
@@ -33,11 +33,12 @@ use Rattle.command_words.specs.declared.calls.Call.{Call}
 use Rattle.command_words.specs.declared.command.Command.{Command}
 use Rattle.command_words.specs.declared.command.Command.TheVariants as command
 use Rattle.shelf.specs.Files.{Files}
-use Rattle.machine.specs.DeskState.{DeskState, InText}
-use Rattle.machine.specs.Machine.{Does, Event, InDesk, IsTextAt, Reply, Short, State, edit, new_state, refuses}
+use Rattle.machine.specs.DeskState.{DeskState, InText, with_text}
+use Rattle.machine.specs.Machine.{Does, Event, InDesk, IsTextAt, Reply, Short, State, copy, edit, merge, new_state, query}
+use Rattle.machine.specs.Machine.{refuses, settle, take, unknown}
 use Rattle.machine.specs.ScreenPrinting.{marks_lines, screen_lines, views_lines}
 use Rattle.machine.specs.Windows.{Arrangement, Caret, Screened, Window, arranged, blank_screen, bytes_shown, close}
-use Rattle.machine.specs.Windows.{marked, open_in, place_in, position_in, viewer_with, window_of}
+use Rattle.machine.specs.Windows.{marked, open_in, place_in, position_in, text_of, viewer_with, window_of}
 use Rattle.machine.specs.declared.TheConstants.{MAX_TEXT}
 
 -- the texts of all desks with the messages sent, the screen of each desk, and the files
@@ -117,10 +118,30 @@ FileBecomes s name file new =
 abbrev pub TextSteps : Type 1
 TextSteps = State → Event → Reply → State → Type 0
 
+-- the desk, whose text of this number has told its changes
+abbrev pub desk_told : DeskState → (text : ℕ) → DeskState
+desk_told d text = option_map_or (λ t. with_text d text (all_told t)) (text_of d text) d
+
+-- the state, in which the text of this number on a desk has told its changes
+abbrev pub told_at : State → (i text : ℕ) → State
+told_at s i text =
+    option_map_or (λ d. record s { desks = slice_set s.desks i (desk_told d text) }) (slice_get s.desks i) s
+
+-- behind an event the text that it is for has told its changes, so that what shows it follows; a copy is for the other one
+abbrev pub told_behind : Event → State → State
+told_behind (edit i text e) s = told_at s i text
+told_behind (copy i text beg end other at) s = told_at s i other
+told_behind (take i text d) s = told_at s i text
+told_behind (settle i text) s = told_at s i text
+told_behind (merge i text j) s = told_at s i text
+told_behind (query i text q) s = s
+told_behind unknown s = s
+
 -- an event of texts; no screen changes
 abbrev pub OnText : TextSteps → RunState → Event → RunReply → RunState → Type 0
 OnText Steps s e r new =
-    (told : Reply) × (mid : State) × Steps s.texts e told mid × (r ≡ of_text told) × (new ≡ record s { texts = mid })
+    (told : Reply) × (mid : State) × Steps s.texts e told mid × (r ≡ of_text told)
+    × (new ≡ record s { texts = told_behind e mid })
 
 -- where the caret stands behind an edit at it: behind the last character that came in, or where it stood if none did
 abbrev pub caret_after : TextState → TextState → (was : ℕ) → Anchor → Anchor
@@ -136,7 +157,7 @@ AtCaret Steps s i w c window t edit_at r new =
     × Steps s.texts (edit i window.text (edit_at (place_in t c.anchor))) told mid × IsTextAt mid i window.text t'
     × (r ≡ of_text told)
     × (new ≡ record s {
-      texts = mid;
+      texts = told_at mid i window.text;
       screens = slice_set s.screens i (record w
           { caret = Some (record c { anchor = caret_after t t' (place_in t c.anchor) c.anchor }) });
     })

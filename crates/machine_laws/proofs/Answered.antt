@@ -1,7 +1,7 @@
 -- No task and no click lacks a rule.
-use Rattle.std.proofs.Common.{◌≡◌, ℕ, zero, suc, ◌+◌, ◌-◌, ◌<◌, ◌≤◌, true, false, Bool, List, [], ◌∷◌, ◌++◌, map, Option}
+use Rattle.std.proofs.Common.{◌≡◌, ℕ, zero, suc, ◌+◌, ◌-◌, ◌<◌, ◌≤◌, true, false, Bool, List, [], ◌++◌, map, Option}
 use Rattle.std.proofs.Common.{Some, None, Result, Ok, Err, refl, sym, ap, subst, ◌∙◌, inl, inr, length, take, drop, arith, true≢false}
-use Rattle.std.specs.Prelude.{◌⊎◌, MatchBool, IsTrue, bytes_eq, option_map, slice_get, slice_set, nat_lt}
+use Rattle.std.specs.Prelude.{◌⊎◌, MatchBool, IsTrue, bytes_eq, option_map, slice_set, nat_lt}
 use Rattle.std.specs.Prelude.{◌==◌, if◌then◌else◌}
 use Rattle.std.specs.Option.{option_and_then, option_map_or}
 use Rattle.std.proofs.lemmas.Bool.{cases_lt, cond_both, false_from_ne_true}
@@ -39,12 +39,13 @@ use Rattle.machine.specs.Whole.{IsTaskOfCall, Loads, Part, RunReply, RunState, S
 use Rattle.machine.specs.Whole.{change, clicked, clicked_in, done, dress_marked, failed, forget, forgot, found, is_caret_sign}
 use Rattle.machine.specs.Whole.{bytes_told, colour_told, file_told, font_told, offset_told, text_told}
 use Rattle.machine.specs.Whole.{lines_of_view, load, not_found, of_text, opens, print, prints_screen, put, put_recalled, refuse}
-use Rattle.machine.specs.Whole.{search, store, task_of, untouched, went_well, with_screen_at, with_told}
+use Rattle.machine.specs.Whole.{search, store, task_of, told_at, untouched, went_well, with_screen_at, with_told}
 use Rattle.machine.specs.Windows.{Arranged, Caret, Marked, Screened, Window, arranged, bytes_shown, marked, marked_as, place_in}
 use Rattle.machine.specs.Windows.{stretch_in, viewer_with, window_of}
 use Rattle.viewers.specs.Screen.{area_of}
 use Rattle.viewers.specs.declared.screen.Area.{Area}
 use Rattle.machine_laws.proofs.OneRunReply.{ComesTo, IsParameterBy, IsTaskBy, IsTaskIn, IsTaskTold, shown_parts}
+use Rattle.machine_laws.proofs.Telling.{put_there}
 use Rattle.machine_laws.specs.Laws.{AnswersAll, AreTexts, CaretHasText, EachTaskIsAnswered, HasText, MayHavePart}
 
 -- an edit of a text
@@ -97,12 +98,6 @@ edit_answered plain t e is = by (is_in_text t e) refl
         let (result, messages, new, stand, shows) = edit_done plain t e is within in
         (edit_reply result messages, new, (result, messages, stand, shows, refl))
     by false past = (refuses OutOfRange, t, (refl, refl))
-
--- what was put into a place that is there stands there
-put_there : {X : Type 0} (xs : List X) (i : ℕ) (x y : X) → slice_get xs i ≡ Some x → slice_get (slice_set xs i y) i ≡ Some y
-put_there [] i x y at = absurd (none-some x at)
-put_there (z ∷ xs) zero x y at = refl
-put_there (z ∷ xs) (suc i) x y at = put_there xs i x y at
 
 -- each edit of a text that is there is answered, and the text is there then
 edits : OwnEditsArePlain → (s : State) (i text : ℕ) (e : Edit) (t : TextState) → AreTexts s → IsTextAt s i text t
@@ -273,7 +268,7 @@ module _ (plain : OwnEditsArePlain) (s : RunState) (i : ℕ) (d : DeskState) (w 
       w.caret refl (λ e. free)
   tasks (change text e) part (t, there) free =
       let (r, mid, u, step, later) = edits plain s.texts i text e t are there in
-      (of_text r, record s { texts = mid }, (free, (r, mid, step, refl, refl)))
+      (of_text r, record s { texts = told_at mid i text }, (free, (r, mid, step, refl, refl)))
   tasks (forget text) part (t, (d', at_d, of_d)) free = (
     forgot (length t.waiting_room),
     _,

@@ -1,5 +1,8 @@
 pub mod Answered
+pub mod Arranging
+pub mod Following
 pub mod FrontLines
+pub mod Growing
 pub mod Numbered
 pub mod OneReply
 pub mod OneRunReply
@@ -7,4 +10,6 @@ pub mod Reaching
 pub mod ReachedRuns
 pub mod RisingSites
 pub mod Rooms
+pub mod SameScreens
 pub mod ShownLines
+pub mod Telling

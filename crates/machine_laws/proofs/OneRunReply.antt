@@ -6,8 +6,7 @@ use Rattle.std.specs.Prelude.{◌⊎◌, ◌≢◌, if◌then◌else◌, MatchBo
 use Rattle.std.specs.Prelude.{slice_get, slice_set, take}
 use Rattle.std.specs.Option.{option_map_or}
 use Rattle.std.proofs.lemmas.Bool.{cases_lt, eq-eqb}
-use Rattle.std.proofs.lemmas.List.{set-get_or}
-use Rattle.std.proofs.lemmas.Option.{get_or_from_slice_get, none-some, option_and_then_some, same_Some}
+use Rattle.std.proofs.lemmas.Option.{none-some, option_and_then_some, same_Some}
 use Rattle.std.proofs.lemmas.Slice.Eq.{bytes_eq-Decides}
 use Rattle.looks.specs.declared.refusal.Refusal.{Refusal}
 use Rattle.looks.specs.declared.refusal.Refusal.TheVariants.{BadFile, NoCaret, NoSelection, NoViewer, OutOfMemory}
@@ -34,20 +33,16 @@ use Rattle.machine.specs.Whole.{AtCaret, Clicked, DoesTask, FileBecomes, Forgets
 use Rattle.machine.specs.Whole.{IsParameter, IsTaskAt, IsTaskOfCall, Loads, LoadsShort, OnText, Part, Refuses, RunDoes, RunEvent}
 use Rattle.machine.specs.Whole.{RunReply, RunShort, RunState, Searches, ShortTask, Stores, Task, TextSteps, WithCaret, arrange}
 use Rattle.machine.specs.Whole.{ask, caret_after, change, click, clicked, done, failed, forget, forgot, found, is_caret_sign}
-use Rattle.machine.specs.Whole.{load, of_text, on_text, opens, print, put, put_recalled, refuse, search, store, task_of, untouched}
+use Rattle.machine.specs.Whole.{load, of_text, on_text, opens, print, put, put_recalled, refuse, search, store, task_of, told_at, told_behind, untouched}
 use Rattle.machine.specs.Whole.{went_well, with_screen_at}
 use Rattle.machine.specs.Windows.{Arranged, Caret, Marked, Screened, Window, arranged, bytes_shown, close, marked, move}
 use Rattle.machine.specs.Windows.{open_in, place_in, point, scroll, select, shown_by, text_of, window_of}
 use Rattle.machine_laws.proofs.OneReply.{IsPartOfEdit, one_element, one_text, part_of_edit}
-use Rattle.machine_laws.specs.Laws.{EachEventHasOneReply, EachRunEventHasOneReply, HaveOneRunShape}
-use Rattle.machine_laws.specs.Laws.{HaveOneShape}
+use Rattle.machine_laws.proofs.Telling.{put_back, told_same}
+use Rattle.machine_laws.specs.Laws.{EachEventHasOneReply, EachRunEventHasOneReply, HaveOneRunShape, HaveOneShape, HaveTold}
 
 no_element : {A : Type 0} (o : Option A) (x : A) → o ≡ None → o ≡ Some x → ⊥
 no_element o x nope at_x = none-some x (sym nope ∙ at_x)
-
--- what is put in its own place changes nothing
-put_back : {X : Type 0} (xs : List X) (i : ℕ) (x : X) → slice_get xs i ≡ Some x → slice_set xs i x ≡ xs
-put_back xs i x at = ap (slice_set xs i) (sym (get_or_from_slice_get xs i x x at)) ∙ set-get_or xs i x
 
 abbrev AreSame : RunReply → RunReply → RunState → RunState → Type 0
 AreSame r r' new new' = (r ≡ r') × (new ≡ new')
@@ -67,7 +62,7 @@ on_texts : (Steps : TextSteps) (s : RunState) (e : Event) (r r' : RunReply) (new
     → OnText Steps s e r new → OnText Steps s e r' new' → AreSame r r' new new'
 on_texts Steps s e r r' new new' one (told, mid, does, is, is_new) (told', mid', does', is', is_new') =
     let same = one e told told' mid mid' is is' does does' in
-    (is ∙ ap of_text same.0 ∙ sym is', is_new ∙ (λ k. record s { texts = same.1 k }) ∙ sym is_new')
+    (is ∙ ap of_text same.0 ∙ sym is', is_new ∙ (λ k. record s { texts = told_behind e (same.1 k) }) ∙ sym is_new')
 
 -- at the caret
 
@@ -82,7 +77,7 @@ at_caret Steps s i w c window t edit_at r r' new new' one (told, mid, u, does, t
     (subst (λ (x : State). IsTextAt x i window.text u) same.1 there) there' in (
       is ∙ ap of_text same.0 ∙ sym is',
       is_new ∙ (λ k. record s {
-        texts = same.1 k;
+        texts = told_at (same.1 k) i window.text;
         screens = slice_set s.screens i (record w
             { caret = Some (record c { anchor = caret_after t (texts k) (place_in t c.anchor) c.anchor }) });
       }) ∙ sym is_new',
@@ -389,11 +384,11 @@ stays s i text e told mid (why, is_why) (d, x, at, (t, u, of_d, short, is_x), is
         let apart : refuses why ≡ stops (map spelling (take n (plan t e))) n OutOfMemory = sym is_why ∙ is in absurd cc
 
 -- so did one at the caret, which stands where it stood
-caret_stays : (s : RunState) (i : ℕ) (w : Screened) (c : Caret) (window : Window) (t : TextState) (edit_at : ℕ → Edit)
+caret_stays : (s : RunState) → HaveTold s.texts → (i : ℕ) (w : Screened) (c : Caret) (window : Window) (t : TextState) (edit_at : ℕ → Edit)
     (r : RunReply) (new : RunState) → slice_get s.screens i ≡ Some w → w.caret ≡ Some c
     → IsTextAt s.texts i window.text t → ((told : Reply) → r ≡ of_text told → IsRefusal told)
     → AtCaret Short s i w c window t edit_at r new → Refuses s OutOfMemory r new
-caret_stays s i w c window t edit_at r new screen caret here refusal (told, mid, u, does, there, is, is_new) =
+caret_stays s told_all i w c window t edit_at r new screen caret here refusal (told, mid, u, does, there, is, is_new) =
     let stay = stays s.texts i window.text (edit_at (place_in t c.anchor)) told mid (refusal told is) does in
     let texts : u ≡ t = one_text s.texts i window.text u t
     (subst (λ (x : State). IsTextAt x i window.text u) stay.1 there) here in
@@ -406,71 +401,73 @@ caret_stays s i w c window t edit_at r new screen caret here refusal (told, mid,
     (record w { caret = Some (record c { anchor = caret_after t u (place_in t c.anchor) c.anchor }) }) ≡ s.screens =
     ap (λ (a : Anchor). slice_set s.screens i (record w { caret = Some (record c { anchor = a }) })) anchor
     ∙ (λ k. slice_set s.screens i (record w { caret = sym caret k })) ∙ put_back s.screens i w screen in
-    (is ∙ ap of_text stay.0, is_new ∙ (λ k. record s { texts = stay.1 k; screens = screens k }))
+    let state : told_at mid i window.text ≡ s.texts =
+    ap (λ (x : State). told_at x i window.text) stay.1 ∙ told_same s.texts i window.text told_all in
+    (is ∙ ap of_text stay.0, is_new ∙ (λ k. record s { texts = state k; screens = screens k }))
 
-loads_short : OneText → (s : RunState) (i : ℕ) (w : Screened) (name : List ℕ) (part : Part) (c : Caret)
+loads_short : OneText → (s : RunState) → HaveTold s.texts → (i : ℕ) (w : Screened) (name : List ℕ) (part : Part) (c : Caret)
     (window : Window) (t : TextState) (r r' : RunReply) (new new' : RunState) → slice_get s.screens i ≡ Some w
     → w.caret ≡ Some c → IsTextAt s.texts i window.text t → HaveOneRunShape r r' → TellsOne Short s r r'
     → LoadsShort s i w name part c window t r new → LoadsShort s i w name part c window t r' new'
     → AreSame r r' new new'
-loads_short file_so s i w name untouched c window t r r' new new' screen caret here shape one a b =
+loads_short file_so s told_all i w name untouched c window t r r' new new' screen caret here shape one a b =
     refuses_one s OutOfMemory r r' new new' a b
-loads_short file_so s i w name (failed left) c window t r r' new new' screen caret here shape one a b = absurd a
-loads_short file_so s i w name went_well c window t r r' new new' screen caret here shape one (file, at, inl a)
+loads_short file_so s told_all i w name (failed left) c window t r r' new new' screen caret here shape one a b = absurd a
+loads_short file_so s told_all i w name went_well c window t r r' new new' screen caret here shape one (file, at, inl a)
     (file', at', inl b) = refuses_one s OutOfMemory r r' new new' a.1 b.1
-loads_short file_so s i w name went_well c window t r r' new new' screen caret here shape one (file, at, inl a)
+loads_short file_so s told_all i w name went_well c window t r r' new new' screen caret here shape one (file, at, inl a)
     (file', at', inr (items, is, goes)) =
     refuses_one s OutOfMemory r r' new new' a.1
-    (caret_stays s i w c window t (λ p. insertion p items) r' new' screen caret here
+    (caret_stays s told_all i w c window t (λ p. insertion p items) r' new' screen caret here
     (λ told is'. refusal_second told OutOfMemory (told_shape (refuses OutOfMemory) told r r' a.1.0 is' shape)) goes)
-loads_short file_so s i w name went_well c window t r r' new new' screen caret here shape one
+loads_short file_so s told_all i w name went_well c window t r r' new new' screen caret here shape one
     (file, at, inr (items, is, goes)) (file', at', inl b) =
     refuses_one s OutOfMemory r r' new new'
-    (caret_stays s i w c window t (λ p. insertion p items) r new screen caret here
+    (caret_stays s told_all i w c window t (λ p. insertion p items) r new screen caret here
     (λ told is'. refusal_first told OutOfMemory (told_shape told (refuses OutOfMemory) r r' is' b.1.0 shape)) goes) b.1
-loads_short file_so s i w name went_well c window t r r' new new' screen caret here shape one
+loads_short file_so s told_all i w name went_well c window t r r' new new' screen caret here shape one
     (file, at, inr (items, is, goes)) (file', at', inr (items', is', goes')) =
     at_caret Short s i w c window t (λ p. insertion p items) r r' new new' one goes
     (loaded_so file_so (λ x. AtCaret Short s i w c window t (λ p. insertion p x) r' new') s name file file' items items'
     at at' is is' goes')
 
 -- what a desk is asked
-tasks_short : OneText → (s : RunState) (i : ℕ) (d : DeskState) (w : Screened) (t : Task) (part : Part) (r r' : RunReply)
+tasks_short : OneText → (s : RunState) → HaveTold s.texts → (i : ℕ) (d : DeskState) (w : Screened) (t : Task) (part : Part) (r r' : RunReply)
     (new new' : RunState) → IsDeskAt s i d w → HaveOneRunShape r r' → TellsOne Short s r r'
     → ShortTask s i d w t part r new → ShortTask s i d w t part r' new' → AreSame r r' new new'
-tasks_short file_so s i d w (refuse why) part r r' new new' at shape one a b = absurd a
-tasks_short file_so s i d w (put items) part r r' new new' at shape one a b = with_caret d w _ _ _
+tasks_short file_so s told_all i d w (refuse why) part r r' new new' at shape one a b = absurd a
+tasks_short file_so s told_all i d w (put items) part r r' new new' at shape one a b = with_caret d w _ _ _
     (λ c window t caret shows x y. at_caret Short s i w c window t (λ p. insertion p items) r r' new new' one x y) a.1 b.1
-tasks_short file_so s i d w put_recalled part r r' new new' at shape one a b = with_caret d w _ _ _
+tasks_short file_so s told_all i d w put_recalled part r r' new new' at shape one a b = with_caret d w _ _ _
     (λ c window t caret shows x y. at_caret Short s i w c window t recalling r r' new new' one x y) a.1 b.1
-tasks_short file_so s i d w (load name) part r r' new new' at shape one a b = with_caret d w _ _ _
-    (λ c window t caret shows x y. loads_short file_so s i w name part c window t r r' new new' at.screen caret
+tasks_short file_so s told_all i d w (load name) part r r' new new' at shape one a b = with_caret d w _ _ _
+    (λ c window t caret shows x y. loads_short file_so s told_all i w name part c window t r r' new new' at.screen caret
     (d, at.texts, (shown_parts d w c.viewer (window, t) shows).1) shape one x y) a b
-tasks_short file_so s i d w (store text name) part r r' new new' at shape one (p, there, a) (p', there', b) =
+tasks_short file_so s told_all i d w (store text name) part r r' new new' at shape one (p, there, a) (p', there', b) =
     refuses_one s OutOfMemory r r' new new' a b
-tasks_short file_so s i d w (search bytes) part r r' new new' at shape one a b = absurd a
-tasks_short file_so s i d w (change text e) part r r' new new' at shape one a b =
+tasks_short file_so s told_all i d w (search bytes) part r r' new new' at shape one a b = absurd a
+tasks_short file_so s told_all i d w (change text e) part r r' new new' at shape one a b =
     on_texts Short s (edit i text e) r r' new new' one a.1 b.1
-tasks_short file_so s i d w (forget text) part r r' new new' at shape one a b = absurd a
-tasks_short file_so s i d w (arrange (open_in track text row)) part r r' new new' at shape one (p, ok, a) (p', ok', b) =
+tasks_short file_so s told_all i d w (forget text) part r r' new new' at shape one a b = absurd a
+tasks_short file_so s told_all i d w (arrange (open_in track text row)) part r r' new new' at shape one (p, ok, a) (p', ok', b) =
     refuses_one s OutOfMemory r r' new new' a b
-tasks_short file_so s i d w (arrange (close v)) part r r' new new' at shape one a b = absurd a
-tasks_short file_so s i d w (arrange (move v row)) part r r' new new' at shape one a b = absurd a
-tasks_short file_so s i d w (arrange (scroll v line)) part r r' new new' at shape one a b = absurd a
-tasks_short file_so s i d w (arrange (point col row)) part r r' new new' at shape one a b = absurd a
-tasks_short file_so s i d w (arrange (select col row col' row')) part r r' new new' at shape one a b = absurd a
-tasks_short file_so s i d w (print v) part r r' new new' at shape one (p, a) (p', b) =
+tasks_short file_so s told_all i d w (arrange (close v)) part r r' new new' at shape one a b = absurd a
+tasks_short file_so s told_all i d w (arrange (move v row)) part r r' new new' at shape one a b = absurd a
+tasks_short file_so s told_all i d w (arrange (scroll v line)) part r r' new new' at shape one a b = absurd a
+tasks_short file_so s told_all i d w (arrange (point col row)) part r r' new new' at shape one a b = absurd a
+tasks_short file_so s told_all i d w (arrange (select col row col' row')) part r r' new new' at shape one a b = absurd a
+tasks_short file_so s told_all i d w (print v) part r r' new new' at shape one (p, a) (p', b) =
     refuses_one s OutOfMemory r r' new new' a b
 
-one_short : OneText → (s : RunState) (e : RunEvent) (part : Part) (r r' : RunReply) (new new' : RunState)
+one_short : OneText → (s : RunState) → HaveTold s.texts → (e : RunEvent) (part : Part) (r r' : RunReply) (new new' : RunState)
     → HaveOneRunShape r r' → TellsOne Short s r r' → RunShort s e part r new → RunShort s e part r' new'
     → AreSame r r' new new'
-one_short file_so s (on_text e) part r r' new new' shape one a b = on_texts Short s e r r' new new' one a.1 b.1
-one_short file_so s (ask i t) part r r' new new' shape one (d, w, at, does) (d', w', at', does') =
-    tasks_short file_so s i d w t part r r' new new' at shape one does
+one_short file_so s told_all (on_text e) part r r' new new' shape one a b = on_texts Short s e r r' new new' one a.1 b.1
+one_short file_so s told_all (ask i t) part r r' new new' shape one (d, w, at, does) (d', w', at', does') =
+    tasks_short file_so s told_all i d w t part r r' new new' at shape one does
     (at_desk (λ d w. ShortTask s i d w t part r' new') s i d d' w w' at at' does')
-one_short file_so s (click i col row) part r r' new new' shape one (d, w, t, at, is, does) (d', w', t', at', is', does') =
-    tasks_short file_so s i d w t part r r' new new' at shape one does
+one_short file_so s told_all (click i col row) part r r' new new' shape one (d, w, t, at, is, does) (d', w', t', at', is', does') =
+    tasks_short file_so s told_all i d w t part r r' new new' at shape one does
     (at_task (λ d w t. ShortTask s i d w t part r' new') s i col row d d' w w' t t' at at' is is' does')
 
 -- each event of the whole machine has one reply
@@ -478,7 +475,7 @@ pub one_run_reply : EachEventHasOneReply → OneText → EachRunEventHasOneReply
 one_run_reply texts_so file_so s e part are = record {
   whole = λ r r' new new'. one_whole file_so s e part r r' new new'
       (λ e told told' mid mid' is is'. (texts_so s.texts e are).whole told told' mid mid');
-  short = λ r r' new new' does does' shape. one_short file_so s e part r r' new new' shape
+  short = λ told_all r r' new new' does does' shape. one_short file_so s told_all e part r r' new new' shape
       (λ e told told' mid mid' is is' does does'. (texts_so s.texts e are).short told told' mid mid' does does'
       (told_shape told told' r r' is is' shape)) does does';
 }

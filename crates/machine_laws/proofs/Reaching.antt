@@ -102,7 +102,7 @@ mapped : {A B : Type 0} (f : A → B) (xs : List A) (i : ℕ) (b : B) → slice_
 mapped f xs i b at = of_option f (slice_get xs i) b (sym (slice_get-map f xs i) ∙ at)
 
 -- the texts of a new run are empty
-new_texts : (first count i text : ℕ) (t : TextState) → IsTextAt (new_state first count) i text t
+pub new_texts : (first count i text : ℕ) (t : TextState) → IsTextAt (new_state first count) i text t
     → (number site : ℕ) × (empty_text number site ≡ t)
 new_texts first count i text t (d, at, there) =
     let (site, is) = mapped new_desk (range_with_len first count) i d at in
@@ -160,36 +160,36 @@ after_fate t op LowStamp result new does fate is = stayed t new _ result does is
 after_fate t op Ready result new does fate is = taken_in_text t op false result new does
 
 -- a message leaves the text defined
-takes_text : (message : List ℕ) (r : Reply) (t new : TextState) → TakesText message r t new → IsText t → IsText new
+pub takes_text : (message : List ℕ) (r : Reply) (t new : TextState) → TakesText message r t new → IsText t → IsText new
 takes_text message r t new (result, inl (spells_none, stays), replied) is = stayed t new _ result stays is
 takes_text message r t new (result, inr (op, fate, tells, has, becomes), replied) is =
     after_fate t op fate result new becomes has is
 
-takes_text_short : (message : List ℕ) (r : Reply) (t new : TextState) → TakesTextShort message r t new → IsText t
+pub takes_text_short : (message : List ℕ) (r : Reply) (t new : TextState) → TakesTextShort message r t new → IsText t
     → IsText new
 takes_text_short message r t new (result, inl (spells, stays), replied) is = stayed t new _ result stays is
 takes_text_short message r t new (result, inr (op, tells, has, takes_in), replied) is =
     taken_in_text t op true result new takes_in
 
 -- so does a settling
-settles_text : (stopped : Bool) (r : Reply) (t new : TextState) → SettlesText stopped r t new → IsText t → IsText new
+pub settles_text : (stopped : Bool) (r : Reply) (t new : TextState) → SettlesText stopped r t new → IsText t → IsText new
 settles_text stopped r t new (drained, dropped, drains, replied) is = drained_is_text drains is
 
 -- a merge that changes nothing
-left_by_merge : (t u : TextState) (why : Refusal) (new : TextState) → Merges t u (Err (MergesNothing why)) new
+pub left_by_merge : (t u : TextState) (why : Refusal) (new : TextState) → Merges t u (Err (MergesNothing why)) new
     → new ≡ t
 left_by_merge t u WrongText new merges = merges.1
 left_by_merge t u Conflict new merges = merges.2
 left_by_merge t u why new merges = absurd merges
 
 -- and so does a merge
-merged : (t u : TextState) (result : Result ℕ MergeRefusal) (new : TextState) → Merges t u result new → IsText t
+pub merged : (t u : TextState) (result : Result ℕ MergeRefusal) (new : TextState) → Merges t u result new → IsText t
     → IsText new
 merged t u (Ok count) new merges is = merges.2.is
 merged t u (Err (MergesNothing why)) new merges is = subst IsText (sym (left_by_merge t u why new merges)) is
 merged t u (Err (Stopped done)) new merges is = absurd merges
 
-merged_short : (t u : TextState) (result : Result ℕ MergeRefusal) (new : TextState) → MergesShort t u result new
+pub merged_short : (t u : TextState) (result : Result ℕ MergeRefusal) (new : TextState) → MergesShort t u result new
     → IsText new
 merged_short t u (Ok count) new merges = absurd merges
 merged_short t u (Err (MergesNothing why)) new merges = absurd merges
@@ -247,7 +247,7 @@ module _ (plain : OwnEditsArePlain) where
       let few : n ≤ length (plan t e) = omega (arith, standing_within t (plan t e)) in
       standing t e n new messages within few stand is
 
-  edits_text : (e : Edit) (r : Reply) (t new : TextState) → EditsText e r t new → IsText t → IsText new
+  pub edits_text : (e : Edit) (r : Reply) (t new : TextState) → EditsText e r t new → IsText t → IsText new
   edits_text e r t new does is =
       elim (by_test (is_in_text t e) _ _ does) [
         | inl done ↦ let (result, messages, edits, shows, replied) = done.1 in
@@ -255,12 +255,12 @@ module _ (plain : OwnEditsArePlain) where
         | inr left ↦ subst IsText (sym left.1.1) is
       ]
 
-  edits_text_short : (e : Edit) (r : Reply) (t new : TextState) → EditsTextShort e r t new → IsText t → IsText new
+  pub edits_text_short : (e : Edit) (r : Reply) (t new : TextState) → EditsTextShort e r t new → IsText t → IsText new
   edits_text_short e r t new (within, inl (result, messages, edits, shows, replied)) is =
       edited_short t e result new messages within edits is
   edits_text_short e r t new (within, inr (some, replied, same)) is = subst IsText (sym same) is
 
-  copies_text : (t : TextState) (beg end pos : ℕ) (r : Reply) (u new : TextState) → CopiesText t beg end pos r u new
+  pub copies_text : (t : TextState) (beg end pos : ℕ) (r : Reply) (u new : TextState) → CopiesText t beg end pos r u new
       → IsText u → IsText new
   copies_text t beg end pos r u new does is =
       elim (by_test (is_copy_in t u beg end pos) _ _ does) [
@@ -271,7 +271,7 @@ module _ (plain : OwnEditsArePlain) where
         | inr left ↦ subst IsText (sym left.1.1) is
       ]
 
-  copies_text_short : (t : TextState) (beg end pos : ℕ) (r : Reply) (u new : TextState)
+  pub copies_text_short : (t : TextState) (beg end pos : ℕ) (r : Reply) (u new : TextState)
       → CopiesTextShort t beg end pos r u new → IsText u → IsText new
   copies_text_short t beg end pos r u new (positions, few, short) is =
       edits_text_short (copied t beg end pos) r u new short is

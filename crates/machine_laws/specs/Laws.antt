@@ -4,22 +4,23 @@ use Rattle.std.specs.Prelude.{◌≡◌, ◌≢◌, ◌⊎◌, ℕ, ◌+◌, ◌
 use Rattle.char_files.specs.Stretch.{Item}
 use Rattle.operations.specs.Operation.{Operation}
 use Rattle.tree_order.specs.Laws.{AreSameSet}
+use Rattle.tree_order.specs.Tree.{IsChar}
 use Rattle.set_laws.specs.Sets.{AreIdentified, HaveEqualFronts}
 use Rattle.shelf.specs.Files.{Files}
 use Rattle.text_file.specs.Files.{IsFileOf, IsNoFile}
 use Rattle.text_file.specs.declared.TheConstants.{MAX_TEXT as MAX_STORED}
-use Rattle.texts.specs.Text.{IsText}
+use Rattle.texts.specs.Text.{IsAnchor, IsText}
 use Rattle.texts.specs.TextState.{TextState, shown_items}
 use Rattle.texts.specs.declared.took.Took.TheVariants.{Taken}
-use Rattle.machine.specs.DeskState.{DeskState}
+use Rattle.machine.specs.DeskState.{DeskState, IsTextOf}
 use Rattle.machine.specs.Machine.{Does, Event, Query, Reply, Replies, Short, State, IsTextAt, Prints, new_state}
 use Rattle.machine.specs.Machine.{print_fronts, print_runs, print_text}
 use Rattle.machine.specs.Machine.{takes, settles, refuses, stops}
 use Rattle.machine.specs.Printing.{waiting_line}
 use Rattle.machine.specs.Whole.{IsDeskAt, IsTaskAt, Part, RunDoes, RunEvent, RunReplies, RunReply, RunShort, RunState}
-use Rattle.machine.specs.Whole.{Task, ask, change}
+use Rattle.machine.specs.Whole.{Task, View, ask, change, lines_of_view}
 use Rattle.machine.specs.Whole.{click, failed, forget, load, new_run, of_text, store, untouched, went_well}
-use Rattle.machine.specs.Windows.{Caret, Screened, Window, window_of}
+use Rattle.machine.specs.Windows.{Caret, Screened, Selected, Window, window_of}
 
 -- the states that a run of count sites from first on can come to
 pub data Reached (first count : ℕ) : State → Type 0 where
@@ -30,6 +31,10 @@ pub data Reached (first count : ℕ) : State → Type 0 where
 -- each text of each desk is what its operations define
 abbrev pub AreTexts : State → Type 0
 AreTexts s = (i text : ℕ) (t : TextState) → IsTextAt s i text t → IsText t
+
+-- each text of each desk has told its changes
+abbrev pub HaveTold : State → Type 0
+HaveTold s = (i text : ℕ) (t : TextState) → IsTextAt s i text t → t.asked ≡ length t.operations
 
 -- whatever a run does, each text is what its operations define
 abbrev pub WhatIsReachedIsDefined : Type 0
@@ -108,12 +113,13 @@ HaveOneRunShape (of_text r) (of_text r') = HaveOneShape r r'
 HaveOneRunShape r r' = ⊥
 
 -- An event of the whole machine, with this part of the files, has at most one reply and next state where memory is there; and
--- at most one of each shape, with its counts, where memory was refused.
+-- at most one of each shape, with its counts, where memory was refused and each text had told its changes. (Else a refused load
+-- would end in two ways: it reads nothing, and nothing changes; or its edit is refused, and the text tells its changes.)
 pub record HasOneRunReply (s : RunState) (e : RunEvent) (part : Part) : Type 0 where
   pub whole : (r r' : RunReply) (new new' : RunState) → RunDoes s e part r new → RunDoes s e part r' new'
       → (r ≡ r') × (new ≡ new')
-  pub short : (r r' : RunReply) (new new' : RunState) → RunShort s e part r new → RunShort s e part r' new'
-      → HaveOneRunShape r r' → (r ≡ r') × (new ≡ new')
+  pub short : HaveTold s.texts → (r r' : RunReply) (new new' : RunState) → RunShort s e part r new
+      → RunShort s e part r' new' → HaveOneRunShape r r' → (r ≡ r') × (new ≡ new')
 
 -- so it is with each event and each part, in each state whose texts are what their operations define
 abbrev pub EachRunEventHasOneReply : Type 0
@@ -172,12 +178,39 @@ pub data RunReached (first count width height : ℕ) (files : Files) : RunState 
       → RunReached first count width height files s → RunReplies s e part r new
       → RunReached first count width height files new
 
--- each text is what its operations define, and each desk's caret has a text
+-- the viewer shows one of the desk's texts, whose operations are such
+abbrev pub ShowsTextOf : DeskState → Screened → (v : ℕ) → (List Operation → Type 0) → Type 0
+ShowsTextOf d w v Has = (shown : Window × TextState) × (window_of d w v ≡ Some shown) × Has shown.1.operations
+
+-- All that is pointed at are characters: the caret, if there is one, stands in a viewer that shows a text, behind a character of
+-- that or at its beginning; what is selected begins and ends with characters of the text that its viewer shows; and each window
+-- begins behind a character of its text, or at the beginning.
+pub record StandsByChars (d : DeskState) (w : Screened) : Type 0 where
+  pub caret : (c : Caret) → w.caret ≡ Some c → ShowsTextOf d w c.viewer (λ ops. IsAnchor ops c.anchor)
+  pub selection : (x : Selected) → w.selected ≡ Some x
+      → ShowsTextOf d w x.viewer (λ ops. IsChar ops x.first × IsChar ops x.last)
+  pub windows : (v : ℕ) (shown : Window × TextState) → window_of d w v ≡ Some shown
+      → IsAnchor shown.1.operations shown.0.anchor
+
+-- each text is what its operations define and has told its changes, and all that each screen points at are its characters
 pub record IsSound (s : RunState) : Type 0 where
   pub texts : AreTexts s.texts
-  pub carets : (i : ℕ) (d : DeskState) (w : Screened) → IsDeskAt s i d w → CaretHasText d w
+  pub told : HaveTold s.texts
+  pub screens : (i : ℕ) (d : DeskState) (w : Screened) → IsDeskAt s i d w → StandsByChars d w
 
 -- so it is whatever a run of the whole machine does
 abbrev pub WhatARunReachesIsSound : Type 0
 WhatARunReachesIsSound = (first count width height : ℕ) (files : Files) (s : RunState)
     → RunReached first count width height files s → IsSound s
+
+-- Two desks have equally many texts, and those of one number, each what its operations define, have taken in the same
+-- operations, in whatever order.
+pub record HoldTheSame (d e : DeskState) : Type 0 where
+  pub count : length d.texts ≡ length e.texts
+  pub texts : (n : ℕ) (t u : TextState) → IsTextOf d n t → IsTextOf e n u
+      → IsText t × IsText u × AreSameSet t.operations u.operations
+
+-- over such desks one screen is printed alike: its caret and its selection, its viewers, and its cells
+abbrev pub TextsTellTheScreen : Type 0
+TextsTellTheScreen = (d e : DeskState) (w : Screened) → HoldTheSame d e
+    → (v : View) → lines_of_view d w v ≡ lines_of_view e w v

@@ -4,7 +4,8 @@
 
 ghost use Rattle.machine_laws.specs.Laws.{OperationsTellWhatIsPrinted, WhatIsReachedIsDefined, WhatIsReachedIsNumbered};
 ghost use Rattle.machine_laws.specs.Laws.{EachEventHasOneReply, EachRunEventHasOneReply, FrontLinesTellFronts};
-ghost use Rattle.machine_laws.specs.Laws.{EachTaskIsAnswered, FrontsTellWhatIsPrinted, WhatARunReachesIsSound};
+ghost use Rattle.machine_laws.specs.Laws.{EachTaskIsAnswered, FrontsTellWhatIsPrinted, TextsTellTheScreen};
+ghost use Rattle.machine_laws.specs.Laws.{WhatARunReachesIsSound};
 
 use char_files::runs_are_maximal;
 use convergence::outcomes::{
@@ -69,7 +70,8 @@ pub fn each_event_has_one_reply()
 }
 
 /// A law: an event of texts, screens, commands and files has one reply and one next state for each part that the files
-/// have in it, where memory is there; where it was refused, one of each shape and its counts.
+/// have in it, where memory is there; where it was refused, one of each shape and its counts, as long as each text had told
+/// its changes, which is so in each state that a run can come to.
 pub fn each_run_event_has_one_reply()
     ensures { EachRunEventHasOneReply }
 {
@@ -85,12 +87,21 @@ pub fn each_task_is_answered()
     own_edits_are_plain();
 }
 
-/// A law: whatever a run of texts, screens, commands and files does, each text is what its operations define, and each
-/// desk's caret stands in a viewer that shows one of the desk's texts.
+/// A law: whatever a run of texts, screens, commands and files does, each text is what its operations define and has told
+/// its changes, and all that a screen points at, by its caret, its selection and its viewers' first lines, are characters of
+/// the texts that it shows.
 pub fn what_a_run_reaches_is_sound()
     ensures { WhatARunReachesIsSound }
 {
     what_is_reached_is_defined();
     nothing_is_good();
     own_edits_are_plain();
+}
+
+/// A law: what is printed of a screen follows from which operations each of its site's texts has taken in, in whatever
+/// order, and from what the screen points at: two desks that hold the same print one screen alike.
+pub fn the_same_texts_show_the_same_screen()
+    ensures { TextsTellTheScreen }
+{
+    the_operations_tell_the_text();
 }
