@@ -2,11 +2,12 @@ ghost use Rattle.std.specs.Borrow.{Lends, sem};
 ghost use Rattle.std.specs.Prelude.{◌≡◌, ◌≤◌, map, length, IfOk};
 ghost use Rattle.looks.specs.Looks.{plain_looks};
 ghost use Rattle.looks.specs.Refusal.{RefusedForMemoryAlone};
+ghost use Rattle.taken_text.specs.Noted.{AreChangesSince};
 ghost use Rattle.texts.specs.Edit.{deletion, insertion, looks_change, recalling, restoration};
 ghost use Rattle.texts.specs.Text.{IsText};
-ghost use Rattle.texts.specs.TextState.{TextState};
+ghost use Rattle.texts.specs.TextState.{TextState, all_told, shown_of};
 ghost use Rattle.texts.specs.contracts.replica.Replica.{the_row as replica_row};
-ghost use Rattle.machine.specs.DeskState.{IsTextOf, new_desk, with_text};
+ghost use Rattle.machine.specs.DeskState.{InText, IsTextOf, new_desk, with_text};
 ghost use Rattle.machine.specs.Machine.{copy, edit};
 ghost use Rattle.machine.specs.Machine.{EditsDesk, MergesDesk, QueriesDesk, SettlesDesk, TakesDesk};
 ghost use Rattle.machine.specs.Machine.{print_fronts, print_runs, print_text};
@@ -16,6 +17,7 @@ use crate::editing::{change_looks_in, copy_out_of, cut_out_of, recall_into, type
 use crate::printing::{front_lines, text_lines};
 use crate::runs::run_lines;
 use char_files::{MAX_FILE, SiteNo, TextNo};
+use list_changes::Change;
 use looks::{Looks, Refusal, Sel};
 use machine::MAX_TEXT;
 use std::alloc::Global;
@@ -175,6 +177,16 @@ impl Texts {
         ensures { MergesDesk self.old text other.now result self.new }
     {
         self.replica_mut(text).merge_from(other.replica(text))
+    }
+
+    /// What changed of what a text shows since this was last asked for, as its replica tells. It takes no memory.
+    pub fn changes(&mut self, text: TextNo) -> Vec<Change>
+        requires on_desk { text ≤ MAX_TEXT }
+        ensures told { (t : TextState) × IsTextOf self.old text t
+            × AreChangesSince t.asked t.operations result.items (shown_of t) }
+        ensures asked { InText (λ t new. new ≡ all_told t) self.old text self.new }
+    {
+        self.replica_mut(text).changes()
     }
 
     /// A law: the desk has a text of this number, and it is what its operations define. A proof gets it by calling
