@@ -1,8 +1,12 @@
 pub mod Areas
+pub mod Cells
 pub mod Changed
 pub mod Comes
 pub mod Entries
 pub mod Fitted
+pub mod Going
+pub mod Pointed
+pub mod Printed
 pub mod Said
 pub mod Scrolling
 pub mod Standing

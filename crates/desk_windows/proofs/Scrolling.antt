@@ -12,7 +12,7 @@ use Rattle.desk_windows.specs.Windows.{ShowTexts, ShowsText, WindowSeen, Windows
 use Rattle.desk_windows.proofs.Entries.{content_with}
 use Rattle.desk_windows.proofs.Fitted.{set_rows, set_shown}
 
-shown_is : (contents : List (ℕ × WindowSeen)) (v : ℕ) → shown_by v (windows_of contents) ≡ option_map window_of (content_of contents v)
+pub shown_is : (contents : List (ℕ × WindowSeen)) (v : ℕ) → shown_by v (windows_of contents) ≡ option_map window_of (content_of contents v)
 shown_is [] v = refl
 shown_is (entry ∷ rest) v = by_test (eqb entry.0 v) (shown_is rest v)
   where
@@ -42,13 +42,16 @@ module _ (d : DeskState) (w : WindowsSeen) (v line : ℕ) where
     None,
   )) o (Err NoViewer)
 
+  pub shown_nothing : content_of w.viewers.contents v ≡ None → shown_window d (screened w) v ≡ None
+  shown_nothing none =
+      ap (option_and_then (λ window. option_map (λ t. (window, t)) (text_of d window.text)))
+      (shown_is w.viewers.contents v ∙ ap (option_map window_of) none)
+
   pub scrolled_not : content_of w.viewers.contents v ≡ None → scrolled_in d (screened w) v line ≡ Err NoViewer
-  scrolled_not none =
-      ap outcome (ap (option_and_then (λ window. option_map (λ t. (window, t)) (text_of d window.text)))
-      (shown_is w.viewers.contents v ∙ ap (option_map window_of) none))
+  scrolled_not none = ap outcome (shown_nothing none)
 
   module _ (x c : WindowSeen) (t : TextState) where
-    shown_text : content_of w.viewers.contents v ≡ Some x → IsTextOf d x.text t
+    pub shown_text : content_of w.viewers.contents v ≡ Some x → IsTextOf d x.text t
         → shown_window d (screened w) v ≡ Some (window_of x, t)
     shown_text is at =
         ap (option_and_then (λ window. option_map (λ t. (window, t)) (text_of d window.text)))

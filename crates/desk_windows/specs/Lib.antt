@@ -1,1 +1,3 @@
+pub mod Pointing
+pub mod Printing
 pub mod Windows

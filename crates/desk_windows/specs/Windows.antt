@@ -1,5 +1,5 @@
 -- What contracts see of the windows of a site's viewers, and when they show its texts.
-use Rattle.std.specs.Prelude.{◌≡◌, ℕ, suc, ◌-◌, ◌≤◌, List, map, length, true, Option, Some, Result, Ok, Err, IsOk, ◌⊎◌}
+use Rattle.std.specs.Prelude.{◌≡◌, ℕ, suc, ◌-◌, ◌≤◌, List, map, length, true, Option, Some, None, Result, Ok, Err, IsOk, ◌⊎◌}
 use Rattle.std.specs.List.{AllPass}
 use Rattle.looks.specs.declared.refusal.Refusal.{Refusal}
 use Rattle.looks.specs.declared.refusal.Refusal.TheVariants.{OutOfMemory}
@@ -9,14 +9,16 @@ use Rattle.viewers.specs.declared.screen.Area.{Area}
 use Rattle.viewers.specs.declared.screen.Track.{Track}
 use Rattle.viewers.specs.declared.screen.Track.TheVariants.{User, System}
 use Rattle.char_files.specs.declared.name.Anchor.{Anchor}
+use Rattle.tree_order.specs.Tree.{IsChar}
 use Rattle.list_changes.specs.Changes.{Leads}
 use Rattle.list_changes.specs.declared.change.Change.{Change}
 use Rattle.taken_text.specs.Noted.{SameChar}
+use Rattle.texts.specs.Edit.{anchor_before}
 use Rattle.texts.specs.Laws.{KeepsTheOrder}
 use Rattle.texts.specs.Text.{IsAnchor, IsText}
 use Rattle.texts.specs.TextState.{TextState, shown_of}
 use Rattle.machine.specs.DeskState.{DeskState, IsTextOf}
-use Rattle.machine.specs.Windows.{Arranged, Caret, Screened, Selected, Window}
+use Rattle.machine.specs.Windows.{Arranged, Caret, Screened, Selected, Window, place_in, window_of as shown_in}
 use Rattle.machine.specs.declared.TheConstants.{MAX_TEXT}
 use Rattle.text_frames.specs.Frames.{FrameSeen, IsDrawn, is_quiet_for}
 
@@ -77,6 +79,32 @@ HasRows viewers v = (w : WindowSeen) (area : Area) → content_of viewers.conten
 pub record ShowTexts (d : DeskState) (viewers : ViewersSeen WindowSeen) : Type 0 where
   pub texts : AllShow d viewers
   pub high : (v : ℕ) → HasRows viewers v
+
+-- a viewer shows a text of the desk of which this holds
+abbrev pub ShowsSo : DeskState → ViewersSeen WindowSeen → (viewer : ℕ) → (TextState → Type 0) → Type 0
+ShowsSo d viewers v Holds =
+    (w : WindowSeen) × (t : TextState) × (content_of viewers.contents v ≡ Some w) × IsTextOf d w.text t × Holds t
+
+-- The windows are those of the desk: all show its texts, and caret and selection stand in viewers, by characters of what
+-- these show.
+pub record AreOf (d : DeskState) (w : WindowsSeen) : Type 0 where
+  pub shown : ShowTexts d w.viewers
+  pub caret : (c : Caret) → w.caret ≡ Some c → ShowsSo d w.viewers c.viewer (λ t. IsAnchor t.operations c.anchor)
+  pub selected : (s : Selected) → w.selected ≡ Some s
+      → ShowsSo d w.viewers s.viewer (λ t. IsChar t.operations s.first × IsChar t.operations s.last)
+
+-- The caret's text, and how many shown characters stand ahead of the caret; nothing where there is no caret.
+abbrev pub IsCaretPlace : DeskState → WindowsSeen → Option (ℕ × ℕ) → Type 0
+IsCaretPlace d w None = w.caret ≡ None
+IsCaretPlace d w (Some place) = (c : Caret) × (shown : Window × TextState) × (w.caret ≡ Some c)
+    × (shown_in d (screened w) c.viewer ≡ Some shown) × (place.0 ≡ shown.0.text) × (place.1 ≡ place_in shown.1 c.anchor)
+
+-- the caret, set behind so many shown characters of its text
+abbrev pub HasMovedTo : DeskState → (old : WindowsSeen) → (pos : ℕ) → (new : WindowsSeen) → Type 0
+HasMovedTo d old pos new = (c : Caret) (shown : Window × TextState) → old.caret ≡ Some c
+    → shown_in d (screened old) c.viewer ≡ Some shown
+    → screened new ≡ record (screened old)
+    { caret = Some (record c { anchor = anchor_before (shown_of shown.1) pos }) }
 
 -- the same viewers show the same texts from the same lines on
 pub record AreSameWindows (old new : ViewersSeen WindowSeen) : Type 0 where

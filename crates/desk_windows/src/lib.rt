@@ -2,6 +2,9 @@
 #![tactic(auto)]
 
 mod fitting;
+mod marks;
+mod pointing;
+mod printing;
 mod telling;
 mod window;
 mod windows;

@@ -5,7 +5,7 @@ ghost use Rattle.looks.specs.declared.refusal.Refusal.TheVariants.{NoRoom};
 ghost use Rattle.viewers.specs.Viewers.{after_opening, has_room};
 ghost use Rattle.machine.specs.DeskState.{DeskState, InText};
 ghost use Rattle.machine.specs.Windows.{arranged, blank_screen, close, is_open, is_row_below, move, open_in, scroll};
-ghost use Rattle.desk_windows.specs.Windows.{AreLeft, ComesTo, ComesToOrShort, Follows, ShowTexts, screened, width_of};
+ghost use Rattle.desk_windows.specs.Windows.{AreLeft, AreOf, ComesTo, ComesToOrShort, Follows, screened, width_of};
 
 use crate::fitting::fit_all;
 use crate::telling::tell_each;
@@ -23,10 +23,10 @@ use viewers::{MAX_HEIGHT, MAX_WIDTH, MIN_HEIGHT, MIN_WIDTH, Screen, Track};
 /// The windows of a site's viewers over its texts, its caret, and what is selected. This project's own.
 #[derive(Drop)]
 pub struct Windows {
-    viewers: Screen<Window>,
-    caret: Option<Caret>,
-    selected: Option<Selection>,
-    alloc: Global,
+    pub(crate) viewers: Screen<Window>,
+    pub(crate) caret: Option<Caret>,
+    pub(crate) selected: Option<Selection>,
+    pub(crate) alloc: Global,
 }
 
 impl Model for Windows {
@@ -58,7 +58,7 @@ fn selection_without(selected: Option<Selection>, viewer: u32) -> Option<Selecti
 }
 
 // The columns of a track of a screen of this width.
-fn track_width(width: usize, track: Track) -> usize
+pub(crate) fn track_width(width: usize, track: Track) -> usize
     ensures { result ≡ width_of width track }
 {
     let border = width / 8 * 5;
@@ -98,7 +98,7 @@ impl Windows {
         requires high { MIN_HEIGHT ≤ height }
         requires low { height ≤ MAX_HEIGHT }
         ensures ok { IfOk result (λ w. screened w ≡ blank_screen width height) }
-        ensures shown { IfOk result (λ w. (d : DeskState) → ShowTexts d w.viewers) }
+        ensures of { IfOk result (λ w. (d : DeskState) → AreOf d w) }
         ensures errors { RefusedForMemoryAlone result }
     {
         Ok(Windows {
@@ -138,10 +138,10 @@ impl Windows {
         row: Option<usize>,
     ) -> Result<u32, Refusal>
         requires on_desk { text ≤ MAX_TEXT }
-        requires shown { ShowTexts texts.now self.old.viewers }
+        requires of { AreOf texts.now self.old }
         ensures comes { ComesToOrShort (arranged texts.now (screened self.old) (open_in track text row))
             self.old (λ v. Just v) result self.new }
-        ensures shown { ShowTexts texts.now self.new.viewers }
+        ensures of { AreOf texts.now self.new }
     {
         self.viewers.are_viewers();
         if self.is_below(row) {
@@ -161,10 +161,10 @@ impl Windows {
     ///
     /// Refused `NoViewer` for a number that isn't on the screen. Nothing is changed then.
     pub fn close(&mut self, texts: &Texts, viewer: u32) -> Result<(), Refusal>
-        requires { ShowTexts texts.now self.old.viewers }
+        requires { AreOf texts.now self.old }
         ensures comes { ComesTo (arranged texts.now (screened self.old) (close viewer))
             self.old (λ _. Nothing) result self.new }
-        ensures shown { ShowTexts texts.now self.new.viewers }
+        ensures of { AreOf texts.now self.new }
     {
         self.viewers.are_viewers();
         let _window = self.viewers.close(viewer)?;
@@ -179,10 +179,10 @@ impl Windows {
     /// Refused, in this order, `NoViewer` for a number that isn't on the screen, `OutOfRange` for a row below the screen, and
     /// `NoRoom` for the topmost viewer and where one of the two would keep fewer than two rows. Nothing is changed then.
     pub fn move_top(&mut self, texts: &Texts, viewer: u32, row: usize) -> Result<(), Refusal>
-        requires { ShowTexts texts.now self.old.viewers }
+        requires { AreOf texts.now self.old }
         ensures comes { ComesTo (arranged texts.now (screened self.old) (move viewer row))
             self.old (λ _. Nothing) result self.new }
-        ensures shown { ShowTexts texts.now self.new.viewers }
+        ensures of { AreOf texts.now self.new }
     {
         if !self.is_open(viewer) {
             return Err(Refusal::NoViewer);
@@ -199,10 +199,10 @@ impl Windows {
     ///
     /// Refused `NoViewer` for a number that isn't on the screen. Nothing is changed then.
     pub fn scroll(&mut self, texts: &Texts, viewer: u32, line: u64) -> Result<(), Refusal>
-        requires { ShowTexts texts.now self.old.viewers }
+        requires { AreOf texts.now self.old }
         ensures comes { ComesTo (arranged texts.now (screened self.old) (scroll viewer line))
             self.old (λ _. Nothing) result self.new }
-        ensures shown { ShowTexts texts.now self.new.viewers }
+        ensures of { AreOf texts.now self.new }
     {
         let Some(window) = self.viewers.content(viewer) else {
             return Err(Refusal::NoViewer);
@@ -216,8 +216,8 @@ impl Windows {
     pub fn tell(&mut self, texts: &Texts, text: TextNo, changes: &[Change])
         requires { text ≤ MAX_TEXT }
         ensures screen { screened self.new ≡ screened self.old }
-        ensures shown { (d : DeskState) → ShowTexts d self.old.viewers
-            → InText (Follows changes.now) d text texts.now → ShowTexts texts.now self.new.viewers }
+        ensures of { (d : DeskState) → AreOf d self.old → InText (Follows changes.now) d text texts.now
+            → AreOf texts.now self.new }
         ensures left { AreLeft text changes.now self.old.viewers self.new.viewers }
     {
         let replica = texts.replica(text);

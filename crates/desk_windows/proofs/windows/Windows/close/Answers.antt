@@ -2,8 +2,9 @@ use Rattle.std.proofs.Common.{◌≡◌, refl, sym, ap, ◌∙◌, subst, None, 
 use Rattle.std.proofs.lemmas.Result.{err_from_is_err_and}
 use Rattle.viewers.specs.Viewers.{ViewersSeen, content_of}
 use Rattle.machine.specs.Windows.{closed_at}
-use Rattle.desk_windows.specs.Windows.{AllShow, WindowSeen, WindowsSeen, screened}
+use Rattle.desk_windows.specs.Windows.{AllShow, AreOf, WindowSeen, WindowsSeen, screened}
 use Rattle.desk_windows.proofs.Comes.{comes_done, comes_refused}
+use Rattle.desk_windows.proofs.Going.{closed_are}
 use Rattle.desk_windows.proofs.Said.{closed_comes, closed_not, none_by_err, open_is, some_by_ok}
 use Rattle.desk_windows.proofs.Standing.{all_closed}
 use Rattle.desk_windows.proofs.windows.Windows.close.Goals as goal
@@ -27,7 +28,7 @@ returns-in_err-_window-clause-comes c =
 pub fit_all-requires : goal.fit_all-requires
 fit_all-requires c =
     let d = c.args.texts.now in
-    let all : AllShow d c.self.inside.viewers = subst (λ (w : WindowsSeen). AllShow d w.viewers) (sym c.self.view_is) c.requires.texts in
+    let all : AllShow d c.self.inside.viewers = subst (λ (w : WindowsSeen). AllShow d w.viewers) (sym c.self.view_is) c.requires.shown.texts in
     subst (λ (s : ViewersSeen WindowSeen). AllShow d s) (sym c.close.ensures.after)
     (all_closed d c.self.inside.viewers c.args.viewer all)
 
@@ -47,3 +48,16 @@ returns-clause-comes c =
     (closed_comes old c.args.viewer c.close.new.self c.fit_all.new.viewers c.caret_without-self-inside.result
     c.selection_without-self-inside.result c.are_viewers.ensures some c.close.ensures.after c.fit_all.ensures.same
     c.caret_without-self-inside.ensures c.selection_without-self-inside.ensures))
+
+pub returns-clause-of : goal.returns-clause-of
+returns-clause-of c =
+    let d = c.args.texts.now in let i = c.self.inside in
+    let old : WindowsSeen = record { viewers = i.viewers; caret = i.caret; selected = i.selected } in
+    let new : WindowsSeen = record {
+      viewers = c.fit_all.new.viewers;
+      caret = c.caret_without-self-inside.result;
+      selected = c.selection_without-self-inside.result;
+    } in
+    let are : AreOf d old = subst (λ (w : WindowsSeen). AreOf d w) (sym c.self.view_is) c.requires in
+    closed_are d old c.args.viewer c.close.new.self new are c.close.ensures.after c.fit_all.ensures.same
+    c.fit_all.ensures.shown c.caret_without-self-inside.ensures c.selection_without-self-inside.ensures

@@ -4,8 +4,9 @@ use Rattle.std.proofs.lemmas.Grind.{common_steps}
 use Rattle.std.proofs.lemmas.Result.{err_from_is_err_and}
 use Rattle.viewers.specs.Viewers.{ViewersSeen, with_top}
 use Rattle.machine.specs.Windows.{Screened, is_open, moved_to}
-use Rattle.desk_windows.specs.Windows.{AllShow, ShowTexts, WindowSeen, WindowsSeen, screened}
+use Rattle.desk_windows.specs.Windows.{AllShow, AreOf, WindowSeen, WindowsSeen, screened}
 use Rattle.desk_windows.proofs.Comes.{comes_done, comes_refused}
+use Rattle.desk_windows.proofs.Going.{moved_are}
 use Rattle.desk_windows.proofs.Said.{lands, moved_is, moved_refused, not_below}
 use Rattle.desk_windows.proofs.Standing.{all_moved}
 use Rattle.desk_windows.proofs.windows.Windows.move_top.Goals as goal
@@ -27,8 +28,8 @@ returns-in_err-move_top-clause-comes c =
     (comes_refused (moved_to (screened old) c.args.viewer c.args.row) old new (λ _. None) c.from_residual.result why
     (p.1 ∙ ap Err p.2) (λ t. record { viewers = kept t; caret = i.caret; selected = i.selected }) said.0)
 
-pub returns-in_err-move_top-clause-shown : goal.returns-in_err-move_top-clause-shown
-returns-in_err-move_top-clause-shown c =
+pub returns-in_err-move_top-clause-of : goal.returns-in_err-move_top-clause-of
+returns-in_err-move_top-clause-of c =
     let d = c.args.texts.now in let i = c.self.inside in
     let old : WindowsSeen = record { viewers = i.viewers; caret = i.caret; selected = i.selected } in
     let why = c.in_err-move_top.field-0.0 in
@@ -38,13 +39,13 @@ returns-in_err-move_top-clause-shown c =
     let said = moved_refused old c.args.viewer c.args.row why stands above
     (sym c.move_top.ensures.value ∙ c.in_err-move_top.was) in
     let kept = c.move_top.ensures.after ∙ said.1 in
-    let shows : ShowTexts d i.viewers = subst (λ (w : WindowsSeen). ShowTexts d w.viewers) (sym c.self.view_is) c.requires in
-    subst (λ (s : ViewersSeen WindowSeen). ShowTexts d s) (sym kept) shows
+    let are : AreOf d old = subst (λ (w : WindowsSeen). AreOf d w) (sym c.self.view_is) c.requires in
+    subst (λ (s : ViewersSeen WindowSeen). AreOf d (record { viewers = s; caret = i.caret; selected = i.selected })) (sym kept) are
 
 pub fit_all-requires : goal.fit_all-requires
 fit_all-requires c =
     let d = c.args.texts.now in
-    let all : AllShow d c.self.inside.viewers = subst (λ (w : WindowsSeen). AllShow d w.viewers) (sym c.self.view_is) c.requires.texts in
+    let all : AllShow d c.self.inside.viewers = subst (λ (w : WindowsSeen). AllShow d w.viewers) (sym c.self.view_is) c.requires.shown.texts in
     subst (λ (s : ViewersSeen WindowSeen). AllShow d s) (sym c.move_top.ensures.after)
     (all_moved d c.self.inside.viewers c.args.viewer c.args.row all)
 
@@ -63,3 +64,12 @@ returns-clause-comes c =
     (said ∙ ap (λ (s : Screened). Ok (s, None))
     (lands (with_top i.viewers c.args.viewer c.args.row) c.move_top.new.self c.fit_all.new.viewers i.caret i.selected
     c.move_top.ensures.after c.fit_all.ensures.same)))
+
+pub returns-clause-of : goal.returns-clause-of
+returns-clause-of c =
+    let d = c.args.texts.now in let i = c.self.inside in
+    let old : WindowsSeen = record { viewers = i.viewers; caret = i.caret; selected = i.selected } in
+    let new : WindowsSeen = record { viewers = c.fit_all.new.viewers; caret = i.caret; selected = i.selected } in
+    let are : AreOf d old = subst (λ (w : WindowsSeen). AreOf d w) (sym c.self.view_is) c.requires in
+    moved_are d old c.args.viewer c.args.row c.move_top.new.self new are c.move_top.ensures.after c.fit_all.ensures.same
+    c.fit_all.ensures.shown refl refl
