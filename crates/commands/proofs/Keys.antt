@@ -1,0 +1,362 @@
+-- What is typed at the caret: one step of the run, behind which the caret stands behind the last character that came in.
+use Rattle.std.proofs.Common.{◌≡◌, ◌⊎◌, ℕ, ◌+◌, ◌-◌, ◌≤◌, ◌<◌, true, false, Bool, List, [], ◌++◌, length, take, drop, Option, Some}
+use Rattle.std.proofs.Common.{None, Result, Ok, Err, refl, sym, ap, subst, ◌∙◌, inl, inr, arith, length-append}
+use Rattle.std.specs.Prelude.{◌==◌, if◌then◌else◌, is_none, option_map, slice_get, slice_set}
+use Rattle.std.proofs.lemmas.Bool.Decides.{Decides-eqb}
+use Rattle.std.proofs.lemmas.List.{take-append-drop}
+use Rattle.looks.specs.declared.refusal.Refusal.TheVariants.{NoCaret}
+use Rattle.char_files.specs.Stretch.{Item}
+use Rattle.char_files.specs.declared.character.Char.{Char}
+use Rattle.char_files.specs.declared.name.Anchor.{Anchor}
+use Rattle.text_frames.proofs.Places.{place_within}
+use Rattle.texts.specs.Edit.{anchor_before, insertion, is_in_text}
+use Rattle.texts.specs.Order.{put}
+use Rattle.texts.specs.Outcome.{Shows}
+use Rattle.texts.specs.Text.{IsAnchor, IsText}
+use Rattle.texts.specs.TextState.{TextState, all_told, shown_of}
+use Rattle.texts.specs.declared.edit_refusal.EditRefusal.{EditRefusal}
+use Rattle.texts.specs.declared.edit_refusal.EditRefusal.TheVariants.{Whole, Partial}
+use Rattle.machine.specs.DeskState.{DeskState, InText, IsTextOf}
+use Rattle.machine.specs.Machine.{EditsDesk, EditsText, EditsTextShort, IsTextAt, Replies, Reply, State, alone, edit, edit_reply}
+use Rattle.machine.specs.Whole.{RunReplies, RunState, ask, caret_after, of_text, told_at, untouched}
+use Rattle.machine.specs.Whole.{put as put_in}
+use Rattle.machine.specs.Windows.{Caret, Screened, Window, place_in, shown_by, window_of}
+use Rattle.machine_laws.proofs.Arranging.{shows_so}
+use Rattle.machine_laws.proofs.OneReply.{one_element}
+use Rattle.machine_laws.proofs.OneRunReply.{shown_parts}
+use Rattle.machine_laws.proofs.Rooms.{by_test}
+use Rattle.machine_laws.proofs.Telling.{put_there}
+use Rattle.desk_windows.proofs.Scrolling.{shown_is}
+use Rattle.desk_windows.specs.Windows.{AreOf, HasMovedTo, IsCaretPlace, WindowsSeen, screened, windows_of}
+use Rattle.desk_windows.specs.Windows.{window_of as seen_as}
+use Rattle.commands.proofs.Lifting.{HasText, edited_in, replies_lifted}
+use Rattle.commands.proofs.Steps.{Asked, run_stays, told_state}
+use Rattle.commands.specs.Steps.{DeskSeen, IsEditStep, StandsIn, with_desk}
+
+-- an insertion shows no less
+
+put_not_shorter : (xs : List Char) (n : ℕ) (run : List Char) → length xs ≤ length (put xs n run)
+put_not_shorter xs n run =
+    let all = length-append (take n xs ++ run) (drop n xs) in
+    let ahead = length-append (take n xs) run in
+    let parts = length-append (take n xs) (drop n xs) in
+    let whole : length (take n xs ++ drop n xs) ≡ length xs = ap (length {A = Char}) (take-append-drop n xs) in
+    omega arith
+
+shows_no_less : (t u : TextState) (pos : ℕ) (items : List Item) (result : Result ℕ EditRefusal)
+    → Shows t (insertion pos items) result u → length (shown_of t) ≤ length (shown_of u)
+shows_no_less t u pos items (Ok n) shows =
+    subst (λ (l : List Char). length (shown_of t) ≤ length l) (sym shows) (put_not_shorter (shown_of t) pos _)
+shows_no_less t u pos items (Err (Whole why)) shows =
+    let same : length (shown_of u) ≡ length (shown_of t) = ap (length {A = Char}) shows in omega arith
+shows_no_less t u pos items (Err (Partial n why)) shows =
+    subst (λ (l : List Char). length (shown_of t) ≤ length l) (sym shows) (put_not_shorter (shown_of t) pos _)
+
+stays_as_long : (t u : TextState) → u ≡ t → length (shown_of t) ≤ length (shown_of u)
+stays_as_long t u same =
+    let long : length (shown_of u) ≡ length (shown_of t) = ap (λ (x : TextState). length (shown_of x)) same in omega arith
+
+inserts_no_less : (t u : TextState) (pos : ℕ) (items : List Item) (r : Reply)
+    → EditsText (insertion pos items) r t u ⊎ EditsTextShort (insertion pos items) r t u
+    → length (shown_of t) ≤ length (shown_of u)
+inserts_no_less t u pos items r (inl does) =
+    elim (by_test (is_in_text t (insertion pos items)) _ _ does) [
+      | inl done ↦ let (result, messages, edits, shows, replied) = done.1 in shows_no_less t u pos items result shows
+      | inr left ↦ stays_as_long t u left.1.1
+    ]
+inserts_no_less t u pos items r (inr (within, inl (result, messages, edits, shows, replied))) =
+    shows_no_less t u pos items result shows
+inserts_no_less t u pos items r (inr (within, inr (some, replied, same))) = stays_as_long t u same
+
+equal_is : (a b : ℕ) → a ≡ b → (a == b) ≡ true
+equal_is a b same = (Decides-eqb a b).1 same
+
+unequal_is : (a b : ℕ) → (a ≡ b → ⊥) → (a == b) ≡ false
+unequal_is a b other = by (a == b) refl
+  where
+    by : (r : Bool) → (a == b) ≡ r → (a == b) ≡ false
+    by true is = absurd (other ((Decides-eqb a b).0 is))
+    by false is = is
+
+-- the caret behind an edit: it stays where nothing came in, else it stands behind what did
+caret_stays : (t u : TextState) (was : ℕ) (old : Anchor) → length (shown_of u) ≡ length (shown_of t)
+    → caret_after t u was old ≡ old
+caret_stays t u was old same =
+    ap (λ (b : Bool). if b then old else anchor_before (shown_of u) (was + (length (shown_of u) - length (shown_of t))))
+    (equal_is (length (shown_of u)) (length (shown_of t)) same)
+
+caret_moves : (t u : TextState) (was : ℕ) (old : Anchor) → length (shown_of t) < length (shown_of u)
+    → caret_after t u was old ≡ anchor_before (shown_of u) (was + (length (shown_of u) - length (shown_of t)))
+caret_moves t u was old more =
+    ap (λ (b : Bool). if b then old else anchor_before (shown_of u) (was + (length (shown_of u) - length (shown_of t))))
+    (unequal_is (length (shown_of u)) (length (shown_of t)) (λ same. omega arith))
+
+-- The caret stands in a viewer of a text of the desk, at a position of that, where characters were put in; and the windows
+-- were told.
+pub record IsTyped (d d' new : DeskState) (old mid : WindowsSeen) (place : ℕ × ℕ) (items : List Item)
+    (result : Result ℕ EditRefusal) (before after : List (List ℕ)) : Type 0 where
+  pub c : Caret
+  pub window : Window
+  pub t : TextState
+  pub caret : old.caret ≡ Some c
+  pub shown : window_of d (screened old) c.viewer ≡ Some (window, t)
+  pub is : IsText t
+  pub anchor : IsAnchor t.operations c.anchor
+  pub on : place.0 ≡ window.text
+  pub at : place.1 ≡ place_in t c.anchor
+  pub edited : EditsDesk d (edit 0 window.text (insertion (place_in t c.anchor) items)) result d' before after
+  pub told : Asked d' window.text new
+  pub same : screened mid ≡ screened old
+
+-- a caret's character is one of the text that its viewer shows
+anchored : (d : DeskState) (w : WindowsSeen) (c : Caret) (shown : Window × TextState) → AreOf d w → w.caret ≡ Some c
+    → window_of d (screened w) c.viewer ≡ Some shown → IsAnchor shown.1.operations c.anchor
+anchored d w c shown are is_caret shows =
+    let (x, t, there, at, anchor) = are.caret c is_caret in
+    let (by, its) = shown_parts d (screened w) c.viewer shown shows in
+    let window : shown.0 ≡ seen_as x =
+    one_element (shown_by c.viewer (windows_of w.viewers.contents)) shown.0 (seen_as x) by
+    (shown_is w.viewers.contents c.viewer ∙ ap (option_map seen_as) there) in
+    let text : shown.0.text ≡ x.text = ap (λ (y : Window). y.text) window in
+    let one : t ≡ shown.1 = one_element (slice_get d.texts (x.text - 1)) t shown.1 at
+    (subst (λ (n : ℕ). IsTextOf d n shown.1) text its) in
+    subst (λ (y : TextState). IsAnchor y.operations c.anchor) one anchor
+
+-- what is typed at the caret's place is typed so
+pub typed_at : (d d' new : DeskState) (old mid : WindowsSeen) (place : ℕ × ℕ) (items : List Item) (result : Result ℕ EditRefusal)
+    (before after : List (List ℕ)) → AreOf d old → IsCaretPlace d old (Some place) → HasText d place.0
+    → EditsDesk d (edit 0 place.0 (insertion place.1 items)) result d' before after → Asked d' place.0 new
+    → screened mid ≡ screened old → IsTyped d d' new old mid place items result before after
+typed_at d d' new old mid place items result before after are (c, shown, caret, shows, text, pos) (t, at, is) edited told same =
+    let one : t ≡ shown.1 = one_element (slice_get d.texts (shown.0.text - 1)) t shown.1
+    (subst (λ (n : ℕ). IsTextOf d n t) text at) (shown_parts d (screened old) c.viewer shown shows).1 in
+    record {
+      c = c;
+      window = shown.0;
+      t = shown.1;
+      caret = caret;
+      shown = shows;
+      is = subst IsText one is;
+      anchor = anchored d old c shown are caret shows;
+      on = text;
+      at = pos;
+      edited = subst (λ (n : ℕ). EditsDesk d (edit 0 n (insertion (place_in shown.1 c.anchor) items)) result d' before after) text
+          (subst (λ (n : ℕ). EditsDesk d (edit 0 place.0 (insertion n items)) result d' before after) pos edited);
+      told = subst (λ (n : ℕ). Asked d' n new) text told;
+      same = same;
+    }
+
+module _ {d d' new : DeskState} {old mid : WindowsSeen} {place : ℕ × ℕ} {items : List Item}
+    {result : Result ℕ EditRefusal} {before after : List (List ℕ)}
+    (k : IsTyped d d' new old mid place items result before after) where
+  open k use {c, window, t, caret, shown, edited, told, same}
+
+  parts : (shown_by c.viewer (screened old).windows ≡ Some window) × IsTextOf d window.text t
+  parts = shown_parts d (screened old) c.viewer (window, t) shown
+
+  typed : InText (λ x u. EditsText (insertion (place_in t c.anchor) items) (edit_reply result edited.0) x u
+      ⊎ EditsTextShort (insertion (place_in t c.anchor) items) (edit_reply result edited.0) x u) d window.text d'
+  typed =
+      edited_in d d' window.text (insertion (place_in t c.anchor) items) (edit_reply result edited.0) before after edited.2
+
+  pub text_then : TextState
+  text_then = typed.1
+
+  there_then : IsTextOf d' window.text text_then
+  unfolding text_then
+  there_then =
+      ap (λ (x : DeskState). slice_get x.texts (window.text - 1)) typed.4
+      ∙ put_there d.texts (window.text - 1) typed.0 typed.1 typed.2
+
+  in_new : IsTextOf new window.text (all_told text_then)
+  in_new =
+      let one : told.0 ≡ text_then = one_element (slice_get d'.texts (window.text - 1)) told.0 text_then told.2 there_then in
+      ap (λ (x : DeskState). slice_get x.texts (window.text - 1)) told.4
+      ∙ put_there d'.texts (window.text - 1) told.0 told.1 told.2 ∙ ap Some (told.3 ∙ ap all_told one)
+
+  no_less : length (shown_of t) ≤ length (shown_of text_then)
+  unfolding text_then
+  no_less =
+      let one : typed.0 ≡ t = one_element (slice_get d.texts (window.text - 1)) typed.0 t typed.2 parts.1 in
+      subst (λ (x : TextState). length (shown_of x) ≤ length (shown_of typed.1)) one
+      (inserts_no_less typed.0 typed.1 (place_in t c.anchor) items (edit_reply result edited.0) typed.3)
+
+  caret_there : mid.caret ≡ Some c
+  caret_there = ap (λ (w : Screened). w.caret) same ∙ caret
+
+  -- the caret's viewer shows that text then, and no other
+  shows_then : window_of new (screened mid) c.viewer ≡ Some (window, all_told text_then)
+  shows_then =
+      shows_so new (screened mid) c.viewer window (all_told text_then)
+      (ap (λ (w : Screened). shown_by c.viewer w.windows) same ∙ parts.0) in_new
+
+  one_shown : (other : Caret) (seen : Window × TextState) → mid.caret ≡ Some other
+      → window_of new (screened mid) other.viewer ≡ Some seen → seen ≡ (window, all_told text_then)
+  one_shown other seen is_caret shows =
+      let one : other ≡ c = one_element mid.caret other c is_caret caret_there in
+      one_element (window_of new (screened mid) c.viewer) seen (window, all_told text_then)
+      (ap (λ (x : Caret). window_of new (screened mid) x.viewer) (sym one) ∙ shows) shows_then
+
+  -- there is room for the caret behind what came in
+  place_then : place_in t c.anchor + (length (shown_of text_then) - length (shown_of t)) ≤ length (shown_of text_then)
+  place_then =
+      let within : place_in t c.anchor ≤ length (shown_of t) = place_within t k.is c.anchor k.anchor in
+      let longer : length (shown_of t) ≤ length (shown_of text_then) = no_less in
+      omega arith
+
+  -- the screen then, with the caret where it is to stand
+  abbrev CaretIsSet : Screened → Type 0
+  CaretIsSet w = w ≡ record (screened old)
+      { caret = Some (record c { anchor = caret_after t text_then (place_in t c.anchor) c.anchor }) }
+
+  set_by_none : length (shown_of text_then) ≤ length (shown_of t) → CaretIsSet (screened mid)
+  set_by_none none =
+      let longer : length (shown_of t) ≤ length (shown_of text_then) = no_less in
+      let as_long : length (shown_of text_then) ≡ length (shown_of t) = omega arith in
+      same ∙ (λ k. record (screened old) { caret = caret k })
+      ∙ (λ k. record (screened old) {
+        caret = Some (record c { anchor = sym (caret_stays t text_then (place_in t c.anchor) c.anchor as_long) k });
+      })
+
+  set_by_move : (end : WindowsSeen) → length (shown_of t) < length (shown_of text_then)
+      → screened end ≡ record (screened mid) {
+        caret = Some (record c {
+          anchor = anchor_before (shown_of text_then)
+              (place_in t c.anchor + (length (shown_of text_then) - length (shown_of t)));
+        });
+      }
+      → CaretIsSet (screened end)
+  set_by_move end more moved =
+      moved ∙ (λ k. record (same k) {
+        caret = Some (record c { anchor = sym (caret_moves t text_then (place_in t c.anchor) c.anchor more) k });
+      })
+
+  -- so what is typed is one step of every run in which the desk stands
+  key_step : (seen : DeskSeen) (w : Screened) → record { texts = d; screen = screened old } ≡ seen → CaretIsSet w
+      → IsEditStep seen (λ i. ask i (put_in items)) result (record { texts = new; screen = w }) before after
+  key_step seen w is set =
+      subst (λ (x : DeskSeen). IsEditStep x (λ i. ask i (put_in items)) result (record { texts = new; screen = w }) before after) is
+      (edited.0, edited.1, steps)
+    where
+      steps : (s : RunState) (i : ℕ) → StandsIn s i (record { texts = d; screen = screened old }) → s.texts.sent ≡ before
+          → RunReplies s (ask i (put_in items)) untouched (of_text (edit_reply result edited.0))
+          (with_desk s i (record { texts = new; screen = w }) after)
+      steps s i stands sent =
+          let mid_state : State = record s.texts { desks = slice_set s.texts.desks i d'; sent = after } in
+          let replies : Replies (alone d s.texts.sent) (edit 0 window.text (insertion (place_in t c.anchor) items))
+          (edit_reply result edited.0) (alone d' after) =
+          subst (λ (all : List (List ℕ)). Replies (alone d all) (edit 0 window.text (insertion (place_in t c.anchor) items))
+          (edit_reply result edited.0) (alone d' after)) (sym sent) edited.2 in
+          let at_then : IsTextAt mid_state i window.text text_then = (d', put_there s.texts.desks i d d' stands.texts, there_then) in
+          let run : with_desk s i (record { texts = new; screen = w }) after ≡ record s {
+            texts = told_at mid_state i window.text;
+            screens = slice_set s.screens i (record (screened old)
+                { caret = Some (record c { anchor = caret_after t text_then (place_in t c.anchor) c.anchor }) });
+          } = (λ k. record s {
+            texts = sym (told_state s i d (screened old) stands d' new after window.text told) k;
+            screens = slice_set s.screens i (set k);
+          }) in
+          elim (replies_lifted s.texts i d d' after stands.texts (edit 0 window.text (insertion (place_in t c.anchor) items))
+          (edit_reply result edited.0) tt replies) [
+            | inl does ↦ inl (
+              d,
+              screened old,
+              stands,
+              inr (
+                c,
+                (window, t),
+                caret,
+                shown,
+                (
+                  refl,
+                  (edit_reply result edited.0, mid_state, text_then, does, at_then, refl, run),
+                ),
+              ),
+            )
+            | inr short ↦ inr (
+              d,
+              screened old,
+              stands,
+              (
+                refl,
+                (
+                  c,
+                  (window, t),
+                  caret,
+                  shown,
+                  (edit_reply result edited.0, mid_state, text_then, short, at_then, refl, run),
+                ),
+              ),
+            )
+          ]
+
+  -- its lengths ahead of it and behind it, as the desk tells them
+  pub was_long : (x : TextState) (n : ℕ) → IsTextOf d place.0 x → n ≡ length (shown_of x) → n ≡ length (shown_of t)
+  was_long x n at is =
+      is ∙ ap (λ (y : TextState). length (shown_of y)) (one_element (slice_get d.texts (window.text - 1)) x t
+      (subst (λ (number : ℕ). IsTextOf d number x) k.on at) parts.1)
+
+  pub is_long : (x : TextState) (n : ℕ) → IsTextOf new place.0 x → n ≡ length (shown_of x)
+      → n ≡ length (shown_of text_then)
+  is_long x n at is =
+      is ∙ ap (λ (y : TextState). length (shown_of y)) (one_element (slice_get new.texts (window.text - 1)) x (all_told text_then)
+      (subst (λ (number : ℕ). IsTextOf new number x) k.on at) in_new)
+
+  module _ (n m : ℕ) (was : n ≡ length (shown_of t)) (now : m ≡ length (shown_of text_then)) where
+    goes : place.1 + (m - n) ≡ place_in t c.anchor + (length (shown_of text_then) - length (shown_of t))
+    goes = λ j. k.at j + (now j - was j)
+
+    -- there is room for the caret behind what came in
+    pub room_then : place.1 + (m - n) ≤ m
+    room_then =
+        let room : place_in t c.anchor + (length (shown_of text_then) - length (shown_of t)) ≤ length (shown_of text_then) =
+        place_then in
+        subst (λ (x : ℕ). x ≤ m) (sym goes) (omega arith)
+
+    pub in_text : (other : Caret) (seen : Window × TextState) → mid.caret ≡ Some other
+        → window_of new (screened mid) other.viewer ≡ Some seen → place.1 + (m - n) ≤ length (shown_of seen.1)
+    in_text other seen is_caret shows =
+        subst (λ (x : ℕ). place.1 + (m - n) ≤ x)
+        (now ∙ sym (ap (λ (x : Window × TextState). length (shown_of x.1)) (one_shown other seen is_caret shows))) room_then
+
+    -- the caret moves where the text has become longer
+    pub moved_step : (seen : DeskSeen) (end : WindowsSeen) → record { texts = d; screen = screened old } ≡ seen → n < m
+        → HasMovedTo new mid (place.1 + (m - n)) end
+        → IsEditStep seen (λ i. ask i (put_in items)) result (record { texts = new; screen = screened end }) before after
+    moved_step seen end is more moved =
+        key_step seen (screened end) is (set_by_move end (omega arith)
+        (moved c (window, all_told text_then) caret_there shows_then ∙ (λ j. record (screened mid) {
+          caret = Some (record c { anchor = anchor_before (shown_of text_then) (goes j) });
+        })))
+
+    -- and else it stays
+    pub stayed_step : (seen : DeskSeen) → record { texts = d; screen = screened old } ≡ seen → m ≤ n
+        → IsEditStep seen (λ i. ask i (put_in items)) result (record { texts = new; screen = screened mid }) before after
+    stayed_step seen is no_more = key_step seen (screened mid) is (set_by_none (omega arith))
+
+-- without a caret nothing is typed
+pub no_caret_step : (seen : DeskSeen) (d : DeskState) (w : Screened) → record { texts = d; screen = w } ≡ seen
+    → w.caret ≡ None → (items : List Item) (sent : List (List ℕ))
+    → IsEditStep seen (λ i. ask i (put_in items)) (Err (Whole NoCaret)) seen sent sent
+no_caret_step seen d w is none items sent =
+    subst (λ (x : DeskSeen). IsEditStep x (λ i. ask i (put_in items)) (Err (Whole NoCaret)) x sent sent) is (
+      [],
+      tt,
+      λ s i stands same. inl (
+        d,
+        w,
+        stands,
+        inl (
+          none,
+          refl,
+          (
+            refl,
+            (λ k. with_desk s i (record { texts = d; screen = w }) (sym same k)) ∙ sym (run_stays s i d w stands),
+          ),
+        ),
+      ),
+    )
+
+-- whether there is a caret
+pub is_there : (o : Option Caret) (c : Caret) → o ≡ Some c → is_none o ≡ false
+is_there o c is = ap is_none is

@@ -1,0 +1,6 @@
+pub mod Following
+pub mod Keys
+pub mod Lifting
+mod Names
+mod Standing
+pub mod Steps

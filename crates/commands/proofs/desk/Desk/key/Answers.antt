@@ -1,0 +1,82 @@
+use Rattle.std.proofs.Common.{arith, map}
+use Rattle.looks.specs.Looks.{plain_looks}
+use Rattle.texts.specs.Edit.{insertion}
+use Rattle.machine.specs.Machine.{edit}
+use Rattle.desk_windows.specs.Windows.{screened}
+use Rattle.commands.proofs.Keys.{in_text, is_long, moved_step, no_caret_step, room_then, stayed_step, typed_at, was_long}
+use Rattle.commands.proofs.Lifting.{edit_grows}
+use Rattle.commands.proofs.desk.Desk.key.Goals as goal
+
+pub returns-in_default-clause-step : goal.returns-in_default-clause-step
+returns-in_default-clause-step c = λ short.
+    no_caret_step c.args.self.now c.self.inside.texts (screened c.self.inside.windows) c.self.view_is
+    c.in_default.ensures.place (map (λ b. (b, plain_looks)) c.args.bytes.now) c.args.outbox.now
+
+pub overflow_add-pos : goal.overflow_add-pos
+overflow_add-pos c =
+    let typed =
+    typed_at c.self.inside.texts c.type_in-outcome.new.self c.tell.new.texts c.self.inside.windows c.tell.new.windows
+    c.in-Some.place (map (λ b. (b, plain_looks)) c.args.bytes.now) c.type_in-outcome.result c.args.outbox.now
+    c.type_in-outcome.new.outbox c.self.invariant.0 c.in-Some.ensures.place c.has_text.ensures c.type_in-outcome.ensures
+    c.tell.ensures.told c.tell.ensures.screen in
+    let room = room_then typed c.shown_len-before.result c.shown_len-after.result
+    (was_long typed c.replica.result.now c.shown_len-before.result c.replica.ensures c.shown_len-before.ensures)
+    (is_long typed c.replica-2.result.now c.shown_len-after.result c.replica-2.ensures c.shown_len-after.ensures) in
+    omega arith
+
+pub move_caret-requires-clause-of : goal.move_caret-requires-clause-of
+move_caret-requires-clause-of c =
+    (c.tell.ensures.shown c.self.inside.texts c.self.invariant.0 c.self.invariant.1
+    (edit_grows c.self.inside.texts c.type_in-outcome.new.self
+    (edit 0 c.in-Some.place.0 (insertion c.in-Some.place.1 (map (λ b. (b, plain_looks)) c.args.bytes.now))) c.type_in-outcome.result
+    c.args.outbox.now c.type_in-outcome.new.outbox tt c.has_text.ensures c.type_in-outcome.ensures)).0
+
+pub move_caret-requires-clause-in_text : goal.move_caret-requires-clause-in_text
+move_caret-requires-clause-in_text c =
+    let typed =
+    typed_at c.self.inside.texts c.type_in-outcome.new.self c.tell.new.texts c.self.inside.windows c.tell.new.windows
+    c.in-Some.place (map (λ b. (b, plain_looks)) c.args.bytes.now) c.type_in-outcome.result c.args.outbox.now
+    c.type_in-outcome.new.outbox c.self.invariant.0 c.in-Some.ensures.place c.has_text.ensures c.type_in-outcome.ensures
+    c.tell.ensures.told c.tell.ensures.screen in
+    in_text typed c.shown_len-before.result c.shown_len-after.result
+    (was_long typed c.replica.result.now c.shown_len-before.result c.replica.ensures c.shown_len-before.ensures)
+    (is_long typed c.replica-2.result.now c.shown_len-after.result c.replica-2.ensures c.shown_len-after.ensures)
+
+pub invariant_of-self : goal.invariant_of-self
+invariant_of-self c = (
+  c.move_caret.ensures.of,
+  (c.tell.ensures.shown c.self.inside.texts c.self.invariant.0 c.self.invariant.1
+      (edit_grows c.self.inside.texts c.type_in-outcome.new.self
+      (edit 0 c.in-Some.place.0 (insertion c.in-Some.place.1 (map (λ b. (b, plain_looks)) c.args.bytes.now))) c.type_in-outcome.result
+      c.args.outbox.now c.type_in-outcome.new.outbox tt c.has_text.ensures c.type_in-outcome.ensures)).1,
+)
+
+pub invariant_of-self-else-before-after : goal.invariant_of-self-else-before-after
+invariant_of-self-else-before-after c =
+    c.tell.ensures.shown c.self.inside.texts c.self.invariant.0 c.self.invariant.1
+    (edit_grows c.self.inside.texts c.type_in-outcome.new.self
+    (edit 0 c.in-Some.place.0 (insertion c.in-Some.place.1 (map (λ b. (b, plain_looks)) c.args.bytes.now))) c.type_in-outcome.result
+    c.args.outbox.now c.type_in-outcome.new.outbox tt c.has_text.ensures c.type_in-outcome.ensures)
+
+pub returns-then-before-after-clause-step : goal.returns-then-before-after-clause-step
+returns-then-before-after-clause-step c = λ short.
+    let typed =
+    typed_at c.self.inside.texts c.type_in-outcome.new.self c.tell.new.texts c.self.inside.windows c.tell.new.windows
+    c.in-Some.place (map (λ b. (b, plain_looks)) c.args.bytes.now) c.type_in-outcome.result c.args.outbox.now
+    c.type_in-outcome.new.outbox c.self.invariant.0 c.in-Some.ensures.place c.has_text.ensures c.type_in-outcome.ensures
+    c.tell.ensures.told c.tell.ensures.screen in
+    moved_step typed c.shown_len-before.result c.shown_len-after.result
+    (was_long typed c.replica.result.now c.shown_len-before.result c.replica.ensures c.shown_len-before.ensures)
+    (is_long typed c.replica-2.result.now c.shown_len-after.result c.replica-2.ensures c.shown_len-after.ensures) c.args.self.now c.move_caret.new.self
+    c.self.view_is c.if-before-after.true c.move_caret.ensures.moved
+
+pub returns-else-before-after-clause-step : goal.returns-else-before-after-clause-step
+returns-else-before-after-clause-step c = λ short.
+    let typed =
+    typed_at c.self.inside.texts c.type_in-outcome.new.self c.tell.new.texts c.self.inside.windows c.tell.new.windows
+    c.in-Some.place (map (λ b. (b, plain_looks)) c.args.bytes.now) c.type_in-outcome.result c.args.outbox.now
+    c.type_in-outcome.new.outbox c.self.invariant.0 c.in-Some.ensures.place c.has_text.ensures c.type_in-outcome.ensures
+    c.tell.ensures.told c.tell.ensures.screen in
+    stayed_step typed c.shown_len-before.result c.shown_len-after.result
+    (was_long typed c.replica.result.now c.shown_len-before.result c.replica.ensures c.shown_len-before.ensures)
+    (is_long typed c.replica-2.result.now c.shown_len-after.result c.replica-2.ensures c.shown_len-after.ensures) c.args.self.now c.self.view_is c.if-before-after.false

@@ -1,0 +1,21 @@
+use Rattle.std.proofs.Common.{ap, subst}
+use Rattle.machine.specs.DeskState.{DeskState}
+use Rattle.machine.specs.Machine.{MergesDesk}
+use Rattle.desk_windows.specs.Windows.{screened}
+use Rattle.commands.proofs.Lifting.{merge_grows}
+use Rattle.commands.proofs.Steps.{merge_step}
+use Rattle.commands.specs.Steps.{DeskSeen}
+use Rattle.commands.proofs.desk.Desk.merge.Goals as goal
+
+pub invariant_of-self : goal.invariant_of-self
+invariant_of-self c =
+    c.tell.ensures.shown c.self.inside.texts c.self.invariant.0 c.self.invariant.1
+    (merge_grows c.self.inside.texts c.merge-outcome.new.self c.other.inside.texts c.args.text c.merge-outcome.result
+    c.has_text.ensures c.merge-outcome.ensures)
+
+pub returns : goal.returns
+returns c =
+    merge_step c.args.self.now c.args.other.now c.self.inside.texts c.merge-outcome.new.self c.tell.new.texts
+    (screened c.self.inside.windows) (screened c.tell.new.windows) c.args.text c.merge-outcome.result c.self.view_is
+    (subst (λ (x : DeskState). MergesDesk c.self.inside.texts c.args.text x c.merge-outcome.result c.merge-outcome.new.self)
+    (ap (λ (x : DeskSeen). x.texts) c.other.view_is) c.merge-outcome.ensures) c.tell.ensures.told c.tell.ensures.screen

@@ -1,0 +1,16 @@
+use Rattle.desk_windows.specs.Windows.{screened}
+use Rattle.commands.proofs.Lifting.{take_grows}
+use Rattle.commands.proofs.Steps.{take_step}
+use Rattle.commands.proofs.desk.Desk.take.Goals as goal
+
+pub invariant_of-self : goal.invariant_of-self
+invariant_of-self c =
+    c.tell.ensures.shown c.self.inside.texts c.self.invariant.0 c.self.invariant.1
+    (take_grows c.self.inside.texts c.take-outcome.new.self c.args.text c.args.message.now c.take-outcome.result
+    c.has_text.ensures c.take-outcome.ensures)
+
+pub returns : goal.returns
+returns c =
+    take_step c.args.self.now c.self.inside.texts c.take-outcome.new.self c.tell.new.texts
+    (screened c.self.inside.windows) (screened c.tell.new.windows) c.args.text c.args.message.now c.take-outcome.result
+    c.self.view_is c.take-outcome.ensures c.tell.ensures.told c.tell.ensures.screen

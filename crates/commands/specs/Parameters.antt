@@ -1,0 +1,9 @@
+-- What a parameter has.
+use Rattle.looks.specs.FontName.{IsFontName}
+use Rattle.reader_scanner.specs.declared.token.TokenValue.{TokenValue}
+use Rattle.reader_scanner.specs.declared.token.TokenValue.TheVariants as value
+
+-- the value is a name that a font may have, as each name is that stands in a source
+abbrev pub HasFont : TokenValue → Type 0
+HasFont (value.Name name) = IsFontName name
+HasFont other = ⊥
