@@ -1,7 +1,7 @@
 -- What is typed at the caret: one step of the run, behind which the caret stands behind the last character that came in.
 use Rattle.std.proofs.Common.{◌≡◌, ◌⊎◌, ℕ, ◌+◌, ◌-◌, ◌≤◌, ◌<◌, true, false, Bool, List, [], ◌++◌, length, take, drop, Option, Some}
 use Rattle.std.proofs.Common.{None, Result, Ok, Err, refl, sym, ap, subst, ◌∙◌, inl, inr, arith, length-append}
-use Rattle.std.specs.Prelude.{◌==◌, if◌then◌else◌, is_none, option_map, slice_get, slice_set}
+use Rattle.std.specs.Prelude.{◌==◌, if◌then◌else◌, option_map, slice_get, slice_set}
 use Rattle.std.proofs.lemmas.Bool.Decides.{Decides-eqb}
 use Rattle.std.proofs.lemmas.List.{take-append-drop}
 use Rattle.looks.specs.declared.refusal.Refusal.TheVariants.{NoCaret}
@@ -356,7 +356,3 @@ no_caret_step seen d w is none items sent =
         ),
       ),
     )
-
--- whether there is a caret
-pub is_there : (o : Option Caret) (c : Caret) → o ≡ Some c → is_none o ≡ false
-is_there o c is = ap is_none is

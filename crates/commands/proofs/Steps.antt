@@ -13,7 +13,7 @@ use Rattle.texts.specs.declared.edit_refusal.EditRefusal.{EditRefusal}
 use Rattle.texts.specs.declared.merge_refusal.MergeRefusal.{MergeRefusal}
 use Rattle.machine.specs.DeskState.{DeskState, InText, with_text}
 use Rattle.machine.specs.Machine.{EditsDesk, Event, MergesDesk, Query, QueriesDesk, Replies, Reply, SettlesDesk, State}
-use Rattle.machine.specs.Machine.{TakesDesk, edit_reply, merge_reply, prints, query, refuses, settle, settles, take_reply}
+use Rattle.machine.specs.Machine.{TakesDesk, alone, edit_reply, merge_reply, prints, query, refuses, settle, settles, take_reply}
 use Rattle.machine.specs.Machine.{copy, edit, merge, take, unknown}
 use Rattle.machine.specs.Whole.{RunReplies, RunReply, RunState, View, arrange, ask, desk_told, done, lines_of_view, of_text, on_text}
 use Rattle.machine.specs.Whole.{opens, print, prints_screen, told_at, told_behind, untouched, with_screen_at}
@@ -102,7 +102,8 @@ edits d d' new w w' e result before after one (messages, count, replies) told sa
   λ s i stands sent.
       let r : Reply = edit_reply result messages in
       let mid : State = record s.texts { desks = slice_set s.texts.desks i d'; sent = after } in
-      let alone_so = subst (λ (all : List (List ℕ)). Replies (record { first = d.site; desks = d ∷ []; sent = all }) (at_desk 0 e) r (record { first = d'.site; desks = d' ∷ []; sent = after })) (sym sent) replies in
+      let alone_so =
+      subst (λ (all : List (List ℕ)). Replies (alone d all) (at_desk 0 e) r (alone d' after)) (sym sent) replies in
       subst (RunReplies s (on_text (at_desk i e)) untouched (of_text r))
       ((λ k. record s { texts = told_for i e mid one k }) ∙ run_told s i d w stands d' new w' after (text_for e) same told)
       (on_text_replies s (at_desk i e) r mid (replies_lifted s.texts i d d' after stands.texts e r one alone_so)),
@@ -218,7 +219,8 @@ module _ {X : Type 0} (seen : DeskSeen) (d : DeskState) (w : Screened) (is : rec
       (queries_so d w text q (bytes_of x) ok)
   query_step text q (Err why) ok short =
       subst (λ (x' : DeskSeen). IsStep x' (λ i. on_text (query i text q)) (of_text (refuses why)) x') is
-      (subst (λ (r : Refusal). IsStep (record { texts = d; screen = w }) (λ i. on_text (query i text q)) (of_text (refuses r)) (record { texts = d; screen = w }))
+      (subst (λ (r : Refusal). IsStep (record { texts = d; screen = w }) (λ i. on_text (query i text q)) (of_text (refuses r))
+      (record { texts = d; screen = w }))
       (sym short) (query_short d w text q))
 
   pub view_step : (v : View) (result : Result X Refusal)
@@ -229,7 +231,8 @@ module _ {X : Type 0} (seen : DeskSeen) (d : DeskState) (w : Screened) (is : rec
       (views_so d w v (bytes_of x) ok)
   view_step v (Err why) ok short =
       subst (λ (x' : DeskSeen). IsStep x' (λ i. ask i (print v)) (of_text (refuses why)) x') is
-      (subst (λ (r : Refusal). IsStep (record { texts = d; screen = w }) (λ i. ask i (print v)) (of_text (refuses r)) (record { texts = d; screen = w }))
+      (subst (λ (r : Refusal). IsStep (record { texts = d; screen = w }) (λ i. ask i (print v)) (of_text (refuses r))
+      (record { texts = d; screen = w }))
       (sym short) (view_short d w v))
 
 -- An arrangement comes to what the machine says of it: that is a step.

@@ -1,4 +1,4 @@
-ghost use Rattle.std.specs.Prelude.{◌≡◌, ◌<◌, ◌≤◌, map, length, nat_le, is_none, IfOk, Some as Just, None as Nothing, if◌then◌else◌};
+ghost use Rattle.std.specs.Prelude.{◌≡◌, ◌<◌, ◌≤◌, map, length, nat_le, is_none, IfOk, if◌then◌else◌};
 ghost use Rattle.looks.specs.Looks.{plain_looks};
 ghost use Rattle.looks.specs.Refusal.{RefusedForMemoryAlone};
 ghost use Rattle.looks.specs.declared.refusal.Refusal.TheVariants.{FileSpent, NoCaret, OutOfRange};
@@ -338,7 +338,8 @@ impl Desk {
     pub fn key(&mut self, bytes: &[u8], outbox: &mut Outbox) -> Result<u32, EditRefusal>
         ensures step { length bytes.now ≤ MAX_FILE → IsEditStep self.old
             (λ i. ask i (put (map (λ b. (b, plain_looks)) bytes.now))) result self.new outbox.old outbox.new }
-        ensures long { MAX_FILE < length bytes.now → (result ≡ Err (Whole (if is_none self.old.screen.caret then NoCaret else FileSpent)))
+        ensures long { MAX_FILE < length bytes.now
+            → (result ≡ Err (Whole (if is_none self.old.screen.caret then NoCaret else FileSpent)))
             × (self.new ≡ self.old) × (outbox.new ≡ outbox.old) }
     {
         let Some(place) = self.windows.caret_place(&self.texts) else {

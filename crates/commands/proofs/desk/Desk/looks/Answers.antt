@@ -8,11 +8,13 @@ use Rattle.commands.proofs.desk.Desk.looks.Goals as goal
 pub invariant_of-self : goal.invariant_of-self
 invariant_of-self c =
     c.tell.ensures.shown c.self.inside.texts c.self.invariant.0 c.self.invariant.1
-    (edit_grows c.self.inside.texts c.change_looks-outcome.new.self (edit 0 c.args.text (looks_change c.args.beg c.args.end c.args.sel c.args.looks.now)) c.change_looks-outcome.result
+    (edit_grows c.self.inside.texts c.change_looks-outcome.new.self
+    (edit 0 c.args.text (looks_change c.args.beg c.args.end c.args.sel c.args.looks.now)) c.change_looks-outcome.result
     c.args.outbox.now c.change_looks-outcome.new.outbox tt c.has_text.ensures c.change_looks-outcome.ensures)
 
 pub returns : goal.returns
 returns c =
     edit_step c.args.self.now c.self.inside.texts c.change_looks-outcome.new.self c.tell.new.texts (screened c.self.inside.windows)
-    (screened c.tell.new.windows) (edit 0 c.args.text (looks_change c.args.beg c.args.end c.args.sel c.args.looks.now)) c.change_looks-outcome.result
+    (screened c.tell.new.windows)
+    (edit 0 c.args.text (looks_change c.args.beg c.args.end c.args.sel c.args.looks.now)) c.change_looks-outcome.result
     c.args.outbox.now c.change_looks-outcome.new.outbox tt c.self.view_is c.change_looks-outcome.ensures c.tell.ensures.told c.tell.ensures.screen
