@@ -2,6 +2,7 @@
 use Rattle.std.proofs.Common.{◌≡◌, ℕ, zero, suc, ◌-◌, List, [], ◌∷◌, length, Option, Some, None, Contains, refl, sym, ap}
 use Rattle.std.proofs.Common.{subst, ◌∙◌, inl, inr, arith, true, false}
 use Rattle.std.specs.Prelude.{MatchOption, slice_get, slice_set}
+use Rattle.std.proofs.lemmas.List.{length-set}
 use Rattle.std.proofs.lemmas.List.Elements.{All-nil, Contains-append_left}
 use Rattle.std.proofs.lemmas.Option.{none-some}
 use Rattle.looks.specs.declared.refusal.Refusal.TheVariants.{BadEvent}
@@ -73,11 +74,12 @@ emptied_follows none t u is_u is told =
       λ op held. held,
     )
 
--- each text of a desk follows the one of its number, and where there was one there is one
+-- each text of a desk follows the one of its number, where there was one there is one, and there are as many
 abbrev pub DeskFollows : DeskState → DeskState → Type 0
 DeskFollows d d' =
     ((n : ℕ) (u : TextState) → IsTextOf d' n u → (t : TextState) × IsTextOf d n t × Follows t u)
     × ((n : ℕ) (t : TextState) → IsTextOf d n t → (u : TextState) × IsTextOf d' n u)
+    × (length d'.texts ≡ length d.texts)
 
 -- so it is with each desk of a run
 abbrev pub StateFollows : State → State → Type 0
@@ -85,7 +87,7 @@ StateFollows s new = (i : ℕ) (d' : DeskState) → slice_get new.desks i ≡ So
     → (d : DeskState) × (slice_get s.desks i ≡ Some d) × DeskFollows d d'
 
 desk_same : (d : DeskState) → DeskFollows d d
-desk_same d = (λ n u there. (u, there, same_follows u), λ n t there. (t, there))
+desk_same d = (λ n u there. (u, there, same_follows u), λ n t there. (t, there), refl)
 
 pub state_same : (s new : State) → new ≡ s → StateFollows s new
 state_same s new same = subst (StateFollows s) (sym same) (λ i d at. (d, at, desk_same d))
@@ -106,6 +108,7 @@ desk_follows Does' follow d text d' (t, u, at, does, is) = (
   λ n v there.
       let (z, here) = set_still d.texts (text - 1) (n - 1) v u there in
       (z, subst (λ (y : DeskState). IsTextOf y n z) (sym is) here),
+  ap (λ (y : DeskState). length y.texts) is ∙ length-set d.texts (text - 1) u,
 )
 
 -- what a text does that lets it follow lets the run's texts follow
@@ -150,7 +153,7 @@ taken_follows : (s : State) (i text : ℕ) (message : Option (List ℕ)) (r : Re
     → MatchOption message ((mid ≡ s) × (r ≡ refuses BadEvent))
     (λ bytes. InDesk (λ d d'. InText (TakesText bytes r) d text d') s i [] mid) → StateFollows s (told_at mid i text)
 taken_follows s i text None r mid told does =
-    state_same s (told_at mid i text) (ap (λ (x : State). told_at x i text) does.0 ∙ told_same s i text told)
+    state_same s (told_at mid i text) (ap (λ (x : State). told_at x i text) does.0 ∙ told_same s i text (told i text))
 taken_follows s i text (Some bytes) r mid told does =
     grown_state (TakesText bytes r) (takes_grow bytes r) s mid i text [] does
 

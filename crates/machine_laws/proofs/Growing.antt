@@ -156,10 +156,6 @@ merge_adds_short t u (Err (Stopped done)) new merges = taken_adds t new _ merges
 grown : (t new : TextState) → IsText t → IsText new → Adds t new → Grows t new
 grown t new was is (more, taken, asked) = record { was = was; is = is; more = more; taken = taken; asked = asked }
 
--- a text that stays as it is grows by nothing
-pub stays_grown : (t : TextState) → IsText t → Grows t t
-stays_grown t is = grown t t is is (adds_none t t refl)
-
 -- a message that is taken lets the text grow
 pub takes_grow : (message : List ℕ) (r : Reply) (t new : TextState) → TakesText message r t new → IsText t → Grows t new
 takes_grow message r t new does is = grown t new is (takes_text message r t new does is) (takes_add message r t new does)

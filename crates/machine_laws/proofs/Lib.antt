@@ -2,6 +2,7 @@ pub mod Answered
 pub mod Arranging
 pub mod Following
 pub mod FrontLines
+pub mod Going
 pub mod Growing
 pub mod Numbered
 pub mod OneReply
@@ -11,5 +12,6 @@ pub mod ReachedRuns
 pub mod RisingSites
 pub mod Rooms
 pub mod SameScreens
+pub mod Sending
 pub mod ShownLines
 pub mod Telling

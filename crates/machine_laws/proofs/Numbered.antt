@@ -13,6 +13,7 @@ use Rattle.char_files.specs.Stretch.{Stretch}
 use Rattle.char_files.specs.declared.TheConstants.{MAX_FILE}
 use Rattle.operations.specs.Operation.{Operation, OpKind}
 use Rattle.operations.specs.Spelling.{HasSpelling}
+use Rattle.shelf.specs.Files.{Files}
 use Rattle.set_laws.specs.Fronts.{front_of}
 use Rattle.texts.specs.Draining.{Drains, ends, stops, takes_in, throws_away}
 use Rattle.texts.specs.Edit.{Edit, after, insertion, deletion, inserts, is_in_text, is_restored, looks_change}
@@ -21,7 +22,7 @@ use Rattle.texts.specs.Merge.{Merges, MergesShort, is_past_front, news}
 use Rattle.texts.specs.Outcome.{Edits, EditsShort, count_standing, first_refusal, refusal_for, refusal_or}
 use Rattle.texts.specs.Take.{Becomes, Stays, TakesIn}
 use Rattle.texts.specs.Taking.{HasTakenAll}
-use Rattle.texts.specs.TextState.{TextState, empty_text, with_room}
+use Rattle.texts.specs.TextState.{TextState, all_told, empty_text, with_room}
 use Rattle.texts.specs.declared.TheConstants.{MAX_SEQ}
 use Rattle.texts.specs.declared.edit_refusal.EditRefusal.{EditRefusal}
 use Rattle.texts.specs.declared.edit_refusal.EditRefusal.TheVariants.{Whole, Partial}
@@ -32,15 +33,18 @@ use Rattle.texts.specs.declared.merge_refusal.MergeRefusal.{MergeRefusal}
 use Rattle.texts.specs.declared.merge_refusal.MergeRefusal.TheVariants.{Whole as MergesNothing, Stopped}
 use Rattle.texts.specs.declared.took.Took.{Took}
 use Rattle.texts.specs.declared.took.Took.TheVariants.{Waits}
-use Rattle.machine_laws.proofs.Reaching.{set_cases}
 use Rattle.machine.specs.DeskState.{DeskState, InText, IsTextOf, new_desk}
-use Rattle.machine_laws.specs.Laws.{AreNumbered, Reached, WhatIsReachedIsNumbered, begins, goes_on}
 use Rattle.machine.specs.Machine.{CopiesText, CopiesTextShort, Does, EditsText, EditsTextShort, Event, InDesk}
 use Rattle.machine.specs.Machine.{IsTextAt, MergesText, MergesTextShort, Replies, Reply, SettlesText, Short, State}
 use Rattle.machine.specs.Machine.{TakesText, TakesTextShort, copied, copy, edit, is_copy_in, merge, message_in}
 use Rattle.machine.specs.Machine.{messages_of, new_state, query, refuses, settle, unknown}
 use Rattle.machine.specs.Machine.{take as taking}
+use Rattle.machine.specs.Whole.{RunState, told_at, told_behind}
 use Rattle.machine_laws.proofs.FrontLines.{small_front}
+use Rattle.machine_laws.proofs.Going.{TextsGo, as_they_are, by_emptying, by_event, replies_go}
+use Rattle.machine_laws.proofs.Reaching.{set_cases}
+use Rattle.machine_laws.proofs.Telling.{told_cases}
+use Rattle.machine_laws.specs.Laws.{AreNumbered, RunReached, WhatIsReachedIsNumbered, run_begins, run_goes_on}
 
 -- an operation whose site and seq fit
 abbrev IsNumbered : Operation → Type 0
@@ -358,10 +362,38 @@ new_so first count few i text t (d, at, there) =
       waits = All-nil IsNumbered;
     })
 
-reached_so : (first count : ℕ) → first + count ≤ 2 ^ 16 → (s : State) → Reached first count s → AllHaveNumbers s
-reached_so first count few s begins = new_so first count few
-reached_so first count few s (goes_on {s =
-    before} e r new reached replies) = replies_so before e r new replies (reached_so first count few before reached)
+-- telling changes adds no number
+told_so : (s : State) (i text : ℕ) → AllHaveNumbers s → AllHaveNumbers (told_at s i text)
+told_so s i text all = elim (told_cases s i text) [
+  | inl same ↦ subst AllHaveNumbers (sym same) all
+  | inr tells ↦ on_text (λ t u. u ≡ all_told t) s (told_at s i text) i text []
+      (λ t u is has. subst HasNumbers (sym is) (record { site = has.site; taken = has.taken; waits = has.waits })) tells all
+]
+
+told_behind_so : (e : Event) (mid : State) → AllHaveNumbers mid → AllHaveNumbers (told_behind e mid)
+told_behind_so (edit i text e) mid all = told_so mid i text all
+told_behind_so (copy i text beg end other pos) mid all = told_so mid i other all
+told_behind_so (taking i text told) mid all = told_so mid i text all
+told_behind_so (settle i text) mid all = told_so mid i text all
+told_behind_so (merge i text j) mid all = told_so mid i text all
+told_behind_so (query i text q) mid all = all
+told_behind_so unknown mid all = all
+
+-- and so do the texts of the whole machine
+goes_so : (s new : State) → TextsGo s new → AllHaveNumbers s → AllHaveNumbers new
+goes_so s new (as_they_are same) all = subst AllHaveNumbers (sym same) all
+goes_so s new (by_event e r mid replies is) all =
+    subst AllHaveNumbers (sym is) (told_behind_so e mid (replies_so s e r mid replies all))
+goes_so s new (by_emptying i text does) all = on_text (λ t u. u ≡ with_room t []) s new i text []
+    (λ t u is has. subst HasNumbers (sym is) (in_room t [] (All-nil IsNumbered) has)) does all
+
+reached_so : (first count width height : ℕ) (files : Files) (s : RunState) → first + count ≤ 2 ^ 16
+    → RunReached first count width height files s → AllHaveNumbers s.texts
+reached_so first count width height files s few run_begins = new_so first count few
+reached_so first count width height files s few (run_goes_on {s = before} e part r new reached replies) =
+    goes_so before.texts new.texts (replies_go before e part r new replies).0
+    (reached_so first count width height files before few reached)
 
 pub reached-numbered : WhatIsReachedIsNumbered
-reached-numbered first count s i text t few at = (reached_so first count few s at.reached i text t at.there).taken
+reached-numbered first count width height files s i text t few reached there =
+    (reached_so first count width height files s few reached i text t there).taken

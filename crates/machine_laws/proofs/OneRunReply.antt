@@ -402,7 +402,7 @@ caret_stays s told_all i w c window t edit_at r new screen caret here refusal (t
     ap (λ (a : Anchor). slice_set s.screens i (record w { caret = Some (record c { anchor = a }) })) anchor
     ∙ (λ k. slice_set s.screens i (record w { caret = sym caret k })) ∙ put_back s.screens i w screen in
     let state : told_at mid i window.text ≡ s.texts =
-    ap (λ (x : State). told_at x i window.text) stay.1 ∙ told_same s.texts i window.text told_all in
+    ap (λ (x : State). told_at x i window.text) stay.1 ∙ told_same s.texts i window.text (told_all i window.text) in
     (is ∙ ap of_text stay.0, is_new ∙ (λ k. record s { texts = state k; screens = screens k }))
 
 loads_short : OneText → (s : RunState) → HaveTold s.texts → (i : ℕ) (w : Screened) (name : List ℕ) (part : Part) (c : Caret)

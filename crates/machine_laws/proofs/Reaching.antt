@@ -1,13 +1,13 @@
--- What a run comes to: each text is what its operations define, by the steps that led there.
+-- What an event does to a text leaves it what its operations define, and so is each text of a new run.
 use Rattle.std.proofs.Common.{◌≡◌, ℕ, zero, suc, ◌≤◌, ◌-◌, length, take, true, false, Bool, List, [], ◌∷◌, map, Option}
 use Rattle.std.proofs.Common.{Some, None, Result, Ok, Err, refl, sym, ap, subst, ◌∙◌, inl, inr, arith}
-use Rattle.std.specs.Prelude.{◌⊎◌, IsTrue, MatchOption, nat_lt, option_map, slice_get, slice_set}
+use Rattle.std.specs.Prelude.{◌⊎◌, IsTrue, nat_lt, option_map, slice_get, slice_set}
 use Rattle.std.specs.List.{range_with_len}
 use Rattle.std.specs.Option.{option_map_or}
 use Rattle.std.proofs.lemmas.List.Elements.{All-nil}
 use Rattle.std.proofs.lemmas.Option.{none-some, same_Some, slice_get-map}
 use Rattle.looks.specs.declared.refusal.Refusal.{Refusal}
-use Rattle.looks.specs.declared.refusal.Refusal.TheVariants.{BadEvent, Conflict, WrongText}
+use Rattle.looks.specs.declared.refusal.Refusal.TheVariants.{Conflict, WrongText}
 use Rattle.char_files.specs.declared.TheConstants.{MAX_FILE}
 use Rattle.char_files.specs.CharName.{CharName}
 use Rattle.operations.specs.NameSet.{IsAmong}
@@ -17,7 +17,7 @@ use Rattle.tree_order.specs.Sequential.{OneWriterGoesBehindCauses}
 use Rattle.set_laws.specs.Sets.{AreIdentified}
 use Rattle.texts.specs.Edit.{Edit, is_in_text, plan}
 use Rattle.texts.specs.Laws.{OwnEditsArePlain}
-use Rattle.texts.specs.Outcome.{Edits, EditsShort, Stand, count_standing, refusal_or}
+use Rattle.texts.specs.Outcome.{Edits, EditsShort, Stand, count_standing}
 use Rattle.texts.specs.Merge.{Merges, MergesShort}
 use Rattle.texts.specs.Take.{Becomes, HasFate, Stays, TakesIn}
 use Rattle.texts.specs.Text.{IsText}
@@ -30,15 +30,13 @@ use Rattle.texts.specs.declared.fate.Fate.TheVariants.{LowStamp, Ready}
 use Rattle.texts.specs.declared.merge_refusal.MergeRefusal.{MergeRefusal}
 use Rattle.texts.specs.declared.merge_refusal.MergeRefusal.TheVariants.{Whole as MergesNothing, Stopped}
 use Rattle.texts.specs.declared.took.Took.{Took}
-use Rattle.machine.specs.DeskState.{DeskState, InText, IsTextOf, new_desk}
-use Rattle.machine_laws.specs.Laws.{AreTexts, Reached, begins, goes_on}
-use Rattle.machine.specs.Machine.{CopiesText, CopiesTextShort, Does, EditsText, EditsTextShort, Event, InDesk}
-use Rattle.machine.specs.Machine.{IsTextAt, MergesText, MergesTextShort, Replies, Reply, SettlesText, Short, State}
-use Rattle.machine.specs.Machine.{TakesText, TakesTextShort, copied, copy, edit, is_copy_in, merge, message_in}
-use Rattle.machine.specs.Machine.{messages_of, new_state, query, refuses, settle, unknown}
-use Rattle.machine.specs.Machine.{take as taking}
+use Rattle.machine.specs.DeskState.{DeskState, new_desk}
+use Rattle.machine.specs.Machine.{CopiesText, CopiesTextShort, EditsText, EditsTextShort, IsTextAt, Reply, SettlesText}
+use Rattle.machine.specs.Machine.{TakesText, TakesTextShort, copied, is_copy_in, new_state}
+use Rattle.machine.specs.declared.TheConstants.{MAX_TEXT}
 use Rattle.convergence.proofs.OwnOperations.{standing_within}
 use Rattle.machine_laws.proofs.Rooms.{by_test, drained_is_text, entered}
+use Rattle.machine_laws.specs.Laws.{AreTexts}
 
 -- what stands in a list in which one was set stood there before, or was set there
 pub set_old : {X : Type 0} (xs : List X) (i j : ℕ) (y z : X) → slice_get (slice_set xs i y) j ≡ Some z
@@ -111,31 +109,18 @@ new_texts first count i text t (d, at, there) =
     let (number, same) = mapped (λ (n : ℕ). empty_text n site) (range_with_len 1 16) (text - 1) t here in
     (number, site, same)
 
--- each text of a desk is what its operations define
-abbrev pub HasTexts : DeskState → Type 0
-HasTexts d = (text : ℕ) (t : TextState) → IsTextOf d text t → IsText t
+-- so each is what its operations define
+pub new_are_texts : Good [] → AreIdentified [] → OneWriterGoesBehindCauses → (first count : ℕ) → AreTexts (new_state first count)
+new_are_texts good identified order first count i text t there =
+    let (number, site, is) = new_texts first count i text t there in
+    subst IsText is (empty_is_text good identified order number site)
 
--- what a text does that leaves it defined leaves the desk's texts so
-pub in_text : (Does' : TextState → TextState → Type 0) (d d' : DeskState) (text : ℕ)
-    → ((t t' : TextState) → Does' t t' → IsText t → IsText t') → InText Does' d text d' → HasTexts d → HasTexts d'
-in_text Does' d d' text keeps (t, t', at, does, is) all number u there =
-    let texts : d'.texts ≡ slice_set d.texts (text - 1) t' = ap (λ (x : DeskState). x.texts) is in
-    elim (set_cases d.texts (text - 1) (number - 1) t' u (rw texts at there)) [
-      | inl same ↦ subst IsText (sym same) (keeps t t' does (all text t at))
-      | inr before ↦ all number u before
-    ]
-
--- and what a desk does that leaves its texts so leaves the run's
-pub in_desk : (Does' : DeskState → DeskState → Type 0) (s new : State) (i : ℕ) (messages : List (List ℕ))
-    → ((d d' : DeskState) → Does' d d' → HasTexts d → HasTexts d') → InDesk Does' s i messages new → AreTexts s
-    → AreTexts new
-in_desk Does' s new i messages keeps (d, d', at, does, is) all j number u (x, there, is_text) =
-    let desks : new.desks ≡ slice_set s.desks i d' = ap (λ (x : State). x.desks) is in
-    elim (set_cases s.desks i j d' x (rw desks at there)) [
-      | inl same ↦ let in_new : IsTextOf d' number u = subst (λ (y : DeskState). IsTextOf y number u) same is_text in
-          keeps d d' does (λ k v in_d. all i k v (d, at, in_d)) number u in_new
-      | inr before ↦ all j number u (x, before, is_text)
-    ]
+-- and each desk has a text of each number
+pub new_desks : (first count i : ℕ) (d : DeskState) → slice_get (new_state first count).desks i ≡ Some d
+    → length d.texts ≡ MAX_TEXT
+new_desks first count i d at =
+    let (site, is) = mapped new_desk (range_with_len first count) i d at in
+    subst (λ (x : DeskState). length x.texts ≡ MAX_TEXT) is refl
 
 stayed : (t new : TextState) (answer result : Result Took Refusal) → Stays t answer result new → IsText t
     → IsText new
@@ -195,30 +180,6 @@ merged_short t u (Ok count) new merges = absurd merges
 merged_short t u (Err (MergesNothing why)) new merges = absurd merges
 merged_short t u (Err (Stopped done)) new merges = merges.2.is
 
-merges_text : (u : TextState) (r : Reply) (t new : TextState) → MergesText u r t new → IsText t → IsText new
-merges_text u r t new (result, merges, replied) is = merged t u result new merges is
-
-merges_text_short : (u : TextState) (r : Reply) (t new : TextState) → MergesTextShort u r t new → IsText t
-    → IsText new
-merges_text_short u r t new (result, merges, replied) is = merged_short t u result new merges
-
--- a taking leaves each text defined, whether its message is told or not
-taken : (s : State) (i text : ℕ) (told : Option (List ℕ)) (r : Reply) (new : State)
-    → MatchOption told ((new ≡ s) × (r ≡ refuses BadEvent))
-    (λ message. InDesk (λ d d'. InText (TakesText message r) d text d') s i [] new)
-    → AreTexts s → AreTexts new
-taken s i text None r new does all = subst AreTexts (sym does.0) all
-taken s i text (Some message) r new does all =
-    in_desk _ s new i [] (λ d d'. in_text _ d d' text (takes_text message r)) does all
-
--- no more operations stand than there are
-within_more : (why : Option Refusal) (later : Option (ℕ × Refusal)) (len : ℕ)
-    → option_map_or (λ stop. stop.0) later len ≤ len
-    → option_map_or (λ stop. stop.0) (refusal_or why later) (suc len) ≤ suc len
-within_more (Some why) later len le = omega arith
-within_more None None len le = omega arith
-within_more None (Some stop) len le = omega arith
-
 module _ (plain : OwnEditsArePlain) where
   -- the first of an edit's operations leave the text defined
   standing : (t : TextState) (e : Edit) (n : ℕ) (new : TextState) (messages : List (List ℕ)) → IsTrue (is_in_text t e)
@@ -275,45 +236,3 @@ module _ (plain : OwnEditsArePlain) where
       → CopiesTextShort t beg end pos r u new → IsText u → IsText new
   copies_text_short t beg end pos r u new (positions, few, short) is =
       edits_text_short (copied t beg end pos) r u new short is
-
-  -- what a step does where memory is there leaves each text defined
-  pub does_texts : (s : State) (e : Event) (r : Reply) (new : State) → Does s e r new → AreTexts s → AreTexts new
-  does_texts s (edit i text e) r new does all =
-      in_desk _ s new i (messages_of r) (λ d d'. in_text _ d d' text (edits_text e r)) does all
-  does_texts s (copy i text beg end other pos) r new (t, there, does) all =
-      in_desk _ s new i (messages_of r) (λ d d'. in_text _ d d' other (copies_text t beg end pos r)) does all
-  does_texts s (taking i text told) r new does all = taken s i text (message_in s told) r new does all
-  does_texts s (settle i text) r new does all =
-      in_desk _ s new i [] (λ d d'. in_text _ d d' text (settles_text false r)) does all
-  does_texts s (merge i text j) r new (u, there, does) all =
-      in_desk _ s new i [] (λ d d'. in_text _ d d' text (merges_text u r)) does all
-  does_texts s (query i text q) r new does all = subst AreTexts (sym does.0) all
-  does_texts s unknown r new does all = subst AreTexts (sym does.0) all
-
-  -- and what it does where memory was refused
-  pub short_texts : (s : State) (e : Event) (r : Reply) (new : State) → Short s e r new → AreTexts s → AreTexts new
-  short_texts s (edit i text e) r new short all =
-      in_desk _ s new i (messages_of r) (λ d d'. in_text _ d d' text (edits_text_short e r)) short all
-  short_texts s (copy i text beg end other pos) r new (t, there, short) all =
-      in_desk _ s new i (messages_of r) (λ d d'. in_text _ d d' other (copies_text_short t beg end pos r)) short all
-  short_texts s (taking i text told) r new (message, is, short) all =
-      in_desk _ s new i [] (λ d d'. in_text _ d d' text (takes_text_short message r)) short all
-  short_texts s (settle i text) r new short all =
-      in_desk _ s new i [] (λ d d'. in_text _ d d' text (settles_text true r)) short all
-  short_texts s (merge i text j) r new (u, there, short) all =
-      in_desk _ s new i [] (λ d d'. in_text _ d d' text (merges_text_short u r)) short all
-  short_texts s (query i text q) r new short all = subst AreTexts (sym short.0) all
-  short_texts s unknown r new short all = absurd short
-
-  step_texts : (s : State) (e : Event) (r : Reply) (new : State) → Replies s e r new → AreTexts s → AreTexts new
-  step_texts s e r new (inl does) all = does_texts s e r new does all
-  step_texts s e r new (inr short) all = short_texts s e r new short all
-
-  -- each text of a state that a run can come to is what its operations define
-  pub reached_texts : Good [] → AreIdentified [] → OneWriterGoesBehindCauses → (first count : ℕ) (s : State)
-      → Reached first count s → AreTexts s
-  reached_texts good identified order first count s begins = λ i text t there.
-      let (number, site, is) = new_texts first count i text t there in
-      subst IsText is (empty_is_text good identified order number site)
-  reached_texts good identified order first count s (goes_on {s = before} e r new reached replies) =
-      step_texts before e r new replies (reached_texts good identified order first count before reached)

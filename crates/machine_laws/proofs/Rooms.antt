@@ -1,15 +1,14 @@
 -- What waits for a text, with one more and without one, and as the room is drained.
-use Rattle.std.proofs.Common.{◌≡◌, ℕ, ◌<◌, List, [], ◌∷◌, ◌++◌, All, Bool, true, false, Contains, Ok, Err, Result, refl}
+use Rattle.std.proofs.Common.{◌≡◌, ℕ, ◌<◌, List, [], ◌∷◌, ◌++◌, Bool, true, false, Contains, Ok, Err, Result, refl}
 use Rattle.std.proofs.Common.{sym, ap, subst, ◌∙◌, inl, inr, arith, length-append}
 use Rattle.std.specs.Prelude.{◌⊎◌, MatchBool}
 use Rattle.std.proofs.lemmas.Bool.{ltb-true}
-use Rattle.std.proofs.lemmas.List.Elements.{All-contains, All-contains_itself, All-push, All-weaker}
-use Rattle.std.proofs.lemmas.List.Elements.{Contains-push_cases}
+use Rattle.std.proofs.lemmas.List.Elements.{All-push, Contains-push_cases}
 use Rattle.looks.specs.declared.refusal.Refusal.{Refusal}
 use Rattle.looks.specs.declared.refusal.Refusal.TheVariants.{RoomFull}
 use Rattle.operations.specs.Operation.{Operation}
 use Rattle.set_laws.specs.Fronts.{IsHeld}
-use Rattle.set_laws.specs.Sets.{AreIdentified, IsPartOf}
+use Rattle.set_laws.specs.Sets.{AreIdentified}
 use Rattle.texts.specs.Draining.{Drains, ends, stops, takes_in, throws_away}
 use Rattle.texts.specs.Take.{Enters, HasFate, Stays}
 use Rattle.texts.specs.Text.{AreWaitingFor, IsText}
@@ -18,11 +17,6 @@ use Rattle.texts.specs.declared.fate.Fate.TheVariants.{Wait}
 use Rattle.texts.specs.declared.took.Took.{Took}
 use Rattle.texts.specs.declared.took.Took.TheVariants.{Waits}
 use Rattle.convergence.proofs.OneWay.{text_with_room, text_without}
-
--- what holds of all holds of a part
-part_all : (P : Operation → Type 0) (a b : List Operation) → IsPartOf a b → All P b → All P a
-part_all P a b part all =
-    All-weaker (Contains a) P (λ x held. All-contains P b x all (part x held)) a (All-contains_itself a)
 
 -- one more has an identity of its own, if none waits under it
 identified_with : (room : List Operation) (op : Operation) → AreIdentified room → 0 < op.seq

@@ -1,6 +1,6 @@
 -- What runs can come to, and the laws of it: each text is what its operations define, and these tell what is
 -- printed; an event has one reply, and none lacks a rule.
-use Rattle.std.specs.Prelude.{◌≡◌, ◌≢◌, ◌⊎◌, ℕ, ◌+◌, ◌^◌, ◌<◌, ◌≤◌, List, ◌++◌, length, All, Some, None}
+use Rattle.std.specs.Prelude.{◌≡◌, ◌≢◌, ◌⊎◌, ℕ, ◌+◌, ◌^◌, ◌<◌, ◌≤◌, List, ◌++◌, length, All, Some, None, slice_get}
 use Rattle.char_files.specs.Stretch.{Item}
 use Rattle.operations.specs.Operation.{Operation}
 use Rattle.tree_order.specs.Laws.{AreSameSet}
@@ -13,20 +13,21 @@ use Rattle.texts.specs.Text.{IsAnchor, IsText}
 use Rattle.texts.specs.TextState.{TextState, shown_items}
 use Rattle.texts.specs.declared.took.Took.TheVariants.{Taken}
 use Rattle.machine.specs.DeskState.{DeskState, IsTextOf}
-use Rattle.machine.specs.Machine.{Does, Event, Query, Reply, Replies, Short, State, IsTextAt, Prints, new_state}
-use Rattle.machine.specs.Machine.{print_fronts, print_runs, print_text}
-use Rattle.machine.specs.Machine.{takes, settles, refuses, stops}
+use Rattle.machine.specs.Machine.{Does, Event, IsTextAt, Prints, Query, Reply, Short, State, print_fronts, print_runs}
+use Rattle.machine.specs.Machine.{print_text, refuses, settles, stops, takes}
 use Rattle.machine.specs.Printing.{waiting_line}
 use Rattle.machine.specs.Whole.{IsDeskAt, IsTaskAt, Part, RunDoes, RunEvent, RunReplies, RunReply, RunShort, RunState}
 use Rattle.machine.specs.Whole.{Task, View, ask, change, lines_of_view}
 use Rattle.machine.specs.Whole.{click, failed, forget, load, new_run, of_text, store, untouched, went_well}
 use Rattle.machine.specs.Windows.{Caret, Screened, Selected, Window, window_of}
+use Rattle.machine.specs.declared.TheConstants.{MAX_TEXT}
 
--- the states that a run of count sites from first on can come to
-pub data Reached (first count : ℕ) : State → Type 0 where
-  begins : Reached first count (new_state first count)
-  goes_on : {s : State} (e : Event) (r : Reply) (new : State) → Reached first count s → Replies s e r new
-      → Reached first count new
+-- the states that a run of the whole machine can come to, over these files, with screens of this size
+pub data RunReached (first count width height : ℕ) (files : Files) : RunState → Type 0 where
+  run_begins : RunReached first count width height files (new_run first count width height files)
+  run_goes_on : {s : RunState} (e : RunEvent) (part : Part) (r : RunReply) (new : RunState)
+      → RunReached first count width height files s → RunReplies s e part r new
+      → RunReached first count width height files new
 
 -- each text of each desk is what its operations define
 abbrev pub AreTexts : State → Type 0
@@ -35,10 +36,6 @@ AreTexts s = (i text : ℕ) (t : TextState) → IsTextAt s i text t → IsText t
 -- each text of each desk has told its changes
 abbrev pub HaveTold : State → Type 0
 HaveTold s = (i text : ℕ) (t : TextState) → IsTextAt s i text t → t.asked ≡ length t.operations
-
--- whatever a run does, each text is what its operations define
-abbrev pub WhatIsReachedIsDefined : Type 0
-WhatIsReachedIsDefined = (first count : ℕ) (s : State) → Reached first count s → AreTexts s
 
 -- a query of what is shown: the characters, or their looks
 abbrev pub IsOfWhatIsShown : Query → Type 0
@@ -50,25 +47,16 @@ IsOfWhatIsShown print_runs = Unit {0}
 abbrev pub PrintTheSame : TextState → TextState → Type 0
 PrintTheSame t u = (q : Query) (a b : List ℕ) → IsOfWhatIsShown q → Prints q t a → Prints q u b → a ≡ b
 
--- a text at a desk of a state that a run of these sites can come to
-pub record IsReachedText (first count : ℕ) (s : State) (i text : ℕ) (t : TextState) : Type 0 where
-  pub reached : Reached first count s
-  pub there : IsTextAt s i text t
-
 -- two texts, of one run or of two, that have taken in the same operations print the same lines
 abbrev pub OperationsTellWhatIsPrinted : Type 0
 OperationsTellWhatIsPrinted =
-    (first first' count count' i j text text' : ℕ) (s s' : State) (t u : TextState)
-    → IsReachedText first count s i text t → IsReachedText first' count' s' j text' u
-    → AreSameSet t.operations u.operations → PrintTheSame t u
+    (t u : TextState) → IsText t → IsText u → AreSameSet t.operations u.operations → PrintTheSame t u
 
 -- two texts of equal fronts print the same lines, if no identity is used twice
 abbrev pub FrontsTellWhatIsPrinted : Type 0
 FrontsTellWhatIsPrinted =
-    (first first' count count' i j text text' : ℕ) (s s' : State) (t u : TextState)
-    → IsReachedText first count s i text t → IsReachedText first' count' s' j text' u
-    → AreIdentified (t.operations ++ u.operations) → HaveEqualFronts t.operations u.operations
-    → PrintTheSame t u
+    (t u : TextState) → IsText t → IsText u → AreIdentified (t.operations ++ u.operations)
+    → HaveEqualFronts t.operations u.operations → PrintTheSame t u
 
 -- the sites and the seqs are numbers that a message has places for
 abbrev pub AreNumbered : List Operation → Type 0
@@ -76,8 +64,9 @@ AreNumbered ops = All (λ op. (op.site < 2 ^ 16) × (op.seq < 2 ^ 32)) ops
 
 -- what a run of sites below 2^16 comes to is numbered so
 abbrev pub WhatIsReachedIsNumbered : Type 0
-WhatIsReachedIsNumbered = (first count : ℕ) (s : State) (i text : ℕ) (t : TextState) → first + count ≤ 2 ^ 16
-    → IsReachedText first count s i text t → AreNumbered t.operations
+WhatIsReachedIsNumbered =
+    (first count width height : ℕ) (files : Files) (s : RunState) (i text : ℕ) (t : TextState) → first + count ≤ 2 ^ 16
+    → RunReached first count width height files s → IsTextAt s.texts i text t → AreNumbered t.operations
 
 -- the answer to `front` of a text: these lines of its fronts, and then how many operations wait
 abbrev pub PrintsFronts : TextState → List ℕ → Type 0
@@ -171,13 +160,6 @@ abbrev pub EachTaskIsAnswered : Type 0
 EachTaskIsAnswered = (s : RunState) (i : ℕ) (d : DeskState) (w : Screened) → AreTexts s.texts → IsDeskAt s i d w
     → CaretHasText d w → AnswersAll s i d w
 
--- the states that a run of the whole machine can come to, over these files, with screens of this size
-pub data RunReached (first count width height : ℕ) (files : Files) : RunState → Type 0 where
-  run_begins : RunReached first count width height files (new_run first count width height files)
-  run_goes_on : {s : RunState} (e : RunEvent) (part : Part) (r : RunReply) (new : RunState)
-      → RunReached first count width height files s → RunReplies s e part r new
-      → RunReached first count width height files new
-
 -- the viewer shows one of the desk's texts, whose operations are such
 abbrev pub ShowsTextOf : DeskState → Screened → (v : ℕ) → (List Operation → Type 0) → Type 0
 ShowsTextOf d w v Has = (shown : Window × TextState) × (window_of d w v ≡ Some shown) × Has shown.1.operations
@@ -192,8 +174,10 @@ pub record StandsByChars (d : DeskState) (w : Screened) : Type 0 where
   pub windows : (v : ℕ) (shown : Window × TextState) → window_of d w v ≡ Some shown
       → IsAnchor shown.1.operations shown.0.anchor
 
--- each text is what its operations define and has told its changes, and all that each screen points at are its characters
+-- each desk has a text of each number; each text is what its operations define and has told its changes; and all that each
+-- screen points at are its characters
 pub record IsSound (s : RunState) : Type 0 where
+  pub desks : (i : ℕ) (d : DeskState) → slice_get s.texts.desks i ≡ Some d → length d.texts ≡ MAX_TEXT
   pub texts : AreTexts s.texts
   pub told : HaveTold s.texts
   pub screens : (i : ℕ) (d : DeskState) (w : Screened) → IsDeskAt s i d w → StandsByChars d w

@@ -2,7 +2,7 @@
 //! over the definitions alone.
 #![tactic(auto)]
 
-ghost use Rattle.machine_laws.specs.Laws.{OperationsTellWhatIsPrinted, WhatIsReachedIsDefined, WhatIsReachedIsNumbered};
+ghost use Rattle.machine_laws.specs.Laws.{OperationsTellWhatIsPrinted, WhatIsReachedIsNumbered};
 ghost use Rattle.machine_laws.specs.Laws.{EachEventHasOneReply, EachRunEventHasOneReply, FrontLinesTellFronts};
 ghost use Rattle.machine_laws.specs.Laws.{EachTaskIsAnswered, FrontsTellWhatIsPrinted, TextsTellTheScreen};
 ghost use Rattle.machine_laws.specs.Laws.{WhatARunReachesIsSound};
@@ -16,21 +16,11 @@ use text_file::one_text;
 use texts::laws::{own_edits_are_plain, the_fronts_tell_the_text, the_operations_tell_the_text};
 use tree_order::laws::sequential::one_writer_goes_behind_causes;
 
-/// A law: in each state that a run can come to, each text of each desk is what its operations define.
-pub fn what_is_reached_is_defined()
-    ensures { WhatIsReachedIsDefined }
-{
-    nothing_is_good();
-    one_writer_goes_behind_causes();
-    own_edits_are_plain();
-}
-
 /// A law: two texts, of one run or of two, that have taken in the same operations print the same lines of
 /// what they show.
 pub fn the_same_operations_print_the_same()
     ensures { OperationsTellWhatIsPrinted }
 {
-    what_is_reached_is_defined();
     the_operations_tell_the_text();
     runs_are_maximal();
 }
@@ -40,13 +30,12 @@ pub fn the_same_operations_print_the_same()
 pub fn the_same_fronts_print_the_same()
     ensures { FrontsTellWhatIsPrinted }
 {
-    what_is_reached_is_defined();
     the_fronts_tell_the_text();
     runs_are_maximal();
 }
 
 /// A law: in a run of sites below 2^16, each operation that a text has taken in has a site and a seq that a message has
-/// places for.
+/// places for, whatever else the run does to screens and files.
 pub fn what_is_reached_is_numbered()
     ensures { WhatIsReachedIsNumbered }
 {}
@@ -87,14 +76,14 @@ pub fn each_task_is_answered()
     own_edits_are_plain();
 }
 
-/// A law: whatever a run of texts, screens, commands and files does, each text is what its operations define and has told
-/// its changes, and all that a screen points at, by its caret, its selection and its viewers' first lines, are characters of
-/// the texts that it shows.
+/// A law: whatever a run of texts, screens, commands and files does, each desk has its sixteen texts, each of them is what its
+/// operations define and has told its changes, and all that a screen points at, by its caret, its selection and its viewers'
+/// first lines, are characters of the texts that it shows.
 pub fn what_a_run_reaches_is_sound()
     ensures { WhatARunReachesIsSound }
 {
-    what_is_reached_is_defined();
     nothing_is_good();
+    one_writer_goes_behind_causes();
     own_edits_are_plain();
 }
 
