@@ -1,11 +1,11 @@
 ghost use Rattle.std.specs.Borrow.{Lends, sem};
-ghost use Rattle.std.specs.Prelude.{◌≡◌, ◌≤◌, map, length, IfOk};
+ghost use Rattle.std.specs.Prelude.{◌≡◌, ◌≤◌, [], map, length, IfOk};
 ghost use Rattle.looks.specs.Looks.{plain_looks};
 ghost use Rattle.looks.specs.Refusal.{RefusedForMemoryAlone};
 ghost use Rattle.taken_text.specs.Noted.{AreChangesSince};
 ghost use Rattle.texts.specs.Edit.{deletion, insertion, looks_change, recalling, restoration};
 ghost use Rattle.texts.specs.Text.{IsText};
-ghost use Rattle.texts.specs.TextState.{TextState, all_told, shown_of};
+ghost use Rattle.texts.specs.TextState.{TextState, all_told, shown_of, with_room};
 ghost use Rattle.texts.specs.contracts.replica.Replica.{the_row as replica_row};
 ghost use Rattle.machine.specs.DeskState.{InText, IsTextOf, new_desk, with_text};
 ghost use Rattle.machine.specs.Machine.{copy, edit};
@@ -13,10 +13,12 @@ ghost use Rattle.machine.specs.Machine.{EditsDesk, MergesDesk, QueriesDesk, Sett
 ghost use Rattle.machine.specs.Machine.{print_fronts, print_runs, print_text};
 ghost use Rattle.desk_texts.specs.contracts.desk.Texts.{the_row};
 
-use crate::editing::{change_looks_in, copy_out_of, cut_out_of, recall_into, type_into};
+use crate::editing::{
+    change_looks_in, copy_out_of, cut_out_of, insert_into, recall_into, type_into,
+};
 use crate::printing::{front_lines, text_lines};
 use crate::runs::run_lines;
-use char_files::{MAX_FILE, SiteNo, TextNo};
+use char_files::{Buffer, MAX_FILE, SiteNo, TextNo};
 use list_changes::Change;
 use looks::{Looks, Refusal, Sel};
 use machine::MAX_TEXT;
@@ -77,6 +79,22 @@ impl Texts {
         let alloc = *self.texts.allocator();
         let replica = self.replica_mut(text);
         type_into(alloc, replica, pos, bytes, outbox)
+    }
+
+    /// Puts a stretch in at a position of a text.
+    pub fn insert(
+        &mut self,
+        text: TextNo,
+        pos: u64,
+        items: &Buffer,
+        outbox: &mut Outbox,
+    ) -> Result<u32, EditRefusal>
+        requires on_desk { text ≤ MAX_TEXT }
+        ensures { EditsDesk self.old (edit 0 text (insertion pos items.now)) result
+            self.new outbox.old outbox.new }
+    {
+        let replica = self.replica_mut(text);
+        insert_into(replica, pos, items, outbox)
     }
 
     /// Takes the characters from `beg` to `end` out of a text; they are kept for `recall` and `restore`.
@@ -169,6 +187,14 @@ impl Texts {
         ensures { SettlesDesk self.old text result.drained result.dropped result.stopped self.new }
     {
         self.replica_mut(text).settle()
+    }
+
+    /// Throws away all operations that wait for a text, and answers how many there were.
+    pub fn forget(&mut self, text: TextNo) -> u32
+        requires { text ≤ MAX_TEXT }
+        ensures { InText (λ t new. (result ≡ length t.waiting_room) × (new ≡ with_room t [])) self.old text self.new }
+    {
+        self.replica_mut(text).forget_waiting()
     }
 
     /// Takes in what another desk's text of this number holds, as its replica does.

@@ -61,6 +61,21 @@ pub(crate) fn type_into(
     }
 }
 
+// Puts characters in.
+pub(crate) fn insert_into(
+    replica: &mut Replica,
+    pos: u64,
+    items: &Buffer,
+    outbox: &mut Outbox,
+) -> Result<u32, EditRefusal>
+    ensures { EditsTextSending replica.old (insertion pos items.now) result replica.new outbox.old outbox.new }
+{
+    if !has_position(replica, pos) {
+        return Err(EditRefusal::Whole(Refusal::OutOfRange));
+    }
+    replica.insert(pos, items, outbox)
+}
+
 // Takes characters out.
 pub(crate) fn cut_out_of(
     replica: &mut Replica,
