@@ -1,5 +1,5 @@
 -- What cells point at, and windows whose caret or selection is set by characters of what a viewer shows.
-use Rattle.std.proofs.Common.{◌≡◌, ℕ, suc, ◌+◌, ◌-◌, ◌<◌, ◌≤◌, ◌==◌, length, Bool, true, false, cond, eq-eqb, ne_eqb, nat_lt, refl, sym, ap, ◌∙◌, subst, inl, inr, arith, Option, Some, None, Ok, Err, slice_get, if◌then◌else◌}
+use Rattle.std.proofs.Common.{◌≡◌, ℕ, suc, ◌+◌, ◌-◌, ◌<◌, ◌==◌, length, Bool, true, false, cond, eq-eqb, ne_eqb, nat_lt, refl, sym, ap, ◌∙◌, subst, inl, inr, arith, Option, Some, None, Ok, Err, slice_get, if◌then◌else◌}
 use Rattle.std.specs.Prelude.{max, min, option_map}
 use Rattle.std.specs.Option.{option_and_then, option_map_or}
 use Rattle.std.proofs.lemmas.Bool.{lt-ltb}
@@ -16,11 +16,15 @@ use Rattle.texts.specs.Edit.{anchor_before}
 use Rattle.texts.specs.Text.{IsAnchor, IsText}
 use Rattle.texts.specs.TextState.{TextState, shown_of}
 use Rattle.machine.specs.DeskState.{DeskState, IsTextOf}
-use Rattle.machine.specs.Windows.{Caret, Marked, Pointed, Selected, Window, marked, marked_as, place_in, pointed, pointed_in, position_in, selected_between, selected_by, selected_from, stretch_in, window_of as shown_window}
+use Rattle.command_words.specs.Commands.{menu_of}
+use Rattle.machine.specs.Whole.{clicked, clicked_in, Clicked as ClickedSeen}
+use Rattle.machine.specs.Windows.{Caret, Marked, Pointed, Selected, Window, bytes_shown, marked, marked_as, place_in, pointed, pointed_in, position_in, selected_between, selected_by, selected_from, stretch_in, window_of as shown_window}
 use Rattle.text_frames.specs.Frames.{IsDrawn}
 use Rattle.text_frames.specs.Marks.{range_in}
 use Rattle.text_frames.proofs.Ahead.{ahead_is_anchor}
-use Rattle.desk_windows.specs.Pointing.{IsCaretSpot, IsMarked, IsSpot, ShowsThis}
+use Rattle.desk_windows.specs.Pointing.{IsCaretSpot, IsClicked, IsInWindow, IsMarked, IsPlaceIn, IsPointed, IsSpot, ShowsThis, spot_at}
+use Rattle.desk_windows.specs.declared.pointing.Place.{Place}
+use Rattle.desk_windows.specs.declared.pointing.Place.TheVariants.{Menu, Text}
 use Rattle.desk_windows.specs.declared.pointing.Spot.{Spot}
 use Rattle.desk_windows.specs.Windows.{AreOf, ShowTexts, ShowsSo, ShowsText, WindowSeen, WindowsSeen, screened, window_of}
 use Rattle.desk_windows.proofs.Cells.{HasCell, cell_of, position_within}
@@ -33,13 +37,6 @@ cell_width d w col row v a x cell shows = elim cell.track [
   | inl user ↦ shows.in_user user.0 ∙ sym user.1
   | inr system ↦ shows.in_system system.0 ∙ sym system.1
 ]
-
--- a cell of a viewer lies in its window's rows and columns, unless it is the menu's
-pub record IsInWindow (a : Area) (x : WindowSeen) (col row : ℕ) : Type 0 where
-  pub left : a.col ≤ col
-  pub above : a.top ≤ row
-  pub in_columns : col - a.col < x.frame.width
-  pub in_rows : (row ≡ a.top → ⊥) → (1 ≤ row - a.top) × (row - a.top - 1 < length x.frame.rows)
 
 module _ (d : DeskState) (w : WindowsSeen) (col row v : ℕ) (a : Area) (viewers : AreViewers w.viewers) (lt : row < w.viewers.tracks.height)
     (at : viewer_at w.viewers.tracks col row ≡ Some v) (is : area_of w.viewers.tracks v ≡ Some a) where
@@ -101,6 +98,74 @@ module _ (d : DeskState) (w : WindowsSeen) (col row v : ℕ) (a : Area) (viewers
           in_text = position_within shows.text x.frame.anchor a.width (col - a.col) (row - a.top - 1);
         },
       )
+
+  cell_clicks : clicked d (screened w) col row ≡ option_map (clicked_in v a col row) (shown_window d (screened w) v)
+  cell_clicks =
+      let here = ap (λ (b : Bool). cond b (viewer_at w.viewers.tracks col row) None) (lt-ltb row w.viewers.tracks.height lt) ∙ at in
+      ap (option_and_then (λ v. option_and_then (λ area. option_map (clicked_in v area col row) (shown_window d (screened w) v))
+      (area_of w.viewers.tracks v))) here
+      ∙ ap (option_and_then (λ area. option_map (clicked_in v area col row) (shown_window d (screened w) v))) is
+
+  -- and a click there meets nothing
+  pub clicks_nothing : content_of w.viewers.contents v ≡ None → clicked d (screened w) col row ≡ None
+  clicks_nothing none = cell_clicks ∙ ap (option_map (clicked_in v a col row)) (shown_nothing d w v 0 none)
+
+  -- a cell of the viewer's window
+  module _ (x : WindowSeen) (are : AreOf d w) (shown : content_of w.viewers.contents v ≡ Some x) where
+    abbrev its_text : TextState
+    its_text = (are.shown.texts v x shown).text
+
+    abbrev seen_in : Bool → ClickedSeen
+    seen_in menu = cond menu
+        (record { viewer = v; text = x.text; bytes = menu_of v x.text; pos = col - a.col })
+        (record {
+          viewer = v;
+          text = x.text;
+          bytes = bytes_shown its_text;
+          pos = position_in its_text x.frame.anchor a.width (col - a.col) (row - a.top - 1);
+        })
+
+    clicks_window : (menu : Bool) → (row == a.top) ≡ menu → clicked d (screened w) col row ≡ Some (seen_in menu)
+    clicks_window menu is_menu =
+        let shows : ShowsText d w.viewers.tracks v x = are.shown.texts v x shown in
+        cell_clicks ∙ ap (option_map (clicked_in v a col row)) (shown_text d w v 0 x x shows.text shown shows.at)
+        ∙ ap (λ (b : Bool). Some (seen_in b)) is_menu
+
+    -- is what a click there meets
+    pub clicks_there : (place : Place) → IsPlaceIn a x col row place
+        → IsClicked d w col row (Some (record { viewer = v; text = x.text; place = place }))
+    clicks_there (Menu pos) (first, is_pos) = (
+      seen_in true,
+      clicks_window true (eq-eqb row a.top first),
+      record {
+        viewer = refl;
+        text = refl;
+        on_desk = (are.shown.texts v x shown).on_desk;
+        place = (refl, sym is_pos);
+      },
+    )
+    clicks_there (Text pos) (apart, placed) =
+        let shows : ShowsText d w.viewers.tracks v x = are.shown.texts v x shown in
+        let wide = cell_width d w col row v a x (cell_of w.viewers col row v a viewers lt at is) shows in
+        let pos_is = placed shows.text shows.drawn
+        ∙ ap (λ (n : ℕ). position_in shows.text x.frame.anchor n (col - a.col) (row - a.top - 1)) wide in (
+          seen_in false,
+          clicks_window false (ne_eqb row a.top apart),
+          record {
+            viewer = refl;
+            text = refl;
+            on_desk = shows.on_desk;
+            place = (shows.text, shows.at, refl, sym pos_is);
+          },
+        )
+
+    -- and below the menu is what the cell points at
+    pub points_so : (place : Place) → IsPlaceIn a x col row place → IsPointed d w col row (spot_at v x.text place)
+    points_so (Menu pos) (first, is_pos) =
+        cell_points
+        ∙ ap (λ (b : Bool). cond b None (option_map (pointed_in v a col row) (shown_window d (screened w) v)))
+        (eq-eqb row a.top first)
+    points_so (Text pos) (apart, placed) = points_there x pos are shown apart placed
 
 -- the text is the one that is shown
 pub same_text : (d : DeskState) (number : ℕ) (t u : TextState) → IsTextOf d number t → IsTextOf d number u → t ≡ u
@@ -253,6 +318,7 @@ module _ (d : DeskState) (w : WindowsSeen) (s : Selected) (x : WindowSeen) (t : 
     refl,
     refl,
     refl,
+    at,
   )
     where
       by_test : (b : Bool) → cond b (Some (stretch_in t s)) None ≡ Some (beg, end)

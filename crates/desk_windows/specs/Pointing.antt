@@ -1,11 +1,18 @@
 -- Where cells, the caret and the selection stand in the texts that viewers show.
-use Rattle.std.specs.Prelude.{◌≡◌, ℕ, ◌≤◌, length, Option, Some, None}
+use Rattle.std.specs.Prelude.{◌≡◌, ℕ, ◌-◌, ◌<◌, ◌≤◌, length, Option, Some, None}
 use Rattle.viewers.specs.Viewers.{content_of}
+use Rattle.viewers.specs.declared.screen.Area.{Area}
+use Rattle.command_words.specs.Commands.{menu_of}
 use Rattle.texts.specs.TextState.{TextState, shown_of}
 use Rattle.machine.specs.DeskState.{DeskState, IsTextOf}
 use Rattle.machine.specs.declared.TheConstants.{MAX_TEXT}
-use Rattle.machine.specs.Windows.{Caret, Marked, Pointed, Window, marked, place_in, pointed, window_of as shown_in}
+use Rattle.machine.specs.Whole.{clicked, Clicked as ClickedSeen}
+use Rattle.machine.specs.Windows.{Caret, Marked, Pointed, Window, bytes_shown, marked, place_in, pointed, position_in, window_of as shown_in}
+use Rattle.text_frames.specs.Frames.{IsDrawn}
 use Rattle.desk_windows.specs.Windows.{WindowSeen, WindowsSeen, screened}
+use Rattle.desk_windows.specs.declared.pointing.Clicked.{Clicked}
+use Rattle.desk_windows.specs.declared.pointing.Place.{Place}
+use Rattle.desk_windows.specs.declared.pointing.Place.TheVariants.{Menu, Text}
 use Rattle.desk_windows.specs.declared.pointing.Spot.{Spot}
 use Rattle.desk_windows.specs.declared.marks.Stretch.{Stretch}
 
@@ -29,6 +36,47 @@ abbrev pub IsPointed : DeskState → WindowsSeen → (col row : ℕ) → Option 
 IsPointed d w col row None = pointed d (screened w) col row ≡ None
 IsPointed d w col row (Some spot) = (at : Pointed) × (pointed d (screened w) col row ≡ Some at) × IsSpot d w at spot
 
+-- a cell of a viewer lies in its window's rows and columns, unless it is the menu's
+pub record IsInWindow (a : Area) (x : WindowSeen) (col row : ℕ) : Type 0 where
+  pub left : a.col ≤ col
+  pub above : a.top ≤ row
+  pub in_columns : col - a.col < x.frame.width
+  pub in_rows : (row ≡ a.top → ⊥) → (1 ≤ row - a.top) × (row - a.top - 1 < length x.frame.rows)
+
+-- the place of such a cell: in the viewer's first row that in the menu
+abbrev pub IsPlaceIn : Area → WindowSeen → (col row : ℕ) → Place → Type 0
+IsPlaceIn a x col row (Menu at) = (row ≡ a.top) × (at ≡ col - a.col)
+IsPlaceIn a x col row (Text at) = (row ≡ a.top → ⊥) × ((t : TextState) → IsDrawn x.frame t
+    → at ≡ position_in t x.frame.anchor x.frame.width (col - a.col) (row - a.top - 1))
+
+-- the bytes in which a place stands, and its position there: those of the menu, or those that a text of the desk shows
+abbrev pub IsPlaceOf : DeskState → ClickedSeen → Place → Type 0
+IsPlaceOf d seen (Menu at) = (seen.bytes ≡ menu_of seen.viewer seen.text) × (seen.pos ≡ at)
+IsPlaceOf d seen (Text at) =
+    (t : TextState) × IsTextOf d seen.text t × (seen.bytes ≡ bytes_shown t) × (seen.pos ≡ at)
+
+-- what a click meets, as it is told
+pub record IsClick (d : DeskState) (seen : ClickedSeen) (c : Clicked) : Type 0 where
+  pub viewer : c.viewer ≡ seen.viewer
+  pub text : c.text ≡ seen.text
+  pub on_desk : c.text ≤ MAX_TEXT
+  pub place : IsPlaceOf d seen c.place
+
+-- where there is none, the click meets nothing
+abbrev pub IsClicked : DeskState → WindowsSeen → (col row : ℕ) → Option Clicked → Type 0
+IsClicked d w col row None = clicked d (screened w) col row ≡ None
+IsClicked d w col row (Some c) =
+    (seen : ClickedSeen) × (clicked d (screened w) col row ≡ Some seen) × IsClick d seen c
+
+-- the spot of a click below a menu
+abbrev pub spot_at : (viewer text : ℕ) → Place → Option Spot
+spot_at v number (Menu at) = None
+spot_at v number (Text at) = Some (record { viewer = v; text = number; pos = at })
+
+abbrev pub spot_of : Option Clicked → Option Spot
+spot_of None = None
+spot_of (Some c) = spot_at c.viewer c.text c.place
+
 -- the spot of the caret; none where there is no caret
 abbrev pub IsCaretSpot : DeskState → WindowsSeen → Option Spot → Type 0
 IsCaretSpot d w None = w.caret ≡ None
@@ -40,4 +88,4 @@ IsCaretSpot d w (Some spot) = (c : Caret) × (shown : Window × TextState) × (w
 abbrev pub IsMarked : DeskState → WindowsSeen → Option Stretch → Type 0
 IsMarked d w None = marked d (screened w) ≡ None
 IsMarked d w (Some stretch) = (at : Marked) × (marked d (screened w) ≡ Some at) × (stretch.viewer ≡ at.viewer)
-    × (stretch.text ≡ at.window.text) × (stretch.beg ≡ at.beg) × (stretch.end ≡ at.end)
+    × (stretch.text ≡ at.window.text) × (stretch.beg ≡ at.beg) × (stretch.end ≡ at.end) × IsTextOf d at.window.text at.text

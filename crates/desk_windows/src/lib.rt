@@ -9,4 +9,6 @@ mod telling;
 mod window;
 mod windows;
 
+pub use marks::Stretch;
+pub use pointing::{Clicked, Place};
 pub use windows::Windows;

@@ -1,6 +1,6 @@
 //! Where caret and selection stand.
 
-ghost use Rattle.std.specs.Prelude.{◌≡◌, ◌≤◌, ◌++◌, codes, IfOk, IfSome, Some as Just, None as Nothing, length, OnOk};
+ghost use Rattle.std.specs.Prelude.{◌≡◌, ◌≤◌, ◌++◌, codes, IfOk, IfSome, is_some, Some as Just, None as Nothing, length, OnOk};
 ghost use Rattle.looks.specs.Refusal.{RefusedForMemoryAlone};
 ghost use Rattle.machine.specs.Printing.{line};
 ghost use Rattle.machine.specs.ScreenPrinting.{caret_line, marks_lines, selection_line, spaced};
@@ -18,13 +18,13 @@ use looks::Refusal;
 use std::alloc::AllocError;
 use text_frames::Caret;
 
-// What is marked of the text that a viewer shows.
+/// What is marked of the text that a viewer shows. This project's own.
 #[derive(Clone, Copy)]
-pub(crate) struct Stretch {
-    pub(crate) viewer: u32,
-    pub(crate) text: TextNo,
-    pub(crate) beg: u64,
-    pub(crate) end: u64,
+pub struct Stretch {
+    pub viewer: u32,
+    pub text: TextNo,
+    pub beg: u64,
+    pub end: u64,
 }
 
 // Appends numbers, each behind a blank. After an `Err` of this and of the others that append, some of it may stand there.
@@ -68,10 +68,11 @@ impl Windows {
         })
     }
 
-    // What is marked; `None` where nothing is shown of what is selected.
-    fn marked(&self, texts: &Texts) -> Option<Stretch>
+    /// What is marked; `None` where nothing is shown of what is selected.
+    pub fn marked(&self, texts: &Texts) -> Option<Stretch>
         requires { AreOf texts.now self.now }
-        ensures { IsMarked texts.now self.now result }
+        ensures stretch { IsMarked texts.now self.now result }
+        ensures on_desk { IfSome result (λ stretch. stretch.text ≤ MAX_TEXT) }
     {
         let Some(selection) = self.selected else {
             return None;
@@ -129,6 +130,13 @@ impl Windows {
         self.put_caret(texts, &mut lines)?;
         self.put_selection(texts, &mut lines)?;
         Ok(lines)
+    }
+
+    /// Whether there is a caret.
+    pub fn has_caret(&self) -> bool
+        ensures { result ≡ is_some self.now.caret }
+    {
+        self.caret.is_some()
     }
 
     /// The caret's text, and how many shown characters stand ahead of the caret; `None` where there is no caret.

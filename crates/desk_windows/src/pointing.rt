@@ -3,15 +3,32 @@
 ghost use Rattle.std.specs.Prelude.{◌≡◌, ◌+◌, ◌≤◌, None as Nothing, length, max, min, option_map, slice_get};
 ghost use Rattle.machine.specs.Windows.{arranged, point, select, selected_from};
 ghost use Rattle.texts.specs.TextState.{shown_of};
-ghost use Rattle.desk_windows.specs.Pointing.{IsPointed};
+ghost use Rattle.desk_windows.specs.Pointing.{IsClicked, IsInWindow, IsPlaceIn, IsPointed, spot_of};
 ghost use Rattle.desk_windows.specs.Windows.{AreOf, ComesTo, screened};
 
+use crate::window::Window;
 use crate::windows::Windows;
 use char_files::{Anchor, Name, TextNo};
 use desk_texts::Texts;
 use looks::Refusal;
 use text_frames::{Caret, Selection};
 use texts::Replica;
+use viewers::Area;
+
+/// Where a cell of a viewer stands: at a position of its menu's text, or of the text that it shows. This project's own.
+#[derive(Clone, Copy)]
+pub enum Place {
+    Menu(u64),
+    Text(u64),
+}
+
+/// What a click meets: a viewer, the number of its text, and where the cell stands in it. This project's own.
+#[derive(Clone, Copy)]
+pub struct Clicked {
+    pub viewer: u32,
+    pub text: TextNo,
+    pub place: Place,
+}
 
 // A position of the text that a viewer shows.
 #[derive(Clone, Copy)]
@@ -53,12 +70,24 @@ fn between(replica: &Replica, viewer: u32, pos: u64, other: u64) -> Option<Selec
     }
 }
 
+// Where a cell of a viewer with this area stands in it.
+fn cell_place(window: &Window, area: &Area, col: usize, row: usize) -> Place
+    requires { IsInWindow area.now window.now col row }
+    ensures { IsPlaceIn area.now window.now col row result }
+{
+    let col = col - area.col;
+    if row == area.top {
+        return Place::Menu(col as u64);
+    }
+    Place::Text(window.frame.locate(col, row - area.top - 1))
+}
+
 impl Windows {
-    // The position that a cell below a viewer's menu stands for; `None` for a cell of a menu, of a blank track and outside
-    // the screen.
-    fn pointed(&self, texts: &Texts, col: usize, row: usize) -> Option<Spot>
+    /// What a click into a cell meets; `None` in a blank track and outside the screen.
+    pub fn clicked(&self, texts: &Texts, col: usize, row: usize) -> Option<Clicked>
         requires { AreOf texts.now self.now }
-        ensures { IsPointed texts.now self.now col row result }
+        ensures meets { IsClicked texts.now self.now col row result }
+        ensures points { IsPointed texts.now self.now col row (spot_of result) }
     {
         self.viewers.are_viewers();
         if self.viewers.height() <= row {
@@ -73,15 +102,30 @@ impl Windows {
         let Some(window) = self.viewers.content_at(viewer) else {
             return None;
         };
-        if row == area.top {
-            return None;
-        }
-        let pos = window.frame.locate(col - area.col, row - area.top - 1);
-        Some(Spot {
+        Some(Clicked {
             viewer,
             text: window.text,
-            pos,
+            place: cell_place(window, &area, col, row),
         })
+    }
+
+    // The position that a cell below a viewer's menu stands for; `None` for a cell of a menu, of a blank track and outside
+    // the screen.
+    fn pointed(&self, texts: &Texts, col: usize, row: usize) -> Option<Spot>
+        requires { AreOf texts.now self.now }
+        ensures { IsPointed texts.now self.now col row result }
+    {
+        let Some(at) = self.clicked(texts, col, row) else {
+            return None;
+        };
+        match at.place {
+            Place::Menu(_) => None,
+            Place::Text(pos) => Some(Spot {
+                viewer: at.viewer,
+                text: at.text,
+                pos,
+            }),
+        }
     }
 
     /// Sets the caret into a cell below a viewer's menu: behind the character ahead of the cell's, or at the text's begin.
