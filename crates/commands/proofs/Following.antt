@@ -73,7 +73,7 @@ module _ (d mid new : DeskState) (text : ℕ) (told : AreTold d) (grown : InText
       same_Some u grown_text (sym at ∙ ap (λ (x : DeskState). slice_get x.texts (text - 1)) is_mid
       ∙ put_there d.texts (text - 1) grown.0 grown_text grown.2)
 
-  is_new : new ≡ with_text d text (all_told grown_text)
+  pub is_new : new ≡ with_text d text (all_told grown_text)
   is_new =
       asked.4 ∙ (λ k. with_text (is_mid k) text (asked.3 k))
       ∙ (λ k. record d { texts = set-set d.texts (text - 1) grown_text (all_told asked.0) k })

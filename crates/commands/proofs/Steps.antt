@@ -1,5 +1,5 @@
 -- One call of a desk is one step of every run in which the desk stands.
-use Rattle.std.proofs.Common.{◌≡◌, ℕ, List, [], ◌∷◌, Option, Result, Ok, Err, Some, IfOk, ap, sym, subst, refl, ◌∙◌, inl, inr}
+use Rattle.std.proofs.Common.{◌≡◌, ℕ, List, Option, Result, Ok, Err, Some, IfOk, ap, sym, subst, refl, ◌∙◌, inl, inr}
 use Rattle.std.specs.Prelude.{Bool, MatchResult, slice_set}
 use Rattle.std.specs.Option.{option_map_or}
 use Rattle.std.proofs.lemmas.List.{set-set}
@@ -59,7 +59,7 @@ module _ (s : RunState) (i : ℕ) (d : DeskState) (w : Screened) (stands : Stand
       ∙ (λ k. record mid { desks = set-set s.texts.desks i d' new k })
 
   -- the screen stays as it is
-  screen_stays : (w' : Screened) (texts : State) → w' ≡ w
+  pub screen_stays : (w' : Screened) (texts : State) → w' ≡ w
       → record s { texts = texts } ≡ record s { texts = texts; screens = slice_set s.screens i w' }
   screen_stays w' texts same =
       λ k. record s { texts = texts; screens = (sym (ap (slice_set s.screens i) same ∙ put_back s.screens i w stands.screen)) k }

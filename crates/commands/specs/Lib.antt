@@ -1,2 +1,4 @@
+pub mod Filing
 pub mod Parameters
+pub mod Putting
 pub mod Steps

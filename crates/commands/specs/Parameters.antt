@@ -1,4 +1,5 @@
 -- What a parameter has.
+use Rattle.std.specs.Prelude.{⊤}
 use Rattle.looks.specs.FontName.{IsFontName}
 use Rattle.reader_scanner.specs.declared.token.TokenValue.{TokenValue}
 use Rattle.reader_scanner.specs.declared.token.TokenValue.TheVariants as value
@@ -7,3 +8,8 @@ use Rattle.reader_scanner.specs.declared.token.TokenValue.TheVariants as value
 abbrev pub HasFont : TokenValue → Type 0
 HasFont (value.Name name) = IsFontName name
 HasFont other = ⊥
+
+-- where the value is a name, it is one that a font may have
+abbrev pub MayBeFont : TokenValue → Type 0
+MayBeFont (value.Name name) = IsFontName name
+MayBeFont other = ⊤

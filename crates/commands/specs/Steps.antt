@@ -1,15 +1,22 @@
 -- One call of a desk is one step of every run in which the desk stands.
-use Rattle.std.specs.Prelude.{◌≡◌, ℕ, List, length, Some, Result, Ok, Err, IfOk, slice_set}
+use Rattle.std.specs.Prelude.{◌≡◌, ◌⊎◌, ⊤, ℕ, List, [], length, Option, Some, None, Result, Ok, Err, IfOk, slice_set}
 use Rattle.looks.specs.declared.refusal.Refusal.{Refusal}
+use Rattle.looks.specs.declared.refusal.Refusal.TheVariants.{ReadFault, WriteFault}
+use Rattle.reader_scanner.specs.declared.token.TokenValue.{TokenValue}
+use Rattle.command_words.specs.declared.command.Command.{Command}
+use Rattle.shelf.specs.Files.{Files}
 use Rattle.texts.specs.TextState.{TextState}
 use Rattle.texts.specs.declared.edit_refusal.EditRefusal.{EditRefusal}
+use Rattle.texts.specs.declared.edit_refusal.EditRefusal.TheVariants.{Whole}
 use Rattle.texts.specs.declared.merge_refusal.MergeRefusal.{MergeRefusal}
 use Rattle.texts.specs.declared.took.Took.{Took}
 use Rattle.machine.specs.DeskState.{DeskState, IsTextOf}
-use Rattle.machine.specs.Machine.{Delivery, edit_reply, merge, merge_reply, message_in, prints, refuses, take, take_reply}
-use Rattle.machine.specs.Whole.{IsDeskAt, RunEvent, RunReplies, RunReply, RunState, done, of_text, on_text, opens}
-use Rattle.machine.specs.Whole.{prints_screen, untouched}
+use Rattle.machine.specs.Machine.{Delivery, edit_reply, merge, merge_reply, message_in, prints, refuses, sends, take, take_reply}
+use Rattle.machine.specs.Whole.{IsDeskAt, Part, RunEvent, RunReplies, RunReply, RunState, Task, ask, done, forgot, found, not_found}
+use Rattle.machine.specs.Whole.{of_text, on_text, opens, prints_screen, refuse, task_of, untouched}
 use Rattle.machine.specs.Windows.{Screened}
+use Rattle.commands.specs.declared.answer.Answer.{Answer}
+use Rattle.commands.specs.declared.answer.Answer.TheVariants.{Sent, Viewer, Found, NotFound, Forgot, Done}
 
 -- a site's desk: its texts, and its screen
 pub record DeskSeen : Type 0 where
@@ -54,6 +61,57 @@ IsTakeStep d text message result new = (s : RunState) (i : ℕ) (told : Delivery
 abbrev pub IsMergeStep : DeskSeen → (text : ℕ) → (other : DeskSeen) → Result ℕ MergeRefusal → DeskSeen → Type 0
 IsMergeStep d text other result new = (s : RunState) (i j : ℕ) → StandsIn s i d → StandsIn s j other
     → RunReplies s (on_text (merge i text j)) untouched (of_text (merge_reply result)) (with_desk s i new s.texts.sent)
+
+-- The files that a shelf tells ahead of a call and behind it: these; any, where it tells none.
+abbrev pub AreFilesOf : (told told' : Option Files) → (files files' : Files) → Type 0
+AreFilesOf None None files files' = ⊤
+AreFilesOf None (Some now) files files' = ⊥
+AreFilesOf (Some was) None files files' = ⊥
+AreFilesOf (Some was) (Some now) files files' = (files ≡ was) × (files' ≡ now)
+
+-- the reply to a command that answered so, with these messages
+abbrev pub answer_reply : Result Answer EditRefusal → List (List ℕ) → RunReply
+answer_reply (Ok (Sent count)) messages = of_text (sends messages)
+answer_reply (Ok (Viewer number)) messages = opens number
+answer_reply (Ok (Found at)) messages = found at
+answer_reply (Ok NotFound) messages = not_found
+answer_reply (Ok (Forgot count)) messages = forgot count
+answer_reply (Ok Done) messages = done
+answer_reply (Err why) messages = of_text (edit_reply (Err why) messages)
+
+-- what an edit answers, as a command does
+abbrev pub sent_answer : Result ℕ EditRefusal → Result Answer EditRefusal
+sent_answer (Ok count) = Ok (Sent count)
+sent_answer (Err why) = Err why
+
+-- a command that sent messages answers how many
+abbrev pub CountsSent : Result Answer EditRefusal → List (List ℕ) → Type 0
+CountsSent (Ok (Sent count)) messages = count ≡ length messages
+CountsSent other messages = ⊤
+
+-- Wherever the desk stands in a run, over the files that the shelf tells, this event is replied to so, with some part of the
+-- files in it, and goes on to the run with the new desk, over the files that the shelf tells behind. Of a shelf that tells
+-- none this holds over some files.
+abbrev pub IsShelfStep : DeskSeen → (ℕ → RunEvent) → Result Answer EditRefusal → DeskSeen
+    → (before after : List (List ℕ)) → (told told' : Option Files) → Type 0
+IsShelfStep d event result new before after told told' =
+    (messages : List (List ℕ)) × (part : Part) × (files files' : Files) × CountsSent result messages
+    × AreFilesOf told told' files files'
+    × ((s : RunState) (i : ℕ) → StandsIn s i d → s.texts.sent ≡ before → s.files ≡ files
+    → RunReplies s (event i) part (answer_reply result messages) (record (with_desk s i new after) { files = files' }))
+
+-- a task that sends nothing and asks for no file
+abbrev pub IsTaskStep : DeskSeen → Task → Result Answer EditRefusal → DeskSeen → Type 0
+IsTaskStep d task result new = CountsSent result [] × IsStep d (λ i. ask i task) (answer_reply result []) new
+
+-- the task of a command in a viewer on a text, whose parameter was told so
+abbrev pub task_told : DeskState → Screened → Command → Result TokenValue Refusal → (viewer text : ℕ) → Task
+task_told d w command (Ok value) viewer text = task_of d w command value viewer text
+task_told d w command (Err why) viewer text = refuse why
+
+-- the shelf failed
+abbrev pub IsFault : Result Answer EditRefusal → Type 0
+IsFault result = (result ≡ Err (Whole ReadFault)) ⊎ (result ≡ Err (Whole WriteFault))
 
 -- the reply to a query of a text that answered so, with these bytes
 abbrev pub query_reply : {X : Type 0} → Result X Refusal → (X → List ℕ) → RunReply

@@ -13,6 +13,7 @@ ghost use Rattle.machine.specs.Whole.{marks, show, views};
 ghost use Rattle.machine.specs.Windows.{blank_screen, close, move, open_in, point, scroll, select};
 ghost use Rattle.commands.specs.Steps.{IsEditStep, IsMergeStep, IsStep, IsTakeStep, done_reply, open_reply, query_reply, view_reply};
 
+use crate::putting::Insertion;
 use crate::telling::tell;
 use char_files::{MAX_FILE, SiteNo, TextNo};
 use desk_texts::Texts;
@@ -28,8 +29,10 @@ use viewers::{MAX_HEIGHT, MAX_WIDTH, MIN_HEIGHT, MIN_WIDTH, Track};
 /// own.
 #[derive(Drop)]
 pub struct Desk {
-    texts: Texts,
-    windows: Windows,
+    pub(crate) texts: Texts,
+    pub(crate) windows: Windows,
+    // What a file's memory is taken of.
+    pub(crate) alloc: Global,
 }
 
 impl Model for Desk {
@@ -56,6 +59,7 @@ impl Desk {
         Ok(Desk {
             texts: Texts::new(alloc, site)?,
             windows: Windows::new(alloc, width, height)?,
+            alloc,
         })
     }
 
@@ -342,21 +346,20 @@ impl Desk {
             → (result ≡ Err (Whole (if is_none self.old.screen.caret then NoCaret else FileSpent)))
             × (self.new ≡ self.old) × (outbox.new ≡ outbox.old) }
     {
-        let Some(place) = self.windows.caret_place(&self.texts) else {
-            return Err(EditRefusal::Whole(Refusal::NoCaret));
-        };
-        let (text, pos) = place;
         if MAX_FILE < bytes.len() as u64 {
-            return Err(EditRefusal::Whole(Refusal::FileSpent));
+            return Err(EditRefusal::Whole(self.too_long_to_key()));
         }
-        self.texts.has_text(text);
-        let before = self.texts.replica(text).shown_len();
-        let outcome = self.texts.type_in(text, pos, bytes, outbox);
-        tell(&mut self.texts, &mut self.windows, text);
-        let after = self.texts.replica(text).shown_len();
-        if before < after {
-            self.windows.move_caret(&self.texts, pos + (after - before));
+        self.put(Insertion::Bytes(bytes), outbox)
+    }
+
+    // Why more bytes than a file has room for aren't typed at the caret.
+    fn too_long_to_key(&self) -> Refusal
+        ensures { result ≡ (if is_none self.now.screen.caret then NoCaret else FileSpent) }
+    {
+        if self.windows.has_caret() {
+            Refusal::FileSpent
+        } else {
+            Refusal::NoCaret
         }
-        outcome
     }
 }

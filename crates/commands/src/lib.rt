@@ -1,9 +1,15 @@
 //! One site's desk: its texts and its screen, with a call for each event that a script may ask of them.
 #![tactic(auto)]
 
+mod answer;
+mod clicking;
 mod desk;
+mod executing;
+mod filing;
 mod parameters;
+mod putting;
 mod searching;
 mod telling;
 
+pub use answer::Answer;
 pub use desk::Desk;

@@ -1,4 +1,4 @@
-ghost use Rattle.std.specs.Prelude.{◌≡◌, ◌↔◌, Option, Some, None, if◌then◌else◌, IsTrue, codes, nat_eq};
+ghost use Rattle.std.specs.Prelude.{◌≡◌, ◌≤◌, ◌↔◌, IfSome, Option, Some, None, if◌then◌else◌, IsTrue, codes, nat_eq};
 ghost use Rattle.std.specs.Cmp.Lexicographic.{pointwise};
 ghost use Rattle.std.specs.List.{AllPass};
 ghost use Rattle.std.specs.Option.{option_copied};
@@ -14,7 +14,8 @@ use std::{slice, str};
 
 // The text that a value tells.
 pub(crate) fn text_told(value: &TokenValue) -> Option<TextNo>
-    ensures { result ≡ text_told value.now }
+    ensures told { result ≡ text_told value.now }
+    ensures on_desk { IfSome result (λ text. text ≤ MAX_TEXT) }
 {
     let TokenValue::Int(number) = value else {
         return None;

@@ -1,4 +1,4 @@
--- What is typed at the caret: one step of the run, behind which the caret stands behind the last character that came in.
+-- What is put in at the caret: one step of the run, behind which the caret stands behind the last character that came in.
 use Rattle.std.proofs.Common.{◌≡◌, ◌⊎◌, ℕ, ◌+◌, ◌-◌, ◌≤◌, ◌<◌, true, false, Bool, List, [], ◌++◌, length, take, drop, Option, Some}
 use Rattle.std.proofs.Common.{None, Result, Ok, Err, refl, sym, ap, subst, ◌∙◌, inl, inr, arith, length-append}
 use Rattle.std.specs.Prelude.{◌==◌, if◌then◌else◌, option_map, slice_get, slice_set}
@@ -9,7 +9,7 @@ use Rattle.char_files.specs.Stretch.{Item}
 use Rattle.char_files.specs.declared.character.Char.{Char}
 use Rattle.char_files.specs.declared.name.Anchor.{Anchor}
 use Rattle.text_frames.proofs.Places.{place_within}
-use Rattle.texts.specs.Edit.{anchor_before, insertion, is_in_text}
+use Rattle.texts.specs.Edit.{anchor_before, is_in_text}
 use Rattle.texts.specs.Order.{put}
 use Rattle.texts.specs.Outcome.{Shows}
 use Rattle.texts.specs.Text.{IsAnchor, IsText}
@@ -17,9 +17,10 @@ use Rattle.texts.specs.TextState.{TextState, all_told, shown_of}
 use Rattle.texts.specs.declared.edit_refusal.EditRefusal.{EditRefusal}
 use Rattle.texts.specs.declared.edit_refusal.EditRefusal.TheVariants.{Whole, Partial}
 use Rattle.machine.specs.DeskState.{DeskState, InText, IsTextOf}
-use Rattle.machine.specs.Machine.{EditsDesk, EditsText, EditsTextShort, IsTextAt, Replies, Reply, State, alone, edit, edit_reply}
-use Rattle.machine.specs.Whole.{RunReplies, RunState, ask, caret_after, of_text, told_at, untouched}
-use Rattle.machine.specs.Whole.{put as put_in}
+use Rattle.machine.specs.Machine.{Does, EditsDesk, EditsText, EditsTextShort, IsTextAt, Replies, Reply, Short, State, alone}
+use Rattle.machine.specs.Machine.{edit, edit_reply, refuses}
+use Rattle.machine.specs.Whole.{AtCaret, DoesTask, Refuses, RunReplies, RunReply, RunState, ShortTask, ask, caret_after, of_text}
+use Rattle.machine.specs.Whole.{told_at, untouched}
 use Rattle.machine.specs.Windows.{Caret, Screened, Window, place_in, shown_by, window_of}
 use Rattle.machine_laws.proofs.Arranging.{shows_so}
 use Rattle.machine_laws.proofs.OneReply.{one_element}
@@ -31,9 +32,10 @@ use Rattle.desk_windows.specs.Windows.{AreOf, HasMovedTo, IsCaretPlace, WindowsS
 use Rattle.desk_windows.specs.Windows.{window_of as seen_as}
 use Rattle.commands.proofs.Lifting.{HasText, edited_in, replies_lifted}
 use Rattle.commands.proofs.Steps.{Asked, run_stays, told_state}
+use Rattle.commands.specs.Putting.{edit_of, task_of_put}
 use Rattle.commands.specs.Steps.{DeskSeen, IsEditStep, StandsIn, with_desk}
 
--- an insertion shows no less
+-- what puts characters in shows no less
 
 put_not_shorter : (xs : List Char) (n : ℕ) (run : List Char) → length xs ≤ length (put xs n run)
 put_not_shorter xs n run =
@@ -43,30 +45,36 @@ put_not_shorter xs n run =
     let whole : length (take n xs ++ drop n xs) ≡ length xs = ap (length {A = Char}) (take-append-drop n xs) in
     omega arith
 
-shows_no_less : (t u : TextState) (pos : ℕ) (items : List Item) (result : Result ℕ EditRefusal)
-    → Shows t (insertion pos items) result u → length (shown_of t) ≤ length (shown_of u)
-shows_no_less t u pos items (Ok n) shows =
+shows_no_less : (t u : TextState) (pos : ℕ) (what : Option (List Item)) (result : Result ℕ EditRefusal)
+    → Shows t (edit_of what pos) result u → length (shown_of t) ≤ length (shown_of u)
+shows_no_less t u pos (Some items) (Ok n) shows =
     subst (λ (l : List Char). length (shown_of t) ≤ length l) (sym shows) (put_not_shorter (shown_of t) pos _)
-shows_no_less t u pos items (Err (Whole why)) shows =
+shows_no_less t u pos (Some items) (Err (Whole why)) shows =
     let same : length (shown_of u) ≡ length (shown_of t) = ap (length {A = Char}) shows in omega arith
-shows_no_less t u pos items (Err (Partial n why)) shows =
+shows_no_less t u pos (Some items) (Err (Partial n why)) shows =
+    subst (λ (l : List Char). length (shown_of t) ≤ length l) (sym shows) (put_not_shorter (shown_of t) pos _)
+shows_no_less t u pos None (Ok n) shows =
+    subst (λ (l : List Char). length (shown_of t) ≤ length l) (sym shows) (put_not_shorter (shown_of t) pos _)
+shows_no_less t u pos None (Err (Whole why)) shows =
+    let same : length (shown_of u) ≡ length (shown_of t) = ap (length {A = Char}) shows in omega arith
+shows_no_less t u pos None (Err (Partial n why)) shows =
     subst (λ (l : List Char). length (shown_of t) ≤ length l) (sym shows) (put_not_shorter (shown_of t) pos _)
 
 stays_as_long : (t u : TextState) → u ≡ t → length (shown_of t) ≤ length (shown_of u)
 stays_as_long t u same =
     let long : length (shown_of u) ≡ length (shown_of t) = ap (λ (x : TextState). length (shown_of x)) same in omega arith
 
-inserts_no_less : (t u : TextState) (pos : ℕ) (items : List Item) (r : Reply)
-    → EditsText (insertion pos items) r t u ⊎ EditsTextShort (insertion pos items) r t u
+inserts_no_less : (t u : TextState) (pos : ℕ) (what : Option (List Item)) (r : Reply)
+    → EditsText (edit_of what pos) r t u ⊎ EditsTextShort (edit_of what pos) r t u
     → length (shown_of t) ≤ length (shown_of u)
-inserts_no_less t u pos items r (inl does) =
-    elim (by_test (is_in_text t (insertion pos items)) _ _ does) [
-      | inl done ↦ let (result, messages, edits, shows, replied) = done.1 in shows_no_less t u pos items result shows
+inserts_no_less t u pos what r (inl does) =
+    elim (by_test (is_in_text t (edit_of what pos)) _ _ does) [
+      | inl done ↦ let (result, messages, edits, shows, replied) = done.1 in shows_no_less t u pos what result shows
       | inr left ↦ stays_as_long t u left.1.1
     ]
-inserts_no_less t u pos items r (inr (within, inl (result, messages, edits, shows, replied))) =
-    shows_no_less t u pos items result shows
-inserts_no_less t u pos items r (inr (within, inr (some, replied, same))) = stays_as_long t u same
+inserts_no_less t u pos what r (inr (within, inl (result, messages, edits, shows, replied))) =
+    shows_no_less t u pos what result shows
+inserts_no_less t u pos what r (inr (within, inr (some, replied, same))) = stays_as_long t u same
 
 equal_is : (a b : ℕ) → a ≡ b → (a == b) ≡ true
 equal_is a b same = (Decides-eqb a b).1 same
@@ -91,9 +99,29 @@ caret_moves t u was old more =
     ap (λ (b : Bool). if b then old else anchor_before (shown_of u) (was + (length (shown_of u) - length (shown_of t))))
     (unequal_is (length (shown_of u)) (length (shown_of t)) (λ same. omega arith))
 
+-- what is put in at the caret is the task's
+module _ (s : RunState) (i : ℕ) (d : DeskState) (w : Screened) (c : Caret) (shown : Window × TextState) where
+  put_does : (what : Option (List Item)) (r : RunReply) (new : RunState) → w.caret ≡ Some c
+      → window_of d w c.viewer ≡ Some shown → AtCaret Does s i w c shown.0 shown.1 (edit_of what) r new
+      → DoesTask s i d w (task_of_put what) untouched r new
+  put_does (Some items) r new caret at does = inr (c, shown, caret, at, (refl, does))
+  put_does None r new caret at does = inr (c, shown, caret, at, (refl, does))
+
+  put_short : (what : Option (List Item)) (r : RunReply) (new : RunState) → w.caret ≡ Some c
+      → window_of d w c.viewer ≡ Some shown → AtCaret Short s i w c shown.0 shown.1 (edit_of what) r new
+      → ShortTask s i d w (task_of_put what) untouched r new
+  put_short (Some items) r new caret at short = (refl, (c, shown, caret, at, short))
+  put_short None r new caret at short = (refl, (c, shown, caret, at, short))
+
+-- without a caret it is refused
+put_without_caret : (s : RunState) (i : ℕ) (d : DeskState) (w : Screened) (what : Option (List Item)) (r : RunReply)
+    (new : RunState) → w.caret ≡ None → Refuses s NoCaret r new → DoesTask s i d w (task_of_put what) untouched r new
+put_without_caret s i d w (Some items) r new none refused = inl (none, refl, refused)
+put_without_caret s i d w None r new none refused = inl (none, refl, refused)
+
 -- The caret stands in a viewer of a text of the desk, at a position of that, where characters were put in; and the windows
 -- were told.
-pub record IsTyped (d d' new : DeskState) (old mid : WindowsSeen) (place : ℕ × ℕ) (items : List Item)
+pub record IsPutIn (d d' new : DeskState) (old mid : WindowsSeen) (place : ℕ × ℕ) (what : Option (List Item))
     (result : Result ℕ EditRefusal) (before after : List (List ℕ)) : Type 0 where
   pub c : Caret
   pub window : Window
@@ -104,12 +132,12 @@ pub record IsTyped (d d' new : DeskState) (old mid : WindowsSeen) (place : ℕ �
   pub anchor : IsAnchor t.operations c.anchor
   pub on : place.0 ≡ window.text
   pub at : place.1 ≡ place_in t c.anchor
-  pub edited : EditsDesk d (edit 0 window.text (insertion (place_in t c.anchor) items)) result d' before after
+  pub edited : EditsDesk d (edit 0 window.text (edit_of what (place_in t c.anchor))) result d' before after
   pub told : Asked d' window.text new
   pub same : screened mid ≡ screened old
 
 -- a caret's character is one of the text that its viewer shows
-anchored : (d : DeskState) (w : WindowsSeen) (c : Caret) (shown : Window × TextState) → AreOf d w → w.caret ≡ Some c
+pub anchored : (d : DeskState) (w : WindowsSeen) (c : Caret) (shown : Window × TextState) → AreOf d w → w.caret ≡ Some c
     → window_of d (screened w) c.viewer ≡ Some shown → IsAnchor shown.1.operations c.anchor
 anchored d w c shown are is_caret shows =
     let (x, t, there, at, anchor) = are.caret c is_caret in
@@ -122,12 +150,12 @@ anchored d w c shown are is_caret shows =
     (subst (λ (n : ℕ). IsTextOf d n shown.1) text its) in
     subst (λ (y : TextState). IsAnchor y.operations c.anchor) one anchor
 
--- what is typed at the caret's place is typed so
-pub typed_at : (d d' new : DeskState) (old mid : WindowsSeen) (place : ℕ × ℕ) (items : List Item) (result : Result ℕ EditRefusal)
+-- what is put in at the caret's place is put in so
+pub put_at : (d d' new : DeskState) (old mid : WindowsSeen) (place : ℕ × ℕ) (what : Option (List Item)) (result : Result ℕ EditRefusal)
     (before after : List (List ℕ)) → AreOf d old → IsCaretPlace d old (Some place) → HasText d place.0
-    → EditsDesk d (edit 0 place.0 (insertion place.1 items)) result d' before after → Asked d' place.0 new
-    → screened mid ≡ screened old → IsTyped d d' new old mid place items result before after
-typed_at d d' new old mid place items result before after are (c, shown, caret, shows, text, pos) (t, at, is) edited told same =
+    → EditsDesk d (edit 0 place.0 (edit_of what place.1)) result d' before after → Asked d' place.0 new
+    → screened mid ≡ screened old → IsPutIn d d' new old mid place what result before after
+put_at d d' new old mid place what result before after are (c, shown, caret, shows, text, pos) (t, at, is) edited told same =
     let one : t ≡ shown.1 = one_element (slice_get d.texts (shown.0.text - 1)) t shown.1
     (subst (λ (n : ℕ). IsTextOf d n t) text at) (shown_parts d (screened old) c.viewer shown shows).1 in
     record {
@@ -140,33 +168,33 @@ typed_at d d' new old mid place items result before after are (c, shown, caret, 
       anchor = anchored d old c shown are caret shows;
       on = text;
       at = pos;
-      edited = subst (λ (n : ℕ). EditsDesk d (edit 0 n (insertion (place_in shown.1 c.anchor) items)) result d' before after) text
-          (subst (λ (n : ℕ). EditsDesk d (edit 0 place.0 (insertion n items)) result d' before after) pos edited);
+      edited = subst (λ (n : ℕ). EditsDesk d (edit 0 n (edit_of what (place_in shown.1 c.anchor))) result d' before after) text
+          (subst (λ (n : ℕ). EditsDesk d (edit 0 place.0 (edit_of what n)) result d' before after) pos edited);
       told = subst (λ (n : ℕ). Asked d' n new) text told;
       same = same;
     }
 
-module _ {d d' new : DeskState} {old mid : WindowsSeen} {place : ℕ × ℕ} {items : List Item}
+module _ {d d' new : DeskState} {old mid : WindowsSeen} {place : ℕ × ℕ} {what : Option (List Item)}
     {result : Result ℕ EditRefusal} {before after : List (List ℕ)}
-    (k : IsTyped d d' new old mid place items result before after) where
+    (k : IsPutIn d d' new old mid place what result before after) where
   open k use {c, window, t, caret, shown, edited, told, same}
 
   parts : (shown_by c.viewer (screened old).windows ≡ Some window) × IsTextOf d window.text t
   parts = shown_parts d (screened old) c.viewer (window, t) shown
 
-  typed : InText (λ x u. EditsText (insertion (place_in t c.anchor) items) (edit_reply result edited.0) x u
-      ⊎ EditsTextShort (insertion (place_in t c.anchor) items) (edit_reply result edited.0) x u) d window.text d'
-  typed =
-      edited_in d d' window.text (insertion (place_in t c.anchor) items) (edit_reply result edited.0) before after edited.2
+  put_so : InText (λ x u. EditsText (edit_of what (place_in t c.anchor)) (edit_reply result edited.0) x u
+      ⊎ EditsTextShort (edit_of what (place_in t c.anchor)) (edit_reply result edited.0) x u) d window.text d'
+  put_so =
+      edited_in d d' window.text (edit_of what (place_in t c.anchor)) (edit_reply result edited.0) before after edited.2
 
   pub text_then : TextState
-  text_then = typed.1
+  text_then = put_so.1
 
   there_then : IsTextOf d' window.text text_then
   unfolding text_then
   there_then =
-      ap (λ (x : DeskState). slice_get x.texts (window.text - 1)) typed.4
-      ∙ put_there d.texts (window.text - 1) typed.0 typed.1 typed.2
+      ap (λ (x : DeskState). slice_get x.texts (window.text - 1)) put_so.4
+      ∙ put_there d.texts (window.text - 1) put_so.0 put_so.1 put_so.2
 
   in_new : IsTextOf new window.text (all_told text_then)
   in_new =
@@ -177,9 +205,9 @@ module _ {d d' new : DeskState} {old mid : WindowsSeen} {place : ℕ × ℕ} {it
   no_less : length (shown_of t) ≤ length (shown_of text_then)
   unfolding text_then
   no_less =
-      let one : typed.0 ≡ t = one_element (slice_get d.texts (window.text - 1)) typed.0 t typed.2 parts.1 in
-      subst (λ (x : TextState). length (shown_of x) ≤ length (shown_of typed.1)) one
-      (inserts_no_less typed.0 typed.1 (place_in t c.anchor) items (edit_reply result edited.0) typed.3)
+      let one : put_so.0 ≡ t = one_element (slice_get d.texts (window.text - 1)) put_so.0 t put_so.2 parts.1 in
+      subst (λ (x : TextState). length (shown_of x) ≤ length (shown_of put_so.1)) one
+      (inserts_no_less put_so.0 put_so.1 (place_in t c.anchor) what (edit_reply result edited.0) put_so.3)
 
   caret_there : mid.caret ≡ Some c
   caret_there = ap (λ (w : Screened). w.caret) same ∙ caret
@@ -231,21 +259,21 @@ module _ {d d' new : DeskState} {old mid : WindowsSeen} {place : ℕ × ℕ} {it
         caret = Some (record c { anchor = sym (caret_moves t text_then (place_in t c.anchor) c.anchor more) k });
       })
 
-  -- so what is typed is one step of every run in which the desk stands
-  key_step : (seen : DeskSeen) (w : Screened) → record { texts = d; screen = screened old } ≡ seen → CaretIsSet w
-      → IsEditStep seen (λ i. ask i (put_in items)) result (record { texts = new; screen = w }) before after
-  key_step seen w is set =
-      subst (λ (x : DeskSeen). IsEditStep x (λ i. ask i (put_in items)) result (record { texts = new; screen = w }) before after) is
+  -- so what is put in is one step of every run in which the desk stands
+  put_step : (seen : DeskSeen) (w : Screened) → record { texts = d; screen = screened old } ≡ seen → CaretIsSet w
+      → IsEditStep seen (λ i. ask i (task_of_put what)) result (record { texts = new; screen = w }) before after
+  put_step seen w is set =
+      subst (λ (x : DeskSeen). IsEditStep x (λ i. ask i (task_of_put what)) result (record { texts = new; screen = w }) before after) is
       (edited.0, edited.1, steps)
     where
       steps : (s : RunState) (i : ℕ) → StandsIn s i (record { texts = d; screen = screened old }) → s.texts.sent ≡ before
-          → RunReplies s (ask i (put_in items)) untouched (of_text (edit_reply result edited.0))
+          → RunReplies s (ask i (task_of_put what)) untouched (of_text (edit_reply result edited.0))
           (with_desk s i (record { texts = new; screen = w }) after)
       steps s i stands sent =
           let mid_state : State = record s.texts { desks = slice_set s.texts.desks i d'; sent = after } in
-          let replies : Replies (alone d s.texts.sent) (edit 0 window.text (insertion (place_in t c.anchor) items))
+          let replies : Replies (alone d s.texts.sent) (edit 0 window.text (edit_of what (place_in t c.anchor)))
           (edit_reply result edited.0) (alone d' after) =
-          subst (λ (all : List (List ℕ)). Replies (alone d all) (edit 0 window.text (insertion (place_in t c.anchor) items))
+          subst (λ (all : List (List ℕ)). Replies (alone d all) (edit 0 window.text (edit_of what (place_in t c.anchor)))
           (edit_reply result edited.0) (alone d' after)) (sym sent) edited.2 in
           let at_then : IsTextAt mid_state i window.text text_then = (d', put_there s.texts.desks i d d' stands.texts, there_then) in
           let run : with_desk s i (record { texts = new; screen = w }) after ≡ record s {
@@ -256,37 +284,23 @@ module _ {d d' new : DeskState} {old mid : WindowsSeen} {place : ℕ × ℕ} {it
             texts = sym (told_state s i d (screened old) stands d' new after window.text told) k;
             screens = slice_set s.screens i (set k);
           }) in
-          elim (replies_lifted s.texts i d d' after stands.texts (edit 0 window.text (insertion (place_in t c.anchor) items))
+          elim (replies_lifted s.texts i d d' after stands.texts (edit 0 window.text (edit_of what (place_in t c.anchor)))
           (edit_reply result edited.0) tt replies) [
             | inl does ↦ inl (
               d,
               screened old,
               stands,
-              inr (
-                c,
-                (window, t),
-                caret,
-                shown,
-                (
-                  refl,
+              put_does s i d (screened old) c (window, t) what (of_text (edit_reply result edited.0))
+                  (with_desk s i (record { texts = new; screen = w }) after) caret shown
                   (edit_reply result edited.0, mid_state, text_then, does, at_then, refl, run),
-                ),
-              ),
             )
             | inr short ↦ inr (
               d,
               screened old,
               stands,
-              (
-                refl,
-                (
-                  c,
-                  (window, t),
-                  caret,
-                  shown,
+              put_short s i d (screened old) c (window, t) what (of_text (edit_reply result edited.0))
+                  (with_desk s i (record { texts = new; screen = w }) after) caret shown
                   (edit_reply result edited.0, mid_state, text_then, short, at_then, refl, run),
-                ),
-              ),
             )
           ]
 
@@ -322,37 +336,33 @@ module _ {d d' new : DeskState} {old mid : WindowsSeen} {place : ℕ × ℕ} {it
     -- the caret moves where the text has become longer
     pub moved_step : (seen : DeskSeen) (end : WindowsSeen) → record { texts = d; screen = screened old } ≡ seen → n < m
         → HasMovedTo new mid (place.1 + (m - n)) end
-        → IsEditStep seen (λ i. ask i (put_in items)) result (record { texts = new; screen = screened end }) before after
+        → IsEditStep seen (λ i. ask i (task_of_put what)) result (record { texts = new; screen = screened end }) before after
     moved_step seen end is more moved =
-        key_step seen (screened end) is (set_by_move end (omega arith)
+        put_step seen (screened end) is (set_by_move end (omega arith)
         (moved c (window, all_told text_then) caret_there shows_then ∙ (λ j. record (screened mid) {
           caret = Some (record c { anchor = anchor_before (shown_of text_then) (goes j) });
         })))
 
     -- and else it stays
     pub stayed_step : (seen : DeskSeen) → record { texts = d; screen = screened old } ≡ seen → m ≤ n
-        → IsEditStep seen (λ i. ask i (put_in items)) result (record { texts = new; screen = screened mid }) before after
-    stayed_step seen is no_more = key_step seen (screened mid) is (set_by_none (omega arith))
+        → IsEditStep seen (λ i. ask i (task_of_put what)) result (record { texts = new; screen = screened mid }) before after
+    stayed_step seen is no_more = put_step seen (screened mid) is (set_by_none (omega arith))
 
--- without a caret nothing is typed
+-- without a caret nothing is put in
 pub no_caret_step : (seen : DeskSeen) (d : DeskState) (w : Screened) → record { texts = d; screen = w } ≡ seen
-    → w.caret ≡ None → (items : List Item) (sent : List (List ℕ))
-    → IsEditStep seen (λ i. ask i (put_in items)) (Err (Whole NoCaret)) seen sent sent
-no_caret_step seen d w is none items sent =
-    subst (λ (x : DeskSeen). IsEditStep x (λ i. ask i (put_in items)) (Err (Whole NoCaret)) x sent sent) is (
+    → w.caret ≡ None → (what : Option (List Item)) (sent : List (List ℕ))
+    → IsEditStep seen (λ i. ask i (task_of_put what)) (Err (Whole NoCaret)) seen sent sent
+no_caret_step seen d w is none what sent =
+    subst (λ (x : DeskSeen). IsEditStep x (λ i. ask i (task_of_put what)) (Err (Whole NoCaret)) x sent sent) is (
       [],
       tt,
       λ s i stands same. inl (
         d,
         w,
         stands,
-        inl (
-          none,
+        put_without_caret s i d w what (of_text (refuses NoCaret)) (with_desk s i (record { texts = d; screen = w }) sent) none (
           refl,
-          (
-            refl,
-            (λ k. with_desk s i (record { texts = d; screen = w }) (sym same k)) ∙ sym (run_stays s i d w stands),
-          ),
+          (λ k. with_desk s i (record { texts = d; screen = w }) (sym same k)) ∙ sym (run_stays s i d w stands),
         ),
       ),
     )

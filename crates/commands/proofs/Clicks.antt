@@ -1,0 +1,142 @@
+-- The task of a click: what is clicked, the call that stands there, and its parameter.
+use Rattle.std.proofs.Common.{◌≡◌, ℕ, ◌-◌, Bool, true, false, List, [], ◌∷◌, map, Option, Some, None, Result, Ok, Err, refl, sym, ap, subst, ◌∙◌, inl, inr}
+use Rattle.std.specs.Prelude.{◌&&◌, IfSome, MatchOption, MatchResult, slice_get}
+use Rattle.looks.specs.declared.refusal.Refusal.{Refusal}
+use Rattle.looks.specs.declared.refusal.Refusal.TheVariants.{NoSelection, NoViewer, UnknownCommand}
+use Rattle.char_files.specs.Plain.{plain_items}
+use Rattle.char_files.specs.declared.character.Char.{Char}
+use Rattle.reader_scanner.specs.Place.{bytes_of}
+use Rattle.reader_scanner.specs.Tokens.{IsTokenAt}
+use Rattle.reader_scanner.specs.declared.token.Token.{Token}
+use Rattle.reader_scanner.specs.declared.token.TokenValue.{TokenValue}
+use Rattle.reader_scanner.specs.declared.token.TokenValue.TheVariants as value
+use Rattle.command_words.specs.Calls.{IsCallAt, NoCallAt}
+use Rattle.command_words.specs.Commands.{has_parameter, menu_of}
+use Rattle.command_words.specs.declared.calls.Call.{Call}
+use Rattle.texts.specs.TextState.{TextState, shown_items, shown_of}
+use Rattle.machine.specs.DeskState.{DeskState, IsTextOf}
+use Rattle.machine.specs.Whole.{Change, IsTaskAt, IsTaskOfCall, Task, clicked, font_told, is_caret_sign, refuse, task_of, Clicked as ClickedSeen}
+use Rattle.machine.specs.Windows.{Marked, Screened, bytes_shown, marked}
+use Rattle.machine_laws.proofs.OneReply.{one_element}
+use Rattle.desk_windows.specs.Pointing.{IsClick, IsPlaceOf}
+use Rattle.desk_windows.specs.declared.pointing.Clicked.{Clicked}
+use Rattle.desk_windows.specs.declared.pointing.Place.TheVariants.{Menu, Text}
+use Rattle.commands.specs.Parameters.{HasFont, MayBeFont}
+use Rattle.commands.specs.Steps.{task_told}
+
+-- the bytes of plain characters, and those of a text
+pub plain_are : (bytes : List ℕ) → bytes_of (plain_items bytes) ≡ bytes
+plain_are [] = refl
+plain_are (b ∷ rest) = ap (λ (l : List ℕ). b ∷ l) (plain_are rest)
+
+chars_are : (cs : List Char) → bytes_of (map (λ c. (c.byte, c.looks)) cs) ≡ map (λ c. c.byte) cs
+chars_are [] = refl
+chars_are (c ∷ rest) = ap (λ (l : List ℕ). c.byte ∷ l) (chars_are rest)
+
+pub shown_are : (t : TextState) → bytes_of (shown_items t) ≡ bytes_shown t
+shown_are t = chars_are (shown_of t)
+
+-- what is clicked stands in these bytes, at this position
+module _ (d : DeskState) (seen : ClickedSeen) (c : Clicked) (is : IsClick d seen c) (pos : ℕ) where
+  pub in_menu : (bytes : List ℕ) → c.place ≡ Menu pos → bytes ≡ menu_of c.viewer c.text
+      → (bytes_of (plain_items bytes) ≡ seen.bytes) × (pos ≡ seen.pos)
+  in_menu bytes menu are =
+      let (its, at) = subst (IsPlaceOf d seen) menu is.place in (
+        plain_are bytes ∙ are ∙ (λ k. menu_of (is.viewer k) (is.text k)) ∙ sym its,
+        sym at,
+      )
+
+  pub in_text : (t : TextState) → c.place ≡ Text pos → IsTextOf d c.text t
+      → (bytes_of (shown_items t) ≡ seen.bytes) × (pos ≡ seen.pos)
+  in_text t below there =
+      let (u, at_u, its, at) = subst (IsPlaceOf d seen) below is.place in
+      let same : t ≡ u = one_element (slice_get d.texts (seen.text - 1)) t u
+      (subst (λ (n : ℕ). IsTextOf d n t) is.text there) at_u in (
+        shown_are t ∙ ap bytes_shown same ∙ sym its,
+        sym at,
+      )
+
+-- the call there
+pub calls_there : (bytes bytes' : List ℕ) (pos pos' : ℕ) (result : Option Call) → (bytes ≡ bytes') × (pos ≡ pos')
+    → IfSome result (λ call. IsCallAt bytes pos call) → IfSome result (λ call. IsCallAt bytes' pos' call)
+calls_there bytes bytes' pos pos' result (are, at) call =
+    subst (λ (l : List ℕ). IfSome result (λ call. IsCallAt l pos' call)) are
+    (subst (λ (n : ℕ). IfSome result (λ call. IsCallAt bytes n call)) at call)
+
+pub calls_none : (bytes bytes' : List ℕ) (pos pos' : ℕ) → (bytes ≡ bytes') × (pos ≡ pos') → NoCallAt bytes pos
+    → NoCallAt bytes' pos'
+calls_none bytes bytes' pos pos' (are, at) none =
+    subst (λ (l : List ℕ). NoCallAt l pos') are (subst (λ (n : ℕ). NoCallAt bytes n) at none)
+
+-- the task of a call, by its parameter
+module _ (d : DeskState) (w : Screened) (call : Call) (viewer text : ℕ) where
+  abbrev TaskOf : Result TokenValue Refusal → Type 0
+  TaskOf told = IsTaskOfCall d w call viewer text (task_told d w call.command told viewer text)
+
+  tells : (told : Result TokenValue Refusal)
+      → MatchResult told (λ x. task_told d w call.command told viewer text ≡ task_of d w call.command x viewer text)
+      (λ why. task_told d w call.command told viewer text ≡ refuse why)
+  tells (Ok x) = refl
+  tells (Err why) = refl
+
+  -- it is followed to the selection
+  pub followed : (told : Result TokenValue Refusal) → has_parameter call.command ≡ true
+      → is_caret_sign call.token.value ≡ true
+      → MatchOption (marked d w) (told ≡ Err NoSelection)
+      (λ m. (there : Token) × IsTokenAt (bytes_shown m.text) m.beg there × (told ≡ Ok there.value))
+      → TaskOf told
+  followed told asks sign is = rw asks (told, rw sign is, tells told)
+
+  -- or it is the token behind the word
+  behind_word : (asks sign : Bool) → has_parameter call.command ≡ asks → is_caret_sign call.token.value ≡ sign
+      → (asks && sign) ≡ false → TaskOf (Ok call.token.value)
+  behind_word false sign asks_is sign_is not = rw asks_is refl
+  behind_word true false asks_is sign_is not = rw asks_is (Ok call.token.value, rw sign_is refl, refl)
+  behind_word true true asks_is sign_is not = absurd cc
+
+  pub not_followed : (has_parameter call.command && is_caret_sign call.token.value) ≡ false → TaskOf (Ok call.token.value)
+  not_followed not = behind_word (has_parameter call.command) (is_caret_sign call.token.value) refl refl not
+
+-- the token at the selection's begin
+pub marked_told : (d : DeskState) (w : Screened) (at : Marked) (t : TextState) (beg : ℕ) (token : Token) → marked d w ≡ Some at
+    → t ≡ at.text → beg ≡ at.beg → IsTokenAt (bytes_of (shown_items t)) beg token
+    → MatchOption (marked d w) (◌≡◌ {A = Result TokenValue Refusal} (Ok token.value) (Err NoSelection))
+    (λ m. (there : Token) × IsTokenAt (bytes_shown m.text) m.beg there
+    × ◌≡◌ {A = Result TokenValue Refusal} (Ok token.value) (Ok there.value))
+marked_told d w at t beg token is text_is beg_is there =
+    subst (λ (o : Option Marked). MatchOption o (◌≡◌ {A = Result TokenValue Refusal} (Ok token.value) (Err NoSelection))
+    (λ m. (there : Token) × IsTokenAt (bytes_shown m.text) m.beg there
+    × ◌≡◌ {A = Result TokenValue Refusal} (Ok token.value) (Ok there.value))) (sym is) (
+      token,
+      subst (λ (l : List ℕ). IsTokenAt l at.beg token) (shown_are t ∙ ap bytes_shown text_is)
+          (subst (λ (n : ℕ). IsTokenAt (bytes_of (shown_items t)) n token) beg_is there),
+      refl,
+    )
+
+-- the task of a click
+module _ (d : DeskState) (w : Screened) (col row : ℕ) where
+  pub nothing_there : clicked d w col row ≡ None → IsTaskAt d w col row (refuse NoViewer)
+  nothing_there none = rw none refl
+
+  module _ (seen : ClickedSeen) (is : clicked d w col row ≡ Some seen) where
+    pub no_call_there : NoCallAt seen.bytes seen.pos → IsTaskAt d w col row (refuse UnknownCommand)
+    no_call_there none = rw is (inl (none, refl))
+
+    pub call_there : (c : Clicked) (call : Call) (task : Task) → IsClick d seen c → IsCallAt seen.bytes seen.pos call
+        → IsTaskOfCall d w call c.viewer c.text task → IsTaskAt d w col row task
+    call_there c call task click is_call of_call =
+        rw is (inr (
+          call,
+          is_call,
+          subst (λ (n : ℕ). IsTaskOfCall d w call seen.viewer n task) click.text
+              (subst (λ (n : ℕ). IsTaskOfCall d w call n c.text task) click.viewer of_call),
+        ))
+
+-- a name that may be a font's is told as one
+pub font_is : (told : TokenValue) (result : Option Change) → MayBeFont told → (HasFont told → result ≡ font_told told)
+    → ((HasFont told → ⊥) → result ≡ None) → result ≡ font_told told
+font_is (value.Name name) result may font none = font may
+font_is value.Inval result may font none = none (λ x. x)
+font_is (value.String text) result may font none = none (λ x. x)
+font_is (value.Int number) result may font none = none (λ x. x)
+font_is (value.Char byte) result may font none = none (λ x. x)

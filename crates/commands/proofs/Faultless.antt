@@ -1,0 +1,265 @@
+-- A task in which the files have no part doesn't answer that the shelf failed.
+use Rattle.std.proofs.Common.{◌≡◌, ℕ, Bool, true, false, List, [], ◌∷◌, Option, Some, None, Result, Ok, Err, refl, sym, subst, inl, inr}
+use Rattle.std.specs.Prelude.{⊤, if◌then◌else◌, MatchResult}
+use Rattle.std.specs.Option.{option_map_or}
+use Rattle.looks.specs.declared.refusal.Refusal.{Refusal}
+use Rattle.looks.specs.declared.refusal.Refusal.TheVariants.{Behind, FileSpent, NoRoom, NoSelection, NoViewer, OutOfRange, ReadFault}
+use Rattle.looks.specs.declared.refusal.Refusal.TheVariants.{Scattered, SeqSpent, StampsSpent, WriteFault}
+use Rattle.operations.specs.Operation.{Operation}
+use Rattle.texts.specs.Edit.{Edit, insertion, is_in_text, looks_change, plan, recalling, with_operation}
+use Rattle.texts.specs.Outcome.{Edits, EditsShort, first_refusal, refusal_for, refusal_or}
+use Rattle.texts.specs.TextState.{TextState}
+use Rattle.texts.specs.declared.edit_refusal.EditRefusal.{EditRefusal}
+use Rattle.texts.specs.declared.edit_refusal.EditRefusal.TheVariants.{Whole, Partial}
+use Rattle.viewers.specs.declared.screen.Track.{Track}
+use Rattle.machine.specs.DeskState.{DeskState}
+use Rattle.machine.specs.Machine.{Does, EditsText, EditsTextShort, Reply, Short, State, alone, edit, edit_reply, refuses}
+use Rattle.machine.specs.Whole.{Change, DoesTask, Refuses, RunReplies, RunReply, RunState, ShortTask, Task, arrange, ask, change, done}
+use Rattle.machine.specs.Whole.{dress_marked, forget, load, of_text, opens}
+use Rattle.machine.specs.Whole.{print, put, put_recalled, refuse, search, store, untouched, with_screen_at, with_told}
+use Rattle.machine.specs.Windows.{Arranged, Marked, Screened, close, closed_at, marked, move, open_in, opened_at, place_in, point}
+use Rattle.machine.specs.Windows.{scroll, select}
+use Rattle.machine_laws.proofs.Rooms.{by_test}
+use Rattle.commands.proofs.Shelves.{sent_replies}
+use Rattle.commands.specs.declared.answer.Answer.{Answer}
+use Rattle.commands.specs.Steps.{DeskSeen, IsEditStep, IsFault, IsTaskStep, answer_reply, sent_answer, with_desk}
+
+-- whether it is the shelf that failed
+abbrev is_fault : Refusal → Bool
+is_fault ReadFault = true
+is_fault WriteFault = true
+is_fault other = false
+
+abbrev IsSound : Refusal → Type 0
+IsSound why = is_fault why ≡ false
+
+-- a reply doesn't tell that
+abbrev IsSoundReply : Reply → Type 0
+IsSoundReply (refuses why) = IsSound why
+IsSoundReply other = ⊤
+
+abbrev IsSoundRun : RunReply → Type 0
+IsSoundRun (of_text r) = IsSoundReply r
+IsSoundRun other = ⊤
+
+-- ---- edits
+
+abbrev AreSound : Option Refusal → Type 0
+AreSound None = ⊤
+AreSound (Some why) = IsSound why
+
+abbrev IsSoundStop : Option (ℕ × Refusal) → Type 0
+IsSoundStop None = ⊤
+IsSoundStop (Some stop) = IsSound stop.1
+
+tests_sound : (a b c d e : Bool) → AreSound (
+    if a then Some Behind
+    else (if b then Some SeqSpent else (if c then Some StampsSpent else (if d then Some FileSpent else (if e then Some Scattered else None))))
+    )
+tests_sound true b c d e = refl
+tests_sound false true c d e = refl
+tests_sound false false true d e = refl
+tests_sound false false false true e = refl
+tests_sound false false false false true = refl
+tests_sound false false false false false = tt
+
+or_sound : (first : Option Refusal) (later : Option (ℕ × Refusal)) → AreSound first → IsSoundStop later
+    → IsSoundStop (refusal_or first later)
+or_sound (Some why) later sound more = sound
+or_sound None None sound more = tt
+or_sound None (Some stop) sound more = more
+
+first_sound : (t : TextState) (ops : List Operation) → IsSoundStop (first_refusal t ops)
+first_sound t [] = tt
+first_sound t (op ∷ ops) =
+    or_sound (refusal_for t op.kind) (first_refusal (with_operation t op) ops) (tests_sound _ _ _ _ _)
+    (first_sound (with_operation t op) ops)
+
+edit_sound : (t : TextState) (ops : List Operation) (result : Result ℕ EditRefusal) (new : TextState) (messages : List (List ℕ))
+    → Edits t ops result new messages → IsSoundReply (edit_reply result messages)
+edit_sound t ops (Ok n) new messages edits = tt
+edit_sound t ops (Err (Whole why)) new messages (first, stand) = subst IsSoundStop first (first_sound t ops)
+edit_sound t ops (Err (Partial n why)) new messages edits = tt
+
+edit_sound_short : (t : TextState) (ops : List Operation) (result : Result ℕ EditRefusal) (new : TextState)
+    (messages : List (List ℕ)) → EditsShort t ops result new messages → IsSoundReply (edit_reply result messages)
+edit_sound_short t ops (Ok n) new messages short = tt
+edit_sound_short t ops (Err (Whole why)) new messages (is, takes_it, stand) = subst IsSound (sym is) refl
+edit_sound_short t ops (Err (Partial n why)) new messages short = tt
+
+text_sound : (e : Edit) (r : Reply) (t new : TextState) → EditsText e r t new → IsSoundReply r
+text_sound e r t new does =
+    elim (by_test (is_in_text t e) _ _ does) [
+      | inl whole ↦ (
+          let (result, messages, edits, shows, replied) = whole.1 in
+          subst IsSoundReply (sym replied) (edit_sound t (plan t e) result new messages edits))
+      | inr left ↦ subst IsSoundReply (sym left.1.0) refl
+    ]
+
+text_sound_short : (e : Edit) (r : Reply) (t new : TextState) → EditsTextShort e r t new → IsSoundReply r
+text_sound_short e r t new (within, inl (result, messages, edits, shows, replied)) =
+    subst IsSoundReply (sym replied) (edit_sound_short t (plan t e) result new messages edits)
+text_sound_short e r t new (within, inr (some, replied, same)) = subst IsSoundReply (sym replied) refl
+
+-- an edit of a run's text
+run_sound : (s : State) (i text : ℕ) (e : Edit) (told : Reply) (mid : State) (r : RunReply) → Does s (edit i text e) told mid
+    → r ≡ of_text told → IsSoundRun r
+run_sound s i text e told mid r (d, d', at, (t, t', there, edits, changed), is_mid) is =
+    subst IsSoundRun (sym is) (text_sound e told t t' edits)
+
+run_sound_short : (s : State) (i text : ℕ) (e : Edit) (told : Reply) (mid : State) (r : RunReply)
+    → Short s (edit i text e) told mid → r ≡ of_text told → IsSoundRun r
+run_sound_short s i text e told mid r (d, d', at, (t, t', there, edits, changed), is_mid) is =
+    subst IsSoundRun (sym is) (text_sound_short e told t t' edits)
+
+-- ---- arrangements
+
+abbrev IsSoundOut : Arranged → Type 0
+IsSoundOut (Ok out) = ⊤
+IsSoundOut (Err why) = IsSound why
+
+opened_sound : (w : Screened) (track : Track) (text : ℕ) (row : Option ℕ) → IsSoundOut (opened_at w track text row)
+opened_sound w track text row = by _ _ _
+  where
+    by : (below room : Bool) (out : Screened × Option ℕ)
+        → IsSoundOut (if below then Err OutOfRange else (if room then Ok out else Err NoRoom))
+    by true room out = refl
+    by false true out = tt
+    by false false out = refl
+
+closed_sound : (w : Screened) (v : ℕ) → IsSoundOut (closed_at w v)
+closed_sound w v = by _ _
+  where
+    by : (stands : Bool) (out : Screened × Option ℕ) → IsSoundOut (if stands then Ok out else Err NoViewer)
+    by true out = tt
+    by false out = refl
+
+arranged_sound : (out : Arranged) (s : RunState) (i : ℕ) (r : RunReply) (new : RunState) → IsSoundOut out
+    → MatchResult out (λ x. (r ≡ option_map_or (λ v. opens v) x.1 done) × (new ≡ with_screen_at s i x.0))
+    (λ why. Refuses s why r new) → IsSoundRun r
+arranged_sound (Ok (w, None)) s i r new sound (is, is_new) = subst IsSoundRun (sym is) tt
+arranged_sound (Ok (w, Some v)) s i r new sound (is, is_new) = subst IsSoundRun (sym is) tt
+arranged_sound (Err why) s i r new sound (is, is_new) = subst IsSoundRun (sym is) sound
+
+-- ---- tasks
+
+-- a refusal is for another reason, and no more is arranged than a command asks for
+abbrev IsSoundTask : Task → Type 0
+IsSoundTask (refuse why) = IsSound why
+IsSoundTask (put items) = ⊤
+IsSoundTask put_recalled = ⊤
+IsSoundTask (load name) = ⊤
+IsSoundTask (store text name) = ⊤
+IsSoundTask (search bytes) = ⊤
+IsSoundTask (change text e) = ⊤
+IsSoundTask (forget text) = ⊤
+IsSoundTask (arrange (open_in track text row)) = ⊤
+IsSoundTask (arrange (close v)) = ⊤
+IsSoundTask (arrange (move v row)) = ⊥
+IsSoundTask (arrange (scroll v line)) = ⊥
+IsSoundTask (arrange (point col row)) = ⊥
+IsSoundTask (arrange (select col row col' row')) = ⊥
+IsSoundTask (print v) = ⊤
+
+module _ (s : RunState) (i : ℕ) (d : DeskState) (w : Screened) where
+  does_sound : (task : Task) (r : RunReply) (new : RunState) → IsSoundTask task → DoesTask s i d w task untouched r new
+      → IsSoundRun r
+  does_sound (refuse why) r new sound (part, (is, same)) = subst IsSoundRun (sym is) sound
+  does_sound (put items) r new sound (inl (none, part, (is, same))) = subst IsSoundRun (sym is) refl
+  does_sound (put items) r new sound (inr (c, shown, caret, at, (part, (told, mid, t', does, there, is, is_new)))) =
+      run_sound s.texts i shown.0.text (insertion (place_in shown.1 c.anchor) items) told mid r does is
+  does_sound put_recalled r new sound (inl (none, part, (is, same))) = subst IsSoundRun (sym is) refl
+  does_sound put_recalled r new sound (inr (c, shown, caret, at, (part, (told, mid, t', does, there, is, is_new)))) =
+      run_sound s.texts i shown.0.text (recalling (place_in shown.1 c.anchor)) told mid r does is
+  does_sound (load name) r new sound (inl (none, part, (is, same))) = subst IsSoundRun (sym is) refl
+  does_sound (load name) r new sound (inr (c, shown, caret, at, loads)) = absurd loads
+  does_sound (store text name) r new sound (t, at, (long, (is, same))) = subst IsSoundRun (sym is) refl
+  does_sound (search bytes) r new sound (inl (none, part, (is, same))) = subst IsSoundRun (sym is) refl
+  does_sound (search bytes) r new sound (inr (c, shown, caret, at, (part, inl (q, first, is, is_new)))) =
+      subst IsSoundRun (sym is) tt
+  does_sound (search bytes) r new sound (inr (c, shown, caret, at, (part, inr (none, is, same)))) =
+      subst IsSoundRun (sym is) tt
+  does_sound (change text e) r new sound (part, (told, mid, does, is, is_new)) = run_sound s.texts i text e told mid r does is
+  does_sound (forget text) r new sound (part, (t, mid, at, emptied, is, is_new)) = subst IsSoundRun (sym is) tt
+  does_sound (arrange (open_in track text row)) r new sound (part, out) =
+      arranged_sound (opened_at w track text row) s i r new (opened_sound w track text row) out
+  does_sound (arrange (close v)) r new sound (part, out) =
+      arranged_sound (closed_at w v) s i r new (closed_sound w v) out
+  does_sound (arrange (move v row)) r new sound does = absurd sound
+  does_sound (arrange (scroll v line)) r new sound does = absurd sound
+  does_sound (arrange (point col row)) r new sound does = absurd sound
+  does_sound (arrange (select col row col' row')) r new sound does = absurd sound
+  does_sound (print v) r new sound (part, is, same) = subst IsSoundRun (sym is) tt
+
+  short_sound : (task : Task) (r : RunReply) (new : RunState) → ShortTask s i d w task untouched r new → IsSoundRun r
+  short_sound (refuse why) r new short = absurd short
+  short_sound (put items) r new (part, (c, shown, caret, at, (told, mid, t', does, there, is, is_new))) =
+      run_sound_short s.texts i shown.0.text (insertion (place_in shown.1 c.anchor) items) told mid r does is
+  short_sound put_recalled r new (part, (c, shown, caret, at, (told, mid, t', does, there, is, is_new))) =
+      run_sound_short s.texts i shown.0.text (recalling (place_in shown.1 c.anchor)) told mid r does is
+  short_sound (load name) r new (c, shown, caret, at, (is, same)) = subst IsSoundRun (sym is) refl
+  short_sound (store text name) r new (part, long, (is, same)) = subst IsSoundRun (sym is) refl
+  short_sound (search bytes) r new short = absurd short
+  short_sound (change text e) r new (part, (told, mid, does, is, is_new)) = run_sound_short s.texts i text e told mid r does is
+  short_sound (forget text) r new short = absurd short
+  short_sound (arrange (open_in track text row)) r new (part, well, (is, same)) = subst IsSoundRun (sym is) refl
+  short_sound (arrange (close v)) r new short = absurd short
+  short_sound (arrange (move v row)) r new short = absurd short
+  short_sound (arrange (scroll v line)) r new short = absurd short
+  short_sound (arrange (point col row)) r new short = absurd short
+  short_sound (arrange (select col row col' row')) r new short = absurd short
+  short_sound (print v) r new (part, (is, same)) = subst IsSoundRun (sym is) refl
+
+replies_sound : (s : RunState) (i : ℕ) (task : Task) (r : RunReply) (new : RunState) → IsSoundTask task
+    → RunReplies s (ask i task) untouched r new → IsSoundRun r
+replies_sound s i task r new sound (inl (d, w, stands, does)) = does_sound s i d w task r new sound does
+replies_sound s i task r new sound (inr (d, w, stands, short)) = short_sound s i d w task r new short
+
+-- an answer that the shelf failed isn't sound
+no_fault : (result : Result Answer EditRefusal) (messages : List (List ℕ)) → IsSoundRun (answer_reply result messages)
+    → IsFault result → ⊥
+no_fault result messages sound (inl is) =
+    let lost : true ≡ false = subst (λ (x : Result Answer EditRefusal). IsSoundRun (answer_reply x messages)) is sound in
+    absurd cc
+no_fault result messages sound (inr is) =
+    let lost : true ≡ false = subst (λ (x : Result Answer EditRefusal). IsSoundRun (answer_reply x messages)) is sound in
+    absurd cc
+
+-- a missing selection isn't a fault
+pub no_selection_sound : (why : Refusal) → why ≡ NoSelection → IsFault (Err (Whole why)) → ⊥
+no_selection_sound why is = no_fault (Err (Whole why)) [] (subst IsSound (sym is) refl)
+
+-- the run of a desk alone
+abbrev run_of : DeskSeen → List (List ℕ) → RunState
+run_of seen sent = record { texts = alone seen.texts sent; screens = seen.screen ∷ []; files = λ name. None }
+
+-- so neither a task in which nothing is sent nor an edit answers that the shelf failed
+pub task_sound : (seen new : DeskSeen) (task : Task) (result : Result Answer EditRefusal) → IsSoundTask task
+    → IsTaskStep seen task result new → IsFault result → ⊥
+task_sound seen new task result sound (counts, steps) =
+    no_fault result []
+    (replies_sound (run_of seen []) 0 task (answer_reply result []) (with_desk (run_of seen []) 0 new []) sound
+    (steps (run_of seen []) 0 (record { texts = refl; screen = refl })))
+
+pub edit_step_sound : (seen new : DeskSeen) (task : Task) (result : Result ℕ EditRefusal) (before after : List (List ℕ))
+    → IsSoundTask task → IsEditStep seen (λ i. ask i task) result new before after → IsFault (sent_answer result) → ⊥
+edit_step_sound seen new task result before after sound (messages, counts, steps) =
+    no_fault (sent_answer result) messages
+    (subst IsSoundRun (sent_replies result messages)
+    (replies_sound (run_of seen before) 0 task (of_text (edit_reply result messages)) (with_desk (run_of seen before) 0 new after)
+    sound (steps (run_of seen before) 0 (record { texts = refl; screen = refl }) refl)))
+
+-- ---- the tasks of commands
+
+pub told_sound : {X : Type 0} (told : Option X) (task : X → Task) → ((x : X) → IsSoundTask (task x))
+    → IsSoundTask (with_told told task)
+told_sound None task sound = refl
+told_sound (Some x) task sound = sound x
+
+pub dressed_sound : (d : DeskState) (w : Screened) (to : Change) → IsSoundTask (dress_marked d w to)
+dressed_sound d w to = by (marked d w)
+  where
+    by : (o : Option Marked)
+        → IsSoundTask (option_map_or (λ m. change m.window.text (looks_change m.beg m.end to.0 to.1)) o (refuse NoSelection))
+    by None = refl
+    by (Some m) = tt

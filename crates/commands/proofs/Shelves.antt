@@ -1,0 +1,365 @@
+-- Steps of the run over the files that a shelf tells.
+use Rattle.std.proofs.Common.{◌≡◌, ◌≢◌, ◌⊎◌, ℕ, ◌≤◌, List, [], length, Option, Some, None, Result, Ok, Err, refl, sym, ap, subst, ◌∙◌, inl, inr}
+use Rattle.std.specs.Prelude.{IfOk, slice_get}
+use Rattle.looks.specs.declared.refusal.Refusal.{Refusal}
+use Rattle.looks.specs.declared.refusal.Refusal.TheVariants.{BadFile, NoCaret, OutOfMemory, ReadFault}
+use Rattle.char_files.specs.Stretch.{Item}
+use Rattle.text_file.specs.Files.{IsFileOf, IsNoFile, formatted}
+use Rattle.text_file.specs.declared.TheConstants.{MAX_TEXT as MAX_STORED}
+use Rattle.command_words.specs.declared.command.Command.{Command}
+use Rattle.reader_scanner.specs.declared.token.TokenValue.{TokenValue}
+use Rattle.shelf.specs.Files.{Files, HasFile, OthersStay, SameFiles}
+use Rattle.texts.specs.TextState.{TextState, shown_items}
+use Rattle.texts.specs.declared.edit_refusal.EditRefusal.{EditRefusal}
+use Rattle.texts.specs.declared.edit_refusal.EditRefusal.TheVariants.{Whole}
+use Rattle.machine.specs.DeskState.{DeskState, IsTextOf}
+use Rattle.machine.specs.Machine.{edit_reply, refuses}
+use Rattle.machine.specs.Whole.{DoesTask, FileBecomes, IsDeskAt, IsTaskAt, Part, Refuses, RunReplies, RunReply, RunState, ShortTask}
+use Rattle.machine.specs.Whole.{Task, ask, click, failed, load, of_text, put, store, task_of, untouched, went_well}
+use Rattle.machine.specs.Windows.{Caret, Screened, Window, window_of}
+use Rattle.machine_laws.proofs.OneReply.{one_element}
+use Rattle.commands.proofs.Steps.{run_stays}
+use Rattle.commands.specs.Filing.{ReadsText, WritesNot, WritesText}
+use Rattle.commands.specs.declared.answer.Answer.{Answer}
+use Rattle.commands.specs.declared.answer.Answer.TheVariants.{Done}
+use Rattle.commands.specs.Steps.{AreFilesOf, CountsSent, DeskSeen, IsEditStep, IsShelfStep, IsTaskStep, StandsIn, answer_reply, sent_answer}
+use Rattle.commands.specs.Steps.{with_desk}
+
+-- some files that a shelf tells
+abbrev files_of : Option Files → Files
+files_of None = λ name. None
+files_of (Some files) = files
+
+same_of : (told : Option Files) → AreFilesOf told told (files_of told) (files_of told)
+same_of None = tt
+same_of (Some files) = (refl, refl)
+
+-- a run over these files is as it was
+over_files : (s : RunState) (i : ℕ) (new : DeskSeen) (sent : List (List ℕ)) (files files' : Files) → s.files ≡ files
+    → files' ≡ files → with_desk s i new sent ≡ record (with_desk s i new sent) { files = files' }
+over_files s i new sent files files' is same = λ k. record (with_desk s i new sent) { files = (is ∙ sym same) k }
+
+-- and one in which nothing changed is itself
+run_over : (s : RunState) (i : ℕ) (seen : DeskSeen) → StandsIn s i seen → (sent : List (List ℕ)) (files files' : Files)
+    → s.texts.sent ≡ sent → s.files ≡ files → files' ≡ files → s ≡ record (with_desk s i seen sent) { files = files' }
+run_over s i seen stands sent files files' same is stay =
+    run_stays s i seen.texts seen.screen stands ∙ (λ k. with_desk s i seen (same k))
+    ∙ over_files s i seen sent files files' is stay
+
+-- an edit that was answered is replied to so
+sent_counts : (result : Result ℕ EditRefusal) (messages : List (List ℕ)) → IfOk result (λ count. count ≡ length messages)
+    → CountsSent (sent_answer result) messages
+sent_counts (Ok count) messages counts = counts
+sent_counts (Err why) messages counts = tt
+
+pub sent_replies : (result : Result ℕ EditRefusal) (messages : List (List ℕ))
+    → of_text (edit_reply result messages) ≡ answer_reply (sent_answer result) messages
+sent_replies (Ok count) messages = refl
+sent_replies (Err why) messages = refl
+
+-- a task that asks for no file is a step over any
+module _ (seen new : DeskSeen) (task : Task) (told : Option Files) where
+  pub task_over : (result : Result Answer EditRefusal) (sent : List (List ℕ)) → IsTaskStep seen task result new
+      → IsShelfStep seen (λ i. ask i task) result new sent sent told told
+  task_over result sent (counts, steps) = (
+    [],
+    untouched,
+    files_of told,
+    files_of told,
+    counts,
+    same_of told,
+    λ s i stands same is. subst (RunReplies s (ask i task) untouched (answer_reply result []))
+        ((λ k. with_desk s i new (same k)) ∙ over_files s i new sent (files_of told) (files_of told) is refl)
+        (steps s i stands),
+  )
+
+  -- so is one that edits a text
+  pub edit_over : (result : Result ℕ EditRefusal) (before after : List (List ℕ))
+      → IsEditStep seen (λ i. ask i task) result new before after
+      → IsShelfStep seen (λ i. ask i task) (sent_answer result) new before after told told
+  edit_over result before after (messages, counts, steps) = (
+    messages,
+    untouched,
+    files_of told,
+    files_of told,
+    sent_counts result messages counts,
+    same_of told,
+    λ s i stands same is.
+        subst (λ (r : RunReply). RunReplies s (ask i task) untouched r (record (with_desk s i new after) { files = files_of told }))
+        (sent_replies result messages)
+        (subst (RunReplies s (ask i task) untouched (of_text (edit_reply result messages)))
+        (over_files s i new after (files_of told) (files_of told) is refl) (steps s i stands same)),
+  )
+
+-- files of a shelf from which this one was read
+pub files_read : (told told' : Option Files) (name file : List ℕ) → SameFiles told told' → HasFile told name file
+    → (files files' : Files) × AreFilesOf told told' files files' × (files' ≡ files) × (files name ≡ Some file)
+files_read None None name file same has = (λ _. Some file, λ _. Some file, tt, refl, refl)
+files_read None (Some now) name file same has = absurd same
+files_read (Some was) None name file same has = absurd same
+files_read (Some was) (Some now) name file same has =
+    (was, now, (refl, refl), λ k. λ other. same other k, has)
+
+-- or nothing was
+pub files_same : (told told' : Option Files) → SameFiles told told'
+    → (files files' : Files) × AreFilesOf told told' files files' × (files' ≡ files)
+files_same None None same = (λ _. None, λ _. None, tt, refl)
+files_same None (Some now) same = absurd same
+files_same (Some was) None same = absurd same
+files_same (Some was) (Some now) same = (was, now, (refl, refl), λ k. λ other. same other k)
+
+-- files of a shelf to which this one was written
+pub files_written : (told told' : Option Files) (name file : List ℕ) → OthersStay told told' name → HasFile told' name file
+    → (files files' : Files) × AreFilesOf told told' files files' × (files' name ≡ Some file)
+    × ((other : List ℕ) → other ≢ name → files' other ≡ files other)
+files_written None None name file stay has = (λ _. Some file, λ _. Some file, tt, refl, λ other apart. refl)
+files_written None (Some now) name file stay has = absurd stay
+files_written (Some was) None name file stay has = absurd stay
+files_written (Some was) (Some now) name file stay has = (was, now, (refl, refl), has, stay)
+
+-- or one that failed
+pub files_failed : (told told' : Option Files) (name : List ℕ) → OthersStay told told' name
+    → (files files' : Files) × AreFilesOf told told' files files'
+    × ((other : List ℕ) → other ≢ name → files' other ≡ files other)
+files_failed None None name stay = (λ _. None, λ _. None, tt, λ other apart. refl)
+files_failed None (Some now) name stay = absurd stay
+files_failed (Some was) None name stay = absurd stay
+files_failed (Some was) (Some now) name stay = (was, now, (refl, refl), stay)
+
+-- a task of a desk that is refused, over the files that the shelf tells
+module _ (d : DeskState) (w : Screened) (task : Task) (told told' : Option Files) where
+  abbrev its_desk : DeskSeen
+  its_desk = record { texts = d; screen = w }
+
+  -- the task goes so where nothing changes
+  abbrev GoesSo : (part : Part) (why : Refusal) (files : Files) → Type 0
+  GoesSo part why files = (s : RunState) (i : ℕ) (new : RunState) → IsDeskAt s i d w → s.files ≡ files
+      → Refuses s why (of_text (refuses why)) new
+      → DoesTask s i d w task part (of_text (refuses why)) new ⊎ ShortTask s i d w task part (of_text (refuses why)) new
+
+  replies_so : (s : RunState) (i : ℕ) (part : Part) (r : RunReply) (new : RunState) → IsDeskAt s i d w
+      → DoesTask s i d w task part r new ⊎ ShortTask s i d w task part r new → RunReplies s (ask i task) part r new
+  replies_so s i part r new stands (inl does) = inl (d, w, stands, does)
+  replies_so s i part r new stands (inr short) = inr (d, w, stands, short)
+
+  refused_over : (part : Part) (why : Refusal) (files files' : Files) (sent : List (List ℕ))
+      → AreFilesOf told told' files files' → files' ≡ files → GoesSo part why files
+      → IsShelfStep its_desk (λ i. ask i task) (Err (Whole why)) its_desk sent sent told told'
+  refused_over part why files files' sent are stay goes = (
+    [],
+    part,
+    files,
+    files',
+    tt,
+    are,
+    λ s i stands same is. replies_so s i part (of_text (refuses why)) (record (with_desk s i its_desk sent) { files = files' })
+        stands
+        (goes s i (record (with_desk s i its_desk sent) { files = files' }) stands is
+        (refl, sym (run_over s i its_desk stands sent files files' same is stay))),
+  )
+
+-- a load at the caret
+module _ (d : DeskState) (w : Screened) (name : List ℕ) (told told' : Option Files) (same : SameFiles told told') where
+  abbrev LoadsSo : Result Answer EditRefusal → DeskSeen → (before after : List (List ℕ)) → Type 0
+  LoadsSo result new before after =
+      IsShelfStep (record { texts = d; screen = w }) (λ i. ask i (load name)) result new before after told told'
+
+  module _ (c : Caret) (shown : Window × TextState) (caret : w.caret ≡ Some c) (at : window_of d w c.viewer ≡ Some shown) where
+    -- the shelf fails
+    load_unread : (sent : List (List ℕ)) → LoadsSo (Err (Whole ReadFault)) (record { texts = d; screen = w }) sent sent
+    load_unread sent =
+        let (files, files', are, stay) = files_same told told' same in
+        refused_over d w (load name) told told' (failed None) ReadFault files files' sent are stay
+        (λ s i new stands is refused. inl (inr (c, shown, caret, at, refused)))
+
+    -- memory is short
+    load_short : (sent : List (List ℕ)) → LoadsSo (Err (Whole OutOfMemory)) (record { texts = d; screen = w }) sent sent
+    load_short sent =
+        let (files, files', are, stay) = files_same told told' same in
+        refused_over d w (load name) told told' untouched OutOfMemory files files' sent are stay
+        (λ s i new stands is refused. inr (c, shown, caret, at, refused))
+
+    -- the file is no text's
+    load_bad : (file : List ℕ) (sent : List (List ℕ)) → HasFile told name file → IsNoFile file
+        → LoadsSo (Err (Whole BadFile)) (record { texts = d; screen = w }) sent sent
+    load_bad file sent has no_file =
+        let (files, files', are, stay, there) = files_read told told' name file same has in
+        refused_over d w (load name) told told' went_well BadFile files files' sent are stay
+        (λ s i new stands is refused.
+        inl (inr (c, shown, caret, at, (file, ap (λ (f : Files). f name) is ∙ there, inl (no_file, refused)))))
+
+    pub load_fails : (why : Refusal) (sent : List (List ℕ)) → ReadsText told name (Err why)
+        → LoadsSo (Err (Whole why)) (record { texts = d; screen = w }) sent sent
+    load_fails why sent (inl fault) =
+        subst (λ (e : Refusal). LoadsSo (Err (Whole e)) (record { texts = d; screen = w }) sent sent) (sym fault) (load_unread sent)
+    load_fails why sent (inr (inl short)) =
+        subst (λ (e : Refusal). LoadsSo (Err (Whole e)) (record { texts = d; screen = w }) sent sent) (sym short) (load_short sent)
+    load_fails why sent (inr (inr (bad, (file, has, no_file)))) =
+        subst (λ (e : Refusal). LoadsSo (Err (Whole e)) (record { texts = d; screen = w }) sent sent) (sym bad)
+        (load_bad file sent has no_file)
+
+    -- the file's characters are put in
+    module _ (file : List ℕ) (items : List Item) (of : IsFileOf items file) where
+      put_loads : (s : RunState) (i : ℕ) (r : RunReply) (new : RunState) → IsDeskAt s i d w → s.files name ≡ Some file
+          → RunReplies s (ask i (put items)) untouched r new → RunReplies s (ask i (load name)) went_well r new
+      put_loads s i r new stands there (inl (d', w', stands', inl (none, part, refused))) =
+          let one : w' ≡ w = one_element (slice_get s.screens i) w' w stands'.screen stands.screen in
+          let lost : w.caret ≡ None = ap (λ (x : Screened). x.caret) (sym one) ∙ none in
+          absurd cc
+      put_loads s i r new stands there (inl (d', w', stands', inr (c', shown', caret', at', (part, does)))) =
+          inl (d', w', stands', inr (c', shown', caret', at', (file, there, inr (items, of, does))))
+      put_loads s i r new stands there (inr (d', w', stands', (part, (c', shown', caret', at', short)))) =
+          inr (d', w', stands', (c', shown', caret', at', (file, there, inr (items, of, short))))
+
+      pub load_puts : (new : DeskSeen) (result : Result ℕ EditRefusal) (before after : List (List ℕ)) → HasFile told name file
+          → IsEditStep (record { texts = d; screen = w }) (λ i. ask i (put items)) result new before after
+          → LoadsSo (sent_answer result) new before after
+      load_puts new result before after has (messages, counts, steps) =
+          let (files, files', are, stay, there) = files_read told told' name file same has in (
+            messages,
+            went_well,
+            files,
+            files',
+            sent_counts result messages counts,
+            are,
+            λ s i stands sent is.
+                put_loads s i (answer_reply (sent_answer result) messages) (record (with_desk s i new after) { files = files' }) stands
+                (ap (λ (f : Files). f name) is ∙ there)
+                (subst (λ (r : RunReply). RunReplies s (ask i (put items)) untouched r (record (with_desk s i new after) { files = files' }))
+                (sent_replies result messages)
+                (subst (RunReplies s (ask i (put items)) untouched (of_text (edit_reply result messages)))
+                (over_files s i new after files files' is stay) (steps s i stands sent))),
+          )
+
+-- without a caret nothing is read
+pub load_without_caret : (d : DeskState) (w : Screened) (name : List ℕ) (told : Option Files) (sent : List (List ℕ))
+    → w.caret ≡ None
+    → IsShelfStep (record { texts = d; screen = w }) (λ i. ask i (load name)) (Err (Whole NoCaret))
+    (record { texts = d; screen = w }) sent sent told told
+load_without_caret d w name told sent none =
+    refused_over d w (load name) told told untouched NoCaret (files_of told) (files_of told) sent (same_of told) refl
+    (λ s i new stands is refused. inl (inl (none, refl, refused)))
+
+-- a store of a text
+abbrev pub stored_answer : Result (Unit {0}) Refusal → Result Answer EditRefusal
+stored_answer (Ok _) = Ok Done
+stored_answer (Err why) = Err (Whole why)
+
+module _ (d : DeskState) (w : Screened) (text : ℕ) (t : TextState) (there : IsTextOf d text t) (name : List ℕ)
+    (told told' : Option Files) (sent : List (List ℕ)) where
+  abbrev StoresSo : Result Answer EditRefusal → Type 0
+  StoresSo result = IsShelfStep (record { texts = d; screen = w }) (λ i. ask i (store text name)) result
+      (record { texts = d; screen = w }) sent sent told told'
+
+  -- where no file changed
+  kept : told' ≡ told → AreFilesOf told told' (files_of told) (files_of told)
+  kept same = subst (λ (o : Option Files). AreFilesOf told o (files_of told) (files_of told)) (sym same) (same_of told)
+
+  -- the run with other files
+  becomes : (s : RunState) (i : ℕ) (files files' : Files) (file : Option (List ℕ))
+      → StandsIn s i (record { texts = d; screen = w }) → s.texts.sent ≡ sent → s.files ≡ files → files' name ≡ file
+      → ((other : List ℕ) → other ≢ name → files' other ≡ files other)
+      → FileBecomes s name file (record (with_desk s i (record { texts = d; screen = w }) sent) { files = files' })
+  becomes s i files files' file stands same is there others =
+      let stays : with_desk s i (record { texts = d; screen = w }) sent ≡ s =
+      (λ k. with_desk s i (record { texts = d; screen = w }) (sym same k)) ∙ sym (run_stays s i d w stands) in (
+        ap (λ (x : RunState). x.texts) stays,
+        ap (λ (x : RunState). x.screens) stays,
+        there,
+        λ other apart. others other apart ∙ ap (λ (f : Files). f other) (sym is),
+      )
+
+  stores_well : length (shown_items t) ≤ MAX_STORED → HasFile told' name (formatted (shown_items t)) → OthersStay told told' name
+      → StoresSo (Ok Done)
+  stores_well few has stay =
+      let (files, files', are, written, others) = files_written told told' name (formatted (shown_items t)) stay has in (
+        [],
+        went_well,
+        files,
+        files',
+        tt,
+        are,
+        λ s i stands same is. inl (
+          d,
+          w,
+          stands,
+          (
+            t,
+            (d, stands.texts, there),
+            (few, refl, becomes s i files files' (Some (formatted (shown_items t))) stands same is written others),
+          ),
+        ),
+      )
+
+  stores_not : (why : Refusal) → WritesNot (shown_items t) name told told' why → StoresSo (Err (Whole why))
+  stores_not why (inl (bad, long, same)) =
+      subst (λ (e : Refusal). StoresSo (Err (Whole e))) (sym bad)
+      (refused_over d w (store text name) told told' untouched BadFile (files_of told) (files_of told) sent (kept same) refl
+      (λ s i new stands is refused. inl (t, (d, stands.texts, there), (long, refused))))
+  stores_not why (inr (inl (short, few, same))) =
+      subst (λ (e : Refusal). StoresSo (Err (Whole e))) (sym short)
+      (refused_over d w (store text name) told told' untouched OutOfMemory (files_of told) (files_of told) sent (kept same) refl
+      (λ s i new stands is refused. inr (refl, (t, (d, stands.texts, there), few), refused)))
+  stores_not why (inr (inr (fault, few, stay))) =
+      let (files, files', are, others) = files_failed told told' name stay in
+      subst (λ (e : Refusal). StoresSo (Err (Whole e))) (sym fault) (
+        [],
+        failed (files' name),
+        files,
+        files',
+        tt,
+        are,
+        λ s i stands same is. inl (
+          d,
+          w,
+          stands,
+          (
+            t,
+            (d, stands.texts, there),
+            (few, refl, becomes s i files files' (files' name) stands same is refl others),
+          ),
+        ),
+      )
+
+  pub store_step : (result : Result (Unit {0}) Refusal) → WritesText (shown_items t) name told told' result
+      → StoresSo (stored_answer result)
+  store_step (Ok _) (few, has, stay) = stores_well few has stay
+  store_step (Err why) not = stores_not why not
+
+-- the task that stands in a cell of the desk stands there in the run
+task_at_it : (seen : DeskSeen) (s : RunState) (i col row : ℕ) (task : Task) (d : DeskState) (w : Screened) → StandsIn s i seen
+    → IsDeskAt s i d w → IsTaskAt seen.texts seen.screen col row task → IsTaskAt d w col row task
+task_at_it seen s i col row task d w stands there is =
+    let desk : seen.texts ≡ d = one_element (slice_get s.texts.desks i) seen.texts d stands.texts there.texts in
+    let screen : seen.screen ≡ w = one_element (slice_get s.screens i) seen.screen w stands.screen there.screen in
+    subst (λ (x : Screened). IsTaskAt d x col row task) screen
+    (subst (λ (x : DeskState). IsTaskAt x seen.screen col row task) desk is)
+
+-- a click does the task that stands in its cell
+click_does : (seen : DeskSeen) (s : RunState) (i col row : ℕ) (task : Task) (part : Part) (r : RunReply) (new : RunState)
+    → StandsIn s i seen → IsTaskAt seen.texts seen.screen col row task → RunReplies s (ask i task) part r new
+    → RunReplies s (click i col row) part r new
+click_does seen s i col row task part r new stands is (inl (d, w, there, does)) =
+    inl (d, w, task, there, task_at_it seen s i col row task d w stands there is, does)
+click_does seen s i col row task part r new stands is (inr (d, w, there, short)) =
+    inr (d, w, task, there, task_at_it seen s i col row task d w stands there is, short)
+
+-- a command's task, by which one it is
+pub commanded : (Goes : Task → Type 0) (d : DeskState) (w : Screened) (c c' : Command) (told : TokenValue) (v text : ℕ) → c ≡ c'
+    → Goes (task_of d w c' told v text) → Goes (task_of d w c told v text)
+commanded Goes d w c c' told v text is goes = subst (λ (x : Command). Goes (task_of d w x told v text)) (sym is) goes
+
+pub click_step : (seen new : DeskSeen) (col row : ℕ) (task : Task) (result : Result Answer EditRefusal)
+    (before after : List (List ℕ)) (told told' : Option Files) → IsTaskAt seen.texts seen.screen col row task
+    → IsShelfStep seen (λ i. ask i task) result new before after told told'
+    → IsShelfStep seen (λ i. click i col row) result new before after told told'
+click_step seen new col row task result before after told told' is (messages, part, files, files', counts, are, steps) = (
+  messages,
+  part,
+  files,
+  files',
+  counts,
+  are,
+  λ s i stands same over. click_does seen s i col row task part (answer_reply result messages)
+      (record (with_desk s i new after) { files = files' }) stands is (steps s i stands same over),
+)

@@ -1,0 +1,147 @@
+//! A click: the command that stands in a cell, and what it does.
+
+ghost use Rattle.std.specs.Prelude.{◌≡◌, ◌≤◌, ◌&&◌, ℕ, None as Nothing, IfErr, IfOk, IfSome, MatchOption};
+ghost use Rattle.looks.specs.declared.refusal.Refusal.TheVariants.{NoSelection};
+ghost use Rattle.reader_scanner.specs.Tokens.{IsTokenAt};
+ghost use Rattle.reader_scanner.specs.declared.token.Token.{Token as TokenSeen};
+ghost use Rattle.command_words.specs.Calls.{IsCallAt, NoCallAt};
+ghost use Rattle.command_words.specs.Commands.{has_parameter};
+ghost use Rattle.shelf.specs.Files.{Counts};
+ghost use Rattle.machine.specs.Whole.{IsTaskOfCall, ask, click, is_caret_sign, task_of, Clicked as ClickedSeen};
+ghost use Rattle.machine.specs.Windows.{bytes_shown, marked};
+ghost use Rattle.machine.specs.declared.TheConstants.{MAX_TEXT};
+ghost use Rattle.desk_windows.specs.Pointing.{IsClick};
+ghost use Rattle.commands.specs.Parameters.{MayBeFont};
+ghost use Rattle.commands.specs.Steps.{IsFault, IsShelfStep, task_told};
+
+use crate::answer::Answer;
+use crate::desk::Desk;
+use crate::executing::sent;
+use crate::parameters::{
+    bytes_told, colour_told, file_told, font_told, is_caret_sign, offset_told, text_told,
+};
+use crate::putting::Insertion;
+use char_files::Plain;
+use command_words::{Call, Command, command_at, menu_text};
+use desk_windows::{Clicked, Place};
+use looks::Refusal;
+use reader_scanner::{Scanner, TokenValue};
+use shelf::Shelf;
+use texts::{EditRefusal, Outbox};
+use viewers::Track;
+
+// Whether the parameter of a command is to be looked for at the selection.
+fn is_followed(command: Command, value: &TokenValue) -> bool
+    ensures { result ≡ (has_parameter command && is_caret_sign value.now) }
+{
+    command.has_parameter() && is_caret_sign(value)
+}
+
+impl Desk {
+    // The call that stands at what was clicked.
+    fn call_at(&self, at: &Clicked) -> Option<Call>
+        requires { at.now.text ≤ MAX_TEXT }
+        ensures some { (seen : ClickedSeen) → IsClick self.now.texts seen at.now
+            → IfSome result (λ call. IsCallAt seen.bytes seen.pos call) }
+        ensures none { (seen : ClickedSeen) → IsClick self.now.texts seen at.now
+            → result ≡ Nothing → NoCallAt seen.bytes seen.pos }
+    {
+        match at.place {
+            Place::Menu(pos) => {
+                let menu = menu_text(at.viewer, at.text.get());
+                command_at(&Plain(menu.as_slice()), pos)
+            }
+            Place::Text(pos) => command_at(self.texts.replica(at.text), pos),
+        }
+    }
+
+    // The value of the first token from the selection's begin on.
+    fn marked_value(&self) -> Result<TokenValue, Refusal>
+        ensures value { MatchOption (marked self.now.texts self.now.screen) (result ≡ Err NoSelection)
+            (λ m. (there : TokenSeen) × IsTokenAt (bytes_shown m.text) m.beg there × (result ≡ Ok there.value)) }
+        ensures named { IfOk result (λ value. MayBeFont value) }
+        ensures errors { IfErr result (λ why. why ≡ NoSelection) }
+    {
+        let Some(marked) = self.windows.marked(&self.texts) else {
+            return Err(Refusal::NoSelection);
+        };
+        let token = Scanner::open(self.texts.replica(marked.text), marked.beg).scan();
+        Ok(token.value)
+    }
+
+    // The value of a call's parameter, which is followed to the selection once; of a call without one any value does.
+    fn parameter(&self, call: Call) -> Result<TokenValue, Refusal>
+        requires { MayBeFont call.token.value }
+        ensures task { (viewer text : ℕ) → IsTaskOfCall self.now.texts self.now.screen call viewer text
+            (task_told self.now.texts self.now.screen call.command result viewer text) }
+        ensures named { IfOk result (λ value. MayBeFont value) }
+        ensures errors { IfErr result (λ why. why ≡ NoSelection) }
+    {
+        if is_followed(call.command, &call.token.value) {
+            return self.marked_value();
+        }
+        Ok(call.token.value)
+    }
+
+    // Does a command, with the value of its parameter, in the viewer that was clicked.
+    fn execute<S: Shelf>(
+        &mut self,
+        command: Command,
+        value: &TokenValue,
+        at: &Clicked,
+        shelf: &mut S,
+        outbox: &mut Outbox,
+    ) -> Result<Answer, EditRefusal>
+        requires on_desk { at.now.text ≤ MAX_TEXT }
+        requires named { MayBeFont value.now }
+        ensures step { IsShelfStep self.old
+            (λ i. ask i (task_of self.old.texts self.old.screen command value.now at.now.viewer at.now.text)) result self.new
+            outbox.old outbox.new (S.files shelf.old) (S.files shelf.new) }
+        ensures fault { IsFault result → Counts (S.faults shelf.old) (S.faults shelf.new) }
+    {
+        match command {
+            Command::SystemOpen => self.open_told(Track::System, text_told(value)),
+            Command::SystemClose => self.close_clicked(at.viewer),
+            Command::EditOpen => self.open_told(Track::User, text_told(value)),
+            Command::EditLoad => self.load(file_told(value), shelf, outbox),
+            Command::EditStore => self.store(at.text, file_told(value), shelf),
+            Command::EditRecall => sent(self.put(Insertion::Recalled, outbox)),
+            Command::EditRestore => sent(self.restore(at.text, outbox)),
+            Command::EditChangeFont => sent(self.dress(font_told(value), outbox)),
+            Command::EditChangeColor => sent(self.dress(colour_told(value), outbox)),
+            Command::EditChangeOffset => sent(self.dress(offset_told(value), outbox)),
+            Command::EditSearch => self.search(bytes_told(value)),
+            Command::ShareForget => self.forget(at.text),
+        }
+    }
+
+    /// Does the command that stands in a cell of the screen: in a viewer's menu, or in what it shows of its text.
+    ///
+    /// Refused, in this order, `NoViewer` in a blank track and outside the screen; `UnknownCommand` where no command's word
+    /// stands; `NoSelection` where the parameter is `^` and nothing is selected, else `BadParameter` where it tells nothing
+    /// that the command can take; `NoSelection` where looks are to change and nothing is selected; `NoCaret` where the command
+    /// needs one; then as the command is. `ReadFault` and `WriteFault` come of the shelf alone.
+    pub fn click<S: Shelf>(
+        &mut self,
+        col: usize,
+        row: usize,
+        shelf: &mut S,
+        outbox: &mut Outbox,
+    ) -> Result<Answer, EditRefusal>
+        ensures step { IsShelfStep self.old (λ i. click i col row) result self.new outbox.old outbox.new
+            (S.files shelf.old) (S.files shelf.new) }
+        ensures fault { IsFault result → Counts (S.faults shelf.old) (S.faults shelf.new) }
+    {
+        let Some(at) = self.windows.clicked(&self.texts, col, row) else {
+            return Err(EditRefusal::Whole(Refusal::NoViewer));
+        };
+        let Some(call) = self.call_at(&at) else {
+            return Err(EditRefusal::Whole(Refusal::UnknownCommand));
+        };
+        let command = call.command;
+        match self.parameter(call) {
+            Ok(value) => self.execute(command, &value, &at, shelf, outbox),
+            Err(why) => Err(EditRefusal::Whole(why)),
+        }
+    }
+}

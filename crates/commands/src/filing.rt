@@ -1,0 +1,92 @@
+//! Commands that read or write a file: a load at the caret, and a store of a text.
+
+ghost use Rattle.std.specs.Prelude.{◌≡◌, ◌≤◌, ℕ, List, IsErrOf};
+ghost use Rattle.std.specs.Option.{option_copied};
+ghost use Rattle.shelf.specs.Files.{Counts, SameFiles};
+ghost use Rattle.texts.specs.TextState.{shown_items};
+ghost use Rattle.machine.specs.Whole.{ask, load, store, with_told};
+ghost use Rattle.machine.specs.declared.TheConstants.{MAX_TEXT};
+ghost use Rattle.commands.specs.Filing.{ReadsText, WritesText};
+ghost use Rattle.commands.specs.Steps.{IsFault, IsShelfStep};
+
+use crate::answer::Answer;
+use crate::desk::Desk;
+use crate::executing::sent;
+use crate::putting::Insertion;
+use char_files::{Buffer, TextNo};
+use looks::Refusal;
+use shelf::Shelf;
+use std::alloc::Global;
+use texts::{EditRefusal, Outbox, Replica};
+
+// The characters of a file.
+fn read_text<S: Shelf>(alloc: Global, name: &str, shelf: &mut S) -> Result<Buffer, Refusal>
+    ensures reads { ReadsText (S.files shelf.old) name.now result }
+    ensures files { SameFiles (S.files shelf.old) (S.files shelf.new) }
+    ensures fault { IsErrOf result Refusal.ReadFault → Counts (S.faults shelf.old) (S.faults shelf.new) }
+{
+    let file = shelf.read(alloc, name)?;
+    text_file::load(alloc, file.as_slice())
+}
+
+// Writes what a text shows.
+fn write_text<S: Shelf>(
+    alloc: Global,
+    replica: &Replica,
+    name: &str,
+    shelf: &mut S,
+) -> Result<(), Refusal>
+    ensures writes { WritesText (shown_items replica.now) name.now (S.files shelf.old) (S.files shelf.new) result }
+    ensures fault { IsErrOf result Refusal.WriteFault → Counts (S.faults shelf.old) (S.faults shelf.new) }
+{
+    let mut file = Vec::new(alloc);
+    text_file::store(replica, &mut file)?;
+    shelf.write(name, file.as_slice())
+}
+
+impl Desk {
+    // Puts the text of the file that was told in at the caret. Nothing is read where there is none.
+    pub(crate) fn load<S: Shelf>(
+        &mut self,
+        name: Option<&str>,
+        shelf: &mut S,
+        outbox: &mut Outbox,
+    ) -> Result<Answer, EditRefusal>
+        ensures step { IsShelfStep self.old (λ i. ask i (with_told (option_copied name.entry) load)) result self.new
+            outbox.old outbox.new (S.files shelf.old) (S.files shelf.new) }
+        ensures fault { IsFault result → Counts (S.faults shelf.old) (S.faults shelf.new) }
+    {
+        let Some(name) = name else {
+            return Err(EditRefusal::Whole(Refusal::BadParameter));
+        };
+        let Some(_place) = self.windows.caret_place(&self.texts) else {
+            return Err(EditRefusal::Whole(Refusal::NoCaret));
+        };
+        match read_text(self.alloc, name, shelf) {
+            Ok(items) => sent(self.put(Insertion::Items(&items), outbox)),
+            Err(why) => Err(EditRefusal::Whole(why)),
+        }
+    }
+
+    // Stores a text in the file that was told.
+    pub(crate) fn store<S: Shelf>(
+        &self,
+        text: TextNo,
+        name: Option<&str>,
+        shelf: &mut S,
+    ) -> Result<Answer, EditRefusal>
+        requires { text ≤ MAX_TEXT }
+        ensures step { (sent : List (List ℕ)) → IsShelfStep self.now
+            (λ i. ask i (with_told (option_copied name.entry) (store text))) result self.now sent sent
+            (S.files shelf.old) (S.files shelf.new) }
+        ensures fault { IsFault result → Counts (S.faults shelf.old) (S.faults shelf.new) }
+    {
+        let Some(name) = name else {
+            return Err(EditRefusal::Whole(Refusal::BadParameter));
+        };
+        match write_text(self.alloc, self.texts.replica(text), name, shelf) {
+            Ok(()) => Ok(Answer::Done),
+            Err(why) => Err(EditRefusal::Whole(why)),
+        }
+    }
+}
