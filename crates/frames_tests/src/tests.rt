@@ -9,7 +9,6 @@ use texts::{Outbox, Replica};
 mod changed;
 mod drawn;
 mod kept;
-mod marked;
 mod million;
 mod slow;
 

@@ -1,52 +1,94 @@
 -- Laws of whole scripts: what runs come to, and when they answer the same.
 use Rattle.std.specs.Prelude.{◌≡◌, ℕ, ◌+◌, ◌≤◌, ◌^◌, List, ◌++◌, length}
+use Rattle.shelf.specs.Files.{Files}
 use Rattle.tree_order.specs.Laws.{AreSameSet}
 use Rattle.set_laws.specs.Sets.{AreIdentified}
 use Rattle.texts.specs.TextState.{TextState}
-use Rattle.machine_laws.specs.Laws.{IsOfWhatIsShown, Reached}
-use Rattle.machine.specs.Machine.{Query, Replies, State, IsTextAt, new_state, prints, print_fronts, query}
+use Rattle.machine.specs.DeskState.{DeskState, IsTextOf}
+use Rattle.machine.specs.Machine.{Query, IsTextAt, prints, print_fronts, query}
 use Rattle.machine.specs.Printing.{waiting_line}
+use Rattle.machine.specs.Whole.{IsDeskAt, RunReplies, RunState, View, ask, new_run, of_text, on_text, print, prints_screen}
+use Rattle.machine.specs.Whole.{untouched}
+use Rattle.machine.specs.Windows.{Screened}
+use Rattle.machine_laws.specs.Laws.{IsOfWhatIsShown, RunReached}
 use Rattle.script_runs.specs.Trace.{Trace}
 
--- the state behind any lines of a script is one that a run can come to
-abbrev pub EachTraceIsReached : Type 0
-EachTraceIsReached =
-    (first count n : ℕ) (script answers : List ℕ) (s : State) → Trace (new_state first count) n script answers s
-    → Reached first count s
+-- how a run begins: the number of its first site, how many sites there are, the size of their screens, and the files
+pub record Start : Type 0 where
+  pub first : ℕ
+  pub count : ℕ
+  pub width : ℕ
+  pub height : ℕ
+  pub files : Files
 
--- a text at a desk behind some lines of a script
-pub record IsTraced (first count : ℕ) (s : State) (i text : ℕ) (t : TextState) : Type 0 where
+-- a state behind some lines of a script, in a run that began so
+pub record IsBehindLines (start : Start) (s : RunState) : Type 0 where
   pub lines : ℕ
   pub script : List ℕ
   pub answers : List ℕ
-  pub trace : Trace (new_state first count) lines script answers s
-  pub there : IsTextAt s i text t
+  pub trace : Trace (new_run start.first start.count start.width start.height start.files) lines script answers s
+
+-- the state behind any lines of a script is one that a run can come to
+abbrev pub EachTraceIsReached : Type 0
+EachTraceIsReached = (start : Start) (s : RunState) → IsBehindLines start s
+    → RunReached start.first start.count start.width start.height start.files s
+
+-- a text at a desk behind some lines of a script
+pub record IsTraced (start : Start) (s : RunState) (i text : ℕ) (t : TextState) : Type 0 where
+  pub behind : IsBehindLines start s
+  pub there : IsTextAt s.texts i text t
+
+-- a query of a text is answered by these lines
+abbrev pub AnswersQuery : RunState → (i text : ℕ) → Query → List ℕ → Type 0
+AnswersQuery s i text q lines =
+    (new : RunState) × RunReplies s (on_text (query i text q)) untouched (of_text (prints lines)) new
 
 -- a query of what is shown is answered the same of two texts, byte for byte
-abbrev pub AreAnsweredTheSame : (s s' : State) (i j text text' : ℕ) → Type 0
-AreAnsweredTheSame s s' i j text text' = (q : Query) (a b : List ℕ) (new new' : State) → IsOfWhatIsShown q
-    → Replies s (query i text q) (prints a) new → Replies s' (query j text' q) (prints b) new' → a ≡ b
+abbrev pub AreAnsweredTheSame : (s s' : RunState) (i j text text' : ℕ) → Type 0
+AreAnsweredTheSame s s' i j text text' = (q : Query) (a b : List ℕ) → IsOfWhatIsShown q
+    → AnswersQuery s i text q a → AnswersQuery s' j text' q b → a ≡ b
 
 -- wherever two texts have taken in the same operations, in one run or in two, `text` and `runs` are answered the same
 abbrev pub TheSameIsAnswered : Type 0
 TheSameIsAnswered =
-    (first first' count count' i j text text' : ℕ) (s s' : State) (t u : TextState)
-    → IsTraced first count s i text t → IsTraced first' count' s' j text' u
+    (start start' : Start) (i j text text' : ℕ) (s s' : RunState) (t u : TextState)
+    → IsTraced start s i text t → IsTraced start' s' j text' u
     → AreSameSet t.operations u.operations → AreAnsweredTheSame s s' i j text text'
 
 -- `front` is answered of a text by these lines of its fronts, and then how many operations wait
-abbrev pub AnswersFronts : State → (i text : ℕ) → TextState → List ℕ → Type 0
-AnswersFronts s i text t lines = (new : State)
-    × Replies s (query i text print_fronts) (prints (lines ++ waiting_line (length t.waiting_room))) new
+abbrev pub AnswersFronts : RunState → (i text : ℕ) → TextState → List ℕ → Type 0
+AnswersFronts s i text t lines = AnswersQuery s i text print_fronts (lines ++ waiting_line (length t.waiting_room))
 
 -- wherever `front` is answered by the same lines of fronts of two texts, in one run or in two, however many operations
 -- wait, `text` and `runs` are answered the same, if the sites are numbers that a message has places for, and no identity
 -- is used twice
 abbrev pub TheSameFrontsAreAnswered : Type 0
 TheSameFrontsAreAnswered =
-    (first first' count count' i j text text' : ℕ) (s s' : State) (t u : TextState) (lines : List ℕ)
-    → first + count ≤ 2 ^ 16 → first' + count' ≤ 2 ^ 16
-    → IsTraced first count s i text t → IsTraced first' count' s' j text' u
+    (start start' : Start) (i j text text' : ℕ) (s s' : RunState) (t u : TextState) (lines : List ℕ)
+    → start.first + start.count ≤ 2 ^ 16 → start'.first + start'.count ≤ 2 ^ 16
+    → IsTraced start s i text t → IsTraced start' s' j text' u
     → AreIdentified (t.operations ++ u.operations)
     → AnswersFronts s i text t lines → AnswersFronts s' j text' u lines
     → AreAnsweredTheSame s s' i j text text'
+
+-- a desk and its screen behind some lines of a script
+pub record IsTracedDesk (start : Start) (s : RunState) (i : ℕ) (d : DeskState) (w : Screened) : Type 0 where
+  pub behind : IsBehindLines start s
+  pub there : IsDeskAt s i d w
+
+-- the texts of two desks have taken in the same operations, number for number, in whatever order
+abbrev pub HaveTakenTheSame : DeskState → DeskState → Type 0
+HaveTakenTheSame d e =
+    (n : ℕ) (t u : TextState) → IsTextOf d n t → IsTextOf e n u → AreSameSet t.operations u.operations
+
+-- a view of a desk is answered by these lines
+abbrev pub AnswersView : RunState → (i : ℕ) → View → List ℕ → Type 0
+AnswersView s i v lines = (new : RunState) × RunReplies s (ask i (print v)) untouched (prints_screen lines) new
+
+-- wherever the texts of two desks have taken in the same operations, in one run or in two, and their screens are alike in
+-- tracks, windows, caret and selection, `views`, `marks` and `show` are answered the same, byte for byte
+abbrev pub TheSameViewsAreAnswered : Type 0
+TheSameViewsAreAnswered =
+    (start start' : Start) (i j : ℕ) (s s' : RunState) (d e : DeskState) (w : Screened)
+    → IsTracedDesk start s i d w → IsTracedDesk start' s' j e w → HaveTakenTheSame d e
+    → (v : View) (a b : List ℕ) → AnswersView s i v a → AnswersView s' j v b → a ≡ b

@@ -2,10 +2,12 @@
 #![tactic(auto)]
 
 ghost use Rattle.run_laws.specs.Laws.{EachTraceIsReached, TheSameFrontsAreAnswered, TheSameIsAnswered};
+ghost use Rattle.run_laws.specs.Laws.{TheSameViewsAreAnswered};
 
 use machine_laws::{
     front_lines_tell_the_fronts, the_same_fronts_print_the_same,
-    the_same_operations_print_the_same, what_is_reached_is_numbered,
+    the_same_operations_print_the_same, the_same_texts_show_the_same_screen,
+    what_a_run_reaches_is_sound, what_is_reached_is_numbered,
 };
 
 /// A law: behind any lines of a script stands a state that a run can come to. So what is said of those is said
@@ -20,6 +22,7 @@ pub fn the_same_operations_are_answered_the_same()
     ensures { TheSameIsAnswered }
 {
     each_trace_is_reached();
+    what_a_run_reaches_is_sound();
     the_same_operations_print_the_same();
 }
 
@@ -30,7 +33,18 @@ pub fn the_same_fronts_are_answered_the_same()
     ensures { TheSameFrontsAreAnswered }
 {
     each_trace_is_reached();
+    what_a_run_reaches_is_sound();
     what_is_reached_is_numbered();
     front_lines_tell_the_fronts();
     the_same_fronts_print_the_same();
+}
+
+/// A law: wherever in a run, or in two runs, two sites have taken in the same operations of each text, and their screens
+/// point at the same, their answers to `views`, `marks` and `show` are the same, byte for byte.
+pub fn the_same_texts_answer_the_same_views()
+    ensures { TheSameViewsAreAnswered }
+{
+    each_trace_is_reached();
+    what_a_run_reaches_is_sound();
+    the_same_texts_show_the_same_screen();
 }

@@ -1,6 +1,7 @@
 use looks::Refusal;
 use script_io::{Input, Output};
 use script_runs::{Settings, run};
+use shelf::MemoryShelf;
 use std::alloc::Global;
 use std::io::{self, Read};
 
@@ -61,7 +62,13 @@ pub(crate) fn play<R: Read + Drop>(
     };
     let mut output = Output::new(Vec::new(alloc));
     let ending = Ending {
-        result: run(alloc, &mut input, &mut output, settings),
+        result: run(
+            alloc,
+            &mut input,
+            &mut output,
+            &mut MemoryShelf::new(alloc),
+            settings,
+        ),
         read_failed: input.failed(),
         write_failed: output.failed(),
         flushed: output.flushed(),

@@ -1,5 +1,6 @@
 pub mod Answers
 pub mod Ends
 pub mod Parts
+pub mod Seen
 pub mod Trace
 pub mod Writing

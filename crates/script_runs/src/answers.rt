@@ -2,11 +2,14 @@ ghost use Rattle.std.specs.Prelude.{ℕ, ◌≤◌, ◌++◌, drop, length};
 ghost use Rattle.std.specs.Fmt.{decimal};
 ghost use Rattle.hex.specs.Hex.{encode_lower};
 ghost use Rattle.machine.specs.Machine.{edit_reply, merge_reply};
-ghost use Rattle.script_runs.specs.Answers.{drained_line, partial_line, refused_line, reply_lines, send_line};
+ghost use Rattle.machine.specs.Printing.{line};
+ghost use Rattle.commands.specs.Steps.{answer_reply, done_reply, open_reply};
+ghost use Rattle.script_runs.specs.Answers.{drained_line, partial_line, refused_line, reply_lines, run_reply_lines, send_line};
 ghost use Rattle.script_runs.specs.Answers.{send_lines, settled_line, took_line};
 ghost use Rattle.script_runs.specs.Writing.{Puts};
 ghost use Rattle.script_runs.specs.declared.answers.TheConstants.{STRETCH};
 
+use commands::Answer;
 use looks::Refusal;
 use script_io::Output;
 use std::io::Write;
@@ -40,6 +43,15 @@ fn put_numbered<W: Write>(output: &mut Output<W>, front: &[u8], number: u64) -> 
 {
     put(output, front)?;
     put_number(output, number)
+}
+
+// The line of a number behind a word.
+#[tactic(auto, using(crate::proofs::WriteLemmas::writes_after, crate::proofs::WriteLemmas::writes_stopped))]
+fn put_count<W: Write>(output: &mut Output<W>, word: &[u8], count: u64) -> Result<(), Refusal>
+    ensures { Puts result output.old output.new (line (word.now ++ decimal count)) }
+{
+    put_numbered(output, word, count)?;
+    put(output, b"\n")
 }
 
 // A stretch of bytes. Its digits go into an array, so that no answer needs a growth after its edit stands.
@@ -176,11 +188,54 @@ pub fn put_merged<W: Write>(
     ensures { (k : ℕ) → Puts result output.old output.new (reply_lines k (merge_reply outcome)) }
 {
     match outcome {
-        Ok(count) => {
-            put_numbered(output, b"merged ", count)?;
-            put(output, b"\n")
-        }
+        Ok(count) => put_count(output, b"merged ", count),
         Err(MergeRefusal::Whole(why)) => put_refused(output, why),
         Err(MergeRefusal::Stopped { done }) => put_partial(output, done, Refusal::OutOfMemory),
+    }
+}
+
+/// Writes the line of an opening.
+pub fn put_opened<W: Write>(
+    output: &mut Output<W>,
+    outcome: Result<u32, Refusal>,
+) -> Result<(), Refusal>
+    ensures { (k : ℕ) → Puts result output.old output.new (run_reply_lines k (open_reply outcome)) }
+{
+    match outcome {
+        Ok(viewer) => put_count(output, b"viewer ", u64::from(viewer)),
+        Err(why) => put_refused(output, why),
+    }
+}
+
+/// Writes the line of another arrangement.
+pub fn put_done<W: Write>(
+    output: &mut Output<W>,
+    outcome: Result<(), Refusal>,
+) -> Result<(), Refusal>
+    ensures { (k : ℕ) → Puts result output.old output.new (run_reply_lines k (done_reply outcome)) }
+{
+    match outcome {
+        Ok(()) => put(output, b"ok\n"),
+        Err(why) => put_refused(output, why),
+    }
+}
+
+/// Writes the lines of a command's reply, where the outbox had `from` messages before it.
+pub fn put_answer<W: Write>(
+    output: &mut Output<W>,
+    outbox: &Outbox,
+    from: usize,
+    outcome: Result<Answer, EditRefusal>,
+) -> Result<(), Refusal>
+    ensures { Puts result output.old output.new (run_reply_lines from (answer_reply outcome (drop from outbox.now))) }
+{
+    match outcome {
+        Ok(Answer::Sent(count)) => put_edit(output, outbox, from, Ok(count)),
+        Ok(Answer::Viewer(viewer)) => put_count(output, b"viewer ", u64::from(viewer)),
+        Ok(Answer::Found(pos)) => put_count(output, b"found ", pos),
+        Ok(Answer::NotFound) => put(output, b"not found\n"),
+        Ok(Answer::Forgot(count)) => put_count(output, b"forgot ", u64::from(count)),
+        Ok(Answer::Done) => put(output, b"ok\n"),
+        Err(why) => put_edit(output, outbox, from, Err(why)),
     }
 }

@@ -1,9 +1,10 @@
 ghost use Rattle.std.specs.Prelude.{◌≡◌, ◌≤◌, ◌⊎◌, ℕ, List, Contains, IsTrue, OnErr, OnOk, length, vec_capacity, is_ok};
 ghost use Rattle.std.specs.Prelude.{if◌then◌else◌, Err, IfSome, IfErr};
 ghost use Rattle.std.specs.Io.KnownBytes.{Keeps};
-ghost use Rattle.machine.specs.Machine.{new_state};
+ghost use Rattle.machine.specs.Whole.{new_run};
 ghost use Rattle.script_runs.specs.Ends.{Ends, IsEnd};
 ghost use Rattle.script_runs.specs.Parts.{BreaksOff};
+ghost use Rattle.script_runs.specs.Seen.{OverFiles, run_of};
 ghost use Rattle.script_runs.specs.Trace.{Answers};
 ghost use Rattle.script_runs.specs.Writing.{Puts};
 
@@ -12,6 +13,7 @@ use crate::settings::Settings;
 use crate::sites::Sites;
 use looks::Refusal;
 use script_io::{Input, MAX_LINE, NextLine, Output, take_line};
+use shelf::Shelf;
 use std::alloc::Global;
 use std::io::{Read, Write};
 
@@ -38,17 +40,19 @@ fn put_out<R: Read + Drop, W: Write>(
 }
 
 // Answers the last line, and puts the answer out.
-fn answer_last<W: Write>(
+fn answer_last<W: Write, S: Shelf>(
     sites: &mut Sites,
     output: &mut Output<W>,
+    shelf: &mut S,
     line: &[u8],
 ) -> Result<(), Refusal>
     requires { length line.now ≤ MAX_LINE }
     ensures answers { (answer : List ℕ) × Puts result output.old output.new answer
-        × Answers sites.old line.now answer sites.new }
+        × OverFiles (S.files shelf.old) (S.files shelf.new) (λ was now.
+        Answers (run_of sites.old was) line.now answer (run_of sites.new now)) }
     ensures flushed { OnOk result (IsTrue output.new.flushed) }
 {
-    sites.answer(output, line)?;
+    sites.answer(output, shelf, line)?;
     output.flush()
 }
 
@@ -63,16 +67,17 @@ fn break_off<W: Write>(output: &mut Output<W>) -> Result<(), Refusal>
 }
 
 // Answers line by line, to the end of the script.
-fn run_lines<R: Read + Drop, W: Write>(
+fn run_lines<R: Read + Drop, W: Write, S: Shelf>(
     input: &mut Input<R>,
     output: &mut Output<W>,
+    shelf: &mut S,
     line: &mut Vec<u8>,
     sites: &mut Sites,
 ) -> Result<(), Refusal>
     requires { MAX_LINE ≤ vec_capacity line.old }
-    ensures answers { IfSome input.old.left (λ script.
-        Ends sites.old script result input.new.failed
-        input.new.left output.old.contents output.new.contents) }
+    ensures answers { OverFiles (S.files shelf.old) (S.files shelf.new) (λ was now. IfSome input.old.left (λ script.
+        Ends (run_of sites.old was) script result input.new.failed
+        input.new.left output.old.contents output.new.contents now)) }
     ensures errors { IfErr result IsEnd }
     ensures write_fault { result ≡ Err Refusal.WriteFault → IsTrue output.new.failed }
     ensures flushed { OnOk result (IsTrue output.new.flushed) }
@@ -81,8 +86,8 @@ fn run_lines<R: Read + Drop, W: Write>(
     for _ in 0..MAX_LINES {
         put_out(input, output)?;
         match take_line(input, output, line) {
-            Ok(NextLine::Line) => sites.answer(output, line)?,
-            Ok(NextLine::Last) => return answer_last(sites, output, line),
+            Ok(NextLine::Line) => sites.answer(output, shelf, line)?,
+            Ok(NextLine::Last) => return answer_last(sites, output, shelf, line),
             Ok(NextLine::End) => return output.flush(),
             Err(_) => return break_off(output),
         }
@@ -95,28 +100,29 @@ fn run_lines<R: Read + Drop, W: Write>(
     }
 }
 
-/// Runs the script that the input gives, and writes the answers.
+/// Runs the script that the input gives, over the files of the shelf, and writes the answers.
 ///
 /// Ends with `OutOfMemory` where the first memory is refused, with nothing written; with `ReadFault`, after
 /// the line `refused 21`, where the reader fails or the script passes a limit: 2^20 lines of at most 32,768
 /// bytes; and with `WriteFault` where the writer fails, with a prefix of the answers written.
-pub fn run<R: Read + Drop, W: Write>(
+pub fn run<R: Read + Drop, W: Write, S: Shelf>(
     alloc: Global,
     input: &mut Input<R>,
     output: &mut Output<W>,
+    shelf: &mut S,
     settings: Settings,
 ) -> Result<(), Refusal>
-    ensures answers { IfSome input.old.left (λ script.
-        Ends (new_state settings.first settings.count) script result input.new.failed
-        input.new.left output.old.contents output.new.contents) }
+    ensures answers { OverFiles (S.files shelf.old) (S.files shelf.new) (λ was now. IfSome input.old.left (λ script.
+        Ends (new_run settings.first settings.count settings.width settings.height was) script result input.new.failed
+        input.new.left output.old.contents output.new.contents now)) }
     ensures errors { IfErr result IsEnd }
     ensures write_fault { result ≡ Err Refusal.WriteFault → IsTrue output.new.failed }
     ensures flushed { OnOk result (IsTrue output.new.flushed) }
     ensures told { result ≡ Err Refusal.ReadFault → IsTrue output.new.flushed }
 {
     let mut line = Vec::with_capacity(alloc, MAX_LINE)?;
-    let mut sites = Sites::new(alloc, settings.first, settings.count)?;
-    run_lines(input, output, &mut line, &mut sites)
+    let mut sites = Sites::new(alloc, settings)?;
+    run_lines(input, output, shelf, &mut line, &mut sites)
 }
 
 /// The exit status of the program: 0 where the run ended well, else 1.

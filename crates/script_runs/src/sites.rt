@@ -1,22 +1,28 @@
-ghost use Rattle.std.specs.Prelude.{◌≡◌, ◌≤◌, ◌<◌, List, ℕ, length, IfOk};
+ghost use Rattle.std.specs.Prelude.{◌≡◌, ◌≤◌, ◌<◌, List, ℕ, None as Nothing, length, IfOk};
 ghost use Rattle.looks.specs.Refusal.{RefusedForMemoryAlone};
-ghost use Rattle.texts.specs.TextState.{TextState};
-ghost use Rattle.machine.specs.Machine.{IsTextAt, Prints, Replies, copy, edit, edit_reply, merge, merge_reply};
-ghost use Rattle.machine.specs.Machine.{new_state, sent, settle, settles, take, take_reply};
+ghost use Rattle.machine.specs.Machine.{copy, edit, edit_reply, merge, merge_reply, query, sent, settle, settles, take, take_reply};
+ghost use Rattle.machine.specs.Whole.{new_run, of_text, on_text};
+ghost use Rattle.shelf.specs.Files.{Files};
+ghost use Rattle.commands.specs.Steps.{query_reply};
 ghost use Rattle.script_events.specs.EventView.{delivery_of, edit_of, event_of, query_of, IsInRun, IsOfLine};
 ghost use Rattle.script_events.specs.EventView.{IsWithin, TypesAtMost};
-ghost use Rattle.script_events.specs.Script.{typing};
-ghost use Rattle.script_runs.specs.Trace.{Answers, Step, is_silent};
+ghost use Rattle.script_events.specs.Script.{event_in, typing};
+ghost use Rattle.script_events.specs.ScreenScript.{spelled_screen_event};
+ghost use Rattle.script_runs.specs.Seen.{OverFiles, Replied, Stepped, run_of};
+ghost use Rattle.script_runs.specs.Trace.{Answers, is_silent};
 ghost use Rattle.script_runs.specs.Writing.{Puts};
 
+mod screen;
+
 use crate::answers::{put, put_edit, put_merged, put_refused, put_settled, put_took};
-use crate::settings::{MAX_FIRST, MAX_SITES};
+use crate::settings::Settings;
 use char_files::{SiteNo, TextNo};
-use desk_texts::Texts;
+use commands::Desk;
 use looks::Refusal;
 use machine::MAX_TEXT;
-use script_events::{Delivery, Edit, Escaped, Event, Query, Save, event_in};
+use script_events::{Delivery, Edit, Escaped, Event, Query, Save, event_in, screen_event_in};
 use script_io::{MAX_LINE, Output};
+use shelf::Shelf;
 use std::alloc::Global;
 use std::io::Write;
 use std::marker::Model;
@@ -26,7 +32,7 @@ use texts::{EditRefusal, MergeRefusal, Outbox, Settled, Took};
 #[derive(Drop)]
 pub struct Sites {
     first: u16,
-    desks: Vec<Texts>,
+    desks: Vec<Desk>,
     outbox: Outbox,
     // Where the bytes of an event are decoded: there is room for those of any line.
     bytes: Vec<u8>,
@@ -34,11 +40,11 @@ pub struct Sites {
 
 impl Model for Sites {
     ghost use Rattle.std.specs.Prelude.{◌≤◌, length, vec_capacity};
-    ghost use Rattle.machine.specs.Machine.{State};
     ghost use Rattle.script_io.specs.declared.lines.TheConstants.{MAX_LINE};
+    ghost use Rattle.script_runs.specs.Seen.{SitesSeen};
     ghost use Rattle.script_runs.specs.declared.settings.TheConstants.{MAX_SITES};
 
-    ghost Value = { State };
+    ghost Value = { SitesSeen };
 
     ghost view = { λ s. record { first = s.first; desks = s.desks.items; sent = s.outbox } };
 
@@ -54,17 +60,22 @@ fn is_silent(line: &[u8]) -> bool
 
 impl Sites {
     /// The sites as a run begins. Refused `OutOfMemory` alone.
-    pub fn new(alloc: Global, first: u16, count: u16) -> Result<Sites, Refusal>
-        requires some { 0 < first }
-        requires few { count ≤ MAX_SITES }
-        requires in_range { first ≤ MAX_FIRST }
-        ensures ok { IfOk result (λ sites. sites ≡ new_state first count) }
+    pub fn new(alloc: Global, settings: Settings) -> Result<Sites, Refusal>
+        ensures ok { IfOk result (λ sites. (files : Files) → run_of sites files
+            ≡ new_run settings.first settings.count settings.width settings.height files) }
         ensures errors { RefusedForMemoryAlone result }
     {
         let bytes = Vec::with_capacity(alloc, MAX_LINE)?;
+        let Settings {
+            first,
+            count,
+            width,
+            height,
+        } = settings;
         let mut desks = Vec::new(alloc);
         for i in 0..count {
-            desks.push(Texts::new(alloc, SiteNo::new(first + i).unwrap())?)?;
+            let site = SiteNo::new(first + i).unwrap();
+            desks.push(Desk::new(alloc, site, usize::from(width), usize::from(height))?)?;
         }
         Ok(Sites {
             first,
@@ -75,26 +86,44 @@ impl Sites {
     }
 
     /// Answers a line of the script. Refused `WriteFault` where the writer fails.
-    pub fn answer<W: Write>(&mut self, output: &mut Output<W>, line: &[u8]) -> Result<(), Refusal>
+    pub fn answer<W: Write, S: Shelf>(
+        &mut self,
+        output: &mut Output<W>,
+        shelf: &mut S,
+        line: &[u8],
+    ) -> Result<(), Refusal>
         requires { length line.now ≤ MAX_LINE }
         ensures { (answer : List ℕ) × Puts result output.old output.new answer
-            × Answers self.old line.now answer self.new }
+            × OverFiles (S.files shelf.old) (S.files shelf.new) (λ was now.
+            Answers (run_of self.old was) line.now answer (run_of self.new now)) }
     {
         if is_silent(line) {
             return Ok(());
         }
+        match screen_event_in(self.first, self.desks.len(), line) {
+            Some(event) => self.screen_step(output, shelf, event),
+            None => self.answer_text(output, line),
+        }
+    }
+
+    // Answers a line as an event of texts.
+    fn answer_text<W: Write>(&mut self, output: &mut Output<W>, line: &[u8]) -> Result<(), Refusal>
+        requires { length line.now ≤ MAX_LINE }
+        ensures { (answer : List ℕ) × Puts result output.old output.new answer
+            × Stepped self.old (on_text (event_in self.old.first (length self.old.desks) line.now)) answer self.new }
+    {
         match event_in(self.first, self.desks.len(), line) {
             Some(event) => self.step(output, event),
             None => put_refused(output, Refusal::BadEvent),
         }
     }
 
-    // Answers an event.
+    // Answers an event of texts.
     fn step<W: Write>(&mut self, output: &mut Output<W>, event: Event) -> Result<(), Refusal>
         requires in_run { IsInRun (length self.old.desks) event }
         requires of_line { IsOfLine MAX_LINE event }
         ensures { (answer : List ℕ) × Puts result output.old output.new answer
-            × Step self.old (event_of event.entry) answer self.new }
+            × Stepped self.old (on_text (event_of event.entry)) answer self.new }
     {
         match event {
             // An edit or a copy stands, and its messages are in the Outbox, before the first byte of the
@@ -138,7 +167,7 @@ impl Sites {
         requires on_desk { text ≤ MAX_TEXT }
         requires short { TypesAtMost MAX_LINE asked.now }
         ensures { (messages : List (List ℕ))
-            × Replies self.old (edit desk text (edit_of asked.now)) (edit_reply result messages) self.new }
+            × Replied self.old (on_text (edit desk text (edit_of asked.now))) (of_text (edit_reply result messages)) self.new }
     {
         match asked {
             Edit::TypeIn { pos, bytes } => self.type_in(desk, text, *pos, bytes),
@@ -148,7 +177,7 @@ impl Sites {
                 end,
                 sel,
                 looks,
-            } => self.desks[desk].change_looks(text, *beg, *end, *sel, looks, &mut self.outbox),
+            } => self.desks[desk].looks(text, *beg, *end, *sel, looks, &mut self.outbox),
             Edit::Recall { pos } => self.desks[desk].recall(text, *pos, &mut self.outbox),
             Edit::Restore => self.desks[desk].restore(text, &mut self.outbox),
         }
@@ -165,8 +194,8 @@ impl Sites {
         requires in_run { desk < length self.old.desks }
         requires on_desk { text ≤ MAX_TEXT }
         requires short { length bytes.now ≤ MAX_LINE }
-        ensures { (messages : List (List ℕ)) × Replies self.old
-            (edit desk text (typing pos bytes.now)) (edit_reply result messages) self.new }
+        ensures { (messages : List (List ℕ)) × Replied self.old
+            (on_text (edit desk text (typing pos bytes.now))) (of_text (edit_reply result messages)) self.new }
     {
         match bytes.as_plain() {
             Some(plain) => self.desks[desk].type_in(text, pos, plain, &mut self.outbox),
@@ -183,8 +212,8 @@ impl Sites {
         requires in_run { desk < length self.old.desks }
         requires on_desk { text ≤ MAX_TEXT }
         requires other_on_desk { asked.other ≤ MAX_TEXT }
-        ensures { (messages : List (List ℕ)) × Replies self.old
-            (copy desk text asked.beg asked.end asked.other asked.pos) (edit_reply result messages) self.new }
+        ensures { (messages : List (List ℕ)) × Replied self.old
+            (on_text (copy desk text asked.beg asked.end asked.other asked.pos)) (of_text (edit_reply result messages)) self.new }
     {
         let Save {
             beg,
@@ -200,7 +229,7 @@ impl Sites {
         requires in_run { desk < length self.old.desks }
         requires on_desk { text ≤ MAX_TEXT }
         requires within { IsWithin MAX_LINE told.now }
-        ensures { Replies self.old (take desk text (delivery_of told.now)) (take_reply result) self.new }
+        ensures { Replied self.old (on_text (take desk text (delivery_of told.now))) (of_text (take_reply result)) self.new }
     {
         match told {
             Delivery::Sent(k) => self.take_sent(desk, text, *k),
@@ -216,10 +245,11 @@ impl Sites {
     fn take_sent(&mut self, desk: usize, text: TextNo, k: u32) -> Result<Took, Refusal>
         requires in_run { desk < length self.old.desks }
         requires on_desk { text ≤ MAX_TEXT }
-        ensures { Replies self.old (take desk text (sent k)) (take_reply result) self.new }
+        ensures { Replied self.old (on_text (take desk text (sent k))) (of_text (take_reply result)) self.new }
     {
         let k = k as usize;
         if k == 0 || self.outbox.len() < k {
+            self.desks[desk].has_text(text);
             return Err(Refusal::BadEvent);
         }
         let message = self.outbox.message(k - 1);
@@ -230,8 +260,8 @@ impl Sites {
     fn settle(&mut self, desk: usize, text: TextNo) -> Settled
         requires in_run { desk < length self.old.desks }
         requires on_desk { text ≤ MAX_TEXT }
-        ensures { Replies self.old (settle desk text) (settles result.drained result.dropped result.stopped)
-            self.new }
+        ensures { Replied self.old (on_text (settle desk text))
+            (of_text (settles result.drained result.dropped result.stopped)) self.new }
     {
         self.desks[desk].settle(text)
     }
@@ -241,7 +271,7 @@ impl Sites {
         requires in_run { desk < length self.old.desks }
         requires other_in_run { other < length self.old.desks }
         requires on_desk { text ≤ MAX_TEXT }
-        ensures { Replies self.old (merge desk text other) (merge_reply result) self.new }
+        ensures { Replied self.old (on_text (merge desk text other)) (of_text (merge_reply result)) self.new }
     {
         if other < desk {
             let (front, back) = self.desks.split_at_mut(desk);
@@ -256,14 +286,12 @@ impl Sites {
     }
 
     // The lines that a query prints of a desk's text.
-    fn query(&self, desk: usize, text: TextNo, query: Query) -> Result<Vec<u8>, Refusal>
+    fn query(&self, desk: usize, text: TextNo, asked: Query) -> Result<Vec<u8>, Refusal>
         requires in_run { desk < length self.now.desks }
         requires on_desk { text ≤ MAX_TEXT }
-        ensures ok { IfOk result (λ lines.
-            (t : TextState) × IsTextAt self.now desk text t × Prints (query_of query) t lines.items) }
-        ensures errors { RefusedForMemoryAlone result }
+        ensures { Replied self.now (on_text (query desk text (query_of asked))) (query_reply result (λ lines. lines.items)) self.now }
     {
-        match query {
+        match asked {
             Query::Text => self.desks[desk].text(text),
             Query::Front => self.desks[desk].front(text),
             Query::Runs => self.desks[desk].runs(text),

@@ -1,8 +1,9 @@
 //! Runs a script of events for the sites that the command line names: reads it from standard input, and writes
-//! the answers to standard output.
+//! the answers to standard output. Its files are those of the current folder.
 #![tactic(auto)]
 
 use command_line::{error_status, read_settings};
+use folder_shelf::FolderShelf;
 use script_io::{Input, Output};
 use script_runs::{run, status_of};
 use std::alloc::Global;
@@ -41,8 +42,9 @@ fn main(rt: HostRuntime) -> io::Result<ExitCode> {
         }
     };
     let mut output = Output::new(BufWriter::with_capacity(alloc, KEPT_BACK, io::writer(&rt))?);
+    let mut shelf = FolderShelf::new(&rt, alloc);
     let ended = match Input::new(alloc, rt.reader()) {
-        Ok(mut input) => run(alloc, &mut input, &mut output, settings),
+        Ok(mut input) => run(alloc, &mut input, &mut output, &mut shelf, settings),
         Err(why) => Err(why),
     };
     Ok(ExitCode::from(status_of(&ended)))

@@ -66,21 +66,3 @@ fn lines_by_number(alloc: Global, replica: &mut Replica) -> Result<(), Fail> {
 fn frames_scroll(rt: HostRuntime) -> Result<(), Fail> {
     lines_by_number(rt.alloc(), &mut text(rt.alloc())?)
 }
-
-// Two lines, and then the second one first.
-fn two_lines(replica: &Replica, frame: &mut Frame) -> Result<(), Fail> {
-    shows(frame, &[b"Oberon    ", b"ab        ", b"          "])?;
-    frame.scroll(replica, 1);
-    shows(frame, &[b"ab        ", b"          ", b"          "])
-}
-
-fn a_narrow_track(alloc: Global, replica: &mut Replica) -> Result<(), Fail> {
-    types(alloc, replica, 0, b"Oberon\rab")?;
-    let mut frame = frame(alloc, replica, 10, 3)?;
-    two_lines(replica, &mut frame)
-}
-
-#[test]
-fn two_lines_are_drawn(rt: HostRuntime) -> Result<(), Fail> {
-    a_narrow_track(rt.alloc(), &mut text(rt.alloc())?)
-}

@@ -4,6 +4,7 @@ use super::is;
 use looks::Refusal;
 use script_io::{Input, Output};
 use script_runs::{Settings, run, status_of};
+use shelf::MemoryShelf;
 use std::alloc::Global;
 use std::test::Fail;
 
@@ -56,7 +57,14 @@ fn play(
         flushes: 0,
         flushed: 0,
     });
-    let result = run(alloc, &mut input, &mut output, Settings::default());
+    let mut shelf = MemoryShelf::new(alloc);
+    let result = run(
+        alloc,
+        &mut input,
+        &mut output,
+        &mut shelf,
+        Settings::default(),
+    );
     let ending = Ending {
         result,
         read_failed: input.failed(),

@@ -1,16 +1,32 @@
 use Rattle.std.proofs.Common.{◌≡◌, false, length, sym, ap, ◌∙◌, arith}
-use Rattle.machine.specs.Machine.{State, unknown}
-use Rattle.script_events.specs.EventView.{event_or_unknown}
+use Rattle.machine.specs.Whole.{on_text}
 use Rattle.script_events.specs.Script.{event_in}
+use Rattle.script_events.specs.ScreenEventView.{screen_event_of}
+use Rattle.script_runs.specs.Seen.{SitesSeen}
 use Rattle.script_runs.specs.Trace.{is_silent}
-use Rattle.script_runs.proofs.Replying.{unknown_step}
+use Rattle.script_runs.proofs.Replying.{line_over, screen_asked, stepped_over, text_asked}
 use Rattle.script_runs.proofs.sites.Sites.answer.Goals as goal
+
+pub returns-in-Some : goal.returns-in-Some
+returns-in-Some g c =
+    let s = c.args.self.now in
+    let line = c.args.line.now in
+    let heard : is_silent line ≡ false = sym c.is_silent.ensures ∙ c.if-is_silent.false in
+    let first : c.self.inside.first ≡ s.first = ap (λ (x : SitesSeen). x.first) c.self.view_is in
+    let count : c.len.result ≡ length s.desks = omega (arith, c.len.ensures, c.self.inside.desks.ok, ap (λ (x : SitesSeen). length x.desks) c.self.view_is) in
+    let asked = screen_asked s.first (length s.desks) line c.in-Some.event (rw (first, count) at c.in-Some.ensures.event) in
+    let (answer, written, stepped) = c.screen_step.ensures in
+    (answer, written, line_over (g.S.Shelf.files c.args.shelf.now) (g.S.Shelf.files c.screen_step.new.shelf) s c.screen_step.new.self line answer (screen_event_of c.in-Some.event) heard asked stepped)
 
 pub returns-in-None : goal.returns-in-None
 returns-in-None g c =
     let s = c.args.self.now in
-    let silent : is_silent c.args.line.now ≡ false = sym c.is_silent.ensures ∙ c.if-is_silent.false in
-    let first : c.self.inside.first ≡ s.first = ap (λ (x : State). x.first) c.self.view_is in
-    let count : c.len.result ≡ length s.desks = omega (arith, c.len.ensures, c.self.inside.desks.ok, ap (λ (x : State). length x.desks) c.self.view_is) in
-    let asked : event_in s.first (length s.desks) c.args.line.now ≡ unknown = rw (first, count) at (sym c.event_in.ensures.event ∙ ap event_or_unknown c.in-None.is) in
-    rw silent (_, c.put_refused.ensures, unknown_step s (event_in s.first (length s.desks) c.args.line.now) asked)
+    let line = c.args.line.now in
+    let heard : is_silent line ≡ false = sym c.is_silent.ensures ∙ c.if-is_silent.false in
+    let first : c.self.inside.first ≡ s.first = ap (λ (x : SitesSeen). x.first) c.self.view_is in
+    let count : c.len.result ≡ length s.desks = omega (arith, c.len.ensures, c.self.inside.desks.ok, ap (λ (x : SitesSeen). length x.desks) c.self.view_is) in
+    let asked = text_asked s.first (length s.desks) line (rw (first, count) at c.in-None.ensures.event) in
+    let (answer, written, stepped) = c.answer_text.ensures in
+    let event = on_text (event_in s.first (length s.desks) line) in
+    let told = (g.S.Shelf.files c.args.shelf.now) in
+    (answer, written, line_over told told s c.answer_text.new.self line answer event heard asked (stepped_over told s c.answer_text.new.self event answer stepped))

@@ -1,45 +1,60 @@
-use Rattle.std.proofs.Common.{◌≡◌, ◌++◌, Some, length, refl, sym, ◌∙◌, arith}
-use Rattle.std.specs.Prelude.{slice_get, slice_set}
+use Rattle.std.proofs.Common.{◌≡◌, ◌++◌, List, length, subst, sym, ◌∙◌, arith}
+use Rattle.std.specs.Prelude.{slice_set}
 use Rattle.std.specs.Vec.{with_items}
 use Rattle.std.proofs.lemmas.List.{length-append, length-set, with_items_is}
-use Rattle.std.proofs.lemmas.Option.{slice_get_read}
-use Rattle.machine.specs.Machine.{State}
-use Rattle.set_laws.proofs.Fronts.{are_held_to_the_front}
-use Rattle.script_runs.proofs.Merging.{merged_into_back, merged_into_front, merged_itself}
+use Rattle.machine.specs.Machine.{merge, merge_reply}
+use Rattle.machine.specs.Whole.{of_text, on_text}
+use Rattle.commands.specs.Steps.{DeskSeen}
+use Rattle.script_runs.specs.Seen.{Replied, SitesSeen}
+use Rattle.script_runs.proofs.Merging.{in_back, in_front, set_in_back, set_in_front}
+use Rattle.script_runs.proofs.Standing.{desk_read, merged_still, replied_merge}
 use Rattle.script_runs.proofs.sites.Sites.merge.Goals as goal
 
 pub returns-then-other-desk : goal.returns-then-other-desk
 returns-then-other-desk c =
-    let s : State = record { first = c.self.inside.first; desks = c.self.inside.desks.items; sent = c.self.inside.outbox } in
+    let s : SitesSeen = record { first = c.self.inside.first; desks = c.self.inside.desks.items; sent = c.self.inside.outbox } in
     let in_run = rw (← c.self.view_is) at c.requires.in_run in
     let parts = c.split_at_mut-front in
-    let is = sym c.deref_mut.ensures.value ∙ parts.ensures.value in
-    let merged = rw (← c.index-back-0.is, ← c.index-front-other.is) at c.merge.ensures in
-    let new = parts.result.0.now ++ slice_set parts.result.1.now 0 c.merge.new.self in
+    let front = parts.result.0.now in
+    let back = parts.result.1.now in
+    let is : s.desks ≡ front ++ back = sym c.deref_mut.ensures.value ∙ parts.ensures.value in
+    let d = c.index-back-0.result in
+    let other = c.index-front-other.result in
+    let new = front ++ slice_set back 0 c.merge.new.self in
     let len : length new ≡ c.self.inside.desks.len = simp (length-append, length-set) (omega (arith, parts.ensures.front_len, parts.ensures.back_len, c.deref_mut.ensures.len)) in
     let desks : (with_items c.self.inside.desks new).items ≡ new = with_items_is c.self.inside.desks new len in
-    rw (← c.self.view_is, desks) (merged_into_back s parts.result.0.now parts.result.1.now c.args.desk is parts.ensures.front_len c.args.text c.index-back-0.result c.merge.new.self c.index-front-other.result c.merge.result merged
-    c.args.other c.if-other-desk.true in_run c.index-back-0.is c.index-front-other.is)
+    let merged = rw (← c.index-back-0.is, ← c.index-front-other.is) at c.merge.ensures in
+    let at = in_back s.desks front back c.args.desk is parts.ensures.front_len d in_run c.index-back-0.is in
+    let at_other = in_front s.desks front back c.args.desk is parts.ensures.front_len c.args.other other c.if-other-desk.true c.index-front-other.is in
+    let set = set_in_back s.desks front back c.args.desk is parts.ensures.front_len c.merge.new.self in
+    rw (← c.self.view_is, desks) (subst (λ (ds : List DeskSeen). Replied s (on_text (merge c.args.desk c.args.text c.args.other)) (of_text (merge_reply c.merge.result)) (record s { desks = ds })) set
+    (replied_merge s c.args.desk d at c.args.text c.args.other other c.merge.result c.merge.new.self at_other merged))
 
 pub returns-then-desk-other : goal.returns-then-desk-other
 returns-then-desk-other c =
-    let s : State = record { first = c.self.inside.first; desks = c.self.inside.desks.items; sent = c.self.inside.outbox } in
+    let s : SitesSeen = record { first = c.self.inside.first; desks = c.self.inside.desks.items; sent = c.self.inside.outbox } in
     let in_run = rw (← c.self.view_is) at c.requires.other_in_run in
     let parts = c.split_at_mut-front-then-desk-other in
-    let is = sym c.deref_mut-then-desk-other.ensures.value ∙ parts.ensures.value in
-    let merged = rw (← c.index-front-desk.is, ← c.index-back-0-then-desk-other.is) at c.merge-then-desk-other.ensures in
-    let new = slice_set parts.result.0.now c.args.desk c.merge-then-desk-other.new.self ++ parts.result.1.now in
+    let front = parts.result.0.now in
+    let back = parts.result.1.now in
+    let is : s.desks ≡ front ++ back = sym c.deref_mut-then-desk-other.ensures.value ∙ parts.ensures.value in
+    let d = c.index-front-desk.result in
+    let other = c.index-back-0-then-desk-other.result in
+    let new = slice_set front c.args.desk c.merge-then-desk-other.new.self ++ back in
     let len : length new ≡ c.self.inside.desks.len = simp (length-append, length-set) (omega (arith, parts.ensures.front_len, parts.ensures.back_len, c.deref_mut-then-desk-other.ensures.len)) in
     let desks : (with_items c.self.inside.desks new).items ≡ new = with_items_is c.self.inside.desks new len in
-    rw (← c.self.view_is, desks) (merged_into_front s parts.result.0.now parts.result.1.now c.args.other is parts.ensures.front_len c.args.text c.index-front-desk.result c.merge-then-desk-other.new.self c.index-back-0-then-desk-other.result c.merge-then-desk-other.result merged
-    c.args.desk c.if-desk-other.true in_run c.index-front-desk.is c.index-back-0-then-desk-other.is)
+    let merged = rw (← c.index-front-desk.is, ← c.index-back-0-then-desk-other.is) at c.merge-then-desk-other.ensures in
+    let at = in_front s.desks front back c.args.other is parts.ensures.front_len c.args.desk d c.if-desk-other.true c.index-front-desk.is in
+    let at_other = in_back s.desks front back c.args.other is parts.ensures.front_len other in_run c.index-back-0-then-desk-other.is in
+    let set = set_in_front s.desks front back c.args.other is parts.ensures.front_len c.args.desk c.merge-then-desk-other.new.self c.if-desk-other.true in
+    rw (← c.self.view_is, desks) (subst (λ (ds : List DeskSeen). Replied s (on_text (merge c.args.desk c.args.text c.args.other)) (of_text (merge_reply c.merge-then-desk-other.result)) (record s { desks = ds })) set
+    (replied_merge s c.args.desk d at c.args.text c.args.other other c.merge-then-desk-other.result c.merge-then-desk-other.new.self at_other merged))
 
 pub returns-else-desk-other : goal.returns-else-desk-other
 returns-else-desk-other c =
-    let desks = c.self.inside.desks.items in
-    let s : State = record { first = c.self.inside.first; desks = desks; sent = c.self.inside.outbox } in
+    let s : SitesSeen = record { first = c.self.inside.first; desks = c.self.inside.desks.items; sent = c.self.inside.outbox } in
     let in_run = rw (← c.self.view_is) at c.requires.in_run in
-    let at_i : slice_get desks c.args.desk ≡ Some c.index.result.now = slice_get_read desks (length desks) c.args.desk c.index.result.now refl in_run c.index.ensures in
-    let (t, is_t, is) = c.has_text.ensures in
+    let at = desk_read s c.args.desk c.index.result.now in_run c.index.ensures in
+    let (t, there, is, told) = c.has_text.ensures in
     let same : c.args.other ≡ c.args.desk = omega (arith, c.if-other-desk.false, c.if-desk-other.false) in
-    rw (← c.self.view_is, same) (merged_itself s c.args.desk c.args.text c.index.result.now at_i t is_t is are_held_to_the_front)
+    rw (← c.self.view_is, same) (merged_still s c.args.desk c.args.text c.index.result.now t at there is told)

@@ -1,0 +1,34 @@
+-- What the desks of a run's sites hold, and what they do in a run over files.
+use Rattle.std.specs.Prelude.{ℕ, List, map, Option, Some, None, ⊤}
+use Rattle.shelf.specs.Files.{Files}
+use Rattle.machine.specs.Whole.{RunEvent, RunReplies, RunReply, RunState, untouched}
+use Rattle.commands.specs.Steps.{DeskSeen}
+use Rattle.script_runs.specs.Trace.{Step}
+
+-- the number of the first site, which the others follow; the sites' desks; the messages that were sent so far
+pub record SitesSeen : Type 0 where
+  pub first : ℕ
+  pub desks : List DeskSeen
+  pub sent : List (List ℕ)
+
+-- the state of a run of these sites, over these files
+abbrev pub run_of : SitesSeen → Files → RunState
+run_of s files = record {
+  texts = record { first = s.first; desks = map (λ d. d.texts) s.desks; sent = s.sent };
+  screens = map (λ d. d.screen) s.desks;
+  files = files;
+}
+
+-- over any files, the event is replied to so, and the sites go on to new; no file is asked for
+abbrev pub Replied : SitesSeen → RunEvent → RunReply → SitesSeen → Type 0
+Replied s e r new = (files : Files) → RunReplies (run_of s files) e untouched r (run_of new files)
+
+-- the same, with the reply printed
+abbrev pub Stepped : SitesSeen → RunEvent → List ℕ → SitesSeen → Type 0
+Stepped s e answer new = (files : Files) → Step (run_of s files) e answer (run_of new files)
+
+-- so it is of the files that a shelf told before, and of those that it tells now; of a shelf that tells none nothing is said
+abbrev pub OverFiles : (told told' : Option Files) → (Files → Files → Type 0) → Type 0
+OverFiles None told' Holds = ⊤
+OverFiles (Some was) None Holds = ⊥
+OverFiles (Some was) (Some now) Holds = Holds was now
