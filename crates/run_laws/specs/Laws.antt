@@ -85,8 +85,8 @@ HaveTakenTheSame d e =
 abbrev pub AnswersView : RunState → (i : ℕ) → View → List ℕ → Type 0
 AnswersView s i v lines = (new : RunState) × RunReplies s (ask i (print v)) untouched (prints_screen lines) new
 
--- wherever the texts of two desks have taken in the same operations, in one run or in two, and their screens are alike in
--- tracks, windows, caret and selection, `views`, `marks` and `show` are answered the same, byte for byte
+-- wherever the texts of two desks have taken in the same operations, in one run or in two, and their screens are the same,
+-- tracks, windows, caret, selection and the next viewer's number, `views`, `marks` and `show` are answered the same
 abbrev pub TheSameViewsAreAnswered : Type 0
 TheSameViewsAreAnswered =
     (start start' : Start) (i j : ℕ) (s s' : RunState) (d e : DeskState) (w : Screened)
