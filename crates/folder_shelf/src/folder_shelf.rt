@@ -1,12 +1,11 @@
-ghost use Rattle.std.specs.Prelude.{◌≡◌, ◌<◌, ◌≤◌, ◌+◌, ◌⊎◌, length, IfErr, IfOk, IsErr, IsErrOf, None, OnErr, OnOk};
+ghost use Rattle.std.specs.Prelude.{◌≡◌, ◌<◌, ◌≤◌, ◌+◌, ◌⊎◌, length, IfErr, IfOk, IsErr, IsFalse, IsErrOf, None, OnErr, OnOk};
 ghost use Rattle.shelf.specs.Files.{Counts};
-ghost use Rattle.folder_shelf.specs.Names.{IsFileName};
+ghost use Rattle.shelf.specs.Names.{is_file_name};
 ghost use Rattle.folder_shelf.specs.declared.whole_files.TheConstants.{MAX_FILE_LEN};
 
-use crate::names::is_file_name;
 use crate::whole_files::{MAX_FILE_LEN, read_whole, replace};
 use looks::Refusal;
-use shelf::Shelf;
+use shelf::{Shelf, is_file_name};
 use std::alloc::Global;
 use std::fs::Files;
 
@@ -55,10 +54,10 @@ impl<R: Files + Drop> Shelf for FolderShelf<R> {
         ensures kept { (¬ IsErrOf result Refusal.ReadFault) → self.new.failures ≡ self.old.failures }
         ensures once { self.new.failures ≤ self.old.failures + 1 }
         ensures rises { self.old.failures ≤ self.new.failures }
-        ensures named { (¬ IsFileName name.now) → IsErrOf result Refusal.ReadFault }
+        ensures named { IsFalse (is_file_name name.now) → IsErrOf result Refusal.ReadFault }
         ensures limit { IfOk result (λ bytes. length bytes.items ≤ MAX_FILE_LEN) }
     {
-        if is_file_name(name) {
+        if is_file_name(name.as_bytes()) {
             match read_whole(&self.host, alloc, name) {
                 Err(Refusal::ReadFault) => {}
                 answer => return answer,
@@ -75,10 +74,10 @@ impl<R: Files + Drop> Shelf for FolderShelf<R> {
         ensures kept { OnOk result (self.new.failures ≡ self.old.failures) }
         ensures once { self.new.failures ≤ self.old.failures + 1 }
         ensures rises { self.old.failures ≤ self.new.failures }
-        ensures named { (¬ IsFileName name.now) → IsErr result }
+        ensures named { IsFalse (is_file_name name.now) → IsErr result }
         ensures limit { MAX_FILE_LEN < length bytes.now → IsErr result }
     {
-        if is_file_name(name)
+        if is_file_name(name.as_bytes())
             && bytes.len() <= MAX_FILE_LEN
             && replace(&self.host, self.alloc, name, bytes).is_ok()
         {

@@ -1,6 +1,6 @@
 //! A file read whole, and one put in the place of another.
-ghost use Rattle.std.specs.Prelude.{◌≡◌, ◌≤◌, ◌⊎◌, IfErr, IfOk, length, string_bytes};
-ghost use Rattle.folder_shelf.specs.Names.{IsFileName};
+ghost use Rattle.std.specs.Prelude.{◌≡◌, ◌≤◌, ◌⊎◌, IfErr, IfOk, IsFalse, length, string_bytes};
+ghost use Rattle.shelf.specs.Names.{is_file_name};
 ghost use Rattle.folder_shelf.specs.declared.whole_files.TheConstants.{MAX_FILE_LEN};
 
 use looks::Refusal;
@@ -48,14 +48,14 @@ pub(crate) fn read_whole<R: Files>(host: &R, alloc: Global, name: &str) -> Resul
 
 // The name of a file that isn't whole yet: no command can name it.
 fn name_beside(alloc: Global, number: usize) -> Result<String, AllocError>
-    ensures { IfOk result (λ name. ¬ IsFileName (string_bytes name)) }
+    ensures { IfOk result (λ name. IsFalse (is_file_name (string_bytes name))) }
 {
     format!(in alloc; "{BESIDE}{number}")
 }
 
 // A new file beside the others, and its name.
 fn new_beside<R: Files>(host: &R, alloc: Global) -> io::Result<(R::File, String)>
-    ensures { IfOk result (λ made. ¬ IsFileName (string_bytes made.1)) }
+    ensures { IfOk result (λ made. IsFalse (is_file_name (string_bytes made.1))) }
 {
     for number in 0..MAX_BESIDE {
         let name = name_beside(alloc, number)?;
