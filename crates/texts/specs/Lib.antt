@@ -6,6 +6,7 @@ pub mod Order
 pub mod Outcome
 pub mod Own
 pub mod Pieces
+pub mod SiteFiles
 pub mod Take
 pub mod Taking
 pub mod Text

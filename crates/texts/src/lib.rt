@@ -25,3 +25,6 @@ pub use took::Took;
 
 /// The greatest number of an operation among its site's in one text. This project's own.
 pub const MAX_SEQ: u32 = u32::MAX;
+
+/// The most operations that a site's file of a text tells. This project's own.
+pub const MAX_KEPT: u64 = (1 << 32) - 1;

@@ -1,5 +1,5 @@
 ghost use Rattle.std.specs.Prelude.{◌≡◌, ◌<◌, ◌≤◌, ◌++◌, ◌↔◌, length, slice_get, slice_range, Some, IfSome, IfOk};
-ghost use Rattle.std.specs.Prelude.{IsSome, IsTrue};
+ghost use Rattle.std.specs.Prelude.{◌≢◌, AllPairs, IsSome, IsTrue};
 ghost use Rattle.std.specs.Prelude.{OnOk, OnErr};
 ghost use Rattle.looks.specs.Refusal.{RefusedForMemoryAlone};
 ghost use Rattle.set_laws.specs.Fronts.{AreSites, front_of};
@@ -98,6 +98,13 @@ impl Replica {
     {
         self.taken.is_defined();
         self.room.are_identified();
+    }
+
+    /// A law: no operation was taken in twice. A proof gets it by calling this, at no cost.
+    pub fn are_taken_once(&self)
+        ensures { AllPairs (λ a b. a ≢ b) self.now.operations }
+    {
+        self.taken.log().are_held_to_the_front();
     }
 
     /// The greatest seq of a site's operations that were taken in, its front; 0 for none.
