@@ -1,0 +1,90 @@
+-- What is read of a site's file is what was written, and what was written is read again.
+use Rattle.std.proofs.Common.{◌≡◌, ℕ, ◌^◌, ◌<◌, List, ◌++◌, length, Option, Some, None, refl, sym, ap, subst, ◌∙◌}
+use Rattle.std.proofs.Common.{append_assoc, arith}
+use Rattle.std.specs.Prelude.{IfSome}
+use Rattle.std.specs.Int.{w16, w32}
+use Rattle.operations.specs.Reading.{◌>>=◌, Finds, number_at, stretch_at}
+use Rattle.operations.specs.Spelling.{number_spelling}
+use Rattle.operations.proofs.Readers.{Took, Reads, step, some_is, number_reads, positive_reads, stretch_reads}
+use Rattle.operations.proofs.Readers.{wide16, wide32, IsBytes}
+use Rattle.site_file.specs.declared.reading.Head.{Head}
+use Rattle.site_file.specs.Parts.{head_at, head_spelling, IsHead, message_at, message_spelling}
+
+head_split : (h : Head) (rest : List ℕ) → head_spelling h ++ rest
+    ≡ number_spelling w16 h.text ++ (number_spelling w16 h.site ++ (number_spelling w32 h.count ++ rest))
+head_split h rest = simp append_assoc
+
+head_joined : (h : Head) (bytes x y rest : List ℕ) → bytes ≡ number_spelling w16 h.text ++ x
+    → x ≡ number_spelling w16 h.site ++ y → y ≡ number_spelling w32 h.count ++ rest → bytes ≡ head_spelling h ++ rest
+head_joined h bytes x y rest text site count =
+    text ∙ ap (λ (r : List ℕ). number_spelling w16 h.text ++ r) (site
+    ∙ ap (λ (r : List ℕ). number_spelling w16 h.site ++ r) count)
+    ∙ sym (head_split h rest)
+
+pub head_reads : Reads head_at head_spelling IsHead
+unfolding head_at
+head_reads = record {
+  takes = λ bytes head rest fits e.
+      let s = step _ _ _ (positive_reads w16 (2 ^ 16) wide16) _ bytes (head, rest) fits e in
+      let t = step _ _ _ (positive_reads w16 (2 ^ 16) wide16) _ s.rest (head, rest) s.took.rest_fits s.goes_on in
+      let u = step _ _ _ (number_reads w32 (2 ^ 32) wide32) _ t.rest (head, rest) t.took.rest_fits t.goes_on in
+      let made : Head = record { text = s.x; site = t.x; count = u.x } in
+      let whole : bytes ≡ head_spelling made ++ u.rest =
+      head_joined made bytes s.rest t.rest u.rest s.took.parts t.took.parts u.took.parts in
+      subst (λ (p : Head × List ℕ). Took head_spelling IsHead bytes p.0 p.1) (some_is (made, u.rest) (head, rest) u.goes_on)
+      (record {
+        parts = whole;
+        rest_fits = u.took.rest_fits;
+        in_range = record { text = s.took.in_range; site = t.took.in_range; count = u.took.in_range };
+      });
+  again = λ h rest is.
+      rw (
+        head_split h rest,
+        (positive_reads w16 (2 ^ 16) wide16).again h.text
+            (number_spelling w16 h.site ++ (number_spelling w32 h.count ++ rest)) is.text,
+        (positive_reads w16 (2 ^ 16) wide16).again h.site (number_spelling w32 h.count ++ rest) is.site,
+        (number_reads w32 (2 ^ 32) wide32).again h.count rest is.count,
+      ) refl;
+}
+
+-- a message whose length two bytes tell
+abbrev pub IsShort : List ℕ → Type 0
+IsShort message = length message < 2 ^ 16
+
+message_joined : (bytes x message rest : List ℕ) (len : ℕ) → bytes ≡ number_spelling w16 len ++ x
+    → x ≡ message ++ rest → length message ≡ len → bytes ≡ message_spelling message ++ rest
+message_joined bytes x message rest len front behind same =
+    front ∙ ap (λ (r : List ℕ). number_spelling w16 len ++ r) behind
+    ∙ ap (λ (n : ℕ). number_spelling w16 n ++ (message ++ rest)) (sym same)
+    ∙ sym (append_assoc (number_spelling w16 (length message)) message rest)
+
+pub message_reads : Reads message_at message_spelling IsShort
+unfolding message_at
+message_reads = record {
+  takes = λ bytes message rest fits e.
+      let s = step _ _ _ (number_reads w16 (2 ^ 16) wide16) _ bytes (message, rest) fits e in
+      let took = (stretch_reads s.x).takes s.rest message rest s.took.rest_fits s.goes_on in
+      let short : length message < 2 ^ 16 = omega (arith, took.in_range, s.took.in_range) in
+      record {
+        parts = message_joined bytes s.rest message rest s.x s.took.parts took.parts took.in_range;
+        rest_fits = took.rest_fits;
+        in_range = short;
+      };
+  again = λ message rest short.
+      rw (
+        append_assoc (number_spelling w16 (length message)) message rest,
+        (number_reads w16 (2 ^ 16) wide16).again (length message) (message ++ rest) short,
+      ) ((stretch_reads (length message)).again message rest refl);
+}
+
+-- a message that was found behind its length is the first of the bytes
+pub message_first : {X : Type 0} (view : X → List ℕ × List ℕ) (r : Option X) (bytes rest : List ℕ) (len n : ℕ)
+    → IsBytes bytes → number_at w16 bytes ≡ Some (len, rest) → n ≡ len → Finds view r (stretch_at n rest)
+    → IfSome r (λ x. bytes ≡ message_spelling (view x).0 ++ (view x).1)
+unfolding message_at
+message_first view None bytes rest len n fits e same found = tt
+message_first view (Some x) bytes rest len n fits e same found =
+    let read : message_at bytes ≡ Some (view x) =
+    ap (λ (o : Option (ℕ × List ℕ)). o >>= (λ len. stretch_at len.0 len.1)) e
+    ∙ ap (λ (k : ℕ). stretch_at k rest) (sym same) ∙ found in
+    (message_reads.takes bytes (view x).0 (view x).1 fits read).parts

@@ -1,0 +1,7 @@
+pub mod Entries
+pub mod Fields
+pub mod Lengths
+pub mod Loaded
+pub mod OneSite
+pub mod Stored
+pub mod Takings

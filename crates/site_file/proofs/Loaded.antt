@@ -1,0 +1,262 @@
+-- A site's file, read from left to right, and its operations taken in.
+use Rattle.std.proofs.Common.{◌≡◌, ℕ, ◌+◌, ◌<◌, List, [], ◌∷◌, ◌++◌, length, take, get_or, Option, Some}
+use Rattle.std.proofs.Common.{None, refl, sym, ap, subst, ◌∙◌, append_assoc, length-append, arith}
+use Rattle.std.specs.Prelude.{All, Contains, IfOk, Result, Ok, Err}
+use Rattle.std.specs.List.{flat_map}
+use Rattle.std.proofs.lemmas.List.{append-nil, flat_map_more, get_or-append-add, get_or_append_left, take_all, take_at}
+use Rattle.std.proofs.lemmas.List.Elements.{All-contains, All-nil, All-push, Contains-append_left, Contains-append_right}
+use Rattle.std.proofs.Math.Seq.{get_or-append_seam}
+use Rattle.looks.specs.declared.refusal.Refusal.{Refusal}
+use Rattle.operations.specs.Operation.{Operation}
+use Rattle.operations.specs.Spelling.{HasSpelling, spelling}
+use Rattle.operations.proofs.Readers.{IsBytes, some_is}
+use Rattle.tree_order.specs.Good.{Good}
+use Rattle.set_laws.specs.Verdict.{IsNew, ready}
+use Rattle.set_laws.proofs.ByVerdict.{grows_by_verdict}
+use Rattle.texts.specs.SiteFiles.{HasSiteFile, IsSiteFileOf, entry_spelling, tag}
+use Rattle.texts.specs.Take.{Tells}
+use Rattle.texts.specs.Taking.{HasTaken, HasTakenAll, IsJudged}
+use Rattle.texts.specs.Text.{IsText}
+use Rattle.texts.specs.TextState.{TextState, empty_text}
+use Rattle.site_file.specs.declared.reading.Head.{Head}
+use Rattle.site_file.specs.Parts.{AreEntries, head_at, head_spelling, message_at, message_spelling}
+use Rattle.site_file.proofs.Entries.{entries_told, entry_again}
+use Rattle.site_file.proofs.Fields.{head_reads}
+use Rattle.site_file.proofs.OneSite.{file_parts, head_of, head_told}
+use Rattle.site_file.proofs.Takings.{same_room}
+
+-- so many messages were read, and what they tell was taken in; the bytes that are left
+pub record SoFar (start now : TextState) (entries : List ℕ) (n : ℕ) (rest : List ℕ) : Type 0 where
+  pub done : List Operation
+  pub counted : length done ≡ n
+  pub spelled : All HasSpelling done
+  pub taken : HasTakenAll start done now
+  pub parts : entries ≡ flat_map entry_spelling done ++ rest
+
+pub none_yet : (start : TextState) (entries : List ℕ) → IsText start → SoFar start start entries 0 entries
+none_yet start entries is = record {
+  done = [];
+  counted = refl;
+  spelled = All-nil HasSpelling;
+  taken = record {
+    is = is;
+    grown = ap (λ (ops : List Operation). record start { operations = ops }) (sym (append-nil start.operations));
+  };
+  parts = refl;
+}
+
+pub one_more : (start now new : TextState) (entries : List ℕ) (n : ℕ) (rest message behind : List ℕ)
+    → SoFar start now entries n rest → rest ≡ message_spelling message ++ behind
+    → (op : Operation) × Tells message op × HasTaken now op new → SoFar start new entries (n + 1) behind
+one_more start now new entries n rest message behind s e (op, tells, has) =
+    let more : List Operation → TextState = λ ops. record start { operations = ops; order = new.order } in
+    let front : List ℕ = flat_map entry_spelling s.done in
+    record {
+      done = s.done ++ op ∷ [];
+      counted = omega (arith, length-append s.done (op ∷ []), s.counted);
+      spelled = All-push HasSpelling s.done op s.spelled tells.valid;
+      taken = record {
+        is = has.is;
+        grown =
+            has.grown
+            ∙ ap (λ (t : TextState). record t { operations = t.operations ++ op ∷ []; order = new.order }) s.taken.grown
+            ∙ ap more (append_assoc start.operations s.done (op ∷ []));
+      };
+      parts =
+          s.parts ∙ ap (λ (r : List ℕ). front ++ r) (e ∙ ap (λ (m : List ℕ). message_spelling m ++ behind) tells.spelled)
+          ∙ sym (append_assoc front (entry_spelling op) behind)
+          ∙ ap (λ (l : List ℕ). l ++ behind) (flat_map_more entry_spelling [] s.done op);
+    }
+
+-- nothing waits
+pub nothing_waits : (start now : TextState) (entries : List ℕ) (n : ℕ) (rest : List ℕ)
+    → SoFar start now entries n rest → start ≡ empty_text start.text start.site → now.waiting_room ≡ []
+nothing_waits start now entries n rest s empty =
+    same_room start now s.done s.taken ∙ ap (λ (t : TextState). t.waiting_room) empty
+
+-- ---- where the bytes are the messages of a site's file
+
+-- the next message, which tells an operation that is ready, and what follows it
+pub record IsNext (now : TextState) (rest : List ℕ) : Type 0 where
+  pub op : Operation
+  pub todo : List Operation
+  pub parts : rest ≡ entry_spelling op ++ flat_map entry_spelling todo
+  pub spelled : HasSpelling op
+  pub judged : IsJudged now op ready
+
+module _ (start now : TextState) (entries : List ℕ) (n : ℕ) (rest : List ℕ) (s : SoFar start now entries n rest)
+    (empty : start ≡ empty_text start.text start.site) (ops : List Operation)
+    (tells : HasSiteFile start.text start.site ops) where
+  ops_now : now.operations ≡ s.done
+  ops_now =
+      ap (λ (t : TextState). t.operations) s.taken.grown
+      ∙ ap (λ (t : TextState). t.operations ++ s.done) empty
+
+  module _ (op : Operation) (todo : List Operation) (e : ops ≡ s.done ++ op ∷ todo) where
+    here : Contains ops op
+    here =
+        subst (λ (l : List Operation). Contains l op) (sym e)
+        (Contains-append_right s.done (op ∷ todo) op (0, omega arith, refl))
+
+    whole_good : Good ops
+    whole_good = subst Good (take_all (length ops) ops (omega arith)) (tells.in_order (length ops))
+
+    not_done : Contains s.done op → ⊥
+    not_done (k, lt, is) =
+        let len : length ops ≡ length s.done + length (op ∷ todo) =
+        ap length e ∙ length-append s.done (op ∷ todo) in
+        let first : get_or ops k op ≡ op =
+        ap (λ (l : List Operation). get_or l k op) e ∙ get_or_append_left s.done (op ∷ todo) op k lt ∙ is in
+        let second : get_or ops (length s.done) op ≡ op =
+        ap (λ (l : List Operation). get_or l (length s.done) op) e ∙ get_or-append_seam s.done op todo op in
+        tells.once k (length s.done) op lt (omega arith) (first ∙ sym second)
+
+    is_new : HasSpelling op → IsNew now.operations op
+    is_new spelled = record {
+      counted = spelled.seq.0;
+      unheld = λ h. let (o, held, site, seq) = h in
+          let done : Contains s.done o = subst (λ (l : List Operation). Contains l o) ops_now held in
+          let there : Contains ops o =
+          subst (λ (l : List Operation). Contains l o) (sym e) (Contains-append_left s.done (op ∷ todo) o done) in
+          let same : o ≡ op = whole_good.identities o op there here site seq in
+          not_done (subst (Contains s.done) same done);
+    }
+
+    next_good : Good (now.operations ++ op ∷ [])
+    next_good =
+        let first : List Operation = s.done ++ op ∷ [] in
+        let cut : take (length s.done + 1) ops ≡ first =
+        ap (take (length s.done + 1)) (e ∙ sym (append_assoc s.done (op ∷ []) todo))
+        ∙ take_at first todo (length s.done + 1) (length-append s.done (op ∷ [])) in
+        subst Good (cut ∙ ap (λ (l : List Operation). l ++ op ∷ []) (sym ops_now)) (tells.in_order (length s.done + 1))
+
+    pub next_judged : HasSpelling op → IsJudged now op ready
+    next_judged spelled =
+        let new : IsNew now.operations op = is_new spelled in (
+          All-contains (λ (o : Operation). o.text ≡ start.text) ops op tells.of_text here
+              ∙ sym (ap (λ (t : TextState). t.text) s.taken.grown),
+          new,
+          (grows_by_verdict now.operations op s.taken.is.good s.taken.is.identified new).ready.1 next_good,
+        )
+
+  module _ (count : ℕ) (are : AreEntries ops count entries) where
+    -- where messages are left, there is a next one
+    pub next_there : n < count → IsNext now rest
+    next_there lt =
+        let counted = s.counted in
+        let len = are.counted in
+        let found = entries_told s.done ops rest s.spelled are.spelled (omega arith) (sym s.parts ∙ are.parts) in
+        go found.0 found.1 found.2
+      where
+        go : (todo : List Operation) → ops ≡ s.done ++ todo → rest ≡ flat_map entry_spelling todo → IsNext now rest
+        go [] e parts = absurd (omega (arith, ap length e, length-append s.done [], s.counted, are.counted))
+        go (op ∷ todo) e parts =
+            let spelled : HasSpelling op = All-contains HasSpelling ops op are.spelled (here op todo e) in
+            record { op = op; todo = todo; parts = parts; spelled = spelled; judged = next_judged op todo e spelled }
+
+    -- no message is left where all were read
+    pub nothing_left : n ≡ count → rest ≡ []
+    nothing_left all =
+        let counted = s.counted in
+        let len = are.counted in
+        let found = entries_told s.done ops rest s.spelled are.spelled (omega arith) (sym s.parts ∙ are.parts) in
+        go found.0 found.1 found.2
+      where
+        go : (todo : List Operation) → ops ≡ s.done ++ todo → rest ≡ flat_map entry_spelling todo → rest ≡ []
+        go [] e parts = parts
+        go (op ∷ todo) e parts =
+            absurd (omega (arith, ap length e, length-append s.done (op ∷ todo), s.counted, are.counted))
+
+    -- so there is one where none was found
+    pub none_found : n < count → message_at rest ≡ None → ⊥
+    none_found lt none =
+        let next = next_there lt in
+        let again = entry_again next.op (flat_map entry_spelling next.todo) next.spelled in
+        let both : ◌≡◌ {A = Option (List ℕ × List ℕ)} None
+        (Some (spelling next.op, flat_map entry_spelling next.todo)) = sym none ∙ ap message_at next.parts ∙ again in
+        absurd cc
+
+    -- and it tells one that is ready
+    pub found_next : (message behind : List ℕ) → n < count → message_at rest ≡ Some (message, behind)
+        → (op : Operation) × Tells message op × IsJudged now op ready
+    found_next message behind lt found =
+        let next = next_there lt in
+        let again = entry_again next.op (flat_map entry_spelling next.todo) next.spelled in
+        let pair : ◌≡◌ {A = List ℕ × List ℕ} (message, behind) (spelling next.op, flat_map entry_spelling next.todo) =
+        some_is _ _ (sym found ∙ ap message_at next.parts ∙ again) in
+        (next.op, record { valid = next.spelled; spelled = ap (λ (p : List ℕ × List ℕ). p.0) pair }, next.judged)
+
+-- all messages were read
+pub all_read : (start now : TextState) (entries : List ℕ) (n count : ℕ) (rest : List ℕ)
+    → SoFar start now entries n rest → n ≡ count → rest ≡ []
+    → (ops : List Operation) × AreEntries ops count entries × HasTakenAll start ops now
+all_read start now entries n count rest s all none = (
+  s.done,
+  record {
+    counted = s.counted ∙ all;
+    spelled = s.spelled;
+    parts =
+        s.parts ∙ ap (λ (r : List ℕ). flat_map entry_spelling s.done ++ r) none
+        ∙ append-nil (flat_map entry_spelling s.done);
+  },
+  s.taken,
+)
+
+-- ---- the whole file
+
+-- what is to be known of the text that was made of the messages behind a head
+abbrev pub IsTextOf : Head → List ℕ → TextState → Type 0
+IsTextOf head entries r =
+    (r.text ≡ head.text) × (r.site ≡ head.site) × HasSiteFile r.text r.site r.operations
+    × AreEntries r.operations head.count entries × HasTakenAll (empty_text r.text r.site) r.operations r
+
+-- what stands behind others is bytes where all is
+pub fits_behind : (front rest : List ℕ) → IsBytes (front ++ rest) → IsBytes rest
+fits_behind front rest fits i =
+    subst (λ (b : ℕ). b < 256) (get_or-append-add front rest i 0) (fits (length front + i))
+
+module _ (file rest entries : List ℕ) (head : Head) (tagged : file ≡ tag ++ rest)
+    (found : head_at rest ≡ Some (head, entries)) where
+  -- it has this file
+  has_file : (r : TextState) → IsBytes file → IsTextOf head entries r → IsSiteFileOf r.text r.site r.operations file
+  has_file r fits (text, site, tells, are, taken) =
+      let behind : rest ≡ head_spelling head ++ entries =
+      (head_reads.takes rest head entries (fits_behind tag rest (subst IsBytes tagged fits)) found).parts in
+      let made : ℕ → ℕ → ℕ → Head = λ t s n. record { text = t; site = s; count = n } in
+      let same : head ≡ head_of r.text r.site r.operations =
+      ap (λ (t : ℕ). made t head.site head.count) (sym text)
+      ∙ ap (λ (s : ℕ). made r.text s head.count) (sym site)
+      ∙ ap (λ (n : ℕ). made r.text r.site n) (sym are.counted) in
+      record {
+        tells = tells;
+        spelled =
+            tagged ∙ ap (λ (l : List ℕ). tag ++ l) (behind ∙ ap (λ (h : Head). head_spelling h ++ entries) same
+            ∙ ap (λ (l : List ℕ). head_spelling (head_of r.text r.site r.operations) ++ l) are.parts)
+            ∙ sym (file_parts r.text r.site r.operations);
+      }
+
+  pub loaded : (r : Result TextState Refusal) → IsBytes file → IfOk r (IsTextOf head entries)
+      → IfOk r (λ t. IsSiteFileOf t.text t.site t.operations file
+      × HasTakenAll (empty_text t.text t.site) t.operations t)
+  loaded (Ok r) fits is = (has_file r fits is, is.4)
+  loaded (Err why) fits is = tt
+
+  -- where the messages are no site's, it is no site's file
+  pub no_file : ((ops : List Operation) → HasSiteFile head.text head.site ops → AreEntries ops head.count entries → ⊥)
+      → (text site : ℕ) (ops : List Operation) → IsSiteFileOf text site ops file → ⊥
+  no_file none text site ops of =
+      let same : ◌≡◌ {A = Head × List ℕ} (head, entries) (head_of text site ops, flat_map entry_spelling ops) =
+      some_is _ _ (sym found ∙ head_told text site ops file rest of tagged) in
+      let heads : head ≡ head_of text site ops = ap (λ (p : Head × List ℕ). p.0) same in
+      none ops (subst (λ (h : Head). HasSiteFile h.text h.site ops) (sym heads) of.tells) (record {
+        counted = ap (λ (h : Head). h.count) (sym heads);
+        spelled = of.tells.spelled;
+        parts = ap (λ (p : Head × List ℕ). p.1) same;
+      })
+
+-- where no head stands behind the tag, it is no site's file
+pub no_head : (file rest : List ℕ) → file ≡ tag ++ rest → head_at rest ≡ None → (text site : ℕ)
+    (ops : List Operation) → IsSiteFileOf text site ops file → ⊥
+no_head file rest tagged none text site ops of =
+    let same : ◌≡◌ {A = Option (Head × List ℕ)} None (Some (head_of text site ops, flat_map entry_spelling ops)) =
+    sym none ∙ head_told text site ops file rest of tagged in absurd cc

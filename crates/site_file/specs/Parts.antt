@@ -1,0 +1,51 @@
+-- What private functions read of a site's file, and write.
+use Rattle.std.specs.Prelude.{◌≡◌, ℕ, ◌^◌, ◌<◌, List, ◌++◌, length, All, Option, Some}
+use Rattle.std.specs.Int.{w16, w32}
+use Rattle.std.specs.List.{flat_map}
+use Rattle.operations.specs.Operation.{Operation}
+use Rattle.operations.specs.Reading.{◌>>=◌, number_at, positive_at, stretch_at}
+use Rattle.operations.specs.Spelling.{HasSpelling, number_spelling}
+use Rattle.texts.specs.SiteFiles.{IsNumber, entry_spelling}
+use Rattle.texts.specs.declared.took.Took.{Took}
+use Rattle.texts.specs.declared.took.Took.TheVariants.{Taken, Repeat, Waits}
+use Rattle.site_file.specs.declared.reading.Head.{Head}
+
+-- what stands between the tag and the messages: the text, the site, how many messages there are
+abbrev pub head_spelling : Head → List ℕ
+head_spelling h = number_spelling w16 h.text ++ number_spelling w16 h.site ++ number_spelling w32 h.count
+
+-- the text, the site and the count are in range
+pub record IsHead (h : Head) : Type 0 where
+  pub text : IsNumber h.text
+  pub site : IsNumber h.site
+  pub count : h.count < 2 ^ 32
+
+-- the text, the site, how many messages there are
+unfoldable pub head_at : List ℕ → Option (Head × List ℕ)
+head_at bytes = do
+  text ← positive_at w16 bytes
+  site ← positive_at w16 text.1
+  count ← number_at w32 site.1
+  Some (record { text = text.0; site = site.0; count = count.0 }, count.1)
+
+-- a message behind its length
+abbrev pub message_spelling : List ℕ → List ℕ
+message_spelling message = number_spelling w16 (length message) ++ message
+
+-- its length, and a message of so many bytes
+unfoldable pub message_at : List ℕ → Option (List ℕ × List ℕ)
+message_at bytes = do
+  len ← number_at w16 bytes
+  stretch_at len.0 len.1
+
+-- the bytes are the messages of so many operations
+pub record AreEntries (ops : List Operation) (count : ℕ) (bytes : List ℕ) : Type 0 where
+  pub counted : length ops ≡ count
+  pub spelled : All HasSpelling ops
+  pub parts : bytes ≡ flat_map entry_spelling ops
+
+-- an operation was taken in, rather than that it is held already or waits
+abbrev pub IsTaken : Took → Type 0
+IsTaken (Taken drained dropped stopped) = Unit {0}
+IsTaken Repeat = ⊥
+IsTaken Waits = ⊥

@@ -1,0 +1,11 @@
+//! Sites as files: a text with all that its site has taken in, as messages in the order of their taking.
+#![tactic(auto)]
+
+mod laws;
+mod loading;
+mod reading;
+mod storing;
+
+pub use laws::one_site;
+pub use loading::load_site;
+pub use storing::store_site;

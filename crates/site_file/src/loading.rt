@@ -1,0 +1,110 @@
+ghost use Rattle.std.specs.Prelude.{◌≡◌, ◌⊎◌, ℕ, List, [], IfErr, IfOk, IsErrOf, OnOk};
+ghost use Rattle.operations.specs.Operation.{Operation};
+ghost use Rattle.set_laws.specs.Verdict.{ready};
+ghost use Rattle.texts.specs.SiteFiles.{HasSiteFile, IsNoSiteFile, IsSiteFileOf};
+ghost use Rattle.texts.specs.Take.{Tells};
+ghost use Rattle.texts.specs.Taking.{HasTaken, HasTakenAll, IsJudged};
+ghost use Rattle.texts.specs.TextState.{empty_text};
+ghost use Rattle.site_file.specs.Parts.{AreEntries, IsTaken};
+
+use crate::reading::{Head, behind_tag, head_at, message_at};
+use looks::Refusal;
+use std::alloc::Global;
+use texts::{Replica, Took};
+
+// Why a file is refused, one of whose messages is refused for this.
+fn refusal_of_file(why: Refusal) -> Refusal
+    ensures short { (why ≡ Refusal.OutOfMemory) → result ≡ Refusal.OutOfMemory }
+    ensures value { (result ≡ Refusal.BadFile) ⊎ (result ≡ Refusal.OutOfMemory) }
+{
+    match why {
+        Refusal::OutOfMemory => Refusal::OutOfMemory,
+        _ => Refusal::BadFile,
+    }
+}
+
+// What a file's message does is that its operation is taken in. Refused `BadFile` alone.
+fn only_taken(took: Took) -> Result<(), Refusal>
+    ensures ok { OnOk result (IsTaken took) }
+    ensures errors { IfErr result (λ e. (e ≡ Refusal.BadFile) × (¬ IsTaken took)) }
+{
+    match took {
+        Took::Taken { .. } => Ok(()),
+        Took::Repeat | Took::Waits => Err(Refusal::BadFile),
+    }
+}
+
+// Takes in the operation of a message. Refused `BadFile` where it tells none that is ready.
+fn take_next(replica: &mut Replica, message: &[u8]) -> Result<(), Refusal>
+    requires { replica.old.waiting_room ≡ [] }
+    ensures ok { OnOk result ((op : Operation) × Tells message.now op × HasTaken replica.old op replica.new) }
+    ensures refused { IsErrOf result Refusal.BadFile → (op : Operation) → Tells message.now op
+        → IsJudged replica.old op ready → ⊥ }
+    ensures errors { IfErr result (λ e. (e ≡ Refusal.BadFile) ⊎ (e ≡ Refusal.OutOfMemory)) }
+{
+    match replica.take(message) {
+        Ok(took) => only_taken(took),
+        Err(why) => Err(refusal_of_file(why)),
+    }
+}
+
+// Takes in the operations of so many messages, behind which nothing may follow.
+fn take_all(replica: &mut Replica, count: u32, entries: &[u8]) -> Result<(), Refusal>
+    requires { replica.old ≡ empty_text replica.old.text replica.old.site }
+    ensures ok { OnOk result ((ops : List Operation) × AreEntries ops count entries.now
+        × HasTakenAll replica.old ops replica.new) }
+    ensures refused { IsErrOf result Refusal.BadFile → (ops : List Operation)
+        → HasSiteFile replica.old.text replica.old.site ops → AreEntries ops count entries.now → ⊥ }
+    ensures errors { IfErr result (λ e. (e ≡ Refusal.BadFile) ⊎ (e ≡ Refusal.OutOfMemory)) }
+{
+    replica.is_text();
+    let mut rest = entries;
+    for _ in 0..count {
+        let Some((message, behind)) = message_at(rest) else {
+            return Err(Refusal::BadFile);
+        };
+        take_next(replica, message)?;
+        rest = behind;
+    }
+    if !rest.is_empty() {
+        return Err(Refusal::BadFile);
+    }
+    Ok(())
+}
+
+// The text of a file, of which these bytes stand behind its head.
+fn text_of(alloc: Global, head: Head, entries: &[u8]) -> Result<Replica, Refusal>
+    ensures ok { IfOk result (λ r. (r.text ≡ head.text) × (r.site ≡ head.site)
+        × HasSiteFile r.text r.site r.operations × AreEntries r.operations head.count entries.now
+        × HasTakenAll (empty_text r.text r.site) r.operations r) }
+    ensures refused { IsErrOf result Refusal.BadFile → (ops : List Operation)
+        → HasSiteFile head.text head.site ops → AreEntries ops head.count entries.now → ⊥ }
+    ensures errors { IfErr result (λ e. (e ≡ Refusal.BadFile) ⊎ (e ≡ Refusal.OutOfMemory)) }
+{
+    let mut replica = Replica::new(alloc, head.text, head.site)?;
+    take_all(&mut replica, head.count, entries)?;
+    replica.are_taken_once();
+    replica.is_text();
+    Ok(replica)
+}
+
+/// The text of a site's file, as its site kept it: with the same operations, taken in in the same order. Nothing waits
+/// for it, and nothing was cut last.
+///
+/// Refused `BadFile` where no text of a site has this file; `OutOfMemory` may come in the place of that and of all else. The time, and the
+/// memory, are those of taking the messages in. This project's own.
+pub fn load_site(alloc: Global, bytes: &[u8]) -> Result<Replica, Refusal>
+    // What is loaded has this file, and nothing else was done to it.
+    ensures ok { IfOk result (λ r. IsSiteFileOf r.text r.site r.operations bytes.now
+        × HasTakenAll (empty_text r.text r.site) r.operations r) }
+    ensures refused { IsErrOf result Refusal.BadFile → IsNoSiteFile bytes.now }
+    ensures errors { IfErr result (λ e. (e ≡ Refusal.BadFile) ⊎ (e ≡ Refusal.OutOfMemory)) }
+{
+    let Some(rest) = behind_tag(bytes) else {
+        return Err(Refusal::BadFile);
+    };
+    let Some((head, entries)) = head_at(rest) else {
+        return Err(Refusal::BadFile);
+    };
+    text_of(alloc, head, entries)
+}

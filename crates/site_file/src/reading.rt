@@ -1,0 +1,93 @@
+//! The parts of a site's file, each with the bytes behind it.
+
+ghost use Rattle.std.specs.Prelude.{◌≡◌, ◌≢◌, ◌++◌, take, IfSome, MatchOption};
+ghost use Rattle.std.specs.Int.{w16, w32};
+ghost use Rattle.operations.specs.Reading.{Finds, number_at, positive_at, stretch_at};
+ghost use Rattle.texts.specs.SiteFiles.{tag};
+ghost use Rattle.site_file.specs.Parts.{head_at, message_at, message_spelling};
+
+use char_files::{SiteNo, TextNo};
+
+/// What stands between the tag and the messages.
+#[derive(Clone, Copy, Drop)]
+pub(crate) struct Head {
+    /// The text's number.
+    pub(crate) text: TextNo,
+    /// The site whose text it is.
+    pub(crate) site: SiteNo,
+    /// How many messages there are.
+    pub(crate) count: u32,
+}
+
+fn u16_at(bytes: &[u8]) -> Option<(u16, &[u8])>
+    ensures { Finds (λ x. (x.0, x.1.now)) result (number_at w16 bytes.now) }
+{
+    let (front, rest) = bytes.split_first_chunk::<2>()?;
+    Some((u16::from_be_bytes(*front), rest))
+}
+
+fn u32_at(bytes: &[u8]) -> Option<(u32, &[u8])>
+    ensures { Finds (λ x. (x.0, x.1.now)) result (number_at w32 bytes.now) }
+{
+    let (front, rest) = bytes.split_first_chunk::<4>()?;
+    Some((u32::from_be_bytes(*front), rest))
+}
+
+fn stretch_at(len: usize, bytes: &[u8]) -> Option<(&[u8], &[u8])>
+    ensures { Finds (λ x. (x.0.now, x.1.now)) result (stretch_at len bytes.now) }
+{
+    if bytes.len() < len {
+        return None;
+    }
+    Some(bytes.split_at(len))
+}
+
+#[tactic(auto, unfolding(operations::specs::Reading::positive_at))]
+fn text_at(bytes: &[u8]) -> Option<(TextNo, &[u8])>
+    ensures { Finds (λ x. (x.0, x.1.now)) result (positive_at w16 bytes.now) }
+{
+    let (number, rest) = u16_at(bytes)?;
+    let text = TextNo::new(number)?;
+    Some((text, rest))
+}
+
+#[tactic(auto, unfolding(operations::specs::Reading::positive_at))]
+fn site_at(bytes: &[u8]) -> Option<(SiteNo, &[u8])>
+    ensures { Finds (λ x. (x.0, x.1.now)) result (positive_at w16 bytes.now) }
+{
+    let (number, rest) = u16_at(bytes)?;
+    let site = SiteNo::new(number)?;
+    Some((site, rest))
+}
+
+/// What stands behind the tag, where the file begins with it.
+pub(crate) fn behind_tag(bytes: &[u8]) -> Option<&[u8]>
+    ensures { MatchOption result (take 4 bytes.now ≢ tag) (λ rest. bytes.now ≡ tag ++ rest.now) }
+{
+    bytes.strip_prefix(b"OTS1")
+}
+
+/// The text, the site, and how many messages there are.
+#[tactic(auto, unfolding(crate::specs::Parts::head_at))]
+pub(crate) fn head_at(bytes: &[u8]) -> Option<(Head, &[u8])>
+    ensures { Finds (λ x. (x.0, x.1.now)) result (head_at bytes.now) }
+{
+    let Some((text, rest)) = text_at(bytes) else {
+        return None;
+    };
+    let Some((site, rest)) = site_at(rest) else {
+        return None;
+    };
+    let (count, rest) = u32_at(rest)?;
+    Some((Head { text, site, count }, rest))
+}
+
+/// A message that stands behind its length. None of it is copied.
+#[tactic(auto, unfolding(crate::specs::Parts::message_at))]
+pub(crate) fn message_at(bytes: &[u8]) -> Option<(&[u8], &[u8])>
+    ensures found { Finds (λ x. (x.0.now, x.1.now)) result (message_at bytes.now) }
+    ensures parts { IfSome result (λ x. bytes.now ≡ message_spelling x.0.now ++ x.1.now) }
+{
+    let (len, rest) = u16_at(bytes)?;
+    stretch_at(usize::from(len), rest)
+}

@@ -1,0 +1,108 @@
+ghost use Rattle.std.specs.Prelude.{◌≡◌, ◌<◌, ◌≤◌, ◌++◌, ◌↔◌, ◌⊎◌, All, length, IfErr, IsErrOf, OnErr, OnOk};
+ghost use Rattle.std.specs.Int.{w16, w32};
+ghost use Rattle.std.specs.List.{flat_map};
+ghost use Rattle.operations.specs.Seen.{Appends};
+ghost use Rattle.operations.specs.Spelling.{HasSpelling, number_spelling};
+ghost use Rattle.texts.specs.SiteFiles.{HasSiteFile, IsSiteFileOf, entry_spelling, site_bytes, tag};
+ghost use Rattle.texts.specs.declared.TheConstants.{MAX_KEPT};
+
+use byteorder::{BigEndian, ByteOrder};
+use looks::Refusal;
+use operations::{Op, encode};
+use std::alloc::AllocError;
+use texts::{MAX_KEPT, Replica};
+
+#[tactic(auto, unfolding(operations::specs::Spelling::number_spelling))]
+fn put_u16(out: &mut Vec<u8>, number: u16) -> Result<(), AllocError>
+    ensures { Appends result out.old.items out.new.items (number_spelling w16 number) }
+{
+    let mut bytes = [0; 2];
+    BigEndian::write_u16(&mut bytes, number);
+    out.extend_from_slice(&bytes)
+}
+
+#[tactic(auto, unfolding(operations::specs::Spelling::number_spelling))]
+fn put_u32(out: &mut Vec<u8>, number: u32) -> Result<(), AllocError>
+    ensures { Appends result out.old.items out.new.items (number_spelling w32 number) }
+{
+    let mut bytes = [0; 4];
+    BigEndian::write_u32(&mut bytes, number);
+    out.extend_from_slice(&bytes)
+}
+
+// What stands ahead of the messages.
+fn put_head(out: &mut Vec<u8>, text: u16, site: u16, count: u32) -> Result<(), AllocError>
+    ensures { Appends result out.old.items out.new.items
+        (tag ++ number_spelling w16 text ++ number_spelling w16 site ++ number_spelling w32 count) }
+{
+    out.extend_from_slice(b"OTS1")?;
+    put_u16(out, text)?;
+    put_u16(out, site)?;
+    put_u32(out, count)
+}
+
+// A message behind its length. It is put together in `message`, whose own bytes are lost.
+fn put_entry(out: &mut Vec<u8>, message: &mut Vec<u8>, op: &Op) -> Result<(), AllocError>
+    ensures entry { Appends result out.old.items out.new.items (entry_spelling op.now) }
+    ensures spelled { HasSpelling op.now }
+{
+    op.has_spelling();
+    message.clear();
+    if encode(op, message).is_err() {
+        return Err(AllocError);
+    }
+    put_u16(out, message.len() as u16)?;
+    out.extend_from_slice(message)
+}
+
+// All messages of the text, each behind its length.
+fn put_entries(out: &mut Vec<u8>, replica: &Replica) -> Result<(), AllocError>
+    ensures entries { Appends result out.old.items out.new.items
+        (flat_map entry_spelling replica.now.operations) }
+    ensures spelled { OnOk result (All HasSpelling replica.now.operations) }
+{
+    let mut message = Vec::new(*out.allocator());
+    for place in 0..replica.taken_len() {
+        put_entry(out, &mut message, replica.taken(place))?;
+    }
+    Ok(())
+}
+
+// The whole file. Where memory is refused, some of it may stand at the end.
+fn put_site(out: &mut Vec<u8>, replica: &Replica) -> Result<(), AllocError>
+    requires { length replica.now.operations ≤ MAX_KEPT }
+    ensures bytes { Appends result out.old.items out.new.items
+        (site_bytes replica.now.text replica.now.site replica.now.operations) }
+    ensures tells { OnOk result (HasSiteFile replica.now.text replica.now.site replica.now.operations) }
+{
+    replica.is_text();
+    replica.are_taken_once();
+    let (text, site) = (replica.text().get(), replica.site().get());
+    put_head(out, text, site, replica.taken_len() as u32)?;
+    put_entries(out, replica)
+}
+
+/// Appends the site's file of a text: all that it has taken in, as messages in the order of their taking.
+///
+/// Refused `BadFile` where these are more than 2^32 - 1, else `OutOfMemory` where memory is; the vector's bytes are then
+/// as they were. What waits, what was cut last, and which changes were told aren't kept. This project's own.
+pub fn store_site(replica: &Replica, file: &mut Vec<u8>) -> Result<(), Refusal>
+    ensures ok { OnOk result (file.new.items
+        ≡ file.old.items ++ site_bytes replica.now.text replica.now.site replica.now.operations) }
+    // What was stored loads as itself.
+    ensures loads { OnOk result (IsSiteFileOf replica.now.text replica.now.site replica.now.operations
+        (site_bytes replica.now.text replica.now.site replica.now.operations)) }
+    ensures long { IsErrOf result Refusal.BadFile ↔ (MAX_KEPT < length replica.now.operations) }
+    ensures errors { IfErr result (λ e. (e ≡ Refusal.BadFile) ⊎ (e ≡ Refusal.OutOfMemory)) }
+    ensures err { OnErr result (file.new.items ≡ file.old.items) }
+{
+    if MAX_KEPT < replica.taken_len() {
+        return Err(Refusal::BadFile);
+    }
+    let start = file.len();
+    if put_site(file, replica).is_err() {
+        file.truncate(start);
+        return Err(Refusal::OutOfMemory);
+    }
+    Ok(())
+}
