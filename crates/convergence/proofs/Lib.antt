@@ -7,5 +7,6 @@ pub mod OneMerge
 pub mod OneWay
 pub mod OtherSites
 pub mod OwnOperations
+mod Reopened
 pub mod Staying
 pub mod Unmentioned

@@ -11,6 +11,7 @@ use Rattle.texts.specs.Edit.{Edit, after, is_in_text, plan}
 use Rattle.texts.specs.Outcome.{count_standing}
 use Rattle.texts.specs.Merge.{Merges, MergesShort, news}
 use Rattle.texts.specs.Take.{Takes, TakesShort, Tells}
+use Rattle.texts.specs.Taking.{HasTakenAll}
 use Rattle.texts.specs.Text.{IsText}
 use Rattle.texts.specs.TextState.{TextState, empty_text, with_room}
 use Rattle.texts.specs.declared.merge_refusal.MergeRefusal.{MergeRefusal}
@@ -34,6 +35,11 @@ is_handed_in (Err why) = false
 -- a new text keeps nothing
 abbrev pub NothingIsKept : Type 0
 NothingIsKept = (text site : ℕ) → Keeps (empty_text text site) []
+
+-- a text that began as its site's file tells keeps what that told, and nothing else
+abbrev pub KeptByReopening : Type 0
+KeptByReopening =
+    (text site : ℕ) (ops : List Operation) (t : TextState) → HasTakenAll (empty_text text site) ops t → Keeps t ops
 
 -- a message is kept with all before it where it counts among those handed in, and changes nothing of what is kept
 -- where it doesn't

@@ -1,13 +1,18 @@
 //! What becomes of all that was handed in to a replica.
 
 ghost use Rattle.convergence.specs.Keeping.{KeptByDraining, KeptByEdits, KeptByForgetting, KeptByMerging};
-ghost use Rattle.convergence.specs.Keeping.{KeptByTaking, NothingIsKept, StayWaiting, WhatIsKeptIsClosed};
+ghost use Rattle.convergence.specs.Keeping.{KeptByReopening, KeptByTaking, NothingIsKept, StayWaiting, WhatIsKeptIsClosed};
 
 use set_laws::closures::kept_and_waiting_is_closed;
 
 /// A law: a new text keeps nothing.
 pub fn nothing_is_kept()
     ensures { NothingIsKept }
+{}
+
+/// A law: a text that began as its site's file tells keeps what that told, and nothing else.
+pub fn reopening_keeps()
+    ensures { KeptByReopening }
 {}
 
 /// A law: draining the room leaves all kept that was handed in.

@@ -1,21 +1,21 @@
 -- The whole machine of events: texts, screens, commands and files. What the machine of texts says of a text's events stands
 -- here word for word; what an event does to a screen or to a file stands beside it.
-use Rattle.std.specs.Prelude.{◌≡◌, ◌≢◌, ℕ, ℤ, pos, negsuc, ◌+◌, ◌-◌, ◌≤◌, ◌<◌, ◌⊎◌, ◌==◌, ◌&&◌, not, nat_le, nat_lt}
+use Rattle.std.specs.Prelude.{◌≡◌, ◌≢◌, ℕ, ℤ, pos, negsuc, ◌+◌, ◌-◌, ◌≤◌, ◌<◌, ◌⊎◌, ◌==◌, ◌&&◌, nat_le, nat_lt}
 use Rattle.std.specs.Prelude.{if◌then◌else◌, Bool, true, false, MatchBool, MatchOption, List, [], ◌∷◌, ◌++◌, length}
 use Rattle.std.specs.Prelude.{Option, Some, None, option_map, Result, Ok, Err, slice_get, slice_set}
-use Rattle.std.specs.Prelude.{codes, IsOk, MatchResult, nat_eq, replicate}
-use Rattle.std.specs.Cmp.Lexicographic.{pointwise}
-use Rattle.std.specs.List.{list_all}
+use Rattle.std.specs.Prelude.{IsFalse, IsOk, MatchResult, replicate}
 use Rattle.std.specs.Option.{option_and_then, option_map_or}
 use Rattle.looks.specs.Looks.{plain_looks}
 use Rattle.looks.specs.Sel.{Selection}
 use Rattle.looks.specs.declared.looks.Looks.{Looks}
 use Rattle.looks.specs.declared.colour.TheConstants.{MAX_COLOUR}
 use Rattle.looks.specs.declared.refusal.Refusal.{Refusal}
-use Rattle.looks.specs.declared.refusal.Refusal.TheVariants.{BadFile, BadParameter, NoCaret, NoSelection, NoViewer, OutOfMemory}
-use Rattle.looks.specs.declared.refusal.Refusal.TheVariants.{ReadFault, UnknownCommand, WriteFault}
+use Rattle.looks.specs.declared.refusal.Refusal.TheVariants.{BadFile, BadParameter, Conflict, NoCaret, NoSelection, NoViewer, OutOfMemory}
+use Rattle.looks.specs.declared.refusal.Refusal.TheVariants.{ReadFault, UnknownCommand, WriteFault, WrongText}
 use Rattle.char_files.specs.Stretch.{Item}
 use Rattle.char_files.specs.declared.name.Anchor.{Anchor}
+use Rattle.operations.specs.Operation.{Operation}
+use Rattle.operations.specs.Reading.{is_font_name}
 use Rattle.reader_scanner.specs.Tokens.{IsTokenAt}
 use Rattle.reader_scanner.specs.declared.token.Token.{Token}
 use Rattle.reader_scanner.specs.declared.token.TokenValue.{TokenValue}
@@ -23,7 +23,10 @@ use Rattle.reader_scanner.specs.declared.token.TokenValue.TheVariants as value
 use Rattle.text_file.specs.Files.{IsFileOf, IsNoFile, formatted}
 use Rattle.text_file.specs.declared.TheConstants.{MAX_TEXT as MAX_STORED}
 use Rattle.texts.specs.Edit.{Edit, anchor_before, insertion, looks_change, recalling, restoration}
-use Rattle.texts.specs.TextState.{TextState, all_told, shown_items, shown_of, with_room}
+use Rattle.texts.specs.SiteFiles.{IsNoSiteFile, IsSiteFileOf, site_bytes}
+use Rattle.texts.specs.Taking.{HasTakenAll}
+use Rattle.texts.specs.TextState.{TextState, all_told, empty_text, shown_items, shown_of, with_room}
+use Rattle.texts.specs.declared.TheConstants.{MAX_KEPT}
 use Rattle.viewers.specs.Screen.{area_of}
 use Rattle.viewers.specs.declared.screen.Area.{Area}
 use Rattle.viewers.specs.declared.screen.Track.TheVariants.{User, System}
@@ -33,6 +36,7 @@ use Rattle.command_words.specs.declared.calls.Call.{Call}
 use Rattle.command_words.specs.declared.command.Command.{Command}
 use Rattle.command_words.specs.declared.command.Command.TheVariants as command
 use Rattle.shelf.specs.Files.{Files}
+use Rattle.shelf.specs.Names.{is_file_name}
 use Rattle.machine.specs.DeskState.{DeskState, InText, with_text}
 use Rattle.machine.specs.Machine.{Does, Event, InDesk, IsTextAt, Reply, Short, State, copy, edit, merge, new_state, query}
 use Rattle.machine.specs.Machine.{refuses, settle, take, unknown}
@@ -59,7 +63,8 @@ pub data View : Type 0 where
   show : View
 
 -- What a desk is asked beside the events of its texts. To put characters in, or the recalled stretch, or a file's text, is
--- done at the caret, and a search begins there; a command that can't be done is refused for this.
+-- done at the caret, and a search begins there; a text that is kept is written to its site's file with all that it has taken
+-- in, and a text in which nothing was done yet begins as such a file tells; a command that can't be done is refused for this.
 pub data Task : Type 0 where
   refuse : (why : Refusal) → Task
   put : (items : List Item) → Task
@@ -71,6 +76,8 @@ pub data Task : Type 0 where
   forget : (text : ℕ) → Task
   arrange : (a : Arrangement) → Task
   print : (v : View) → Task
+  keep : (text : ℕ) (name : List ℕ) → Task
+  reopen : (text : ℕ) (name : List ℕ) → Task
 
 -- What may happen: an event of texts; a task of a desk; a click into a cell of a desk's screen.
 pub data RunEvent : Type 0 where
@@ -213,13 +220,53 @@ LoadsShort s i w name went_well c window t r new =
     × (((¬ IsNoFile file) × Refuses s OutOfMemory r new)
     ⊎ ((items : List Item) × IsFileOf items file × AtCaret Short s i w c window t (λ p. insertion p items) r new))
 
--- a store: the text is too long for a file; or the file is as the text is shown; or it wasn't written
+-- a file is written: there is more than the most that one may tell; or it is so then; or it wasn't written
+abbrev pub Writes : RunState → (much most : ℕ) → (name file : List ℕ) → Part → RunReply → RunState → Type 0
+Writes s much most name file untouched r new = (most < much) × Refuses s BadFile r new
+Writes s much most name file went_well r new = (much ≤ most) × (r ≡ done) × FileBecomes s name (Some file) new
+Writes s much most name file (failed left) r new =
+    (much ≤ most) × (r ≡ of_text (refuses WriteFault)) × FileBecomes s name left new
+
+-- a store of what a text shows
 abbrev pub Stores : RunState → TextState → (name : List ℕ) → Part → RunReply → RunState → Type 0
-Stores s t name untouched r new = (MAX_STORED < length (shown_items t)) × Refuses s BadFile r new
-Stores s t name went_well r new =
-    (length (shown_items t) ≤ MAX_STORED) × (r ≡ done) × FileBecomes s name (Some (formatted (shown_items t))) new
-Stores s t name (failed left) r new =
-    (length (shown_items t) ≤ MAX_STORED) × (r ≡ of_text (refuses WriteFault)) × FileBecomes s name left new
+Stores s t name part r new = Writes s (length (shown_items t)) MAX_STORED name (formatted (shown_items t)) part r new
+
+-- a keeping of all that a text has taken in
+abbrev pub Keeps : RunState → TextState → (name : List ℕ) → Part → RunReply → RunState → Type 0
+Keeps s t name part r new =
+    Writes s (length t.operations) MAX_KEPT name (site_bytes t.text t.site t.operations) part r new
+
+-- whether a text has taken something in, or something waits for it
+abbrev pub has_begun : TextState → Bool
+has_begun t = nat_lt 0 (length t.operations + length t.waiting_room)
+
+-- the text of this number begins anew, and has taken these operations in, and told its changes
+abbrev pub BeginsWith : RunState → (i text : ℕ) → List Operation → RunReply → RunState → Type 0
+BeginsWith s i text ops r new =
+    (mid : State)
+    × InDesk (λ d d'. InText (λ t u. HasTakenAll (empty_text t.text t.site) ops u) d text d') s.texts i [] mid
+    × (r ≡ done) × (new ≡ record s { texts = told_at mid i text })
+
+-- a text begins as a file tells: that is no site's file, or another text's or site's; or it is this one's
+abbrev pub BeginsAs : RunState → (i text : ℕ) → TextState → (file : List ℕ) → RunReply → RunState → Type 0
+BeginsAs s i text t file r new =
+    (IsNoSiteFile file × Refuses s BadFile r new)
+    ⊎ ((of_text of_site : ℕ) × (ops : List Operation) × IsSiteFileOf of_text of_site ops file
+    × MatchBool (of_text == t.text && of_site == t.site) (BeginsWith s i text ops r new) (Refuses s WrongText r new))
+
+-- a reopening of a text in which nothing was done yet: the file wasn't read; or the text begins as it tells
+abbrev pub Reopens : RunState → (i text : ℕ) → TextState → (name : List ℕ) → Part → RunReply → RunState → Type 0
+Reopens s i text t name untouched r new = ⊥
+Reopens s i text t name (failed left) r new = Refuses s ReadFault r new
+Reopens s i text t name went_well r new =
+    (file : List ℕ) × (s.files name ≡ Some file) × BeginsAs s i text t file r new
+
+-- the same where memory was refused: nothing was read, or a file was
+abbrev pub ReopensShort : RunState → (name : List ℕ) → Part → RunReply → RunState → Type 0
+ReopensShort s name untouched r new = Refuses s OutOfMemory r new
+ReopensShort s name (failed left) r new = ⊥
+ReopensShort s name went_well r new =
+    (file : List ℕ) × (s.files name ≡ Some file) × Refuses s OutOfMemory r new
 
 -- an emptying of the room of a text
 abbrev pub Forgets : RunState → (i text : ℕ) → RunReply → RunState → Type 0
@@ -240,7 +287,8 @@ lines_of_view d w marks = marks_lines d w
 lines_of_view d w views = views_lines d w
 lines_of_view d w show = screen_lines d w
 
--- What a task does where memory is there, with the files' part in it. A load alone reads a file, and a store writes one.
+-- What a task does where memory is there, with the files' part in it. A load and a reopening alone read a file, and a store and
+-- a keeping write one.
 abbrev pub DoesTask : RunState → (i : ℕ) → DeskState → Screened → Task → Part → RunReply → RunState → Type 0
 DoesTask s i d w (refuse why) part r new = (part ≡ untouched) × Refuses s why r new
 DoesTask s i d w (put items) part r new =
@@ -259,9 +307,14 @@ DoesTask s i d w (forget text) part r new = (part ≡ untouched) × Forgets s i 
 DoesTask s i d w (arrange a) part r new = (part ≡ untouched) × Arranges s i d w a r new
 DoesTask s i d w (print v) part r new =
     (part ≡ untouched) × (r ≡ prints_screen (lines_of_view d w v)) × (new ≡ s)
+DoesTask s i d w (keep text name) part r new = (t : TextState) × IsTextAt s.texts i text t × Keeps s t name part r new
+DoesTask s i d w (reopen text name) part r new =
+    (t : TextState) × IsTextAt s.texts i text t
+    × MatchBool (has_begun t) ((part ≡ untouched) × Refuses s Conflict r new) (Reopens s i text t name part r new)
 
--- What a task does where memory was refused: an edit in the ways of the machine of texts; a load, a store, an opening and a
--- print besides with nothing done, behind what is tested ahead of the memory. The other tasks take none.
+-- What a task does where memory was refused: an edit in the ways of the machine of texts; a load, a store, a keeping, a
+-- reopening, an opening and a print besides with nothing done, behind what is tested ahead of the memory. The other tasks take
+-- none.
 abbrev pub ShortTask : RunState → (i : ℕ) → DeskState → Screened → Task → Part → RunReply → RunState → Type 0
 ShortTask s i d w (refuse why) part r new = ⊥
 ShortTask s i d w (put items) part r new =
@@ -281,16 +334,11 @@ ShortTask s i d w (arrange (open_in track text row)) part r new =
     (part ≡ untouched) × IsOk (arranged d w (open_in track text row)) × Refuses s OutOfMemory r new
 ShortTask s i d w (arrange a) part r new = ⊥
 ShortTask s i d w (print v) part r new = (part ≡ untouched) × Refuses s OutOfMemory r new
-
--- a byte of a file's name in a string
-abbrev pub is_file_byte : ℕ → Bool
-is_file_byte b = nat_le 32 b && nat_le b 126 && not (b == 47)
-
--- whether these bytes are a file's name: one at least, and neither this folder's nor that above it
-abbrev pub is_file_name : List ℕ → Bool
-is_file_name name =
-    nat_lt 0 (length name) && list_all is_file_byte name && not (pointwise nat_eq name (codes "."))
-    && not (pointwise nat_eq name (codes ".."))
+ShortTask s i d w (keep text name) part r new =
+    (part ≡ untouched) × ((t : TextState) × IsTextAt s.texts i text t × (length t.operations ≤ MAX_KEPT))
+    × Refuses s OutOfMemory r new
+ShortTask s i d w (reopen text name) part r new =
+    ((t : TextState) × IsTextAt s.texts i text t × IsFalse (has_begun t)) × ReopensShort s name part r new
 
 -- the number of a text that a value tells
 abbrev pub text_told : TokenValue → Option ℕ
@@ -305,7 +353,8 @@ file_told other = None
 
 -- the bytes to search for that a value tells
 abbrev pub bytes_told : TokenValue → Option (List ℕ)
-bytes_told (value.Name name) = Some name
+bytes_told (value.Name []) = None
+bytes_told (value.Name (b ∷ rest)) = Some (b ∷ rest)
 bytes_told (value.String []) = None
 bytes_told (value.String (b ∷ rest)) = Some (b ∷ rest)
 bytes_told (value.Char b) = Some (b ∷ [])
@@ -318,7 +367,8 @@ Change = Selection × Looks
 -- the font that a value tells, as a change of looks
 abbrev pub font_told : TokenValue → Option Change
 font_told (value.Name name) =
-    Some (record { font = true; colour = false; offset = false }, record plain_looks { font = name })
+    if is_font_name name
+    then Some (record { font = true; colour = false; offset = false }, record plain_looks { font = name }) else None
 font_told other = None
 
 -- the colour that a value tells, alike

@@ -2,15 +2,15 @@
 use Rattle.std.proofs.Common.{◌≡◌, ℕ, zero, suc, ◌+◌, ◌-◌, ◌<◌, ◌≤◌, true, false, Bool, List, [], ◌++◌, map, Option}
 use Rattle.std.proofs.Common.{Some, None, Result, Ok, Err, refl, sym, ap, subst, ◌∙◌, inl, inr, length, take, drop, arith, true≢false}
 use Rattle.std.specs.Prelude.{◌⊎◌, MatchBool, IsTrue, bytes_eq, option_map, slice_set, nat_lt}
-use Rattle.std.specs.Prelude.{◌==◌, if◌then◌else◌}
+use Rattle.std.specs.Prelude.{◌==◌, ◌&&◌, if◌then◌else◌}
 use Rattle.std.specs.Option.{option_and_then, option_map_or}
-use Rattle.std.proofs.lemmas.Bool.{cases_lt, cond_both, false_from_ne_true}
+use Rattle.std.proofs.lemmas.Bool.{and_parts, cases_lt, cond_both, eqb-true, false_from_ne_true}
 use Rattle.std.proofs.lemmas.List.{append_assoc, drop_at, length-append, length-take-le, take-append-drop, take_at}
 use Rattle.std.proofs.lemmas.Option.{cond_some, none-some, option_and_then_some, same_Some}
 use Rattle.std.proofs.lemmas.Slice.Eq.{bytes_eq-Decides}
 use Rattle.looks.specs.declared.refusal.Refusal.{Refusal}
-use Rattle.looks.specs.declared.refusal.Refusal.TheVariants.{BadFile, NoCaret, NoSelection, NoViewer, OutOfRange, ReadFault}
-use Rattle.looks.specs.declared.refusal.Refusal.TheVariants.{UnknownCommand, WriteFault}
+use Rattle.looks.specs.declared.refusal.Refusal.TheVariants.{BadFile, Conflict, NoCaret, NoSelection, NoViewer}
+use Rattle.looks.specs.declared.refusal.Refusal.TheVariants.{OutOfRange, ReadFault, UnknownCommand, WriteFault, WrongText}
 use Rattle.char_files.specs.Stretch.{Item}
 use Rattle.reader_scanner.proofs.OneToken.{token_there}
 use Rattle.reader_scanner.specs.declared.token.Token.{Token}
@@ -23,28 +23,34 @@ use Rattle.command_words.specs.declared.command.Command.{Command}
 use Rattle.command_words.specs.declared.command.Command.TheVariants as command
 use Rattle.text_file.specs.Files.{IsFileOf, IsNoFile, formatted}
 use Rattle.text_file.specs.declared.TheConstants.{MAX_TEXT as MAX_STORED}
+use Rattle.operations.specs.Operation.{Operation}
 use Rattle.operations.specs.Spelling.{spelling}
 use Rattle.texts.specs.Edit.{Edit, after, insertion, is_in_text, looks_change, plan, recalling}
 use Rattle.texts.specs.Laws.{OwnEditsArePlain}
 use Rattle.texts.specs.Outcome.{Edits, Shows, count_standing, first_refusal}
+use Rattle.texts.specs.SiteFiles.{HasSiteFile, IsNoSiteFile, IsSiteFileOf, site_bytes}
 use Rattle.texts.specs.Text.{IsText}
 use Rattle.texts.specs.TextState.{TextState, shown_items, with_room}
+use Rattle.texts.specs.declared.TheConstants.{MAX_KEPT}
 use Rattle.texts.specs.declared.edit_refusal.EditRefusal.{EditRefusal}
 use Rattle.texts.specs.declared.edit_refusal.EditRefusal.TheVariants.{Whole, Partial}
 use Rattle.convergence.proofs.OwnOperations.{standing_within}
 use Rattle.machine.specs.DeskState.{DeskState, with_text}
 use Rattle.machine.specs.Machine.{Does, EditsText, IsTextAt, Reply, State, edit, edit_reply, messages_of, refuses}
-use Rattle.machine.specs.Whole.{AtCaret, Change, Clicked, DoesTask, FileBecomes, IfCaret, IsDeskAt, IsFirstFrom, IsParameter, IsTaskAt}
-use Rattle.machine.specs.Whole.{IsTaskOfCall, Loads, Part, RunReply, RunState, Searches, StandsAt, Task, arrange}
-use Rattle.machine.specs.Whole.{change, clicked, clicked_in, done, dress_marked, failed, forget, forgot, found, is_caret_sign}
-use Rattle.machine.specs.Whole.{bytes_told, colour_told, file_told, font_told, offset_told, text_told}
-use Rattle.machine.specs.Whole.{lines_of_view, load, not_found, of_text, opens, print, prints_screen, put, put_recalled, refuse}
-use Rattle.machine.specs.Whole.{search, store, task_of, told_at, untouched, went_well, with_screen_at, with_told}
+use Rattle.machine.specs.Whole.{AtCaret, BeginsAs, BeginsWith, Change, Clicked, DoesTask, FileBecomes, IfCaret, IsDeskAt}
+use Rattle.machine.specs.Whole.{IsFirstFrom, IsParameter, IsTaskAt, IsTaskOfCall, Loads, Part, Refuses, RunReply, RunState}
+use Rattle.machine.specs.Whole.{Searches, StandsAt, Task, arrange, bytes_told, change, clicked, clicked_in, colour_told, done}
+use Rattle.machine.specs.Whole.{dress_marked, failed, file_told, font_told, forget, forgot, found, has_begun, is_caret_sign}
+use Rattle.machine.specs.Whole.{keep, lines_of_view, load, not_found, of_text, offset_told, opens, print, prints_screen, put}
+use Rattle.machine.specs.Whole.{put_recalled, refuse, reopen, search, store, task_of, text_told, told_at, untouched, went_well}
+use Rattle.machine.specs.Whole.{with_screen_at, with_told}
 use Rattle.machine.specs.Windows.{Arranged, Caret, Marked, Screened, Window, arranged, bytes_shown, marked, marked_as, place_in}
 use Rattle.machine.specs.Windows.{stretch_in, viewer_with, window_of}
 use Rattle.viewers.specs.Screen.{area_of}
 use Rattle.viewers.specs.declared.screen.Area.{Area}
-use Rattle.machine_laws.proofs.OneRunReply.{ComesTo, IsParameterBy, IsTaskBy, IsTaskIn, IsTaskTold, shown_parts}
+use Rattle.machine_laws.proofs.OneRunReply.{BeginsOf, ComesTo, IsParameterBy, IsTaskBy, IsTaskIn, IsTaskTold, ReopensBy}
+use Rattle.machine_laws.proofs.OneRunReply.{shown_parts}
+use Rattle.machine_laws.proofs.Reopening.{some_begun}
 use Rattle.machine_laws.proofs.Telling.{put_there}
 use Rattle.machine_laws.specs.Laws.{AnswersAll, AreTexts, CaretHasText, EachTaskIsAnswered, HasText, MayHavePart}
 
@@ -229,6 +235,39 @@ module _ (plain : OwnEditsArePlain) (s : RunState) (i : ℕ) (d : DeskState) (w 
       let (r, new, goes) = at_caret c window t (λ p. insertion p items) here in
       (r, new, (file, there, inr (items, is, goes)))
 
+  -- a reopening of a text in which nothing was done, where a file was read
+  begins_with : (text : ℕ) (t : TextState) (ops : List Operation) → IsTextAt s.texts i text t
+      → HasSiteFile t.text t.site ops → (r : RunReply) × (new : RunState) × BeginsWith s i text ops r new
+  begins_with text t ops (d', at_d, of_d) has_file =
+      let (u, taken) = some_begun t.text t.site ops has_file in
+      (done, _, (_, (d', with_text d' text u, at_d, (t, u, of_d, taken, refl), refl), refl, refl))
+
+  begins_of : (text : ℕ) (t : TextState) (number site : ℕ) (ops : List Operation) → IsTextAt s.texts i text t
+      → HasSiteFile number site ops → (r : RunReply) × (new : RunState) × BeginsOf s i text t number site ops r new
+  begins_of text t number site ops there has_file = by (number == t.text && site == t.site) refl
+    where
+      by : (its : Bool) → (number == t.text && site == t.site) ≡ its → (r : RunReply) × (new : RunState)
+          × MatchBool its (BeginsWith s i text ops r new) (Refuses s WrongText r new)
+      by true is =
+          let both = and_parts (number == t.text) (site == t.site) is in
+          begins_with text t ops there (subst (λ (x : ℕ). HasSiteFile x t.site ops) (eqb-true number t.text both.0)
+          (subst (λ (x : ℕ). HasSiteFile number x ops) (eqb-true site t.site both.1) has_file))
+      by false other = (of_text (refuses WrongText), s, (refl, refl))
+
+  begins_as : (text : ℕ) (t : TextState) (file : List ℕ) → IsTextAt s.texts i text t
+      → IsNoSiteFile file ⊎ ((number site : ℕ) × (ops : List Operation) × IsSiteFileOf number site ops file)
+      → (r : RunReply) × (new : RunState) × BeginsAs s i text t file r new
+  begins_as text t file there (inl none) = (of_text (refuses BadFile), s, inl (none, (refl, refl)))
+  begins_as text t file there (inr (number, site, ops, is)) =
+      let (r, new, goes) = begins_of text t number site ops there is.tells in
+      (r, new, inr (number, site, ops, is, goes))
+
+  -- what is done where something was done in the text already, or nothing was yet
+  by_begun : (text : ℕ) (t : TextState) (name : List ℕ) (part : Part) (r : RunReply) (new : RunState) (begun : Bool)
+      → has_begun t ≡ begun → ReopensBy s i text t name part begun r new → ReopensBy s i text t name part (has_begun t) r new
+  by_begun text t name part r new begun is goes =
+      subst (λ (b : Bool). ReopensBy s i text t name part b r new) (sym is) goes
+
   -- what a store leaves
   abbrev with_file : List ℕ → Option (List ℕ) → RunState
   with_file name left = record s { files = λ other. if bytes_eq other name then left else s.files other }
@@ -276,6 +315,19 @@ module _ (plain : OwnEditsArePlain) (s : RunState) (i : ℕ) (d : DeskState) (w 
   )
   tasks (arrange a) part text free = let (r, new, g) = arranges s i (arranged d w a) in (r, new, (free, g))
   tasks (print v) part text free = (prints_screen (lines_of_view d w v), s, (free, refl, refl))
+  tasks (keep text name) untouched has_text (t, there, long) = (of_text (refuses BadFile), s, (t, there, (long, (refl, refl))))
+  tasks (keep text name) went_well has_text (t, there, few) =
+      let file : List ℕ = site_bytes t.text t.site t.operations in
+      (done, with_file name (Some file), (t, there, (few, refl, becomes name (Some file))))
+  tasks (keep text name) (failed left) has_text (t, there, few) =
+      (of_text (refuses WriteFault), with_file name left, (t, there, (few, refl, becomes name left)))
+  tasks (reopen text name) untouched has_text (t, there, begun) =
+      (of_text (refuses Conflict), s, (t, there, by_begun text t name untouched _ s true begun (refl, (refl, refl))))
+  tasks (reopen text name) went_well has_text ((t, there, fresh), (file, at_name, told)) =
+      let (r, new, goes) = begins_as text t file there told in
+      (r, new, (t, there, by_begun text t name went_well r new false fresh (file, at_name, goes)))
+  tasks (reopen text name) (failed left) has_text (t, there, fresh) =
+      (of_text (refuses ReadFault), s, (t, there, by_begun text t name (failed left) _ s false fresh (refl, refl)))
 
   -- a part that may be
   parts : (t : Task) → HasText s i t → (part : Part) × MayHavePart s i w t part
@@ -296,6 +348,15 @@ module _ (plain : OwnEditsArePlain) (s : RunState) (i : ℕ) (d : DeskState) (w 
   parts (forget text) has_text = (untouched, refl)
   parts (arrange a) text = (untouched, refl)
   parts (print v) text = (untouched, refl)
+  parts (keep text name) (t, there) = elim (cases_lt MAX_KEPT (length t.operations)) [
+    | inl long ↦ (untouched, (t, there, long))
+    | inr few ↦ (went_well, (t, there, few))
+  ]
+  parts (reopen text name) (t, there) = by (has_begun t) refl
+    where
+      by : (begun : Bool) → has_begun t ≡ begun → (part : Part) × MayHavePart s i w (reopen text name) part
+      by true begun = (untouched, (t, there, begun))
+      by false fresh = (failed None, (t, there, fresh))
 
   -- a click's task
 

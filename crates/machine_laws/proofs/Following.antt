@@ -21,6 +21,7 @@ use Rattle.machine.specs.Whole.{told_at, told_behind}
 use Rattle.machine_laws.proofs.Growing.{copies_grow, copies_short_grow, edits_grow, edits_short_grow, merges_grow}
 use Rattle.machine_laws.proofs.Growing.{merges_short_grow, settles_grow, takes_grow, takes_short_grow}
 use Rattle.machine_laws.proofs.Reaching.{set_old}
+use Rattle.machine_laws.proofs.Reopening.{Begins, held_nothing}
 use Rattle.machine_laws.proofs.Telling.{Tells, told_in, told_same}
 use Rattle.machine_laws.specs.Growing.{Grows}
 use Rattle.machine_laws.specs.Laws.{AreTexts, HaveTold}
@@ -73,6 +74,12 @@ emptied_follows none t u is_u is told =
       told,
       λ op held. held,
     )
+
+-- so does a text in which nothing was done, and that began anew and has told its changes
+begun_follows : (ops : List Operation) (t u : TextState) → Tells (Begins ops) t u → Follows t u
+begun_follows ops t u (t', (fresh, taken), is_u) is told =
+    subst (λ (x : TextState). IsText x × (x.asked ≡ length x.operations) × IsPartOf t.operations x.operations) (sym is_u)
+    (text_told t' taken.is, refl, held_nothing t t'.operations fresh)
 
 -- each text of a desk follows the one of its number, where there was one there is one, and there are as many
 abbrev pub DeskFollows : DeskState → DeskState → Type 0
@@ -147,6 +154,13 @@ told_follow s new follow are told i n u (d', at, there) =
     let (d, at_d, desk) = follow i d' at in
     let (t, there_t, goes) = desk.0 n u there in
     (goes (are i n t (d, at_d, there_t)) (told i n t (d, at_d, there_t))).1
+
+-- where a text begins anew, and tells its changes, the run's texts follow
+pub begun_state : (ops : List Operation) (s mid : State) (i text : ℕ)
+    → InDesk (λ d d'. InText (Begins ops) d text d') s i [] mid → StateFollows s (told_at mid i text)
+begun_state ops s mid i text does =
+    state_follows (Tells (Begins ops)) (begun_follows ops) s (told_at mid i text) i text []
+    (told_in (Begins ops) s mid i text [] does)
 
 -- a message that is told, or not
 taken_follows : (s : State) (i text : ℕ) (message : Option (List ℕ)) (r : Reply) (mid : State) → HaveTold s

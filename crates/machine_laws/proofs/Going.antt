@@ -1,34 +1,45 @@
 -- What an event of the whole machine does to the texts and the screens of a run, in the few ways that there are, and which
 -- messages it sends.
-use Rattle.std.proofs.Common.{◌≡◌, ℕ, ◌+◌, List, [], ◌++◌, Option, Some, None, Ok, Err, refl, sym, ap, subst, ◌∙◌, inl, inr, length}
+use Rattle.std.proofs.Common.{◌≡◌, ℕ, ◌+◌, List, [], ◌++◌, All, false, Option, Some, None, Ok, Err, refl, sym, ap, subst}
+use Rattle.std.proofs.Common.{◌∙◌, inl, inr, length}
 use Rattle.std.proofs.lemmas.List.{append-nil}
 use Rattle.std.specs.Option.{option_map_or}
 use Rattle.looks.specs.declared.refusal.Refusal.{Refusal}
-use Rattle.looks.specs.declared.refusal.Refusal.TheVariants.{BadFile, NoCaret, OutOfMemory, ReadFault, WriteFault}
-use Rattle.std.specs.Prelude.{◌⊎◌, ◌==◌, slice_get, slice_set}
+use Rattle.looks.specs.declared.refusal.Refusal.TheVariants.{BadFile, Conflict, NoCaret, OutOfMemory, ReadFault}
+use Rattle.looks.specs.declared.refusal.Refusal.TheVariants.{WriteFault, WrongText}
+use Rattle.std.specs.Prelude.{◌⊎◌, ◌==◌, ◌&&◌, slice_get, slice_set}
 use Rattle.std.proofs.lemmas.Bool.{cond_both}
 use Rattle.char_files.specs.declared.name.Anchor.{Anchor}
+use Rattle.operations.specs.Operation.{Operation}
+use Rattle.operations.specs.Spelling.{HasSpelling}
 use Rattle.texts.specs.Edit.{Edit, anchor_before, insertion, recalling}
-use Rattle.texts.specs.TextState.{TextState, all_told, shown_of, with_room}
+use Rattle.texts.specs.Taking.{HasTakenAll}
+use Rattle.texts.specs.TextState.{TextState, all_told, empty_text, shown_of, with_room}
 use Rattle.machine.specs.DeskState.{DeskState, InText}
 use Rattle.machine.specs.Machine.{Does, Event, InDesk, IsTextAt, Replies, Reply, Short, State, edit, messages_of, refuses}
-use Rattle.machine.specs.Whole.{AtCaret, DoesTask, FileBecomes, Forgets, IfCaret, IsDeskAt, Loads, LoadsShort, OnText, Part}
-use Rattle.machine.specs.Whole.{Refuses, done, forgot, found, lines_of_view, not_found, of_text, opens, prints_screen, told_at}
-use Rattle.machine.specs.Whole.{RunDoes, RunEvent, RunReplies, RunReply, RunShort, RunState, Searches, ShortTask, Stores, Task}
-use Rattle.machine.specs.Whole.{TextSteps, arrange, ask, caret_after, change, click, failed, forget, load, on_text}
-use Rattle.machine.specs.Whole.{print, put, put_recalled, refuse, search, store, told_behind, untouched, went_well}
+use Rattle.machine.specs.Whole.{AtCaret, BeginsAs, BeginsWith, DoesTask, FileBecomes, Forgets, IfCaret, IsDeskAt, Loads}
+use Rattle.machine.specs.Whole.{LoadsShort, OnText, Part, Refuses, Reopens, ReopensShort, RunDoes, RunEvent, RunReplies}
+use Rattle.machine.specs.Whole.{RunReply, RunShort, RunState, Searches, ShortTask, Task, TextSteps, Writes, arrange, ask}
+use Rattle.machine.specs.Whole.{caret_after, change, click, done, failed, forget, forgot, found, has_begun, keep, lines_of_view}
+use Rattle.machine.specs.Whole.{load, not_found, of_text, on_text, opens, print, prints_screen, put, put_recalled, refuse}
+use Rattle.machine.specs.Whole.{reopen, search, store, told_at, told_behind, untouched, went_well}
 use Rattle.machine.specs.Windows.{Arranged, Arrangement, Caret, Screened, Window, arranged, close, move, open_in, place_in, point}
 use Rattle.machine.specs.Windows.{scroll, select, window_of}
+use Rattle.machine_laws.proofs.OneReply.{one_text}
 use Rattle.machine_laws.proofs.OneRunReply.{ComesTo, shown_parts}
+use Rattle.machine_laws.proofs.Reopening.{Begins}
+use Rattle.machine_laws.proofs.Rooms.{by_test}
 use Rattle.machine_laws.proofs.Sending.{in_desk_sends, replies_send, told_behind_sent}
 use Rattle.machine_laws.proofs.Telling.{told_sent, told_there}
 
 -- The texts stay; or an event of texts goes on, behind which the text that it is for has told its changes; or a room is
--- emptied.
+-- emptied; or a text in which nothing was done begins anew with operations that messages tell, and has told its changes.
 pub data TextsGo (s new : State) : Type 0 where
   as_they_are : new ≡ s → TextsGo s new
   by_event : (e : Event) (r : Reply) (mid : State) → Replies s e r mid → new ≡ told_behind e mid → TextsGo s new
   by_emptying : (i text : ℕ) → InDesk (λ d d'. InText (λ t u. u ≡ with_room t []) d text d') s i [] new → TextsGo s new
+  by_beginning : (i text : ℕ) (ops : List Operation) (mid : State) → All HasSpelling ops
+      → InDesk (λ d d'. InText (Begins ops) d text d') s i [] mid → new ≡ told_at mid i text → TextsGo s new
 
 -- a place in a text is what it was, or is behind a character that the text shows now, or at its beginning
 abbrev pub PlaceGoes : TextState → (old new : Anchor) → Type 0
@@ -164,11 +175,51 @@ module _ (s : RunState) (i : ℕ) (d : DeskState) (w : Screened) (at : IsDeskAt 
   became name file r is new told none (texts, screens, now, rest) =
       (as_they_are texts, no_screen screens, none_told s new r is told none (ap (λ (x : State). x.sent) texts))
 
-  stored : (t : TextState) (name : List ℕ) (part : Part) (r : RunReply) (new : RunState) → Stores s t name part r new
+  written : (much most : ℕ) (name file : List ℕ) (part : Part) (r : RunReply) (new : RunState)
+      → Writes s much most name file part r new → Goes s r new
+  written much most name file untouched r new (long, refused) = refused_goes s new BadFile r refused
+  written much most name file went_well r new (few, is, now) = became name (Some file) r done new is refl now
+  written much most name file (failed left) r new (few, is, now) =
+      became name left r (of_text (refuses WriteFault)) new is refl now
+
+  -- a text in which nothing was done begins anew
+  module _ (text : ℕ) (t : TextState) (there : IsTextAt s.texts i text t) (fresh : has_begun t ≡ false) where
+    begun_in : (ops : List Operation) (mid : State)
+        → InDesk (λ d d'. InText (λ t u. HasTakenAll (empty_text t.text t.site) ops u) d text d') s.texts i [] mid
+        → InDesk (λ d d'. InText (Begins ops) d text d') s.texts i [] mid
+    begun_in ops mid (e, e', at_e, (u, v, of_e, taken, is_e'), is_mid) =
+        let same : t ≡ u = one_text s.texts i text t u there (e, at_e, of_e) in
+        (e, e', at_e, (u, v, of_e, (subst (λ (x : TextState). has_begun x ≡ false) same fresh, taken), is_e'), is_mid)
+
+    begins_with : (ops : List Operation) (r : RunReply) (new : RunState) → All HasSpelling ops
+        → BeginsWith s i text ops r new → Goes s r new
+    begins_with ops r new spelled (mid, does, is, is_new) =
+        let texts : new.texts ≡ told_at mid i text = ap (λ (x : RunState). x.texts) is_new in (
+          by_beginning i text ops mid spelled (begun_in ops mid does) texts,
+          no_screen (ap (λ (x : RunState). x.screens) is_new),
+          none_told s new r done is refl (ap (λ (x : State). x.sent) texts ∙ told_sent mid i text
+              ∙ in_desk_sends _ s.texts mid i [] does ∙ append-nil s.texts.sent),
+        )
+
+    begins_as : (file : List ℕ) (r : RunReply) (new : RunState) → BeginsAs s i text t file r new → Goes s r new
+    begins_as file r new (inl (none, refused)) = refused_goes s new BadFile r refused
+    begins_as file r new (inr (number, site, ops, is, goes)) =
+        elim (by_test (number == t.text && site == t.site) _ _ goes) [
+          | inl its ↦ begins_with ops r new is.tells.spelled its.1
+          | inr other ↦ refused_goes s new WrongText r other.1
+        ]
+
+    reopened : (name : List ℕ) (part : Part) (r : RunReply) (new : RunState) → Reopens s i text t name part r new
+        → Goes s r new
+    reopened name untouched r new does = absurd does
+    reopened name (failed left) r new does = refused_goes s new ReadFault r does
+    reopened name went_well r new (file, there', does) = begins_as file r new does
+
+  reopened_short : (name : List ℕ) (part : Part) (r : RunReply) (new : RunState) → ReopensShort s name part r new
       → Goes s r new
-  stored t name untouched r new (long, refused) = refused_goes s new BadFile r refused
-  stored t name went_well r new (few, is, now) = became name _ r done new is refl now
-  stored t name (failed left) r new (few, is, now) = became name left r (of_text (refuses WriteFault)) new is refl now
+  reopened_short name untouched r new short = refused_goes s new OutOfMemory r short
+  reopened_short name (failed left) r new short = absurd short
+  reopened_short name went_well r new (file, there, refused) = refused_goes s new OutOfMemory r refused
 
   forgot_room : (text : ℕ) (r : RunReply) (new : RunState) → Forgets s i text r new → Goes s r new
   forgot_room text r new (t, mid, there, does, is, is_new) =
@@ -202,13 +253,18 @@ module _ (s : RunState) (i : ℕ) (d : DeskState) (w : Screened) (at : IsDeskAt 
       (λ c shown is_c shows goes. at_caret Does does_replies c shown recalling r new is_c shows goes.1) does
   task_goes (load name) part r new does = if_caret part r new _
       (λ c shown is_c shows goes. loaded name part c shown r new is_c shows goes) does
-  task_goes (store text name) part r new (t, there, does) = stored t name part r new does
+  task_goes (store text name) part r new (t, there, does) = written _ _ name _ part r new does
   task_goes (search bytes) part r new does = if_caret part r new _
       (λ c shown is_c shows goes. searched c shown bytes r new is_c shows goes.1) does
   task_goes (change text e) part r new does = on_texts Does does_replies s (edit i text e) r new does.1
   task_goes (forget text) part r new does = forgot_room text r new does.1
   task_goes (arrange a) part r new does = arranges a (arranged d w a) r new refl does.1
   task_goes (print v) part r new (free, is, is_new) = same_goes s new r (prints_screen (lines_of_view d w v)) is refl is_new
+  task_goes (keep text name) part r new (t, there, does) = written _ _ name _ part r new does
+  task_goes (reopen text name) part r new (t, there, does) = elim (by_test (has_begun t) _ _ does) [
+    | inl begun ↦ refused_goes s new Conflict r begun.1.1
+    | inr fresh ↦ reopened text t there fresh.0 name part r new fresh.1
+  ]
 
   task_goes_short : (t : Task) (part : Part) (r : RunReply) (new : RunState) → ShortTask s i d w t part r new → Goes s r new
   task_goes_short (refuse why) part r new does = absurd does
@@ -229,6 +285,8 @@ module _ (s : RunState) (i : ℕ) (d : DeskState) (w : Screened) (at : IsDeskAt 
   task_goes_short (arrange (point col row)) part r new does = absurd does
   task_goes_short (arrange (select col row col' row')) part r new does = absurd does
   task_goes_short (print v) part r new (free, refused) = refused_goes s new OutOfMemory r refused
+  task_goes_short (keep text name) part r new (free, there, refused) = refused_goes s new OutOfMemory r refused
+  task_goes_short (reopen text name) part r new (there, short) = reopened_short name part r new short
 
 does_go : (s : RunState) (e : RunEvent) (part : Part) (r : RunReply) (new : RunState) → RunDoes s e part r new → Goes s r new
 does_go s (on_text e) part r new does = on_texts Does does_replies s e r new does.1

@@ -9,6 +9,7 @@ pub mod OneReply
 pub mod OneRunReply
 pub mod Reaching
 pub mod ReachedRuns
+pub mod Reopening
 pub mod RisingSites
 pub mod Rooms
 pub mod SameScreens

@@ -1,7 +1,7 @@
 -- The sites and the seqs of a run's operations fit a message's places.
 use Rattle.std.proofs.Common.{◌≡◌, ℕ, zero, suc, ◌+◌, ◌-◌, ◌^◌, ◌<◌, ◌≤◌, length, true, false, Bool, List, [], ◌∷◌}
-use Rattle.std.proofs.Common.{◌++◌, map, Option, Some, None, Result, Ok, Err, refl, sym, ap, subst, ◌∙◌, inl, inr}
-use Rattle.std.proofs.Common.{arith}
+use Rattle.std.proofs.Common.{◌++◌, All, map, Option, Some, None, Result, Ok, Err, refl, sym, ap, subst, ◌∙◌, inl, inr}
+use Rattle.std.proofs.Common.{arith, get_or}
 use Rattle.std.specs.Prelude.{◌⊎◌, ◌==◌, MatchBool, MatchOption, if◌then◌else◌, nat_lt, slice_get, slice_set, take}
 use Rattle.std.specs.List.{range_with_len}
 use Rattle.std.specs.Option.{option_map_or}
@@ -41,8 +41,9 @@ use Rattle.machine.specs.Machine.{messages_of, new_state, query, refuses, settle
 use Rattle.machine.specs.Machine.{take as taking}
 use Rattle.machine.specs.Whole.{RunState, told_at, told_behind}
 use Rattle.machine_laws.proofs.FrontLines.{small_front}
-use Rattle.machine_laws.proofs.Going.{TextsGo, as_they_are, by_emptying, by_event, replies_go}
+use Rattle.machine_laws.proofs.Going.{TextsGo, as_they_are, by_beginning, by_emptying, by_event, replies_go}
 use Rattle.machine_laws.proofs.Reaching.{set_cases}
+use Rattle.machine_laws.proofs.Reopening.{Begins}
 use Rattle.machine_laws.proofs.Telling.{told_cases}
 use Rattle.machine_laws.specs.Laws.{AreNumbered, RunReached, WhatIsReachedIsNumbered, run_begins, run_goes_on}
 
@@ -132,6 +133,13 @@ becomes t op Ready result new fits does is = taken_in t op false result new fits
 
 fits_message : (op : Operation) → HasSpelling op → IsNumbered op
 fits_message op valid = (valid.site.1, valid.seq.1)
+
+-- so do those of a text that begins anew
+begins_text : (ops : List Operation) → All HasSpelling ops → (t new : TextState) → Begins ops t new → HasNumbers t
+    → HasNumbers new
+begins_text ops spelled t new (fresh, taken) is =
+    grown_by (empty_text t.text t.site) ops new (λ k d within. fits_message (get_or ops k d) (spelled k d within)) taken
+    (record { site = is.site; taken = All-nil IsNumbered; waits = All-nil IsNumbered })
 
 takes_text : (message : List ℕ) (r : Reply) (t new : TextState) → TakesText message r t new → HasNumbers t
     → HasNumbers new
@@ -386,6 +394,9 @@ goes_so s new (by_event e r mid replies is) all =
     subst AllHaveNumbers (sym is) (told_behind_so e mid (replies_so s e r mid replies all))
 goes_so s new (by_emptying i text does) all = on_text (λ t u. u ≡ with_room t []) s new i text []
     (λ t u is has. subst HasNumbers (sym is) (in_room t [] (All-nil IsNumbered) has)) does all
+goes_so s new (by_beginning i text ops mid spelled does is) all =
+    subst AllHaveNumbers (sym is)
+    (told_so mid i text (on_text (Begins ops) s mid i text [] (begins_text ops spelled) does all))
 
 reached_so : (first count width height : ℕ) (files : Files) (s : RunState) → first + count ≤ 2 ^ 16
     → RunReached first count width height files s → AllHaveNumbers s.texts

@@ -46,7 +46,7 @@ one_text s i text t u (d, at, there) (d', at', there') =
     one_element (slice_get d'.texts (text - 1)) t u (subst (λ (x : DeskState). IsTextOf x text t) same there) there'
 
 -- where a text does one thing, so does its desk
-in_text : (F G : TextState → TextState → Type 0) (P : Type 0) (d d' d'' : DeskState) (text : ℕ)
+pub in_text : (F G : TextState → TextState → Type 0) (P : Type 0) (d d' d'' : DeskState) (text : ℕ)
     → ((t u v : TextState) → IsTextOf d text t → F t u → G t v → P × (u ≡ v))
     → InText F d text d' → InText G d text d'' → P × (d' ≡ d'')
 in_text F G P d d' d'' text one (t, u, at, does, is) (t', v, at', does', is') =
@@ -66,7 +66,7 @@ on_text F G P s new new' i text m m' are told one (d, x, at, does, is) (d', y, a
     (subst (λ (k : DeskState). InText G k text y) same does') in
     (both.0, is ∙ (λ k. record s { desks = slice_set s.desks i (both.1 k); sent = s.sent ++ told both.0 k }) ∙ sym is')
 
-by_case : (b : Bool) (P P' Q Q' R : Type 0) → (P → P' → R) → (Q → Q' → R) → MatchBool b P Q → MatchBool b P' Q' → R
+pub by_case : (b : Bool) (P P' Q Q' R : Type 0) → (P → P' → R) → (Q → Q' → R) → MatchBool b P Q → MatchBool b P' Q' → R
 by_case true P P' Q Q' R one other h h' = one h h'
 by_case false P P' Q Q' R one other h h' = other h h'
 

@@ -2,15 +2,15 @@
 use Rattle.std.proofs.Common.{◌≡◌, ℕ, ◌+◌, ◌-◌, ◌<◌, ◌≤◌, true, false, Bool, List, [], ◌++◌, map, Option, Some, None}
 use Rattle.std.proofs.Common.{Result, Ok, Err, refl, sym, ap, subst, ◌∙◌, inl, inr, append-nil, le_antisymm, length}
 use Rattle.std.proofs.Common.{true≢false}
-use Rattle.std.specs.Prelude.{◌⊎◌, ◌≢◌, if◌then◌else◌, MatchBool, MatchOption, MatchResult, bytes_eq, option_map}
+use Rattle.std.specs.Prelude.{◌⊎◌, ◌≢◌, ◌==◌, ◌&&◌, if◌then◌else◌, MatchBool, MatchOption, MatchResult, bytes_eq, option_map}
 use Rattle.std.specs.Prelude.{slice_get, slice_set, take}
 use Rattle.std.specs.Option.{option_map_or}
 use Rattle.std.proofs.lemmas.Bool.{cases_lt, eq-eqb}
 use Rattle.std.proofs.lemmas.Option.{none-some, option_and_then_some, same_Some}
 use Rattle.std.proofs.lemmas.Slice.Eq.{bytes_eq-Decides}
 use Rattle.looks.specs.declared.refusal.Refusal.{Refusal}
-use Rattle.looks.specs.declared.refusal.Refusal.TheVariants.{BadFile, NoCaret, NoSelection, NoViewer, OutOfMemory}
-use Rattle.looks.specs.declared.refusal.Refusal.TheVariants.{ReadFault, UnknownCommand}
+use Rattle.looks.specs.declared.refusal.Refusal.TheVariants.{BadFile, Conflict, NoCaret, NoSelection, NoViewer}
+use Rattle.looks.specs.declared.refusal.Refusal.TheVariants.{OutOfMemory, ReadFault, UnknownCommand, WrongText}
 use Rattle.char_files.specs.Stretch.{Item}
 use Rattle.char_files.specs.declared.name.Anchor.{Anchor}
 use Rattle.reader_scanner.proofs.OneToken.{one_token}
@@ -22,22 +22,27 @@ use Rattle.command_words.specs.Calls.{IsCallAt, NoCallAt}
 use Rattle.command_words.specs.Commands.{has_parameter}
 use Rattle.command_words.specs.declared.calls.Call.{Call}
 use Rattle.text_file.specs.Files.{IsFileOf, OneText}
+use Rattle.operations.specs.Operation.{Operation}
 use Rattle.operations.specs.Spelling.{spelling}
 use Rattle.texts.specs.Edit.{Edit, anchor_before, insertion, plan, recalling}
-use Rattle.texts.specs.TextState.{TextState, shown_of, with_room}
+use Rattle.texts.specs.SiteFiles.{OneSite}
+use Rattle.texts.specs.Taking.{HasTakenAll}
+use Rattle.texts.specs.TextState.{TextState, empty_text, shown_of, with_room}
 use Rattle.texts.specs.declared.took.Took.TheVariants.{Repeat, Taken, Waits}
-use Rattle.machine.specs.DeskState.{DeskState, IsTextOf, with_text}
-use Rattle.machine.specs.Machine.{Does, Event, IsTextAt, Reply, Short, State, edit, merges, messages_of}
+use Rattle.machine.specs.DeskState.{DeskState, InText, IsTextOf}
+use Rattle.machine.specs.Machine.{Does, Event, InDesk, IsTextAt, Reply, Short, State, edit, merges, messages_of}
 use Rattle.machine.specs.Machine.{prints, refuses, sends, settles, stops, takes}
-use Rattle.machine.specs.Whole.{AtCaret, Clicked, DoesTask, FileBecomes, Forgets, IfCaret, IsDeskAt, IsFirstFrom}
-use Rattle.machine.specs.Whole.{IsParameter, IsTaskAt, IsTaskOfCall, Loads, LoadsShort, OnText, Part, Refuses, RunDoes, RunEvent}
-use Rattle.machine.specs.Whole.{RunReply, RunShort, RunState, Searches, ShortTask, Stores, Task, TextSteps, WithCaret, arrange}
-use Rattle.machine.specs.Whole.{ask, caret_after, change, click, clicked, done, failed, forget, forgot, found, is_caret_sign}
-use Rattle.machine.specs.Whole.{load, of_text, on_text, opens, print, put, put_recalled, refuse, search, store, task_of, told_at, told_behind, untouched}
-use Rattle.machine.specs.Whole.{went_well, with_screen_at}
+use Rattle.machine.specs.Whole.{AtCaret, BeginsAs, BeginsWith, Clicked, DoesTask, FileBecomes, Forgets, IfCaret, IsDeskAt}
+use Rattle.machine.specs.Whole.{IsFirstFrom, IsParameter, IsTaskAt, IsTaskOfCall, Keeps, Loads, LoadsShort, OnText, Part}
+use Rattle.machine.specs.Whole.{Refuses, Reopens, ReopensShort, RunDoes, RunEvent, RunReply, RunShort, RunState, Searches}
+use Rattle.machine.specs.Whole.{ShortTask, Stores, Task, TextSteps, WithCaret, Writes, arrange, ask, caret_after, change, click}
+use Rattle.machine.specs.Whole.{clicked, done, failed, forget, forgot, found, has_begun, is_caret_sign, keep, load, of_text}
+use Rattle.machine.specs.Whole.{on_text, opens, print, put, put_recalled, refuse, reopen, search, store, task_of, told_at}
+use Rattle.machine.specs.Whole.{told_behind, untouched, went_well, with_screen_at}
 use Rattle.machine.specs.Windows.{Arranged, Caret, Marked, Screened, Window, arranged, bytes_shown, close, marked, move}
 use Rattle.machine.specs.Windows.{open_in, place_in, point, scroll, select, shown_by, text_of, window_of}
-use Rattle.machine_laws.proofs.OneReply.{IsPartOfEdit, one_element, one_text, part_of_edit}
+use Rattle.machine_laws.proofs.OneReply.{IsPartOfEdit, by_case, in_text, one_element, one_text, part_of_edit}
+use Rattle.machine_laws.proofs.Reopening.{one_begun}
 use Rattle.machine_laws.proofs.Telling.{put_back, told_same}
 use Rattle.machine_laws.specs.Laws.{EachEventHasOneReply, EachRunEventHasOneReply, HaveOneRunShape, HaveOneShape, HaveTold}
 
@@ -164,12 +169,12 @@ becomes s name file new new' (a, b, c, rest) (a', b', c', rest') = λ k. record 
         let apart : other ≢ name = λ e. true≢false (sym ((bytes_eq-Decides other name).1 e) ∙ differ) in
         rest other apart ∙ sym (rest' other apart)
 
-stores : (s : RunState) (t : TextState) (name : List ℕ) (part : Part) (r r' : RunReply) (new new' : RunState)
-    → Stores s t name part r new → Stores s t name part r' new' → AreSame r r' new new'
-stores s t name untouched r r' new new' a b = refuses_one s BadFile r r' new new' a.1 b.1
-stores s t name went_well r r' new new' (few, is, now) (few', is', now') =
-    (is ∙ sym is', becomes s name _ new new' now now')
-stores s t name (failed left) r r' new new' (few, is, now) (few', is', now') =
+writes : (s : RunState) (much most : ℕ) (name file : List ℕ) (part : Part) (r r' : RunReply) (new new' : RunState)
+    → Writes s much most name file part r new → Writes s much most name file part r' new' → AreSame r r' new new'
+writes s much most name file untouched r r' new new' a b = refuses_one s BadFile r r' new new' a.1 b.1
+writes s much most name file went_well r r' new new' (few, is, now) (few', is', now') =
+    (is ∙ sym is', becomes s name (Some file) new new' now now')
+writes s much most name file (failed left) r r' new new' (few, is, now) (few', is', now') =
     (is ∙ sym is', becomes s name left new new' now now')
 
 -- texts of a file put in as two loads tell them are put in as one tells
@@ -197,20 +202,85 @@ loads file_so s i w name went_well c window t r r' new new' one (file, at, inr (
     (loaded_so file_so (λ x. AtCaret Does s i w c window t (λ p. insertion p x) r' new') s name file file' items items' at
     at' is is' goes')
 
+-- where a text can do but one thing, so can its desk, and the run's texts go on in one way
+in_desk_one : (F : TextState → TextState → Type 0) → ((t u u' : TextState) → F t u → F t u' → u ≡ u') → (s new new' : State)
+    (i text : ℕ) (m : List (List ℕ)) → InDesk (λ d d'. InText F d text d') s i m new
+    → InDesk (λ d d'. InText F d text d') s i m new' → new ≡ new'
+in_desk_one F one s new new' i text m (d, x, at, does, is) (d', x', at', does', is') =
+    let ds : d' ≡ d = one_element (slice_get s.desks i) d' d at' at in
+    let both = in_text F F (Unit {0}) d x x' text (λ t u u' there goes goes'. (tt, one t u u' goes goes')) does
+    (subst (λ (y : DeskState). InText F y text x') ds does') in
+    is ∙ (λ k. record s { desks = slice_set s.desks i (both.1 k); sent = s.sent ++ m }) ∙ sym is'
+
+-- a beginning of a text anew
+
+begins_with : (s : RunState) (i text : ℕ) (ops : List Operation) (r r' : RunReply) (new new' : RunState)
+    → BeginsWith s i text ops r new → BeginsWith s i text ops r' new' → AreSame r r' new new'
+begins_with s i text ops r r' new new' (mid, does, is, is_new) (mid', does', is', is_new') =
+    let mids : mid ≡ mid' = in_desk_one (λ t u. HasTakenAll (empty_text t.text t.site) ops u)
+    (λ t u u'. one_begun (empty_text t.text t.site) u u' ops) s.texts mid mid' i text [] does does' in
+    (is ∙ sym is', is_new ∙ (λ k. record s { texts = told_at (mids k) i text }) ∙ sym is_new')
+
+-- a text begins as a site's file tells, or is refused as another's
+abbrev pub BeginsOf : RunState → (i text : ℕ) → TextState → (number site : ℕ) → List Operation → RunReply → RunState → Type 0
+BeginsOf s i text t number site ops r new = MatchBool (number == t.text && site == t.site)
+    (BeginsWith s i text ops r new) (Refuses s WrongText r new)
+
+begins_of : (s : RunState) (i text : ℕ) (t : TextState) (number site : ℕ) (ops : List Operation) (r r' : RunReply)
+    (new new' : RunState) → BeginsOf s i text t number site ops r new → BeginsOf s i text t number site ops r' new'
+    → AreSame r r' new new'
+begins_of s i text t number site ops r r' new new' = by_case (number == t.text && site == t.site) _ _ _ _ _
+    (begins_with s i text ops r r' new new') (refuses_one s WrongText r r' new new')
+
+begins_as : OneSite → (s : RunState) (i text : ℕ) (t : TextState) (file : List ℕ) (r r' : RunReply) (new new' : RunState)
+    → BeginsAs s i text t file r new → BeginsAs s i text t file r' new' → AreSame r r' new new'
+begins_as sites_so s i text t file r r' new new' (inl a) (inl b) = refuses_one s BadFile r r' new new' a.1 b.1
+begins_as sites_so s i text t file r r' new new' (inl a) (inr (number, site, ops, is, goes)) =
+    absurd (a.0 number site ops is)
+begins_as sites_so s i text t file r r' new new' (inr (number, site, ops, is, goes)) (inl b) =
+    absurd (b.0 number site ops is)
+begins_as sites_so s i text t file r r' new new' (inr (number, site, ops, is, goes))
+    (inr (number', site', ops', is', goes')) =
+    let same = sites_so file number' site' number site ops' ops is' is in
+    begins_of s i text t number site ops r r' new new' goes
+    (subst (λ (x : List Operation). BeginsOf s i text t number site x r' new') same.2
+    (subst (λ (x : ℕ). BeginsOf s i text t number x ops' r' new') same.1
+    (subst (λ (x : ℕ). BeginsOf s i text t x site' ops' r' new') same.0 goes')))
+
+reopens : OneSite → (s : RunState) (i text : ℕ) (t : TextState) (name : List ℕ) (part : Part) (r r' : RunReply)
+    (new new' : RunState) → Reopens s i text t name part r new → Reopens s i text t name part r' new' → AreSame r r' new new'
+reopens sites_so s i text t name untouched r r' new new' a b = absurd a
+reopens sites_so s i text t name (failed left) r r' new new' a b = refuses_one s ReadFault r r' new new' a b
+reopens sites_so s i text t name went_well r r' new new' (file, at, a) (file', at', b) =
+    begins_as sites_so s i text t file r r' new new' a (subst (λ (x : List ℕ). BeginsAs s i text t x r' new')
+    (one_element (s.files name) file' file at' at) b)
+
+-- a text in which something was done already isn't reopened, and one in which nothing was yet is
+abbrev pub ReopensBy : RunState → (i text : ℕ) → TextState → (name : List ℕ) → Part → (begun : Bool) → RunReply → RunState
+    → Type 0
+ReopensBy s i text t name part begun r new =
+    MatchBool begun ((part ≡ untouched) × Refuses s Conflict r new) (Reopens s i text t name part r new)
+
+reopens_by : OneSite → (s : RunState) (i text : ℕ) (t : TextState) (name : List ℕ) (part : Part) (r r' : RunReply)
+    (new new' : RunState) → ReopensBy s i text t name part (has_begun t) r new
+    → ReopensBy s i text t name part (has_begun t) r' new' → AreSame r r' new new'
+reopens_by sites_so s i text t name part r r' new new' = by_case (has_begun t) _ _ _ _ _
+    (λ a b. refuses_one s Conflict r r' new new' a.1 b.1) (reopens sites_so s i text t name part r r' new new')
+
+reopens_short : (s : RunState) (name : List ℕ) (part : Part) (r r' : RunReply) (new new' : RunState)
+    → ReopensShort s name part r new → ReopensShort s name part r' new' → AreSame r r' new new'
+reopens_short s name untouched r r' new new' a b = refuses_one s OutOfMemory r r' new new' a b
+reopens_short s name (failed left) r r' new new' a b = absurd a
+reopens_short s name went_well r r' new new' (file, at, a) (file', at', b) = refuses_one s OutOfMemory r r' new new' a b
+
 -- an emptying of a room, and an arrangement
 
 forgets : (s : RunState) (i text : ℕ) (r r' : RunReply) (new new' : RunState) → Forgets s i text r new
     → Forgets s i text r' new' → AreSame r r' new new'
-forgets s i text r r' new new' (t, mid, there, (d, x, at, (u, v, of_d, is_v, is_x), is_mid), is, is_new)
-    (t', mid', there', (d', x', at', (u', v', of_d', is_v', is_x'), is_mid'), is', is_new') =
+forgets s i text r r' new new' (t, mid, there, does, is, is_new) (t', mid', there', does', is', is_new') =
     let ts : t ≡ t' = one_text s.texts i text t t' there there' in
-    let ds : d ≡ d' = one_element (slice_get s.texts.desks i) d d' at at' in
-    let us : u ≡ u' = one_element (slice_get d'.texts (text - 1)) u u'
-    (subst (λ (y : DeskState). IsTextOf y text u) ds of_d) of_d' in
-    let vs : v ≡ v' = is_v ∙ ap (λ (y : TextState). with_room y []) us ∙ sym is_v' in
-    let xs : x ≡ x' = is_x ∙ (λ k. with_text (ds k) text (vs k)) ∙ sym is_x' in
-    let mids : mid ≡ mid' = is_mid
-    ∙ (λ k. record s.texts { desks = slice_set s.texts.desks i (xs k); sent = s.texts.sent ++ [] }) ∙ sym is_mid' in
+    let mids : mid ≡ mid' = in_desk_one (λ u v. v ≡ with_room u []) (λ u v v' a b. a ∙ sym b) s.texts mid mid' i text []
+    does does' in
     (is ∙ (λ k. forgot (length ((ts k).waiting_room))) ∙ sym is', is_new ∙ (λ k. record s { texts = mids k }) ∙ sym is_new')
 
 -- an arrangement that comes to this
@@ -225,28 +295,35 @@ arranges s i (Ok out) r r' new new' a b = (a.0 ∙ sym b.0, a.1 ∙ sym b.1)
 arranges s i (Err why) r r' new new' a b = (a.0 ∙ sym b.0, a.1 ∙ sym b.1)
 
 -- what a desk is asked, where memory is there
-tasks : OneText → (s : RunState) (i : ℕ) (d : DeskState) (w : Screened) (t : Task) (part : Part) (r r' : RunReply)
+tasks : OneText → OneSite → (s : RunState) (i : ℕ) (d : DeskState) (w : Screened) (t : Task) (part : Part) (r r' : RunReply)
     (new new' : RunState) → TellsOne Does s r r' → DoesTask s i d w t part r new → DoesTask s i d w t part r' new'
     → AreSame r r' new new'
-tasks file_so s i d w (refuse why) part r r' new new' one a b = refuses_one s why r r' new new' a.1 b.1
-tasks file_so s i d w (put items) part r r' new new' one a b = if_caret s d w part r r' new new' _ _
+tasks file_so sites_so s i d w (refuse why) part r r' new new' one a b = refuses_one s why r r' new new' a.1 b.1
+tasks file_so sites_so s i d w (put items) part r r' new new' one a b = if_caret s d w part r r' new new' _ _
     (λ c window t x y. at_caret Does s i w c window t (λ p. insertion p items) r r' new new' one x.1 y.1) a b
-tasks file_so s i d w put_recalled part r r' new new' one a b = if_caret s d w part r r' new new' _ _
+tasks file_so sites_so s i d w put_recalled part r r' new new' one a b = if_caret s d w part r r' new new' _ _
     (λ c window t x y. at_caret Does s i w c window t recalling r r' new new' one x.1 y.1) a b
-tasks file_so s i d w (load name) part r r' new new' one a b = if_caret s d w part r r' new new' _ _
+tasks file_so sites_so s i d w (load name) part r r' new new' one a b = if_caret s d w part r r' new new' _ _
     (λ c window t x y. loads file_so s i w name part c window t r r' new new' one x y) a b
-tasks file_so s i d w (store text name) part r r' new new' one (t, there, a) (t', there', b) =
-    stores s t name part r r' new new' a (subst (λ (x : TextState). Stores s x name part r' new')
+tasks file_so sites_so s i d w (store text name) part r r' new new' one (t, there, a) (t', there', b) =
+    writes s _ _ name _ part r r' new new' a (subst (λ (x : TextState). Stores s x name part r' new')
     (one_text s.texts i text t' t there' there) b)
-tasks file_so s i d w (search bytes) part r r' new new' one a b = if_caret s d w part r r' new new' _ _
+tasks file_so sites_so s i d w (search bytes) part r r' new new' one a b = if_caret s d w part r r' new new' _ _
     (λ c window t x y. searches s i w c t bytes r r' new new' x.1 y.1) a b
-tasks file_so s i d w (change text e) part r r' new new' one a b =
+tasks file_so sites_so s i d w (change text e) part r r' new new' one a b =
     on_texts Does s (edit i text e) r r' new new' one a.1 b.1
-tasks file_so s i d w (forget text) part r r' new new' one a b = forgets s i text r r' new new' a.1 b.1
-tasks file_so s i d w (arrange x) part r r' new new' one a b =
+tasks file_so sites_so s i d w (forget text) part r r' new new' one a b = forgets s i text r r' new new' a.1 b.1
+tasks file_so sites_so s i d w (arrange x) part r r' new new' one a b =
     arranges s i (arranged d w x) r r' new new' a.1 b.1
-tasks file_so s i d w (print v) part r r' new new' one (p, is, is_new) (p', is', is_new') =
+tasks file_so sites_so s i d w (print v) part r r' new new' one (p, is, is_new) (p', is', is_new') =
     (is ∙ sym is', is_new ∙ sym is_new')
+tasks file_so sites_so s i d w (keep text name) part r r' new new' one (t, there, a) (t', there', b) =
+    writes s _ _ name _ part r r' new new' a (subst (λ (x : TextState). Keeps s x name part r' new')
+    (one_text s.texts i text t' t there' there) b)
+tasks file_so sites_so s i d w (reopen text name) part r r' new new' one (t, there, a) (t', there', b) =
+    reopens_by sites_so s i text t name part r r' new new' a
+    (subst (λ (x : TextState). ReopensBy s i text x name part (has_begun x) r' new')
+    (one_text s.texts i text t' t there' there) b)
 
 -- a click's task
 
@@ -323,14 +400,14 @@ at_task Of s i col row d d' w w' t t' at at' is is' does =
     (task_at d w col row t' t (at_desk (λ d w. IsTaskAt d w col row t') s i d d' w w' at at' is') is)
     (at_desk (λ d w. Of d w t') s i d d' w w' at at' does)
 
-one_whole : OneText → (s : RunState) (e : RunEvent) (part : Part) (r r' : RunReply) (new new' : RunState)
+one_whole : OneText → OneSite → (s : RunState) (e : RunEvent) (part : Part) (r r' : RunReply) (new new' : RunState)
     → TellsOne Does s r r' → RunDoes s e part r new → RunDoes s e part r' new' → AreSame r r' new new'
-one_whole file_so s (on_text e) part r r' new new' one a b = on_texts Does s e r r' new new' one a.1 b.1
-one_whole file_so s (ask i t) part r r' new new' one (d, w, at, does) (d', w', at', does') =
-    tasks file_so s i d w t part r r' new new' one does
+one_whole file_so sites_so s (on_text e) part r r' new new' one a b = on_texts Does s e r r' new new' one a.1 b.1
+one_whole file_so sites_so s (ask i t) part r r' new new' one (d, w, at, does) (d', w', at', does') =
+    tasks file_so sites_so s i d w t part r r' new new' one does
     (at_desk (λ d w. DoesTask s i d w t part r' new') s i d d' w w' at at' does')
-one_whole file_so s (click i col row) part r r' new new' one (d, w, t, at, is, does) (d', w', t', at', is', does') =
-    tasks file_so s i d w t part r r' new new' one does
+one_whole file_so sites_so s (click i col row) part r r' new new' one (d, w, t, at, is, does) (d', w', t', at', is', does') =
+    tasks file_so sites_so s i d w t part r r' new new' one does
     (at_task (λ d w t. DoesTask s i d w t part r' new') s i col row d d' w w' t t' at at' is is' does')
 
 -- where memory was refused
@@ -458,6 +535,10 @@ tasks_short file_so s told_all i d w (arrange (point col row)) part r r' new new
 tasks_short file_so s told_all i d w (arrange (select col row col' row')) part r r' new new' at shape one a b = absurd a
 tasks_short file_so s told_all i d w (print v) part r r' new new' at shape one (p, a) (p', b) =
     refuses_one s OutOfMemory r r' new new' a b
+tasks_short file_so s told_all i d w (keep text name) part r r' new new' at shape one (p, there, a) (p', there', b) =
+    refuses_one s OutOfMemory r r' new new' a b
+tasks_short file_so s told_all i d w (reopen text name) part r r' new new' at shape one (there, a) (there', b) =
+    reopens_short s name part r r' new new' a b
 
 one_short : OneText → (s : RunState) → HaveTold s.texts → (e : RunEvent) (part : Part) (r r' : RunReply) (new new' : RunState)
     → HaveOneRunShape r r' → TellsOne Short s r r' → RunShort s e part r new → RunShort s e part r' new'
@@ -471,9 +552,9 @@ one_short file_so s told_all (click i col row) part r r' new new' shape one (d, 
     (at_task (λ d w t. ShortTask s i d w t part r' new') s i col row d d' w w' t t' at at' is is' does')
 
 -- each event of the whole machine has one reply
-pub one_run_reply : EachEventHasOneReply → OneText → EachRunEventHasOneReply
-one_run_reply texts_so file_so s e part are = record {
-  whole = λ r r' new new'. one_whole file_so s e part r r' new new'
+pub one_run_reply : EachEventHasOneReply → OneText → OneSite → EachRunEventHasOneReply
+one_run_reply texts_so file_so sites_so s e part are = record {
+  whole = λ r r' new new'. one_whole file_so sites_so s e part r r' new new'
       (λ e told told' mid mid' is is'. (texts_so s.texts e are).whole told told' mid mid');
   short = λ told_all r r' new new' does does' shape. one_short file_so s told_all e part r r' new new' shape
       (λ e told told' mid mid' is is' does does'. (texts_so s.texts e are).short told told' mid mid' does does'

@@ -21,10 +21,10 @@ use Rattle.machine.specs.Whole.{IsDeskAt, RunState, new_run}
 use Rattle.machine.specs.Windows.{Caret, Screened, Window, blank_screen, window_of}
 use Rattle.machine.specs.declared.TheConstants.{MAX_TEXT}
 use Rattle.machine_laws.proofs.Arranging.{LeavesChars, anchor_stands, arranged_leaves, caret_set, shows_so}
-use Rattle.machine_laws.proofs.Following.{DeskFollows, StateFollows, does_follow, emptied_follows, short_follow, state_follows}
+use Rattle.machine_laws.proofs.Following.{DeskFollows, StateFollows, begun_state, does_follow, emptied_follows, short_follow, state_follows}
 use Rattle.machine_laws.proofs.Following.{state_same, texts_follow, told_follow}
-use Rattle.machine_laws.proofs.Going.{PlaceGoes, ScreensGo, TextsGo, as_they_are, by_arranging, by_caret, by_emptying, by_event}
-use Rattle.machine_laws.proofs.Going.{no_screen, replies_go}
+use Rattle.machine_laws.proofs.Going.{PlaceGoes, ScreensGo, TextsGo, as_they_are, by_arranging, by_beginning, by_caret}
+use Rattle.machine_laws.proofs.Going.{by_emptying, by_event, no_screen, replies_go}
 use Rattle.machine_laws.proofs.OneReply.{one_element}
 use Rattle.machine_laws.proofs.OneRunReply.{shown_parts}
 use Rattle.machine_laws.proofs.Reaching.{new_are_texts, new_desks, new_texts, set_old}
@@ -130,6 +130,8 @@ module _ (plain : OwnEditsArePlain) (none : AreIdentified []) where
       subst (StateFollows s) (sym is) (short_follow plain s e r mid told short)
   texts_go s new told (by_emptying i text does) =
       state_follows (λ t u. u ≡ with_room t []) (emptied_follows none) s new i text [] does
+  texts_go s new told (by_beginning i text ops mid spelled does is) =
+      subst (StateFollows s) (sym is) (begun_state ops s mid i text does)
 
 -- a place of a text goes to one that is a character of it, or its beginning
 place_stands : (t : TextState) (old new : Anchor) → IsText t → PlaceGoes t old new → IsAnchor t.operations old

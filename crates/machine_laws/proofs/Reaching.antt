@@ -65,7 +65,7 @@ set_cases xs i j y z at =
       | inr set ↦ inl set.0
     ]
 
-no_name : (c : CharName) → IsAmong [] c → ⊥
+pub no_name : (c : CharName) → IsAmong [] c → ⊥
 no_name c (k, r, within, read, holds) = omega (arith, within)
 
 -- the first of none are none

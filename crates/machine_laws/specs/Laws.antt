@@ -1,6 +1,7 @@
 -- What runs can come to, and the laws of it: each text is what its operations define, and these tell what is
 -- printed; an event has one reply, and none lacks a rule.
 use Rattle.std.specs.Prelude.{◌≡◌, ◌≢◌, ◌⊎◌, ℕ, ◌+◌, ◌^◌, ◌<◌, ◌≤◌, List, ◌++◌, length, All, Some, None, slice_get}
+use Rattle.std.specs.Prelude.{IsFalse, IsTrue}
 use Rattle.char_files.specs.Stretch.{Item}
 use Rattle.operations.specs.Operation.{Operation}
 use Rattle.tree_order.specs.Laws.{AreSameSet}
@@ -9,16 +10,18 @@ use Rattle.set_laws.specs.Sets.{AreIdentified, HaveEqualFronts}
 use Rattle.shelf.specs.Files.{Files}
 use Rattle.text_file.specs.Files.{IsFileOf, IsNoFile}
 use Rattle.text_file.specs.declared.TheConstants.{MAX_TEXT as MAX_STORED}
+use Rattle.texts.specs.SiteFiles.{IsNoSiteFile, IsSiteFileOf}
 use Rattle.texts.specs.Text.{IsAnchor, IsText}
 use Rattle.texts.specs.TextState.{TextState, shown_items}
+use Rattle.texts.specs.declared.TheConstants.{MAX_KEPT}
 use Rattle.texts.specs.declared.took.Took.TheVariants.{Taken}
 use Rattle.machine.specs.DeskState.{DeskState, IsTextOf}
 use Rattle.machine.specs.Machine.{Does, Event, IsTextAt, Prints, Query, Reply, Short, State, print_fronts, print_runs}
 use Rattle.machine.specs.Machine.{print_text, refuses, settles, stops, takes}
 use Rattle.machine.specs.Printing.{waiting_line}
 use Rattle.machine.specs.Whole.{IsDeskAt, IsTaskAt, Part, RunDoes, RunEvent, RunReplies, RunReply, RunShort, RunState}
-use Rattle.machine.specs.Whole.{Task, View, ask, change, lines_of_view}
-use Rattle.machine.specs.Whole.{click, failed, forget, load, new_run, of_text, store, untouched, went_well}
+use Rattle.machine.specs.Whole.{Task, View, ask, change, has_begun, lines_of_view}
+use Rattle.machine.specs.Whole.{click, failed, forget, keep, load, new_run, of_text, reopen, store, untouched, went_well}
 use Rattle.machine.specs.Windows.{Caret, Screened, Selected, Window, window_of}
 use Rattle.machine.specs.declared.TheConstants.{MAX_TEXT}
 
@@ -119,6 +122,8 @@ abbrev pub HasText : RunState → (i : ℕ) → Task → Type 0
 HasText s i (store text name) = (t : TextState) × IsTextAt s.texts i text t
 HasText s i (change text e) = (t : TextState) × IsTextAt s.texts i text t
 HasText s i (forget text) = (t : TextState) × IsTextAt s.texts i text t
+HasText s i (keep text name) = (t : TextState) × IsTextAt s.texts i text t
+HasText s i (reopen text name) = (t : TextState) × IsTextAt s.texts i text t
 HasText s i t = Unit {0}
 
 -- the caret, if there is one, stands in a viewer that shows one of the desk's texts
@@ -131,8 +136,15 @@ abbrev pub IsFileThere : RunState → (name : List ℕ) → Type 0
 IsFileThere s name =
     (file : List ℕ) × (s.files name ≡ Some file) × (IsNoFile file ⊎ ((items : List Item) × IsFileOf items file))
 
+-- a file of this name is there, and it is a site's or no site's
+abbrev pub IsSiteFileThere : RunState → (name : List ℕ) → Type 0
+IsSiteFileThere s name =
+    (file : List ℕ) × (s.files name ≡ Some file)
+    × (IsNoSiteFile file ⊎ ((text site : ℕ) × (ops : List Operation) × IsSiteFileOf text site ops file))
+
 -- What the files' part in a task may be: a load at a caret reads a file that is there, or fails; a store of a text that
--- isn't too long writes one, or fails, whatever is left; nothing else asks for a file.
+-- isn't too long writes one, or fails, whatever is left, and so does a keeping of one that hasn't taken in too much; a
+-- reopening of a text in which nothing was done yet reads one that is there, or fails; nothing else asks for a file.
 abbrev pub MayHavePart : RunState → (i : ℕ) → Screened → Task → Part → Type 0
 MayHavePart s i w (load name) untouched = w.caret ≡ None
 MayHavePart s i w (load name) went_well = (w.caret ≢ None) × IsFileThere s name
@@ -141,6 +153,16 @@ MayHavePart s i w (store text name) untouched =
     (t : TextState) × IsTextAt s.texts i text t × (MAX_STORED < length (shown_items t))
 MayHavePart s i w (store text name) part =
     (t : TextState) × IsTextAt s.texts i text t × (length (shown_items t) ≤ MAX_STORED)
+MayHavePart s i w (keep text name) untouched =
+    (t : TextState) × IsTextAt s.texts i text t × (MAX_KEPT < length t.operations)
+MayHavePart s i w (keep text name) part =
+    (t : TextState) × IsTextAt s.texts i text t × (length t.operations ≤ MAX_KEPT)
+MayHavePart s i w (reopen text name) untouched =
+    (t : TextState) × IsTextAt s.texts i text t × IsTrue (has_begun t)
+MayHavePart s i w (reopen text name) went_well =
+    ((t : TextState) × IsTextAt s.texts i text t × IsFalse (has_begun t)) × IsSiteFileThere s name
+MayHavePart s i w (reopen text name) (failed left) =
+    (t : TextState) × IsTextAt s.texts i text t × IsFalse (has_begun t)
 MayHavePart s i w t part = part ≡ untouched
 
 -- an event is answered where memory is there, with this part of the files

@@ -12,6 +12,7 @@ use convergence::outcomes::{
     drainings_end_one_way, edits_end_one_way, merges_end_one_way, takings_end_one_way,
 };
 use set_laws::closures::nothing_is_good;
+use site_file::one_site;
 use text_file::one_text;
 use texts::laws::{own_edits_are_plain, the_fronts_tell_the_text, the_operations_tell_the_text};
 use tree_order::laws::sequential::one_writer_goes_behind_causes;
@@ -66,6 +67,7 @@ pub fn each_run_event_has_one_reply()
 {
     each_event_has_one_reply();
     one_text();
+    one_site();
 }
 
 /// A law: no task and no click lacks a rule. Where the texts that it names are there, and the caret's viewer shows a

@@ -1,5 +1,5 @@
 use Rattle.std.proofs.Common.{◌≡◌, ℕ, ◌⊎◌, inl, inr, List, [], ◌∷◌, ◌++◌, length, nat_lt, Bool, true, false}
-use Rattle.std.proofs.Common.{MatchBool, Result, Ok, Err, Contains, sym, subst, ◌∙◌}
+use Rattle.std.proofs.Common.{MatchBool, Result, Ok, Err, Contains, subst}
 use Rattle.looks.specs.declared.refusal.Refusal.{Refusal}
 use Rattle.looks.specs.declared.refusal.Refusal.TheVariants.{RoomFull}
 use Rattle.operations.specs.Operation.{Operation}
