@@ -205,6 +205,14 @@ impl Texts {
         self.replica_mut(text).merge_from(other.replica(text))
     }
 
+    /// Puts another replica in the place of a text's.
+    pub fn replace(&mut self, text: TextNo, replica: Replica)
+        requires { text ≤ MAX_TEXT }
+        ensures { InText (λ _ new. new ≡ replica) self.old text self.new }
+    {
+        *self.replica_mut(text) = replica;
+    }
+
     /// What changed of what a text shows since this was last asked for, as its replica tells. It takes no memory.
     pub fn changes(&mut self, text: TextNo) -> Vec<Change>
         requires on_desk { text ≤ MAX_TEXT }

@@ -99,6 +99,12 @@ IsCaretPlace d w None = w.caret ≡ None
 IsCaretPlace d w (Some place) = (c : Caret) × (shown : Window × TextState) × (w.caret ≡ Some c)
     × (shown_in d (screened w) c.viewer ≡ Some shown) × (place.0 ≡ shown.0.text) × (place.1 ≡ place_in shown.1 c.anchor)
 
+-- the number of the text that a viewer shows; none where there is no such viewer
+abbrev pub IsTextShown : DeskState → WindowsSeen → (viewer : ℕ) → Option ℕ → Type 0
+IsTextShown d w v None = shown_in d (screened w) v ≡ None
+IsTextShown d w v (Some text) =
+    (shown : Window × TextState) × (shown_in d (screened w) v ≡ Some shown) × (text ≡ shown.0.text)
+
 -- the caret, set behind so many shown characters of its text
 abbrev pub HasMovedTo : DeskState → (old : WindowsSeen) → (pos : ℕ) → (new : WindowsSeen) → Type 0
 HasMovedTo d old pos new = (c : Caret) (shown : Window × TextState) → old.caret ≡ Some c

@@ -5,7 +5,7 @@ ghost use Rattle.looks.specs.declared.refusal.Refusal.TheVariants.{NoRoom};
 ghost use Rattle.viewers.specs.Viewers.{after_opening, has_room};
 ghost use Rattle.machine.specs.DeskState.{DeskState, InText};
 ghost use Rattle.machine.specs.Windows.{arranged, blank_screen, close, is_open, is_row_below, move, open_in, scroll};
-ghost use Rattle.desk_windows.specs.Windows.{AreLeft, AreOf, ComesTo, ComesToOrShort, Follows, screened, width_of};
+ghost use Rattle.desk_windows.specs.Windows.{AreLeft, AreOf, ComesTo, ComesToOrShort, Follows, IsTextShown, screened, width_of};
 
 use crate::fitting::fit_all;
 use crate::telling::tell_each;
@@ -124,6 +124,17 @@ impl Windows {
         ensures { result ≡ is_open (screened self.now) viewer }
     {
         self.viewers.area(viewer).is_some()
+    }
+
+    /// The number of the text that a viewer shows; `None` for a viewer that isn't on the screen.
+    pub fn text_of(&self, viewer: u32) -> Option<TextNo>
+        ensures text { (d : DeskState) → AreOf d self.now → IsTextShown d self.now viewer result }
+        ensures on_desk { (d : DeskState) → AreOf d self.now → IfSome result (λ text. text ≤ MAX_TEXT) }
+    {
+        match self.viewers.content_at(viewer) {
+            Some(window) => Some(window.text),
+            None => None,
+        }
     }
 
     /// Opens a viewer of a text at a row of a track; where no row is named, in the middle of the track's tallest viewer.
