@@ -1,6 +1,8 @@
 -- The task of a click: what is clicked, the call that stands there, and its parameter.
 use Rattle.std.proofs.Common.{◌≡◌, ℕ, ◌-◌, Bool, true, false, List, [], ◌∷◌, map, Option, Some, None, Result, Ok, Err, refl, sym, ap, subst, ◌∙◌, inl, inr}
-use Rattle.std.specs.Prelude.{◌&&◌, IfSome, MatchOption, MatchResult, slice_get}
+use Rattle.std.specs.Prelude.{◌&&◌, ◌==◌, if◌then◌else◌, option_map, IfSome, IsSome, MatchOption, MatchResult, slice_get}
+use Rattle.std.specs.Option.{option_and_then}
+use Rattle.std.proofs.lemmas.Option.{none-some, same_Some}
 use Rattle.looks.specs.declared.refusal.Refusal.{Refusal}
 use Rattle.looks.specs.declared.refusal.Refusal.TheVariants.{NoSelection, NoViewer, UnknownCommand}
 use Rattle.char_files.specs.Plain.{plain_items}
@@ -9,19 +11,20 @@ use Rattle.reader_scanner.specs.Place.{bytes_of}
 use Rattle.reader_scanner.specs.Tokens.{IsTokenAt}
 use Rattle.reader_scanner.specs.declared.token.Token.{Token}
 use Rattle.reader_scanner.specs.declared.token.TokenValue.{TokenValue}
-use Rattle.reader_scanner.specs.declared.token.TokenValue.TheVariants as value
 use Rattle.command_words.specs.Calls.{IsCallAt, NoCallAt}
 use Rattle.command_words.specs.Commands.{has_parameter, menu_of}
 use Rattle.command_words.specs.declared.calls.Call.{Call}
 use Rattle.texts.specs.TextState.{TextState, shown_items, shown_of}
 use Rattle.machine.specs.DeskState.{DeskState, IsTextOf}
-use Rattle.machine.specs.Whole.{Change, IsTaskAt, IsTaskOfCall, Task, clicked, font_told, is_caret_sign, refuse, task_of, Clicked as ClickedSeen}
-use Rattle.machine.specs.Windows.{Marked, Screened, bytes_shown, marked}
+use Rattle.viewers.specs.Screen.{area_of}
+use Rattle.viewers.specs.declared.screen.Area.{Area}
+use Rattle.machine.specs.Whole.{IsTaskAt, IsTaskOfCall, Task, clicked, clicked_in, is_caret_sign, refuse, task_of, Clicked as ClickedSeen}
+use Rattle.machine.specs.Windows.{Marked, Screened, Window, bytes_shown, marked, viewer_with, window_of}
 use Rattle.machine_laws.proofs.OneReply.{one_element}
 use Rattle.desk_windows.specs.Pointing.{IsClick, IsPlaceOf}
+use Rattle.desk_windows.specs.Windows.{IsTextShown, WindowsSeen, screened}
 use Rattle.desk_windows.specs.declared.pointing.Clicked.{Clicked}
 use Rattle.desk_windows.specs.declared.pointing.Place.TheVariants.{Menu, Text}
-use Rattle.commands.specs.Parameters.{HasFont, MayBeFont}
 use Rattle.commands.specs.Steps.{task_told}
 
 -- the bytes of plain characters, and those of a text
@@ -132,11 +135,51 @@ module _ (d : DeskState) (w : Screened) (col row : ℕ) where
               (subst (λ (n : ℕ). IsTaskOfCall d w call n c.text task) click.viewer of_call),
         ))
 
--- a name that may be a font's is told as one
-pub font_is : (told : TokenValue) (result : Option Change) → MayBeFont told → (HasFont told → result ≡ font_told told)
-    → ((HasFont told → ⊥) → result ≡ None) → result ≡ font_told told
-font_is (value.Name name) result may font none = font may
-font_is value.Inval result may font none = none (λ x. x)
-font_is (value.String text) result may font none = none (λ x. x)
-font_is (value.Int number) result may font none = none (λ x. x)
-font_is (value.Char byte) result may font none = none (λ x. x)
+-- what is clicked is what its viewer shows
+either : (b : Bool) (x y : ClickedSeen) (v text : ℕ) → (x.viewer ≡ v) × (x.text ≡ text) → (y.viewer ≡ v) × (y.text ≡ text)
+    → ((if b then x else y).viewer ≡ v) × ((if b then x else y).text ≡ text)
+either true x y v text first second = first
+either false x y v text first second = second
+
+abbrev ShowsClicked : DeskState → Screened → ClickedSeen → Type 0
+ShowsClicked d w seen =
+    (shown : Window × TextState) × (window_of d w seen.viewer ≡ Some shown) × (seen.text ≡ shown.0.text)
+
+pub clicked_shows : (d : DeskState) (w : Screened) (col row : ℕ) (seen : ClickedSeen) → clicked d w col row ≡ Some seen
+    → ShowsClicked d w seen
+clicked_shows d w col row seen is = of_viewer (viewer_with w col row) is
+  where
+    of_window : (v : ℕ) (area : Area) (o : Option (Window × TextState)) → window_of d w v ≡ o
+        → option_map (clicked_in v area col row) o ≡ Some seen → ShowsClicked d w seen
+    of_window v area None at is = absurd (none-some seen is)
+    of_window v area (Some shown) at is =
+        let same : clicked_in v area col row shown ≡ seen = same_Some (clicked_in v area col row shown) seen is in
+        let (viewer, text) = either (row == area.top) _ _ v shown.0.text (refl, refl) (refl, refl) in (
+          shown,
+          subst (λ (n : ℕ). window_of d w n ≡ Some shown) (sym viewer ∙ ap (λ (x : ClickedSeen). x.viewer) same) at,
+          sym (ap (λ (x : ClickedSeen). x.text) same) ∙ text,
+        )
+
+    of_area : (v : ℕ) (o : Option Area)
+        → option_and_then (λ area. option_map (clicked_in v area col row) (window_of d w v)) o ≡ Some seen → ShowsClicked d w seen
+    of_area v None is = absurd (none-some seen is)
+    of_area v (Some area) is = of_window v area (window_of d w v) refl is
+
+    of_viewer : (o : Option ℕ) → option_and_then (λ v. option_and_then (λ area. option_map (clicked_in v area col row)
+        (window_of d w v)) (area_of w.tracks v)) o ≡ Some seen → ShowsClicked d w seen
+    of_viewer None is = absurd (none-some seen is)
+    of_viewer (Some v) is = of_area v (area_of w.tracks v) is
+
+-- the text that a viewer shows is told where the viewer is on the screen
+pub text_there : (d : DeskState) (w : WindowsSeen) (v : ℕ) (told : Option ℕ) → IsSome (window_of d (screened w) v)
+    → IsTextShown d w v told → IsSome told
+text_there d w v None some is =
+    let lost = subst IsSome is some in
+    absurd cc
+text_there d w v (Some text) some is = refl
+
+pub text_shown : (d : DeskState) (w : WindowsSeen) (v text : ℕ) (told : Option ℕ) (shown : Window × TextState)
+    → told ≡ Some text → IsTextShown d w v told → window_of d (screened w) v ≡ Some shown → text ≡ shown.0.text
+text_shown d w v text told shown is shows at =
+    let (other, there, same) = subst (IsTextShown d w v) is shows in
+    same ∙ ap (λ (x : Window × TextState). x.0.text) (same_Some other shown (sym there ∙ at))

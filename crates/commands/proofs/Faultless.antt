@@ -16,7 +16,7 @@ use Rattle.machine.specs.DeskState.{DeskState}
 use Rattle.machine.specs.Machine.{Does, EditsText, EditsTextShort, Reply, Short, State, alone, edit, edit_reply, refuses}
 use Rattle.machine.specs.Whole.{Change, DoesTask, Refuses, RunReplies, RunReply, RunState, ShortTask, Task, arrange, ask, change, done}
 use Rattle.machine.specs.Whole.{dress_marked, forget, load, of_text, opens}
-use Rattle.machine.specs.Whole.{print, put, put_recalled, refuse, search, store, untouched, with_screen_at, with_told}
+use Rattle.machine.specs.Whole.{keep, print, put, put_recalled, refuse, reopen, search, store, untouched, with_screen_at, with_told}
 use Rattle.machine.specs.Windows.{Arranged, Marked, Screened, close, closed_at, marked, move, open_in, opened_at, place_in, point}
 use Rattle.machine.specs.Windows.{scroll, select}
 use Rattle.machine_laws.proofs.Rooms.{by_test}
@@ -143,7 +143,7 @@ arranged_sound (Err why) s i r new sound (is, is_new) = subst IsSoundRun (sym is
 
 -- ---- tasks
 
--- a refusal is for another reason, and no more is arranged than a command asks for
+-- a refusal is for another reason, and no more is arranged or filed than a command asks for
 abbrev IsSoundTask : Task → Type 0
 IsSoundTask (refuse why) = IsSound why
 IsSoundTask (put items) = ⊤
@@ -160,6 +160,8 @@ IsSoundTask (arrange (scroll v line)) = ⊥
 IsSoundTask (arrange (point col row)) = ⊥
 IsSoundTask (arrange (select col row col' row')) = ⊥
 IsSoundTask (print v) = ⊤
+IsSoundTask (keep text name) = ⊥
+IsSoundTask (reopen text name) = ⊥
 
 module _ (s : RunState) (i : ℕ) (d : DeskState) (w : Screened) where
   does_sound : (task : Task) (r : RunReply) (new : RunState) → IsSoundTask task → DoesTask s i d w task untouched r new
@@ -190,6 +192,8 @@ module _ (s : RunState) (i : ℕ) (d : DeskState) (w : Screened) where
   does_sound (arrange (point col row)) r new sound does = absurd sound
   does_sound (arrange (select col row col' row')) r new sound does = absurd sound
   does_sound (print v) r new sound (part, is, same) = subst IsSoundRun (sym is) tt
+  does_sound (keep text name) r new sound does = absurd sound
+  does_sound (reopen text name) r new sound does = absurd sound
 
   short_sound : (task : Task) (r : RunReply) (new : RunState) → ShortTask s i d w task untouched r new → IsSoundRun r
   short_sound (refuse why) r new short = absurd short
@@ -209,6 +213,8 @@ module _ (s : RunState) (i : ℕ) (d : DeskState) (w : Screened) where
   short_sound (arrange (point col row)) r new short = absurd short
   short_sound (arrange (select col row col' row')) r new short = absurd short
   short_sound (print v) r new (part, (is, same)) = subst IsSoundRun (sym is) refl
+  short_sound (keep text name) r new (part, few, (is, same)) = subst IsSoundRun (sym is) refl
+  short_sound (reopen text name) r new (fresh, (is, same)) = subst IsSoundRun (sym is) refl
 
 replies_sound : (s : RunState) (i : ℕ) (task : Task) (r : RunReply) (new : RunState) → IsSoundTask task
     → RunReplies s (ask i task) untouched r new → IsSoundRun r

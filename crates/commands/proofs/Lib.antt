@@ -4,7 +4,7 @@ pub mod Faultless
 pub mod Following
 pub mod Fonts
 pub mod Lifting
-mod Names
+pub mod Reopening
 pub mod Shelves
 mod Standing
 pub mod Steps

@@ -2,40 +2,42 @@
 use Rattle.std.proofs.Common.{◌≡◌, ◌≢◌, ◌⊎◌, ℕ, ◌≤◌, List, [], length, Option, Some, None, Result, Ok, Err, refl, sym, ap, subst, ◌∙◌, inl, inr}
 use Rattle.std.specs.Prelude.{IfOk, slice_get}
 use Rattle.looks.specs.declared.refusal.Refusal.{Refusal}
-use Rattle.looks.specs.declared.refusal.Refusal.TheVariants.{BadFile, NoCaret, OutOfMemory, ReadFault}
+use Rattle.looks.specs.declared.refusal.Refusal.TheVariants.{BadFile, NoCaret, OutOfMemory, ReadFault, WriteFault}
 use Rattle.char_files.specs.Stretch.{Item}
 use Rattle.text_file.specs.Files.{IsFileOf, IsNoFile, formatted}
 use Rattle.text_file.specs.declared.TheConstants.{MAX_TEXT as MAX_STORED}
 use Rattle.command_words.specs.declared.command.Command.{Command}
 use Rattle.reader_scanner.specs.declared.token.TokenValue.{TokenValue}
 use Rattle.shelf.specs.Files.{Files, HasFile, OthersStay, SameFiles}
+use Rattle.texts.specs.SiteFiles.{site_bytes}
 use Rattle.texts.specs.TextState.{TextState, shown_items}
+use Rattle.texts.specs.declared.TheConstants.{MAX_KEPT}
 use Rattle.texts.specs.declared.edit_refusal.EditRefusal.{EditRefusal}
 use Rattle.texts.specs.declared.edit_refusal.EditRefusal.TheVariants.{Whole}
 use Rattle.machine.specs.DeskState.{DeskState, IsTextOf}
 use Rattle.machine.specs.Machine.{edit_reply, refuses}
 use Rattle.machine.specs.Whole.{DoesTask, FileBecomes, IsDeskAt, IsTaskAt, Part, Refuses, RunReplies, RunReply, RunState, ShortTask}
-use Rattle.machine.specs.Whole.{Task, ask, click, failed, load, of_text, put, store, task_of, untouched, went_well}
+use Rattle.machine.specs.Whole.{Task, Writes, ask, click, done, failed, keep, load, of_text, put, store, task_of, untouched, went_well}
 use Rattle.machine.specs.Windows.{Caret, Screened, Window, window_of}
 use Rattle.machine_laws.proofs.OneReply.{one_element}
 use Rattle.commands.proofs.Steps.{run_stays}
-use Rattle.commands.specs.Filing.{ReadsText, WritesNot, WritesText}
+use Rattle.commands.specs.Filing.{ReadsText, WritesFile, WritesNot, WritesSite, WritesText}
 use Rattle.commands.specs.declared.answer.Answer.{Answer}
 use Rattle.commands.specs.declared.answer.Answer.TheVariants.{Done}
 use Rattle.commands.specs.Steps.{AreFilesOf, CountsSent, DeskSeen, IsEditStep, IsShelfStep, IsTaskStep, StandsIn, answer_reply, sent_answer}
-use Rattle.commands.specs.Steps.{with_desk}
+use Rattle.commands.specs.Steps.{with_desk, written_answer}
 
 -- some files that a shelf tells
-abbrev files_of : Option Files → Files
+abbrev pub files_of : Option Files → Files
 files_of None = λ name. None
 files_of (Some files) = files
 
-same_of : (told : Option Files) → AreFilesOf told told (files_of told) (files_of told)
+pub same_of : (told : Option Files) → AreFilesOf told told (files_of told) (files_of told)
 same_of None = tt
 same_of (Some files) = (refl, refl)
 
 -- a run over these files is as it was
-over_files : (s : RunState) (i : ℕ) (new : DeskSeen) (sent : List (List ℕ)) (files files' : Files) → s.files ≡ files
+pub over_files : (s : RunState) (i : ℕ) (new : DeskSeen) (sent : List (List ℕ)) (files files' : Files) → s.files ≡ files
     → files' ≡ files → with_desk s i new sent ≡ record (with_desk s i new sent) { files = files' }
 over_files s i new sent files files' is same = λ k. record (with_desk s i new sent) { files = (is ∙ sym same) k }
 
@@ -142,7 +144,7 @@ module _ (d : DeskState) (w : Screened) (task : Task) (told told' : Option Files
   replies_so s i part r new stands (inl does) = inl (d, w, stands, does)
   replies_so s i part r new stands (inr short) = inr (d, w, stands, short)
 
-  refused_over : (part : Part) (why : Refusal) (files files' : Files) (sent : List (List ℕ))
+  pub refused_over : (part : Part) (why : Refusal) (files files' : Files) (sent : List (List ℕ))
       → AreFilesOf told told' files files' → files' ≡ files → GoesSo part why files
       → IsShelfStep its_desk (λ i. ask i task) (Err (Whole why)) its_desk sent sent told told'
   refused_over part why files files' sent are stay goes = (
@@ -240,15 +242,15 @@ load_without_caret d w name told sent none =
     refused_over d w (load name) told told untouched NoCaret (files_of told) (files_of told) sent (same_of told) refl
     (λ s i new stands is refused. inl (inl (none, refl, refused)))
 
--- a store of a text
-abbrev pub stored_answer : Result (Unit {0}) Refusal → Result Answer EditRefusal
-stored_answer (Ok _) = Ok Done
-stored_answer (Err why) = Err (Whole why)
-
-module _ (d : DeskState) (w : Screened) (text : ℕ) (t : TextState) (there : IsTextOf d text t) (name : List ℕ)
-    (told told' : Option Files) (sent : List (List ℕ)) where
-  abbrev StoresSo : Result Answer EditRefusal → Type 0
-  StoresSo result = IsShelfStep (record { texts = d; screen = w }) (λ i. ask i (store text name)) result
+-- a task that writes a file, if there isn't too much for one
+module _ (d : DeskState) (w : Screened) (task : Task) (much most : ℕ) (name file : List ℕ) (told told' : Option Files)
+    (sent : List (List ℕ))
+    (does : (s : RunState) (i : ℕ) (part : Part) (r : RunReply) (new : RunState) → IsDeskAt s i d w
+    → Writes s much most name file part r new → DoesTask s i d w task part r new)
+    (short : (s : RunState) (i : ℕ) (r : RunReply) (new : RunState) → IsDeskAt s i d w → much ≤ most
+    → Refuses s OutOfMemory r new → ShortTask s i d w task untouched r new) where
+  abbrev WritesSo : Result Answer EditRefusal → Type 0
+  WritesSo result = IsShelfStep (record { texts = d; screen = w }) (λ i. ask i task) result
       (record { texts = d; screen = w }) sent sent told told'
 
   -- where no file changed
@@ -256,11 +258,11 @@ module _ (d : DeskState) (w : Screened) (text : ℕ) (t : TextState) (there : Is
   kept same = subst (λ (o : Option Files). AreFilesOf told o (files_of told) (files_of told)) (sym same) (same_of told)
 
   -- the run with other files
-  becomes : (s : RunState) (i : ℕ) (files files' : Files) (file : Option (List ℕ))
-      → StandsIn s i (record { texts = d; screen = w }) → s.texts.sent ≡ sent → s.files ≡ files → files' name ≡ file
+  becomes : (s : RunState) (i : ℕ) (files files' : Files) (its : Option (List ℕ))
+      → StandsIn s i (record { texts = d; screen = w }) → s.texts.sent ≡ sent → s.files ≡ files → files' name ≡ its
       → ((other : List ℕ) → other ≢ name → files' other ≡ files other)
-      → FileBecomes s name file (record (with_desk s i (record { texts = d; screen = w }) sent) { files = files' })
-  becomes s i files files' file stands same is there others =
+      → FileBecomes s name its (record (with_desk s i (record { texts = d; screen = w }) sent) { files = files' })
+  becomes s i files files' its stands same is there others =
       let stays : with_desk s i (record { texts = d; screen = w }) sent ≡ s =
       (λ k. with_desk s i (record { texts = d; screen = w }) (sym same k)) ∙ sym (run_stays s i d w stands) in (
         ap (λ (x : RunState). x.texts) stays,
@@ -269,10 +271,9 @@ module _ (d : DeskState) (w : Screened) (text : ℕ) (t : TextState) (there : Is
         λ other apart. others other apart ∙ ap (λ (f : Files). f other) (sym is),
       )
 
-  stores_well : length (shown_items t) ≤ MAX_STORED → HasFile told' name (formatted (shown_items t)) → OthersStay told told' name
-      → StoresSo (Ok Done)
-  stores_well few has stay =
-      let (files, files', are, written, others) = files_written told told' name (formatted (shown_items t)) stay has in (
+  writes_well : much ≤ most → HasFile told' name file → OthersStay told told' name → WritesSo (Ok Done)
+  writes_well few has stay =
+      let (files, files', are, there, others) = files_written told told' name file stay has in (
         [],
         went_well,
         files,
@@ -283,26 +284,23 @@ module _ (d : DeskState) (w : Screened) (text : ℕ) (t : TextState) (there : Is
           d,
           w,
           stands,
-          (
-            t,
-            (d, stands.texts, there),
-            (few, refl, becomes s i files files' (Some (formatted (shown_items t))) stands same is written others),
-          ),
+          does s i went_well done (record (with_desk s i (record { texts = d; screen = w }) sent) { files = files' }) stands
+              (few, refl, becomes s i files files' (Some file) stands same is there others),
         ),
       )
 
-  stores_not : (why : Refusal) → WritesNot (shown_items t) name told told' why → StoresSo (Err (Whole why))
-  stores_not why (inl (bad, long, same)) =
-      subst (λ (e : Refusal). StoresSo (Err (Whole e))) (sym bad)
-      (refused_over d w (store text name) told told' untouched BadFile (files_of told) (files_of told) sent (kept same) refl
-      (λ s i new stands is refused. inl (t, (d, stands.texts, there), (long, refused))))
-  stores_not why (inr (inl (short, few, same))) =
-      subst (λ (e : Refusal). StoresSo (Err (Whole e))) (sym short)
-      (refused_over d w (store text name) told told' untouched OutOfMemory (files_of told) (files_of told) sent (kept same) refl
-      (λ s i new stands is refused. inr (refl, (t, (d, stands.texts, there), few), refused)))
-  stores_not why (inr (inr (fault, few, stay))) =
+  writes_not : (why : Refusal) → WritesNot much most name told told' why → WritesSo (Err (Whole why))
+  writes_not why (inl (bad, long, same)) =
+      subst (λ (e : Refusal). WritesSo (Err (Whole e))) (sym bad)
+      (refused_over d w task told told' untouched BadFile (files_of told) (files_of told) sent (kept same) refl
+      (λ s i new stands is refused. inl (does s i untouched (of_text (refuses BadFile)) new stands (long, refused))))
+  writes_not why (inr (inl (memory, few, same))) =
+      subst (λ (e : Refusal). WritesSo (Err (Whole e))) (sym memory)
+      (refused_over d w task told told' untouched OutOfMemory (files_of told) (files_of told) sent (kept same) refl
+      (λ s i new stands is refused. inr (short s i (of_text (refuses OutOfMemory)) new stands few refused)))
+  writes_not why (inr (inr (fault, few, stay))) =
       let (files, files', are, others) = files_failed told told' name stay in
-      subst (λ (e : Refusal). StoresSo (Err (Whole e))) (sym fault) (
+      subst (λ (e : Refusal). WritesSo (Err (Whole e))) (sym fault) (
         [],
         failed (files' name),
         files,
@@ -313,18 +311,35 @@ module _ (d : DeskState) (w : Screened) (text : ℕ) (t : TextState) (there : Is
           d,
           w,
           stands,
-          (
-            t,
-            (d, stands.texts, there),
-            (few, refl, becomes s i files files' (files' name) stands same is refl others),
-          ),
+          does s i (failed (files' name)) (of_text (refuses WriteFault))
+              (record (with_desk s i (record { texts = d; screen = w }) sent) { files = files' }) stands
+              (few, refl, becomes s i files files' (files' name) stands same is refl others),
         ),
       )
 
-  pub store_step : (result : Result (Unit {0}) Refusal) → WritesText (shown_items t) name told told' result
-      → StoresSo (stored_answer result)
-  store_step (Ok _) (few, has, stay) = stores_well few has stay
-  store_step (Err why) not = stores_not why not
+  writes_step : (result : Result (Unit {0}) Refusal) → WritesFile much most name file told told' result
+      → WritesSo (written_answer result)
+  writes_step (Ok _) (few, has, stay) = writes_well few has stay
+  writes_step (Err why) not = writes_not why not
+
+-- a store of what a text shows, and a keeping of all that it has taken in
+module _ (d : DeskState) (w : Screened) (text : ℕ) (t : TextState) (there : IsTextOf d text t) (name : List ℕ)
+    (told told' : Option Files) (sent : List (List ℕ)) (result : Result (Unit {0}) Refusal) where
+  pub store_step : WritesText t name told told' result
+      → IsShelfStep (record { texts = d; screen = w }) (λ i. ask i (store text name)) (written_answer result)
+      (record { texts = d; screen = w }) sent sent told told'
+  store_step writes =
+      writes_step d w (store text name) (length (shown_items t)) MAX_STORED name (formatted (shown_items t)) told told' sent
+      (λ s i part r new stands does. (t, (d, stands.texts, there), does))
+      (λ s i r new stands few refused. (refl, (t, (d, stands.texts, there), few), refused)) result writes
+
+  pub keep_step : WritesSite t name told told' result
+      → IsShelfStep (record { texts = d; screen = w }) (λ i. ask i (keep text name)) (written_answer result)
+      (record { texts = d; screen = w }) sent sent told told'
+  keep_step writes =
+      writes_step d w (keep text name) (length t.operations) MAX_KEPT name (site_bytes t.text t.site t.operations) told told' sent
+      (λ s i part r new stands does. (t, (d, stands.texts, there), does))
+      (λ s i r new stands few refused. (refl, (t, (d, stands.texts, there), few), refused)) result writes
 
 -- the task that stands in a cell of the desk stands there in the run
 task_at_it : (seen : DeskSeen) (s : RunState) (i col row : ℕ) (task : Task) (d : DeskState) (w : Screened) → StandsIn s i seen

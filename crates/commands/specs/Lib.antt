@@ -1,4 +1,3 @@
 pub mod Filing
-pub mod Parameters
 pub mod Putting
 pub mod Steps

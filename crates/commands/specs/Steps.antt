@@ -84,6 +84,11 @@ abbrev pub sent_answer : Result ℕ EditRefusal → Result Answer EditRefusal
 sent_answer (Ok count) = Ok (Sent count)
 sent_answer (Err why) = Err why
 
+-- what a writing answers, as a command does
+abbrev pub written_answer : Result (Unit {0}) Refusal → Result Answer EditRefusal
+written_answer (Ok _) = Ok Done
+written_answer (Err why) = Err (Whole why)
+
 -- a command that sent messages answers how many
 abbrev pub CountsSent : Result Answer EditRefusal → List (List ℕ) → Type 0
 CountsSent (Ok (Sent count)) messages = count ≡ length messages

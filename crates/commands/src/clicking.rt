@@ -1,17 +1,17 @@
 //! A click: the command that stands in a cell, and what it does.
 
-ghost use Rattle.std.specs.Prelude.{◌≡◌, ◌≤◌, ◌&&◌, ℕ, None as Nothing, IfErr, IfOk, IfSome, MatchOption};
+ghost use Rattle.std.specs.Prelude.{◌≡◌, ◌≤◌, ◌&&◌, ℕ, Some as Just, None as Nothing, IfErr, IfSome, IsSome, MatchOption};
 ghost use Rattle.looks.specs.declared.refusal.Refusal.TheVariants.{NoSelection};
 ghost use Rattle.reader_scanner.specs.Tokens.{IsTokenAt};
 ghost use Rattle.reader_scanner.specs.declared.token.Token.{Token as TokenSeen};
 ghost use Rattle.command_words.specs.Calls.{IsCallAt, NoCallAt};
 ghost use Rattle.command_words.specs.Commands.{has_parameter};
 ghost use Rattle.shelf.specs.Files.{Counts};
-ghost use Rattle.machine.specs.Whole.{IsTaskOfCall, ask, click, is_caret_sign, task_of, Clicked as ClickedSeen};
-ghost use Rattle.machine.specs.Windows.{bytes_shown, marked};
+ghost use Rattle.texts.specs.TextState.{TextState};
+ghost use Rattle.machine.specs.Whole.{IsTaskOfCall, Task, ask, click, is_caret_sign, task_of, Clicked as ClickedSeen};
+ghost use Rattle.machine.specs.Windows.{Window, bytes_shown, marked, window_of};
 ghost use Rattle.machine.specs.declared.TheConstants.{MAX_TEXT};
 ghost use Rattle.desk_windows.specs.Pointing.{IsClick};
-ghost use Rattle.commands.specs.Parameters.{MayBeFont};
 ghost use Rattle.commands.specs.Steps.{IsFault, IsShelfStep, task_told};
 
 use crate::answer::Answer;
@@ -21,7 +21,7 @@ use crate::parameters::{
     bytes_told, colour_told, file_told, font_told, is_caret_sign, offset_told, text_told,
 };
 use crate::putting::Insertion;
-use char_files::Plain;
+use char_files::{Plain, TextNo};
 use command_words::{Call, Command, command_at, menu_text};
 use desk_windows::{Clicked, Place};
 use looks::Refusal;
@@ -59,7 +59,6 @@ impl Desk {
     fn marked_value(&self) -> Result<TokenValue, Refusal>
         ensures value { MatchOption (marked self.now.texts self.now.screen) (result ≡ Err NoSelection)
             (λ m. (there : TokenSeen) × IsTokenAt (bytes_shown m.text) m.beg there × (result ≡ Ok there.value)) }
-        ensures named { IfOk result (λ value. MayBeFont value) }
         ensures errors { IfErr result (λ why. why ≡ NoSelection) }
     {
         let Some(marked) = self.windows.marked(&self.texts) else {
@@ -71,10 +70,8 @@ impl Desk {
 
     // The value of a call's parameter, which is followed to the selection once; of a call without one any value does.
     fn parameter(&self, call: Call) -> Result<TokenValue, Refusal>
-        requires { MayBeFont call.token.value }
         ensures task { (viewer text : ℕ) → IsTaskOfCall self.now.texts self.now.screen call viewer text
             (task_told self.now.texts self.now.screen call.command result viewer text) }
-        ensures named { IfOk result (λ value. MayBeFont value) }
         ensures errors { IfErr result (λ why. why ≡ NoSelection) }
     {
         if is_followed(call.command, &call.token.value) {
@@ -83,44 +80,68 @@ impl Desk {
         Ok(call.token.value)
     }
 
-    // Does a command, with the value of its parameter, in the viewer that was clicked.
-    fn execute<S: Shelf>(
+    // Does a command, with the value of its parameter, in a viewer on a text.
+    fn perform<S: Shelf>(
         &mut self,
         command: Command,
         value: &TokenValue,
-        at: &Clicked,
+        viewer: u32,
+        text: TextNo,
         shelf: &mut S,
         outbox: &mut Outbox,
     ) -> Result<Answer, EditRefusal>
-        requires on_desk { at.now.text ≤ MAX_TEXT }
-        requires named { MayBeFont value.now }
+        requires on_desk { text ≤ MAX_TEXT }
         ensures step { IsShelfStep self.old
-            (λ i. ask i (task_of self.old.texts self.old.screen command value.now at.now.viewer at.now.text)) result self.new
+            (λ i. ask i (task_of self.old.texts self.old.screen command value.now viewer text)) result self.new
             outbox.old outbox.new (S.files shelf.old) (S.files shelf.new) }
         ensures fault { IsFault result → Counts (S.faults shelf.old) (S.faults shelf.new) }
     {
         match command {
             Command::SystemOpen => self.open_told(Track::System, text_told(value)),
-            Command::SystemClose => self.close_clicked(at.viewer),
+            Command::SystemClose => self.close_clicked(viewer),
             Command::EditOpen => self.open_told(Track::User, text_told(value)),
             Command::EditLoad => self.load(file_told(value), shelf, outbox),
-            Command::EditStore => self.store(at.text, file_told(value), shelf),
+            Command::EditStore => self.store(text, file_told(value), shelf),
             Command::EditRecall => sent(self.put(Insertion::Recalled, outbox)),
-            Command::EditRestore => sent(self.restore(at.text, outbox)),
+            Command::EditRestore => sent(self.restore(text, outbox)),
             Command::EditChangeFont => sent(self.dress(font_told(value), outbox)),
             Command::EditChangeColor => sent(self.dress(colour_told(value), outbox)),
             Command::EditChangeOffset => sent(self.dress(offset_told(value), outbox)),
             Command::EditSearch => self.search(bytes_told(value)),
-            Command::ShareForget => self.forget(at.text),
+            Command::ShareForget => self.forget(text),
+        }
+    }
+
+    /// Does a command that was called in a viewer, which is on the screen.
+    ///
+    /// Refused, in this order, `NoSelection` where the parameter is `^` and nothing is selected, else `BadParameter` where it
+    /// tells nothing that the command can take; `NoSelection` where looks are to change and nothing is selected; `NoCaret` where
+    /// the command needs one; then as the command is. `ReadFault` and `WriteFault` come of the shelf alone.
+    pub fn execute<S: Shelf>(
+        &mut self,
+        call: Call,
+        viewer: u32,
+        shelf: &mut S,
+        outbox: &mut Outbox,
+    ) -> Result<Answer, EditRefusal>
+        requires on_screen { IsSome (window_of self.old.texts self.old.screen viewer) }
+        ensures step { (shown : Window × TextState) → window_of self.old.texts self.old.screen viewer ≡ Just shown
+            → (task : Task) × IsTaskOfCall self.old.texts self.old.screen call viewer shown.0.text task
+            × IsShelfStep self.old (λ i. ask i task) result self.new outbox.old outbox.new (S.files shelf.old) (S.files shelf.new) }
+        ensures fault { IsFault result → Counts (S.faults shelf.old) (S.faults shelf.new) }
+    {
+        let text = self.windows.text_of(viewer).unwrap();
+        let command = call.command;
+        match self.parameter(call) {
+            Ok(value) => self.perform(command, &value, viewer, text, shelf, outbox),
+            Err(why) => Err(EditRefusal::Whole(why)),
         }
     }
 
     /// Does the command that stands in a cell of the screen: in a viewer's menu, or in what it shows of its text.
     ///
     /// Refused, in this order, `NoViewer` in a blank track and outside the screen; `UnknownCommand` where no command's word
-    /// stands; `NoSelection` where the parameter is `^` and nothing is selected, else `BadParameter` where it tells nothing
-    /// that the command can take; `NoSelection` where looks are to change and nothing is selected; `NoCaret` where the command
-    /// needs one; then as the command is. `ReadFault` and `WriteFault` come of the shelf alone.
+    /// stands; then as `execute` is.
     pub fn click<S: Shelf>(
         &mut self,
         col: usize,
@@ -138,10 +159,6 @@ impl Desk {
         let Some(call) = self.call_at(&at) else {
             return Err(EditRefusal::Whole(Refusal::UnknownCommand));
         };
-        let command = call.command;
-        match self.parameter(call) {
-            Ok(value) => self.execute(command, &value, &at, shelf, outbox),
-            Err(why) => Err(EditRefusal::Whole(why)),
-        }
+        self.execute(call, at.viewer, shelf, outbox)
     }
 }

@@ -5,7 +5,7 @@ ghost use Rattle.std.specs.Option.{option_copied};
 ghost use Rattle.machine.specs.Whole.{arrange, ask, dress_marked, forget, search, with_told};
 ghost use Rattle.machine.specs.Windows.{close, open_in};
 ghost use Rattle.machine.specs.declared.TheConstants.{MAX_TEXT};
-ghost use Rattle.commands.specs.Steps.{IsEditStep, IsTaskStep, sent_answer};
+ghost use Rattle.commands.specs.Steps.{IsEditStep, IsTaskStep, sent_answer, written_answer};
 
 use crate::answer::Answer;
 use crate::desk::Desk;
@@ -23,6 +23,16 @@ pub(crate) fn sent(outcome: Result<u32, EditRefusal>) -> Result<Answer, EditRefu
     match outcome {
         Ok(count) => Ok(Answer::Sent(count)),
         Err(why) => Err(why),
+    }
+}
+
+// What a writing answers, as a command does.
+pub(crate) fn written(outcome: Result<(), Refusal>) -> Result<Answer, EditRefusal>
+    ensures { result ≡ written_answer outcome }
+{
+    match outcome {
+        Ok(()) => Ok(Answer::Done),
+        Err(why) => Err(EditRefusal::Whole(why)),
     }
 }
 

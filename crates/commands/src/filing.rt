@@ -3,7 +3,6 @@
 ghost use Rattle.std.specs.Prelude.{◌≡◌, ◌≤◌, ℕ, List, IsErrOf};
 ghost use Rattle.std.specs.Option.{option_copied};
 ghost use Rattle.shelf.specs.Files.{Counts, SameFiles};
-ghost use Rattle.texts.specs.TextState.{shown_items};
 ghost use Rattle.machine.specs.Whole.{ask, load, store, with_told};
 ghost use Rattle.machine.specs.declared.TheConstants.{MAX_TEXT};
 ghost use Rattle.commands.specs.Filing.{ReadsText, WritesText};
@@ -11,7 +10,7 @@ ghost use Rattle.commands.specs.Steps.{IsFault, IsShelfStep};
 
 use crate::answer::Answer;
 use crate::desk::Desk;
-use crate::executing::sent;
+use crate::executing::{sent, written};
 use crate::putting::Insertion;
 use char_files::{Buffer, TextNo};
 use looks::Refusal;
@@ -36,7 +35,7 @@ fn write_text<S: Shelf>(
     name: &str,
     shelf: &mut S,
 ) -> Result<(), Refusal>
-    ensures writes { WritesText (shown_items replica.now) name.now (S.files shelf.old) (S.files shelf.new) result }
+    ensures writes { WritesText replica.now name.now (S.files shelf.old) (S.files shelf.new) result }
     ensures fault { IsErrOf result Refusal.WriteFault → Counts (S.faults shelf.old) (S.faults shelf.new) }
 {
     let mut file = Vec::new(alloc);
@@ -84,9 +83,6 @@ impl Desk {
         let Some(name) = name else {
             return Err(EditRefusal::Whole(Refusal::BadParameter));
         };
-        match write_text(self.alloc, self.texts.replica(text), name, shelf) {
-            Ok(()) => Ok(Answer::Done),
-            Err(why) => Err(EditRefusal::Whole(why)),
-        }
+        written(write_text(self.alloc, self.texts.replica(text), name, shelf))
     }
 }

@@ -6,6 +6,7 @@ mod clicking;
 mod desk;
 mod executing;
 mod filing;
+mod keeping;
 mod parameters;
 mod putting;
 mod searching;

@@ -1,210 +1,51 @@
-use Rattle.std.proofs.Common.{List, ℕ, None, Option, Result, sym, subst}
-use Rattle.std.specs.Option.{option_copied}
-use Rattle.viewers.specs.declared.screen.Track.TheVariants.{User, System}
-use Rattle.command_words.specs.declared.command.Command.TheVariants as command
-use Rattle.texts.specs.Edit.{restoration}
-use Rattle.texts.specs.declared.edit_refusal.EditRefusal.{EditRefusal}
-use Rattle.machine.specs.Whole.{Change, Task, arrange, ask, change, dress_marked, forget, load, put_recalled}
-use Rattle.machine.specs.Whole.{search, store, with_told}
-use Rattle.machine.specs.Windows.{close, open_in}
-use Rattle.commands.proofs.Clicks.{font_is}
-use Rattle.commands.proofs.Faultless.{dressed_sound, edit_step_sound, task_sound, told_sound}
-use Rattle.commands.proofs.Shelves.{commanded, edit_over, task_over}
-use Rattle.commands.proofs.Tasks.{change_step}
-use Rattle.commands.specs.declared.answer.Answer.{Answer}
-use Rattle.commands.specs.Steps.{DeskSeen, IsFault, IsShelfStep}
+use Rattle.std.proofs.Common.{◌≡◌, ℕ, ◌≤◌, Err, IfSome, Some, sym, subst}
+use Rattle.std.specs.Prelude.{IsSome}
+use Rattle.texts.specs.declared.edit_refusal.EditRefusal.TheVariants.{Whole}
+use Rattle.machine.specs.Whole.{IsTaskOfCall, refuse, task_of}
+use Rattle.machine.specs.Windows.{window_of}
+use Rattle.machine.specs.declared.TheConstants.{MAX_TEXT}
+use Rattle.commands.proofs.Clicks.{text_shown, text_there}
+use Rattle.commands.proofs.Faultless.{no_selection_sound}
+use Rattle.commands.proofs.Shelves.{task_over}
+use Rattle.commands.proofs.Tasks.{refused_task}
+use Rattle.commands.specs.Steps.{DeskSeen}
 use Rattle.commands.proofs.desk.Desk.execute.Goals as goal
 
-pub returns-in-SystemOpen-clause-step : goal.returns-in-SystemOpen-clause-step
-returns-in-SystemOpen-clause-step g c =
-    let seen : DeskSeen = c.args.self.now in let sent = c.args.outbox.now in
-    let told = g.S.Shelf.files c.args.shelf.now in
-    commanded (λ (task : Task). IsShelfStep seen (λ i. ask i task) c.open_told.result c.open_told.new.self sent sent told told) seen.texts seen.screen
-    c.args.command command.SystemOpen c.args.value.now c.args.at.now.viewer c.args.at.now.text c.in-SystemOpen.is
-    (subst (λ (o : Option ℕ). IsShelfStep seen (λ i. ask i (with_told o (λ n. arrange (open_in System n None)))) c.open_told.result c.open_told.new.self sent sent told told)
-    c.text_told.ensures.told
-    (task_over seen c.open_told.new.self (with_told c.text_told.result (λ n. arrange (open_in System n None))) told c.open_told.result sent c.open_told.ensures))
+pub unwrap-text-requires : goal.unwrap-text-requires
+unwrap-text-requires g c =
+    let d = c.self.inside.texts in let windows = c.self.inside.windows in
+    text_there d windows c.args.viewer c.text_of.result
+    (subst (λ (x : DeskSeen). IsSome (window_of x.texts x.screen c.args.viewer)) (sym c.self.view_is) c.requires.on_screen)
+    (c.text_of.ensures.text d c.self.invariant.0)
 
-pub returns-in-SystemOpen-clause-fault : goal.returns-in-SystemOpen-clause-fault
-returns-in-SystemOpen-clause-fault g c = λ fault.
-    let seen : DeskSeen = c.args.self.now in
-    absurd (task_sound seen c.open_told.new.self (with_told c.text_told.result (λ n. arrange (open_in System n None))) c.open_told.result
-    (told_sound c.text_told.result (λ n. arrange (open_in System n None)) (λ n. tt)) c.open_told.ensures fault)
+pub perform-requires : goal.perform-requires
+perform-requires g c = record {
+  on_desk = subst (λ o. IfSome o (λ text. text ≤ MAX_TEXT)) c.unwrap-text.ensures
+      (c.text_of.ensures.on_desk c.self.inside.texts c.self.invariant.0);
+}
 
-pub returns-in-EditOpen-clause-step : goal.returns-in-EditOpen-clause-step
-returns-in-EditOpen-clause-step g c =
-    let seen : DeskSeen = c.args.self.now in let sent = c.args.outbox.now in
-    let told = g.S.Shelf.files c.args.shelf.now in
-    commanded (λ (task : Task). IsShelfStep seen (λ i. ask i task) c.open_told-in-EditOpen.result c.open_told-in-EditOpen.new.self sent sent told told) seen.texts seen.screen
-    c.args.command command.EditOpen c.args.value.now c.args.at.now.viewer c.args.at.now.text c.in-EditOpen.is
-    (subst (λ (o : Option ℕ). IsShelfStep seen (λ i. ask i (with_told o (λ n. arrange (open_in User n None)))) c.open_told-in-EditOpen.result c.open_told-in-EditOpen.new.self sent sent told told)
-    c.text_told-in-EditOpen.ensures.told
-    (task_over seen c.open_told-in-EditOpen.new.self (with_told c.text_told-in-EditOpen.result (λ n. arrange (open_in User n None))) told c.open_told-in-EditOpen.result sent c.open_told-in-EditOpen.ensures))
+pub returns-in-Ok-clause-step : goal.returns-in-Ok-clause-step
+returns-in-Ok-clause-step g c = λ shown at.
+    let seen : DeskSeen = c.args.self.now in let text = c.unwrap-text.result in
+    let same : text ≡ shown.0.text =
+    text_shown c.self.inside.texts c.self.inside.windows c.args.viewer text c.text_of.result shown c.unwrap-text.ensures
+    (c.text_of.ensures.text c.self.inside.texts c.self.invariant.0)
+    (subst (λ (x : DeskSeen). window_of x.texts x.screen c.args.viewer ≡ Some shown) (sym c.self.view_is) at) in (
+      task_of seen.texts seen.screen c.args.call.command c.in-Ok.value c.args.viewer text,
+      subst (λ (n : ℕ). IsTaskOfCall seen.texts seen.screen c.args.call c.args.viewer n
+          (task_of seen.texts seen.screen c.args.call.command c.in-Ok.value c.args.viewer text)) same
+          (c.in-Ok.ensures.task c.args.viewer text),
+      c.perform.ensures.step,
+    )
 
-pub returns-in-EditOpen-clause-fault : goal.returns-in-EditOpen-clause-fault
-returns-in-EditOpen-clause-fault g c = λ fault.
-    let seen : DeskSeen = c.args.self.now in
-    absurd (task_sound seen c.open_told-in-EditOpen.new.self (with_told c.text_told-in-EditOpen.result (λ n. arrange (open_in User n None))) c.open_told-in-EditOpen.result
-    (told_sound c.text_told-in-EditOpen.result (λ n. arrange (open_in User n None)) (λ n. tt)) c.open_told-in-EditOpen.ensures fault)
+pub returns-in-Err-clause-step : goal.returns-in-Err-clause-step
+returns-in-Err-clause-step g c = λ shown at.
+    let seen : DeskSeen = c.args.self.now in let why = c.in-Err.why in
+    let told = g.S.Shelf.files c.args.shelf.now in (
+      refuse why,
+      c.in-Err.ensures.task c.args.viewer shown.0.text,
+      task_over seen seen (refuse why) told (Err (Whole why)) c.args.outbox.now (refused_task seen why),
+    )
 
-pub returns-in-SystemClose-clause-step : goal.returns-in-SystemClose-clause-step
-returns-in-SystemClose-clause-step g c =
-    let seen : DeskSeen = c.args.self.now in let sent = c.args.outbox.now in
-    let told = g.S.Shelf.files c.args.shelf.now in
-    commanded (λ (task : Task). IsShelfStep seen (λ i. ask i task) c.close_clicked.result c.close_clicked.new.self sent sent told told) seen.texts seen.screen
-    c.args.command command.SystemClose c.args.value.now c.args.at.now.viewer c.args.at.now.text c.in-SystemClose.is
-    (task_over seen c.close_clicked.new.self (arrange (close c.args.at.now.viewer)) told c.close_clicked.result sent
-    c.close_clicked.ensures)
-
-pub returns-in-SystemClose-clause-fault : goal.returns-in-SystemClose-clause-fault
-returns-in-SystemClose-clause-fault g c = λ fault.
-    let seen : DeskSeen = c.args.self.now in
-    absurd (task_sound seen c.close_clicked.new.self (arrange (close c.args.at.now.viewer)) c.close_clicked.result tt
-    c.close_clicked.ensures fault)
-
-pub returns-in-EditLoad-clause-step : goal.returns-in-EditLoad-clause-step
-returns-in-EditLoad-clause-step g c =
-    let seen : DeskSeen = c.args.self.now in let sent = c.args.outbox.now in
-    let told = g.S.Shelf.files c.args.shelf.now in
-    commanded (λ (task : Task). IsShelfStep seen (λ i. ask i task) c.load.result c.load.new.self sent c.load.new.outbox told (g.S.Shelf.files c.load.new.shelf)) seen.texts seen.screen
-    c.args.command command.EditLoad c.args.value.now c.args.at.now.viewer c.args.at.now.text c.in-EditLoad.is
-    (subst (λ (o : Option (List ℕ)). IsShelfStep seen (λ i. ask i (with_told o load)) c.load.result c.load.new.self sent c.load.new.outbox
-    told (g.S.Shelf.files c.load.new.shelf)) c.file_told.ensures c.load.ensures.step)
-
-pub returns-in-EditStore-clause-step : goal.returns-in-EditStore-clause-step
-returns-in-EditStore-clause-step g c =
-    let seen : DeskSeen = c.args.self.now in let sent = c.args.outbox.now in
-    let told = g.S.Shelf.files c.args.shelf.now in
-    commanded (λ (task : Task). IsShelfStep seen (λ i. ask i task) c.store.result seen sent sent told (g.S.Shelf.files c.store.new.shelf)) seen.texts seen.screen
-    c.args.command command.EditStore c.args.value.now c.args.at.now.viewer c.args.at.now.text c.in-EditStore.is
-    (subst (λ (o : Option (List ℕ)). IsShelfStep seen (λ i. ask i (with_told o (store c.args.at.now.text))) c.store.result seen sent sent
-    told (g.S.Shelf.files c.store.new.shelf)) c.file_told-in-EditStore.ensures (c.store.ensures.step sent))
-
-pub returns-in-EditRecall-clause-step : goal.returns-in-EditRecall-clause-step
-returns-in-EditRecall-clause-step g c =
-    let seen : DeskSeen = c.args.self.now in let sent = c.args.outbox.now in
-    let told = g.S.Shelf.files c.args.shelf.now in
-    commanded (λ (task : Task). IsShelfStep seen (λ i. ask i task) c.sent.result c.put.new.self sent c.put.new.outbox told told) seen.texts seen.screen
-    c.args.command command.EditRecall c.args.value.now c.args.at.now.viewer c.args.at.now.text c.in-EditRecall.is
-    (subst (λ (r : Result Answer EditRefusal). IsShelfStep seen (λ i. ask i put_recalled) r c.put.new.self sent c.put.new.outbox told told)
-    (sym c.sent.ensures)
-    (edit_over seen c.put.new.self put_recalled told c.put.result sent c.put.new.outbox
-    c.put.ensures))
-
-pub returns-in-EditRecall-clause-fault : goal.returns-in-EditRecall-clause-fault
-returns-in-EditRecall-clause-fault g c = λ fault.
-    let seen : DeskSeen = c.args.self.now in
-    absurd (edit_step_sound seen c.put.new.self put_recalled c.put.result c.args.outbox.now c.put.new.outbox tt
-    c.put.ensures (subst IsFault c.sent.ensures fault))
-
-pub returns-in-EditRestore-clause-step : goal.returns-in-EditRestore-clause-step
-returns-in-EditRestore-clause-step g c =
-    let seen : DeskSeen = c.args.self.now in let sent = c.args.outbox.now in
-    let told = g.S.Shelf.files c.args.shelf.now in
-    commanded (λ (task : Task). IsShelfStep seen (λ i. ask i task) c.sent-in-EditRestore.result c.restore.new.self sent c.restore.new.outbox told told) seen.texts seen.screen
-    c.args.command command.EditRestore c.args.value.now c.args.at.now.viewer c.args.at.now.text c.in-EditRestore.is
-    (subst (λ (r : Result Answer EditRefusal). IsShelfStep seen (λ i. ask i (change c.args.at.now.text restoration)) r c.restore.new.self sent c.restore.new.outbox told told)
-    (sym c.sent-in-EditRestore.ensures)
-    (edit_over seen c.restore.new.self (change c.args.at.now.text restoration) told c.restore.result sent c.restore.new.outbox
-    (change_step seen c.restore.new.self c.args.at.now.text restoration c.restore.result c.args.outbox.now c.restore.new.outbox
-    c.restore.ensures)))
-
-pub returns-in-EditRestore-clause-fault : goal.returns-in-EditRestore-clause-fault
-returns-in-EditRestore-clause-fault g c = λ fault.
-    let seen : DeskSeen = c.args.self.now in
-    absurd (edit_step_sound seen c.restore.new.self (change c.args.at.now.text restoration) c.restore.result c.args.outbox.now c.restore.new.outbox tt
-    (change_step seen c.restore.new.self c.args.at.now.text restoration c.restore.result c.args.outbox.now c.restore.new.outbox
-    c.restore.ensures) (subst IsFault c.sent-in-EditRestore.ensures fault))
-
-pub returns-in-EditChangeFont-clause-step : goal.returns-in-EditChangeFont-clause-step
-returns-in-EditChangeFont-clause-step g c =
-    let seen : DeskSeen = c.args.self.now in let sent = c.args.outbox.now in
-    let told = g.S.Shelf.files c.args.shelf.now in
-    commanded (λ (task : Task). IsShelfStep seen (λ i. ask i task) c.sent-in-EditChangeFont.result c.dress.new.self sent c.dress.new.outbox told told) seen.texts seen.screen
-    c.args.command command.EditChangeFont c.args.value.now c.args.at.now.viewer c.args.at.now.text c.in-EditChangeFont.is
-    (subst (λ (o : Option Change). IsShelfStep seen (λ i. ask i (with_told o (dress_marked seen.texts seen.screen))) c.sent-in-EditChangeFont.result c.dress.new.self
-    sent c.dress.new.outbox told told) (font_is c.args.value.now c.font_told.result c.requires.named c.font_told.ensures.font c.font_told.ensures.none)
-    (subst (λ (r : Result Answer EditRefusal). IsShelfStep seen (λ i. ask i (with_told c.font_told.result (dress_marked seen.texts seen.screen))) r c.dress.new.self sent c.dress.new.outbox told told)
-    (sym c.sent-in-EditChangeFont.ensures)
-    (edit_over seen c.dress.new.self (with_told c.font_told.result (dress_marked seen.texts seen.screen)) told c.dress.result sent c.dress.new.outbox
-    c.dress.ensures)))
-
-pub returns-in-EditChangeFont-clause-fault : goal.returns-in-EditChangeFont-clause-fault
-returns-in-EditChangeFont-clause-fault g c = λ fault.
-    let seen : DeskSeen = c.args.self.now in
-    absurd (edit_step_sound seen c.dress.new.self (with_told c.font_told.result (dress_marked seen.texts seen.screen)) c.dress.result
-    c.args.outbox.now c.dress.new.outbox
-    (told_sound c.font_told.result (dress_marked seen.texts seen.screen) (dressed_sound seen.texts seen.screen)) c.dress.ensures
-    (subst IsFault c.sent-in-EditChangeFont.ensures fault))
-
-pub returns-in-EditChangeColor-clause-step : goal.returns-in-EditChangeColor-clause-step
-returns-in-EditChangeColor-clause-step g c =
-    let seen : DeskSeen = c.args.self.now in let sent = c.args.outbox.now in
-    let told = g.S.Shelf.files c.args.shelf.now in
-    commanded (λ (task : Task). IsShelfStep seen (λ i. ask i task) c.sent-in-EditChangeColor.result c.dress-in-EditChangeColor.new.self sent c.dress-in-EditChangeColor.new.outbox told told) seen.texts seen.screen
-    c.args.command command.EditChangeColor c.args.value.now c.args.at.now.viewer c.args.at.now.text c.in-EditChangeColor.is
-    (subst (λ (o : Option Change). IsShelfStep seen (λ i. ask i (with_told o (dress_marked seen.texts seen.screen))) c.sent-in-EditChangeColor.result c.dress-in-EditChangeColor.new.self
-    sent c.dress-in-EditChangeColor.new.outbox told told) c.colour_told.ensures
-    (subst (λ (r : Result Answer EditRefusal). IsShelfStep seen (λ i. ask i (with_told c.colour_told.result (dress_marked seen.texts seen.screen))) r c.dress-in-EditChangeColor.new.self sent c.dress-in-EditChangeColor.new.outbox told told)
-    (sym c.sent-in-EditChangeColor.ensures)
-    (edit_over seen c.dress-in-EditChangeColor.new.self (with_told c.colour_told.result (dress_marked seen.texts seen.screen)) told c.dress-in-EditChangeColor.result sent c.dress-in-EditChangeColor.new.outbox
-    c.dress-in-EditChangeColor.ensures)))
-
-pub returns-in-EditChangeColor-clause-fault : goal.returns-in-EditChangeColor-clause-fault
-returns-in-EditChangeColor-clause-fault g c = λ fault.
-    let seen : DeskSeen = c.args.self.now in
-    absurd (edit_step_sound seen c.dress-in-EditChangeColor.new.self (with_told c.colour_told.result (dress_marked seen.texts seen.screen)) c.dress-in-EditChangeColor.result
-    c.args.outbox.now c.dress-in-EditChangeColor.new.outbox
-    (told_sound c.colour_told.result (dress_marked seen.texts seen.screen) (dressed_sound seen.texts seen.screen)) c.dress-in-EditChangeColor.ensures
-    (subst IsFault c.sent-in-EditChangeColor.ensures fault))
-
-pub returns-in-EditChangeOffset-clause-step : goal.returns-in-EditChangeOffset-clause-step
-returns-in-EditChangeOffset-clause-step g c =
-    let seen : DeskSeen = c.args.self.now in let sent = c.args.outbox.now in
-    let told = g.S.Shelf.files c.args.shelf.now in
-    commanded (λ (task : Task). IsShelfStep seen (λ i. ask i task) c.sent-in-EditChangeOffset.result c.dress-in-EditChangeOffset.new.self sent c.dress-in-EditChangeOffset.new.outbox told told) seen.texts seen.screen
-    c.args.command command.EditChangeOffset c.args.value.now c.args.at.now.viewer c.args.at.now.text c.in-EditChangeOffset.is
-    (subst (λ (o : Option Change). IsShelfStep seen (λ i. ask i (with_told o (dress_marked seen.texts seen.screen))) c.sent-in-EditChangeOffset.result c.dress-in-EditChangeOffset.new.self
-    sent c.dress-in-EditChangeOffset.new.outbox told told) c.offset_told.ensures
-    (subst (λ (r : Result Answer EditRefusal). IsShelfStep seen (λ i. ask i (with_told c.offset_told.result (dress_marked seen.texts seen.screen))) r c.dress-in-EditChangeOffset.new.self sent c.dress-in-EditChangeOffset.new.outbox told told)
-    (sym c.sent-in-EditChangeOffset.ensures)
-    (edit_over seen c.dress-in-EditChangeOffset.new.self (with_told c.offset_told.result (dress_marked seen.texts seen.screen)) told c.dress-in-EditChangeOffset.result sent c.dress-in-EditChangeOffset.new.outbox
-    c.dress-in-EditChangeOffset.ensures)))
-
-pub returns-in-EditChangeOffset-clause-fault : goal.returns-in-EditChangeOffset-clause-fault
-returns-in-EditChangeOffset-clause-fault g c = λ fault.
-    let seen : DeskSeen = c.args.self.now in
-    absurd (edit_step_sound seen c.dress-in-EditChangeOffset.new.self (with_told c.offset_told.result (dress_marked seen.texts seen.screen)) c.dress-in-EditChangeOffset.result
-    c.args.outbox.now c.dress-in-EditChangeOffset.new.outbox
-    (told_sound c.offset_told.result (dress_marked seen.texts seen.screen) (dressed_sound seen.texts seen.screen)) c.dress-in-EditChangeOffset.ensures
-    (subst IsFault c.sent-in-EditChangeOffset.ensures fault))
-
-pub returns-in-EditSearch-clause-step : goal.returns-in-EditSearch-clause-step
-returns-in-EditSearch-clause-step g c =
-    let seen : DeskSeen = c.args.self.now in let sent = c.args.outbox.now in
-    let told = g.S.Shelf.files c.args.shelf.now in
-    commanded (λ (task : Task). IsShelfStep seen (λ i. ask i task) c.search.result c.search.new.self sent sent told told) seen.texts seen.screen
-    c.args.command command.EditSearch c.args.value.now c.args.at.now.viewer c.args.at.now.text c.in-EditSearch.is
-    (subst (λ (o : Option (List ℕ)). IsShelfStep seen (λ i. ask i (with_told o search)) c.search.result c.search.new.self sent sent told
-    told) c.bytes_told.ensures
-    (task_over seen c.search.new.self (with_told (option_copied c.bytes_told.result) search) told c.search.result sent
-    c.search.ensures))
-
-pub returns-in-EditSearch-clause-fault : goal.returns-in-EditSearch-clause-fault
-returns-in-EditSearch-clause-fault g c = λ fault.
-    let seen : DeskSeen = c.args.self.now in
-    absurd (task_sound seen c.search.new.self (with_told (option_copied c.bytes_told.result) search) c.search.result
-    (told_sound (option_copied c.bytes_told.result) search (λ n. tt)) c.search.ensures fault)
-
-pub returns-in-ShareForget-clause-step : goal.returns-in-ShareForget-clause-step
-returns-in-ShareForget-clause-step g c =
-    let seen : DeskSeen = c.args.self.now in let sent = c.args.outbox.now in
-    let told = g.S.Shelf.files c.args.shelf.now in
-    commanded (λ (task : Task). IsShelfStep seen (λ i. ask i task) c.forget.result c.forget.new.self sent sent told told) seen.texts seen.screen
-    c.args.command command.ShareForget c.args.value.now c.args.at.now.viewer c.args.at.now.text c.in-ShareForget.is
-    (task_over seen c.forget.new.self (forget c.args.at.now.text) told c.forget.result sent c.forget.ensures)
-
-pub returns-in-ShareForget-clause-fault : goal.returns-in-ShareForget-clause-fault
-returns-in-ShareForget-clause-fault g c = λ fault.
-    let seen : DeskSeen = c.args.self.now in
-    absurd (task_sound seen c.forget.new.self (forget c.args.at.now.text) c.forget.result tt c.forget.ensures fault)
+pub returns-in-Err-clause-fault : goal.returns-in-Err-clause-fault
+returns-in-Err-clause-fault g c = λ fault. absurd (no_selection_sound c.in-Err.why c.in-Err.ensures.errors fault)

@@ -1,0 +1,225 @@
+-- A text that begins as its site's file tells is a step of the run.
+use Rattle.std.proofs.Common.{◌≡◌, ℕ, ◌+◌, ◌-◌, Bool, true, false, List, [], ◌∷◌, ◌++◌, length, Option, None, Result, Ok, Err, refl, sym, ap, subst, ◌∙◌, inl, inr, append-nil, arith}
+use Rattle.std.specs.Prelude.{◌==◌, ◌&&◌, MatchBool, nat_lt, slice_get, slice_set}
+use Rattle.std.proofs.lemmas.Bool.{and_parts}
+use Rattle.std.proofs.lemmas.List.{set-set}
+use Rattle.looks.specs.declared.refusal.Refusal.{Refusal}
+use Rattle.looks.specs.declared.refusal.Refusal.TheVariants.{BadFile, Conflict, OutOfMemory, ReadFault, WrongText}
+use Rattle.operations.specs.Operation.{Operation}
+use Rattle.shelf.specs.Files.{Files, HasFile, SameFiles}
+use Rattle.texts.specs.SiteFiles.{IsNoSiteFile, IsSiteFileOf}
+use Rattle.texts.specs.Taking.{HasTakenAll}
+use Rattle.texts.specs.Text.{IsText}
+use Rattle.texts.specs.TextState.{TextState, all_told, empty_text}
+use Rattle.texts.specs.declared.edit_refusal.EditRefusal.{EditRefusal}
+use Rattle.texts.specs.declared.edit_refusal.EditRefusal.TheVariants.{Whole}
+use Rattle.machine.specs.DeskState.{DeskState, InText, IsTextOf, with_text}
+use Rattle.machine.specs.Machine.{State, refuses}
+use Rattle.machine.specs.Whole.{BeginsWith, DoesTask, IsDeskAt, Part, Reopens, RunReply, RunState, ask, done, failed, has_begun}
+use Rattle.machine.specs.Whole.{of_text, reopen, untouched, went_well}
+use Rattle.machine.specs.Windows.{Screened}
+use Rattle.machine_laws.proofs.OneReply.{one_element}
+use Rattle.machine_laws.proofs.Telling.{put_there}
+use Rattle.machine_laws.specs.Growing.{Grows}
+use Rattle.commands.proofs.Following.{is_new}
+use Rattle.commands.proofs.Lifting.{HasText}
+use Rattle.commands.proofs.Shelves.{files_of, files_read, files_same, over_files, refused_over, same_of}
+use Rattle.commands.proofs.Steps.{run_told}
+use Rattle.commands.specs.Filing.{BeginsSo, ReadsNot}
+use Rattle.commands.specs.declared.answer.Answer.{Answer}
+use Rattle.commands.specs.declared.answer.Answer.TheVariants.{Done}
+use Rattle.commands.specs.Steps.{AreTold, DeskSeen, IsShelfStep, StandsIn, with_desk}
+
+-- a text in which nothing was done yet has no operations
+pub none_taken : (ops waiting : List Operation) → nat_lt 0 (length ops + length waiting) ≡ false → ops ≡ []
+none_taken [] waiting fresh = refl
+none_taken (op ∷ ops) waiting fresh = absurd (grind (arith, fresh))
+
+-- a text that begins as it was kept grows by that
+pub kept_grows : (t kept : TextState) → IsText t → has_begun t ≡ false → t.asked ≡ length t.operations
+    → HasTakenAll (empty_text kept.text kept.site) kept.operations kept → Grows t kept
+kept_grows t kept is fresh told taken =
+    let none : t.operations ≡ [] = none_taken t.operations t.waiting_room fresh in record {
+      was = is;
+      is = taken.is;
+      more = kept.operations;
+      taken = ap (λ (ops : List Operation). ops ++ kept.operations) (sym none);
+      asked = ap (λ (x : TextState). x.asked) taken.grown ∙ ap (λ (ops : List Operation). length ops) (sym none) ∙ sym told;
+    }
+
+-- so does a desk's text in the place of which it is put
+pub replaced_grows : (d d' : DeskState) (text : ℕ) (kept : TextState) → HasText d text → AreTold d
+    → ((t : TextState) → IsTextOf d text t → has_begun t ≡ false)
+    → HasTakenAll (empty_text kept.text kept.site) kept.operations kept → InText (λ _ u. u ≡ kept) d text d'
+    → InText Grows d text d'
+replaced_grows d d' text kept (t, at, is) told fresh taken (u, v, there, put, changed) =
+    let same : t ≡ u = one_element (slice_get d.texts (text - 1)) t u at there in (
+      u,
+      v,
+      there,
+      subst (Grows u) (sym put) (kept_grows u kept (subst IsText same is) (fresh u there) (told text u there) taken),
+      changed,
+    )
+
+-- and has it then, with its changes told
+pub replaced_now : (d d' new : DeskState) (text : ℕ) (kept : TextState) → HasText d text → AreTold d
+    → ((t : TextState) → IsTextOf d text t → has_begun t ≡ false)
+    → HasTakenAll (empty_text kept.text kept.site) kept.operations kept → InText (λ _ u. u ≡ kept) d text d'
+    → InText (λ t u. u ≡ all_told t) d' text new → new ≡ with_text d text (all_told kept)
+unfolding replaced_grows
+replaced_now d d' new text kept (t, at, is) told fresh taken (u, v, there, put, changed) asked =
+    is_new d d' new text told (replaced_grows d d' text kept (t, at, is) told fresh taken (u, v, there, put, changed)) asked
+    ∙ ap (λ (x : TextState). with_text d text (all_told x)) put
+
+-- what becomes of it
+pub begins_apart : (seen : DeskSeen) (text : ℕ) (t kept : TextState) (told : Bool) → IsTextOf seen.texts text t
+    → told ≡ (kept.text == t.text && kept.site == t.site) → told ≡ false
+    → BeginsSo seen text kept (Err (Whole WrongText)) seen
+begins_apart seen text t kept false there is apart = (t, there, rw (sym is) (refl, refl))
+begins_apart seen text t kept true there is apart = absurd cc
+
+pub begins_its_own : (d new : DeskState) (w w' : Screened) (text : ℕ) (t kept : TextState) (told : Bool) → IsTextOf d text t
+    → told ≡ (kept.text == t.text && kept.site == t.site) → told ≡ true → new ≡ with_text d text (all_told kept) → w' ≡ w
+    → BeginsSo (record { texts = d; screen = w }) text kept (Ok Done) (record { texts = new; screen = w' })
+begins_its_own d new w w' text t kept true there is own now same =
+    (t, there, rw (sym is) (refl, λ k. record { texts = now k; screen = same k }))
+begins_its_own d new w w' text t kept false there is own now same = absurd cc
+
+module _ (d : DeskState) (w : Screened) (text : ℕ) (t : TextState) (there : IsTextOf d text t) (name : List ℕ) where
+  abbrev pub seen : DeskSeen
+  seen = record { texts = d; screen = w }
+
+  abbrev ReopensSo : Result Answer EditRefusal → DeskSeen → (sent : List (List ℕ)) → (told told' : Option Files) → Type 0
+  ReopensSo result new sent told told' = IsShelfStep seen (λ i. ask i (reopen text name)) result new sent sent told told'
+
+  -- one in which something was done isn't reopened, and no file is read
+  pub begun_step : (told : Option Files) (sent : List (List ℕ)) → has_begun t ≡ true
+      → ReopensSo (Err (Whole Conflict)) seen sent told told
+  begun_step told sent begun =
+      refused_over d w (reopen text name) told told untouched Conflict (files_of told) (files_of told) sent (same_of told) refl
+      (λ s i new stands is refused. inl (t, (d, stands.texts, there), rw begun (refl, refused)))
+
+  module _ (fresh : has_begun t ≡ false) (told told' : Option Files) (same : SameFiles told told') (sent : List (List ℕ)) where
+    -- what it begins with
+    reopens : (s : RunState) (i : ℕ) (part : Part) (r : RunReply) (new : RunState) → IsDeskAt s i d w
+        → Reopens s i text t name part r new → DoesTask s i d w (reopen text name) part r new
+    reopens s i part r new stands goes = (t, (d, stands.texts, there), rw fresh goes)
+
+    -- the shelf fails
+    unread : ReopensSo (Err (Whole ReadFault)) seen sent told told'
+    unread =
+        let (files, files', are, stay) = files_same told told' same in
+        refused_over d w (reopen text name) told told' (failed None) ReadFault files files' sent are stay
+        (λ s i new stands is refused. inl (reopens s i (failed None) (of_text (refuses ReadFault)) new stands refused))
+
+    -- memory is short
+    short : ReopensSo (Err (Whole OutOfMemory)) seen sent told told'
+    short =
+        let (files, files', are, stay) = files_same told told' same in
+        refused_over d w (reopen text name) told told' untouched OutOfMemory files files' sent are stay
+        (λ s i new stands is refused. inr ((t, (d, stands.texts, there), fresh), refused))
+
+    -- the file is no site's
+    bad : (file : List ℕ) → HasFile told name file → IsNoSiteFile file → ReopensSo (Err (Whole BadFile)) seen sent told told'
+    bad file has none =
+        let (files, files', are, stay, read) = files_read told told' name file same has in
+        refused_over d w (reopen text name) told told' went_well BadFile files files' sent are stay
+        (λ s i new stands is refused. inl (reopens s i went_well (of_text (refuses BadFile)) new stands
+        (file, ap (λ (f : Files). f name) is ∙ read, inl (none, refused))))
+
+    pub unread_step : (why : Refusal) → ReadsNot IsNoSiteFile told name why → ReopensSo (Err (Whole why)) seen sent told told'
+    unread_step why (inl fault) = subst (λ (e : Refusal). ReopensSo (Err (Whole e)) seen sent told told') (sym fault) unread
+    unread_step why (inr (inl memory)) =
+        subst (λ (e : Refusal). ReopensSo (Err (Whole e)) seen sent told told') (sym memory) short
+    unread_step why (inr (inr (is_bad, (file, has, none)))) =
+        subst (λ (e : Refusal). ReopensSo (Err (Whole e)) seen sent told told') (sym is_bad) (bad file has none)
+
+    module _ (kept : TextState) (file : List ℕ) (has : HasFile told name file)
+        (of : IsSiteFileOf kept.text kept.site kept.operations file)
+        (taken : HasTakenAll (empty_text kept.text kept.site) kept.operations kept) where
+      -- it is another text's, or another site's
+      other : (kept.text == t.text && kept.site == t.site) ≡ false → ReopensSo (Err (Whole WrongText)) seen sent told told'
+      other apart =
+          let (files, files', are, stay, read) = files_read told told' name file same has in
+          refused_over d w (reopen text name) told told' went_well WrongText files files' sent are stay
+          (λ s i new stands is refused. inl (reopens s i went_well (of_text (refuses WrongText)) new stands
+          (file, ap (λ (f : Files). f name) is ∙ read, inr (kept.text, kept.site, kept.operations, of, rw apart refused))))
+
+      abbrev now : DeskSeen
+      now = record { texts = with_text d text (all_told kept); screen = w }
+
+      -- the text and the site are this one's
+      its_own : (kept.text == t.text && kept.site == t.site) ≡ true → HasTakenAll (empty_text t.text t.site) kept.operations kept
+      its_own same_copy =
+          let (text_is, site_is) = and_parts (kept.text == t.text) (kept.site == t.site) same_copy in
+          subst (λ (n : ℕ). HasTakenAll (empty_text n t.site) kept.operations kept) (grind (arith, text_is))
+          (subst (λ (n : ℕ). HasTakenAll (empty_text kept.text n) kept.operations kept) (grind (arith, site_is)) taken)
+
+      -- so it begins, and tells its changes
+      begins_with : (s : RunState) (i : ℕ) (files files' : Files) → StandsIn s i seen → s.texts.sent ≡ sent → s.files ≡ files
+          → files' ≡ files → HasTakenAll (empty_text t.text t.site) kept.operations kept
+          → BeginsWith s i text kept.operations done (record (with_desk s i now sent) { files = files' })
+      begins_with s i files files' stands is_sent is stay its =
+          let d' = with_text d text kept in
+          let mid : State = record s.texts { desks = slice_set s.texts.desks i d'; sent = sent } in
+          let asked : InText (λ x u. u ≡ all_told x) d' text now.texts = (
+            kept,
+            all_told kept,
+            put_there d.texts (text - 1) t kept there,
+            refl,
+            λ k. record d { texts = sym (set-set d.texts (text - 1) kept (all_told kept)) k },
+          ) in (
+            mid,
+            (
+              d,
+              d',
+              stands.texts,
+              (t, kept, there, its, refl),
+              λ k. record s.texts { desks = slice_set s.texts.desks i d'; sent = (sym is_sent ∙ sym (append-nil s.texts.sent)) k },
+            ),
+            refl,
+            sym (run_told s i d w stands d' now.texts w sent text refl asked ∙ over_files s i now sent files files' is stay),
+          )
+
+      begins : (kept.text == t.text && kept.site == t.site) ≡ true → ReopensSo (Ok Done) now sent told told'
+      begins same_copy =
+          let (files, files', are, stay, read) = files_read told told' name file same has in (
+            [],
+            went_well,
+            files,
+            files',
+            tt,
+            are,
+            λ s i stands is_sent is. inl (
+              d,
+              w,
+              stands,
+              reopens s i went_well done (record (with_desk s i now sent) { files = files' }) stands (
+                file,
+                ap (λ (f : Files). f name) is ∙ read,
+                inr (
+                  kept.text,
+                  kept.site,
+                  kept.operations,
+                  of,
+                  rw same_copy (begins_with s i files files' stands is_sent is stay (its_own same_copy)),
+                ),
+              ),
+            ),
+          )
+
+      abbrev BeginsBy : Bool → Result Answer EditRefusal → DeskSeen → Type 0
+      BeginsBy own result new = MatchBool own ((result ≡ Ok Done) × (new ≡ now)) ((result ≡ Err (Whole WrongText)) × (new ≡ seen))
+
+      begins_by : (own : Bool) (result : Result Answer EditRefusal) (new : DeskSeen)
+          → (kept.text == t.text && kept.site == t.site) ≡ own → BeginsBy own result new → ReopensSo result new sent told told'
+      begins_by true result new own (is, is_new) =
+          subst (λ (x : DeskSeen). ReopensSo result x sent told told') (sym is_new)
+          (subst (λ (r : Result Answer EditRefusal). ReopensSo r now sent told told') (sym is) (begins own))
+      begins_by false result new own (is, is_new) =
+          subst (λ (x : DeskSeen). ReopensSo result x sent told told') (sym is_new)
+          (subst (λ (r : Result Answer EditRefusal). ReopensSo r seen sent told told') (sym is) (other own))
+
+      pub begun_as : (result : Result Answer EditRefusal) (new : DeskSeen)
+          → BeginsBy (kept.text == t.text && kept.site == t.site) result new → ReopensSo result new sent told told'
+      begun_as result new so = begins_by (kept.text == t.text && kept.site == t.site) result new refl so
