@@ -1,4 +1,5 @@
-//! Tests of how the screen's events are spelled, in a crate of their own so that `script_events` is proved once.
+//! Tests of how the events of the screen and of sites' files are spelled, in a crate of their own so that `script_events` is
+//! proved once.
 #![tactic(auto)]
 
 #[cfg(test)]

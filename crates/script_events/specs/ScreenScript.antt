@@ -1,15 +1,19 @@
--- How the screen's events are spelled in a script, with one blank between words. A line that spells none of these is read as an
--- event of texts.
-use Rattle.std.specs.Prelude.{ℕ, List, map, if◌then◌else◌, Option, Some, None, option_map, unwrap_or, codes}
+-- How the events of the screen and those of sites' files are spelled in a script, with one blank between words. A line that
+-- spells none of these is read as an event of texts.
+use Rattle.std.specs.Prelude.{ℕ, List, map, ◌==◌, ◌&&◌, not, if◌then◌else◌, Option, Some, None, option_map}
+use Rattle.std.specs.Prelude.{unwrap_or, codes}
+use Rattle.std.specs.List.{list_any}
 use Rattle.std.specs.Option.{option_map_or}
 use Rattle.char_files.specs.Stretch.{Item}
 use Rattle.looks.specs.Looks.{plain_looks}
+use Rattle.shelf.specs.Names.{is_file_name}
 use Rattle.viewers.specs.declared.screen.Track.{Track}
 use Rattle.viewers.specs.declared.screen.Track.TheVariants.{User, System}
-use Rattle.machine.specs.Whole.{RunEvent, View, arrange, ask, click, marks, on_text, print, put, show, views}
+use Rattle.machine.specs.Whole.{RunEvent, View, arrange, ask, click, keep, marks, on_text, print, put, reopen}
+use Rattle.machine.specs.Whole.{show, views}
 use Rattle.machine.specs.Windows.{Arrangement, close, move, open_in, point, scroll, select}
 use Rattle.script_events.specs.Script.{bytes_in, event_in}
-use Rattle.script_events.specs.Words.{◌>>=◌, is_word, cut_word, number_in, cut_number, desk_in, text_in}
+use Rattle.script_events.specs.Words.{◌>>=◌, some_if, is_word, cut_word, number_in, cut_number, desk_in, text_in}
 
 -- a track's name
 abbrev pub track_in : List ℕ → Option Track
@@ -67,12 +71,27 @@ view_in verb =
 abbrev pub plain_items : List ℕ → List Item
 plain_items bytes = map (λ b. (b, plain_looks)) bytes
 
--- what a verb asks of a desk with what stands behind it: to put bytes in, a click, or an arrangement
+-- a file's name without a blank
+abbrev pub file_in : List ℕ → Option (List ℕ)
+file_in word = some_if (is_file_name word && not (list_any (λ b. b == 32) word)) word
+
+-- what `keep` and `reopen` go on with: a text, and the file, which ends the line
+abbrev pub filing_in : List ℕ → Option (ℕ × List ℕ)
+filing_in rest = do
+  cut ← cut_word rest
+  text ← text_in cut.0
+  name ← file_in cut.1
+  Some (text, name)
+
+-- what a verb asks of a desk with what stands behind it: to put bytes in, a click, to keep a text or to reopen one, or an
+-- arrangement
 abbrev pub asked_event : (desk : ℕ) → List ℕ → List ℕ → Option RunEvent
 asked_event desk verb rest =
     if is_word verb (codes "key") then option_map (λ bytes. ask desk (put (plain_items bytes))) (bytes_in rest)
     else (if is_word verb (codes "click") then option_map (λ cell. click desk cell.0 cell.1) (pair_in rest)
-    else option_map (λ a. ask desk (arrange a)) (arrangement_in verb rest))
+    else (if is_word verb (codes "keep") then option_map (λ filing. ask desk (keep filing.0 filing.1)) (filing_in rest)
+    else (if is_word verb (codes "reopen") then option_map (λ filing. ask desk (reopen filing.0 filing.1)) (filing_in rest)
+    else option_map (λ a. ask desk (arrange a)) (arrangement_in verb rest))))
 
 -- what stands behind the site: a verb, which ends the line and prints, or has a blank and perhaps more behind it
 abbrev pub desk_event : (desk : ℕ) → List ℕ → Option RunEvent
@@ -80,14 +99,14 @@ desk_event desk rest =
     option_map_or (λ cut. asked_event desk cut.0 cut.1) (cut_word rest)
     (option_map (λ v. ask desk (print v)) (view_in rest))
 
--- the screen's event that a line spells, if it spells one: a site, a verb, and what the verb goes on with
+-- the event of the screen or of a file that a line spells, if it spells one: a site, a verb, and what the verb goes on with
 unfoldable pub spelled_screen_event : (first count : ℕ) → List ℕ → Option RunEvent
 spelled_screen_event first count line = do
   site ← cut_word line
   desk ← desk_in first count site.0
   desk_event desk site.1
 
--- what a line asks of the run's sites: no verb is both the screen's and a text's
+-- what a line asks of the run's sites: no verb is both one of these and a text's
 abbrev pub run_event_in : (first count : ℕ) → List ℕ → RunEvent
 run_event_in first count line =
     unwrap_or (spelled_screen_event first count line) (on_text (event_in first count line))

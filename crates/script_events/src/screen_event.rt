@@ -3,14 +3,16 @@ ghost use Rattle.script_events.specs.ScreenEventView.{view_of, screen_event_of, 
 ghost use Rattle.script_events.specs.ScreenScript.{view_in, asked_event, desk_event, spelled_screen_event};
 
 mod arrangements;
+mod filings;
 
 use crate::escaped::Escaped;
 use crate::event::words::{cut_word, desk_in};
 use crate::screen_event::arrangements::{arrangement_in, cell_in};
+use crate::screen_event::filings::filing_in;
 use char_files::TextNo;
 use viewers::Track;
 
-/// What a line of a script asks of a desk's screen; it borrows its bytes from the line.
+/// What a line of a script asks of a desk's screen, or of a file for one of its texts; it borrows its bytes from the line.
 ///
 /// A desk is told by its index among the run's.
 #[derive(Debug, Drop)]
@@ -34,6 +36,18 @@ pub enum ScreenEvent<'a> {
     Clicks {
         desk: usize,
         cell: Cell,
+    },
+    /// A keeping of a desk's text in its site's file, with all that it has taken in.
+    Keeps {
+        desk: usize,
+        text: TextNo,
+        name: &'a str,
+    },
+    /// A reopening of a desk's text, which begins as its site's file tells.
+    Reopens {
+        desk: usize,
+        text: TextNo,
+        name: &'a str,
     },
 }
 
@@ -104,7 +118,8 @@ fn view_in(verb: &[u8]) -> Option<View>
     }
 }
 
-// What a verb asks of a desk with what stands behind it: to put bytes in, a click, or an arrangement.
+// What a verb asks of a desk with what stands behind it: to put bytes in, a click, to keep a text or to reopen one, or an
+// arrangement.
 fn asked_event<'a>(desk: usize, verb: &[u8], rest: &'a [u8]) -> Option<ScreenEvent<'a>>
     ensures event { option_map screen_event_of result ≡ asked_event desk verb.now rest.now }
     ensures in_run { IfSome result (λ event. (count : ℕ) → desk < count → IsOfDesk count event) }
@@ -116,6 +131,16 @@ fn asked_event<'a>(desk: usize, verb: &[u8], rest: &'a [u8]) -> Option<ScreenEve
     } else if verb == b"click".as_slice() {
         let cell = cell_in(rest)?;
         Some(ScreenEvent::Clicks { desk, cell })
+    } else if verb == b"keep".as_slice() {
+        let Some((text, name)) = filing_in(rest) else {
+            return None;
+        };
+        Some(ScreenEvent::Keeps { desk, text, name })
+    } else if verb == b"reopen".as_slice() {
+        let Some((text, name)) = filing_in(rest) else {
+            return None;
+        };
+        Some(ScreenEvent::Reopens { desk, text, name })
     } else {
         let arrangement = arrangement_in(verb, rest)?;
         Some(ScreenEvent::Arranges { desk, arrangement })
@@ -137,8 +162,8 @@ fn desk_event(desk: usize, rest: &[u8]) -> Option<ScreenEvent<'_>>
     }
 }
 
-/// The screen's event that a line spells, where `count` sites run from `first` on, or `None` where it spells none: then
-/// `event_in` tells what it asks.
+/// The event of the screen or of a file that a line spells, where `count` sites run from `first` on, or `None` where it spells
+/// none: then `event_in` tells what it asks.
 #[tactic(auto, unfolding(crate::specs::ScreenScript::spelled_screen_event))]
 pub fn screen_event_in<'a>(first: u16, count: usize, line: &'a [u8]) -> Option<ScreenEvent<'a>>
     ensures event { option_map screen_event_of result ≡ spelled_screen_event first count line.now }

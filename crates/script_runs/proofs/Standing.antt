@@ -15,7 +15,7 @@ use Rattle.texts.specs.declared.took.Took.{Took}
 use Rattle.shelf.specs.Files.{Files}
 use Rattle.machine.specs.DeskState.{DeskState, IsTextOf, new_desk}
 use Rattle.machine.specs.Machine.{Delivery, IsTextAt, edit_reply, merge, merge_reply, merges, message_in, refuses, sent, take, take_reply}
-use Rattle.machine.specs.Whole.{RunState, click}
+use Rattle.machine.specs.Whole.{RunState}
 use Rattle.machine.specs.Whole.{RunEvent, RunReplies, RunReply, arrange, ask, new_run, of_text, on_text, told_at, untouched}
 use Rattle.machine.specs.Windows.{Arrangement, Screened, blank_screen}
 use Rattle.machine_laws.proofs.Telling.{put_back, told_same}
@@ -70,17 +70,26 @@ module _ (s : SitesSeen) (i : ℕ) (d : DeskSeen) (at : slice_get s.desks i ≡ 
       → Stepped s (ask i (arrange a)) (run_reply_lines (length s.sent) r) (with_seen s i new s.sent)
   arranged_step a r new step = other_step s (with_seen s i new s.sent) (ask i (arrange a)) r (replied (λ i. ask i (arrange a)) r new step)
 
-  -- a click's step, printed, over the files that the shelf tells
-  pub clicked_step : (col row : ℕ) (result : Result Answer EditRefusal) (new : DeskSeen) (after : List (List ℕ)) (told told' : Option Files)
-      → IsShelfStep d (λ i. click i col row) result new s.sent after told told'
-      → OverFiles told told' (λ was now. Step (run_of s was) (click i col row) (run_reply_lines (length s.sent) (answer_reply result (drop (length s.sent) after))) (run_of (with_seen s i new after) now))
-  clicked_step col row result new after None told' step = tt
-  clicked_step col row result new after (Some was) None (messages, part, files, files', counts, of_files, goes) = absurd of_files
-  clicked_step col row result new after (Some was) (Some now) (messages, part, files, files', counts, (is_was, is_now), goes) =
+  -- a step over the files that the shelf tells, printed
+  pub filed_step : (event : ℕ → RunEvent) (result : Result Answer EditRefusal) (new : DeskSeen) (after : List (List ℕ)) (told told' : Option Files)
+      → IsShelfStep d event result new s.sent after told told'
+      → OverFiles told told' (λ was now. Step (run_of s was) (event i) (run_reply_lines (length s.sent) (answer_reply result (drop (length s.sent) after))) (run_of (with_seen s i new after) now))
+  filed_step event result new after None told' step = tt
+  filed_step event result new after (Some was) None (messages, part, files, files', counts, of_files, goes) = absurd of_files
+  filed_step event result new after (Some was) (Some now) (messages, part, files, files', counts, (is_was, is_now), goes) =
       let there : RunState = run_of (with_seen s i new after) now in
       let same : record (with_desk (run_of s was) i new after) { files = files' } ≡ there = λ k. record (put_in s was i new after k) { files = is_now k } in
-      answer_step (run_of s was) there (click i col row) part result messages
-      (subst (RunReplies (run_of s was) (click i col row) part (answer_reply result messages)) same (goes (run_of s was) i (stands s was i d at) refl (sym is_was)))
+      answer_step (run_of s was) there (event i) part result messages
+      (subst (RunReplies (run_of s was) (event i) part (answer_reply result messages)) same (goes (run_of s was) i (stands s was i d at) refl (sym is_was)))
+
+  -- one that leaves the desk as it was leaves the sites so
+  pub filed_same : (event : ℕ → RunEvent) (result : Result Answer EditRefusal) (told told' : Option Files)
+      → IsShelfStep d event result d s.sent s.sent told told'
+      → OverFiles told told' (λ was now. Step (run_of s was) (event i) (run_reply_lines (length s.sent) (answer_reply result (drop (length s.sent) s.sent))) (run_of s now))
+  filed_same event result told told' step =
+      let same : with_seen s i d s.sent ≡ s = λ k. record s { desks = put_back s.desks i d at k } in
+      subst (λ (new : SitesSeen). OverFiles told told' (λ was now. Step (run_of s was) (event i) (run_reply_lines (length s.sent) (answer_reply result (drop (length s.sent) s.sent))) (run_of new now))) same
+      (filed_step event result d s.sent told told' step)
 
   -- an edit's step
   pub replied_edit : (event : ℕ → RunEvent) (result : Result ℕ EditRefusal) (new : DeskSeen) (after : List (List ℕ)) → IsEditStep d event result new s.sent after

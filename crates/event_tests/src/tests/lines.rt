@@ -1,4 +1,4 @@
-//! Lines that spell an event of the screen. None of them spells one of texts.
+//! Lines that spell an event of the screen or of a site's file. None of them spells one of texts.
 use super::{COUNT, FIRST, is};
 use char_files::TextNo;
 use script_events::{Arrangement, Cell, Escaped, ScreenEvent, View, event_in, screen_event_in};
@@ -42,13 +42,34 @@ const CLICKED: &[(&str, usize, usize, usize)] = &[
     ("4 click 4294967295 0", 2, 4_294_967_295, 0),
 ];
 
-// The screen's event that a line spells, which spells none of texts.
+// Lines, the desk, and the text that is kept in the file of this name.
+const KEPT: &[(&str, usize, u16, &str)] = &[
+    ("2 keep 1 s.ots", 0, 1, "s.ots"),
+    ("4 keep 0000000016 !", 2, 16, "!"),
+    (
+        "3 keep 2 abcdefghijklmnopqrstuvwxyz01234",
+        1,
+        2,
+        "abcdefghijklmnopqrstuvwxyz01234",
+    ),
+    ("2 keep 3 ...", 0, 3, "..."),
+    ("2 keep 4 a\\20b", 0, 4, "a\\20b"),
+];
+
+// Lines, the desk, and the text that is reopened from the file of this name.
+const REOPENED: &[(&str, usize, u16, &str)] = &[
+    ("2 reopen 3 s.ots", 0, 3, "s.ots"),
+    ("3 reopen 16 ~", 1, 16, "~"),
+    ("4 reopen 1 1", 2, 1, "1"),
+];
+
+// The event of the screen or of a file that a line spells, which spells none of texts.
 fn event(line: &str) -> Result<ScreenEvent<'_>, Fail> {
     let line = line.as_bytes();
     is(event_in(FIRST, COUNT, line).is_none(), "no event of texts")?;
     match screen_event_in(FIRST, COUNT, line) {
         Some(event) => Ok(event),
-        None => Err("an event of the screen".into()),
+        None => Err("an event of the screen or of a file".into()),
     }
 }
 
@@ -88,6 +109,24 @@ fn puts(alloc: Global, line: &str, on: usize, want: &[u8]) -> Result<(), Fail> {
             spells(alloc, &bytes, want)
         }
         _ => Err("keys".into()),
+    }
+}
+
+fn keeps(line: &str, on: usize, want: TextNo, file: &str) -> Result<(), Fail> {
+    match event(line)? {
+        ScreenEvent::Keeps { desk, text, name } => {
+            is(desk == on && text == want && name == file, "a keeping")
+        }
+        _ => Err("a keeping".into()),
+    }
+}
+
+fn reopens(line: &str, on: usize, want: TextNo, file: &str) -> Result<(), Fail> {
+    match event(line)? {
+        ScreenEvent::Reopens { desk, text, name } => {
+            is(desk == on && text == want && name == file, "a reopening")
+        }
+        _ => Err("a reopening".into()),
     }
 }
 
@@ -158,6 +197,19 @@ fn screens_are_asked(rt: HostRuntime) -> Result<(), Fail> {
     }
     for (line, desk, col, row) in CLICKED {
         clicks(line, *desk, cell(*col, *row))?;
+    }
+    Ok(())
+}
+
+#[test]
+fn texts_are_kept_and_reopened(_rt: HostRuntime) -> Result<(), Fail> {
+    for (line, desk, text, name) in KEPT {
+        let text = TextNo::new(*text).ok_or("a text")?;
+        keeps(line, *desk, text, name)?;
+    }
+    for (line, desk, text, name) in REOPENED {
+        let text = TextNo::new(*text).ok_or("a text")?;
+        reopens(line, *desk, text, name)?;
     }
     Ok(())
 }

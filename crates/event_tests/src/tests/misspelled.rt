@@ -1,4 +1,4 @@
-//! Lines that spell no event of the screen.
+//! Lines that spell no event of the screen, and none of a site's file.
 use super::{COUNT, FIRST, is};
 use script_events::{event_in, screen_event_in};
 use std::test::Fail;
@@ -108,6 +108,37 @@ const WRONG: &[&str] = &[
     "2 click 4294967296 2",
     "2 click 1 00000000002",
     "5 click 1 2",
+    // A text and a file's name, which is one word.
+    "2 keep",
+    "2 keep 1",
+    "2 keep 1 ",
+    "2 keep s.ots",
+    "2 keep s.ots 1",
+    "2 keep 0 s.ots",
+    "2 keep 17 s.ots",
+    "2 keep  1 s.ots",
+    "2 keep 1  s.ots",
+    "2 keep 1 s.ots ",
+    "2 keep 1 my text",
+    "2 keep 1 .",
+    "2 keep 1 ..",
+    "2 keep 1 a/b",
+    "2 keep 1 s\t",
+    "2 keep 1 s\x7f",
+    "2 keep 1 é",
+    "2 keep 1 abcdefghijklmnopqrstuvwxyz012345",
+    "2 keeps 1 s.ots",
+    "5 keep 1 s.ots",
+    "2 reopen",
+    "2 reopen 1",
+    "2 reopen 1 ",
+    "2 reopen 17 s.ots",
+    "2 reopen 1  s.ots",
+    "2 reopen 1 s.ots 2",
+    "2 reopen 1 ..",
+    "2 reopen 1 /s.ots",
+    "2 Reopen 1 s.ots",
+    "1 reopen 1 s.ots",
 ];
 
 // But one of texts.
@@ -127,15 +158,21 @@ const OF_TEXTS: &[&str] = &[
 ];
 
 #[test]
-fn nothing_is_asked_of_a_screen(_rt: HostRuntime) -> Result<(), Fail> {
+fn nothing_is_asked_of_a_screen_or_a_file(_rt: HostRuntime) -> Result<(), Fail> {
     for line in WRONG {
         let line = line.as_bytes();
-        is(screen_event_in(FIRST, COUNT, line).is_none(), "of a screen")?;
+        is(
+            screen_event_in(FIRST, COUNT, line).is_none(),
+            "of a screen or a file",
+        )?;
         is(event_in(FIRST, COUNT, line).is_none(), "of texts")?;
     }
     for line in OF_TEXTS {
         let line = line.as_bytes();
-        is(screen_event_in(FIRST, COUNT, line).is_none(), "of a screen")?;
+        is(
+            screen_event_in(FIRST, COUNT, line).is_none(),
+            "of a screen or a file",
+        )?;
         is(event_in(FIRST, COUNT, line).is_some(), "of texts")?;
     }
     Ok(())

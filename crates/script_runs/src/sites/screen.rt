@@ -1,4 +1,4 @@
-//! What a run's sites answer to the screen's events.
+//! What a run's sites answer to events of the screen and of files.
 
 ghost use Rattle.std.specs.Prelude.{◌≡◌, ◌≤◌, ◌<◌, List, ℕ, length};
 ghost use Rattle.machine.specs.Machine.{edit_reply};
@@ -20,7 +20,7 @@ use std::io::Write;
 use texts::EditRefusal;
 
 impl Sites {
-    // Answers an event of the screen.
+    // Answers an event of the screen or of files.
     pub(super) fn screen_step<W: Write, S: Shelf>(
         &mut self,
         output: &mut Output<W>,
@@ -49,6 +49,14 @@ impl Sites {
                 let sent = self.outbox.len();
                 let outcome = self.desks[desk].click(cell.col, cell.row, shelf, &mut self.outbox);
                 put_answer(output, &self.outbox, sent, outcome)
+            }
+            ScreenEvent::Keeps { desk, text, name } => {
+                let outcome = self.desks[desk].keep(text, name, shelf);
+                put_answer(output, &self.outbox, self.outbox.len(), outcome)
+            }
+            ScreenEvent::Reopens { desk, text, name } => {
+                let outcome = self.desks[desk].reopen(text, name, shelf);
+                put_answer(output, &self.outbox, self.outbox.len(), outcome)
             }
         }
     }
