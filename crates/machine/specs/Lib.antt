@@ -1,5 +1,6 @@
 pub mod DeskState
 pub mod Machine
+pub mod Places
 pub mod Printing
 pub mod ScreenPrinting
 pub mod Whole

@@ -7,6 +7,7 @@ use Rattle.looks.specs.declared.refusal.Refusal.{Refusal}
 use Rattle.looks.specs.declared.refusal.Refusal.TheVariants.{BadEvent, FileSpent, OutOfMemory, OutOfRange}
 use Rattle.char_files.specs.Stretch.{Item, Stretch}
 use Rattle.char_files.specs.declared.TheConstants.{MAX_FILE}
+use Rattle.operations.specs.NameSet.{Range, names_of}
 use Rattle.set_laws.specs.Fronts.{AreSites}
 use Rattle.texts.specs.Draining.{Drains}
 use Rattle.texts.specs.Edit.{Edit, insertion, deletion, looks_change, restoration, recalling, is_in_text}
@@ -14,13 +15,14 @@ use Rattle.texts.specs.Edit.{is_range_in, plan}
 use Rattle.texts.specs.Merge.{Merges, MergesShort}
 use Rattle.texts.specs.Outcome.{Edits, EditsShort, Shows}
 use Rattle.texts.specs.Take.{Takes, TakesShort}
-use Rattle.texts.specs.TextState.{TextState, shown_items}
+use Rattle.texts.specs.TextState.{TextState, shown_items, shown_of}
 use Rattle.texts.specs.declared.edit_refusal.EditRefusal.{EditRefusal}
 use Rattle.texts.specs.declared.edit_refusal.EditRefusal.TheVariants.{Whole, Partial}
 use Rattle.texts.specs.declared.merge_refusal.MergeRefusal.{MergeRefusal}
 use Rattle.texts.specs.declared.merge_refusal.MergeRefusal.TheVariants.{Whole as MergesNothing, Stopped}
 use Rattle.texts.specs.declared.took.Took.{Took}
 use Rattle.machine.specs.DeskState.{DeskState, InText, IsTextOf, new_desk}
+use Rattle.machine.specs.Places.{place_lines}
 use Rattle.machine.specs.Printing.{AreRunsOf, text_lines, front_lines, run_lines}
 
 -- The number of the first site, which the others follow; the sites' desks; the messages that were sent so
@@ -35,6 +37,7 @@ pub data Query : Type 0 where
   print_text : Query
   print_fronts : Query
   print_runs : Query
+  print_places : (names : Range) → Query
 
 -- How a message is told that is taken: as the run's k-th, from 1, or by its bytes.
 pub data Delivery : Type 0 where
@@ -195,6 +198,7 @@ Prints print_fronts t lines =
     (sites : List ℕ) × AreSites t.operations sites × (lines ≡ front_lines t sites)
 Prints print_runs t lines =
     (runs : List Stretch) × AreRunsOf (shown_items t) runs × (lines ≡ run_lines runs)
+Prints (print_places names) t lines = lines ≡ place_lines (shown_of t) (names_of names)
 
 -- What an event does where memory is there: its reply, and the state after it.
 abbrev pub Does : State → Event → Reply → State → Type 0

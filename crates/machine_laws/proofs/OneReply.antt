@@ -28,7 +28,7 @@ use Rattle.machine_laws.specs.Laws.{AreTexts, EachEventHasOneReply, HaveOneShape
 use Rattle.machine.specs.Machine.{CopiesText, CopiesTextShort, Does, EditsText, EditsTextShort, Event, InDesk}
 use Rattle.machine.specs.Machine.{IsTextAt, MergesText, MergesTextShort, Prints, Query, Reply, SettlesText, Short}
 use Rattle.machine.specs.Machine.{State, TakesText, TakesTextShort, copied, copy, edit, edit_reply, is_copy_in, merge}
-use Rattle.machine.specs.Machine.{merge_reply, message_in, messages_of, print_fronts, print_runs, print_text, prints}
+use Rattle.machine.specs.Machine.{merge_reply, message_in, messages_of, print_fronts, print_places, print_runs, print_text, prints}
 use Rattle.machine.specs.Machine.{query, refuses, settle, settles, stops, take_reply, takes, unknown}
 use Rattle.machine.specs.Machine.{take as taking}
 use Rattle.machine.specs.Printing.{front_lines, run_lines}
@@ -127,6 +127,7 @@ one_print only print_fronts t a b (sites, are, prints_a) (sites', are', prints_b
     prints_a ∙ ap (front_lines t) (one_sites t.operations sites sites' are are') ∙ sym prints_b
 one_print only print_runs t a b (runs, are, prints_a) (runs', are', prints_b) =
     prints_a ∙ ap run_lines (one_runs only (shown_items t) (shown_items t) runs runs' are are' refl) ∙ sym prints_b
+one_print only (print_places names) t a b prints_a prints_b = prints_a ∙ sym prints_b
 
 module _ (edits_so : EditsOneWay) (takes_so : TakesOneWay) (drains_so : DrainsOneWay) (merges_so : MergesOneWay)
     (only : NoOtherRuns) where

@@ -17,7 +17,7 @@ use Rattle.texts.specs.declared.TheConstants.{MAX_KEPT}
 use Rattle.texts.specs.declared.took.Took.TheVariants.{Taken}
 use Rattle.machine.specs.DeskState.{DeskState, IsTextOf}
 use Rattle.machine.specs.Machine.{Does, Event, IsTextAt, Prints, Query, Reply, Short, State, print_fronts, print_runs}
-use Rattle.machine.specs.Machine.{print_text, refuses, settles, stops, takes}
+use Rattle.machine.specs.Machine.{print_places, print_text, refuses, settles, stops, takes}
 use Rattle.machine.specs.Printing.{waiting_line}
 use Rattle.machine.specs.Whole.{IsDeskAt, IsTaskAt, Part, RunDoes, RunEvent, RunReplies, RunReply, RunShort, RunState}
 use Rattle.machine.specs.Whole.{Task, View, ask, change, has_begun, lines_of_view}
@@ -40,11 +40,12 @@ AreTexts s = (i text : ℕ) (t : TextState) → IsTextAt s i text t → IsText t
 abbrev pub HaveTold : State → Type 0
 HaveTold s = (i text : ℕ) (t : TextState) → IsTextAt s i text t → t.asked ≡ length t.operations
 
--- a query of what is shown: the characters, or their looks
+-- a query of what is shown: the characters, their looks, or where names stand
 abbrev pub IsOfWhatIsShown : Query → Type 0
 IsOfWhatIsShown print_text = Unit {0}
 IsOfWhatIsShown print_fronts = ⊥
 IsOfWhatIsShown print_runs = Unit {0}
+IsOfWhatIsShown (print_places names) = Unit {0}
 
 -- a query of what is shown prints the same lines of two texts, of one run or of two
 abbrev pub PrintTheSame : TextState → TextState → Type 0
