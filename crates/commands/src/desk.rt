@@ -7,7 +7,7 @@ ghost use Rattle.texts.specs.Text.{IsText};
 ghost use Rattle.texts.specs.TextState.{TextState, shown_of};
 ghost use Rattle.texts.specs.declared.edit_refusal.EditRefusal.TheVariants.{Whole};
 ghost use Rattle.machine.specs.DeskState.{IsTextOf, new_desk};
-ghost use Rattle.machine.specs.Machine.{copy, edit, print_fronts, print_runs, print_text, query, settle, settles};
+ghost use Rattle.machine.specs.Machine.{copy, edit, print_fronts, print_places, print_runs, print_text, query, settle, settles};
 ghost use Rattle.machine.specs.Whole.{arrange, ask, of_text, on_text, print, put};
 ghost use Rattle.machine.specs.Whole.{marks, show, views};
 ghost use Rattle.machine.specs.Windows.{blank_screen, close, move, open_in, point, scroll, select};
@@ -20,6 +20,7 @@ use desk_texts::Texts;
 use desk_windows::Windows;
 use looks::{Looks, Refusal, Sel};
 use machine::MAX_TEXT;
+use operations::NameRange;
 use std::alloc::Global;
 use std::marker::Model;
 use texts::{EditRefusal, MergeRefusal, Outbox, Settled, Took};
@@ -264,6 +265,16 @@ impl Desk {
         ensures errors { RefusedForMemoryAlone result }
     {
         self.texts.runs(text)
+    }
+
+    /// The lines that print where the characters of names are shown: of each maximal stretch of names that stand one
+    /// behind the other. Refused `OutOfMemory` alone.
+    pub fn places(&self, text: TextNo, names: NameRange) -> Result<Vec<u8>, Refusal>
+        requires on_desk { text ≤ MAX_TEXT }
+        ensures step { IsStep self.now (λ i. on_text (query i text (print_places names))) (query_reply result (λ lines. lines.items)) self.now }
+        ensures errors { RefusedForMemoryAlone result }
+    {
+        self.texts.places(text, names)
     }
 
     /// Opens a viewer of a text at a row of a track; where no row is named, in the middle of the track's tallest viewer.

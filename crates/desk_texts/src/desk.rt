@@ -10,18 +10,20 @@ ghost use Rattle.texts.specs.contracts.replica.Replica.{the_row as replica_row};
 ghost use Rattle.machine.specs.DeskState.{InText, IsTextOf, new_desk, with_text};
 ghost use Rattle.machine.specs.Machine.{copy, edit};
 ghost use Rattle.machine.specs.Machine.{EditsDesk, MergesDesk, QueriesDesk, SettlesDesk, TakesDesk};
-ghost use Rattle.machine.specs.Machine.{print_fronts, print_runs, print_text};
+ghost use Rattle.machine.specs.Machine.{print_fronts, print_places, print_runs, print_text};
 ghost use Rattle.desk_texts.specs.contracts.desk.Texts.{the_row};
 
 use crate::editing::{
     change_looks_in, copy_out_of, cut_out_of, insert_into, recall_into, type_into,
 };
+use crate::places::place_lines;
 use crate::printing::{front_lines, text_lines};
 use crate::runs::run_lines;
 use char_files::{Buffer, MAX_FILE, SiteNo, TextNo};
 use list_changes::Change;
 use looks::{Looks, Refusal, Sel};
 use machine::MAX_TEXT;
+use operations::NameRange;
 use std::alloc::Global;
 use std::marker::Model;
 use texts::{EditRefusal, MergeRefusal, Outbox, Replica, Settled, Took};
@@ -259,6 +261,16 @@ impl Texts {
         ensures errors { RefusedForMemoryAlone result }
     {
         run_lines(*self.texts.allocator(), self.replica(text))
+    }
+
+    /// The lines that print where the characters of names are shown: of each maximal stretch of names that stand one
+    /// behind the other. Refused `OutOfMemory` alone.
+    pub fn places(&self, text: TextNo, names: NameRange) -> Result<Vec<u8>, Refusal>
+        requires on_desk { text ≤ MAX_TEXT }
+        ensures ok { IfOk result (λ lines. QueriesDesk self.now text (print_places names) lines.items) }
+        ensures errors { RefusedForMemoryAlone result }
+    {
+        place_lines(*self.texts.allocator(), self.replica(text), names)
     }
 
     /// The replica of a text.

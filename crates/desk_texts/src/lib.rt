@@ -3,6 +3,7 @@
 
 mod desk;
 mod editing;
+mod places;
 mod printing;
 mod runs;
 

@@ -1,4 +1,4 @@
-ghost use Rattle.std.specs.Prelude.{◌≡◌, ◌++◌, OnOk, IfOk};
+ghost use Rattle.std.specs.Prelude.{◌≡◌, ◌≤◌, ◌++◌, length, slice_range, OnOk, IfOk};
 ghost use Rattle.std.specs.Fmt.{decimal};
 ghost use Rattle.looks.specs.Refusal.{RefusedForMemoryAlone};
 ghost use Rattle.machine.specs.Machine.{Prints, print_fronts};
@@ -31,11 +31,18 @@ fn put_printed(out: &mut Vec<u8>, byte: u8) -> Result<(), AllocError>
     out.extend_from_slice(&digits)
 }
 
-// Appends the characters that a replica shows, as answers print them.
-fn put_shown(out: &mut Vec<u8>, replica: &Replica) -> Result<(), AllocError>
-    ensures { OnOk result (out.new.items ≡ out.old.items ++ print_of (shown_of replica.now)) }
+// Appends the characters that a replica shows from one position to another, as answers print them.
+pub(crate) fn put_shown(
+    out: &mut Vec<u8>,
+    replica: &Replica,
+    beg: u64,
+    end: u64,
+) -> Result<(), AllocError>
+    requires rising { beg ≤ end }
+    requires in_text { end ≤ length (shown_of replica.now) }
+    ensures { OnOk result (out.new.items ≡ out.old.items ++ print_of (slice_range (shown_of replica.now) beg end)) }
 {
-    for char in replica.shown() {
+    for char in replica.shown_between(beg, end) {
         put_printed(out, char.byte)?;
     }
     Ok(())
@@ -52,7 +59,7 @@ pub(crate) fn text_lines(alloc: Global, replica: &Replica) -> Result<Vec<u8>, Re
     if len != 0 {
         lines.push(b' ')?;
     }
-    put_shown(&mut lines, replica)?;
+    put_shown(&mut lines, replica, 0, len)?;
     lines.push(b'\n')?;
     Ok(lines)
 }

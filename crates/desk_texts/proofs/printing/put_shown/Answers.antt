@@ -5,7 +5,7 @@ use Rattle.desk_texts.proofs.printing.put_shown.Goals as goal
 
 pub loop-char-init : goal.loop-char-init
 loop-char-init c =
-    ap (λ (chars : List Char). c.args.out.now.items ++ print_of chars) (c.into_iter-char-iterator.ensures.into_iter_gives ∙ c.shown-char-items.ensures)
+    ap (λ (chars : List Char). c.args.out.now.items ++ print_of chars) (c.into_iter-char-iterator.ensures.into_iter_gives ∙ c.shown_between-char-items.ensures)
 
 pub loop-char-preserved : goal.loop-char-preserved
 loop-char-preserved c =
