@@ -48,7 +48,7 @@ abbrev pub AreAnsweredTheSame : (s s' : RunState) (i j text text' : ℕ) → Typ
 AreAnsweredTheSame s s' i j text text' = (q : Query) (a b : List ℕ) → IsOfWhatIsShown q
     → AnswersQuery s i text q a → AnswersQuery s' j text' q b → a ≡ b
 
--- wherever two texts have taken in the same operations, in one run or in two, `text` and `runs` are answered the same
+-- wherever two texts have taken in the same operations, in one run or in two, `text`, `runs` and `where` are answered the same
 abbrev pub TheSameIsAnswered : Type 0
 TheSameIsAnswered =
     (start start' : Start) (i j text text' : ℕ) (s s' : RunState) (t u : TextState)
@@ -60,7 +60,7 @@ abbrev pub AnswersFronts : RunState → (i text : ℕ) → TextState → List �
 AnswersFronts s i text t lines = AnswersQuery s i text print_fronts (lines ++ waiting_line (length t.waiting_room))
 
 -- wherever `front` is answered by the same lines of fronts of two texts, in one run or in two, however many operations
--- wait, `text` and `runs` are answered the same, if the sites are numbers that a message has places for, and no identity
+-- wait, `text`, `runs` and `where` are answered the same, if the sites are numbers that a message has places for, and no identity
 -- is used twice
 abbrev pub TheSameFrontsAreAnswered : Type 0
 TheSameFrontsAreAnswered =

@@ -2,7 +2,7 @@
 use Rattle.std.specs.Prelude.{ℕ, ◌<◌, ◌≤◌, Option, length, option_map, unwrap_or}
 use Rattle.texts.specs.Edit.{Edit as AskedEdit, deletion, looks_change, recalling, restoration}
 use Rattle.machine.specs.Machine.{copy, edit, take, settle, merge, query, unknown, print_text, print_fronts}
-use Rattle.machine.specs.Machine.{print_runs, sent}
+use Rattle.machine.specs.Machine.{print_places, print_runs, sent}
 use Rattle.machine.specs.Machine.{bytes}
 use Rattle.machine.specs.Machine.{Event as AskedEvent, Query as AskedQuery, Delivery as AskedDelivery}
 use Rattle.machine.specs.declared.TheConstants.{MAX_TEXT}
@@ -11,7 +11,7 @@ use Rattle.script_events.specs.declared.event.Delivery.TheVariants.{Sent, Bytes}
 use Rattle.script_events.specs.declared.event.Edit.{Edit}
 use Rattle.script_events.specs.declared.event.Edit.TheVariants.{TypeIn, Cut, Looks, Recall, Restore}
 use Rattle.script_events.specs.declared.event.Query.{Query}
-use Rattle.script_events.specs.declared.event.Query.TheVariants.{Text, Front, Runs}
+use Rattle.script_events.specs.declared.event.Query.TheVariants.{Text, Front, Runs, Places}
 use Rattle.script_events.specs.declared.event.Event.{Event}
 use Rattle.script_events.specs.declared.event.Event.TheVariants.{Edits, Saves, Takes, Settles, Merges, Queries}
 use Rattle.script_events.specs.Script.{typing}
@@ -34,6 +34,7 @@ abbrev pub query_of : Query → AskedQuery
 query_of Text = print_text
 query_of Front = print_fronts
 query_of Runs = print_runs
+query_of (Places names) = print_places names
 
 -- what was parsed, as the machine's event
 abbrev pub event_of : Event → AskedEvent

@@ -1,14 +1,16 @@
 -- How events are spelled in a script: words with one blank between them.
-use Rattle.std.specs.Prelude.{ℕ, ◌+◌, ◌*◌, List, [], ◌∷◌, length, map, ◌==◌, if◌then◌else◌}
+use Rattle.std.specs.Prelude.{ℕ, ◌+◌, ◌*◌, ◌^◌, ◌&&◌, nat_le, nat_lt, List, [], ◌∷◌, length, map, ◌==◌, if◌then◌else◌}
 use Rattle.std.specs.Prelude.{Option, Some, None, option_map, unwrap_or, codes}
 use Rattle.std.specs.Option.{option_map_or}
 use Rattle.hex.specs.Hex.{hex_digit_value}
 use Rattle.looks.specs.Looks.{plain_looks}
+use Rattle.char_files.specs.declared.TheConstants.{MAX_FILE}
+use Rattle.operations.specs.NameSet.{Range}
 use Rattle.texts.specs.Edit.{Edit, insertion, deletion, looks_change, recalling, restoration}
 use Rattle.machine.specs.Machine.{Delivery, Event, Query, copy, edit, merge, query, settle, unknown}
-use Rattle.machine.specs.Machine.{print_text, print_fronts}
+use Rattle.machine.specs.Machine.{print_places, print_text, print_fronts}
 use Rattle.machine.specs.Machine.{print_runs, take as taking, sent as by_number, bytes as by_bytes}
-use Rattle.script_events.specs.Words.{◌>>=◌, is_word, cut_word, number_in, cut_number, desk_in, text_in}
+use Rattle.script_events.specs.Words.{◌>>=◌, some_if, is_word, cut_word, number_in, cut_number, desk_in, text_in}
 use Rattle.script_events.specs.LooksWords.{change_in}
 
 -- the byte of two hex digits
@@ -99,6 +101,19 @@ save_event desk text rest = do
   pos ← number_in cut.1
   Some (copy desk text beg.0 end.0 other pos)
 
+-- names of a site, as a message has them too: the site, the first one's offset, and how many they are
+abbrev pub names_in : List ℕ → Option Range
+names_in rest = do
+  site ← cut_number rest
+  at ← cut_number site.1
+  len ← number_in at.1
+  some_if (nat_le 1 site.0 && nat_lt site.0 (2 ^ 16) && nat_le 1 len && nat_le (at.0 + len) MAX_FILE)
+      (record { site = site.0; at = at.0; len = len })
+
+-- `where`: names of a site
+abbrev pub places_event : (desk text : ℕ) → List ℕ → Option Event
+places_event desk text rest = option_map (λ names. query desk text (print_places names)) (names_in rest)
+
 -- what a verb prints of a text: a row for each verb
 abbrev pub query_in : List ℕ → Option Query
 query_in verb =
@@ -117,13 +132,15 @@ short_event verb desk text =
 abbrev pub merge_event : (first count desk text : ℕ) → List ℕ → Option Event
 merge_event first count desk text rest = option_map (λ other. merge desk text other) (desk_in first count rest)
 
--- what a verb asks of a text with what stands behind it: to take a message, to merge, to save, or another edit
+-- what a verb asks of a text with what stands behind it: to take a message, to merge, to save, where names stand, or another
+-- edit
 abbrev pub long_event : (first count : ℕ) → List ℕ → (desk text : ℕ) → List ℕ → Option Event
 long_event first count verb desk text rest =
     if is_word verb (codes "take") then option_map (λ message. taking desk text message) (delivery_in rest)
     else (if is_word verb (codes "merge") then merge_event first count desk text rest
     else (if is_word verb (codes "save") then save_event desk text rest
-    else option_map (λ e. edit desk text e) (edit_in verb rest)))
+    else (if is_word verb (codes "where") then places_event desk text rest
+    else option_map (λ e. edit desk text e) (edit_in verb rest))))
 
 -- what a verb goes on with: a text, which ends the line or has a blank and more behind it
 abbrev pub verb_event : (first count : ℕ) → List ℕ → ℕ → List ℕ → Option Event

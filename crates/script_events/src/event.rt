@@ -1,7 +1,7 @@
 ghost use Rattle.std.specs.Prelude.{◌≡◌, ℕ, ◌<◌, ◌≤◌, length, option_map, IfSome};
 ghost use Rattle.script_events.specs.EventView.{delivery_of, event_of, query_of, event_or_unknown};
 ghost use Rattle.script_events.specs.EventView.{IsInRun, IsOfLine, IsWithin};
-ghost use Rattle.script_events.specs.Script.{delivery_in, query_in, merge_event, save_event, short_event, long_event};
+ghost use Rattle.script_events.specs.Script.{delivery_in, names_in, places_event, query_in, merge_event, save_event, short_event, long_event};
 ghost use Rattle.script_events.specs.Script.{verb_event, event_in};
 
 mod edits;
@@ -12,9 +12,10 @@ use crate::escaped::Escaped;
 use crate::event::edits::edit_in;
 use crate::event::words::{cut_number, cut_word, desk_in, number_in, text_in};
 use crate::hex_bytes::Hex;
-use char_files::TextNo;
+use char_files::{MAX_FILE, SiteNo, TextNo};
 use looks::{Looks, Sel};
 use machine::MAX_TEXT;
+use operations::NameRange;
 
 /// What a line of a script asks; it borrows its bytes from the line.
 ///
@@ -113,6 +114,8 @@ pub enum Query {
     Front,
     /// Its runs of equal looks.
     Runs,
+    /// Where the characters of these names are shown.
+    Places(NameRange),
 }
 
 // The number of the run's first site, and how many there are.
@@ -167,6 +170,30 @@ fn save_event(desk: usize, text: TextNo, rest: &[u8]) -> Option<Event<'_>>
     Some(Event::Saves { desk, text, save })
 }
 
+// Names of a site, as a message has them too: the site, the first one's offset, and how many they are.
+fn names_in(rest: &[u8]) -> Option<NameRange>
+    ensures { result ≡ names_in rest.now }
+{
+    let (site, rest) = cut_number(rest)?;
+    let (at, len) = cut_number(rest)?;
+    let len = u64::from(number_in(len)?);
+    if site > u64::from(u16::MAX) || len == 0 || MAX_FILE < at + len {
+        return None;
+    }
+    Some(NameRange::new(SiteNo::new(site as u16)?, at as u32, len as u32))
+}
+
+// `where`: names of a site.
+fn places_event(desk: usize, text: TextNo, rest: &[u8]) -> Option<Event<'static>>
+    requires { text ≤ MAX_TEXT }
+    ensures event { option_map event_of result ≡ places_event desk text rest.now }
+    ensures in_run { IfSome result (λ event. (count : ℕ) → desk < count → IsInRun count event) }
+    ensures within { IfSome result (λ event. (len : ℕ) → IsOfLine len event) }
+{
+    let query = Query::Places(names_in(rest)?);
+    Some(Event::Queries { desk, text, query })
+}
+
 // What a verb asks of a text that ends the line: to restore, to settle, or a query.
 fn short_event(verb: &[u8], desk: usize, text: TextNo) -> Option<Event<'static>>
     requires { text ≤ MAX_TEXT }
@@ -196,7 +223,8 @@ fn merge_event(run: RunSites, desk: usize, text: TextNo, rest: &[u8]) -> Option<
     Some(Event::Merges { desk, text, other })
 }
 
-// What a verb asks of a text with what stands behind it: to take a message, to merge, to save, or another edit.
+// What a verb asks of a text with what stands behind it: to take a message, to merge, to save, where names stand, or
+// another edit.
 fn long_event<'a>(
     run: RunSites,
     verb: &[u8],
@@ -220,6 +248,8 @@ fn long_event<'a>(
         merge_event(run, desk, text, rest)
     } else if verb == b"save".as_slice() {
         save_event(desk, text, rest)
+    } else if verb == b"where".as_slice() {
+        places_event(desk, text, rest)
     } else {
         let edit = edit_in(verb, rest)?;
         Some(Event::Edits { desk, text, edit })

@@ -295,6 +295,7 @@ impl Sites {
             Query::Text => self.desks[desk].text(text),
             Query::Front => self.desks[desk].front(text),
             Query::Runs => self.desks[desk].runs(text),
+            Query::Places(names) => self.desks[desk].places(text, names),
         }
     }
 }

@@ -1,4 +1,4 @@
-use Rattle.machine.specs.Machine.{print_fronts, print_runs, print_text, query}
+use Rattle.machine.specs.Machine.{print_fronts, print_places, print_runs, print_text, query}
 use Rattle.machine.specs.Whole.{on_text}
 use Rattle.commands.specs.Steps.{query_reply}
 use Rattle.script_runs.specs.Seen.{SitesSeen}
@@ -25,3 +25,10 @@ returns-in-Runs c =
     let in_run = rw (← c.self.view_is) at c.requires.in_run in
     let at = desk_read s c.args.desk c.index-in-Runs.result.now in_run c.index-in-Runs.ensures in
     rw (← c.self.view_is, c.in-Runs.is) (replied_same s c.args.desk c.index-in-Runs.result.now at (λ i. on_text (query i c.args.text print_runs)) (query_reply c.runs.result (λ lines. lines.items)) c.runs.ensures.step)
+
+pub returns-in-Places : goal.returns-in-Places
+returns-in-Places c =
+    let s : SitesSeen = record { first = c.self.inside.first; desks = c.self.inside.desks.items; sent = c.self.inside.outbox } in
+    let in_run = rw (← c.self.view_is) at c.requires.in_run in
+    let at = desk_read s c.args.desk c.index-in-Places.result.now in_run c.index-in-Places.ensures in
+    rw (← c.self.view_is, c.in-Places.is) (replied_same s c.args.desk c.index-in-Places.result.now at (λ i. on_text (query i c.args.text (print_places c.in-Places.names))) (query_reply c.places.result (λ lines. lines.items)) c.places.ensures.step)
