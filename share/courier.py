@@ -26,7 +26,7 @@ class Courier:
         # What ended the carrying for good, if anything did.
         self.failure: Conflict | Trouble | None = None
         self._open_log, self._wake = open_log, wake
-        self._arrived: deque[list[Entry]] = deque()
+        self._arrived: deque[Entry] = deque()
         # Why a thread is without the log, by its part.
         self._offline: dict[str, str] = {}
         self._stopped, self._work = threading.Event(), threading.Event()
@@ -39,12 +39,13 @@ class Courier:
         """Says that the site made messages."""
         self._work.set()
 
-    def arrivals(self) -> list[Entry]:
-        """What came since this was last asked."""
-        entries: list[Entry] = []
-        while self._arrived:
-            entries += self._arrived.popleft()
-        return entries
+    def waiting(self) -> int:
+        """How many entries came and weren't fetched."""
+        return len(self._arrived)
+
+    def arrivals(self, many: int) -> list[Entry]:
+        """The first so many of these."""
+        return [self._arrived.popleft() for _ in range(many)]
 
     def offline(self) -> str | None:
         """Why the log can't be had, where it can't."""
@@ -104,7 +105,7 @@ class Courier:
             self._works(self._receive)
             if entries:
                 self.after = entries[-1].place
-                self._arrived.append(entries)
+                self._arrived.extend(entries)
                 self._wake()
             else:
                 log.watch(self.after, TURN_SECONDS)

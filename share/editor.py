@@ -14,9 +14,6 @@ from share.words import counted
 
 # The screen is looked at so often where nothing is typed and nothing comes, for its size and who is on.
 TURN_SECONDS = 0.5
-# After what came was taken in, keys alone are answered for so many times as long: the program takes a while
-# to print a text of a megabyte, and answers no key meanwhile.
-REST = 10
 # So long a sentence is shown at least, though keys are pressed.
 NOTICE_SECONDS = 3
 HELP = "^Z undo  ^F find  ^S save  ^Q quit"
@@ -157,18 +154,12 @@ class Editor:
     def run(self) -> None:
         """Answers keys and shows what comes, until the user quits."""
         self._draw()
-        rests_until = 0.0
         while not self._quits:
-            rest = rests_until - time.monotonic()
-            turn = min(TURN_SECONDS, rest) if rest > 0 else TURN_SECONDS
-            ready, _, _ = select.select([sys.stdin, self._woken], [], [], turn)
+            ready, _, _ = select.select([sys.stdin, self._woken], [], [], TURN_SECONDS)
             if self._woken in ready:
                 os.read(self._woken, 4_096)
             self._press()
-            begin = time.monotonic()
-            if begin >= rests_until:
-                self.note.take_in()
-                rests_until = begin + REST * (time.monotonic() - begin)
+            self.note.take_in()
             self._draw()
 
     def _press(self) -> None:

@@ -3,6 +3,9 @@ import unicodedata
 from dataclasses import dataclass
 from functools import lru_cache
 
+# Where a character begins in its part of a line, what is drawn for it, and how many columns that takes.
+Cell = tuple[int, str, int]
+
 LINE_END = 0x0D
 TAB = 8
 # A longer line is laid out in parts, each beginning a row, so that a key in a line of a megabyte is answered
@@ -12,15 +15,16 @@ PART = 4_096
 
 @dataclass
 class Row:
-    """A row: where it begins and ends in the text, and its cells, each with where its character begins."""
+    """A row: where it begins and ends in the text, its cells, and where its part of a line begins."""
 
     begin: int
     end: int
-    cells: list[tuple[int, str, int]]
+    cells: list[Cell]
+    part: int
 
     def column(self, position: int) -> int:
         """The column of a position in the row."""
-        return sum(width for begin, _, width in self.cells if begin < position)
+        return sum(width for begin, _, width in self.cells if self.part + begin < position)
 
     def position(self, column: int) -> int:
         """The position of the character in a column, or the row's end."""
@@ -28,7 +32,7 @@ class Row:
         for begin, _, width in self.cells:
             at += width
             if width and at > column:
-                return begin
+                return self.part + begin
         return self.end
 
 
@@ -130,23 +134,25 @@ class Layout:
 
     def _rows(self, begin: int) -> list[Row]:
         if begin not in self._parts:
-            end = self._part_end(begin)
-            line = characters(bytes(self.text[begin:end]), begin)
-            self._parts[begin] = rows_of(line, begin, end, self.width)
+            rows = rows_of(bytes(self.text[begin:self._part_end(begin)]), self.width)
+            self._parts[begin] = [Row(begin + first, begin + end, cells, begin) for first, end, cells in rows]
         return self._parts[begin]
 
 
-def rows_of(line: list[tuple[int, str]], begin: int, end: int, width: int) -> list[Row]:
-    """The rows of a line's characters. A row ends behind its last blank, where it has one."""
-    rows: list[Row] = []
-    cells: list[tuple[int, str, int]] = []
-    at = blank = 0
-    for place, character in line:
+# A text is laid out anew behind each change of it, and most lines on the screen stay as they were.
+@lru_cache(1_024)
+def rows_of(part: bytes, width: int) -> list[tuple[int, int, list[Cell]]]:
+    """Where the rows of a part of a line begin and end in it, and their cells. A row ends behind its last
+    blank, where it has one."""
+    rows: list[tuple[int, int, list[Cell]]] = []
+    cells: list[Cell] = []
+    begin = at = blank = 0
+    for place, character in characters(part, 0):
         seen, size = look_of(character)
         while at + size > width and cells:
             kept = blank or len(cells)
             next_begin = cells[kept][0] if kept < len(cells) else place
-            rows.append(Row(begin, next_begin, cells[:kept]))
+            rows.append((begin, next_begin, cells[:kept]))
             begin, cells, blank = next_begin, cells[kept:], 0
             at = sum(cell[2] for cell in cells)
         if character == "\t":
@@ -156,8 +162,7 @@ def rows_of(line: list[tuple[int, str]], begin: int, end: int, width: int) -> li
         at += size
         if character in " \t":
             blank = len(cells)
-    rows.append(Row(begin, end, cells))
-    return rows
+    return [*rows, (begin, len(part), cells)]
 
 
 def cluster_before(text: bytearray, position: int) -> int:

@@ -1,8 +1,9 @@
-"""Messages as far as sharing reads them: who sent one, what it inserted, and the names that a deletion has.
+"""Messages as far as sharing reads them: who sent one, and which names it speaks of.
 
 docs/FORMATS.md has them byte by byte. All else in a message is the program's to judge.
 """
 import struct
+from contextlib import suppress
 from typing import NamedTuple
 
 TEXT = 1
@@ -11,7 +12,8 @@ GREATEST_STAMP = 2**48 - 1
 LONGEST_MESSAGE = 10_297
 
 HEADER = struct.Struct(">2sBBHHIQ")
-INSERTION = struct.Struct(">HII")
+# The cause, where it begins, and how long its font is.
+INSERTION = struct.Struct(">HIIB")
 LENGTH = struct.Struct(">H")
 RANGE = struct.Struct(">HII")
 TAG = b"OT"
@@ -35,26 +37,37 @@ class Message(NamedTuple):
         return cls(site, seq, stamp, kind, data)
 
 
-def inserted(message: Message) -> tuple[int, int]:
-    """Where in its site's file an insertion's bytes begin, and how many they are."""
-    _, _, at = INSERTION.unpack_from(message.data, HEADER.size)
-    font = message.data[HEADER.size + INSERTION.size]
-    looks = 1 + font + 2
-    (length,) = LENGTH.unpack_from(message.data, HEADER.size + INSERTION.size + looks)
-    return at, length
+class Names(NamedTuple):
+    """The names of a stretch of a site's file."""
+
+    site: int
+    at: int
+    length: int
 
 
-def names_of(message: Message) -> bytes:
-    """The set of names that a deletion has, as it is spelled."""
-    return message.data[HEADER.size:]
+def names_of(message: Message) -> list[Names]:
+    """The names that a message inserts, deletes or restores; none where it isn't spelled as one that does."""
+    names = []
+    if len(message.data) <= LONGEST_MESSAGE:
+        with suppress(struct.error):
+            if message.kind == INSERT:
+                names = [_inserted(message)]
+            elif message.kind in (DELETE, RESTORE):
+                ranges = RANGE.iter_unpack(message.data[HEADER.size + LENGTH.size:])
+                names = [Names(*one) for one in ranges]
+    return names if all(one.length for one in names) else []
 
 
-def stretch(site: int, at: int, length: int) -> bytes:
-    """The set of names of one stretch of a site's file, spelled."""
-    return LENGTH.pack(1) + RANGE.pack(site, at, length)
+def _inserted(message: Message) -> Names:
+    _, _, at, font = INSERTION.unpack_from(message.data, HEADER.size)
+    # Behind the font stand a colour and an offset.
+    (length,) = LENGTH.unpack_from(message.data, HEADER.size + INSERTION.size + font + 2)
+    return Names(message.site, at, length)
 
 
-def naming(kind: int, site: int, seq: int, stamp: int, names: bytes) -> Message:
-    """A Delete or a Restore of these names."""
+def naming(kind: int, site: int, seq: int, stamp: int, names: list[Names]) -> Message:
+    """A Delete or a Restore of these names, which are in the order of a set."""
     version = 2 if kind == RESTORE else 1
-    return Message(site, seq, stamp, kind, HEADER.pack(TAG, version, kind, TEXT, site, seq, stamp) + names)
+    head = HEADER.pack(TAG, version, kind, TEXT, site, seq, stamp)
+    ranges = (RANGE.pack(*one) for one in names)
+    return Message(site, seq, stamp, kind, b"".join([head, LENGTH.pack(len(names)), *ranges]))

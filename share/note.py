@@ -1,39 +1,27 @@
 """A note that is open: its text, the cursor, and what this site can take back."""
 import re
+from collections.abc import Callable
 from dataclasses import dataclass
+from typing import TypeVar
 
-from share.message import DELETE, RESTORE, Message, inserted, names_of, stretch
-from share.note_text import boundary, change
+from share.message import DELETE, RESTORE, Message, Names, names_of
+from share.note_text import Change, boundary, change, make
 from share.session import Session
+from share.site import Told
 from share.words import Refused
 
 # The line end inside a text.
 LINE_END = b"\r"
-# After one batch of messages the text is looked at often enough to follow each, while so many bytes do.
-LOOKED_AT = 2_000_000
-# No version of a text.
-UNKNOWN = -1
+
+Result = TypeVar("Result")
 
 
 @dataclass
-class Typed:
-    """An own insertion, as names: a stretch of the own site's file. Where it stands is known as long as
-    nothing else changed the text, which `version` tells."""
+class Undo:
+    """What takes an own edit back: messages of a kind, each of these names."""
 
-    at: int
-    length: int
-    begin: int
-    version: int
-
-
-@dataclass
-class Erased:
-    """An own deletion: the sets of names of its messages, and the bytes that stood there."""
-
-    names: list[bytes]
-    data: bytes
-    begin: int
-    version: int
+    kind: int
+    names: list[list[Names]]
 
 
 class Note:
@@ -45,9 +33,7 @@ class Note:
         self.cursor = self.top = 0
         self.notice = ""
         self._site = session.site
-        self._done: list[Typed | Erased] = []
-        # Counts the changes that weren't made by own edits alone.
-        self._version = 0
+        self._done: list[Undo] = []
         # Whether what is typed next goes on with what was typed last, and is taken back with it.
         self._goes_on = False
 
@@ -59,8 +45,8 @@ class Note:
             return
         for message in messages:
             self._typed(message)
-        self.text[self.cursor:self.cursor] = data
-        self.moved_to(self.cursor + len(data), goes_on=not data.endswith(LINE_END))
+        self._shows([Change(self.cursor, self.cursor, data)], follow=True)
+        self._goes_on = not data.endswith(LINE_END)
 
     def erase(self, begin: int, end: int) -> None:
         """Deletes a stretch."""
@@ -69,10 +55,8 @@ class Note:
         messages = self._edited(lambda: self.session.site.cut(begin, end))
         if messages is None:
             return
-        names = [names_of(message) for message in messages]
-        self._done.append(Erased(names, bytes(self.text[begin:end]), begin, self._version))
-        del self.text[begin:end]
-        self.moved_to(begin)
+        self._done.append(Undo(RESTORE, [names_of(message) for message in reversed(messages)]))
+        self._shows([Change(begin, end, b"")], follow=True)
 
     def take_back(self) -> bool:
         """Takes back this site's last edit that stands, by names: nobody else's is touched. False where there
@@ -80,32 +64,20 @@ class Note:
         self._forget_names_of_others()
         if not self._done:
             return False
-        done, site = self._done.pop(), self.session.site
-        if isinstance(done, Typed):
-            named, data = [(DELETE, stretch(site.number, done.at, done.length))], b""
-            end = done.begin + done.length
-        else:
-            named, data = [(RESTORE, names) for names in reversed(done.names)], done.data
-            end = done.begin
-        # Where the first is refused nothing is changed, and the edit can be taken back later.
-        if None in [self._edited(lambda: site.name(kind, names)) for kind, names in named]:
-            self._done.append(done)
-            return True
-        if done.version == self._version:
-            # Nobody else changed anything since, so a long text needn't be printed to see where this was.
-            self.text[done.begin:end] = data
-            self.cursor = done.begin + len(data)
-        else:
-            self._shows(site.text(), follow=True)
+        undo, site = self._done.pop(), self.session.site
+        for done, names in enumerate(undo.names):
+            told = self._edited(lambda: site.name(undo.kind, names))
+            if told is None:
+                # What was refused, and what comes behind it, can be taken back later.
+                self._done.append(Undo(undo.kind, undo.names[done:]))
+                return True
+            self._shows(told, follow=True)
         self._goes_on = False
         return True
 
     def take_in(self) -> bool:
         """Takes in what came from the others; whether the text changed."""
-        looks = max(1, LOOKED_AT // (len(self.text) + 1))
-        changed = False
-        for text in self.session.arrived(looks):
-            changed = self._shows(text) or changed
+        changed = self._shows(self.session.arrived())
         self._forget_names_of_others()
         if notices := self.session.notices():
             self.notice = notices[0] + (f" ({len(notices) - 1} more such.)" if len(notices) > 1 else "")
@@ -131,40 +103,40 @@ class Note:
         return bytes(self.text).replace(LINE_END, b"\n")
 
     def _typed(self, message: Message) -> None:
-        at, length = inserted(message)
-        last = self._done[-1] if self._done else None
-        if self._goes_on and isinstance(last, Typed):
-            last.length += length
-            last.version = last.version if last.version == self._version else UNKNOWN
+        (names,) = names_of(message)
+        if self._goes_on and self._done and self._done[-1].kind == DELETE:
+            ((before,),) = self._done[-1].names
+            self._done[-1].names = [[before._replace(length=before.length + names.length)]]
         else:
-            self._done.append(Typed(at, length, self.cursor, self._version))
+            self._done.append(Undo(DELETE, [[names]]))
         self._goes_on = True
 
-    def _edited(self, edit) -> list[Message] | None:
-        """The messages of an edit; None where it was refused, or stands in part: the text is the program's
+    def _edited(self, edit: Callable[[], Result]) -> Result | None:
+        """What an edit gives; None where it was refused, or stands in part: the text is the program's
         then."""
         self._forget_names_of_others()
         try:
             return edit()
         except Refused as why:
-            self.notice = str(why)
+            self.notice, self._goes_on = str(why), False
             self._shows(self.session.site.text(), follow=True)
             return None
         finally:
             self.session.made()
 
-    def _shows(self, text: bytes, follow: bool = False) -> bool:
-        """Takes over a text that the program shows. The cursor stays with its character, or follows the
-        change."""
-        if text == self.text:
+    def _shows(self, told: Told, follow: bool = False) -> bool:
+        """Takes over what the text has become; whether it changed. The cursor stays with its character, or
+        follows the last change."""
+        if not isinstance(told, list):
+            told = [change(self.text, told)] if told != self.text else []
+        if not told:
             return False
-        self._version += 1
-        difference = change(self.text, text)
-        self.cursor, self.top = difference.moved(self.cursor), difference.moved(self.top)
+        for one in told:
+            self.cursor, self.top = one.moved(self.cursor), one.moved(self.top)
+        make(self.text, told)
         if follow:
-            self.cursor = difference.begin + len(difference.new)
-        self.text[difference.begin:difference.end] = difference.new
-        self.cursor = boundary(self.text, self.cursor)
+            self.cursor = told[-1].begin + len(told[-1].new)
+        self.cursor, self.top = boundary(self.text, self.cursor), boundary(self.text, self.top)
         return True
 
     def _forget_names_of_others(self) -> None:

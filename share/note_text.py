@@ -1,4 +1,5 @@
-"""What a change of a text is: found by comparing it before and after, and followed by positions."""
+"""What a change of a text is, how positions follow it, and how it is found by comparing the text before and
+after."""
 from dataclasses import dataclass
 
 # Bytes are compared so many at a time, and one by one only where these differ.
@@ -20,6 +21,21 @@ class Change:
         if position < self.end:
             return self.begin
         return position + len(self.new) - (self.end - self.begin)
+
+
+def make(text: bytearray, changes: list[Change]) -> None:
+    """Makes changes, each of the text that those before it leave. Those that rise are made in one go, since
+    each by itself moves all that is behind it."""
+    begin = at = 0
+    new = bytearray()
+    for one in changes:
+        gap = one.begin - begin - len(new)
+        if gap < 0:
+            text[begin:at] = new
+            begin, at, gap, new = one.begin, one.begin, 0, bytearray()
+        new += text[at:at + gap] + one.new
+        at += gap + one.end - one.begin
+    text[begin:at] = new
 
 
 def change(before: bytes, after: bytes) -> Change:

@@ -16,7 +16,7 @@ MOST_LINES = 2**20
 PIPE = 1 << 20
 F_SETPIPE_SZ = 1031
 # The lines of an answer that others follow.
-FOLLOWED = (b"send ", b"front ", b"run ")
+FOLLOWED = (b"send ", b"front ", b"run ", b"shown ")
 
 
 class Ended(Exception):
@@ -130,11 +130,17 @@ def shown(answer: list[bytes]) -> bytes:
     words = answer[-1].split(b" ", 2)
     if words[0] != b"text" or len(words) < 2:
         raise Trouble(f"The program was asked for the text and answered {answer[-1][:60]!r}.")
-    printed = words[2] if len(words) == 3 else b""
-    # Python's own unescaping is the quick way, and spells a byte with an x.
-    text = printed.replace(b"\\", b"\\x").decode("unicode_escape").encode("latin-1")
-    if len(text) != int(words[1]):
-        raise Trouble("The program printed another text than it counted.")
+    return characters(words[2] if len(words) == 3 else b"", int(words[1]))
+
+
+def characters(printed: bytes, count: int) -> bytes:
+    """The characters that an answer prints, and counts."""
+    text = printed
+    if b"\\" in printed:
+        # Python's own unescaping is the quick way, and spells a byte with an x.
+        text = printed.replace(b"\\", b"\\x").decode("unicode_escape").encode("latin-1")
+    if len(text) != count:
+        raise Trouble("The program printed other characters than it counted.")
     return text
 
 

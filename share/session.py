@@ -11,11 +11,14 @@ from share.journal import InUse, Journal
 from share.log import START, Conflict, Entry, Log, Unreachable, open_log
 from share.note_text import Change, change
 from share.program import Program
-from share.site import SLICE, Forked, Site
+from share.site import SLICE, Forked, Site, Told
 from share.words import Trouble, counted
 
 # How long closing waits for what isn't sent.
 CLOSE_SECONDS = 3
+# So many messages are taken in between two looks at the keys, where not so many wait that they are caught up
+# with at once.
+TURN = 200
 
 Bar = Callable[[int, int], None]
 
@@ -63,23 +66,26 @@ class Session:
         """Says that the site made messages, which are to be sent."""
         self._courier.made()
 
-    def arrived(self, looks: int) -> list[bytes]:
-        """Takes in what came, and gives the texts shown since: so many at most, or none where nothing
-        came."""
-        entries = self._courier.arrivals()
+    def arrived(self) -> Told:
+        """Takes in what came, some of it in one turn, and tells what the text has become."""
         failure = self._courier.failure
         if isinstance(failure, Trouble):
             raise failure
-        if not (entries or failure):
+        waiting = self._courier.waiting()
+        if not (waiting or failure):
             return []
-        begin, many = len(self.site.history), len(entries)
+        many = waiting if waiting > SLICE else min(waiting, TURN)
+        entries = self._courier.arrivals(many)
+        if waiting > many:
+            self._wake()
+        begin = len(self.site.history)
         self.site.progress = lambda done: self._bar(min(done - begin, many), many) if many > SLICE else None
         try:
             if isinstance(failure, Conflict):
                 raise Forked(failure.seq)
-            return self.site.take(entries, looks)
+            return self.site.take(entries, looks=True)
         except Forked as fork:
-            return [self._go_on(fork.seq, entries)]
+            return self._go_on(fork.seq, entries)
 
     def notices(self) -> list[str]:
         """What the user is to be told since this was last asked."""
@@ -151,7 +157,7 @@ class Session:
             raise Trouble(f"Another client writes as site {self.site.number} too, and the log can't be "
                           f"reached for a new number ({why}). Open the note again when it is there: your "
                           "edits are kept.") from why
-        entries += self._courier.arrivals()
+        entries += self._courier.arrivals(self._courier.waiting())
         self.site.take(entries)
         self._courier = Courier(self._open_log, self.site, self._courier.after, self._wake)
         return self.site.text()

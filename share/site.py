@@ -1,24 +1,32 @@
 """A site: a process of the program, the journal of its own messages, and all that it has taken in."""
 from collections.abc import Callable, Iterator
+from itertools import chain, islice
 
 from share.incoming import Incoming
 from share.journal import Journal
 from share.log import Entry
-from share.message import GREATEST_STAMP, Message, naming
-from share.note_text import boundary
+from share.message import GREATEST_STAMP, Message, Names, naming
+from share.note_text import Change, boundary
 from share.program import MOST_LINES, Ended, Program, escaped, shown
+from share.telling import answered, asking, count, stretches
 from share.words import Refused, Trouble, refusal
 
 # One message has so many bytes of an insertion at most.
 MOST_BYTES = 4_096
-# So many messages are handed in at once where nobody looks at the text between.
+# So many messages are handed in at once. What more of them together change isn't told.
 SLICE = 2_000
+# What messages change is told while they have so many names at most. In a note of 1 MB that takes 4 to 8 ms
+# where the names stand in long stretches, shown or hidden, and 110 to 230 where each stands by itself; to ask
+# for the whole text takes 60 to 90, and up to 240 on a busy machine.
+MOST_NAMES = 10_000
 # So many messages a note has at most when it is edited, since a run of the program takes so many lines and
-# can't be gone on with by another one. Some lines are left for reading.
-MOST_MESSAGES = MOST_LINES - 20_000
+# can't be gone on with by another one. Lines are left for what is asked besides.
+MOST_MESSAGES = MOST_LINES - 50_000
 ROOM_FULL, NO_MEMORY, STAMPS_SPENT, SCATTERED, TOO_MANY = 6, 7, 9, 12, 21
 
 Progress = Callable[[int], None]
+# What a text has become: change by change, or where that isn't told the whole of it.
+Told = list[Change] | bytes
 
 
 class Forked(Exception):
@@ -48,20 +56,26 @@ class Site:
         # Those that had to wait once: the program says it again of one that still does.
         self._waited: set[tuple[int, int]] = set()
         self._program = Program(number)
+        # A program that can't say where characters are shown is told of as the note is opened.
+        stretches(self._ask([self._program.event("where", number, 0, 1)])[0])
 
-    def take(self, entries: list[Entry], looks: int = 0) -> list[bytes]:
-        """Takes in entries of the log, and gives the text behind each of so many parts of them at most.
+    def take(self, entries: list[Entry], looks: bool = False) -> Told:
+        """Takes in entries of the log. To one who looks at the text it tells what that has become.
 
         Raises Forked where one is another client's under this site's number: those ahead of it are taken
         in."""
         seq = self._sort(entries)
-        texts: list[bytes] = []
-        for part, looked_at in _parts(self.incoming.ready(), looks):
-            texts += self._hand_in(part, looked_at)
+        messages = self.incoming.ready()
+        changes: list[Change] | None = []
+        for begin in range(0, len(messages), SLICE):
+            part = messages[begin:begin + SLICE]
+            answers, changes = self._hand_in(part, looks and len(messages) <= SLICE)
+            for message, answer in zip(part, answers):
+                self._took(message, answer)
             self.progress(len(self.history))
         if seq is not None:
             raise Forked(seq)
-        return texts
+        return self._told(changes) if looks else []
 
     def waiting(self) -> int:
         """How many messages came whose causes didn't."""
@@ -105,8 +119,9 @@ class Site:
         middle = (begin + end) // 2
         return self.cut(middle, end) + self.cut(begin, middle)
 
-    def name(self, kind: int, names: bytes) -> list[Message]:
-        """Deletes or restores characters by their names, wherever they stand now.
+    def name(self, kind: int, names: list[Names]) -> Told:
+        """Deletes or restores characters by their names, wherever they stand now, and tells what the text has
+        become.
 
         No event has names, so the message is made here, with the next seq and a stamp above all others, and
         handed in: the program judges it as any other."""
@@ -114,12 +129,11 @@ class Site:
         if self._stamp >= GREATEST_STAMP:
             raise Refused(STAMPS_SPENT)
         message = naming(kind, self.number, self.front + 1, self._stamp + 1, names)
-        (answer,) = self._ask([self._program.taking(message.data)])
-        if answer[-1] != b"taken 0 0":
-            raise Trouble(f"The program answered an own edit with {answer[-1].decode()}. Open the note "
-                          "again.")
+        (answer,), changes = self._hand_in([message], looks=True)
+        if answer != b"taken 0 0":
+            raise Trouble(f"The program answered an own edit with {answer.decode()}. Open the note again.")
         self._keep([message])
-        return [message]
+        return self._told(changes)
 
     def text(self) -> bytes:
         """What the program shows."""
@@ -146,14 +160,17 @@ class Site:
                 self.incoming.add(message)
         return None
 
-    def _hand_in(self, messages: list[Message], look: bool) -> list[bytes]:
-        events = [self._program.taking(message.data) for message in messages]
-        if look:
-            events.append(self._program.event("text"))
-        answers = self._ask(events)
-        for message, answer in zip(messages, answers):
-            self._took(message, answer[-1])
-        return [shown(answers[-1])] if look else []
+    def _hand_in(self, messages: list[Message], looks: bool) -> tuple[list[bytes], list[Change] | None]:
+        """The answers to messages, and what these changed; None where that can't be told."""
+        tells = looks and count(messages) <= MOST_NAMES and len(self.history) < MOST_MESSAGES
+        asked = [asking(self._program, message, tells) for message in messages]
+        found = iter(self._ask([*chain.from_iterable(asked)]))
+        told = [answered(message, [*islice(found, len(events))]) for message, events in zip(messages, asked)]
+        answers, changes = [answer for answer, _ in told], [changed for _, changed in told]
+        return answers, [*chain.from_iterable(changes)] if tells and None not in changes else None
+
+    def _told(self, changes: list[Change] | None) -> Told:
+        return self.text() if changes is None else changes
 
     def _took(self, message: Message, answer: bytes) -> None:
         word, *numbers = answer.split()
@@ -214,20 +231,21 @@ class Site:
         """The program's answers. Where it ended it is started again: none of these events was kept, so they
         are asked anew."""
         if self._program.lines + len(events) > MOST_LINES:
-            self._start_again()
+            self._start_again(len(events))
         try:
             return self._program.ask(events)
         except Ended:
-            self._start_again()
+            self._start_again(len(events))
         try:
             return self._program.ask(events)
         except Ended as why:
             raise Trouble("The program ended, was started again and ended again. All that was typed before "
                           "is kept.") from why
 
-    def _start_again(self) -> None:
+    def _start_again(self, more: int) -> None:
+        """Has another run of the program do all that this one did, and leave so many lines more."""
         self._program.close()
-        if len(self.history) + SLICE > MOST_LINES:
+        if len(self.history) + more > MOST_LINES:
             raise Trouble(f"The note has {len(self.history):,} messages, more than the program takes in one "
                           "run. Go on in a new note.")
         self._program = Program(self.number)
@@ -247,12 +265,3 @@ def split(data: bytes) -> Iterator[bytes]:
         data = data[end:]
     if data:
         yield data
-
-
-def _parts(messages: list[Message], looks: int) -> Iterator[tuple[list[Message], bool]]:
-    """Messages in parts, and whether the text is looked at behind each. Of very many, only behind the
-    last."""
-    many = len(messages) > SLICE or not looks
-    size = SLICE if many else max(1, -(-len(messages) // looks))
-    for begin in range(0, len(messages), size):
-        yield messages[begin:begin + size], looks > 0 and (not many or begin + size >= len(messages))

@@ -9,8 +9,8 @@ from concurrent.futures import ProcessPoolExecutor
 # So many modules run at a time. They wait more than they work.
 AT_A_TIME = 3
 # The longest first.
-MODULES = ["test_killed", "test_same_text", "test_joining", "test_bad_input", "test_terminal", "test_logs",
-           "test_parts"]
+MODULES = ["test_killed", "test_same_text", "test_joining", "test_bad_input", "test_terminal", "test_told",
+           "test_logs", "test_parts"]
 
 
 def run(module: str) -> tuple[int, int, str]:

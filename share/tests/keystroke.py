@@ -1,10 +1,13 @@
-"""Measures how long a keystroke takes in a note of 1 MB: from the key to what the terminal is sent for it.
+"""Measures how long a keystroke takes in a note of 1 MB, alone and beside another's typing: from the key to
+what the terminal is sent for it.
 
     python3 -m share.tests.keystroke
 """
 import fcntl
+import multiprocessing
 import os
 import pty
+import random
 import select
 import struct
 import tempfile
@@ -19,7 +22,9 @@ SIZE, KEYS, FEW = 1_000_000, 100, 15
 LINE = "Line {} of a note as people write them, with some words — and a dash.\n"
 ROWS, COLUMNS = 40, 120
 SLOW = 0.05
-DOWN, UP, UNDO = b"\x1b[6~", b"\x1b[5~", b"\x1a"
+# The other one types so often.
+BESIDE = 0.1
+DOWN, UP, UNDO, ERASE = b"\x1b[6~", b"\x1b[5~", b"\x1a", b"\x7f"
 
 
 def answered(terminal: int, wait: float = 30, quiet: float = 0.05) -> float:
@@ -36,13 +41,28 @@ def measure(terminal: int, what: str, key: bytes, count: int = KEYS) -> None:
     """Presses a key so many times, and prints how long the answers took."""
     seconds = []
     for _ in range(count):
+        # At any moment of the other one's typing.
+        time.sleep(BESIDE * random.random())
         begin = time.perf_counter()
         os.write(terminal, key)
         seconds.append(answered(terminal) - begin)
     seconds.sort()
     median, most = 1000 * seconds[len(seconds) // 2], 1000 * seconds[-1]
     slow = f"{sum(one >= SLOW for one in seconds)} of {count}"
-    print(f"{what:<10} {median:6.1f} ms by the median, {most:6.1f} at most, {slow} above {1000 * SLOW:.0f}")
+    print(f"{what:<17} {median:6.1f} ms by the median, {most:6.1f} at most, {slow} above {1000 * SLOW:.0f}",
+          flush=True)
+
+
+def type_beside(begun) -> None:
+    """Types at the note's front, which isn't on the other screen: what is sent to that is for its own keys
+    alone."""
+    note = Note(Session("large", None))
+    begun.set()
+    while True:
+        note.moved_to(0)
+        note.type("y")
+        note.take_in()
+        time.sleep(BESIDE)
 
 
 def main() -> None:
@@ -61,10 +81,19 @@ def main() -> None:
     for _ in range(20):
         os.write(terminal, DOWN)
     answered(terminal, quiet=1)
-    for what, key in (("a letter", b"x"), ("Backspace", b"\x7f")):
+    for what, key in (("a letter", b"x"), ("Backspace", ERASE)):
         measure(terminal, what, key)
     for what, key in (("Ctrl-Z", UNDO), ("Enter", b"\r"), ("PgUp", UP), ("PgDn", DOWN)):
         measure(terminal, what, key, FEW)
+    processes = multiprocessing.get_context("spawn")
+    begun = processes.Event()
+    other = processes.Process(target=type_beside, args=(begun,), daemon=True)
+    other.start()
+    begun.wait()
+    answered(terminal, quiet=1)
+    for what, key in (("a letter", b"x"), ("Backspace", ERASE), ("Ctrl-Z", UNDO)):
+        measure(terminal, f"beside: {what}", key)
+    other.terminate()
     os.close(terminal)
     os.waitpid(child, 0)
 

@@ -17,7 +17,7 @@ from share.log import Entry, Log, open_log
 from share.note import Note
 from share.program import Program
 from share.session import Status
-from share.site import Site
+from share.site import Site, Told
 
 TOP = pathlib.Path(__file__).resolve().parents[2]
 NOTE = str(TOP / "bin" / "note")
@@ -129,10 +129,10 @@ class HandCarried:
         self.log.append(self.site.number, self.sent + 1, *messages)
         self.sent = self.site.front
 
-    def arrived(self, looks: int) -> list[bytes]:
+    def arrived(self) -> Told:
         """Takes in what the test has put here."""
         coming, self.coming = self.coming, []
-        return self.site.take(coming, looks)
+        return self.site.take(coming, looks=True)
 
     def notices(self) -> list[str]:
         """What the site says."""
@@ -142,6 +142,39 @@ class HandCarried:
     def status(self) -> Status:
         """How things stand."""
         return Status(self.site.number, 1, self.site.front - self.sent, None, self.site.waiting())
+
+
+class Pair(Case):
+    """A test with two notes that meet where it says so."""
+
+    def setUp(self) -> None:
+        super().setUp()
+        self.notes = [self.joined(), self.joined()]
+        self.places = ["", ""]
+
+    def joined(self) -> Note:
+        """The note at one more site."""
+        return Note(HandCarried(self.log(), self.folder / "site"))
+
+    def tearDown(self) -> None:
+        for note in self.notes:
+            self.assertEqual(bytes(note.text), note.session.site.text())
+            note.session.site.close()
+
+    def meet(self) -> None:
+        """Both take in what the other made."""
+        for note in self.notes:
+            note.session.send()
+        for number, note in enumerate(self.notes):
+            if entries := note.session.log.read(self.places[number]):
+                self.places[number], note.session.coming = entries[-1].place, entries
+            note.take_in()
+        self.assertEqual(self.notes[0].text, self.notes[1].text)
+
+    def shows(self, words: str) -> None:
+        """That both show this when they have met."""
+        self.meet()
+        self.assertEqual(self.notes[0].text.decode(), words)
 
 
 class Shuffled:

@@ -11,9 +11,10 @@ import zlib
 from unittest import mock
 
 from share.journal import Journal
-from share.log import Unreachable, open_log
-from share.message import Message
+from share.log import Entry, Unreachable, open_log
+from share.message import DELETE, Message, Names, naming
 from share.note import Note
+from share.program import Program
 from share.session import Session
 from share.sqlite_log import SqliteLog
 from share.tests.support import TOP, Case, plain_text, python, wait_for
@@ -204,6 +205,21 @@ class BadInput(Case):
             self.assertRegex(note.notice, f"Message 2 of site 1 was {words}.*Save the note")
             written(note, "more ")
             self.assertEqual(bytes(note.text), b"one more ")
+
+    def test_messages_that_name_nothing_or_too_much(self) -> None:
+        session = Session("note", None)
+        self.addCleanup(session.close)
+        site = session.site
+        bad = [naming(DELETE, number, 1, 99, [Names(1, 0, 0)] * 1_024) for number in range(100, 300)]
+        bad.append(naming(DELETE, 300, 1, 99, [Names(1, 0, 1)] * 2_000))
+        entries = [Entry(str(place), one.data, zlib.crc32(one.data)) for place, one in enumerate(bad)]
+        with mock.patch.object(Program, "ask", autospec=True, side_effect=Program.ask) as asked:
+            site.take(entries, looks=True)
+        # Each is handed in, and nothing is asked of it.
+        self.assertEqual(sum(len(call.args[1]) for call in asked.call_args_list), len(bad))
+        self.assertEqual(site.text(), b"one two three ")
+        self.assertEqual(len(site.notices), len(bad))
+        self.assertRegex(site.notices[0], r"refused \(1\)")
 
     def test_a_disk_that_is_full(self) -> None:
         words = [python(), "-B", "-c", FILLS]

@@ -5,7 +5,7 @@ from share.incoming import Incoming
 from share.journal import InUse, Journal
 from share.layout import PART, Layout, cluster_after, cluster_before
 from share.message import Message
-from share.note_text import boundary
+from share.note_text import Change, boundary, make
 from share.site import MOST_BYTES, split
 from share.tests.support import Case
 
@@ -82,6 +82,23 @@ class Characters(Case):
                 part.decode()
                 self.assertLessEqual(len(part), MOST_BYTES)
         self.assertEqual(b"".join(split(b"\x80" * 9_000)), b"\x80" * 9_000)
+
+
+class Changes(Case):
+    """Changes that are made together are made as one by one."""
+
+    def test_at_random(self) -> None:
+        chance = random.Random(3)
+        for _ in range(500):
+            begun = bytearray(chance.choices(b"abc", k=chance.randrange(20)))
+            text, changes = bytearray(begun), []
+            for _ in range(chance.randrange(6)):
+                begin = chance.randrange(len(text) + 1)
+                end = chance.randint(begin, len(text))
+                changes.append(Change(begin, end, bytes(chance.choices(b"xyz", k=chance.randrange(4)))))
+                text[begin:end] = changes[-1].new
+            make(begun, changes)
+            self.assertEqual(begun, text)
 
 
 class Order(Case):

@@ -4,7 +4,7 @@ import random
 from share.message import Message
 from share.note import Note
 from share.note_text import change
-from share.tests.support import Case, HandCarried, Shuffled, edit_at_random, plain_text
+from share.tests.support import Case, HandCarried, Pair, Shuffled, edit_at_random, plain_text
 
 EDITS = 600
 OFFLINE = range(200, 400)
@@ -21,14 +21,13 @@ class SameText(Case):
         for turn in range(EDITS):
             for number, (note, reader) in enumerate(zip(notes, readers)):
                 edit_at_random(note, chance)
-                if chance.random() < 0.1:
-                    self.assertEqual(bytes(note.text), note.session.site.text())
                 if number == 0 and turn in OFFLINE:
                     continue
                 note.session.send()
                 note.session.coming += reader.read()
                 if turn % 7 == number:
                     note.take_in()
+                    self.assertEqual(bytes(note.text), note.session.site.text())
         late = Note(HandCarried(log, self.folder / "site"))
         notes.append(late)
         readers.append(Shuffled(log, chance))
@@ -66,34 +65,8 @@ class SameText(Case):
         self.share(self.redis().url, 2)
 
 
-class TakingBack(Case):
+class TakingBack(Pair):
     """A site takes back its own last edits, and nobody else's."""
-
-    def setUp(self) -> None:
-        super().setUp()
-        log = self.log()
-        self.notes = [Note(HandCarried(log, self.folder / "site")) for _ in range(2)]
-        self.places = ["", ""]
-
-    def tearDown(self) -> None:
-        for note in self.notes:
-            self.assertEqual(bytes(note.text), note.session.site.text())
-            note.session.site.close()
-
-    def meet(self) -> None:
-        """Both take in what the other made."""
-        for note in self.notes:
-            note.session.send()
-        for number, note in enumerate(self.notes):
-            if entries := note.session.log.read(self.places[number]):
-                self.places[number], note.session.coming = entries[-1].place, entries
-            note.take_in()
-        self.assertEqual(self.notes[0].text, self.notes[1].text)
-
-    def shows(self, words: str) -> None:
-        """That both show this when they have met."""
-        self.meet()
-        self.assertEqual(self.notes[0].text.decode(), words)
 
     def test_one_edit_after_the_other(self) -> None:
         one, _ = self.notes

@@ -160,6 +160,19 @@ class Terminals(Case):
         one.sees("status 0")
         self.assertEqual(self.note("diary", "--print").stdout, saved.read_text())
 
+    def test_the_end_of_the_note_is_deleted_above_the_screen(self) -> None:
+        one = Terminal(self, "data", "diary")
+        for _ in range(30):
+            one.type("line")
+            one.press("Enter")
+        one.press("PPage", "PPage", "NPage", "NPage", "NPage")
+        one.press("BSpace")
+        one.type("!")
+        one.sees("line!")
+        one.press("C-q")
+        one.sees("status 0")
+        self.assertEqual(self.note("diary", "--print").stdout, "line\n" * 29 + "line!")
+
     def test_characters_of_several_parts(self) -> None:
         one = Terminal(self, "data", "diary")
         one.type("e\u0301 a\u00a0b 👩‍👩‍👧 x")

@@ -1,0 +1,82 @@
+"""Tells what a message changes in the text: the program is asked where the characters that it names are
+shown, ahead of it and behind it."""
+import re
+from collections.abc import Iterator
+from typing import NamedTuple
+
+from share.message import INSERT, Message, Names, names_of
+from share.note_text import Change
+from share.program import Program, characters
+from share.words import Trouble
+
+
+class Stretch(NamedTuple):
+    """Names that are shown one behind the other: the first one's offset and its position, and their bytes."""
+
+    at: int
+    position: int
+    data: bytes
+
+
+def count(messages: list[Message]) -> int:
+    """How many names messages speak of."""
+    return sum(names.length for message in messages for names in names_of(message))
+
+
+def asking(program: Program, message: Message, tells: bool) -> list[bytes]:
+    """The events that hand a message in, and ask what it changes where this is to be told."""
+    where = [program.event("where", *names) for names in names_of(message)] if tells else []
+    # What is inserted is shown nowhere ahead of that.
+    ahead = [] if message.kind == INSERT else where
+    return [*ahead, program.taking(message.data), *where]
+
+
+def answered(message: Message, answers: list[list[bytes]]) -> tuple[bytes, list[Change] | None]:
+    """What a message was answered, by the answers to these events, and what it changed; None where others
+    that waited came in with it."""
+    middle = 0 if message.kind == INSERT else len(answers) // 2
+    answer = answers[middle][-1]
+    if not answer.startswith(b"taken "):
+        return answer, []
+    if not answer.startswith(b"taken 0 "):
+        return answer, None
+    ahead = [stretches(found) for found in answers[:middle]] or [[]]
+    behind = [stretches(found) for found in answers[middle + 1:]]
+    return answer, told(names_of(message), ahead, behind)
+
+
+def stretches(answer: list[bytes]) -> list[Stretch]:
+    """Where an answer to `where` says that names are shown."""
+    *lines, end = answer
+    if end == b"refused 20":
+        raise Trouble("The program is too old: it can't say where characters are shown. Build it anew, with "
+                      "bin/site_cli < demo/two-sites.script, and open the note again.")
+    if end != b"ok":
+        raise Trouble(f"The program was asked where characters are shown and answered {end[:60]!r}. End "
+                      "other programs and open the note again.")
+    words = [line.split(b" ", 4) for line in lines]
+    return [Stretch(int(at), int(position), characters(printed, int(length)))
+            for _, at, position, length, printed in words]
+
+
+def told(names: list[Names], ahead: list[list[Stretch]], behind: list[list[Stretch]]) -> list[Change]:
+    """What went from a text and what came to it, each as a change of the text that those before it leave."""
+    both = [*zip(names, ahead, behind)]
+    went = sorted(part for one, was, now in both for part in _only(one, was, now))
+    came = sorted(part for one, was, now in both for part in _only(one, now, was))
+    # What goes was shown behind all that goes ahead of it; what comes finds all that in place.
+    changes, gone = [], 0
+    for begin, data in went:
+        changes.append(Change(begin - gone, begin - gone + len(data), b""))
+        gone += len(data)
+    return changes + [Change(begin, begin, data) for begin, data in came]
+
+
+def _only(names: Names, some: list[Stretch], others: list[Stretch]) -> Iterator[tuple[int, bytes]]:
+    """Where the names are shown that are in some stretches and not in others, and their bytes."""
+    of_others = bytearray(names.length)
+    for at, _, data in others:
+        of_others[at - names.at:at - names.at + len(data)] = b"\1" * len(data)
+    for at, position, data in some:
+        for part in re.finditer(b"\0+", of_others[at - names.at:at - names.at + len(data)]):
+            yield position + part.start(), data[part.start():part.end()]

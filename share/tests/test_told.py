@@ -1,0 +1,236 @@
+"""What a message changed is told by names: a cursor stays with its character, also where the text before and
+after doesn't show which one that is."""
+import random
+import shlex
+from unittest import mock
+
+from share.note import Note
+from share.note_text import boundary
+from share.program import Program, command
+from share.session import Session
+from share.site import MOST_BYTES, MOST_NAMES, Site
+from share.telling import stretches
+from share.tests.support import Pair, edit_at_random, wait_for
+
+ROUNDS = 150
+# So many bytes each of two sites types in all of them at most.
+TYPED = 5_000
+
+
+class Told(Pair):
+    """Two notes, of which one has its cursor where the other changes the text."""
+
+    def cursors(self, one: int, two: int) -> None:
+        """That the cursors of both stand there."""
+        self.assertEqual([note.cursor for note in self.notes], [one, two])
+
+    def test_an_equal_letter_beside_the_cursor(self) -> None:
+        one, two = self.notes
+        one.type("aa")
+        self.meet()
+        two.moved_to(1)
+        one.moved_to(0)
+        one.type("a")
+        self.shows("aaa")
+        self.cursors(1, 2)
+        one.moved_to(3)
+        one.type("a")
+        self.shows("aaaa")
+        self.cursors(4, 2)
+        one.erase(0, 1)
+        self.shows("aaa")
+        self.cursors(0, 1)
+        one.take_back()
+        self.shows("aaaa")
+        self.cursors(1, 2)
+
+    def test_a_deletion_of_several_stretches(self) -> None:
+        one, two = self.notes
+        one.type("aaaa")
+        self.meet()
+        two.moved_to(2)
+        two.type("bb")
+        self.shows("aabbaa")
+        one.erase(1, 6)
+        two.moved_to(3)
+        two.type("X")
+        two.moved_to(5)
+        two.type("é")
+        two.moved_to(4)
+        self.shows("aXé")
+        self.cursors(1, 2)
+        one.take_back()
+        self.shows("aabXbéaa")
+        self.cursors(9, 4)
+
+    def test_what_comes_back_around_what_was_typed(self) -> None:
+        one, two = self.notes
+        one.type("abcd")
+        self.meet()
+        one.erase(0, 4)
+        two.moved_to(2)
+        two.type("XY")
+        two.moved_to(3)
+        self.shows("XY")
+        self.cursors(0, 1)
+        one.take_back()
+        self.shows("abXYcd")
+        self.cursors(6, 3)
+
+    def test_a_deletion_of_what_was_restored_meanwhile(self) -> None:
+        one, two = self.notes
+        one.type("abcd")
+        self.meet()
+        one.erase(0, 4)
+        two.erase(1, 3)
+        two.take_back()
+        two.moved_to(2)
+        self.shows("bc")
+        self.cursors(0, 1)
+
+    def test_what_waited_comes_in_with_what_it_waited_for(self) -> None:
+        one, two = self.notes
+        one.type("ab")
+        self.meet()
+        two.moved_to(1)
+        two.type("X")
+        two.session.send()
+        self.notes.append(three := self.joined())
+        first, second = three.session.log.read("")
+        for entry, words in (second, ""), (first, "aXb"):
+            three.session.coming = [entry]
+            three.take_in()
+            self.assertEqual(three.text.decode(), words)
+        one.session.coming = [second]
+        one.take_in()
+
+    def test_much_at_once_is_found_by_comparing(self) -> None:
+        one, two = self.notes
+        text = "a" * 100 + "b" * MOST_NAMES + "c" * 100
+        one.type(text)
+        self.meet()
+        two.moved_to(len(text))
+        one.erase(100, 100 + MOST_NAMES + 1)
+        with mock.patch.object(Site, "text", autospec=True, side_effect=Site.text) as whole:
+            self.shows("a" * 100 + "c" * 99)
+            self.assertEqual(whole.call_count, 1)
+            self.cursors(100, 199)
+            one.take_back()
+            self.assertEqual(whole.call_count, 2)
+            self.shows(text)
+            self.assertEqual(whole.call_count, 3)
+        self.cursors(100 + MOST_NAMES + 1, len(text))
+
+    def test_at_random(self) -> None:
+        chance = random.Random(4)
+        for _ in range(ROUNDS):
+            for note in self.notes:
+                edit_at_random(note, chance)
+                note.moved_to(boundary(note.text, chance.randrange(len(note.text) + 1)))
+            before = [(note.cursor, self.named(note)) for note in self.notes]
+            with mock.patch.object(Site, "text", side_effect=AssertionError("the whole text was asked for")):
+                self.meet()
+            for note, (cursor, was) in zip(self.notes, before):
+                self.assertEqual(bytes(note.text), note.session.site.text())
+                now = self.named(note)
+                ahead = next((name for name, position in was.items() if position == cursor - 1), None)
+                if ahead in now:
+                    self.assertEqual(note.cursor, now[ahead] + 1)
+                elif ahead is None:
+                    self.assertEqual(note.cursor, 0)
+        self.assertGreater(len(self.notes[0].text), 500)
+
+    def named(self, note: Note) -> dict[tuple[int, int], int]:
+        """Where the names of both sites are shown."""
+        site, found = note.session.site, {}
+        for number in 1, 2:
+            (answer,) = site._program.ask([site._program.event("where", number, 0, TYPED)])
+            for at, position, data in stretches(answer):
+                found |= {(number, at + step): position + step for step in range(len(data))}
+        return found
+
+    def test_a_program_that_took_all_its_lines_is_started_again(self) -> None:
+        one, two = self.notes
+        with (mock.patch("share.site.MOST_LINES", 200),
+              mock.patch("share.site.Program", side_effect=Program) as started):
+            for number in range(50):
+                one.moved_to(number)
+                one.type(str(number % 10))
+                self.meet()
+                one.erase(number, number + 1)
+                one.take_back()
+            self.meet()
+        self.assertEqual(two.text.decode(), "0123456789" * 5)
+        self.assertGreater(started.call_count, 2)
+
+    def test_a_program_that_is_too_old(self) -> None:
+        old = self.folder / "old"
+        old.write_text(f'#!/bin/sh\nsed -u "s/ where / nowhere /" | {shlex.join(command())} "$@"\n')
+        old.chmod(0o755)
+        run = self.note("empty", "--print", VIALSHOAL_PROGRAM=str(old))
+        self.assert_says(run, "too old", "Build it anew, with bin/site_cli")
+
+    def test_an_own_deletion_above_the_screen_moves_its_top(self) -> None:
+        one, _ = self.notes
+        one.type("ab\r")
+        one.top = 3
+        one.erase(1, 3)
+        self.assertEqual(one.top, 1)
+        self.assertFalse(one.take_in())
+        one.moved_to(0)
+        one.type("é")
+        self.assertEqual((one.top, one.cursor), (3, 2))
+
+    def test_a_deletion_that_is_taken_back_in_part(self) -> None:
+        one, _ = self.notes
+        one.type("abcd")
+        cut = Site.cut
+        with mock.patch.object(Site, "cut", lambda site, *_: cut(site, 2, 4) + cut(site, 0, 2)):
+            one.erase(0, 4)
+        with mock.patch("share.site.MOST_MESSAGES", len(one.session.site.history) + 1):
+            one.take_back()
+            self.assertRegex(one.notice, r"refused \(21\)")
+            self.shows("ab")
+        one.take_back()
+        self.shows("abcd")
+        # Typed, deleted by halves, and each half restored once.
+        self.assertEqual(one.session.site.front, 5)
+        one.take_back()
+        self.shows("")
+
+    def test_what_is_typed_in_one_go_is_taken_back_as_one(self) -> None:
+        one, _ = self.notes
+        for words in "a", "b\r", "c", "d":
+            one.type(words)
+        one.erase(3, 5)
+        one.type("e")
+        for words in "ab\r", "ab\rcd", "ab\r", "":
+            one.take_back()
+            self.shows(words)
+
+    def test_what_is_typed_behind_a_refused_paste_is_an_edit_of_its_own(self) -> None:
+        one, _ = self.notes
+        one.type("a")
+        with mock.patch("share.site.MOST_MESSAGES", len(one.session.site.history) + 1):
+            one.type("b" * (MOST_BYTES + 1))
+            self.assertRegex(one.notice, r"refused \(21\)")
+        one.type("c")
+        self.shows("a" + "b" * MOST_BYTES + "c")
+        one.take_back()
+        self.shows("a" + "b" * MOST_BYTES)
+
+    def test_many_messages_come_in_turns(self) -> None:
+        wakes = mock.Mock(), mock.Mock()
+        notes = [Note(Session("turns", None, wake=wake)) for wake in wakes]
+        for note in notes:
+            self.addCleanup(note.session.close)
+        for number in range(25):
+            notes[0].moved_to(number)
+            notes[0].type("x")
+        wait_for(lambda: notes[1].session._courier.waiting() == 25, "all messages")
+        with mock.patch("share.session.TURN", 10):
+            for length in 10, 20, 25:
+                wakes[1].reset_mock()
+                notes[1].take_in()
+                self.assertEqual(len(notes[1].text), length)
+                self.assertEqual(wakes[1].called, length < 25)
