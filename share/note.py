@@ -83,9 +83,9 @@ class Note:
             self.notice = notices[0] + (f" ({len(notices) - 1} more such.)" if len(notices) > 1 else "")
         return changed
 
-    def moved_to(self, position: int, goes_on: bool = False) -> None:
-        """Puts the cursor at a position. What is typed there is an edit of its own, unless it goes on."""
-        self.cursor, self._goes_on = position, goes_on
+    def moved_to(self, position: int) -> None:
+        """Puts the cursor at a position. What is typed there is an edit of its own."""
+        self.cursor, self._goes_on = position, False
 
     def find(self, words: str) -> bool:
         """Puts the cursor at the next place of words behind it, or from the front on. False where there is
