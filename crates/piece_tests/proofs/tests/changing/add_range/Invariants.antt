@@ -1,6 +1,0 @@
-use Rattle.piece_list.specs.Changing.{AreHere}
-use Rattle.piece_list.specs.Spelled.{spelled}
-use Rattle.piece_tests.proofs.tests.changing.add_range.Given as goal
-
-abbrev pub invariant-loop-i : goal.invariant-loop-i
-invariant-loop-i l = AreHere l.names (spelled l.list.items)

@@ -1,6 +1,0 @@
-use Rattle.piece_list.specs.Changing.{AreHere}
-use Rattle.piece_list.specs.Spelled.{spelled}
-use Rattle.piece_tests.proofs.tests.changing.add_ranges.Given as goal
-
-abbrev pub invariant-loop-range : goal.invariant-loop-range
-invariant-loop-range l = AreHere l.names (spelled l.list.items)

@@ -1,6 +1,0 @@
-use Rattle.piece_list.specs.Changing.{AreHere}
-use Rattle.piece_list.specs.Spelled.{spelled}
-use Rattle.piece_tests.proofs.tests.random_edits.add_all.Given as goal
-
-abbrev pub invariant-loop-known : goal.invariant-loop-known
-invariant-loop-known l = AreHere l.names (spelled l.list.items)
