@@ -1,0 +1,49 @@
+"""Plays rows through the program as it was built last."""
+from __future__ import annotations
+
+import os
+import sys
+import tempfile
+from collections.abc import Sequence
+from pathlib import Path
+
+from tools import TOP, rows
+from tools.running import lay, run
+
+
+def program() -> str | None:
+    """What runs the program. VIALSHOAL_PROGRAM may name another executable."""
+    named = os.environ.get("VIALSHOAL_PROGRAM")
+    if named:
+        return os.path.abspath(named)
+    built = TOP / "crates" / "site_cli" / "out" / "site_cli"
+    return str(TOP / "bin" / "built") if built.is_file() else None
+
+
+def play(row: rows.Row, command: str) -> list[str]:
+    """What isn't as the row has it."""
+    with tempfile.TemporaryDirectory() as room:
+        folder = Path(room) / "folder"
+        lay(row.files, folder)
+        ended = run([command, *row.words], row.script, folder, output=row.output, errors=row.errors)
+    return rows.faults(row, ended)
+
+
+def main(wanted: Sequence[str]) -> int:
+    command = program()
+    if command is None:
+        print("rows: nothing is built here; bin/site_cli proves and builds the program", file=sys.stderr)
+        return 2
+    known = rows.names()
+    unknown = [name for name in wanted if name not in known]
+    if unknown:
+        print(f"rows: no row {unknown[0]}", file=sys.stderr)
+        return 2
+    failed = 0
+    for name in wanted or known:
+        found = play(rows.load(name), command)
+        if found:
+            print(f"{name}: {'; '.join(found)}")
+        failed += bool(found)
+    print(f"{len(wanted or known) - failed} passed, {failed} failed")
+    return 1 if failed else 0
