@@ -30,14 +30,15 @@ fn main(rt: HostRuntime) -> io::Result<ExitCode> {
     let words = match words {
         Ok(words) => words,
         Err(why) => {
-            eprintln!(rt; "error: {why}")?;
+            let _unwritten = eprintln!(rt; "error: {why}");
             return Ok(ExitCode::from(NO_WORDS));
         }
     };
     let settings = match read_settings(alloc, words.as_slice()) {
         Ok(settings) => settings,
+        // What is wrong with the words decides the status, also where it can't be written.
         Err(error) => {
-            error.print(&rt)?;
+            let _unwritten = error.print(&rt);
             return Ok(ExitCode::from(error_status(&error)));
         }
     };
