@@ -9,7 +9,7 @@ TYPE, CUT = "type", "cut"
 
 
 def at_the_end(rng, length):
-    """The edits of one who types behind all others: what is done, and behind how many characters."""
+    """The edits of one who types after all characters: what is done, and after how many characters."""
     for pos in itertools.count(length):
         yield TYPE, pos
 
@@ -64,7 +64,7 @@ class Script:
 
 
 def done_to(text, moves, rng, ahead=0):
-    """The edits that make these moves in a text, which they change. So many characters more stand ahead of it."""
+    """The edits that make these moves in a text, which they change. So many characters more come before it."""
     for done, pos in moves:
         place = ahead + pos
         if done == TYPE:
@@ -77,7 +77,7 @@ def done_to(text, moves, rng, ahead=0):
 
 
 def merged(name, edits, seed):
-    """Both sites make so many edits apart, and merge: site 1 ahead of a bar that they share, and site 2 behind it. So no two
+    """Both sites make so many edits apart, and merge: site 1 before a bar that they share, and site 2 after it. So no two
     of them type at one place, and whatever rule orders such characters, it gives this text."""
     rng = random.Random(f"{name} apart {seed}")
     script = Script()
@@ -93,7 +93,7 @@ def merged(name, edits, seed):
 
 
 def gone_on(name, edits, seed, before):
-    """The script before, and behind it so many edits of site 1, each taken by site 2 at once."""
+    """The script before, and after it so many edits of site 1, each taken by site 2 at once."""
     rng = random.Random(f"{name} {seed}")
     script = Script([*before.lines], before.sent, before.taken, [*before.text])
     moves = itertools.islice(TRACES[name](rng, len(script.text)), edits)

@@ -31,7 +31,7 @@ function answer(line) {
   if (answers.length >= CHUNK) flush();
 }
 
-// Only an edit of the site's own is to be told to others, so no one listens while messages are taken.
+// Only an edit of the site's own is to be sent to others, so no one listens while messages are taken.
 function edited(doc, edit) {
   doc.once("update", (message) => {
     sent += 1;
