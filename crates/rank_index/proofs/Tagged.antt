@@ -56,11 +56,6 @@ module _ (P : ℕ → Type 0) where
   of_left [] ys all = tt
   of_left (x ∷ xs) ys all = (all.0, of_left xs ys all.1)
 
-  of_one_more : (xs ys : Members) (tag w : ℕ) → P tag → AllByRecursion P (tags (xs ++ ys))
-      → AllByRecursion P (tags (xs ++ (tag, w) ∷ ys))
-  of_one_more [] ys tag w p all = (p, all)
-  of_one_more (x ∷ xs) ys tag w p all = (all.0, of_one_more xs ys tag w p all.1)
-
 of_each : (P Q : ℕ → Type 0) → ((tag : ℕ) → P tag → Q tag) → (ks : List ℕ) → AllByRecursion P ks
     → AllByRecursion Q ks
 of_each P Q f [] all = tt
@@ -90,40 +85,49 @@ no_tag_twice (x ∷ xs) ys tag d h g = elim (HasTag-cons x xs tag h) [
   | inr rest ↦ no_tag_twice xs ys tag d.1 rest g
 ]
 
-apart_with : (xs ys : Members) (tag w : ℕ) → AllByRecursion (λ k. k < tag) (tags (xs ++ ys))
-    → AreApart (xs ++ ys) → AreApart (xs ++ (tag, w) ∷ ys)
-unfolding IsDistinct
-apart_with [] ys tag w below d =
-    let P : ℕ → Type 0 = λ (k : ℕ). k < tag in
-    let Q : ℕ → Type 0 = λ (k : ℕ). (tag == k) ≡ false in
-    (of_each P Q (λ (k : ℕ) (lt : P k). ne_eqb tag k (λ (e : tag ≡ k). omega arith)) (tags ys) below, d)
-apart_with (x ∷ xs) ys tag w below d =
-    let lt : x.0 < tag = below.0 in (
-      of_one_more (λ (k : ℕ). (x.0 == k) ≡ false) xs ys tag w (ne_eqb x.0 tag (λ (e : x.0 ≡ tag). omega arith)) d.0,
-      apart_with xs ys tag w below.1 d.1,
-    )
+-- of members with values of any type, one of which is put in
+module _ {T : Type 0} where
+  of_one_more : (P : ℕ → Type 0) (xs ys : List (ℕ × T)) (tag : ℕ) (w : T) → P tag
+      → AllByRecursion P (tags (xs ++ ys)) → AllByRecursion P (tags (xs ++ (tag, w) ∷ ys))
+  of_one_more P [] ys tag w p all = (p, all)
+  of_one_more P (x ∷ xs) ys tag w p all = (all.0, of_one_more P xs ys tag w p all.1)
 
--- a member whose tag is the next one
-pub tags_pushed : (old new : Members) (after : Option ℕ) (tag w : ℕ) → AreTags old → tag ≡ length old
-    → IsPushed old after tag w new → AreTags new
-tags_pushed old new after tag w are next (xs, ys, was, last, is) =
-    let one_more : length new ≡ length old + 1 = omega (
-      arith,
-      ap length is,
-      ap length was,
-      length-append xs ((tag, w) ∷ ys),
-      length-append xs ys,
-    ) in
-    let P : ℕ → Type 0 = λ (k : ℕ). k < length old in
-    let Q : ℕ → Type 0 = λ (k : ℕ). k < tag in
-    let R : ℕ → Type 0 = λ (k : ℕ). k < length new in
-    let below : AllByRecursion P (tags (xs ++ ys)) = subst (λ (l : Members). AllByRecursion P (tags l)) was are.1 in
-    let apart : AreApart (xs ++ ys) = subst AreApart was are.0 in (
-      subst AreApart (sym is) (apart_with xs ys tag w
-          (of_each P Q (λ (k : ℕ) (lt : P k). omega arith) (tags (xs ++ ys)) below) apart),
-      subst (λ (l : Members). AllByRecursion R (tags l)) (sym is) (of_one_more R xs ys tag w (omega arith)
-          (of_each P R (λ (k : ℕ) (lt : P k). omega arith) (tags (xs ++ ys)) below)),
-    )
+  apart_with : (xs ys : List (ℕ × T)) (tag : ℕ) (w : T) → AllByRecursion (λ k. k < tag) (tags (xs ++ ys))
+      → IsDistinct ◌==◌ (tags (xs ++ ys)) → IsDistinct ◌==◌ (tags (xs ++ (tag, w) ∷ ys))
+  unfolding IsDistinct
+  apart_with [] ys tag w below d =
+      let P : ℕ → Type 0 = λ (k : ℕ). k < tag in
+      let Q : ℕ → Type 0 = λ (k : ℕ). (tag == k) ≡ false in
+      (of_each P Q (λ (k : ℕ) (lt : P k). ne_eqb tag k (λ (e : tag ≡ k). omega arith)) (tags ys) below, d)
+  apart_with (x ∷ xs) ys tag w below d =
+      let lt : x.0 < tag = below.0 in (
+        of_one_more (λ (k : ℕ). (x.0 == k) ≡ false) xs ys tag w (ne_eqb x.0 tag (λ (e : x.0 ≡ tag). omega arith)) d.0,
+        apart_with xs ys tag w below.1 d.1,
+      )
+
+  -- a member whose tag is the next one
+  pub tags_pushed : (old new : List (ℕ × T)) (after : Option ℕ) (tag : ℕ) (w : T) → AreTags old
+      → tag ≡ length old → IsPushed old after tag w new → AreTags new
+  tags_pushed old new after tag w are next (xs, ys, was, last, is) =
+      let one_more : length new ≡ length old + 1 = omega (
+        arith,
+        ap length is,
+        ap length was,
+        length-append xs ((tag, w) ∷ ys),
+        length-append xs ys,
+      ) in
+      let P : ℕ → Type 0 = λ (k : ℕ). k < length old in
+      let Q : ℕ → Type 0 = λ (k : ℕ). k < tag in
+      let R : ℕ → Type 0 = λ (k : ℕ). k < length new in
+      let Apart : List (ℕ × T) → Type 0 = λ (l : List (ℕ × T)). IsDistinct ◌==◌ (tags l) in
+      let below : AllByRecursion P (tags (xs ++ ys)) =
+      subst (λ (l : List (ℕ × T)). AllByRecursion P (tags l)) was are.1 in
+      let apart : Apart (xs ++ ys) = subst Apart was are.0 in (
+        subst Apart (sym is) (apart_with xs ys tag w
+            (of_each P Q (λ (k : ℕ) (lt : P k). omega arith) (tags (xs ++ ys)) below) apart),
+        subst (λ (l : List (ℕ × T)). AllByRecursion R (tags l)) (sym is) (of_one_more R xs ys tag w (omega arith)
+            (of_each P R (λ (k : ℕ) (lt : P k). omega arith) (tags (xs ++ ys)) below)),
+      )
 
 pub with_value-elsewhere : (tag w : ℕ) (xs : Members) → (HasTag xs tag → ⊥) → with_value tag w xs ≡ xs
 with_value-elsewhere tag w [] absent = refl
