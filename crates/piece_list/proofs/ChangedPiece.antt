@@ -1,8 +1,8 @@
 -- A list of pieces before and after one of them was changed.
 use Rattle.std.proofs.Common.{◌≡◌, ◌≢◌, ℕ, ◌+◌, ◌-◌, ◌<◌, ◌≤◌, ◌==◌, cond, Bool, inl, inr, ne_eqb, eq-eqb, List, [], ◌∷◌, ◌++◌, Some}
-use Rattle.std.proofs.Common.{length, map, All, refl, sym, ap, subst, ◌∙◌, arith}
+use Rattle.std.proofs.Common.{map, All, refl, sym, ap, subst, ◌∙◌, arith}
 use Rattle.std.proofs.lemmas.Bool.{cases_eq}
-use Rattle.std.proofs.lemmas.List.{map-append, length-map}
+use Rattle.std.proofs.lemmas.List.{map-append}
 use Rattle.std.proofs.lemmas.List.Elements.{All-append, All-head, All-tail, All-cons}
 use Rattle.char_files.specs.CharName.{CharName}
 use Rattle.char_files.specs.declared.TheConstants.{MAX_FILE}
@@ -47,10 +47,6 @@ keeps_name (Relook sel looks key) k = refl
 pub put_at_cursor : (r : Ring Piece) (items : Items) (tag room : ℕ) (w : Piece)
     → r ≡ ring items (Some tag) room → with_value_at r.cursor w r.items ≡ with_value tag w items
 put_at_cursor r items tag room w e = ap (λ (s : Ring Piece). with_value_at s.cursor w s.items) e
-
--- and puts no piece in
-pub as_many : (tag : ℕ) (w : Piece) (items : Items) → length (with_value tag w items) ≡ length items
-as_many tag w items = length-map items (λ m. (m.0, cond (m.0 == tag) w m.1))
 
 -- what the answer of the step says of the names
 pub same_names : (p w : Piece) (name : CharName) → range_of w ≡ range_of p → IsIn (range_of p) name

@@ -1,13 +1,12 @@
 -- A list of pieces with its tables, before and after a piece was cut.
-use Rattle.std.proofs.Common.{◌≡◌, ℕ, ◌+◌, ◌-◌, ◌<◌, ◌≤◌, ◌==◌, inl, inr, List, [], ◌∷◌, ◌++◌, Option}
+use Rattle.std.proofs.Common.{◌≡◌, ℕ, ◌+◌, ◌-◌, ◌<◌, ◌≤◌, inl, inr, List, [], ◌∷◌, ◌++◌, Option}
 use Rattle.std.proofs.Common.{Some, None, length}
 use Rattle.std.proofs.Common.{get_or, refl, sym, ap, subst, ◌∙◌, arith, append_assoc}
-use Rattle.std.specs.List.{AllByRecursion, IsDistinct}
 use Rattle.std.proofs.lemmas.Bool.{cases_lt}
-use Rattle.std.proofs.lemmas.List.{map-append, length-append, get_or_past}
+use Rattle.std.proofs.lemmas.List.{length-append, get_or_past}
 use Rattle.char_files.specs.CharName.{CharName}
 use Rattle.operations.specs.NameSet.{IsIn}
-use Rattle.piece_raw.specs.Ring.{Ring, ring, AreTags, IsMember, IsAtCursor, IsPushed, tags, with_value}
+use Rattle.piece_raw.specs.Ring.{Ring, ring, AreTags, IsMember, IsAtCursor, IsPushed, with_value}
 use Rattle.piece_raw.specs.Ring.{with_value_at}
 use Rattle.piece_list.specs.declared.piece.Piece.{Piece}
 use Rattle.piece_list.specs.declared.place.Place.{Place}
@@ -16,11 +15,11 @@ use Rattle.piece_list.specs.Held.{AreEntered, HasPlace, IsPlaceOf, IsCut}
 use Rattle.piece_list.specs.Spelled.{spelled, ArePieces}
 use Rattle.piece_list.specs.Tables.{Tables, table_of, tag_at}
 use Rattle.piece_list.proofs.Cut.{cut_spells_the_same}
-use Rattle.piece_list.proofs.Cutting.{written, pushed}
+use Rattle.piece_list.proofs.Cutting.{written, written_tags, pushed}
 use Rattle.piece_list.proofs.Entered.{entered_after}
 use Rattle.piece_list.proofs.Found.{member_at, one_value, entry_of, some_is}
 
-abbrev Items : Type 0
+abbrev pub Items : Type 0
 Items = List (ℕ × Piece)
 
 -- the piece of a place
@@ -57,15 +56,7 @@ table_is_long items tables are tag p is =
 same_tags : (xs ys : Items) (tag : ℕ) (p w : Piece) → AreTags (xs ++ (tag, p) ∷ ys)
     → AreTags (xs ++ (tag, w) ∷ ys)
 same_tags xs ys tag p w are =
-    let number : ℕ × Piece → ℕ = λ (m : ℕ × Piece). m.0 in
-    let P : List ℕ → ℕ → Type 0 =
-    λ (ts : List ℕ) (n : ℕ). IsDistinct ◌==◌ ts × AllByRecursion (λ t. t < n) ts in
-    let same : tags (xs ++ (tag, p) ∷ ys) ≡ tags (xs ++ (tag, w) ∷ ys) =
-    map-append number xs ((tag, p) ∷ ys) ∙ sym (map-append number xs ((tag, w) ∷ ys)) in
-    let len : length (xs ++ (tag, p) ∷ ys) ≡ length (xs ++ (tag, w) ∷ ys) =
-    length-append xs ((tag, p) ∷ ys) ∙ sym (length-append xs ((tag, w) ∷ ys)) in
-    subst (λ (n : ℕ). P (tags (xs ++ (tag, w) ∷ ys)) n) len
-    (subst (λ (ts : List ℕ). P ts (length (xs ++ (tag, p) ∷ ys))) same are)
+    subst AreTags (written xs ys tag p w are) (written_tags tag w (xs ++ (tag, p) ∷ ys) are)
 
 -- what the cursor stands on
 pub at_cursor : (r : Ring Piece) (items : Items) (tag room : ℕ) (v : Piece) → r ≡ ring items (Some tag) room
@@ -85,6 +76,13 @@ put_behind r items new tag room u w front b rest e is_front is_rest put =
     subst (λ (y : Piece). P (ring items (Some tag) room) front y) is_rest
     (subst (λ (x : Piece). P (ring items (Some tag) room) x b) is_front
     (subst (λ (s : Ring Piece). P s w b) e put))
+
+pub next_number : (r : Ring Piece) (items : Items) (tag room u : ℕ) (w front : Piece)
+    → r ≡ ring items (Some tag) room → w ≡ front → u ≡ length (with_value_at r.cursor w r.items)
+    → u ≡ length (with_value tag front items)
+next_number r items tag room u w front e is_front next =
+    next ∙ ap (λ (s : Ring Piece). length (with_value_at s.cursor w s.items)) e
+    ∙ ap (λ (x : Piece). length (with_value tag x items)) is_front
 
 -- the ring's two steps cut the piece
 cut_parts : (xs ys old new : Items) (tag n u : ℕ) (v : Piece) → AreTags old → old ≡ xs ++ (tag, v) ∷ ys

@@ -1,14 +1,15 @@
 -- A piece of a list is cut in two: the ring's steps, and the tables after them.
 use Rattle.std.proofs.Common.{◌≡◌, ◌≢◌, ℕ, ◌+◌, ◌<◌, ◌==◌, Bool, false, cond, inl, inr}
 use Rattle.std.proofs.Common.{List, [], ◌∷◌, ◌++◌}
-use Rattle.std.proofs.Common.{Some, length, get_or, take, drop, map, All, refl, sym, ap}
+use Rattle.std.proofs.Common.{Some, length, get_or, take, drop, map, All, refl, sym, ap, subst}
 use Rattle.std.proofs.Common.{◌∙◌, arith, append_assoc}
 use Rattle.std.proofs.Common.{ne_eqb, eq-eqb}
+use Rattle.std.specs.List.{AllByRecursion, IsDistinct}
 use Rattle.std.proofs.lemmas.Bool.{cases_lt}
-use Rattle.std.proofs.lemmas.List.{map-append, length-append, get_or_append_left, get_or-append-add}
+use Rattle.std.proofs.lemmas.List.{map-append, length-append, length-map, get_or_append_left, get_or-append-add}
 use Rattle.std.proofs.lemmas.List.Elements.{All-head, All-tail}
 use Rattle.std.proofs.Math.Seq.{get_or-append_seam, take-append_seam, drop-append_seam}
-use Rattle.piece_raw.specs.Ring.{AreTags, IsPushed, last_tag, with_value}
+use Rattle.piece_raw.specs.Ring.{AreTags, IsPushed, last_tag, tags, with_value}
 use Rattle.piece_list.specs.declared.piece.Piece.{Piece}
 use Rattle.piece_list.proofs.Found.{apart}
 
@@ -57,6 +58,21 @@ written xs ys tag p w are =
     ∙ ap (λ (l : Items). l ++ put (tag, p) ∷ map put ys) (others_stay tag w xs (ahead_others xs ys tag p are))
     ∙ ap (λ (l : Items). xs ++ put (tag, p) ∷ l) (others_stay tag w ys (behind_others xs ys tag p are))
     ∙ ap (λ (b : Bool). xs ++ (tag, cond b w p) ∷ ys) (eq-eqb tag tag refl)
+
+-- a write puts no piece in, and keeps the numbers
+pub as_many : (tag : ℕ) (w : Piece) (items : Items) → length (with_value tag w items) ≡ length items
+as_many tag w items = length-map items (λ m. (m.0, cond (m.0 == tag) w m.1))
+
+tags_stay : (tag : ℕ) (w : Piece) (items : Items) → tags (with_value tag w items) ≡ tags items
+tags_stay tag w [] = refl
+tags_stay tag w (m ∷ items) = ap (λ (l : List ℕ). m.0 ∷ l) (tags_stay tag w items)
+
+pub written_tags : (tag : ℕ) (w : Piece) (items : Items) → AreTags items → AreTags (with_value tag w items)
+written_tags tag w items are =
+    subst (λ (n : ℕ). IsDistinct ◌==◌ (tags (with_value tag w items))
+    × AllByRecursion (λ t. t < n) (tags (with_value tag w items))) (sym (as_many tag w items))
+    (subst (λ (ts : List ℕ). IsDistinct ◌==◌ ts × AllByRecursion (λ t. t < length items) ts)
+    (sym (tags_stay tag w items)) are)
 
 -- one number has one index
 one_index : (items : Items) → AreTags items → (i j : ℕ) (d : ℕ × Piece) → i < length items → j < length items

@@ -1,5 +1,5 @@
 -- Offsets of a site's file across which no piece reaches.
-use Rattle.std.proofs.Common.{◌≡◌, ℕ, zero, suc, ◌+◌, ◌-◌, ◌<◌, ◌≤◌, inl, inr, List, [], ◌∷◌, ◌++◌}
+use Rattle.std.proofs.Common.{◌≡◌, ◌≢◌, ℕ, zero, suc, ◌+◌, ◌-◌, ◌<◌, ◌≤◌, inl, inr, List, [], ◌∷◌, ◌++◌}
 use Rattle.std.proofs.Common.{Some, length, get_or, All, refl, sym, ap, subst, ◌∙◌, arith}
 use Rattle.std.proofs.lemmas.Bool.{cases_lt}
 use Rattle.std.proofs.lemmas.List.Elements.{All-append, All-head, All-tail, All-cons}
@@ -8,14 +8,16 @@ use Rattle.operations.specs.NameSet.{IsIn}
 use Rattle.piece_raw.specs.Ring.{AreTags, IsMember}
 use Rattle.piece_list.specs.declared.piece.Piece.{Piece}
 use Rattle.piece_list.specs.declared.place.Place.{Place}
-use Rattle.piece_list.specs.Changing.{IsEdge}
-use Rattle.piece_list.specs.Held.{AreEntered, IsPlaceOf, IsCut}
+use Rattle.piece_list.specs.Changing.{AreCutOnce, IsEdge}
+use Rattle.piece_list.specs.Held.{AreEntered, IsCut}
 use Rattle.piece_list.specs.Pieces.{range_of, front_of, rest_of}
 use Rattle.piece_list.specs.Spelled.{spelled, HasName}
 use Rattle.piece_list.specs.Tables.{Tables, tag_at}
-use Rattle.piece_list.proofs.CutList.{is_piece}
+use Rattle.piece_list.proofs.Cutting.{ahead_others, behind_others}
+use Rattle.piece_list.proofs.CutList.{is_piece, cut_spells, cut_counts}
 use Rattle.piece_list.proofs.Found.{member_at, one_value, entry_of, some_is, name_has_place}
 use Rattle.piece_list.proofs.Gap.{all_left, all_right}
+use Rattle.piece_list.proofs.Placing.{cut_others}
 
 abbrev Items : Type 0
 Items = List (ℕ × Piece)
@@ -114,6 +116,22 @@ begins_there items c edge tag p is (site, from, to) =
       | inr ge ↦ omega arith
     ]
 
+-- a piece whose names are entered
+abbrev Holds : Tables → ℕ × Piece → Type 0
+Holds tables m = (c : CharName) → IsIn (range_of m.1) c → tag_at tables c ≡ Some m.0
+
+-- pieces of other numbers than the one that is entered for a name don't reach across it
+ends_there : (tables : Tables) (tag site off : ℕ) (zs : Items) → tag_at tables (record { site = site; off = off }) ≡ Some tag
+    → All (Holds tables) zs → All (λ m. m.0 ≢ tag) zs → IsEdge site off zs
+ends_there tables tag site off zs entry all others = λ k d lt own from.
+    let m : ℕ × Piece = get_or zs k d in
+    elim (cases_lt off (m.1.off + m.1.len)) [
+      | inl to ↦
+          let c : CharName = record { site = site; off = off } in
+          absurd (others k d lt (some_is m.0 tag (sym (all k d lt c (sym own, omega arith, to)) ∙ entry)))
+      | inr past ↦ past
+    ]
+
 -- a cut leaves the edges
 pub edges_after_cut : (old new : Items) (tag n u : ℕ) → IsCut tag n u old new → (site off : ℕ)
     → IsEdge site off old → IsEdge site off new
@@ -134,19 +152,51 @@ edges_after_cut old new tag n u cut site off edge =
     (All-cons E front (rest ∷ cut.behind) is_front
     (All-cons E rest cut.behind is_rest (All-tail E (tag, p) cut.behind here))))
 
--- and makes one
-pub edge_after_cut : (old new : Items) (after : Tables) → AreTags new → AreEntered new after → (tag u : ℕ)
-    (p : Piece) (name : CharName) (site off : ℕ) → name ≡ record { site = site; off = off }
-    → IsMember old tag p → IsIn (range_of p) name
-    → ((c : CharName) → IsPlaceOf old (record { piece = tag; within = off - p.off }) c
-    → IsPlaceOf new (record { piece = u; within = 0 }) c)
-    → IsEdge site off new
-edge_after_cut old new after tags are tag u p name site off is_name is held moved =
+-- and makes one: of the other pieces none has the name that the rest begins with
+pub edge_after_cut : (old new : Items) (tables : Tables) → AreTags old → AreEntered old tables → (tag u : ℕ) (p : Piece)
+    (name : CharName) (site off : ℕ) → name ≡ record { site = site; off = off } → IsMember old tag p
+    → IsIn (range_of p) name → IsCut tag (off - p.off) u old new → IsEdge site off new
+edge_after_cut old new tables tags are tag u p name site off is_name is held cut =
+    let E : ℕ × Piece → Type 0 =
+    λ (m : ℕ × Piece). m.1.site ≡ site → m.1.off < off → m.1.off + m.1.len ≤ off in
+    let q : Piece = cut.piece in
+    let front : ℕ × Piece = (tag, front_of (off - p.off) q) in
+    let rest : ℕ × Piece = (u, rest_of (off - p.off) q) in
+    let one : q ≡ p = one_value old tags tag q p (cut.ahead, cut.behind, cut.whole) is in
+    let first : q.off ≡ p.off = ap (λ (r : Piece). r.off) one in
     let c : CharName = record { site = site; off = off } in
     let (own, from, to) = subst (IsIn (range_of p)) is_name held in
-    let place : IsPlaceOf new (record { piece = u; within = 0 }) c =
-    moved c (p, is, omega arith, own, omega arith) in
-    let entry : tag_at after c ≡ Some u =
-    entry_of new after are (record { piece = u; within = 0 }) c place in
-    let (q, there, some, at_site, at_off) = place in
-    edge_there new after tags are u q c there entry (λ _. omega arith)
+    let here : AreTags (cut.ahead ++ (tag, q) ∷ cut.behind) = subst AreTags cut.whole tags in
+    let all : All (Holds tables) (cut.ahead ++ (tag, q) ∷ cut.behind) = subst (All (Holds tables)) cut.whole are.entered in
+    let after : All (Holds tables) ((tag, q) ∷ cut.behind) = all_right (Holds tables) cut.ahead ((tag, q) ∷ cut.behind) all in
+    let entry : tag_at tables c ≡ Some tag =
+    All-head (Holds tables) (tag, q) cut.behind after c (subst (λ (r : Piece). IsIn (range_of r) c) (sym one) (own, from, to)) in
+    let is_front : E front = λ s lt. omega (arith, first, from) in
+    let is_rest : E rest = λ s lt. absurd (omega (arith, first, from, lt)) in
+    subst (All E) (sym cut.parts)
+    (All-append E cut.ahead (front ∷ rest ∷ cut.behind)
+    (ends_there tables tag site off cut.ahead entry (all_left (Holds tables) cut.ahead ((tag, q) ∷ cut.behind) all)
+    (ahead_others cut.ahead cut.behind tag q here))
+    (All-cons E front (rest ∷ cut.behind) is_front
+    (All-cons E rest cut.behind is_rest
+    (ends_there tables tag site off cut.behind entry (All-tail (Holds tables) (tag, q) cut.behind after)
+    (behind_others cut.ahead cut.behind tag q here)))))
+
+-- what a cut makes of the pieces, and what none makes of them
+pub cut_once : (old new : Items) (tag n u : ℕ) → AreTags old → 0 < n → IsCut tag n u old new → AreCutOnce old new
+cut_once old new tag n u tags some cut =
+    let more : length new ≡ length old + 1 = cut_counts old new tag n u cut in
+    record {
+      spells = cut_spells old new tag n u cut;
+      few = omega (arith, more);
+      edges = edges_after_cut old new tag n u cut;
+      firsts = λ t d is. cut_others old new tag n u tags cut (record { piece = t; within = 0 }) d is (inr some);
+    }
+
+pub not_cut : (items : Items) → AreCutOnce items items
+not_cut items = record {
+  spells = refl;
+  few = omega arith;
+  edges = λ site off edge. edge;
+  firsts = λ tag d is. is;
+}

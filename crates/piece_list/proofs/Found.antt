@@ -1,5 +1,5 @@
 -- Which piece holds a name, by its number.
-use Rattle.std.proofs.Common.{◌≡◌, ◌≢◌, ℕ, ◌-◌, ◌<◌, ◌==◌, ◌↔◌, inl, inr, List, [], ◌∷◌, ◌++◌}
+use Rattle.std.proofs.Common.{◌≡◌, ◌≢◌, ℕ, ◌-◌, ◌<◌, ◌==◌, inl, inr, List, [], ◌∷◌, ◌++◌}
 use Rattle.std.proofs.Common.{Option, Some, None, length}
 use Rattle.std.proofs.Common.{get_or, AllPairs, Contains, refl, sym, ap, subst, ◌∙◌, arith}
 use Rattle.std.proofs.lemmas.Bool.{cases_lt}
@@ -9,7 +9,7 @@ use Rattle.std.proofs.lemmas.List.Elements.{Contains-append_left, Contains-appen
 use Rattle.std.proofs.lemmas.List.Elements.{Contains-append_cases}
 use Rattle.std.proofs.lemmas.Map.Made.{AllPairs-from_IsDistinct}
 use Rattle.std.proofs.Math.Seq.{get_or-append_seam}
-use Rattle.std.specs.Prelude.{IfSome, IsSome}
+use Rattle.std.specs.Prelude.{IsSome}
 use Rattle.char_files.specs.CharName.{CharName}
 use Rattle.operations.specs.NameSet.{IsIn, names_of}
 use Rattle.piece_raw.specs.Ring.{IsMember, AreTags, tags}
@@ -72,17 +72,6 @@ one_value items are tag p q a b =
       ]
     ]
 
--- where a piece of this number doesn't hold a name, no place of that number does
-pub no_place : (items : List (ℕ × Piece)) → AreTags items → (tag : ℕ) (p : Piece) → IsMember items tag p
-    → (c : CharName) → (IsIn (range_of p) c → ⊥) → (place : Place) → IsPlaceOf items place c
-    → place.piece ≡ tag → ⊥
-no_place items are tag p is c out place (q, held, within, site, off) same =
-    let e : q ≡ p = one_value items are tag q p (subst (λ (t : ℕ). IsMember items t q) same held) is in
-    let site' : c.site ≡ p.site = site ∙ ap (λ (r : Piece). r.site) e in
-    let off' : q.off ≡ p.off = ap (λ (r : Piece). r.off) e in
-    let len' : q.len ≡ p.len = ap (λ (r : Piece). r.len) e in
-    out (site', omega arith, omega arith)
-
 -- a place's name is spelled
 pub place_has_name : (items : List (ℕ × Piece)) (place : Place) (c : CharName) → IsPlaceOf items place c
     → HasName (spelled items) c
@@ -135,28 +124,9 @@ entry_of items tables are place c (p, held, within, site, off) =
     subst (λ (n : ℕ × Piece). (d : CharName) → IsIn (range_of n.1) d → tag_at tables d ≡ Some n.0) (at m)
     (are.entered k m lt) c (site, omega arith, omega arith)
 
--- what is found is spelled
-pub found_is_here : (items : List (ℕ × Piece)) (tag : ℕ) (c : CharName) (r : Option Place)
-    → IfSome r (λ place. (place.piece ≡ tag) × IsPlaceOf items place c) → IsSome r → HasName (spelled items) c
-found_is_here items tag c None found some = absurd cc
-found_is_here items tag c (Some place) found some = place_has_name items place c found.1
-
 -- what isn't entered isn't spelled
 pub not_entered : (items : List (ℕ × Piece)) (tables : Tables) → AreEntered items tables → (c : CharName)
     → tag_at tables c ≡ None → HasName (spelled items) c → ⊥
 not_entered items tables are c none here =
     let (place, is) = name_has_place items c here in
     none_is_not place.piece (sym none ∙ entry_of items tables are place c is)
-
--- a name is spelled exactly where it is found in the piece that it is entered under
-pub found_where_entered : (items : List (ℕ × Piece)) (tables : Tables) → AreEntered items tables → (c : CharName)
-    (tag : ℕ) → tag_at tables c ≡ Some tag → (r : Option Place)
-    → IfSome r (λ place. (place.piece ≡ tag) × IsPlaceOf items place c)
-    → ((place : Place) → IsPlaceOf items place c → place.piece ≡ tag → IsSome r)
-    → IsSome r ↔ HasName (spelled items) c
-found_where_entered items tables are c tag entry r found held = (
-  λ some. found_is_here items tag c r found some,
-  λ here.
-      let (place, is) = name_has_place items c here in
-      held place is (some_is place.piece tag (sym (entry_of items tables are place c is) ∙ entry)),
-)

@@ -7,6 +7,7 @@ pub mod CutList
 pub mod Cutting
 pub mod Edges
 pub mod Entered
+pub mod Entries
 pub mod Few
 pub mod Found
 pub mod Gap
@@ -18,10 +19,12 @@ pub mod Parts
 pub mod Placing
 pub mod Positions
 pub mod Ranks
+pub mod Rooms
 pub mod RunCuts
 pub mod Shown
 pub mod ShownAt
 pub mod ShownTo
 pub mod Tables
+pub mod Turned
 pub mod Walked
 pub mod Weighed

@@ -2,7 +2,7 @@
 use Rattle.std.proofs.Common.{◌≡◌, ℕ, ◌+◌, ◌-◌, ◌<◌, ◌≤◌, Bool, true, false, cond, List, [], ◌∷◌, ◌++◌}
 use Rattle.std.proofs.Common.{length, get_or, take, drop, map, All, refl, sym, ap, subst, ◌∙◌, arith, append_assoc}
 use Rattle.std.proofs.lemmas.List.{append-nil, map-append, length-map}
-use Rattle.std.proofs.lemmas.List.Sums.{sum_by_more, sum_by_more_le}
+use Rattle.std.proofs.lemmas.List.Sums.{sum_by_more}
 use Rattle.std.proofs.lemmas.List.Elements.{All-append, All-cons, All-nil}
 use Rattle.std.proofs.Math.Seq.{take-append_seam, drop-append_seam, take-append-add}
 use Rattle.looks.specs.declared.key.Key.{Key}
@@ -306,12 +306,6 @@ pub one_range_more : (ranges : List Range) (i : ℕ) (r : Range) → i < length 
 one_range_more ranges i r lt is =
     sum_by_more (λ (s : Range). s.len) ranges i r lt
     ∙ ap (λ (s : Range). name_count (take i ranges) + s.len) (sym is)
-
-pub range_fits : (ranges : List Range) (i : ℕ) (r : Range) → i < length ranges → r ≡ get_or ranges i r
-    → name_count (take i ranges) + r.len ≤ name_count ranges
-range_fits ranges i r lt is =
-    subst (λ (s : Range). name_count (take i ranges) + s.len ≤ name_count ranges) (sym is)
-    (sum_by_more_le (λ (s : Range). s.len) ranges i r lt)
 
 -- a set has the names of each of its ranges
 pub range_among : (ranges : List Range) (i : ℕ) (r : Range) (c : CharName) → i < length ranges

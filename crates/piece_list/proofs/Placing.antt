@@ -1,12 +1,11 @@
 -- A piece is put into its gap: the walk to it, the cut ahead of it, and the tables afterwards.
 use Rattle.std.proofs.Common.{◌≡◌, ◌≢◌, ℕ, ◌+◌, ◌-◌, ◌<◌, ◌≤◌, ◌⊎◌, Bool, true, false, inl, inr, List, [], ◌∷◌}
-use Rattle.std.proofs.Common.{◌++◌, Option, Some, None, length, All, Contains, refl, sym, ap, subst, ◌∙◌, arith}
+use Rattle.std.proofs.Common.{◌++◌, Option, Some, length, All, Contains, refl, sym, ap, subst, ◌∙◌, arith}
 use Rattle.std.proofs.Common.{append_assoc}
 use Rattle.std.proofs.lemmas.Bool.{cases_eq}
 use Rattle.std.proofs.lemmas.List.{append-nil, length-append, map-append}
 use Rattle.std.proofs.lemmas.List.Elements.{All-append, All-cons, All-nil, Contains-append_left}
 use Rattle.std.proofs.lemmas.List.Elements.{Contains-append_right}
-use Rattle.std.specs.Prelude.{IfSome, IsSome}
 use Rattle.looks.specs.Key.{is_below}
 use Rattle.looks.specs.declared.key.Key.{Key}
 use Rattle.char_files.specs.CharName.{CharName}
@@ -21,7 +20,7 @@ use Rattle.piece_list.specs.Pieces.{range_of, chars_of, front_of, rest_of, IsPie
 use Rattle.piece_list.specs.Held.{AreEntered, IsPlaceOf, IsCut}
 use Rattle.piece_list.specs.Laws.{Avoid, BeginNotAbove}
 use Rattle.piece_list.specs.Placed.{IsPlaced}
-use Rattle.piece_list.specs.Placing.{HasAnchor, compared, IsAnchorPlace, IsParted, HasPart, IsPartedAt, IsCutAt, IsCutThere}
+use Rattle.piece_list.specs.Placing.{compared, IsAnchorPlace, IsParted, HasPart, IsPartedAt, IsCutAt, IsCutThere}
 use Rattle.piece_list.specs.Placing.{IsCounted, IsNext, IsSkip, IsPutInGap, last_look}
 use Rattle.piece_list.specs.Spelled.{spelled, names_of_atoms, HasName, ArePieces}
 use Rattle.piece_list.specs.Tables.{Tables, table_of, tag_at}
@@ -411,6 +410,10 @@ pub stood : (r : Ring Piece) (items new : Items) (last : Option ℕ) (room u : �
     → r ≡ ring items last room → IsPushed r.items r.cursor u v new → IsPushed items last u v new
 stood r items new last room u v e put = subst (λ (s : Ring Piece). IsPushed s.items s.cursor u v new) e put
 
+pub stood_next : (r : Ring Piece) (items : Items) (last : Option ℕ) (room u : ℕ) → r ≡ ring items last room
+    → u ≡ length r.items → u ≡ length items
+stood_next r items last room u e next = next ∙ ap (λ (s : Ring Piece). length s.items) e
+
 -- the piece stands behind the number, whichever way the pieces are parted there
 pub pushed_there : (old new : Items) → AreTags old → (last : Option ℕ) (u : ℕ) (v : Piece)
     → IsPushed old last u v new → (ahead behind : Items) → IsParted old last ahead behind
@@ -424,18 +427,6 @@ pub pushed_part : (old new : Items) → AreTags old → (last : Option ℕ) (u :
     → (tag : ℕ) × (new ≡ ahead ++ (tag, v) ∷ behind)
 pushed_part old new are last u v put ahead behind parted =
     (u, pushed_there old new are last u v put ahead behind parted)
-
--- the anchor
-
-pub found_char : (items : Items) (cause : Anchor) (c : CharName) (r : Option Place) → cause ≡ At c
-    → IfSome r (λ place. IsPlaceOf items place c) → IsSome r → IsAnchorPlace items cause r
-found_char items cause c None e found some = absurd cc
-found_char items cause c (Some place) e found some =
-    subst (λ (a : Anchor). IsAnchorPlace items a (Some place)) (sym e) (place, refl, found)
-
-pub has_char : (chars : List Atom) (cause : Anchor) (c : CharName) → cause ≡ At c → HasAnchor chars cause
-    → HasName chars c
-has_char chars cause c e here = subst (HasAnchor chars) e here
 
 -- the whole
 

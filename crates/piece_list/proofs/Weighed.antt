@@ -1,20 +1,18 @@
 -- The index of a list: each piece's number, weighed by how many characters the piece shows.
 use Rattle.std.proofs.Common.{◌≡◌, ℕ, ◌+◌, ◌-◌, ◌<◌, ◌≤◌, ◌^◌, ◌==◌, Bool, true, false, cond, List, [], ◌∷◌, ◌++◌}
-use Rattle.std.proofs.Common.{Option, Some, None, length, map, refl, sym, ap, subst, ◌∙◌, arith}
-use Rattle.std.specs.List.{AllByRecursion, IsDistinct}
+use Rattle.std.proofs.Common.{Option, Some, None, map, refl, sym, ap, subst, ◌∙◌, arith}
 use Rattle.std.proofs.lemmas.List.{map-append}
 use Rattle.std.proofs.lemmas.List.Sums.{sum-map, sum_by-cons}
 use Rattle.std.specs.Prelude.{IfSome}
-use Rattle.piece_raw.specs.Ring.{AreTags, IsMember, HasTag, IsPushed, last_tag, tags, with_value}
+use Rattle.piece_raw.specs.Ring.{AreTags, IsMember, HasTag, IsPushed, last_tag, with_value}
 use Rattle.rank_index.specs.Ranked.{weight_of, IsRank, IsFound}
 use Rattle.piece_list.specs.declared.piece.Piece.{Piece}
 use Rattle.piece_list.specs.Held.{AreEntered, shown_weight, weighed}
 use Rattle.piece_list.specs.Pieces.{front_of, rest_of}
 use Rattle.piece_list.specs.Placing.{HasPart}
 use Rattle.piece_list.specs.Tables.{Tables}
-use Rattle.piece_list.proofs.ChangedPiece.{as_many}
 use Rattle.piece_list.proofs.CutList.{is_piece}
-use Rattle.piece_list.proofs.Cutting.{written}
+use Rattle.piece_list.proofs.Cutting.{written, written_tags}
 use Rattle.piece_list.proofs.Parts.{part_has_tag}
 use Rattle.piece_list.proofs.Placing.{pushed_there}
 use Rattle.piece_list.proofs.Positions.{Items, shown_in, own, own_le, small_count}
@@ -152,17 +150,6 @@ written_weighed tag w (m ∷ items) =
     go : (b : Bool) → cond b (shown_weight w) (shown_weight m.1) ≡ shown_weight (cond b w m.1)
     go true = refl
     go false = refl
-
-tags_stay : (tag : ℕ) (w : Piece) (items : Items) → tags (with_value tag w items) ≡ tags items
-tags_stay tag w [] = refl
-tags_stay tag w (m ∷ items) = ap (λ (l : List ℕ). m.0 ∷ l) (tags_stay tag w items)
-
-pub written_tags : (tag : ℕ) (w : Piece) (items : Items) → AreTags items → AreTags (with_value tag w items)
-written_tags tag w items are =
-    subst (λ (n : ℕ). IsDistinct ◌==◌ (tags (with_value tag w items))
-    × AllByRecursion (λ t. t < n) (tags (with_value tag w items))) (sym (as_many tag w items))
-    (subst (λ (ts : List ℕ). IsDistinct ◌==◌ ts × AllByRecursion (λ t. t < length items) ts)
-    (sym (tags_stay tag w items)) are)
 
 -- of a piece that is written, in the place of another one
 module _ (items : Items) (index : Weights) (tag weight : ℕ) (p w : Piece) (same : index ≡ weighed items)

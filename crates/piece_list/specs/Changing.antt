@@ -1,13 +1,14 @@
 -- How the characters of a set of names are changed, piece by piece.
-use Rattle.std.specs.Prelude.{◌≡◌, ℕ, ◌+◌, ◌<◌, ◌≤◌, List, All}
+use Rattle.std.specs.Prelude.{◌≡◌, ℕ, ◌+◌, ◌<◌, ◌≤◌, List, All, length}
 use Rattle.char_files.specs.CharName.{CharName}
 use Rattle.operations.specs.NameSet.{Range, IsAmong}
 use Rattle.tree_order.specs.Registers.{Atom, switched, relooked}
 use Rattle.piece_list.specs.declared.piece.Piece.{Piece}
 use Rattle.piece_list.specs.declared.list.changing.Setting.{Setting}
 use Rattle.piece_list.specs.declared.list.changing.Setting.TheVariants.{Switch, Relook}
+use Rattle.piece_list.specs.Held.{KeepFirsts}
 use Rattle.piece_list.specs.Pieces.{switched_piece, relooked_piece}
-use Rattle.piece_list.specs.Spelled.{HasName}
+use Rattle.piece_list.specs.Spelled.{spelled, HasName}
 
 -- each name of the set is that of one of the characters
 abbrev pub AreHere : List Range → List Atom → Type 0
@@ -26,3 +27,22 @@ changed_char (Relook sel looks key) k = relooked sel looks key k
 -- no piece of the site reaches across this offset
 abbrev pub IsEdge : ℕ → ℕ → List (ℕ × Piece) → Type 0
 IsEdge site off items = All (λ m. m.1.site ≡ site → m.1.off < off → m.1.off + m.1.len ≤ off) items
+
+-- the first offset after this name's that no piece of its site reaches across
+pub record IsNextEdge (name : CharName) (end : ℕ) (items : List (ℕ × Piece)) : Type 0 where
+  pub some : name.off < end
+  pub edge : IsEdge name.site end items
+  pub first : (at : ℕ) → name.off < at → IsEdge name.site at items → end ≤ at
+
+-- the same pieces, but for what is set in their registers
+pub record AreTheSame (old new : List (ℕ × Piece)) : Type 0 where
+  pub many : length new ≡ length old
+  pub edges : (site off : ℕ) → IsEdge site off old → IsEdge site off new
+  pub firsts : KeepFirsts old new
+
+-- the same characters in the same pieces, one of which may be cut in two
+pub record AreCutOnce (old new : List (ℕ × Piece)) : Type 0 where
+  pub spells : spelled new ≡ spelled old
+  pub few : length new ≤ length old + 1
+  pub edges : (site off : ℕ) → IsEdge site off old → IsEdge site off new
+  pub firsts : KeepFirsts old new

@@ -2,7 +2,7 @@
 use Rattle.std.specs.Prelude.{◌≡◌, ℕ, ◌+◌, ◌<◌, if◌then◌else◌, List, ◌∷◌, ◌++◌, map, Some, All}
 use Rattle.char_files.specs.CharName.{CharName}
 use Rattle.operations.specs.NameSet.{IsIn}
-use Rattle.piece_raw.specs.Ring.{IsMember, HasTag}
+use Rattle.piece_raw.specs.Ring.{AreTags, IsMember, HasTag}
 use Rattle.piece_list.specs.declared.piece.Piece.{Piece}
 use Rattle.piece_list.specs.declared.place.Place.{Place}
 use Rattle.piece_list.specs.Pieces.{range_of, front_of, rest_of}
@@ -39,6 +39,19 @@ pub record AreEntered (items : List (ℕ × Piece)) (tables : Tables) : Type 0 w
 -- the pieces' numbers, each with how many characters the piece shows
 abbrev pub weighed : List (ℕ × Piece) → List (ℕ × ℕ)
 weighed items = map (λ m. (m.0, shown_weight m.1)) items
+
+-- what is changed together: the pieces in order, each under its number, the tables that find one by a name, and how many
+-- more pieces take no memory
+pub record HeldPieces : Type 0 where
+  pub items : List (ℕ × Piece)
+  pub tables : Tables
+  pub room : ℕ
+
+-- no number is used twice, the tables have the pieces' names, and the index has what each piece shows
+pub record AreHeld (items : List (ℕ × Piece)) (tables : Tables) (weights : List (ℕ × ℕ)) : Type 0 where
+  pub numbered : AreTags items
+  pub entered : AreEntered items tables
+  pub indexed : weights ≡ weighed items
 
 -- there is a piece of this number, with more characters than so many
 abbrev pub HasPlace : List (ℕ × Piece) → Place → Type 0

@@ -1,5 +1,7 @@
 -- How a note tells what a change of characters makes of what is shown.
-use Rattle.std.specs.Prelude.{◌≡◌, ℕ, ◌++◌, Bool, true, false, not, List, map, take, drop, All}
+use Rattle.std.specs.Prelude.{◌≡◌, ℕ, ◌+◌, ◌≤◌, ◌++◌, Bool, true, false, not, List, map, take, drop, All}
+use Rattle.std.specs.Prelude.{Vec, vec_len, vec_capacity}
+use Rattle.std.specs.declared.alloc.Global.{Global}
 use Rattle.std.specs.List.{sum_by}
 use Rattle.char_files.specs.CharName.{CharName}
 use Rattle.operations.specs.NameSet.{Range, IsAmong}
@@ -56,6 +58,13 @@ IsOf (Relook sel looks key) names shown change = IsReplaceOf names shown change
 abbrev pub IsNoted : Setting → List Range → (old new : List Change) → (was now : List (ℕ × Piece)) → Type 0
 IsNoted setting names old new was now =
     Notes (λ change. IsOf setting names (appearances was) change) old new (appearances was) (appearances now)
+
+-- the note tells it where it had room for so many entries, and gains no more than those
+pub record AreNoted (setting : Setting) (names : List Range) (n : ℕ) (old new : Vec Change Global)
+    (was now : List (ℕ × Piece)) : Type 0 where
+  pub told : vec_len old + n ≤ vec_capacity old → IsNoted setting names old.items new.items was now
+  pub few : vec_len new ≤ vec_len old + n
+  pub capacity : vec_capacity old ≤ vec_capacity new
 
 -- a piece may show something else after the setting: it was hidden and is shown, or the other way round, or it is
 -- shown as it was

@@ -6,7 +6,8 @@ ghost use Rattle.tree_order.specs.Registers.{Atom};
 ghost use Rattle.piece_list.specs.Changing.{AreHere};
 ghost use Rattle.piece_list.specs.Spelled.{spelled, HasName};
 
-use super::{PieceList, numbers_differ};
+use super::PieceList;
+use crate::steps::Steps;
 use char_files::Name;
 use operations::{NameRange, NameSet};
 
@@ -20,10 +21,10 @@ impl PieceList {
             → IsIn (record { site = name.site; at = name.off; len = result.1 - name.off }) k.name
             → k.hidden.value ≡ result.0 }
     {
-        match self.place_of(name) {
+        let pieces = &self.pieces;
+        match pieces.locate(name, &mut Steps::none()) {
             Some(place) => {
-                numbers_differ(&self.pieces);
-                let piece = self.pieces.value_at(place.piece);
+                let piece = pieces.ring.value_at(place.piece);
                 (piece.hidden.value, piece.off + piece.len)
             }
             None => unreachable!(),

@@ -8,28 +8,27 @@ ghost use Rattle.char_files.specs.CharName.{CharName};
 ghost use Rattle.operations.specs.NameSet.{IsIn};
 ghost use Rattle.piece_raw.specs.Ring.{ring};
 ghost use Rattle.piece_list.specs.Pieces.{range_of, chars_of, IsPiece, piece_of};
-ghost use Rattle.piece_list.specs.Held.{HasPlace, AreEntered, weighed};
+ghost use Rattle.piece_list.specs.Held.{HasPlace};
 ghost use Rattle.piece_list.specs.Laws.{BeginNotAbove};
 ghost use Rattle.piece_list.specs.Noted.{Notes, appearances};
 ghost use Rattle.piece_list.specs.Placed.{IsPlaced};
 ghost use Rattle.piece_list.specs.Placing.{HasAnchor, compared, IsAnchorPlace, IsParted, HasPart, IsPartedAt};
 ghost use Rattle.piece_list.specs.Placing.{IsCounted, IsNext, IsSkip, IsPutInGap, last_look};
-ghost use Rattle.piece_list.specs.Spelled.{spelled, shown_chars, HasName};
+ghost use Rattle.piece_list.specs.Spelled.{spelled, shown_chars, ArePieces, HasName};
 ghost use Rattle.piece_list.specs.Tables.{table_of};
 ghost use Rattle.list_changes.specs.Changes.{IsOfKind};
 ghost use Rattle.list_changes.specs.declared.change.ChangeKind.TheVariants.{Insert};
 
-use crate::list::{PieceList, cut, numbers_differ};
+use super::PieceList;
+use super::pieces::Pieces;
 use crate::piece::Piece;
 use crate::place::Place;
 use crate::run::Run;
 use crate::steps::Steps;
-use crate::tags::TagTables;
 use char_files::{Anchor, Name};
 use list_changes::{Change, ChangeKind};
 use looks::{Key, Refusal};
 use piece_raw::Ring;
-use rank_index::RankIndex;
 
 // The piece directly behind this one, if its key is greater: one look, which is counted. At the front for `None`.
 fn next_above(pieces: &Ring<Piece>, steps: &mut Steps, last: Option<u64>, key: Key) -> Option<u64>
@@ -49,74 +48,7 @@ fn next_above(pieces: &Ring<Piece>, steps: &mut Steps, last: Option<u64>, key: K
     }
 }
 
-// Walks past the pieces of greater key that follow this one, and answers the last of them: the piece itself
-// where there are none.
-fn skip(pieces: &Ring<Piece>, steps: &mut Steps, from: Option<u64>, key: Key) -> Option<u64>
-    requires { HasPart pieces.now.items from }
-    ensures { (ahead behind : List (ℕ × Piece)) → IsParted pieces.now.items from ahead behind
-        → IsSkip key ahead behind result steps.old steps.new }
-{
-    numbers_differ(pieces);
-    let mut last = from;
-    while let Some(next) = next_above(pieces, steps, last, key) {
-        last = Some(next);
-    }
-    last
-}
-
-// Makes the character of this place the last of its piece, which keeps its number.
-fn cut_behind(pieces: &mut Ring<Piece>, tags: &mut TagTables, index: &mut RankIndex, place: Place)
-    requires entered { AreEntered pieces.old.items tags.old }
-    requires indexed { index.old.items ≡ weighed pieces.old.items }
-    requires place { HasPlace pieces.old.items place }
-    requires room { 0 < pieces.old.room }
-    requires index_room { 0 < index.old.room }
-    ensures parted { (cause : Anchor) → IsAnchorPlace pieces.old.items cause (Just place)
-        → IsPartedAt pieces.old.items pieces.new.items (Just place.piece) cause }
-    ensures entered { AreEntered pieces.new.items tags.new }
-    ensures indexed { index.new.items ≡ weighed pieces.new.items }
-    ensures room { pieces.old.room ≤ pieces.new.room + 1 }
-    ensures index_room { index.old.room ≤ index.new.room + 1 }
-    ensures long { (site : ℕ) → length (table_of tags.new site) ≡ length (table_of tags.old site) }
-{
-    numbers_differ(pieces);
-    let len = pieces.value_at(place.piece).len;
-    let n = place.within + 1;
-    if n < len {
-        cut(pieces, tags, index, place.piece, n);
-    }
-}
-
-// The same for an anchor's place, and answers the piece's number; `None` for the root.
-fn end_at(
-    pieces: &mut Ring<Piece>,
-    tags: &mut TagTables,
-    index: &mut RankIndex,
-    place: Option<Place>,
-) -> Option<u64>
-    requires entered { AreEntered pieces.old.items tags.old }
-    requires indexed { index.old.items ≡ weighed pieces.old.items }
-    requires place { IfSome place (λ at. HasPlace pieces.old.items at) }
-    requires room { 0 < pieces.old.room }
-    requires index_room { 0 < index.old.room }
-    ensures parted { (cause : Anchor) → IsAnchorPlace pieces.old.items cause place
-        → IsPartedAt pieces.old.items pieces.new.items result cause }
-    ensures entered { AreEntered pieces.new.items tags.new }
-    ensures indexed { index.new.items ≡ weighed pieces.new.items }
-    ensures room { pieces.old.room ≤ pieces.new.room + 1 }
-    ensures index_room { index.old.room ≤ index.new.room + 1 }
-    ensures long { (site : ℕ) → length (table_of tags.new site) ≡ length (table_of tags.old site) }
-{
-    match place {
-        Some(at) => {
-            cut_behind(pieces, tags, index, at);
-            Some(at.piece)
-        }
-        None => None,
-    }
-}
-
-// Stands on the piece of this number, ahead of the first one for `None`.
+// Puts the cursor on the piece of this number, before the first one for `None`.
 fn stand_on(pieces: &mut Ring<Piece>, last: Option<u64>)
     requires { HasPart pieces.old.items last }
     ensures { pieces.new ≡ ring pieces.old.items last pieces.old.room }
@@ -127,37 +59,76 @@ fn stand_on(pieces: &mut Ring<Piece>, last: Option<u64>)
     }
 }
 
-// Puts a piece directly behind the one of this number, at the front for `None`, and enters its names.
-fn put(
-    pieces: &mut Ring<Piece>,
-    tags: &mut TagTables,
-    index: &mut RankIndex,
-    last: Option<u64>,
-    piece: Piece,
-)
-    requires entered { AreEntered pieces.old.items tags.old }
-    requires indexed { index.old.items ≡ weighed pieces.old.items }
-    requires part { HasPart pieces.old.items last }
-    requires piece { IsPiece piece }
-    requires new { (c : CharName) → IsIn (range_of piece) c → ¬ HasName (spelled pieces.old.items) c }
-    requires fits { piece.off + piece.len ≤ length (table_of tags.old piece.site) }
-    requires room { 0 < pieces.old.room }
-    requires index_room { 0 < index.old.room }
-    ensures put { (ahead behind : List (ℕ × Piece)) → IsParted pieces.old.items last ahead behind
-        → (tag : ℕ) × (pieces.new.items ≡ ahead ++ (tag, piece) ∷ behind) }
-    ensures entered { AreEntered pieces.new.items tags.new }
-    ensures indexed { index.new.items ≡ weighed pieces.new.items }
-{
-    numbers_differ(pieces);
-    stand_on(pieces, last);
-    let (site, off, len) = (piece.site, piece.off, piece.len);
-    let weight = piece.shown_of(len);
-    match pieces.push_after(piece) {
-        Ok(number) => {
-            tags.fill(site, off, len, number);
-            index.insert_after(last, number, weight);
+impl Pieces {
+    // Walks past the pieces of greater key that follow this one, and answers the last of them: the piece itself
+    // where there are none.
+    fn skip(&self, steps: &mut Steps, from: Option<u64>, key: Key) -> Option<u64>
+        requires { HasPart self.now.items from }
+        ensures { (ahead behind : List (ℕ × Piece)) → IsParted self.now.items from ahead behind
+            → IsSkip key ahead behind result steps.old steps.new }
+    {
+        let mut last = from;
+        while let Some(next) = next_above(&self.ring, steps, last, key) {
+            last = Some(next);
         }
-        Err(_) => unreachable!(),
+        last
+    }
+
+    // Makes the character of this place the last of its piece, which keeps its number.
+    fn cut_behind(&mut self, place: Place)
+        requires place { HasPlace self.old.items place }
+        requires room { 0 < self.old.room }
+        ensures parted { (cause : Anchor) → IsAnchorPlace self.old.items cause (Just place)
+            → IsPartedAt self.old.items self.new.items (Just place.piece) cause }
+        ensures room { self.old.room ≤ self.new.room + 1 }
+        ensures long { (site : ℕ) → length (table_of self.new.tables site) ≡ length (table_of self.old.tables site) }
+    {
+        let len = self.ring.value_at(place.piece).len;
+        let n = place.within + 1;
+        if n < len {
+            self.cut(place.piece, n);
+        }
+    }
+
+    // The same for an anchor's place, and answers the piece's number; `None` for the root.
+    fn end_at(&mut self, place: Option<Place>) -> Option<u64>
+        requires place { IfSome place (λ at. HasPlace self.old.items at) }
+        requires room { 0 < self.old.room }
+        ensures parted { (cause : Anchor) → IsAnchorPlace self.old.items cause place
+            → IsPartedAt self.old.items self.new.items result cause }
+        ensures room { self.old.room ≤ self.new.room + 1 }
+        ensures long { (site : ℕ) → length (table_of self.new.tables site) ≡ length (table_of self.old.tables site) }
+    {
+        match place {
+            Some(at) => {
+                self.cut_behind(at);
+                Some(at.piece)
+            }
+            None => None,
+        }
+    }
+
+    // Puts a piece directly after the one of this number, at the front for `None`, and enters its names.
+    fn put(&mut self, last: Option<u64>, piece: Piece)
+        requires part { HasPart self.old.items last }
+        requires piece { IsPiece piece }
+        requires new { (c : CharName) → IsIn (range_of piece) c → ¬ HasName (spelled self.old.items) c }
+        requires fits { piece.off + piece.len ≤ length (table_of self.old.tables piece.site) }
+        requires room { 0 < self.old.room }
+        ensures put { (ahead behind : List (ℕ × Piece)) → IsParted self.old.items last ahead behind
+            → (tag : ℕ) × (self.new.items ≡ ahead ++ (tag, piece) ∷ behind) }
+        ensures pieces { ArePieces self.new.items }
+    {
+        stand_on(&mut self.ring, last);
+        let (site, off, len) = (piece.site, piece.off, piece.len);
+        let weight = piece.shown_of(len);
+        match self.ring.push_after(piece) {
+            Ok(number) => {
+                self.tags.fill(site, off, len, number);
+                self.index.insert_after(last, number, weight);
+            }
+            Err(_) => unreachable!(),
+        }
     }
 }
 
@@ -217,25 +188,19 @@ impl PieceList {
     {
         let found = self.locate_cause(cause);
         self.pieces.reserve(2)?;
-        self.index.reserve(2)?;
-        self.tags.reserve(run.site, run.off + run.len)?;
-        let end = end_at(&mut self.pieces, &mut self.tags, &mut self.index, found);
-        let last = skip(&self.pieces, &mut self.steps, end, run.key);
-        put(
-            &mut self.pieces,
-            &mut self.tags,
-            &mut self.index,
-            last,
-            Piece::of_run(run),
-        );
+        self.pieces.reserve_names(run.site, run.off + run.len)?;
+        let end = self.pieces.end_at(found);
+        let last = self.pieces.skip(&mut self.steps, end, run.key);
+        self.pieces.put(last, Piece::of_run(run));
         Ok(())
     }
 
     // A law: so many characters are shown that they can be counted. A proof gets it by calling this, at no cost.
-    fn are_countable(&self)
+    fn lemma_shown_is_countable(&self)
         ensures { length (shown_chars (spelled self.now.items)) ≤ 2 ^ 40 }
     {
-        numbers_differ(&self.pieces);
+        let pieces = &self.pieces;
+        let _ = &pieces.ring;
     }
 
     /// `place`, which notes what comes: one insert.
@@ -263,7 +228,7 @@ impl PieceList {
         let (site, off, len) = (run.site, run.off, run.len);
         note.reserve(1)?;
         self.place(run, cause)?;
-        self.are_countable();
+        self.lemma_shown_is_countable();
         match Name::new(site, off) {
             Some(first) => note_run(note, self.shown_to(first), len),
             None => unreachable!(),

@@ -1,22 +1,23 @@
 //! What is shown, and where.
 
-ghost use Rattle.std.specs.Prelude.{◌≡◌, ◌+◌, ◌<◌, ◌≤◌, ◌↔◌, length, map, drop, All, Contains};
+ghost use Rattle.std.specs.Prelude.{◌≡◌, ◌+◌, ◌<◌, ◌≤◌, ◌↔◌, length, map, drop, All};
 ghost use Rattle.std.specs.Prelude.{IsSome, IfSome, slice_get};
 ghost use Rattle.std.specs.Iterator.{YieldsFirst, item_count};
 ghost use Rattle.std.specs.List.{flat_map};
-ghost use Rattle.tree_order.specs.Registers.{Atom, atom_looks};
+ghost use Rattle.tree_order.specs.Registers.{atom_looks};
 ghost use Rattle.char_files.specs.declared.TheConstants.{MAX_FILE};
 ghost use Rattle.piece_list.specs.Held.{IsPlaceOf};
 ghost use Rattle.piece_list.specs.RunCuts.{AreWithin, HasFront};
 ghost use Rattle.piece_list.specs.Shown.{AreShownTo, appearance_of, appearances_in, shown_runs};
 ghost use Rattle.piece_list.specs.Spelled.{spelled, shown_chars, HasName};
 
-use super::{PieceList, numbers_differ};
+use super::PieceList;
 use crate::piece::Piece;
 use crate::place::Place;
 use crate::run::Run;
+use crate::steps::Steps;
 use char_files::Name;
-use looks::{Key, Looks};
+use looks::Looks;
 use piece_raw::Members;
 use std::marker::Model;
 
@@ -55,24 +56,12 @@ impl<'a> Iterator for Walk<'a> {
 }
 
 impl PieceList {
-    /// The key of the character of this name, that of its Insert; `None` for a name that isn't here.
-    ///
-    /// It reads one entry of a table.
-    pub fn key_of(&self, name: Name) -> Option<Key>
-        ensures here { IsSome result ↔ HasName (spelled self.now.items) name }
-        ensures key { IfSome result (λ key. (k : Atom) → Contains (spelled self.now.items) k → k.name ≡ name
-            → k.key ≡ key) }
-    {
-        let place = self.place_of(name)?;
-        numbers_differ(&self.pieces);
-        Some(self.pieces.value_at(place.piece).key)
-    }
-
     /// How many characters are shown.
     pub fn shown_len(&self) -> u64
         ensures { result ≡ length (shown_chars (spelled self.now.items)) }
     {
-        self.index.total()
+        let pieces = &self.pieces;
+        pieces.index.total()
     }
 
     /// How many shown characters stand at or ahead of the character of this name, which may be hidden; `None`
@@ -81,10 +70,10 @@ impl PieceList {
         ensures here { IsSome result ↔ HasName (spelled self.now.items) name }
         ensures count { IfSome result (AreShownTo (spelled self.now.items) name) }
     {
-        let place = self.place_of(name)?;
-        numbers_differ(&self.pieces);
-        let piece = self.pieces.value_at(place.piece);
-        let ahead = self.index.rank(place.piece);
+        let pieces = &self.pieces;
+        let place = pieces.locate(name, &mut Steps::none())?;
+        let piece = pieces.ring.value_at(place.piece);
+        let ahead = pieces.index.rank(place.piece);
         Some(ahead + u64::from(piece.shown_of(place.within + 1)))
     }
 
@@ -94,7 +83,8 @@ impl PieceList {
         ensures { IfSome (slice_get (shown_chars (spelled self.now.items)) pos)
             (λ k. IsPlaceOf self.now.items result k.name) }
     {
-        let (piece, within) = self.index.find(pos);
+        let pieces = &self.pieces;
+        let (piece, within) = pieces.index.find(pos);
         Place {
             piece,
             within: within as u32,
@@ -108,8 +98,8 @@ impl PieceList {
             (λ k. (result.0 ≡ k.name) × (result.1 ≡ atom_looks k)) }
     {
         let place = self.locate_pos(pos);
-        numbers_differ(&self.pieces);
-        let piece = self.pieces.value_at(place.piece);
+        let pieces = &self.pieces;
+        let piece = pieces.ring.value_at(place.piece);
         match Name::new(piece.site, piece.off + place.within) {
             Some(name) => (name, piece.looks()),
             None => unreachable!(),
@@ -124,12 +114,13 @@ impl PieceList {
         ensures front { HasFront result.1 result.0 }
         ensures within { AreWithin result.0 }
     {
+        let pieces = &self.pieces;
         if self.shown_len() <= pos {
-            let none = self.pieces.from(None);
+            let none = pieces.ring.from(None);
             return (Walk { members: none }, 0);
         }
-        let (tag, ahead) = self.index.find(pos);
-        let members = self.pieces.from(Some(tag));
+        let (tag, ahead) = pieces.index.find(pos);
+        let members = pieces.ring.from(Some(tag));
         (Walk { members }, ahead)
     }
 
@@ -141,8 +132,9 @@ impl PieceList {
         ensures some { All (λ run. 0 < run.len) result }
         ensures within { All (λ run. run.off + run.len ≤ MAX_FILE) result }
     {
+        let pieces = &self.pieces;
         Walk {
-            members: self.pieces.behind(None),
+            members: pieces.ring.behind(None),
         }
     }
 }

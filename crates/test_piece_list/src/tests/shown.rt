@@ -16,10 +16,7 @@ fn is_new(list: &mut PieceList) -> Result<(), Fail> {
         list.shown_len() == 0 && list.walk().next().is_none(),
         "nothing shown",
     )?;
-    is(
-        list.shown_to(first).is_none() && list.key_of(first).is_none(),
-        "no character",
-    )
+    is(list.shown_to(first).is_none(), "no character")
 }
 
 #[test]
@@ -31,7 +28,7 @@ fn a_new_list_is_empty(rt: HostRuntime) -> Result<(), Fail> {
 fn hide_one(list: &mut PieceList, names: &NameSet, name: Name) -> Result<(), Fail>
     requires { names.now ≡ of_name name ∷ [] }
 {
-    if let Some(_) = list.key_of(name) {
+    if let Some(_) = list.shown_to(name) {
         list.hide(names, Key { stamp: 2, site: 2 })?;
     }
     Ok(())
@@ -97,8 +94,10 @@ fn place_at(list: &PieceList, pos: u64) -> Option<Place> {
 fn tells_of_six(list: &PieceList, third: Name) -> Result<(), Fail> {
     is(list.shown_len() == 6, "how many are shown")?;
     is(list.shown_to(third) == Some(3), "how many up to it")?;
-    let key = Some(Key { stamp: 1, site: 1 });
-    is(list.key_of(third) == key, "its key")?;
+    let Some(run) = list.walk().next() else {
+        return Err("a run".into());
+    };
+    is(run.key == Key { stamp: 1, site: 1 }, "its key")?;
     for (pos, piece, within) in [(0, 0, 0), (1, 0, 1), (2, 1, 0), (5, 1, 3)] {
         is(
             place_at(list, pos) == Some(Place { piece, within }),

@@ -166,7 +166,7 @@ fn names_here(list: &PieceList) -> u32 {
     let mut here = 0u32;
     for i in 0u16..32 {
         if let Some(name) = name_of(1 + i / 16, u32::from(i % 16)) {
-            if list.key_of(name).is_some() {
+            if list.shown_to(name).is_some() {
                 here = here.saturating_add(1);
             }
         }

@@ -1,7 +1,7 @@
-use Rattle.std.proofs.Common.{◌≡◌, ◌<◌, ap, subst, arith}
+use Rattle.std.proofs.Common.{◌≡◌, ◌<◌, ap, subst, arith, ◌∙◌}
 use Rattle.std.specs.Prelude.{IfSome, slice_get}
 use Rattle.piece_list.specs.declared.place.Place.{Place}
-use Rattle.piece_list.specs.Held.{PiecesSeen, IsPlaceOf}
+use Rattle.piece_list.specs.Held.{HeldPieces, PiecesSeen, IsPlaceOf}
 use Rattle.piece_list.specs.Spelled.{spelled, shown_chars}
 use Rattle.piece_list.proofs.Positions.{Items, shown_in, position}
 use Rattle.piece_list.proofs.Ranks.{IsFoundAt, found_at, found_is_small}
@@ -10,28 +10,28 @@ use Rattle.piece_list.proofs.list.PieceList.locate_pos.Goals as goal
 
 pub find-piece-requires : goal.find-piece-requires
 find-piece-requires c =
-    let items : Items = c.self.inside.pieces.items in
+    let items : Items = c.pieces.inside.ring.items in
     let seen : shown_in items ≡ shown_in c.args.self.now.items =
-    ap (λ (v : PiecesSeen). shown_in v.items) c.self.view_is in
-    record { within = omega (arith, total_is_shown items c.self.inside.index.items c.self.invariant.1, seen, c.requires) }
+    ap (λ (v : HeldPieces). shown_in v.items) c.pieces.view_is ∙ ap (λ (v : PiecesSeen). shown_in v.items) c.self.view_is in
+    record { within = omega (arith, total_is_shown items c.pieces.inside.index.items c.pieces.invariant.indexed, seen, c.requires) }
 
 pub overflow_cast-result : goal.overflow_cast-result
 overflow_cast-result c =
-    let items : Items = c.self.inside.pieces.items in
+    let items : Items = c.pieces.inside.ring.items in
     let found : IsFoundAt items c.args.pos c.find-piece.result.0 c.find-piece.result.1 =
-    found_at items c.self.inside.index.items c.args.pos c.find-piece.result.0 c.find-piece.result.1
-    c.self.invariant.1 c.find-piece.ensures.found in
+    found_at items c.pieces.inside.index.items c.args.pos c.find-piece.result.0 c.find-piece.result.1
+    c.pieces.invariant.indexed c.find-piece.ensures.found in
     let small : c.find-piece.result.1 < 4096 =
-    found_is_small items c.args.pos c.find-piece.result.0 c.find-piece.result.1 c.self.invariant.0.pieces found in
+    found_is_small items c.args.pos c.find-piece.result.0 c.find-piece.result.1 c.pieces.invariant.entered.pieces found in
     omega (arith, small)
 
 pub returns : goal.returns
 returns c =
-    let items : Items = c.self.inside.pieces.items in
-    let seen : items ≡ c.args.self.now.items = ap (λ (v : PiecesSeen). v.items) c.self.view_is in
+    let items : Items = c.pieces.inside.ring.items in
+    let seen : items ≡ c.args.self.now.items = ap (λ (v : HeldPieces). v.items) c.pieces.view_is ∙ ap (λ (v : PiecesSeen). v.items) c.self.view_is in
     let place : Place = record { piece = c.find-piece.result.0; within = c.find-piece.result.1 } in
     let found : IsFoundAt items c.args.pos place.piece place.within =
-    found_at items c.self.inside.index.items c.args.pos place.piece place.within c.self.invariant.1
+    found_at items c.pieces.inside.index.items c.args.pos place.piece place.within c.pieces.invariant.indexed
     c.find-piece.ensures.found in
     subst (λ (l : Items). IfSome (slice_get (shown_chars (spelled l)) c.args.pos)
     (λ k. IsPlaceOf l place k.name)) seen

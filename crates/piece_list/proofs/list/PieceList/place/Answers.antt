@@ -7,34 +7,34 @@ use Rattle.piece_list.specs.Pieces.{range_of, piece_of}
 use Rattle.piece_list.specs.Placing.{compared, IsAnchorPlace, IsParted, IsPartedAt, IsSkip}
 use Rattle.piece_list.specs.Spelled.{HasName}
 use Rattle.piece_list.proofs.Placing.{parted_spells, skip_part, put_in_gap, placed_in_gap}
+use Rattle.piece_list.proofs.Positions.{Items}
 use Rattle.piece_list.proofs.list.PieceList.place.Goals as goal
+use Rattle.piece_list.proofs.list.PieceList.place.Goals.{After-end_at-end}
 
-abbrev Items : Type 0
-Items = List (ℕ × Piece)
+-- the pieces are parted after the cause
+parted_at : (c : After-end_at-end)
+    → IsPartedAt c.args.self.now.items c.end_at-end.new.self.items c.end_at-end.result c.args.cause
+parted_at c =
+    let same : c.reserve_names.new.self.items ≡ c.args.self.now.items =
+    c.reserve_names.ensures.items ∙ c.reserve.ensures.items
+    ∙ ap (λ (v : PiecesSeen). v.items) (c.self.view_is ∙ c.locate_cause-found.ensures.seen) in
+    subst (λ (l : Items). IsAnchorPlace l c.args.cause c.locate_cause-found.result
+    → IsPartedAt l c.end_at-end.new.self.items c.end_at-end.result c.args.cause) same
+    (c.end_at-end.ensures.parted c.args.cause) c.locate_cause-found.ensures.place
 
 pub put-requires-clause-part : goal.put-requires-clause-part
 put-requires-clause-part c =
     let old : Items = c.args.self.now.items in
-    let items : Items = c.end_at-end.new.pieces.items in
-    let same : c.reserve.new.self.items ≡ old =
-    c.reserve.ensures.unchanged.0 ∙ ap (λ (v : PiecesSeen). v.items) (c.self.view_is ∙ c.locate_cause-found.ensures.seen) in
-    let parted : IsPartedAt old items c.end_at-end.result c.args.cause =
-    subst (λ (l : Items). IsAnchorPlace l c.args.cause c.locate_cause-found.result
-    → IsPartedAt l items c.end_at-end.result c.args.cause) same (c.end_at-end.ensures.parted c.args.cause)
-    c.locate_cause-found.ensures.place in
+    let items : Items = c.end_at-end.new.self.items in
+    let parted = parted_at (goal.at.put-requires-clause-part c).After-end_at-end in
     skip_part old items c.args.run.key c.end_at-end.result c.skip-last.result c.self.inside.steps
     c.skip-last.new.steps c.args.cause parted c.skip-last.ensures
 
 pub put-requires-clause-new : goal.put-requires-clause-new
 put-requires-clause-new c = λ d is has.
     let old : Items = c.args.self.now.items in
-    let items : Items = c.end_at-end.new.pieces.items in
-    let same : c.reserve.new.self.items ≡ old =
-    c.reserve.ensures.unchanged.0 ∙ ap (λ (v : PiecesSeen). v.items) (c.self.view_is ∙ c.locate_cause-found.ensures.seen) in
-    let parted : IsPartedAt old items c.end_at-end.result c.args.cause =
-    subst (λ (l : Items). IsAnchorPlace l c.args.cause c.locate_cause-found.result
-    → IsPartedAt l items c.end_at-end.result c.args.cause) same (c.end_at-end.ensures.parted c.args.cause)
-    c.locate_cause-found.ensures.place in
+    let items : Items = c.end_at-end.new.self.items in
+    let parted = parted_at (goal.at.put-requires-clause-new c).After-end_at-end in
     c.requires.new d (subst (λ (p : Piece). IsIn (range_of p) d) c.of_run.ensures is)
     (subst (λ (ks : List Atom). HasName ks d) (parted_spells old items c.end_at-end.result c.args.cause parted)
     has)
@@ -42,24 +42,19 @@ put-requires-clause-new c = λ d is has.
 pub returns-clause-steps : goal.returns-clause-steps
 returns-clause-steps c =
     let old : Items = c.args.self.now.items in
-    let items : Items = c.end_at-end.new.pieces.items in
-    let same : c.reserve.new.self.items ≡ old =
-    c.reserve.ensures.unchanged.0 ∙ ap (λ (v : PiecesSeen). v.items) (c.self.view_is ∙ c.locate_cause-found.ensures.seen) in
-    let parted : IsPartedAt old items c.end_at-end.result c.args.cause =
-    subst (λ (l : Items). IsAnchorPlace l c.args.cause c.locate_cause-found.result
-    → IsPartedAt l items c.end_at-end.result c.args.cause) same (c.end_at-end.ensures.parted c.args.cause)
-    c.locate_cause-found.ensures.place in
+    let items : Items = c.end_at-end.new.self.items in
+    let parted = parted_at (goal.at.returns-clause-steps c).After-end_at-end in
     let steps : c.self.inside.steps ≡ compared c.args.cause =
     ap (λ (v : PiecesSeen). v.steps) (c.self.view_is ∙ c.locate_cause-found.ensures.seen) in
     let last : Option ℕ = c.skip-last.result in
-    put_in_gap old items c.put.new.pieces.items c.args.cause (piece_of c.args.run) c.end_at-end.result last
+    put_in_gap old items c.put.new.self.items c.args.cause (piece_of c.args.run) c.end_at-end.result last
     c.skip-last.new.steps parted
     (subst (λ (n : ℕ). (ahead behind : Items) → IsParted items c.end_at-end.result ahead behind
     → IsSkip c.args.run.key ahead behind last n c.skip-last.new.steps) steps c.skip-last.ensures)
     (subst (λ (p : Piece). (ahead behind : Items) → IsParted items last ahead behind
-    → (tag : ℕ) × (c.put.new.pieces.items ≡ ahead ++ (tag, p) ∷ behind)) c.of_run.ensures c.put.ensures.put)
+    → (tag : ℕ) × (c.put.new.self.items ≡ ahead ++ (tag, p) ∷ behind)) c.of_run.ensures c.put.ensures.put)
 
 pub returns-clause-placed : goal.returns-clause-placed
 returns-clause-placed c =
-    placed_in_gap c.args.self.now.items c.put.new.pieces.items c.args.cause (piece_of c.args.run)
-    c.skip-last.new.steps c.put.ensures.entered.pieces (returns-clause-steps c)
+    placed_in_gap c.args.self.now.items c.put.new.self.items c.args.cause (piece_of c.args.run)
+    c.skip-last.new.steps c.put.ensures.pieces (returns-clause-steps c)

@@ -28,13 +28,13 @@ pub note_run-requires-clause-some : goal.note_run-requires-clause-some
 note_run-requires-clause-some c =
     (room_for_run c.args.cause (piece_of c.args.run) c.args.self.now.items c.place.new.self.items
     c.place.new.self.steps c.in_ok-place.ensures.steps c.requires.run.0 refl c.shown_to.result c.requires.run.1
-    c.are_countable.ensures (count c)).0
+    c.lemma_shown_is_countable.ensures (count c)).0
 
 pub note_run-requires-clause-small : goal.note_run-requires-clause-small
 note_run-requires-clause-small c =
     (room_for_run c.args.cause (piece_of c.args.run) c.args.self.now.items c.place.new.self.items
     c.place.new.self.steps c.in_ok-place.ensures.steps c.requires.run.0 refl c.shown_to.result c.requires.run.1
-    c.are_countable.ensures (count c)).1
+    c.lemma_shown_is_countable.ensures (count c)).1
 
 pub returns-clause-noted : goal.returns-clause-noted
 returns-clause-noted c =

@@ -1,7 +1,7 @@
-use Rattle.std.proofs.Common.{◌≡◌, ◌+◌, ◌<◌, ap, arith}
+use Rattle.std.proofs.Common.{◌≡◌, ◌+◌, ◌<◌, ap, arith, ◌∙◌}
 use Rattle.std.specs.Prelude.{IsSome}
 use Rattle.char_files.specs.declared.TheConstants.{MAX_FILE}
-use Rattle.piece_list.specs.Held.{PiecesSeen}
+use Rattle.piece_list.specs.Held.{HeldPieces, PiecesSeen}
 use Rattle.piece_list.proofs.Found.{no_some}
 use Rattle.piece_list.proofs.ShownAt.{has_tag, name_fits, is_shown}
 use Rattle.piece_list.proofs.Positions.{Items}
@@ -9,35 +9,35 @@ use Rattle.piece_list.proofs.list.PieceList.shown_at.Goals as goal
 
 pub value_at-piece-requires : goal.value_at-piece-requires
 value_at-piece-requires c =
-    let items : Items = c.self.inside.pieces.items in
-    let seen : items ≡ c.args.self.now.items = ap (λ (v : PiecesSeen). v.items) c.self.view_is in
-    has_tag items c.args.self.now.items seen c.self.inside.tags c.numbers_differ.ensures c.self.invariant.0
+    let items : Items = c.pieces.inside.ring.items in
+    let seen : items ≡ c.args.self.now.items = ap (λ (v : HeldPieces). v.items) c.pieces.view_is ∙ ap (λ (v : PiecesSeen). v.items) c.self.view_is in
+    has_tag items c.args.self.now.items seen c.pieces.inside.tags c.pieces.invariant.numbered c.pieces.invariant.entered
     c.locate_pos-place.result c.args.pos c.requires c.locate_pos-place.ensures
 
 pub overflow_add-piece : goal.overflow_add-piece
 overflow_add-piece c =
-    let items : Items = c.self.inside.pieces.items in
-    let seen : items ≡ c.args.self.now.items = ap (λ (v : PiecesSeen). v.items) c.self.view_is in
+    let items : Items = c.pieces.inside.ring.items in
+    let seen : items ≡ c.args.self.now.items = ap (λ (v : HeldPieces). v.items) c.pieces.view_is ∙ ap (λ (v : PiecesSeen). v.items) c.self.view_is in
     let fits : c.value_at-piece.result.now.off + c.locate_pos-place.result.within < MAX_FILE =
-    name_fits items c.args.self.now.items seen c.self.inside.tags c.numbers_differ.ensures c.self.invariant.0
+    name_fits items c.args.self.now.items seen c.pieces.inside.tags c.pieces.invariant.numbered c.pieces.invariant.entered
     c.locate_pos-place.result c.args.pos c.requires c.locate_pos-place.ensures c.value_at-piece.result.now
     c.value_at-piece.ensures in
     omega (arith, fits)
 
 pub unreachable-requires : goal.unreachable-requires
 unreachable-requires c =
-    let items : Items = c.self.inside.pieces.items in
-    let seen : items ≡ c.args.self.now.items = ap (λ (v : PiecesSeen). v.items) c.self.view_is in
+    let items : Items = c.pieces.inside.ring.items in
+    let seen : items ≡ c.args.self.now.items = ap (λ (v : HeldPieces). v.items) c.pieces.view_is ∙ ap (λ (v : PiecesSeen). v.items) c.self.view_is in
     let some : IsSome c.new.result =
-    c.new.ensures.valid.1 (name_fits items c.args.self.now.items seen c.self.inside.tags
-    c.numbers_differ.ensures c.self.invariant.0 c.locate_pos-place.result c.args.pos c.requires
+    c.new.ensures.valid.1 (name_fits items c.args.self.now.items seen c.pieces.inside.tags
+    c.pieces.invariant.numbered c.pieces.invariant.entered c.locate_pos-place.result c.args.pos c.requires
     c.locate_pos-place.ensures c.value_at-piece.result.now c.value_at-piece.ensures) in
     absurd (no_some c.new.result c.in-None.is some)
 
 pub returns : goal.returns
 returns c =
-    let items : Items = c.self.inside.pieces.items in
-    let seen : items ≡ c.args.self.now.items = ap (λ (v : PiecesSeen). v.items) c.self.view_is in
-    is_shown items c.args.self.now.items seen c.self.inside.tags c.numbers_differ.ensures c.self.invariant.0
+    let items : Items = c.pieces.inside.ring.items in
+    let seen : items ≡ c.args.self.now.items = ap (λ (v : HeldPieces). v.items) c.pieces.view_is ∙ ap (λ (v : PiecesSeen). v.items) c.self.view_is in
+    is_shown items c.args.self.now.items seen c.pieces.inside.tags c.pieces.invariant.numbered c.pieces.invariant.entered
     c.locate_pos-place.result c.args.pos c.requires c.locate_pos-place.ensures c.value_at-piece.result.now
     c.value_at-piece.ensures c.in-Some.name c.looks.result c.in-Some.ensures.value c.looks.ensures

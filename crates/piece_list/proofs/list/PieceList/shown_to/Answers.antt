@@ -1,5 +1,5 @@
-use Rattle.std.proofs.Common.{◌≡◌, ℕ, ◌+◌, ◌^◌, ◌<◌, sym, ap, subst, arith}
-use Rattle.piece_list.specs.Held.{PiecesSeen, IsPlaceOf}
+use Rattle.std.proofs.Common.{◌≡◌, ℕ, ◌+◌, ◌^◌, ◌<◌, sym, ap, subst, arith, ◌∙◌}
+use Rattle.piece_list.specs.Held.{HeldPieces, PiecesSeen, IsPlaceOf}
 use Rattle.piece_list.specs.Shown.{AreShownTo}
 use Rattle.piece_list.specs.Spelled.{spelled}
 use Rattle.piece_list.proofs.Positions.{Items}
@@ -8,29 +8,26 @@ use Rattle.piece_list.proofs.list.PieceList.shown_to.Goals as goal
 
 pub overflow_add-result : goal.overflow_add-result
 overflow_add-result c =
-    let items : Items = c.self.inside.pieces.items in
-    let seen : items ≡ c.args.self.now.items = ap (λ (v : PiecesSeen). v.items) c.self.view_is in
+    let items : Items = c.pieces.inside.ring.items in
     let at : IsPlaceOf items c.in_ok-place.place c.args.name =
-    subst (λ (l : Items). IsPlaceOf l c.in_ok-place.place c.args.name) (sym seen)
-    c.in_ok-place.ensures.place in
+    rw (← c.pieces.view_is) at c.in_ok-place.ensures.place in
     let fits : c.rank-ahead.result + c.shown_of.result < 2 ^ 64 =
-    rank_fits items c.self.inside.tags c.self.inside.index.items c.in_ok-place.place c.args.name
-    c.value_at-piece.result.now c.rank-ahead.result c.shown_of.result c.numbers_differ.ensures
-    c.self.invariant.0 c.self.invariant.1 at c.value_at-piece.ensures c.rank-ahead.ensures.rank
+    rank_fits items c.pieces.inside.tags c.pieces.inside.index.items c.in_ok-place.place c.args.name
+    c.value_at-piece.result.now c.rank-ahead.result c.shown_of.result c.pieces.invariant.numbered
+    c.pieces.invariant.entered c.pieces.invariant.indexed at c.value_at-piece.ensures c.rank-ahead.ensures.rank
     c.shown_of.ensures in
     omega (arith, fits, c.from.ensures)
 
 pub returns-clause-count : goal.returns-clause-count
 returns-clause-count c =
-    let items : Items = c.self.inside.pieces.items in
-    let seen : items ≡ c.args.self.now.items = ap (λ (v : PiecesSeen). v.items) c.self.view_is in
+    let items : Items = c.pieces.inside.ring.items in
+    let seen : items ≡ c.args.self.now.items = ap (λ (v : HeldPieces). v.items) c.pieces.view_is ∙ ap (λ (v : PiecesSeen). v.items) c.self.view_is in
     let at : IsPlaceOf items c.in_ok-place.place c.args.name =
-    subst (λ (l : Items). IsPlaceOf l c.in_ok-place.place c.args.name) (sym seen)
-    c.in_ok-place.ensures.place in
+    rw (← c.pieces.view_is) at c.in_ok-place.ensures.place in
     subst (λ (n : ℕ). AreShownTo (spelled c.args.self.now.items) c.args.name (c.rank-ahead.result + n))
     (sym c.from.ensures)
     (subst (λ (l : Items). AreShownTo (spelled l) c.args.name (c.rank-ahead.result + c.shown_of.result)) seen
-    (rank_counts items c.self.inside.tags c.self.inside.index.items c.in_ok-place.place c.args.name
-    c.value_at-piece.result.now c.rank-ahead.result c.shown_of.result c.numbers_differ.ensures
-    c.self.invariant.0 c.self.invariant.1 at c.value_at-piece.ensures c.rank-ahead.ensures.rank
+    (rank_counts items c.pieces.inside.tags c.pieces.inside.index.items c.in_ok-place.place c.args.name
+    c.value_at-piece.result.now c.rank-ahead.result c.shown_of.result c.pieces.invariant.numbered
+    c.pieces.invariant.entered c.pieces.invariant.indexed at c.value_at-piece.ensures c.rank-ahead.ensures.rank
     c.shown_of.ensures))

@@ -1,9 +1,0 @@
-use Rattle.piece_list.proofs.Parts.{count_behind}
-use Rattle.piece_list.proofs.Placing.{Walked}
-use Rattle.piece_list.proofs.list.placing.skip.Given as goal
-
-abbrev pub invariant-loop-next : goal.invariant-loop-next
-invariant-loop-next l = Walked l.pieces.items l.key l.fn.from l.last l.initial.steps l.steps
-
-abbrev pub decreases-loop-next : goal.decreases-loop-next
-decreases-loop-next l = count_behind l.last l.pieces.items

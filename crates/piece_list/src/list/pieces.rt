@@ -1,0 +1,123 @@
+//! The pieces of a text, with the tables and the index that find them: what is changed together.
+
+ghost use Rattle.std.specs.Prelude.{◌≡◌, ◌≢◌, ℕ, ◌+◌, ◌<◌, ◌≤◌, ◌⊎◌, ◌↔◌, [], length, IfOk, OnOk};
+ghost use Rattle.std.specs.Prelude.{IfSome, IsSome};
+ghost use Rattle.char_files.specs.CharName.{CharName};
+ghost use Rattle.looks.specs.Refusal.{RefusedForMemoryAlone};
+ghost use Rattle.piece_list.specs.Held.{HasPlace, IsCut, IsPlaceOf};
+ghost use Rattle.piece_list.specs.Placing.{IsCounted};
+ghost use Rattle.piece_list.specs.Spelled.{spelled, HasName};
+ghost use Rattle.piece_list.specs.Tables.{table_of};
+
+use crate::piece::Piece;
+use crate::place::Place;
+use crate::steps::Steps;
+use crate::tags::TagTables;
+use char_files::{Name, SiteNo};
+use looks::Refusal;
+use piece_raw::Ring;
+use rank_index::RankIndex;
+use std::alloc::Global;
+use std::marker::Model;
+
+/// Pieces in order, each under its number. A name's piece is found by a table, a position's by an index.
+#[derive(Drop)]
+pub(super) struct Pieces {
+    pub(super) ring: Ring<Piece>,
+    pub(super) tags: TagTables,
+    // How many characters each piece shows, under its number.
+    pub(super) index: RankIndex,
+}
+
+impl Model for Pieces {
+    ghost use Rattle.std.specs.Prelude.{min};
+    ghost use Rattle.piece_list.specs.Held.{HeldPieces, AreHeld};
+
+    ghost Value = { HeldPieces };
+
+    ghost view = { λ p. record { items = p.ring.items; tables = p.tags; room = min p.ring.room p.index.room } };
+
+    ghost invariant = { λ p. AreHeld p.ring.items p.tags p.index.items };
+}
+
+impl Pieces {
+    pub(super) fn new(alloc: Global) -> Result<Pieces, Refusal>
+        ensures ok { IfOk result (λ pieces. pieces.items ≡ []) }
+        ensures errors { RefusedForMemoryAlone result }
+    {
+        Ok(Pieces {
+            ring: Ring::new(alloc)?,
+            tags: TagTables::new(alloc),
+            index: RankIndex::new(alloc)?,
+        })
+    }
+
+    // Makes room for so many more pieces.
+    pub(super) fn reserve(&mut self, n: usize) -> Result<(), Refusal>
+        ensures ok { OnOk result (n ≤ self.new.room) }
+        ensures errors { RefusedForMemoryAlone result }
+        ensures items { self.new.items ≡ self.old.items }
+    {
+        self.ring.reserve(n)?;
+        self.index.reserve(n)
+    }
+
+    // Makes room for the names of a site's file up to this offset.
+    pub(super) fn reserve_names(&mut self, site: SiteNo, end: u32) -> Result<(), Refusal>
+        ensures ok { OnOk result (end ≤ length (table_of self.new.tables site)) }
+        ensures errors { RefusedForMemoryAlone result }
+        ensures items { self.new.items ≡ self.old.items }
+        ensures room { self.new.room ≡ self.old.room }
+    {
+        self.tags.reserve(site, end)
+    }
+
+    // Where the character of this name stands. It reads one entry of a table, and compares the name with one piece at
+    // most, which is counted.
+    pub(super) fn locate(&self, name: Name, steps: &mut Steps) -> Option<Place>
+        ensures place { IfSome result (λ place. IsPlaceOf self.now.items place name) }
+        ensures here { IsSome result ↔ HasName (spelled self.now.items) name }
+        ensures counted { IsSome result → IsCounted steps.old 1 steps.new }
+        ensures uncounted { ¬ IsSome result → steps.new ≡ steps.old }
+    {
+        let tag = self.tags.get(name)?;
+        let piece = self.ring.value_at(tag);
+        if !steps.compare(piece, name) {
+            return None;
+        }
+        Some(Place {
+            piece: tag,
+            within: name.off() - piece.off,
+        })
+    }
+
+    // Cuts the piece of this number behind its first `n` characters. The rest gets the number that is answered.
+    pub(super) fn cut(&mut self, tag: u64, n: u32) -> u64
+        requires some { 0 < n }
+        requires place { HasPlace self.old.items (record { piece = tag; within = n }) }
+        requires room { 0 < self.old.room }
+        ensures cut { IsCut tag n result self.old.items self.new.items }
+        ensures place { (c : CharName) → IsPlaceOf self.old.items (record { piece = tag; within = n }) c
+            → IsPlaceOf self.new.items (record { piece = result; within = 0 }) c }
+        ensures others { (other : Place) (c : CharName) → IsPlaceOf self.old.items other c
+            → (other.piece ≢ tag) ⊎ (other.within < n) → IsPlaceOf self.new.items other c }
+        ensures room { self.old.room ≤ self.new.room + 1 }
+        ensures long { (site : ℕ) → length (table_of self.new.tables site) ≡ length (table_of self.old.tables site) }
+    {
+        self.ring.seek(tag);
+        let front = self.ring.value_mut();
+        let rest = front.split_off(n);
+        let ahead = front.shown_of(n);
+        let behind = rest.shown_of(rest.len);
+        let (site, off, len) = (rest.site, rest.off, rest.len);
+        match self.ring.push_after(rest) {
+            Ok(number) => {
+                self.tags.fill(site, off, len, number);
+                self.index.set_weight(tag, ahead);
+                self.index.insert_after(Some(tag), number, behind);
+                number
+            }
+            Err(_) => unreachable!(),
+        }
+    }
+}
