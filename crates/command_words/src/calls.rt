@@ -6,7 +6,7 @@ ghost use Rattle.command_words.specs.Calls.{IsCallAt, NoCallAt};
 use crate::command::Command;
 use arrayvec::ArrayVec;
 use char_files::Source;
-use reader_scanner::{Scanner, Token};
+use reader_scanner::{Scanner, Token, byte_at};
 
 // How many bytes are looked at, ahead of a position and from a word's begin on: more than any command's word
 // has, so that a long word costs no more than one of so many bytes.
@@ -18,14 +18,6 @@ pub struct Call {
     pub command: Command,
     /// The command's parameter, where it asks for one.
     pub token: Token,
-}
-
-fn byte_at<S: Source>(source: &S, pos: u64) -> u8
-    requires { pos < length (S.items source.now) }
-    ensures { result ≡ slice_index (bytes_of (S.items source.now)) pos }
-{
-    let (byte, _) = source.at(pos);
-    byte
 }
 
 // Whether the byte at this position is a letter, a digit or a full stop.

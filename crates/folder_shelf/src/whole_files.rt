@@ -41,8 +41,8 @@ pub(crate) fn read_whole<R: Files>(host: &R, alloc: Global, name: &str) -> Resul
     let mut bytes = Vec::new(alloc);
     match file.take(MAX_FILE_LEN as u64 + 1).read_to_end(&mut bytes) {
         Ok(_) if bytes.len() <= MAX_FILE_LEN => Ok(bytes),
-        Err(why) if why.kind() == ErrorKind::OutOfMemory => Err(Refusal::OutOfMemory),
-        _ => Err(Refusal::ReadFault),
+        Ok(_) => Err(Refusal::ReadFault),
+        Err(error) => Err(Refusal::of_error(&error, Refusal::ReadFault)),
     }
 }
 

@@ -1,5 +1,5 @@
-pub mod Begins
 pub mod Cells
 pub mod Columns
+pub mod Ends
 pub mod Lines
 pub mod Stands

@@ -6,7 +6,7 @@ use Rattle.line_drawing.specs.declared.drawing.TheConstants.{LINE_END}
 use Rattle.line_drawing.specs.Lines.{lines, onto_first, ends_in, extent, beg_of, end_of}
 use Rattle.line_drawing.specs.Laws.{IsBetweenEnds, StandsBetween, IsOnLine, LiesOnOneLine}
 use Rattle.line_drawing.proofs.Lines.{lines-end, lines-other, some_line, beg_is}
-use Rattle.line_drawing.proofs.Begins.{ends-end, ends-other}
+use Rattle.line_drawing.proofs.Ends.{ends-end, ends-other}
 
 -- where line k of these lines begins and ends, if they take all bytes
 abbrev front : List (List ℕ) → ℕ → ℕ
@@ -274,25 +274,6 @@ found_beg bytes pos beg le within begins greatest =
       | inr ge ↦ elim (cases_lt (beg_of bytes n) beg) [
         | inl lt ↦ absurd (line.each (beg - 1) (omega (arith, lt)) (omega (arith, lt, within, to))
             (begins (omega (arith, lt))))
-        | inr le' ↦ omega (arith, ge, le')
-      ]
-    ]
-
--- and the same of what is found behind it
-pub found_end : (bytes : List ℕ) (pos end : ℕ) → pos ≤ end → end ≤ length bytes
-    → ((k : ℕ) → pos ≤ k → k < end → get_or bytes k 0 ≢ LINE_END)
-    → (end < length bytes → get_or bytes end 0 ≡ LINE_END) → end ≡ end_of bytes (ends_in (take pos bytes))
-found_end bytes pos end from within between ends =
-    let n : ℕ = ends_in (take pos bytes) in
-    let is : IsOnLine bytes pos n = on_line bytes pos (omega (arith, from, within)) in
-    let beg : beg_of bytes n ≤ pos = is.from in
-    let to : pos ≤ end_of bytes n = is.to in
-    let line : IsBetweenEnds bytes (beg_of bytes n) (end_of bytes n) = (stands_between bytes n is.there).0 in
-    let inside : end_of bytes n ≤ length bytes = line.within in
-    elim (cases_lt end (end_of bytes n)) [
-      | inl lt ↦ absurd (line.each end (omega (arith, beg, from)) lt (ends (omega (arith, lt, inside))))
-      | inr ge ↦ elim (cases_lt (end_of bytes n) end) [
-        | inl lt ↦ absurd (between (end_of bytes n) to lt (line.behind (omega (arith, lt, within))))
         | inr le' ↦ omega (arith, ge, le')
       ]
     ]

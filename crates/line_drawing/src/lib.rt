@@ -9,4 +9,4 @@ mod places;
 
 pub use drawing::{LINE_END, draw_line, sign};
 pub use limits::the_limits;
-pub use places::{beg_of_line, line_beg, line_end, line_number, located};
+pub use places::located;

@@ -15,6 +15,6 @@ pub use font_name::{FontName, MAX_FONT_NAME};
 pub use key::Key;
 pub use limits::the_limits;
 pub use looks::Looks;
-pub use refusal::Refusal;
+pub use refusal::{OUT_OF_MEMORY, Refusal};
 pub use register::Register;
 pub use sel::Sel;

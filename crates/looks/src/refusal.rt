@@ -1,8 +1,13 @@
-ghost use Rattle.std.specs.Prelude.{◌≡◌};
+ghost use Rattle.std.specs.Prelude.{◌≡◌, ◌≢◌, ◌<◌, ◌≤◌, OnErr, OnOk};
+ghost use Rattle.std.specs.IoError.{error_kind};
 ghost use Rattle.looks.specs.declared.refusal.Refusal.TheVariants.{OutOfMemory};
-ghost use Rattle.looks.specs.Refusal.{number_of};
+ghost use Rattle.looks.specs.Refusal.{number_of, RefusedForMemoryAlone};
 
 use std::alloc::{AllocError, AllocFailed};
+use std::io::{self, ErrorKind};
+
+/// The number of `Refusal::OutOfMemory`, for where it is printed of an outcome that means no other refusal.
+pub const OUT_OF_MEMORY: u8 = Refusal::OutOfMemory as u8;
 
 /// Why a call was refused. After a refusal the object is unchanged, unless the call says otherwise. This
 /// project's own.
@@ -21,7 +26,9 @@ pub enum Refusal {
     BadStamp = 5,
     /// As many messages wait as may wait.
     RoomFull = 6,
-    /// A growth was refused memory.
+    /// A growth was refused memory. No other crate can make one: it is handed over by an allocation that was refused,
+    /// through `From`, and by `within_memory` and `of_error`.
+    #[non_exhaustive]
     OutOfMemory = 7,
     /// A waiting message shows that this site has already gone further.
     Behind = 8,
@@ -64,6 +71,29 @@ impl Refusal {
     {
         self as u8
     }
+
+    /// Whether so many are within a limit that stands for memory; refused `OutOfMemory` alone.
+    pub fn within_memory(many: usize, most: usize) -> Result<(), Refusal>
+        ensures ok { OnOk result (many ≤ most) }
+        ensures err { OnErr result (most < many) }
+        ensures errors { RefusedForMemoryAlone result }
+    {
+        if most < many {
+            return Err(Refusal::OutOfMemory);
+        }
+        Ok(())
+    }
+
+    /// Why a call ended with this error: `OutOfMemory` where the error says that memory was refused, else `otherwise`.
+    pub fn of_error(error: &io::Error, otherwise: Refusal) -> Refusal
+        ensures memory { error_kind error.now ≡ ErrorKind.OutOfMemory → result ≡ OutOfMemory }
+        ensures other { error_kind error.now ≢ ErrorKind.OutOfMemory → result ≡ otherwise }
+    {
+        match error.kind() {
+            ErrorKind::OutOfMemory => Refusal::OutOfMemory,
+            _ => otherwise,
+        }
+    }
 }
 
 impl From<AllocError> for Refusal {
@@ -77,7 +107,7 @@ impl From<AllocError> for Refusal {
 impl<T: Drop> From<AllocFailed<T>> for Refusal {
     ghost from_gives = { λ _ refusal. refusal ≡ OutOfMemory };
 
-    fn from(_error: AllocFailed<T>) -> Refusal {
-        Refusal::OutOfMemory
+    fn from(error: AllocFailed<T>) -> Refusal {
+        AllocError::from(error).into()
     }
 }

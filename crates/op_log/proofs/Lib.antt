@@ -1,6 +1,5 @@
 pub mod Files
 pub mod Finding
-pub mod Fronts
 pub mod Lists
 pub mod Logged
 pub mod Pushed

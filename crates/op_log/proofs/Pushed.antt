@@ -12,7 +12,7 @@ use Rattle.operations.specs.Operation.{Begins}
 use Rattle.operations.specs.Spelling.{IsKind}
 use Rattle.operations.specs.declared.op.TheConstants.{MAX_STAMP}
 use Rattle.tree_order.specs.Good.{file_before}
-use Rattle.set_laws.specs.Fronts.{greatest, of_site, front_of, file_len, greatest_stamp_of}
+use Rattle.set_laws.specs.Fronts.{greatest, of_site, front_of, file_len}
 use Rattle.set_laws.specs.Sets.{AreIdentified}
 use Rattle.set_laws.proofs.Lengths.{appended_by}
 use Rattle.set_laws.proofs.OneMore.{with_one, with_one_identified}
@@ -108,7 +108,6 @@ module _ (ops : List Operation) (op : Operation) (next : op.seq ≡ front_of ops
     entries = λ k e is. kept_entry site k e (λ on. absurd (both_ways _ apart (eq-eqb op.site site on)))
         (table.entries k e is);
     front = table.front ∙ sym (same_greatest (λ o. o.seq) ops op site apart);
-    stamp = table.stamp ∙ sym (same_greatest (λ o. o.stamp) ops op site apart);
   }
 
   module _ (new : Entry) (index : new.index ≡ length ops)
@@ -131,8 +130,8 @@ module _ (ops : List Operation) (op : Operation) (next : op.seq ≡ front_of ops
 
     -- its own site's table gains the entry
     grown_table : (t t' : SiteSeen) → IsTableOf ops op.site t → t'.entries ≡ t.entries ++ new ∷ []
-        → t'.stamp ≡ max op.stamp t.stamp → IsTableOf (with_one ops op) op.site t'
-    grown_table t t' table entries stamp = record {
+        → IsTableOf (with_one ops op) op.site t'
+    grown_table t t' table entries = record {
       entries = λ k e is.
           let is' : slice_get (t.entries ++ new ∷ []) k ≡ Some e =
           ap (λ (es : List Entry). slice_get es k) (sym entries) ∙ is in
@@ -148,7 +147,6 @@ module _ (ops : List Operation) (op : Operation) (next : op.seq ≡ front_of ops
                 (new_entry (suc k) at)
           ];
       front = by_front;
-      stamp = by_stamp;
     }
       where
         by_front : length t'.entries ≡ front_of (with_one ops op) op.site
@@ -159,11 +157,6 @@ module _ (ops : List Operation) (op : Operation) (next : op.seq ≡ front_of ops
             let grows = own_greatest (λ o. o.seq) ops op in
             omega arith
 
-        by_stamp : t'.stamp ≡ greatest_stamp_of (with_one ops op) op.site
-        by_stamp =
-            let old = table.stamp in
-            stamp ∙ ap (λ (n : ℕ). max op.stamp n) old ∙ sym (own_greatest (λ o. o.stamp) ops op)
-
 -- the tables of a log in which an operation was entered are those of the operations with that one
 pub pushed : {ops : List Operation} {tables : Tables} {stamp : ℕ} → AreLogged ops tables stamp
     → (tables' : Tables) (op : Operation) (site : ℕ) (new : Entry)
@@ -171,11 +164,10 @@ pub pushed : {ops : List Operation} {tables : Tables} {stamp : ℕ} → AreLogge
     → op.stamp ≤ MAX_STAMP → site ≡ op.site → new.stamp ≡ op.stamp → new.index ≡ length ops
     → new.end ≡ end_of (table_of tables site).entries + appended_len op.kind
     → (table_of tables' site).entries ≡ (table_of tables site).entries ++ new ∷ []
-    → (table_of tables' site).stamp ≡ max new.stamp (table_of tables site).stamp
     → ((other : ℕ) → other ≢ site → table_of tables' other ≡ table_of tables other)
     → AreLogged (ops ++ op ∷ []) tables' (max new.stamp stamp)
 pushed {ops} {tables} {stamp} logged tables' op site new next begin low on is index ends entries
-    stamps others =
+    others =
     subst (λ (n : ℕ). AreLogged (ops ++ op ∷ []) tables' (max n stamp)) (sym is) (record {
       by_site = by_site;
       greatest = ap (λ (n : ℕ). max op.stamp n) logged.greatest ∙ sym (greatest-push (λ o. o.stamp) ops op);
@@ -193,16 +185,11 @@ pushed {ops} {tables} {stamp} logged tables' op site new next begin low on is in
     entries' =
         subst (λ (s : ℕ). (table_of tables' s).entries ≡ (table_of tables s).entries ++ new ∷ []) on entries
 
-    stamps' : (table_of tables' op.site).stamp ≡ max op.stamp (table_of tables op.site).stamp
-    stamps' =
-        subst (λ (n : ℕ). (table_of tables' op.site).stamp ≡ max n (table_of tables op.site).stamp) is
-        (subst (λ (s : ℕ). (table_of tables' s).stamp ≡ max new.stamp (table_of tables s).stamp) on stamps)
-
     by_site : (s : ℕ) → IsTableOf (with_one ops op) s (table_of tables' s)
     by_site s = elim (cases_Bool (eqb op.site s)) [
       | inl e ↦ subst (λ (s : ℕ). IsTableOf (with_one ops op) s (table_of tables' s)) (eqb-true _ _ e)
           (grown_table ops op next logged.known new index ends' is (table_of tables op.site)
-          (table_of tables' op.site) (logged.by_site op.site) entries' stamps')
+          (table_of tables' op.site) (logged.by_site op.site) entries')
       | inr e ↦ subst (IsTableOf (with_one ops op) s)
           (sym (others s (λ there. both_ways _ e (eq-eqb op.site s (sym on ∙ sym there)))))
           (kept_table ops op next logged.known s (table_of tables s) e (logged.by_site s))

@@ -3,7 +3,7 @@ use Rattle.std.specs.Prelude.{◌≡◌, ℕ, suc, ◌≤◌, List, length, slic
 use Rattle.operations.specs.Operation.{Operation, Begins}
 use Rattle.operations.specs.declared.op.TheConstants.{MAX_STAMP}
 use Rattle.tree_order.specs.Good.{file_before}
-use Rattle.set_laws.specs.Fronts.{front_of, greatest_stamp, greatest_stamp_of}
+use Rattle.set_laws.specs.Fronts.{front_of, greatest_stamp}
 use Rattle.set_laws.specs.Sets.{AreIdentified}
 use Rattle.op_log.specs.declared.site_log.Entry.{Entry}
 use Rattle.op_log.specs.Tables.{SiteSeen, Tables, table_of}
@@ -18,11 +18,10 @@ pub record IsEntryOf (ops : List Operation) (site seq : ℕ) (e : Entry) : Type 
   pub ends : e.end ≡ file_before ops site (suc seq)
   pub stamped : e.stamp ≡ op.stamp
 
--- the table has the site's operations up to its front, and its greatest stamp
+-- the table has the site's operations up to its front
 pub record IsTableOf (ops : List Operation) (site : ℕ) (t : SiteSeen) : Type 0 where
   pub entries : (k : ℕ) (e : Entry) → slice_get t.entries k ≡ Some e → IsEntryOf ops site (suc k) e
   pub front : length t.entries ≡ front_of ops site
-  pub stamp : t.stamp ≡ greatest_stamp_of ops site
 
 -- the tables are those of the operations, of which each has an identity of its own, and each Insert of which begins
 -- where its site's file ended

@@ -4,11 +4,9 @@ use Rattle.std.specs.Option.{option_map_or}
 use Rattle.std.specs.Map.{lookup, keys_of}
 use Rattle.op_log.specs.declared.site_log.Entry.{Entry}
 
--- what is known of a site: its operations by their numbers, its greatest stamp, and how many operations more
--- take no memory
+-- what is known of a site: its operations by their numbers, and how many operations more take no memory
 pub record SiteSeen : Type 0 where
   pub entries : List Entry
-  pub stamp : ℕ
   pub room : ℕ
 
 -- how long the site's file is behind the last entry
@@ -36,7 +34,7 @@ Tables = List (ℕ × SiteSeen)
 
 -- nothing is known of a site
 abbrev pub unknown : SiteSeen
-unknown = record { entries = []; stamp = 0; room = 0 }
+unknown = record { entries = []; room = 0 }
 
 -- a site's table; an empty one where there is none
 abbrev pub table_of : Tables → ℕ → SiteSeen
@@ -45,10 +43,6 @@ table_of tables site = option_map_or (λ t. t) (lookup (nat_eq site) tables) unk
 -- a site's front: how many entries its table has
 abbrev pub front_in : Tables → ℕ → ℕ
 front_in tables site = length (table_of tables site).entries
-
--- each site that has a table in the first has the same front in the second
-abbrev pub AgreesWith : Tables → Tables → Type 0
-AgreesWith t u = All (λ site. front_in t site ≡ front_in u site) (keys_of t)
 
 -- how many operations more of each site take no memory
 abbrev pub rooms_of : Tables → List (ℕ × ℕ)

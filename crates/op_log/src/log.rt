@@ -3,9 +3,9 @@ ghost use Rattle.std.specs.Prelude.{◌≢◌, AllPairs, Contains, IfOk, IsTrue}
 ghost use Rattle.looks.specs.Refusal.{RefusedForMemoryAlone};
 ghost use Rattle.operations.specs.Operation.{Operation, appended_len, Begins};
 ghost use Rattle.tree_order.specs.Tree.{IsInsertOf};
-ghost use Rattle.set_laws.specs.Fronts.{front_of, file_len, greatest_stamp, greatest_stamp_of};
+ghost use Rattle.set_laws.specs.Fronts.{front_of, file_len, greatest_stamp};
 ghost use Rattle.set_laws.specs.Fronts.{IsHeld, IsHere, AreSites};
-ghost use Rattle.set_laws.specs.Sets.{AreIdentified, AreHeldToTheFront, HaveEqualFronts};
+ghost use Rattle.set_laws.specs.Sets.{AreIdentified, AreHeldToTheFront};
 ghost use Rattle.op_log.specs.Seen.{HasRoom, KeepsRoom};
 ghost use Rattle.op_log.specs.Logged.{first_sites};
 
@@ -110,27 +110,12 @@ impl Log {
         self.sites.front(site)
     }
 
-    /// Whether each site has the same front in both. The time grows with the number of sites.
-    pub fn has_fronts_of(&self, other: &Log) -> bool
-        ensures { IsTrue result ↔ HaveEqualFronts self.now.ops other.now.ops }
-    {
-        self.sites.has_fronts_of(&other.sites)
-    }
-
     /// How long a site's file is by what its Inserts append, at most 2^24.
     pub fn file_len(&self, site: SiteNo) -> u32
         ensures value { result ≡ file_len self.now.ops site }
         ensures bound { result ≤ MAX_FILE }
     {
         self.sites.file_len(site)
-    }
-
-    /// The greatest stamp of a site's operations, 0 for none.
-    pub fn site_stamp(&self, site: SiteNo) -> u64
-        ensures value { result ≡ greatest_stamp_of self.now.ops site }
-        ensures bound { result ≤ MAX_STAMP }
-    {
-        self.sites.stamp(site)
     }
 
     /// The greatest stamp of all operations, 0 for none.

@@ -1,4 +1,4 @@
-ghost use Rattle.std.specs.Prelude.{◌≡◌, ◌+◌, ◌-◌, ◌<◌, ◌≤◌, ◌^◌, [], ◌∷◌, ◌++◌, length, max, slice_get, OnOk};
+ghost use Rattle.std.specs.Prelude.{◌≡◌, ◌+◌, ◌-◌, ◌<◌, ◌≤◌, ◌^◌, [], ◌∷◌, ◌++◌, length, slice_get, OnOk};
 ghost use Rattle.std.specs.Prelude.{None as Nothing};
 ghost use Rattle.std.specs.Option.{option_map};
 ghost use Rattle.std.specs.List.Sorted.{IsNonDecreasingBy};
@@ -7,7 +7,6 @@ ghost use Rattle.op_log.specs.Tables.{end_of, EndBy, EndsPast, IsFirstPast};
 
 use char_files::MAX_FILE;
 use looks::Refusal;
-use operations::MAX_STAMP;
 use std::alloc::Global;
 use std::marker::Model;
 
@@ -19,29 +18,25 @@ pub(crate) struct Entry {
     pub(crate) stamp: u64,
 }
 
-// What is known of a site: its operations by their numbers, from 1 on, and its greatest stamp.
+// What is known of a site: its operations by their numbers, from 1 on.
 #[derive(Drop)]
 pub(crate) struct SiteLog {
     entries: Vec<Entry>,
-    stamp: u64,
 }
 
 impl Model for SiteLog {
     ghost use Rattle.std.specs.Prelude.{◌<◌, ◌≤◌, ◌-◌, ◌^◌, vec_len, vec_capacity};
     ghost use Rattle.char_files.specs.declared.TheConstants.{MAX_FILE};
-    ghost use Rattle.operations.specs.declared.op.TheConstants.{MAX_STAMP};
     ghost use Rattle.op_log.specs.Tables.{SiteSeen, end_of};
 
     ghost Value = { SiteSeen };
 
     ghost view = { λ l. record {
       entries = l.entries.items;
-      stamp = l.stamp;
       room = vec_capacity l.entries - vec_len l.entries;
     } };
 
-    ghost invariant = { λ l. (vec_len l.entries < 2 ^ 32) × (end_of l.entries.items ≤ MAX_FILE)
-        × (l.stamp ≤ MAX_STAMP) };
+    ghost invariant = { λ l. (vec_len l.entries < 2 ^ 32) × (end_of l.entries.items ≤ MAX_FILE) };
 }
 
 // Where to look first for the entry that ends past this offset: in proportion, as if all operations appended alike.
@@ -92,11 +87,9 @@ impl SiteLog {
     // Nothing is known.
     pub(crate) fn new(alloc: Global) -> SiteLog
         ensures entries { result.entries ≡ [] }
-        ensures stamp { result.stamp ≡ 0 }
     {
         SiteLog {
             entries: Vec::new(alloc),
-            stamp: 0,
         }
     }
 
@@ -116,14 +109,6 @@ impl SiteLog {
             Some(entry) => entry.end,
             None => 0,
         }
-    }
-
-    // The site's greatest stamp.
-    pub(crate) fn stamp(&self) -> u64
-        ensures value { result ≡ self.now.stamp }
-        ensures bound { result ≤ MAX_STAMP }
-    {
-        self.stamp
     }
 
     // Where the operation of this number stands in the list of all.
@@ -155,7 +140,6 @@ impl SiteLog {
         ensures ok { OnOk result (0 < self.new.room) }
         ensures errors { RefusedForMemoryAlone result }
         ensures entries { self.new.entries ≡ self.old.entries }
-        ensures stamp { self.new.stamp ≡ self.old.stamp }
         ensures room { self.old.room ≤ self.new.room }
     {
         self.entries.reserve(1)?;
@@ -167,11 +151,8 @@ impl SiteLog {
         requires room { 0 < self.old.room }
         requires few { length self.old.entries + 1 < 2 ^ 32 }
         requires end { entry.end ≤ MAX_FILE }
-        requires stamp { entry.stamp ≤ MAX_STAMP }
         ensures entries { self.new.entries ≡ self.old.entries ++ entry ∷ [] }
-        ensures stamp { self.new.stamp ≡ max entry.stamp self.old.stamp }
     {
         self.entries.push_reserved(entry);
-        self.stamp = entry.stamp.max(self.stamp);
     }
 }

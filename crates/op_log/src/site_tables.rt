@@ -1,15 +1,14 @@
-ghost use Rattle.std.specs.Prelude.{◌≡◌, ◌≢◌, ℕ, ◌+◌, ◌-◌, ◌<◌, ◌≤◌, ◌↔◌, ◌^◌, [], ◌∷◌, ◌++◌, length, max};
-ghost use Rattle.std.specs.Prelude.{slice_get, IsTrue, OnOk, None as Nothing};
+ghost use Rattle.std.specs.Prelude.{◌≡◌, ◌≢◌, ℕ, ◌+◌, ◌-◌, ◌<◌, ◌≤◌, ◌^◌, [], ◌∷◌, ◌++◌, length};
+ghost use Rattle.std.specs.Prelude.{slice_get, OnOk, None as Nothing};
 ghost use Rattle.std.specs.Option.{option_map};
 ghost use Rattle.std.specs.List.Sorted.{IsNonDecreasingBy};
 ghost use Rattle.looks.specs.Refusal.{RefusedForMemoryAlone};
-ghost use Rattle.op_log.specs.Tables.{end_of, front_in, table_of, AgreesWith, IsFirstPast};
+ghost use Rattle.op_log.specs.Tables.{end_of, front_in, table_of, IsFirstPast};
 
 use crate::site_log::{Entry, SiteLog};
 use char_files::{MAX_FILE, Name, SiteNo};
 use indexmap::IndexMap;
 use looks::Refusal;
-use operations::MAX_STAMP;
 use std::alloc::Global;
 use std::marker::Model;
 
@@ -40,37 +39,14 @@ impl SiteTables {
         }
     }
 
-    // The number of the last operation of the site of this number; 0 where there is none.
-    fn front_at(&self, site: u16) -> u32
-        ensures { result ≡ front_in self.now site }
-    {
-        match self.sites.get(&site) {
-            Some(table) => table.front(),
-            None => 0,
-        }
-    }
-
     // The number of the site's last operation; 0 where there is none.
     pub(crate) fn front(&self, site: SiteNo) -> u32
         ensures { result ≡ front_in self.now site }
     {
-        self.front_at(site.get())
-    }
-
-    // Whether each site that has a table here has the same front there.
-    fn agrees_with(&self, other: &SiteTables) -> bool
-        ensures { IsTrue result ↔ AgreesWith self.now other.now }
-    {
-        self.sites
-            .keys()
-            .all(|site| self.front_at(*site) == other.front_at(*site))
-    }
-
-    // Whether each site has the same front here and there.
-    pub(crate) fn has_fronts_of(&self, other: &SiteTables) -> bool
-        ensures { IsTrue result ↔ ((site : ℕ) → front_in self.now site ≡ front_in other.now site) }
-    {
-        self.agrees_with(other) && other.agrees_with(self)
+        match self.sites.get(&site.get()) {
+            Some(table) => table.front(),
+            None => 0,
+        }
     }
 
     // How long the site's file is.
@@ -80,17 +56,6 @@ impl SiteTables {
     {
         match self.sites.get(&site.get()) {
             Some(table) => table.file_len(),
-            None => 0,
-        }
-    }
-
-    // The site's greatest stamp; 0 where there is none.
-    pub(crate) fn stamp(&self, site: SiteNo) -> u64
-        ensures value { result ≡ (table_of self.now site).stamp }
-        ensures bound { result ≤ MAX_STAMP }
-    {
-        match self.sites.get(&site.get()) {
-            Some(table) => table.stamp(),
             None => 0,
         }
     }
@@ -122,7 +87,6 @@ impl SiteTables {
         ensures ok { OnOk result (0 < (table_of self.new site).room) }
         ensures errors { RefusedForMemoryAlone result }
         ensures entries { (other : ℕ) → (table_of self.new other).entries ≡ (table_of self.old other).entries }
-        ensures stamps { (other : ℕ) → (table_of self.new other).stamp ≡ (table_of self.old other).stamp }
         ensures rooms { (other : ℕ) → (table_of self.old other).room ≤ (table_of self.new other).room }
     {
         if let Some(table) = self.sites.get_mut(&site.get()) {
@@ -139,9 +103,7 @@ impl SiteTables {
         requires room { 0 < (table_of self.old site).room }
         requires few { length (table_of self.old site).entries + 1 < 2 ^ 32 }
         requires end { entry.end ≤ MAX_FILE }
-        requires stamp { entry.stamp ≤ MAX_STAMP }
         ensures entries { (table_of self.new site).entries ≡ (table_of self.old site).entries ++ entry ∷ [] }
-        ensures stamp { (table_of self.new site).stamp ≡ max entry.stamp (table_of self.old site).stamp }
         ensures others { (other : ℕ) → other ≢ site → table_of self.new other ≡ table_of self.old other }
     {
         match self.sites.get_mut(&site.get()) {

@@ -5,6 +5,5 @@ pub mod NamesOf
 pub mod ReadLooks
 pub mod ReadMessages
 pub mod ReadSets
-pub mod Readers
 pub mod SetOf
 pub mod WithName

@@ -13,12 +13,13 @@ use Rattle.looks.specs.declared.looks.Looks.{Looks}
 use Rattle.looks.specs.FontName.{IsFontName}
 use Rattle.looks.specs.Looks.{IsLooks, plain_looks}
 use Rattle.looks.specs.Sel.{Selection, bits_of}
-use Rattle.operations.specs.Reading.{Finds, looks_len_at, is_font_name, font_at, colour_at, offset_at}
+use Rattle.byte_fields.specs.Fields.{Finds}
+use Rattle.operations.specs.Reading.{looks_len_at, is_font_name, font_at, colour_at, offset_at}
 use Rattle.operations.specs.Reading.{looks_at, selected_or, selected_at, selection_of, sel_at}
 use Rattle.operations.specs.Spelling.{font_spelling, offset_spelling, looks_spelling, selected_spelling}
 use Rattle.operations.specs.Spelling.{IsPlainElsewhere}
 use Rattle.operations.proofs.Fields.{font_name_is, selection_is}
-use Rattle.operations.proofs.Readers.{IsBytes, Took, Reads, step, some_is, passed, byte_reads, stretch_reads}
+use Rattle.byte_fields.proofs.Readers.{IsBytes, Took, Reads, step, some_is, passed, byte_reads, stretch_reads}
 
 pub font_reads : Reads font_at font_spelling IsFontName
 unfolding font_at

@@ -23,15 +23,16 @@ use Rattle.operations.specs.Reading.{Makes, anchor_of, anchor_at, fits_in_file, 
 use Rattle.operations.specs.Reading.{delete_at, restore_at, change_at, kind_at, tag_at, stamp_at, Header}
 use Rattle.operations.specs.Reading.{header_at}
 use Rattle.operations.specs.Reading.{operation_of, operation_at, message_of, SpellsNone}
-use Rattle.operations.specs.Spelling.{number_spelling, name_spelling, anchor_spelling, looks_spelling}
+use Rattle.byte_fields.specs.Fields.{number_spelling}
+use Rattle.operations.specs.Spelling.{name_spelling, anchor_spelling, looks_spelling}
 use Rattle.operations.specs.Spelling.{selected_spelling, set_spelling, kind_byte, kind_spelling}
 use Rattle.operations.specs.Spelling.{version_byte, tag_spelling, header_spelling, spelling, IsInsert}
 use Rattle.operations.specs.Spelling.{IsChange, IsKind}
 use Rattle.operations.specs.Spelling.{HasSpelling}
 use Rattle.operations.proofs.Fields.{is_cause_is}
-use Rattle.operations.proofs.Readers.{IsBytes, Took, Reads, step, bind_some, some_is, passed, front_bytes}
-use Rattle.operations.proofs.Readers.{IsPositive, wide16, wide32, wide64, number_reads, positive_reads}
-use Rattle.operations.proofs.Readers.{stretch_reads}
+use Rattle.byte_fields.proofs.Readers.{IsBytes, Took, Reads, step, bind_some, some_is, passed, front_bytes}
+use Rattle.byte_fields.proofs.Readers.{IsPositive, wide16, wide32, wide64, number_reads, positive_reads}
+use Rattle.byte_fields.proofs.Readers.{stretch_reads}
 use Rattle.operations.proofs.ReadLooks.{looks_reads, selected_looks_reads, sel_reads, sel_spelling}
 use Rattle.operations.proofs.ReadSets.{set_reads}
 

@@ -13,11 +13,13 @@ use Rattle.std.proofs.lemmas.List.Concat.{flat_map-cons}
 use Rattle.char_files.specs.declared.TheConstants.{MAX_FILE}
 use Rattle.operations.specs.declared.name_set.TheConstants.{MAX_RANGES}
 use Rattle.operations.specs.NameSet.{Range, IsRange, IsAhead, IsNamed}
-use Rattle.operations.specs.Reading.{◌>>=◌, range_at, is_behind, ranges_at, ranges_in, set_at}
-use Rattle.operations.specs.Spelling.{number_spelling, range_spelling, set_spelling}
+use Rattle.byte_fields.specs.Fields.{◌>>=◌}
+use Rattle.operations.specs.Reading.{range_at, is_behind, ranges_at, ranges_in, set_at}
+use Rattle.byte_fields.specs.Fields.{number_spelling}
+use Rattle.operations.specs.Spelling.{range_spelling, set_spelling}
 use Rattle.operations.proofs.WithName.{First, IsRising, ahead, is_ahead_true, rising, ranges_of, pairs_of}
-use Rattle.operations.proofs.Readers.{IsBytes, Took, Reads, step, bind_some, some_is, not_stopped}
-use Rattle.operations.proofs.Readers.{wide16, wide32, number_reads, positive_reads}
+use Rattle.byte_fields.proofs.Readers.{IsBytes, Took, Reads, step, bind_some, some_is, not_stopped}
+use Rattle.byte_fields.proofs.Readers.{wide16, wide32, number_reads, positive_reads}
 
 -- ---- ranges
 

@@ -4,3 +4,4 @@ pub mod Parts
 pub mod Reading
 pub mod Seen
 pub mod Spelling
+pub use Rattle.byte_fields.specs.Fields

@@ -7,7 +7,8 @@ use Rattle.std.specs.Prelude.{Err}
 use Rattle.std.specs.Char.{is_ascii_alphabetic}
 use Rattle.std.specs.List.{list_all}
 use Rattle.std.specs.Option.{option_map_or}
-use Rattle.std.specs.Int.{Width, w8, w16, w32, w64, byte_len, from_be_bytes, cast_signed}
+use Rattle.std.specs.Int.{w8, w16, w32, w64, cast_signed}
+use Rattle.byte_fields.specs.Fields.{◌>>=◌, stretch_at, number_at, positive_at, byte_at}
 use Rattle.looks.specs.declared.refusal.Refusal.{Refusal}
 use Rattle.looks.specs.declared.refusal.Refusal.TheVariants.{Malformed, OutOfMemory}
 use Rattle.looks.specs.declared.colour.TheConstants.{MAX_COLOUR}
@@ -26,42 +27,10 @@ use Rattle.operations.specs.NameSet.{Range, is_ahead}
 use Rattle.operations.specs.Operation.{OpKind, insert, delete, restore, change_looks, Operation}
 use Rattle.operations.specs.Spelling.{HasSpelling, version_byte, looks_spelling, spelling}
 
-infixl 10 ◌>>=◌
--- the next step, where this one found a value
-abbrev pub ◌>>=◌ : {A B : Type 0} → Option A → (A → Option B) → Option B
-None >>= f = None
-(Some x) >>= f = f x
-
--- what a function found, seen by view, is what reading finds
-abbrev pub Finds : {X Y : Type 0} → (X → Y) → Option X → Option Y → Type 0
-Finds view None read = read ≡ None
-Finds view (Some x) read = read ≡ Some (view x)
-
 -- the same of a function that takes memory, which can be refused only where reading finds a value
 abbrev pub Makes : {X Y : Type 0} → (X → Y) → Result X Refusal → Option Y → Type 0
 Makes view (Ok x) read = read ≡ Some (view x)
 Makes view (Err e) read = ((e ≡ Malformed) × (read ≡ None)) ⊎ ((e ≡ OutOfMemory) × IsSome read)
-
--- so many bytes
-abbrev pub stretch_at : ℕ → List ℕ → Option (List ℕ × List ℕ)
-stretch_at n bytes = if nat_lt (length bytes) n then None else Some (take n bytes, drop n bytes)
-
--- a number of this width, the highest byte first
-abbrev pub number_at : Width → List ℕ → Option (ℕ × List ℕ)
-number_at w bytes =
-    if nat_lt (length bytes) (byte_len w) then None
-    else Some (from_be_bytes w (take (byte_len w) bytes), drop (byte_len w) bytes)
-
--- a number from 1 on
-unfoldable pub positive_at : Width → List ℕ → Option (ℕ × List ℕ)
-positive_at w bytes = do
-  n ← number_at w bytes
-  if n.0 == 0 then None else Some n
-
--- one byte
-abbrev pub byte_at : List ℕ → Option (ℕ × List ℕ)
-byte_at [] = None
-byte_at (b ∷ rest) = Some (b, rest)
 
 -- 1 to 31 letters, digits and full stops, the first a letter
 abbrev pub is_font_name : List ℕ → Bool

@@ -1,6 +1,5 @@
 -- Operations as the code has them, seen as the definition's.
-use Rattle.std.specs.Prelude.{◌≡◌, ℕ, List, ◌++◌, length, take, Result, Ok, Err}
-use Rattle.std.specs.declared.alloc.AllocError.{AllocError}
+use Rattle.std.specs.Prelude.{ℕ}
 use Rattle.operations.specs.declared.kind.Kind.{Kind}
 use Rattle.operations.specs.declared.kind.Kind.TheVariants.{Insert, Delete, Restore, ChangeLooks}
 use Rattle.operations.specs.Operation.{OpKind, insert, delete, restore, change_looks, Operation}
@@ -16,8 +15,3 @@ kind_of (ChangeLooks sel looks names) = change_looks sel looks names
 abbrev pub operation_with : (text site seq stamp : ℕ) → Kind → Operation
 operation_with text site seq stamp kind =
     record { text = text; site = site; seq = seq; stamp = stamp; kind = kind_of kind }
-
--- the bytes were appended, or memory was refused, and perhaps some bytes stand at the end
-abbrev pub Appends : Result (Unit {0}) AllocError → List ℕ → List ℕ → List ℕ → Type 0
-Appends (Ok done) old new bytes = new ≡ old ++ bytes
-Appends (Err refused) old new bytes = take (length old) new ≡ old

@@ -1,8 +1,9 @@
 -- The one spelling of an operation, field by field, and which operations have one.
 use Rattle.std.specs.Prelude.{◌≡◌, ℕ, ℤ, ◌+◌, ◌^◌, ◌<◌, ◌≤◌, List, [], ◌∷◌, ◌++◌, length, if◌then◌else◌}
 use Rattle.std.specs.Prelude.{◌==◌, All, false}
-use Rattle.std.specs.Int.{Width, w8, w16, w32, w64, to_be_bytes, cast_unsigned}
+use Rattle.std.specs.Int.{w8, w16, w32, w64, cast_unsigned}
 use Rattle.std.specs.List.{flat_map}
+use Rattle.byte_fields.specs.Fields.{number_spelling}
 use Rattle.looks.specs.declared.looks.Looks.{Looks}
 use Rattle.looks.specs.Looks.{IsLooks, plain_looks}
 use Rattle.looks.specs.Sel.{Selection, bits_of}
@@ -14,10 +15,6 @@ use Rattle.operations.specs.declared.kind.TheConstants.{MAX_INSERT}
 use Rattle.operations.specs.declared.op.TheConstants.{MAX_STAMP}
 use Rattle.operations.specs.NameSet.{Range, IsNamed}
 use Rattle.operations.specs.Operation.{OpKind, insert, delete, restore, change_looks, Operation}
-
--- a number in as many bytes as its width has, the highest first
-unfoldable pub number_spelling : Width → ℕ → List ℕ
-number_spelling w n = to_be_bytes w n
 
 -- a font's name behind its length
 abbrev pub font_spelling : List ℕ → List ℕ

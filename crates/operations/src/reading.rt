@@ -5,7 +5,8 @@ ghost use Rattle.looks.specs.Looks.{IsLooks};
 ghost use Rattle.looks.specs.Refusal.{RefusedForMemoryAlone};
 ghost use Rattle.operations.specs.Operation.{Operation};
 ghost use Rattle.operations.specs.Spelling.{HasSpelling, looks_spelling, spelling};
-ghost use Rattle.operations.specs.Reading.{Finds, Makes, looks_len_at, fits_in_file, is_cause, insert_at};
+ghost use Rattle.byte_fields.specs.Fields.{Finds};
+ghost use Rattle.operations.specs.Reading.{Makes, looks_len_at, fits_in_file, is_cause, insert_at};
 ghost use Rattle.operations.specs.Reading.{delete_at, restore_at, change_at, kind_at, tag_at, stamp_at};
 ghost use Rattle.operations.specs.Reading.{header_at, operation_of, operation_at, message_of, SpellsNone};
 ghost use Rattle.operations.specs.Reading.{NoneBeginsAnother, LooksAreTold, NoneIsShared};
@@ -19,11 +20,9 @@ use crate::kind::{
     CHANGE_LOOKS, DELETE, INSERT, Kind, RESTORE, fits_in_file, is_cause, version_of,
 };
 use crate::op::{MAX_STAMP, Op};
+use byte_fields::{site_at, stretch_at, text_at, u16_at, u32_at};
 use char_files::{Anchor, SiteNo, TextNo};
-use fields::{
-    anchor_at, looks_at, positive_u32_at, positive_u64_at, sel_at, selected_at, site_at,
-    stretch_at, text_at, u16_at, u32_at,
-};
+use fields::{anchor_at, looks_at, positive_u32_at, positive_u64_at, sel_at, selected_at};
 use looks::{Looks, Refusal, Sel};
 use sets::{Ranges, set_at};
 use std::alloc::Global;

@@ -1,48 +1,20 @@
 ghost use Rattle.std.specs.Prelude.{◌≡◌, ◌≤◌, ◌++◌, ◌↔◌, length, take, IsOk, OnOk, OnErr};
-ghost use Rattle.std.specs.Int.{w16, w32, w64};
 ghost use Rattle.std.specs.List.{flat_map};
 ghost use Rattle.looks.specs.Refusal.{RefusedForMemoryAlone};
-ghost use Rattle.operations.specs.Spelling.{HasSpelling, tag_spelling, number_spelling, name_spelling};
+ghost use Rattle.byte_fields.specs.Fields.{Appends};
+ghost use Rattle.operations.specs.Spelling.{HasSpelling, tag_spelling, name_spelling};
 ghost use Rattle.operations.specs.Spelling.{anchor_spelling, font_spelling, looks_spelling};
 ghost use Rattle.operations.specs.Spelling.{selected_spelling, range_spelling, set_spelling, kind_spelling};
 ghost use Rattle.operations.specs.Spelling.{header_spelling, spelling};
-ghost use Rattle.operations.specs.Seen.{Appends};
 ghost use Rattle.operations.specs.Operation.{insert, change_looks};
 
 use crate::kind::{Kind, MAX_INSERT, version_of};
 use crate::name_set::{NameRange, NameSet};
 use crate::op::Op;
-use byteorder::{BigEndian, ByteOrder};
+use byte_fields::{put_u16, put_u32, put_u64};
 use char_files::Anchor;
 use looks::{FontName, Looks, Refusal, Sel};
 use std::alloc::AllocError;
-
-#[tactic(auto, unfolding(crate::specs::Spelling::number_spelling))]
-fn put_u16(out: &mut Vec<u8>, number: u16) -> Result<(), AllocError>
-    ensures { Appends result out.old.items out.new.items (number_spelling w16 number) }
-{
-    let mut bytes = [0; 2];
-    BigEndian::write_u16(&mut bytes, number);
-    out.extend_from_slice(&bytes)
-}
-
-#[tactic(auto, unfolding(crate::specs::Spelling::number_spelling))]
-fn put_u32(out: &mut Vec<u8>, number: u32) -> Result<(), AllocError>
-    ensures { Appends result out.old.items out.new.items (number_spelling w32 number) }
-{
-    let mut bytes = [0; 4];
-    BigEndian::write_u32(&mut bytes, number);
-    out.extend_from_slice(&bytes)
-}
-
-#[tactic(auto, unfolding(crate::specs::Spelling::number_spelling))]
-fn put_u64(out: &mut Vec<u8>, number: u64) -> Result<(), AllocError>
-    ensures { Appends result out.old.items out.new.items (number_spelling w64 number) }
-{
-    let mut bytes = [0; 8];
-    BigEndian::write_u64(&mut bytes, number);
-    out.extend_from_slice(&bytes)
-}
 
 fn put_font(out: &mut Vec<u8>, font: &FontName) -> Result<(), AllocError>
     ensures { Appends result out.old.items out.new.items (font_spelling font.now) }
@@ -208,9 +180,9 @@ fn all_or_nothing(
     ensures kept { OnOk result (out.new.items ≡ out.old.items) }
     ensures taken_back { OnErr result (out.new.items ≡ take start out.old.items) }
 {
-    if put.is_err() {
+    if let Err(refused) = put {
         out.truncate(start);
-        return Err(Refusal::OutOfMemory);
+        return Err(refused.into());
     }
     Ok(())
 }

@@ -176,13 +176,12 @@ impl<T> Ring<T> {
     pub fn reserve(&mut self, n: usize) -> Result<(), Refusal>
         ensures ok { OnOk result (n ≤ self.new.room) }
         ensures most { OnOk result (length self.old.items + n ≤ MAX_TAGS) }
+        ensures reserved { 0 < n → n ≤ self.old.room → IsOk result }
         ensures errors { RefusedForMemoryAlone result }
         ensures unchanged { (self.new.items ≡ self.old.items) × (self.new.cursor ≡ self.old.cursor) }
         ensures room { self.old.room ≤ self.new.room }
     {
-        if MAX_TAGS < self.nodes.table.len().saturating_add(n) {
-            return Err(Refusal::OutOfMemory);
-        }
+        Refusal::within_memory(self.nodes.table.len().saturating_add(n), MAX_TAGS)?;
         self.nodes.table.reserve(n)?;
         fill_up(&mut self.spare, n)?;
         Ok(())
@@ -203,11 +202,8 @@ impl<T> Ring<T> {
         ensures reserved { 0 < self.old.room → IsOk result }
         ensures room { self.old.room ≤ self.new.room + 1 }
     {
-        if MAX_TAGS <= self.nodes.table.len()
-            || self.nodes.table.reserve(1).is_err()
-            || fill_up(&mut self.spare, 1).is_err()
-        {
-            return Err((value, Refusal::OutOfMemory));
+        if let Err(why) = self.reserve(1) {
+            return Err((value, why));
         }
         match self.spare.pop() {
             Some(Spare { room, block }) => {

@@ -11,6 +11,6 @@ mod writer;
 pub use laws::one_token;
 pub use limits::the_limits;
 pub use reader::Reader;
-pub use scanner::Scanner;
+pub use scanner::{Scanner, byte_at};
 pub use token::{Class, MAX_INT, MAX_TOKEN, Token, TokenText, TokenValue};
 pub use writer::Writer;

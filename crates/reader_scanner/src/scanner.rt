@@ -53,9 +53,9 @@ impl ByteClass {
     }
 }
 
-// The byte at this position; past the end 0, as Oberon's readers give it. No test here passes 0 for anything
-// that a token begins with.
-fn byte_at<S: Source>(source: &S, pos: u64) -> u8
+/// The byte at this position; past the end 0, as Oberon's readers give it. No test here passes 0 for anything
+/// that a token begins with.
+pub fn byte_at<S: Source>(source: &S, pos: u64) -> u8
     ensures { result ≡ slice_index (bytes_of (S.items source.now)) pos }
 {
     if source.len() <= pos {

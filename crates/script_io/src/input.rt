@@ -59,7 +59,7 @@ impl<R: Read + Drop> Input<R> {
                 reader,
                 failed: false,
             }),
-            Err(_) => Err(Refusal::OutOfMemory),
+            Err(error) => Err(Refusal::of_error(&error, Refusal::ReadFault)),
         }
     }
 

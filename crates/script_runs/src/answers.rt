@@ -1,16 +1,16 @@
-ghost use Rattle.std.specs.Prelude.{ℕ, ◌≤◌, ◌++◌, drop, length};
+ghost use Rattle.std.specs.Prelude.{ℕ, ◌≤◌, ◌∷◌, ◌++◌, codes, drop, length};
 ghost use Rattle.std.specs.Fmt.{decimal};
 ghost use Rattle.hex.specs.Hex.{encode_lower};
 ghost use Rattle.machine.specs.Machine.{edit_reply, merge_reply};
 ghost use Rattle.machine.specs.Printing.{line};
 ghost use Rattle.commands.specs.Steps.{answer_reply, done_reply, open_reply};
-ghost use Rattle.script_runs.specs.Answers.{drained_line, partial_line, refused_line, reply_lines, run_reply_lines, send_line};
+ghost use Rattle.script_runs.specs.Answers.{drained_line, refused_line, reply_lines, run_reply_lines, send_line};
 ghost use Rattle.script_runs.specs.Answers.{send_lines, settled_line, took_line};
 ghost use Rattle.script_runs.specs.Writing.{Puts};
 ghost use Rattle.script_runs.specs.declared.answers.TheConstants.{STRETCH};
 
 use commands::Answer;
-use looks::Refusal;
+use looks::{OUT_OF_MEMORY, Refusal};
 use script_io::Output;
 use std::io::Write;
 use texts::{EditRefusal, MergeRefusal, Outbox, Settled, Took};
@@ -102,12 +102,12 @@ fn put_sends<W: Write>(output: &mut Output<W>, outbox: &Outbox, from: usize) -> 
     Ok(())
 }
 
-// The last line of an edit, or of a merge, of which the first operations stand.
-fn put_partial<W: Write>(output: &mut Output<W>, done: u64, why: Refusal) -> Result<(), Refusal>
-    ensures { Puts result output.old output.new (partial_line done why) }
+// The last line of an edit, or of a merge, of which the first operations stand; and the number of why not all do.
+fn put_partial<W: Write>(output: &mut Output<W>, done: u64, number: u8) -> Result<(), Refusal>
+    ensures { Puts result output.old output.new (line (codes "partial " ++ decimal done ++ 32 ∷ decimal number)) }
 {
     put_numbered(output, b"partial ", done)?;
-    put_numbered(output, b" ", u64::from(why.number()))?;
+    put_numbered(output, b" ", u64::from(number))?;
     put(output, b"\n")
 }
 
@@ -129,7 +129,7 @@ pub fn put_edit<W: Write>(
         Err(EditRefusal::Whole(why)) => put_refused(output, why),
         Err(EditRefusal::Partial { done, why }) => {
             put_sends(output, outbox, from)?;
-            put_partial(output, u64::from(done), why)
+            put_partial(output, u64::from(done), why.number())
         }
     }
 }
@@ -190,7 +190,7 @@ pub fn put_merged<W: Write>(
     match outcome {
         Ok(count) => put_count(output, b"merged ", count),
         Err(MergeRefusal::Whole(why)) => put_refused(output, why),
-        Err(MergeRefusal::Stopped { done }) => put_partial(output, done, Refusal::OutOfMemory),
+        Err(MergeRefusal::Stopped { done, .. }) => put_partial(output, done, OUT_OF_MEMORY),
     }
 }
 

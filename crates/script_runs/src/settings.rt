@@ -9,14 +9,14 @@ pub const MAX_SITES: u16 = 8;
 pub const MAX_FIRST: u16 = u16::MAX - (MAX_SITES - 1);
 
 /// The fewest and the most columns of a screen.
-pub const MIN_WIDTH: u16 = 20;
+pub const MIN_WIDTH: u16 = viewers::MIN_WIDTH as u16;
 
-pub const MAX_WIDTH: u16 = 200;
+pub const MAX_WIDTH: u16 = viewers::MAX_WIDTH as u16;
 
 /// The fewest and the most rows of a screen.
-pub const MIN_HEIGHT: u16 = 8;
+pub const MIN_HEIGHT: u16 = viewers::MIN_HEIGHT as u16;
 
-pub const MAX_HEIGHT: u16 = 100;
+pub const MAX_HEIGHT: u16 = viewers::MAX_HEIGHT as u16;
 
 /// What a run is told beside its script. This project's own.
 #[derive(Clone, Copy, Debug, PartialEq, Eq)]

@@ -6,7 +6,7 @@ use Rattle.std.specs.List.{flat_map}
 use Rattle.operations.specs.Operation.{Operation}
 use Rattle.operations.specs.Spelling.{HasSpelling, spelling}
 use Rattle.operations.proofs.ReadMessages.{same_operation}
-use Rattle.operations.proofs.Readers.{some_is}
+use Rattle.byte_fields.proofs.Readers.{some_is}
 use Rattle.texts.specs.SiteFiles.{entry_spelling}
 use Rattle.site_file.specs.Parts.{message_at}
 use Rattle.site_file.proofs.Lengths.{spelling_fits}

@@ -3,10 +3,10 @@ use Rattle.std.proofs.Common.{◌≡◌, ℕ, ◌^◌, ◌<◌, List, ◌++◌, 
 use Rattle.std.proofs.Common.{append_assoc, arith}
 use Rattle.std.specs.Prelude.{IfSome}
 use Rattle.std.specs.Int.{w16, w32}
-use Rattle.operations.specs.Reading.{◌>>=◌, Finds, number_at, stretch_at}
-use Rattle.operations.specs.Spelling.{number_spelling}
-use Rattle.operations.proofs.Readers.{Took, Reads, step, some_is, number_reads, positive_reads, stretch_reads}
-use Rattle.operations.proofs.Readers.{wide16, wide32, IsBytes}
+use Rattle.byte_fields.specs.Fields.{◌>>=◌, Finds, number_at, stretch_at}
+use Rattle.byte_fields.specs.Fields.{number_spelling}
+use Rattle.byte_fields.proofs.Readers.{Took, Reads, step, some_is, number_reads, positive_reads, stretch_reads}
+use Rattle.byte_fields.proofs.Readers.{wide16, wide32, IsBytes}
 use Rattle.site_file.specs.declared.reading.Head.{Head}
 use Rattle.site_file.specs.Parts.{head_at, head_spelling, IsHead, message_at, message_spelling}
 

@@ -11,7 +11,8 @@ use Rattle.char_files.specs.declared.name.Anchor.{Anchor}
 use Rattle.char_files.specs.declared.name.Anchor.TheVariants.{Root, At}
 use Rattle.operations.specs.NameSet.{Range, IsNamed}
 use Rattle.operations.specs.Operation.{OpKind, insert, delete, restore, change_looks, Operation}
-use Rattle.operations.specs.Spelling.{number_spelling, tag_spelling, header_spelling, anchor_spelling, looks_spelling}
+use Rattle.byte_fields.specs.Fields.{number_spelling}
+use Rattle.operations.specs.Spelling.{tag_spelling, header_spelling, anchor_spelling, looks_spelling}
 use Rattle.operations.specs.Spelling.{font_spelling, offset_spelling, selected_spelling, range_spelling, set_spelling}
 use Rattle.operations.specs.Spelling.{kind_byte, kind_spelling, spelling, HasSpelling, IsKind}
 

@@ -9,7 +9,7 @@ use Rattle.std.proofs.Math.Seq.{get_or-append_seam}
 use Rattle.looks.specs.declared.refusal.Refusal.{Refusal}
 use Rattle.operations.specs.Operation.{Operation}
 use Rattle.operations.specs.Spelling.{HasSpelling, spelling}
-use Rattle.operations.proofs.Readers.{IsBytes, some_is}
+use Rattle.byte_fields.proofs.Readers.{IsBytes, some_is}
 use Rattle.tree_order.specs.Good.{Good}
 use Rattle.set_laws.specs.Verdict.{IsNew, ready}
 use Rattle.set_laws.proofs.ByVerdict.{grows_by_verdict}

@@ -4,7 +4,7 @@ use Rattle.std.proofs.Common.{append_assoc, length-append, arith}
 use Rattle.std.specs.List.{flat_map}
 use Rattle.std.proofs.lemmas.List.{append_cancel_left, append-nil, take_at}
 use Rattle.operations.specs.Operation.{Operation}
-use Rattle.operations.proofs.Readers.{some_is}
+use Rattle.byte_fields.proofs.Readers.{some_is}
 use Rattle.texts.specs.SiteFiles.{tag, entry_spelling, site_bytes, HasSiteFile, IsSiteFileOf, OneSite}
 use Rattle.site_file.specs.declared.reading.Head.{Head}
 use Rattle.site_file.specs.Parts.{head_at, head_spelling, IsHead}

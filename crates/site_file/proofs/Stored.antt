@@ -9,7 +9,7 @@ use Rattle.std.proofs.lemmas.List.{take_all, take_more, flat_map_more}
 use Rattle.std.proofs.lemmas.List.Elements.{All-push}
 use Rattle.std.proofs.lemmas.Option.{slice_get-get_or}
 use Rattle.operations.specs.Operation.{Operation}
-use Rattle.operations.specs.Seen.{Appends}
+use Rattle.byte_fields.specs.Fields.{Appends}
 use Rattle.operations.specs.Spelling.{HasSpelling}
 use Rattle.texts.specs.SiteFiles.{entry_spelling}
 
@@ -35,10 +35,3 @@ pub spelled_more : (ops : List Operation) (place : ℕ) (op : Operation) → pla
 spelled_more ops place op lt is all own =
     subst (λ (l : List Operation). All HasSpelling l) (sym (first_parts ops place op lt is))
     (All-push HasSpelling (take place ops) op all own)
-
--- bytes that were appended in one go
-pub extended : (r : Result (Unit {0}) AllocError) (old new given bytes : List ℕ) → given ≡ bytes
-    → new ≡ (if is_ok r then old ++ given else old) → Appends r old new bytes
-extended (Ok done) old new given bytes same put = put ∙ ap (λ (l : List ℕ). old ++ l) same
-extended (Err refused) old new given bytes same put =
-    ap (λ (l : List ℕ). take (length old) l) put ∙ take_all (length old) old (omega arith)

@@ -3,8 +3,9 @@ use Rattle.std.specs.Prelude.{◌≡◌, ℕ, ◌^◌, ◌<◌, List, ◌++◌, 
 use Rattle.std.specs.Int.{w16, w32}
 use Rattle.std.specs.List.{flat_map}
 use Rattle.operations.specs.Operation.{Operation}
-use Rattle.operations.specs.Reading.{◌>>=◌, number_at, positive_at, stretch_at}
-use Rattle.operations.specs.Spelling.{HasSpelling, number_spelling}
+use Rattle.byte_fields.specs.Fields.{◌>>=◌, number_at, positive_at, stretch_at}
+use Rattle.byte_fields.specs.Fields.{number_spelling}
+use Rattle.operations.specs.Spelling.{HasSpelling}
 use Rattle.texts.specs.SiteFiles.{IsNumber, entry_spelling}
 use Rattle.texts.specs.declared.took.Took.{Took}
 use Rattle.texts.specs.declared.took.Took.TheVariants.{Taken, Repeat, Waits}

@@ -18,7 +18,7 @@ fn refusal_of_file(why: Refusal) -> Refusal
     ensures value { (result ≡ Refusal.BadFile) ⊎ (result ≡ Refusal.OutOfMemory) }
 {
     match why {
-        Refusal::OutOfMemory => Refusal::OutOfMemory,
+        Refusal::OutOfMemory { .. } => why,
         _ => Refusal::BadFile,
     }
 }

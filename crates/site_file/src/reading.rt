@@ -2,10 +2,11 @@
 
 ghost use Rattle.std.specs.Prelude.{◌≡◌, ◌≢◌, ◌++◌, take, IfSome, MatchOption};
 ghost use Rattle.std.specs.Int.{w16, w32};
-ghost use Rattle.operations.specs.Reading.{Finds, number_at, positive_at, stretch_at};
+ghost use Rattle.byte_fields.specs.Fields.{Finds, number_at, positive_at, stretch_at};
 ghost use Rattle.texts.specs.SiteFiles.{tag};
 ghost use Rattle.site_file.specs.Parts.{head_at, message_at, message_spelling};
 
+use byte_fields::{site_at, stretch_at, text_at, u16_at, u32_at};
 use char_files::{SiteNo, TextNo};
 
 /// What stands between the tag and the messages.
@@ -17,47 +18,6 @@ pub(crate) struct Head {
     pub(crate) site: SiteNo,
     /// How many messages there are.
     pub(crate) count: u32,
-}
-
-fn u16_at(bytes: &[u8]) -> Option<(u16, &[u8])>
-    ensures { Finds (λ x. (x.0, x.1.now)) result (number_at w16 bytes.now) }
-{
-    let (front, rest) = bytes.split_first_chunk::<2>()?;
-    Some((u16::from_be_bytes(*front), rest))
-}
-
-fn u32_at(bytes: &[u8]) -> Option<(u32, &[u8])>
-    ensures { Finds (λ x. (x.0, x.1.now)) result (number_at w32 bytes.now) }
-{
-    let (front, rest) = bytes.split_first_chunk::<4>()?;
-    Some((u32::from_be_bytes(*front), rest))
-}
-
-fn stretch_at(len: usize, bytes: &[u8]) -> Option<(&[u8], &[u8])>
-    ensures { Finds (λ x. (x.0.now, x.1.now)) result (stretch_at len bytes.now) }
-{
-    if bytes.len() < len {
-        return None;
-    }
-    Some(bytes.split_at(len))
-}
-
-#[tactic(auto, unfolding(operations::specs::Reading::positive_at))]
-fn text_at(bytes: &[u8]) -> Option<(TextNo, &[u8])>
-    ensures { Finds (λ x. (x.0, x.1.now)) result (positive_at w16 bytes.now) }
-{
-    let (number, rest) = u16_at(bytes)?;
-    let text = TextNo::new(number)?;
-    Some((text, rest))
-}
-
-#[tactic(auto, unfolding(operations::specs::Reading::positive_at))]
-fn site_at(bytes: &[u8]) -> Option<(SiteNo, &[u8])>
-    ensures { Finds (λ x. (x.0, x.1.now)) result (positive_at w16 bytes.now) }
-{
-    let (number, rest) = u16_at(bytes)?;
-    let site = SiteNo::new(number)?;
-    Some((site, rest))
 }
 
 /// What stands behind the tag, where the file begins with it.

@@ -1,34 +1,17 @@
 ghost use Rattle.std.specs.Prelude.{◌≡◌, ◌<◌, ◌≤◌, ◌++◌, ◌↔◌, ◌⊎◌, All, length, IfErr, IsErrOf, OnErr, OnOk};
 ghost use Rattle.std.specs.Int.{w16, w32};
 ghost use Rattle.std.specs.List.{flat_map};
-ghost use Rattle.operations.specs.Seen.{Appends};
-ghost use Rattle.operations.specs.Spelling.{HasSpelling, number_spelling};
+ghost use Rattle.looks.specs.Refusal.{RefusedForMemoryAlone};
+ghost use Rattle.byte_fields.specs.Fields.{Appends, number_spelling};
+ghost use Rattle.operations.specs.Spelling.{HasSpelling};
 ghost use Rattle.texts.specs.SiteFiles.{HasSiteFile, IsSiteFileOf, entry_spelling, site_bytes, tag};
 ghost use Rattle.texts.specs.declared.TheConstants.{MAX_KEPT};
 
-use byteorder::{BigEndian, ByteOrder};
+use byte_fields::{put_u16, put_u32};
 use looks::Refusal;
 use operations::{Op, encode};
 use std::alloc::AllocError;
 use texts::{MAX_KEPT, Replica};
-
-#[tactic(auto, unfolding(operations::specs::Spelling::number_spelling))]
-fn put_u16(out: &mut Vec<u8>, number: u16) -> Result<(), AllocError>
-    ensures { Appends result out.old.items out.new.items (number_spelling w16 number) }
-{
-    let mut bytes = [0; 2];
-    BigEndian::write_u16(&mut bytes, number);
-    out.extend_from_slice(&bytes)
-}
-
-#[tactic(auto, unfolding(operations::specs::Spelling::number_spelling))]
-fn put_u32(out: &mut Vec<u8>, number: u32) -> Result<(), AllocError>
-    ensures { Appends result out.old.items out.new.items (number_spelling w32 number) }
-{
-    let mut bytes = [0; 4];
-    BigEndian::write_u32(&mut bytes, number);
-    out.extend_from_slice(&bytes)
-}
 
 // What stands ahead of the messages.
 fn put_head(out: &mut Vec<u8>, text: u16, site: u16, count: u32) -> Result<(), AllocError>
@@ -42,21 +25,22 @@ fn put_head(out: &mut Vec<u8>, text: u16, site: u16, count: u32) -> Result<(), A
 }
 
 // A message behind its length. It is put together in `message`, whose own bytes are lost.
-fn put_entry(out: &mut Vec<u8>, message: &mut Vec<u8>, op: &Op) -> Result<(), AllocError>
+fn put_entry(out: &mut Vec<u8>, message: &mut Vec<u8>, op: &Op) -> Result<(), Refusal>
     ensures entry { Appends result out.old.items out.new.items (entry_spelling op.now) }
     ensures spelled { HasSpelling op.now }
+    ensures errors { RefusedForMemoryAlone result }
 {
     op.has_spelling();
     message.clear();
-    if encode(op, message).is_err() {
-        return Err(AllocError);
-    }
+    encode(op, message)?;
     put_u16(out, message.len() as u16)?;
-    out.extend_from_slice(message)
+    out.extend_from_slice(message)?;
+    Ok(())
 }
 
 // All messages of the text, each behind its length.
-fn put_entries(out: &mut Vec<u8>, replica: &Replica) -> Result<(), AllocError>
+fn put_entries(out: &mut Vec<u8>, replica: &Replica) -> Result<(), Refusal>
+    ensures errors { RefusedForMemoryAlone result }
     ensures entries { Appends result out.old.items out.new.items
         (flat_map entry_spelling replica.now.operations) }
     ensures spelled { OnOk result (All HasSpelling replica.now.operations) }
@@ -69,8 +53,9 @@ fn put_entries(out: &mut Vec<u8>, replica: &Replica) -> Result<(), AllocError>
 }
 
 // The whole file. Where memory is refused, some of it may stand at the end.
-fn put_site(out: &mut Vec<u8>, replica: &Replica) -> Result<(), AllocError>
+fn put_site(out: &mut Vec<u8>, replica: &Replica) -> Result<(), Refusal>
     requires { length replica.now.operations ≤ MAX_KEPT }
+    ensures errors { RefusedForMemoryAlone result }
     ensures bytes { Appends result out.old.items out.new.items
         (site_bytes replica.now.text replica.now.site replica.now.operations) }
     ensures tells { OnOk result (HasSiteFile replica.now.text replica.now.site replica.now.operations) }
@@ -100,9 +85,9 @@ pub fn store_site(replica: &Replica, file: &mut Vec<u8>) -> Result<(), Refusal>
         return Err(Refusal::BadFile);
     }
     let start = file.len();
-    if put_site(file, replica).is_err() {
+    if let Err(refused) = put_site(file, replica) {
         file.truncate(start);
-        return Err(Refusal::OutOfMemory);
+        return Err(refused);
     }
     Ok(())
 }

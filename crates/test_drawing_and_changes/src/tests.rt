@@ -1,8 +1,7 @@
-//! What no clause says: that the definitions give the rows, positions and answers that were worked out by hand.
+//! What no clause says: that the definitions give the rows and answers that were worked out by hand.
 use std::test::Fail;
 
 mod changes;
-mod positions;
 mod rows;
 mod signs;
 

@@ -6,7 +6,8 @@ use Rattle.std.proofs.lemmas.List.{drop_at, take-append-drop, take_rest}
 use Rattle.looks.specs.declared.looks.Looks.{Looks}
 use Rattle.looks.specs.Looks.{IsLooks}
 use Rattle.operations.specs.Reading.{LooksAreTold}
-use Rattle.operations.specs.Spelling.{number_spelling, looks_spelling}
+use Rattle.byte_fields.specs.Fields.{number_spelling}
+use Rattle.operations.specs.Spelling.{looks_spelling}
 use Rattle.text_file.specs.declared.loading.Head.{Head}
 use Rattle.text_file.specs.Heads.{head_spelling, IsHead}
 use Rattle.text_file.proofs.Heads.{NoneNext, head_told}

@@ -6,7 +6,8 @@ use Rattle.std.specs.List.{flat_map}
 use Rattle.std.proofs.lemmas.List.{flat_map_more, append-nil}
 use Rattle.looks.specs.declared.looks.Looks.{Looks}
 use Rattle.operations.specs.Reading.{LooksAreTold}
-use Rattle.operations.specs.Spelling.{number_spelling, looks_spelling}
+use Rattle.byte_fields.specs.Fields.{number_spelling}
+use Rattle.operations.specs.Spelling.{looks_spelling}
 use Rattle.text_file.specs.declared.TheConstants.{MAX_TEXT}
 use Rattle.text_file.specs.declared.loading.Head.{Head}
 use Rattle.text_file.specs.Heads.{head_spelling, IsHead, AreHeads, total_of, IsRead}

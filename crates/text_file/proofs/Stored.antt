@@ -9,7 +9,7 @@ use Rattle.std.proofs.lemmas.Option.{slice_get-get_or}
 use Rattle.looks.specs.Looks.{IsLooks}
 use Rattle.char_files.specs.Runs.{maximal_runs, NoOtherRuns}
 use Rattle.char_files.specs.Stretch.{Stretch, Item, items_of, AreRuns}
-use Rattle.operations.specs.Spelling.{number_spelling}
+use Rattle.byte_fields.specs.Fields.{number_spelling}
 use Rattle.text_file.specs.Files.{tag, run_spelling, formatted}
 use Rattle.text_file.proofs.Cuts.{InLooks, chars_of, items_chars, items_len, some_len, first_some, other_runs}
 use Rattle.text_file.proofs.Texts.{bytes_of}

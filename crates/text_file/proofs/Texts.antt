@@ -14,7 +14,7 @@ use Rattle.char_files.specs.Plain.{plain_items}
 use Rattle.char_files.specs.Runs.{maximal_runs, RunsAreMaximal, NoOtherRuns}
 use Rattle.char_files.specs.Stretch.{Stretch, Item, items_of}
 use Rattle.operations.specs.Reading.{LooksAreTold}
-use Rattle.operations.specs.Spelling.{number_spelling}
+use Rattle.byte_fields.specs.Fields.{number_spelling}
 use Rattle.text_file.specs.declared.TheConstants.{MAX_TEXT}
 use Rattle.text_file.specs.declared.loading.Head.{Head}
 use Rattle.text_file.specs.Files.{tag, run_spelling, formatted, HasFile, IsFormatted}

@@ -7,7 +7,8 @@ use Rattle.looks.specs.Looks.{IsLooks}
 use Rattle.char_files.specs.Plain.{plain_items}
 use Rattle.char_files.specs.Runs.{maximal_runs}
 use Rattle.char_files.specs.Stretch.{Stretch, Item}
-use Rattle.operations.specs.Spelling.{number_spelling, looks_spelling}
+use Rattle.byte_fields.specs.Fields.{number_spelling}
+use Rattle.operations.specs.Spelling.{looks_spelling}
 use Rattle.text_file.specs.declared.TheConstants.{MAX_TEXT}
 
 -- what a formatted file begins with

@@ -6,7 +6,8 @@ use Rattle.std.specs.List.{flat_map}
 use Rattle.looks.specs.declared.looks.Looks.{Looks}
 use Rattle.looks.specs.Looks.{IsLooks}
 use Rattle.char_files.specs.Stretch.{Stretch}
-use Rattle.operations.specs.Spelling.{number_spelling, looks_spelling}
+use Rattle.byte_fields.specs.Fields.{number_spelling}
+use Rattle.operations.specs.Spelling.{looks_spelling}
 use Rattle.text_file.specs.declared.TheConstants.{MAX_TEXT}
 use Rattle.text_file.specs.declared.loading.Head.{Head}
 

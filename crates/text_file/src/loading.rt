@@ -4,7 +4,7 @@ ghost use Rattle.std.specs.Int.{w32};
 ghost use Rattle.std.specs.List.{flat_map};
 ghost use Rattle.looks.specs.Refusal.{RefusedForMemoryAlone};
 ghost use Rattle.char_files.specs.Stretch.{Item, items_of};
-ghost use Rattle.operations.specs.Spelling.{number_spelling};
+ghost use Rattle.byte_fields.specs.Fields.{number_spelling};
 ghost use Rattle.text_file.specs.Files.{tag, plain_bytes, IsFormatted, IsPlain, IsFileOf, IsNoFile};
 ghost use Rattle.text_file.specs.Heads.{head_spelling, IsHead, AreHeads, total_of, cut, AreSpelled, IsRead};
 ghost use Rattle.text_file.specs.declared.loading.Head.{Head};
@@ -12,7 +12,7 @@ ghost use Rattle.text_file.specs.declared.loading.Head.{Head};
 use crate::MAX_TEXT;
 use crate::filling::push_all;
 use crate::plain::{plain_len, plain_text};
-use byteorder::{BigEndian, ByteOrder};
+use byte_fields::u32_at;
 use char_files::Buffer;
 use looks::{Looks, Refusal};
 use operations::read_looks;
@@ -30,17 +30,6 @@ struct Head {
 struct Parts<'a> {
     heads: &'a [u8],
     chars: &'a [u8],
-}
-
-// A number, and the bytes behind it.
-fn u32_at(bytes: &[u8]) -> Option<(u32, &[u8])>
-    ensures some { IfSome result (λ x. (x.0 < 2 ^ 32) × (bytes.now ≡ number_spelling w32 x.0 ++ x.1.now)) }
-    ensures none { IfNone result (length bytes.now < 4) }
-{
-    if bytes.len() < 4 {
-        return None;
-    }
-    Some((BigEndian::read_u32(bytes), &bytes[4..]))
 }
 
 // A run that there may be, and the bytes behind it.

@@ -5,12 +5,12 @@ ghost use Rattle.std.specs.List.{flat_map, AllByRecursion};
 ghost use Rattle.looks.specs.Looks.{IsLooks};
 ghost use Rattle.looks.specs.Refusal.{RefusedForMemoryAlone};
 ghost use Rattle.char_files.specs.Stretch.{items_of};
-ghost use Rattle.operations.specs.Spelling.{number_spelling};
+ghost use Rattle.byte_fields.specs.Fields.{number_spelling};
 ghost use Rattle.text_file.specs.Files.{run_spelling, formatted, HasFile, IsFileOf};
 
 use crate::MAX_TEXT;
 use crate::filling::push_char;
-use byteorder::{BigEndian, ByteOrder};
+use byte_fields::put_u32;
 use char_files::{Buffer, LooksRun, Source};
 use looks::Refusal;
 use operations::write_looks;
@@ -30,15 +30,6 @@ fn copy_of<S: Source>(alloc: Global, source: &S) -> Result<Buffer, Refusal>
         push_char(&mut text, byte, looks)?;
     }
     Ok(text)
-}
-
-#[tactic(auto, unfolding(operations::specs::Spelling::number_spelling))]
-fn put_u32(out: &mut Vec<u8>, number: u32) -> Result<(), AllocError>
-    ensures { OnOk result (out.new.items ≡ out.old.items ++ number_spelling w32 number) }
-{
-    let mut bytes = [0; 4];
-    BigEndian::write_u32(&mut bytes, number);
-    out.extend_from_slice(&bytes)
 }
 
 fn put_run(out: &mut Vec<u8>, run: &LooksRun) -> Result<(), Refusal>

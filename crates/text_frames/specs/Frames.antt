@@ -8,7 +8,8 @@ use Rattle.line_drawing.specs.Rows.{Row, rows_from}
 use Rattle.texts.specs.Text.{IsAnchor}
 use Rattle.texts.specs.TextState.{TextState, shown_of}
 use Rattle.machine.specs.Windows.{bytes_shown, first_line, place_in}
-use Rattle.text_frames.specs.declared.TheConstants.{MAX_ROWS, MAX_WIDTH}
+use Rattle.viewers.specs.declared.seats.TheConstants.{MAX_WIDTH}
+use Rattle.text_frames.specs.declared.TheConstants.{MAX_ROWS}
 use Rattle.text_frames.specs.Reading.{no_row}
 
 -- A frame: the character whose line it begins with, its width, its rows from the top down, whether each row holds a line

@@ -7,12 +7,13 @@ ghost use Rattle.machine.specs.Windows.{bytes_shown, place_in};
 ghost use Rattle.text_frames.specs.Frames.{last_row, reads_of, rows_in};
 ghost use Rattle.text_frames.specs.Reading.{counted};
 
+use crate::MAX_ROWS;
 use crate::reading::byte_at;
 use crate::rows::{DrawnRow, read_row};
-use crate::{MAX_ROWS, MAX_WIDTH};
 use char_files::Anchor;
 use line_drawing::LINE_END;
 use texts::Replica;
+use viewers::MAX_WIDTH;
 
 // How many shown characters are the anchor or stand ahead of it; 0 for one that isn't here.
 pub(crate) fn place_of(replica: &Replica, anchor: Anchor) -> u64

@@ -13,9 +13,9 @@ ghost use Rattle.machine.specs.Windows.{bytes_shown, line_anchor, position_in, r
 ghost use Rattle.text_frames.specs.Frames.{AreRows, IsDrawn, drawing_reads, is_quiet_for, last_row, leaves_rows, replaces};
 ghost use Rattle.text_frames.specs.Reading.{counted};
 
+use crate::MAX_ROWS;
 use crate::drawing::{begin_of_line, draw};
 use crate::rows::DrawnRow;
-use crate::{MAX_ROWS, MAX_WIDTH};
 use char_files::Anchor;
 use line_drawing::located;
 use list_changes::{Change, ChangeKind, all_quiet};
@@ -23,6 +23,7 @@ use looks::Refusal;
 use std::alloc::Global;
 use std::marker::Model;
 use texts::Replica;
+use viewers::MAX_WIDTH;
 
 /// Rows of cells that show a text from the line of a character on (Project Oberon, chapter 5; that the line is told by a
 /// character, which stays where positions move, is this project's own).
@@ -38,7 +39,8 @@ pub struct Frame {
 impl Model for Frame {
     ghost use Rattle.std.specs.Prelude.{◌≤◌, vec_capacity};
     ghost use Rattle.text_frames.specs.Frames.{FrameSeen, AreRows};
-    ghost use Rattle.text_frames.specs.declared.TheConstants.{MAX_ROWS, MAX_WIDTH};
+    ghost use Rattle.viewers.specs.declared.seats.TheConstants.{MAX_WIDTH};
+    ghost use Rattle.text_frames.specs.declared.TheConstants.{MAX_ROWS};
 
     ghost Value = { FrameSeen };
 

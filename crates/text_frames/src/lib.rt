@@ -12,9 +12,7 @@ mod rows;
 pub use frame::Frame;
 pub use limits::the_limits;
 pub use marks::{Caret, Selection};
+use viewers::MAX_HEIGHT;
 
-/// The most columns of a frame; the fewest is 1. This project's own.
-pub const MAX_WIDTH: usize = 200;
-
-/// The most rows of a frame; the fewest is 1. This project's own.
-pub const MAX_ROWS: usize = 99;
+/// The most rows of a frame, which stands below a row of the screen; the fewest is 1. This project's own.
+pub const MAX_ROWS: usize = MAX_HEIGHT - 1;

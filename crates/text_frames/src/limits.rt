@@ -1,8 +1,7 @@
 ghost use Rattle.std.specs.Prelude.{◌≡◌};
-ghost use Rattle.text_frames.specs.declared.TheConstants.{MAX_ROWS, MAX_WIDTH};
+ghost use Rattle.text_frames.specs.declared.TheConstants.{MAX_ROWS};
 
-/// A law: the limits of a frame, by their numbers.
+/// A law: the most rows of a frame, by their number.
 pub fn the_limits()
-    ensures widest { MAX_WIDTH ≡ 200 }
     ensures highest { MAX_ROWS ≡ 99 }
 {}

@@ -2,12 +2,12 @@ ghost use Rattle.std.specs.Prelude.{◌≡◌, ◌+◌, ◌-◌, ◌^◌, ◌<�
 ghost use Rattle.line_drawing.specs.Rows.{blanks, sign_of};
 ghost use Rattle.text_frames.specs.Reading.{behind_line, bytes_of, counted, line_ahead, row_ahead};
 
-use crate::MAX_WIDTH;
 use crate::reading::next_byte;
 use arrayvec::ArrayVec;
 use line_drawing::sign;
 use std::marker::Model;
 use texts::Shown;
+use viewers::MAX_WIDTH;
 
 // A row as it was drawn: the positions between which its line stands, and its cells.
 #[derive(Drop)]

@@ -3,7 +3,8 @@ use Rattle.std.specs.Prelude.{◌≡◌, ◌≢◌, ℕ, ◌^◌, ◌<◌, ◌�
 use Rattle.std.specs.Int.{w16, w32}
 use Rattle.std.specs.List.{flat_map}
 use Rattle.operations.specs.Operation.{Operation}
-use Rattle.operations.specs.Spelling.{HasSpelling, number_spelling, spelling}
+use Rattle.operations.specs.Fields.{number_spelling}
+use Rattle.operations.specs.Spelling.{HasSpelling, spelling}
 use Rattle.set_laws.specs.Sets.{KeepsCauses}
 use Rattle.texts.specs.declared.TheConstants.{MAX_KEPT}
 

@@ -1,13 +1,11 @@
 ghost use Rattle.std.specs.Prelude.{◌≡◌, ◌<◌, ◌≤◌, ◌++◌, ◌↔◌, length, slice_get, slice_range, Some, IfSome, IfOk};
-ghost use Rattle.std.specs.Prelude.{◌≢◌, AllPairs, IsSome, IsTrue};
+ghost use Rattle.std.specs.Prelude.{◌≢◌, AllPairs, IsSome};
 ghost use Rattle.std.specs.Prelude.{OnOk, OnErr};
 ghost use Rattle.looks.specs.Refusal.{RefusedForMemoryAlone};
 ghost use Rattle.set_laws.specs.Fronts.{AreSites, front_of};
-ghost use Rattle.set_laws.specs.Sets.{AreIdentified, HaveEqualFronts};
 ghost use Rattle.set_laws.specs.Verdict.{ready};
 ghost use Rattle.tree_order.specs.Shown.{IsPlace};
 ghost use Rattle.texts.specs.Edit.{anchor_before};
-ghost use Rattle.texts.specs.Laws.{AreAlike};
 ghost use Rattle.texts.specs.Taking.{HasTaken, IsJudged};
 ghost use Rattle.texts.specs.Text.{IsAnchor, IsText};
 ghost use Rattle.texts.specs.TextState.{all_told, empty_text, shown_of};
@@ -121,19 +119,6 @@ impl Replica {
         ensures errors { RefusedForMemoryAlone result }
     {
         self.taken.log().sites()
-    }
-
-    /// Whether both have taken in the same operations of each site, by their numbers. Where no identity was
-    /// used twice, both then show the same.
-    #[tactic(auto, using(crate::proofs::Chars::fronts_tell))]
-    pub fn has_fronts_of(&self, other: &Replica) -> bool
-        ensures fronts { IsTrue result ↔ HaveEqualFronts self.now.operations other.now.operations }
-        ensures alike { IsTrue result → AreIdentified (self.now.operations ++ other.now.operations)
-            → AreAlike self.now other.now }
-    {
-        self.is_text();
-        other.is_text();
-        self.taken.log().has_fronts_of(other.taken.log())
     }
 
     /// How many operations were taken in.

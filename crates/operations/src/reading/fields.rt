@@ -3,63 +3,16 @@
 ghost use Rattle.std.specs.Prelude.{◌≡◌};
 ghost use Rattle.std.specs.Int.{w16, w32, w64};
 ghost use Rattle.looks.specs.Looks.{plain_looks};
-ghost use Rattle.operations.specs.Reading.{Finds, stretch_at, number_at, positive_at, byte_at, font_at};
-ghost use Rattle.operations.specs.Reading.{colour_at, offset_at, looks_at, selected_or, selected_at};
+ghost use Rattle.byte_fields.specs.Fields.{Finds, positive_at};
+ghost use Rattle.operations.specs.Reading.{font_at, colour_at, offset_at, looks_at, selected_or, selected_at};
 ghost use Rattle.operations.specs.Reading.{sel_at, anchor_of, anchor_at};
 
-use char_files::{Anchor, Name, SiteNo, TextNo};
+use byte_fields::{stretch_at, u8_at, u16_at, u32_at, u64_at};
+use char_files::{Anchor, Name, SiteNo};
 use looks::{Colour, FontName, Looks, Sel};
 
-pub(super) fn stretch_at(len: usize, bytes: &[u8]) -> Option<(&[u8], &[u8])>
-    ensures { Finds (λ x. (x.0.now, x.1.now)) result (stretch_at len bytes.now) }
-{
-    if bytes.len() < len {
-        return None;
-    }
-    Some(bytes.split_at(len))
-}
-
-pub(super) fn u16_at(bytes: &[u8]) -> Option<(u16, &[u8])>
-    ensures { Finds (λ x. (x.0, x.1.now)) result (number_at w16 bytes.now) }
-{
-    let (front, rest) = bytes.split_first_chunk::<2>()?;
-    Some((u16::from_be_bytes(*front), rest))
-}
-
-pub(super) fn u32_at(bytes: &[u8]) -> Option<(u32, &[u8])>
-    ensures { Finds (λ x. (x.0, x.1.now)) result (number_at w32 bytes.now) }
-{
-    let (front, rest) = bytes.split_first_chunk::<4>()?;
-    Some((u32::from_be_bytes(*front), rest))
-}
-
-fn u64_at(bytes: &[u8]) -> Option<(u64, &[u8])>
-    ensures { Finds (λ x. (x.0, x.1.now)) result (number_at w64 bytes.now) }
-{
-    let (front, rest) = bytes.split_first_chunk::<8>()?;
-    Some((u64::from_be_bytes(*front), rest))
-}
-
-#[tactic(auto, unfolding(crate::specs::Reading::positive_at))]
-pub(super) fn text_at(bytes: &[u8]) -> Option<(TextNo, &[u8])>
-    ensures { Finds (λ x. (x.0, x.1.now)) result (positive_at w16 bytes.now) }
-{
-    let (number, rest) = u16_at(bytes)?;
-    let text = TextNo::new(number)?;
-    Some((text, rest))
-}
-
-#[tactic(auto, unfolding(crate::specs::Reading::positive_at))]
-pub(super) fn site_at(bytes: &[u8]) -> Option<(SiteNo, &[u8])>
-    ensures { Finds (λ x. (x.0, x.1.now)) result (positive_at w16 bytes.now) }
-{
-    let (number, rest) = u16_at(bytes)?;
-    let site = SiteNo::new(number)?;
-    Some((site, rest))
-}
-
 // A number from 1 on.
-#[tactic(auto, unfolding(crate::specs::Reading::positive_at))]
+#[tactic(auto, unfolding(byte_fields::specs::Fields::positive_at))]
 pub(super) fn positive_u16_at(bytes: &[u8]) -> Option<(u16, &[u8])>
     ensures { Finds (λ x. (x.0, x.1.now)) result (positive_at w16 bytes.now) }
 {
@@ -71,7 +24,7 @@ pub(super) fn positive_u16_at(bytes: &[u8]) -> Option<(u16, &[u8])>
 }
 
 // A number from 1 on.
-#[tactic(auto, unfolding(crate::specs::Reading::positive_at))]
+#[tactic(auto, unfolding(byte_fields::specs::Fields::positive_at))]
 pub(super) fn positive_u32_at(bytes: &[u8]) -> Option<(u32, &[u8])>
     ensures { Finds (λ x. (x.0, x.1.now)) result (positive_at w32 bytes.now) }
 {
@@ -83,7 +36,7 @@ pub(super) fn positive_u32_at(bytes: &[u8]) -> Option<(u32, &[u8])>
 }
 
 // A number from 1 on.
-#[tactic(auto, unfolding(crate::specs::Reading::positive_at))]
+#[tactic(auto, unfolding(byte_fields::specs::Fields::positive_at))]
 pub(super) fn positive_u64_at(bytes: &[u8]) -> Option<(u64, &[u8])>
     ensures { Finds (λ x. (x.0, x.1.now)) result (positive_at w64 bytes.now) }
 {
@@ -94,20 +47,11 @@ pub(super) fn positive_u64_at(bytes: &[u8]) -> Option<(u64, &[u8])>
     Some((number, rest))
 }
 
-fn byte_at(bytes: &[u8]) -> Option<(u8, &[u8])>
-    ensures { Finds (λ x. (x.0, x.1.now)) result (byte_at bytes.now) }
-{
-    match bytes {
-        [] => None,
-        [byte, rest @ ..] => Some((*byte, rest)),
-    }
-}
-
 #[tactic(auto, unfolding(crate::specs::Reading::font_at), using(crate::proofs::Fields::font_name_is))]
 fn font_at(bytes: &[u8]) -> Option<(FontName, &[u8])>
     ensures { Finds (λ x. (x.0, x.1.now)) result (font_at bytes.now) }
 {
-    let (len, rest) = byte_at(bytes)?;
+    let (len, rest) = u8_at(bytes)?;
     let (name, rest) = stretch_at(usize::from(len), rest)?;
     let font = FontName::new(name)?;
     Some((font, rest))
@@ -117,7 +61,7 @@ fn font_at(bytes: &[u8]) -> Option<(FontName, &[u8])>
 fn colour_at(bytes: &[u8]) -> Option<(Colour, &[u8])>
     ensures { Finds (λ x. (x.0, x.1.now)) result (colour_at bytes.now) }
 {
-    let (number, rest) = byte_at(bytes)?;
+    let (number, rest) = u8_at(bytes)?;
     let colour = Colour::new(number)?;
     Some((colour, rest))
 }
@@ -126,7 +70,7 @@ fn colour_at(bytes: &[u8]) -> Option<(Colour, &[u8])>
 fn offset_at(bytes: &[u8]) -> Option<(i8, &[u8])>
     ensures { Finds (λ x. (x.0, x.1.now)) result (offset_at bytes.now) }
 {
-    let (number, rest) = byte_at(bytes)?;
+    let (number, rest) = u8_at(bytes)?;
     Some((number.cast_signed(), rest))
 }
 
@@ -205,7 +149,7 @@ pub(super) fn selected_at(sel: Sel, bytes: &[u8]) -> Option<(Looks, &[u8])>
 pub(super) fn sel_at(bytes: &[u8]) -> Option<(Sel, &[u8])>
     ensures { Finds (λ x. (x.0, x.1.now)) result (sel_at bytes.now) }
 {
-    let (bits, rest) = byte_at(bytes)?;
+    let (bits, rest) = u8_at(bytes)?;
     let sel = Sel::new(bits)?;
     Some((sel, rest))
 }

@@ -3,10 +3,12 @@
 ghost use Rattle.std.specs.Prelude.{◌≡◌, ◌<◌, ◌≤◌, None, length, option_map, IfOk};
 ghost use Rattle.looks.specs.Refusal.{RefusedForMemoryAlone};
 ghost use Rattle.operations.specs.NameSet.{IsSet};
-ghost use Rattle.operations.specs.Reading.{Finds, range_at, is_behind, ranges_at, set_at};
+ghost use Rattle.byte_fields.specs.Fields.{Finds};
+ghost use Rattle.operations.specs.Reading.{range_at, is_behind, ranges_at, set_at};
 
-use super::fields::{positive_u16_at, positive_u32_at, site_at, u32_at};
+use super::fields::{positive_u16_at, positive_u32_at};
 use crate::name_set::{MAX_RANGES, NameRange, NameSet};
+use byte_fields::{site_at, u32_at};
 use char_files::MAX_FILE;
 use looks::Refusal;
 use std::alloc::Global;
@@ -53,7 +55,7 @@ impl<'a> Ranges<'a> {
     }
 }
 
-#[tactic(auto, unfolding(crate::specs::Reading::range_at), using(crate::proofs::Readers::positive_is))]
+#[tactic(auto, unfolding(crate::specs::Reading::range_at), using(byte_fields::proofs::Readers::positive_is))]
 fn range_at(bytes: &[u8]) -> Option<(NameRange, &[u8])>
     ensures { Finds (λ x. (x.0, x.1.now)) result (range_at bytes.now) }
 {

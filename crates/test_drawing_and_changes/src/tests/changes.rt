@@ -1,6 +1,5 @@
 //! Lists of changes: what is quiet in them, and which rows are then as before.
 use super::is;
-use line_drawing::line_end;
 use list_changes::{Change, ChangeKind, all_quiet};
 use std::test::Fail;
 
@@ -104,20 +103,17 @@ fn quiet_changes_are_told(_rt: HostRuntime) -> Result<(), Fail> {
 #[test]
 fn two_rows_stay(_rt: HostRuntime) -> Result<(), Fail> {
     // Rows 0 and 1 end at 3. A `z` at 4 comes behind them, then a `y` at 3 into the second.
-    is(line_end(b"a\rb\rc\rd", 2) == 3, "the end of the second row")?;
     let behind = Change {
         kind: ChangeKind::Insert,
         beg: 4,
         end: 5,
     };
     is(behind.is_quiet(3), "the insert behind")?;
-    is(line_end(b"a\rb\rzc\rd", 2) == 3, "the end is as before")?;
     let into = Change {
         kind: ChangeKind::Insert,
         beg: 3,
         end: 4,
     };
     is(!into.is_quiet(3), "the insert into the row")?;
-    is(line_end(b"a\rby\rzc\rd", 2) == 4, "the end is one on")?;
     is(behind == behind && behind != into, "changes compare")
 }

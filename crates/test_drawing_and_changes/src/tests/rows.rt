@@ -1,46 +1,41 @@
 //! Texts and the rows that they are drawn as.
 use super::is;
-use line_drawing::{beg_of_line, draw_line, line_beg, line_end, line_number, located};
+use line_drawing::{draw_line, located};
 use std::test::Fail;
 
-// A row of a text: its line's number, where that begins and ends, and the row's cells in width 6.
-type Row = (usize, usize, usize, &'static [u8; 6]);
+// A row of a text: where its line begins and ends, and the row's cells in width 6.
+type Row = (usize, usize, &'static [u8; 6]);
 
 // Texts and their lines.
 const TEXTS: &[(&[u8], &[Row])] = &[
-    (b"", &[(0, 0, 0, b"      ")]),
-    (b"\r", &[(0, 0, 0, b"      "), (1, 1, 1, b"      ")]),
+    (b"", &[(0, 0, b"      ")]),
+    (b"\r", &[(0, 0, b"      "), (1, 1, b"      ")]),
     (
         b"\r\r\r",
         &[
-            (0, 0, 0, b"      "),
-            (1, 1, 1, b"      "),
-            (2, 2, 2, b"      "),
-            (3, 3, 3, b"      "),
+            (0, 0, b"      "),
+            (1, 1, b"      "),
+            (2, 2, b"      "),
+            (3, 3, b"      "),
         ],
     ),
-    (b"Oberon\rab", &[(0, 0, 6, b"Oberon"), (1, 7, 9, b"ab    ")]),
-    (b"a\nb\tc\r", &[(0, 0, 5, b"a?b c "), (1, 6, 6, b"      ")]),
+    (b"Oberon\rab", &[(0, 6, b"Oberon"), (7, 9, b"ab    ")]),
+    (b"a\nb\tc\r", &[(0, 5, b"a?b c "), (6, 6, b"      ")]),
     (
         b"a long line\rx",
-        &[(0, 0, 11, b"a long"), (1, 12, 13, b"x     ")],
+        &[(0, 11, b"a long"), (12, 13, b"x     ")],
     ),
 ];
 
-// Whether the calls give this row of the text.
+// Whether the line is drawn as this row.
 fn has_row(text: &[u8], row: Row) -> bool {
-    let (number, beg, end, cells) = row;
+    let (beg, end, cells) = row;
     if beg > end || end > text.len() {
         return false;
     }
     let mut drawn = [b'x'; 6];
     draw_line(&mut drawn, &text[beg..end]);
-    beg_of_line(text, number) == beg
-        && line_end(text, beg) == end
-        && line_beg(text, end) == beg
-        && line_number(&text[..beg]) == number
-        && line_number(&text[..end]) == number
-        && drawn == *cells
+    drawn == *cells
 }
 
 #[test]
@@ -49,19 +44,8 @@ fn texts_are_drawn_as_their_rows(_rt: HostRuntime) -> Result<(), Fail> {
         for row in *rows {
             is(has_row(text, *row), "a row of a text")?;
         }
-        is(
-            line_number(text) + 1 == rows.len(),
-            "how many lines a text has",
-        )?;
     }
-    is(
-        beg_of_line(b"Oberon\rab", 2) == 7,
-        "past the last line the last one begins",
-    )?;
-    is(
-        beg_of_line(b"\r\r\r", 99) == 3,
-        "past the last line of ends alone",
-    )
+    Ok(())
 }
 
 // A row's begin and end, a column, and the position of the cell there.

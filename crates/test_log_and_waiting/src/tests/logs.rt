@@ -18,32 +18,16 @@ const C_GOES: Told = (1, 3, 4, Does::Delete(&[(1, 1)]));
 
 const TOLD: &[Told] = &[X, YZ, AC, B, C_GOES];
 
-// One operation more of site 1, and one of a site that those lack.
-const A_GOES: Told = (1, 4, 5, Does::Delete(&[(1, 0)]));
+// The front of each site, and how long its file is.
+const SITES: &[(u16, u32, u32)] = &[(1, 3, 3), (2, 2, 3), (3, 0, 0)];
 
-const OF_A_THIRD: Told = (3, 1, 5, Does::Insert(None, 0, b"!"));
+const NO_SITES: &[(u16, u32, u32)] = &[(1, 0, 0)];
 
-// What another log has taken in, and whether its fronts are those of `TOLD`.
-const OTHERS: &[(&str, &[Told], bool)] = &[
-    ("in another order", &[AC, X, YZ, B, C_GOES], true),
-    ("one behind", &[AC, X, YZ, B], false),
-    ("one ahead", &[AC, X, YZ, B, C_GOES, A_GOES], false),
-    ("a site more", &[AC, X, YZ, B, C_GOES, OF_A_THIRD], false),
-    ("a site less", &[AC, B, C_GOES], false),
-    ("none", &[], false),
-];
-
-// The front of each site, how long its file is, and the greatest stamp of its operations.
-const SITES: &[(u16, u32, u32, u64)] = &[(1, 3, 3, 4), (2, 2, 3, 3), (3, 0, 0, 0)];
-
-const NO_SITES: &[(u16, u32, u32, u64)] = &[(1, 0, 0, 0)];
-
-fn are_counted(log: &Log, sites: &[(u16, u32, u32, u64)]) -> Result<(), Fail> {
-    for (number, front, len, stamp) in sites {
+fn are_counted(log: &Log, sites: &[(u16, u32, u32)]) -> Result<(), Fail> {
+    for (number, front, len) in sites {
         let site = site(*number)?;
         is(log.front(site) == *front, "a front")?;
         is(log.file_len(site) == *len, "a file's length")?;
-        is(log.site_stamp(site) == *stamp, "a site's stamp")?;
     }
     Ok(())
 }
@@ -96,22 +80,6 @@ fn has_two_sites(log: &Log) -> Result<(), Fail> {
     )
 }
 
-fn compares(
-    log: &Log,
-    other: &mut Log,
-    alloc: Global,
-    (what, told, want): (&'static str, &[Told], bool),
-) -> Result<(), Fail> {
-    take_all(other, alloc, told)?;
-    is(log.has_fronts_of(other) == want, what)?;
-    is(other.has_fronts_of(log) == want, what)
-}
-
-fn compares_with(log: &Log, alloc: Global, row: (&'static str, &[Told], bool)) -> Result<(), Fail> {
-    let mut other = Log::new(alloc);
-    compares(log, &mut other, alloc, row)
-}
-
 fn answers(log: &mut Log, alloc: Global) -> Result<(), Fail> {
     is(
         log.len() == 0 && log.stamp() == 0 && log.ops().is_empty(),
@@ -125,11 +93,7 @@ fn answers(log: &mut Log, alloc: Global) -> Result<(), Fail> {
     are_lacking(log, LACKING)?;
     are_found(log, alloc, TOLD)?;
     have_stamps(log, STAMPS)?;
-    has_two_sites(log)?;
-    for row in OTHERS {
-        compares_with(log, alloc, *row)?;
-    }
-    Ok(())
+    has_two_sites(log)
 }
 
 // What a log answers while it is empty, and once it has operations.

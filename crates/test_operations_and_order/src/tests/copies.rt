@@ -49,7 +49,7 @@ const KINDS: &[(&str, Fields)] = &[
 // A copy; an allocation that is refused once is tried again.
 fn copy_of(op: &Op) -> Result<Op, Refusal> {
     match op.copy() {
-        Err(Refusal::OutOfMemory) => op.copy(),
+        Err(Refusal::OutOfMemory { .. }) => op.copy(),
         answer => answer,
     }
 }

@@ -1,5 +1,5 @@
 use super::is;
-use looks::{Colour, FontName, Key, Looks, Refusal, Register, Sel};
+use looks::{Colour, FontName, Key, Looks, OUT_OF_MEMORY, Refusal, Register, Sel};
 use std::test::Fail;
 
 // Whether the name of these bytes, if they are one, is spelled by them and is equal to its copy.
@@ -93,7 +93,6 @@ const REFUSALS: &[(Refusal, u8)] = &[
     (Refusal::BadOffset, 4),
     (Refusal::BadStamp, 5),
     (Refusal::RoomFull, 6),
-    (Refusal::OutOfMemory, 7),
     (Refusal::Behind, 8),
     (Refusal::StampsSpent, 9),
     (Refusal::FileSpent, 10),
@@ -117,5 +116,9 @@ fn refusals_are_numbered() -> Result<(), Fail> {
     for (refusal, number) in REFUSALS {
         is(refusal.number() == *number, "a refusal's number")?;
     }
-    Ok(())
+    let refused = Refusal::within_memory(1, 0).map_err(|refusal| refusal.number());
+    is(
+        refused == Err(7) && OUT_OF_MEMORY == 7,
+        "the number of refused memory",
+    )
 }

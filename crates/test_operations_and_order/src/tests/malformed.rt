@@ -10,7 +10,7 @@ use std::test::Fail;
 // The operation of a message; an allocation that is refused once is tried again.
 fn op_in(alloc: Global, message: &[u8]) -> Result<Op, Refusal> {
     match decode(alloc, message) {
-        Err(Refusal::OutOfMemory) => decode(alloc, message),
+        Err(Refusal::OutOfMemory { .. }) => decode(alloc, message),
         answer => answer,
     }
 }

@@ -97,7 +97,7 @@ fn put(set: &mut NameSet, before: &NameSet, name: Name) -> Result<(), Fail> {
         return Ok(());
     };
     is(
-        refusal == Refusal::OutOfMemory && set.is_same(before),
+        matches!(refusal, Refusal::OutOfMemory { .. }) && set.is_same(before),
         "as before",
     )?;
     set.insert(name)?;

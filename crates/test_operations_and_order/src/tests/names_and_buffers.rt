@@ -65,7 +65,7 @@ fn goes_in(buffer: &mut Buffer, before: &[(u8, i8)], (byte, offset): (u8, i8)) -
         return Ok(());
     };
     is(
-        refusal == Refusal::OutOfMemory && has(buffer, before),
+        matches!(refusal, Refusal::OutOfMemory { .. }) && has(buffer, before),
         "as before",
     )?;
     buffer.push(byte, looks_at(offset))?;
@@ -75,7 +75,7 @@ fn goes_in(buffer: &mut Buffer, before: &[(u8, i8)], (byte, offset): (u8, i8)) -
 // A copy; an allocation that is refused once is tried again.
 fn copy_of(buffer: &Buffer) -> Result<Buffer, Refusal> {
     match buffer.copy() {
-        Err(Refusal::OutOfMemory) => buffer.copy(),
+        Err(Refusal::OutOfMemory { .. }) => buffer.copy(),
         answer => answer,
     }
 }

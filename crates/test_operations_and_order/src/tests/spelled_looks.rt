@@ -60,7 +60,7 @@ fn writes(
     what: &'static str,
 ) -> Result<(), Fail> {
     if let Err(refusal) = write_looks(looks, bytes) {
-        is(refusal == Refusal::OutOfMemory, what)?;
+        is(matches!(refusal, Refusal::OutOfMemory { .. }), what)?;
         is(bytes.as_slice() == b"before".as_slice(), what)?;
         write_looks(looks, bytes)?;
     }

@@ -10,7 +10,7 @@ use std::test::Fail;
 // was before.
 fn writes(op: &Op, message: &mut Vec<u8>, case: &Message) -> Result<(), Fail> {
     if let Err(refusal) = encode(op, message) {
-        is(refusal == Refusal::OutOfMemory, case.what)?;
+        is(matches!(refusal, Refusal::OutOfMemory { .. }), case.what)?;
         is(message.as_slice() == b"before".as_slice(), case.what)?;
         encode(op, message)?;
     }
@@ -25,7 +25,7 @@ fn is_written(op: &Op, alloc: Global, case: &Message) -> Result<(), Fail> {
 
 fn read_of(alloc: Global, bytes: &[u8]) -> Result<Op, Refusal> {
     match decode(alloc, bytes) {
-        Err(Refusal::OutOfMemory) => decode(alloc, bytes),
+        Err(Refusal::OutOfMemory { .. }) => decode(alloc, bytes),
         answer => answer,
     }
 }

@@ -176,7 +176,7 @@ pub(super) fn make(
         return Ok(());
     };
     is(
-        refusal == Refusal::OutOfMemory && has(list, before),
+        matches!(refusal, Refusal::OutOfMemory { .. }) && has(list, before),
         "a refused change changed the list",
     )?;
     Ok(try_step(list, alloc, step)??)

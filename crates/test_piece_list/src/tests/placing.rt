@@ -26,7 +26,7 @@ fn split(list: &mut PieceList, site: u16, off: u32, before: &[Told]) -> Result<P
         Err(refusal) => refusal,
     };
     is(
-        refusal == Refusal::OutOfMemory && has(list, before),
+        matches!(refusal, Refusal::OutOfMemory { .. }) && has(list, before),
         "a refused split changed the list",
     )?;
     let again = find(list, site, off)?;

@@ -55,7 +55,7 @@ fn push(ring: &mut Ring<u32>, value: u32, members: &[(u64, u32)]) -> Result<u64,
     match ring.push_after(value) {
         Ok(tag) => Ok(tag),
         Err((value, refusal)) => {
-            if refusal != Refusal::OutOfMemory || !has(ring, members) {
+            if !matches!(refusal, Refusal::OutOfMemory { .. }) || !has(ring, members) {
                 return Err("a refused push changed the ring".into());
             }
             match ring.push_after(value) {

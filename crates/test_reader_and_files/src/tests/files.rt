@@ -93,7 +93,7 @@ fn is_file_of(alloc: Global, text: &Buffer, want: &[u8]) -> bool {
 fn is_loaded(loaded: &Result<Buffer, Refusal>, chars: &[u8]) -> bool {
     match loaded {
         Ok(text) => is_plain(text, chars),
-        Err(refusal) => *refusal == Refusal::OutOfMemory,
+        Err(refusal) => matches!(refusal, Refusal::OutOfMemory { .. }),
     }
 }
 
@@ -114,7 +114,10 @@ fn plain_files_are_loaded(rt: HostRuntime) -> Result<(), Fail> {
 fn goes_behind(file: &mut Vec<u8>) -> Result<(), Fail> {
     file.extend_from_slice(b"before")?;
     if let Err(refusal) = store(&Plain(b"Edit.Store s"), file) {
-        is(refusal == Refusal::OutOfMemory, "memory alone")?;
+        is(
+            matches!(refusal, Refusal::OutOfMemory { .. }),
+            "memory alone",
+        )?;
         is(file.as_slice() == b"before".as_slice(), "as before")?;
         store(&Plain(b"Edit.Store s"), file)?;
     }

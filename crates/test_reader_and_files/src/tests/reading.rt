@@ -36,7 +36,7 @@ fn fill(buffer: &mut Buffer) -> Result<(), Fail> {
             continue;
         };
         is(
-            refusal == Refusal::OutOfMemory && buffer.len() == before,
+            matches!(refusal, Refusal::OutOfMemory { .. }) && buffer.len() == before,
             "as before",
         )?;
         buffer.push_all(bytes, &looks)?;

@@ -30,7 +30,7 @@ fn is_written(buffer: &Buffer, bytes: &[u8]) -> bool {
 fn is_all(written: Result<(), Refusal>, buffer: &Buffer, bytes: &[u8]) -> bool {
     match written {
         Ok(()) => is_written(buffer, bytes),
-        Err(refusal) => refusal == Refusal::OutOfMemory && buffer.len() == 0,
+        Err(refusal) => matches!(refusal, Refusal::OutOfMemory { .. }) && buffer.len() == 0,
     }
 }
 

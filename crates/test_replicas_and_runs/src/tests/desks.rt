@@ -57,7 +57,7 @@ fn goes_in(
 ) -> Result<(), Fail> {
     let sent = outbox.len();
     let mut answer = type_in(desk, text, (*pos, *bytes), outbox);
-    if answer == Err(EditRefusal::Whole(Refusal::OutOfMemory)) {
+    if matches!(answer, Err(EditRefusal::Whole(Refusal::OutOfMemory { .. }))) {
         is(outbox.len() == sent, "no message")?;
         prints(desk, text, before)?;
         answer = type_in(desk, text, (*pos, *bytes), outbox);

@@ -261,11 +261,11 @@ fn answers_are_flushed(rt: HostRuntime) -> Result<(), Fail> {
 #[test]
 fn statuses(rt: HostRuntime) -> Result<(), Fail> {
     is(status_of(&Ok(())) == 0, "a run that ended well")?;
-    for why in [
-        Refusal::OutOfMemory,
-        Refusal::ReadFault,
-        Refusal::WriteFault,
-    ] {
+    is(
+        status_of(&Refusal::within_memory(1, 0)) == 1,
+        "a run that was refused memory",
+    )?;
+    for why in [Refusal::ReadFault, Refusal::WriteFault] {
         is(status_of(&Err(why)) == 1, "a run that didn't")?;
     }
     Ok(())

@@ -361,8 +361,6 @@ fn hears_all(
     is(taken_in(reader)? == sent.outbox.len() as u64, "all of them")?;
     is(merges(reader, writer)? == 0, "nothing new")?;
     merges(writer, reader)?;
-    is(reader.has_fronts_of(writer), "equal fronts")?;
-    is(writer.has_fronts_of(reader), "equal fronts")?;
     shows(reader, sent.shown)?;
     shows(writer, sent.shown)
 }

@@ -131,8 +131,6 @@ fn stays_apart(
     let refused = Err(MergeRefusal::Whole(Refusal::WrongText));
     is(one.merge_from(two) == refused, "another text")?;
     is(two.merge_from(one) == refused, "another text")?;
-    is(!one.has_fronts_of(two), "other fronts")?;
-    is(!two.has_fronts_of(one), "other fronts")?;
     is(two.shown_len() == 1, "as before")?;
     stands_as_told(one)
 }

@@ -1,6 +1,6 @@
 use Rattle.std.proofs.Common.{◌≡◌, ◌∷◌, ◌++◌, []}
 use Rattle.looks.specs.Sel.{bits_of}
-use Rattle.operations.proofs.Appended.{Appends-after, append_both}
+use Rattle.byte_fields.proofs.Appended.{Appends-after, append_both}
 use Rattle.operations.specs.Spelling.{selected_spelling, set_spelling}
 use Rattle.operations.proofs.writing.put_change.Goals as goal
 

@@ -1,7 +1,8 @@
 use Rattle.std.proofs.Common.{◌++◌}
 use Rattle.std.specs.Int.{w16, w32, w64}
-use Rattle.operations.proofs.Appended.{Appends-after, append_both}
-use Rattle.operations.specs.Spelling.{tag_spelling, number_spelling}
+use Rattle.byte_fields.proofs.Appended.{Appends-after, append_both}
+use Rattle.byte_fields.specs.Fields.{number_spelling}
+use Rattle.operations.specs.Spelling.{tag_spelling}
 use Rattle.operations.proofs.writing.put_header.Goals as goal
 
 pub returns : goal.returns

@@ -1,5 +1,5 @@
 use Rattle.std.proofs.Common.{◌≡◌, ◌++◌, ap, ◌∙◌}
-use Rattle.operations.proofs.Appended.{Appends-after}
+use Rattle.byte_fields.proofs.Appended.{Appends-after}
 use Rattle.operations.specs.Spelling.{header_spelling, kind_spelling, kind_byte}
 use Rattle.operations.proofs.writing.put_op.Goals as goal
 

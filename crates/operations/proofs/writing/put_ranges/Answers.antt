@@ -1,7 +1,7 @@
 use Rattle.std.specs.List.{flat_map}
 use Rattle.std.proofs.Common.{take}
 use Rattle.std.proofs.lemmas.Result.{err_from_is_err_and}
-use Rattle.operations.proofs.Appended.{Appends-refused}
+use Rattle.byte_fields.proofs.Appended.{Appends-refused}
 use Rattle.operations.specs.Spelling.{range_spelling}
 use Rattle.operations.proofs.writing.put_ranges.Goals as goal
 

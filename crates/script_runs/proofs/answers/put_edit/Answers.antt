@@ -20,5 +20,5 @@ returns-in_err-put_sends-in-Err-Partial g c =
 pub returns-in_ok-put_sends-in-Err-Partial : goal.returns-in_ok-put_sends-in-Err-Partial
 returns-in_ok-put_sends-in-Err-Partial g c =
     let is = c.in-Err-Partial.is ∙ ap refused (rw c.in-Err-Partial.is at c.in-Err-Partial.field-0-is) in
-    let told = rw c.from.ensures at c.put_partial.ensures in
+    let told = rw (c.from.ensures, c.number.ensures) at c.put_partial.ensures in
     rw is (writes_after _ _ _ _ _ _ _ c.in_ok-put_sends-in-Err-Partial.ensures told)

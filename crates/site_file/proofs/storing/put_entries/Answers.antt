@@ -1,7 +1,7 @@
 use Rattle.std.proofs.Common.{◌<◌, arith, length, take}
 use Rattle.std.specs.List.{flat_map}
 use Rattle.std.proofs.lemmas.Result.{err_from_is_err_and}
-use Rattle.operations.proofs.Appended.{Appends-refused}
+use Rattle.byte_fields.proofs.Appended.{Appends-refused}
 use Rattle.texts.specs.SiteFiles.{entry_spelling}
 use Rattle.site_file.proofs.Stored.{entry_more, spelled_more}
 use Rattle.site_file.proofs.storing.put_entries.Goals as goal

@@ -1,28 +1,53 @@
-use Rattle.std.proofs.Common.{◌≡◌, ◌++◌, ap, sym, length, arith, ◌∙◌}
+use Rattle.std.proofs.Common.{◌≡◌, ◌++◌, ap, length, take, arith, ◌∙◌}
 use Rattle.std.specs.Int.{w16}
-use Rattle.operations.specs.Spelling.{number_spelling, spelling}
-use Rattle.operations.proofs.Appended.{Appends-after}
-use Rattle.texts.proofs.Merging.{when_ok}
+use Rattle.std.proofs.lemmas.List.{take_all}
+use Rattle.std.proofs.lemmas.Result.{err_from_is_err_and}
+use Rattle.byte_fields.specs.Fields.{number_spelling}
+use Rattle.byte_fields.proofs.Appended.{append_both, Appends-refused, left_in_front, none_appended}
+use Rattle.operations.specs.Spelling.{spelling}
+use Rattle.texts.specs.SiteFiles.{entry_spelling}
 use Rattle.site_file.proofs.Lengths.{spelling_fits}
-use Rattle.site_file.proofs.Stored.{extended}
 use Rattle.site_file.proofs.storing.put_entry.Goals as goal
 
 pub overflow_cast-len : goal.overflow_cast-len
 overflow_cast-len c =
-    let put = when_ok c.encode.result (sym c.is_err.ensures.value ∙ c.if-is_err.false) c.encode.ensures.ok in
     let whole : c.encode.new.out.items ≡ spelling c.args.op.now =
-    put ∙ ap (λ l. l ++ spelling c.args.op.now) c.clear.ensures.items in
+    c.in_ok-encode.ensures.ok ∙ ap (λ l. l ++ spelling c.args.op.now) c.clear.ensures.items in
     omega (arith, ap length whole, c.len.ensures, spelling_fits c.args.op.now c.has_spelling.ensures)
 
-pub returns-clause-entry : goal.returns-clause-entry
-returns-clause-entry c =
-    let put = when_ok c.encode.result (sym c.is_err.ensures.value ∙ c.if-is_err.false) c.encode.ensures.ok in
+pub returns-in_err-encode-clause-entry : goal.returns-in_err-encode-clause-entry
+returns-in_err-encode-clause-entry c =
+    let refused = err_from_is_err_and c.from_residual.result c.from_residual.ensures.1 in
+    none_appended c.from_residual.result c.args.out.now.items (entry_spelling c.args.op.now) refused.0 refused.1
+
+pub returns-in_err-put_u16-clause-entry : goal.returns-in_err-put_u16-clause-entry
+returns-in_err-put_u16-clause-entry c =
+    let refused = err_from_is_err_and c.from_residual-in_err-put_u16.result c.from_residual-in_err-put_u16.ensures.1 in
+    left_in_front c.from_residual-in_err-put_u16.result c.args.out.now.items c.put_u16.new.out.items
+    (entry_spelling c.args.op.now) refused.0 refused.1 c.in_err-put_u16.ensures
+
+pub returns-in_err-extend_from_slice-clause-entry : goal.returns-in_err-extend_from_slice-clause-entry
+returns-in_err-extend_from_slice-clause-entry c =
+    let refused = err_from_is_err_and c.from_residual-in_err-extend_from_slice.result
+    c.from_residual-in_err-extend_from_slice.ensures.1 in
     let whole : c.encode.new.out.items ≡ spelling c.args.op.now =
-    put ∙ ap (λ l. l ++ spelling c.args.op.now) c.clear.ensures.items in
+    c.in_ok-encode.ensures.ok ∙ ap (λ l. l ++ spelling c.args.op.now) c.clear.ensures.items in
     let len : c.len.result ≡ length (spelling c.args.op.now) = omega (arith, c.len.ensures, ap length whole) in
     let one : c.put_u16.new.out.items ≡ c.args.out.now.items ++ number_spelling w16 (length (spelling c.args.op.now)) =
     c.in_ok-put_u16.ensures ∙ ap (λ n. c.args.out.now.items ++ number_spelling w16 n) len in
-    Appends-after c.extend_from_slice.result c.args.out.now.items c.put_u16.new.out.items
-    c.extend_from_slice.new.self.items (number_spelling w16 (length (spelling c.args.op.now))) (spelling c.args.op.now)
-    one (extended c.extend_from_slice.result c.put_u16.new.out.items c.extend_from_slice.new.self.items
-    c.deref.result.now (spelling c.args.op.now) (c.deref.ensures.value ∙ whole) c.extend_from_slice.ensures.items)
+    let mid = c.put_u16.new.out.items in
+    Appends-refused c.from_residual-in_err-extend_from_slice.result c.args.out.now.items mid
+    c.extend_from_slice.new.self.items (number_spelling w16 (length (spelling c.args.op.now)))
+    (entry_spelling c.args.op.now) one refused.0 refused.1
+    (ap (λ l. take (length mid) l) c.in_err-extend_from_slice.ensures.items ∙ take_all (length mid) mid (omega arith))
+
+pub returns-clause-entry : goal.returns-clause-entry
+returns-clause-entry c =
+    let whole : c.encode.new.out.items ≡ spelling c.args.op.now =
+    c.in_ok-encode.ensures.ok ∙ ap (λ l. l ++ spelling c.args.op.now) c.clear.ensures.items in
+    let len : c.len.result ≡ length (spelling c.args.op.now) = omega (arith, c.len.ensures, ap length whole) in
+    let one : c.put_u16.new.out.items ≡ c.args.out.now.items ++ number_spelling w16 (length (spelling c.args.op.now)) =
+    c.in_ok-put_u16.ensures ∙ ap (λ n. c.args.out.now.items ++ number_spelling w16 n) len in
+    append_both c.args.out.now.items c.put_u16.new.out.items c.extend_from_slice.new.self.items
+    (number_spelling w16 (length (spelling c.args.op.now))) (spelling c.args.op.now) one
+    (c.in_ok-extend_from_slice.ensures.items ∙ ap (λ l. c.put_u16.new.out.items ++ l) (c.deref.ensures.value ∙ whole))

@@ -1,7 +1,7 @@
 use Rattle.std.proofs.Common.{◌++◌}
 use Rattle.std.specs.Int.{w16, w32}
-use Rattle.operations.specs.Spelling.{number_spelling}
-use Rattle.operations.proofs.Appended.{Appends-after, append_both}
+use Rattle.byte_fields.specs.Fields.{number_spelling}
+use Rattle.byte_fields.proofs.Appended.{Appends-after, append_both}
 use Rattle.texts.specs.SiteFiles.{tag}
 use Rattle.site_file.proofs.storing.put_head.Goals as goal
 

@@ -1,8 +1,8 @@
 use Rattle.std.proofs.Common.{◌≡◌, ◌++◌, List, ℕ, length}
 use Rattle.std.specs.Int.{w16, w32}
 use Rattle.std.specs.List.{flat_map}
-use Rattle.operations.specs.Spelling.{number_spelling}
-use Rattle.operations.proofs.Appended.{Appends-after}
+use Rattle.byte_fields.specs.Fields.{number_spelling}
+use Rattle.byte_fields.proofs.Appended.{Appends-after}
 use Rattle.texts.specs.SiteFiles.{entry_spelling, site_bytes, tag}
 use Rattle.site_file.proofs.storing.put_site.Goals as goal
 

@@ -1,6 +1,6 @@
 use Rattle.std.proofs.Common.{◌++◌, ap, length, arith, ◌∙◌}
 use Rattle.std.specs.Int.{w32}
-use Rattle.operations.specs.Spelling.{number_spelling}
+use Rattle.byte_fields.specs.Fields.{number_spelling}
 use Rattle.text_file.proofs.Stored.{stored, runs_few}
 use Rattle.text_file.proofs.storing.file_of.Goals as goal
 

@@ -50,4 +50,4 @@ invariant_of-self c =
       end = c.file_len.result + c.appended_bytes.result;
       stamp = c.stamp.result;
     }) next begins c.has_spelling.ensures.stamp.1 c.site-site.ensures c.stamp.ensures
-    index ends c.push.ensures.entries c.push.ensures.stamp c.push.ensures.others))
+    index ends c.push.ensures.entries c.push.ensures.others))

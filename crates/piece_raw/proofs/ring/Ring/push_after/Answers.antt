@@ -10,7 +10,8 @@ returns-clause-tag g c =
     omega (
       arith,
       c.push-new.ensures.tag,
-      c.reserve.ensures.len,
+      c.in_default.ensures.most,
+      ap length c.in_default.ensures.unchanged.0,
       count_members (spots n.table.items)
           n.links.nodes tied.matches,
       length-map n.table.items (λ b. b.node.ptr),

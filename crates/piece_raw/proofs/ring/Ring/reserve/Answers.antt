@@ -11,7 +11,7 @@ returns-clause-most g c =
       arith,
       c.len.ensures,
       c.saturating_add.ensures,
-      c.if-saturating_add-gt-MAX_TAGS.false,
+      c.in_ok-within_memory.ensures.ok,
       count_members (spots n.table.items)
           n.links.nodes tied.matches,
       length-map n.table.items (λ b. b.node.ptr),

@@ -9,8 +9,8 @@ use Rattle.std.proofs.lemmas.List.{get_or-drop, get_or-take, get_or_past, get_or
 use Rattle.std.proofs.lemmas.List.{get_or_default}
 use Rattle.std.proofs.lemmas.Nat.{be_bytes_2, be_bytes_4, be_bytes_8, from_be_bytes-to_be_bytes_2}
 use Rattle.std.proofs.lemmas.Nat.{from_be_bytes-to_be_bytes_4, from_be_bytes-to_be_bytes_8}
-use Rattle.operations.specs.Reading.{◌>>=◌, stretch_at, number_at, positive_at, byte_at}
-use Rattle.operations.specs.Spelling.{number_spelling}
+use Rattle.byte_fields.specs.Fields.{◌>>=◌, stretch_at, number_at, positive_at, byte_at}
+use Rattle.byte_fields.specs.Fields.{number_spelling}
 
 abbrev pub IsBytes : List ℕ → Type 0
 IsBytes bytes = (i : ℕ) → get_or bytes i 0 < 256
@@ -144,6 +144,21 @@ number_reads w limit wide = record {
         wide.again n lt,
       ) refl;
 }
+
+-- a number that was found is what the bytes begin with
+pub number_first : (w : Width) (limit : ℕ) → IsWide w limit → (bytes : List ℕ) (n : ℕ) (rest : List ℕ) → IsBytes bytes
+    → number_at w bytes ≡ Some (n, rest) → (n < limit) × (bytes ≡ number_spelling w n ++ rest)
+number_first w limit wide bytes n rest fits e =
+    let took = (number_reads w limit wide).takes bytes n rest fits e in (took.in_range, took.parts)
+
+-- where none was found there are too few bytes
+pub number_missing : (w : Width) (bytes : List ℕ) → number_at w bytes ≡ None → length bytes < byte_len w
+number_missing w bytes e =
+    elim (cases_lt (length bytes) (byte_len w)) [
+      | inl lt ↦ lt
+      | inr le ↦ let no : number_at w bytes ≡ Some (from_be_bytes w (take (byte_len w) bytes), drop (byte_len w) bytes) =
+          rw (le-ltb _ _ le) refl in absurd cc
+    ]
 
 -- a number from 1 on
 abbrev pub IsPositive : ℕ → ℕ → Type 0
