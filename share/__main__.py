@@ -2,21 +2,37 @@
 import argparse
 import contextlib
 import curses
+import getpass
 import locale
 import os
+import pathlib
 import signal
 import sys
+from collections.abc import Callable
 
+from share import link as links
+from share import opening, printing
+from share.controls import shown
+from share.disk import Unkept
 from share.editor import edit
+from share.link import Link
 from share.note import Note
-from share.session import Session, data_folder
+from share.session import Bar, Session
 from share.words import Refused, Trouble, counted
 
 PAGE = """\
-Opens a shared note in the terminal. Whoever opens the same NAME in the same log edits the same note, at once.
+Opens a shared note in the terminal. Whoever has opened the same note edits it at once.
+
+  bin/note NAME                   opens a note; one that isn't here is made, or joined by its link
+  bin/note NAME --print           prints it
+  bin/note link NAME              prints the link by which others join it
+  bin/note renew NAME             copies it into a new note with a new key, which those who have the old link
+                                  can't read
+  bin/note recover FOLDER ..      brings notes back from what is left of people's data folders
+  bin/note open NAME              opens a note that has the name of one of these
 
 keys:
-  arrows, Home, End, PgUp, PgDn   move
+  arrows, Home, End, PgUp, PgDn   move; Ctrl-Left, Ctrl-Right by words
   Backspace, Delete               delete
   Ctrl-Z                          take back your own last edit, and nobody else's; again, the one before it
   Ctrl-F                          find; without words, what was looked for last
@@ -24,50 +40,147 @@ keys:
   Ctrl-Q                          quit
 """
 END = """\
-Without --log the log is a file in the data folder: VIALSHOAL_DATA, else $XDG_DATA_HOME/vialshoal, else
-~/.local/share/vialshoal. With --log redis://HOST:PORT it is kept by a Redis server, which needs Python's
-module redis (Debian: apt-get install python3-redis). What you type is on this machine's disk before it is
-sent, so you can go on where the log can't be reached. VIALSHOAL_PROGRAM names another program than bin/built.
+A note is a file in the data folder: VIALSHOAL_DATA, else $XDG_DATA_HOME/vialshoal, else
+~/.local/share/vialshoal. All of it is there, so it can be read and edited without any log. To share it, --log
+names a log as the note is made: redis://HOST:PORT, rediss://HOST:PORT with TLS, unix:///PATH, or the path of a
+file for two accounts of one machine. A note on a server is sealed: give the others its link, by a way on which
+nobody else reads it.
 
-Ends with 0, and with 2 and a sentence where the note couldn't be opened or had to be closed. docs/SHARING.md
-tells more.
+A link is read from VIALSHOAL_LINK, from the file that --link-file names, or asked for; a server's password from
+VIALSHOAL_PASSWORD or the file that --password-file names. A server needs Debian's python3-nacl.
+VIALSHOAL_PROGRAM names another program than bin/built.
+
+Ends with 0; with 2 and a sentence where the note couldn't be opened; --print with 3 where something is missing
+in what it printed, which standard error says. docs/SHARING.md says more.
 """
+VERBS = ("open", "link", "renew", "recover")
+INCOMPLETE = 3
 
 
 def words() -> argparse.Namespace:
     """What the command line says."""
-    parser = argparse.ArgumentParser("note", description=PAGE, epilog=END,
+    parser = argparse.ArgumentParser("note", description=PAGE, epilog=END, usage="bin/note [VERB] NAME [options]",
                                      formatter_class=argparse.RawDescriptionHelpFormatter)
-    parser.add_argument("name", metavar="NAME", help="letters, digits, dots, hyphens and underscores")
-    parser.add_argument("--log", metavar="URL", help="redis://HOST:PORT; without it, on this machine")
+    parser.add_argument("names", metavar="NAME", nargs="+",
+                        help="letters, digits, dots, hyphens and underscores")
+    parser.add_argument("--log", metavar="URL", help="where the note's log is; without it, where it was last")
     parser.add_argument("--print", action="store_true", dest="prints", help="print the note and end")
-    return parser.parse_args()
+    parser.add_argument("--link-file", metavar="FILE", help="a file that has the note's link")
+    parser.add_argument("--password-file", metavar="FILE", help="a file that has the server's password")
+    given = parser.parse_args()
+    given.verb, given.names = _verb(given.names)
+    if len(given.names) != 1 and given.verb != "recover":
+        parser.error("one NAME is needed")
+    return given
 
 
-def on_screen(given: argparse.Namespace) -> None:
+def _verb(names: list[str]) -> tuple[str, list[str]]:
+    if names[0] in VERBS and len(names) > 1:
+        return names[0], names[1:]
+    if names[0] in VERBS:
+        raise Trouble(f"{names[0]} needs the name of a note; a note of this name is opened by bin/note open "
+                      f"{names[0]}.")
+    return "open", names
+
+
+def secret(name: str | None, variable: str) -> str | None:
+    """What a file or a variable has that no argument may, since every account sees those."""
+    if name is None:
+        return os.environ.get(variable) or None
+    try:
+        return pathlib.Path(name).read_text(encoding="utf-8").strip()
+    except (OSError, ValueError) as why:
+        raise Trouble(f"{name} can't be read ({why}).") from why
+
+
+def link_of(given: argparse.Namespace, name: str) -> Link | None:
+    """The link that was given, or that is asked for where there is no such note."""
+    if spelled := secret(given.link_file, "VIALSHOAL_LINK"):
+        return links.read(spelled)
+    if opening.is_here(name) or not (sys.stdin.isatty() and sys.stdout.isatty()):
+        return None
+    print(f"There is no note {name} here. To join one, paste its link, which isn't shown; Enter alone makes a new "
+          "note.")
+    try:
+        spelled = getpass.getpass("Link: ")
+    except (EOFError, KeyboardInterrupt) as why:
+        raise Trouble("No note was made.") from why
+    return links.read(spelled) if spelled.strip() else None
+
+
+def on_screen(given: argparse.Namespace, name: str) -> None:
     """Edits the note in the terminal, and says what is left to be sent."""
+    opening.path_of(name)
     if not (sys.stdin.isatty() and sys.stdout.isatty()):
         raise Trouble("The editor needs a terminal. To print a note: bin/note NAME --print.")
+    url = links.url_of(given.log) if given.log else None
+    password = secret(given.password_file, "VIALSHOAL_PASSWORD")
+    link = link_of(given, name)
     os.environ.setdefault("ESCDELAY", "25")
 
-    def open_note(bar, wake) -> Note:
-        return Note(Session(given.name, given.log, bar, wake))
+    def open_note(bar: Bar, wake: Callable[[], None]) -> Note:
+        told: list[str] = []
+        session = Session(opening.opened(name, url, link, password, told.append), password, bar, wake)
+        for left_out in told:
+            session.tell(left_out)
+        return Note(session)
 
     try:
-        note = curses.wrapper(edit, given.name, open_note)
+        note = curses.wrapper(edit, name, open_note)
     except curses.error as why:
         raise Trouble(f"The terminal can't be used ({why}). TERM has to name one that this system "
                       "knows.") from why
     if unsent := note.session.status().unsent:
-        print(f"Not sent yet, and kept in {data_folder()}: {counted(unsent, 'edit')}. Open the note again "
-              "when its log can be reached.")
+        print(f"Not sent yet, and kept in {opening.path_of(name)}: {counted(unsent, 'edit')}. Open the note again when "
+              "its log can be reached.")
 
 
-def printed(given: argparse.Namespace) -> None:
-    """Prints the note."""
-    note = Note(Session(given.name, given.log))
-    note.session.close()
-    sys.stdout.buffer.write(note.as_file())
+def printed(given: argparse.Namespace, name: str) -> int:
+    """Prints the note, and what is missing in it on standard error."""
+    url = links.url_of(given.log) if given.log else None
+    spelled = secret(given.link_file, "VIALSHOAL_LINK")
+    found = printing.printed(name, url, links.read(spelled) if spelled else None,
+                             secret(given.password_file, "VIALSHOAL_PASSWORD"))
+    text = found.text.replace(b"\r", b"\n")
+    if sys.stdout.isatty():
+        # A terminal does what control characters say, whoever typed them.
+        lines = text.decode("utf-8", "surrogateescape").split("\n")
+        text = "\n".join(map(shown, lines)).encode("utf-8", "replace")
+    sys.stdout.buffer.write(text)
+    sys.stdout.buffer.flush()
+    for one in found.missing:
+        print(f"note: {shown(one)}", file=sys.stderr)
+    return INCOMPLETE if found.missing else 0
+
+
+def renewed(given: argparse.Namespace, name: str) -> int:
+    """Copies the note into a new one, and says what isn't in that on standard error."""
+    before, missing = opening.renew(name, links.url_of(given.log) if given.log else None,
+                                    secret(given.password_file, "VIALSHOAL_PASSWORD"))
+    where = f"is {before} now" if before else "is left as it is"
+    print(f"{name} is a new note with the text and the history of the old one, which {where}. If it has a log, bin/note "
+          f"link {name} prints its link, for those who are to go on.")
+    for one in missing:
+        print(f"note: {shown(one)}", file=sys.stderr)
+    return INCOMPLETE if missing else 0
+
+
+def done(given: argparse.Namespace) -> int:
+    """Does what the command line says; the status."""
+    if given.verb == "recover":
+        for told in opening.recover([pathlib.Path(name) for name in given.names]):
+            print(shown(told))
+        return 0
+    (name,) = given.names
+    if given.verb == "link":
+        print(opening.link_of(name))
+    elif given.verb == "renew":
+        return renewed(given, name)
+    elif given.prints:
+        return printed(given, name)
+    else:
+        on_screen(given, name)
+    return 0
 
 
 def use_utf_8() -> None:
@@ -80,20 +193,20 @@ def use_utf_8() -> None:
 
 def main() -> int:
     """The status with which the command ends."""
-    given = words()
     use_utf_8()
     # The terminal is to be put right where the user closes it, too.
     for number in signal.SIGHUP, signal.SIGTERM:
         signal.signal(number, lambda *_: sys.exit(0))
     try:
-        if given.prints:
-            printed(given)
-        else:
-            on_screen(given)
-    except (Trouble, Refused) as why:
-        print(f"note: {why}", file=sys.stderr)
-        return 2
-    return 0
+        return done(words())
+    except (Trouble, Refused, Unkept) as why:
+        print(f"note: {shown(str(why))}", file=sys.stderr)
+    except BrokenPipeError:
+        # Who read what was printed went away.
+        os.dup2(os.open(os.devnull, os.O_WRONLY), sys.stdout.fileno())
+    except OSError as why:
+        print(f"note: {shown(str(why))}", file=sys.stderr)
+    return 2
 
 
 if __name__ == "__main__":

@@ -1,115 +1,333 @@
-"""Carries messages between a site and the log, in two threads: a slow or absent log never holds up a
-keystroke."""
+"""Carries entries between a note's file and its log, in threads: a slow or absent log never holds up a
+keystroke. What either lacks it is given: the file what is in the log, the log what is in the file, whoever
+wrote it."""
+import secrets
+import struct
 import threading
 import time
-from collections import deque
 from collections.abc import Callable
 from contextlib import closing
+from dataclasses import dataclass, field
 
-from share.log import ON_SECONDS, Conflict, Entry, Log, Unreachable
-from share.site import Site
-from share.words import Trouble
+from share.disk import Damaged, Disk, Place, Unkept
+from share.entry import Bad, Entry, Form, Kind, digest
+from share.log import ON_SECONDS, START, Carried, Log, Lost, Unreachable
+from share.words import Trouble, entries
 
 # After so many seconds a log that couldn't be reached is tried again.
 AGAIN_SECONDS = 1
-# A thread looks so often whether it is to stop.
+# A thread looks so often whether it is to stop, and whether the log still is the one that it read.
 TURN_SECONDS = 0.5
-# So many messages are appended at once.
+# The file is looked at so often for what other editors of this person wrote. To look takes microseconds.
+LOOK_SECONDS = 0.03
+# So many entries are appended at once.
 BATCH = 200
+# For what is missing the others are asked again after so many seconds, which double up to a most.
+ASK_SECONDS, MOST_ASK_SECONDS = 2, 600
+# After others have asked for what is missing the log isn't read for that again for so many seconds.
+ANSWER_SECONDS = 3
+# So many things wait to be told to the user at most.
+MOST_TOLD = 100
+# What an editor says of itself: which one it is, and how often it has asked the others for what is missing.
+PRESENCE = struct.Struct(">16sI")
+
+
+@dataclass
+class _Carrying:
+    """What the threads know of the log, for all of them."""
+
+    # The hashes of what was read in the log, since it was last read from its front.
+    read: set[bytes] = field(default_factory=set)
+    # Those of what it was given, and said to have.
+    given: set[bytes] = field(default_factory=set)
+    # Those of what it had before, while it is read from its front.
+    had: set[bytes] = field(default_factory=set)
+    # How often the log was read whole.
+    whole: int = 0
+    # Whether the log is to be read from its front.
+    anew: bool = False
+
+    def has(self, of: bytes) -> bool:
+        """Whether the log is known to have an entry."""
+        return of in self.read or of in self.given or of in self.had
 
 
 class Courier:
-    """Sends what a site made, from its own messages, and brings what the log has behind a place."""
+    """Carries entries of one note, each of whose threads has the file and the log open for itself."""
 
-    def __init__(self, open_log: Callable[[], Log], site: Site, after: str, wake: Callable[[], None]):
-        self.site, self.after, self.sent, self.on = site, after, 0, 1
-        # What ended the carrying for good, if anything did.
-        self.failure: Conflict | Trouble | None = None
-        self._open_log, self._wake = open_log, wake
-        self._arrived: deque[Entry] = deque()
+    def __init__(self, open_disk: Callable[[], Disk], open_log: Callable[[], Log] | None, form: Form,
+                 wake: Callable[[], None]):
+        self.on = 1
+        # What the user is told.
+        self.notices: list[str] = []
+        self._open_disk, self._form, self._wake = open_disk, form, wake
+        self._has_log, self._open_log = open_log is not None, open_log or _no_log
+        self._carrying = _Carrying()
+        # What the file has and the log isn't known to have, by its place in the file; the last place that was
+        # looked at, and in which reading of the log.
+        self._pending: dict[int, Place] = {}
+        self._place, self._whole, self._finding = 0, 0, threading.Lock()
+        # The authors of this person's numbers under which somebody else writes, too.
+        self._shared: set[bytes] = set()
+        self._here = 1
+        self._known: set[bytes] = set()
+        self._known_place = 0
+        # Where the receiver is in the log, and how many entries it read up to there.
+        self._after, self._size = START, 0
+        self._left_out: set[bytes | str] = set()
+        self._token, self._asks, self._asked = secrets.token_bytes(16), 0, 0.0
+        self._heard: dict[bytes, int] = {}
+        self._is_asked, self._answers_again = False, 0.0
         # Why a thread is without the log, by its part.
         self._offline: dict[str, str] = {}
         self._stopped, self._work = threading.Event(), threading.Event()
-        self._threads = [threading.Thread(target=self._carry, args=(part,), daemon=True)
-                         for part in (self._send, self._receive)]
+        parts = [self._look] if not self._has_log else [self._look, self._send, self._receive]
+        self._threads = [threading.Thread(target=self._go_on, args=(part,), daemon=True) for part in parts]
         for thread in self._threads:
             thread.start()
 
     def made(self) -> None:
-        """Says that the site made messages."""
+        """Says that the file has more."""
         self._work.set()
-
-    def waiting(self) -> int:
-        """How many entries came and weren't fetched."""
-        return len(self._arrived)
-
-    def arrivals(self, many: int) -> list[Entry]:
-        """The first so many of these."""
-        return [self._arrived.popleft() for _ in range(many)]
 
     def offline(self) -> str | None:
         """Why the log can't be had, where it can't."""
         return next(iter([*self._offline.values()]), None)
 
-    def unsent(self) -> int:
-        """How many own messages the log isn't known to have."""
-        return max(0, self.site.front - self.sent)
+    def has_read(self) -> bool:
+        """Whether all that the log had when it was opened was read; there may be none."""
+        return not self._has_log or self._carrying.whole > 0
+
+    def stands(self, entry: Entry) -> bool:
+        """Whether an entry was read in the log, so that all before it was too."""
+        return entry.hash in self._carrying.read
+
+    def has(self, of: bytes) -> bool:
+        """Whether the log is known to have an entry; where there is none nothing has to be sent."""
+        return not self._has_log or self._carrying.has(of)
+
+    def is_up_to_date(self) -> bool:
+        """Whether all that the log had was read, and it has all."""
+        return not self._has_log or self.has_read() and not self._pending and not self._work.is_set()
+
+    def editors_here(self) -> int:
+        """How many editors of this person are on, this one included."""
+        return self._here
+
+    def reading(self) -> int:
+        """How often the log was read whole."""
+        return self._carrying.whole
+
+    def ask(self) -> None:
+        """Asks all who are on to read the log from its front, and to give it what it lacks. Who asks often is
+        heard ever more rarely."""
+        if time.monotonic() >= self._asked:
+            self._asks += 1
+            self._asked = time.monotonic() + min(ASK_SECONDS * 2**self._asks, MOST_ASK_SECONDS)
+
+    def read_anew(self) -> None:
+        """Reads the log from its front, and gives it what it lacks."""
+        self._carrying.anew = True
 
     def close(self, seconds: float) -> None:
         """Stops, when all is sent or after so many seconds."""
         end = time.monotonic() + seconds
-        while self.unsent() and not self._stopped.is_set() and time.monotonic() < end:
+        while not self.is_up_to_date() and not self.offline() and time.monotonic() < end:
             time.sleep(0.01)
         self._stopped.set()
         self._work.set()
         for thread in self._threads:
             thread.join(2 * TURN_SECONDS)
 
-    def _carry(self, part: Callable[[Log], None]) -> None:
+    def _go_on(self, part: Callable[[], None]) -> None:
+        """Does a thread's part until all stop; what ends it is told, and it begins anew."""
         while not self._stopped.is_set():
+            why = ""
             try:
-                with closing(self._open_log()) as log:
-                    part(log)
-            except Unreachable as why:
-                self._offline[part.__name__] = str(why)
-                self._wake()
-                self._stopped.wait(AGAIN_SECONDS)
-            except (Conflict, Trouble) as failure:
-                self.failure = failure
-                self._stopped.set()
-                self._wake()
+                part()
+            except Lost as lost:
+                self._tell(str(lost))
+                self._carrying.anew = True
+            except (Unreachable, Unkept, Damaged, Trouble) as known:
+                # What happens to the file the editor's own thread mends, or says.
+                why = str(known)
+            except Exception as fault:  # pylint: disable=broad-except
+                # A thread that ended without a word would leave the user believing that all is sent.
+                why = f"{type(fault).__name__}: {fault}"
+            if why:
+                self._offline[part.__name__] = why
+            self._wake()
+            self._stopped.wait(AGAIN_SECONDS if why else LOOK_SECONDS)
 
-    def _send(self, log: Log) -> None:
-        # A server that lost what it said it had is given it again, from the site's journal.
-        self.sent = min(log.front(self.site.number), self.site.front)
-        due = 0.0
-        while not self._stopped.is_set():
-            if time.monotonic() >= due:
-                self.on = log.set_on(self.site.number)
-                due = time.monotonic() + ON_SECONDS / 5
-            self._works(self._send)
-            self._work.clear()
-            end = min(self.site.front, self.sent + BATCH)
-            if end > self.sent:
-                messages = [self.site.own[seq] for seq in range(self.sent + 1, end + 1)]
-                log.append(self.site.number, self.sent + 1, *messages)
-                self.sent = end
-                self._wake()
+    def _look(self) -> None:
+        """Wakes the editor where another one of this person wrote."""
+        with closing(self._open_disk()) as disk:
+            due = 0.0
+            self._works(self._look)
+            while not self._stopped.wait(LOOK_SECONDS):
+                if time.monotonic() >= due:
+                    self._here = max(1, disk.locked())
+                    if not self._has_log:
+                        self._is_on(self._here)
+                    due = time.monotonic() + ON_SECONDS / 10
+                if disk.has_changed():
+                    if self._has_log:
+                        self._find_pending(disk)
+                    self._work.set()
+                    self._wake()
+                if not disk.is_in_place():
+                    self._wake()
+                    return
+
+    def _send(self) -> None:
+        with closing(self._open_disk()) as disk, closing(self._open_log()) as log:
+            disk.quick()
+            due = 0.0
+            while not self._stopped.is_set() and disk.is_in_place():
+                if time.monotonic() >= due:
+                    self._meet(log)
+                    due = time.monotonic() + ON_SECONDS / 10
+                self._works(self._send)
+                self._work.clear()
+                # Only what was in the log before the file was looked at says whether a number is shared.
+                whole = self._carrying.whole
+                self._find_pending(disk)
+                if whole and (lacks := self._lacks()):
+                    self._give(disk, log, lacks)
+                else:
+                    self._work.wait(LOOK_SECONDS if self._carrying.anew else TURN_SECONDS)
+            log.leave(self._token)
+
+    def _find_pending(self, disk: Disk) -> None:
+        """Looks what the file has more, and all of it again where the log was read anew."""
+        with self._finding:
+            if self._whole != self._carrying.whole:
+                self._whole, self._place, self._pending = self._carrying.whole, 0, {}
+            found = disk.places(self._place)
+            if found:
+                self._place = found[-1].place
+                self._pending |= {one.place: one for one in found if not self._carrying.has(one.hash)}
+                own = {one.author.name for one in disk.clients()}
+                self._shared |= {one.author for one in found
+                                 if not one.made and one.kind is Kind.MESSAGES and one.author in own}
+
+    def _lacks(self) -> list[Place]:
+        """What the log is to be given. Where somebody else writes under a number of this person, nothing more is
+        sent under it, but what may have been sent."""
+        with self._finding:
+            self._pending = {one.place: one for one in self._pending.values() if not self._carrying.has(one.hash)}
+            return [one for one in self._pending.values()
+                    if not one.made or one.offered or one.author not in self._shared][:BATCH]
+
+    def _give(self, disk: Disk, log: Log, lacks: list[Place]) -> None:
+        """Gives the log some of what it lacks."""
+        raws = disk.offer([one.place for one in lacks])
+        log.append(raws)
+        self._carrying.given |= set(map(digest, raws))
+        with self._finding:
+            for one in lacks:
+                self._pending.pop(one.place, None)
+        self._wake()
+
+    def _meet(self, log: Log) -> None:
+        """Says that this editor is on, and hears who else is, and what they lack."""
+        said = log.meet(self._token, self._form.presence(PRESENCE.pack(self._token, self._asks)))
+        heard = {}
+        for raw in said:
+            found = self._form.present(raw)
+            if found and len(found) == PRESENCE.size:
+                token, asks = PRESENCE.unpack(found)
+                heard[token] = asks
+        if any(asks > self._heard.get(token, 0) for token, asks in heard.items() if token != self._token):
+            self._is_asked = True
+        if self._is_asked and time.monotonic() >= self._answers_again:
+            # Somebody with the link could ask without end.
+            self._is_asked, self._answers_again = False, time.monotonic() + ANSWER_SECONDS
+            self._carrying.anew = True
+        self._heard = heard
+        self._is_on(len(heard))
+
+    def _is_on(self, many: int) -> None:
+        if many != self.on:
+            self.on = max(1, many)
+            self._wake()
+
+    def _receive(self) -> None:
+        with closing(self._open_disk()) as disk, closing(self._open_log()) as log:
+            self._known, self._known_place = set(), 0
+            self._read_whole(disk, log)
+            while not self._stopped.is_set() and disk.is_in_place():
+                if self._read_on(disk, log):
+                    continue
+                if log.size() != self._size or self._carrying.anew:
+                    # Something was taken out of the log, or put back; or somebody lacks something.
+                    self._read_whole(disk, log)
+                else:
+                    log.watch(self._after, TURN_SECONDS)
+
+    def _read_whole(self, disk: Disk, log: Log) -> None:
+        """Reads the log from its front, and has the sender compare all that the file has with it."""
+        carrying = self._carrying
+        carrying.had, carrying.anew = carrying.had | carrying.read | carrying.given, False
+        carrying.read, carrying.given = set(), set()
+        self._after, self._size = START, 0
+        while not self._stopped.is_set() and self._read_on(disk, log):
+            pass
+        if missing := len(carrying.had - carrying.read - carrying.given):
+            self._tell(f"The log has lost {entries(missing)} that it had. It is filled again from here.")
+        carrying.had = set()
+        carrying.whole += 1
+        self._work.set()
+        self._wake()
+
+    def _read_on(self, disk: Disk, log: Log) -> bool:
+        """Reads a page more; whether there was one."""
+        page = log.read(self._after)
+        self._works(self._receive)
+        if page:
+            self._take(disk, page)
+            self._after, self._size = page[-1].place, self._size + len(page)
+        return bool(page)
+
+    def _take(self, disk: Disk, page: list[Carried]) -> None:
+        """Puts what came into the file, where it is right."""
+        for at in disk.places(self._known_place):
+            self._known.add(at.hash)
+            self._known_place = at.place
+        raws = {digest(one.raw): one.raw for one in page if one.raw is not None}
+        new = {of: raw for of, raw in raws.items() if of not in self._known and of not in self._left_out}
+        opened: list[Entry] = []
+        for of, found in zip(new, self._form.open_many([*new.values()])):
+            if isinstance(found, Bad):
+                self._leave_out(of, f"An entry of the log {found} and was left out.")
             else:
-                self._work.wait(TURN_SECONDS)
-        log.set_off(self.site.number)
+                opened.append(found)
+        for one in page:
+            if one.raw is None:
+                self._leave_out(one.place, f"Entry {one.place} of the log can't be one and was left out.")
+        if opened:
+            disk.keep(opened, made=False)
+        # What the log has that is no entry counts as nothing that it has.
+        self._carrying.read |= raws.keys() - self._left_out
+        if opened:
+            self._wake()
 
-    def _receive(self, log: Log) -> None:
-        while not self._stopped.is_set():
-            entries = log.read(self.after)
-            self._works(self._receive)
-            if entries:
-                self.after = entries[-1].place
-                self._arrived.extend(entries)
-                self._wake()
-            else:
-                log.watch(self.after, TURN_SECONDS)
+    def _leave_out(self, what: bytes | str, words: str) -> None:
+        """Says once that something of the log was left out, and asks for what is right in its place."""
+        if what not in self._left_out:
+            self._left_out.add(what)
+            self._tell(words)
+            self.ask()
 
-    def _works(self, part: Callable[[Log], None]) -> None:
+    def _tell(self, words: str) -> None:
+        """Tells the user something. A hostile log may have it happen without end."""
+        if len(self.notices) < MOST_TOLD:
+            self.notices.append(words)
+
+    def _works(self, part: Callable[[], None]) -> None:
         if self._offline.pop(part.__name__, None):
             self._wake()
+
+
+def _no_log() -> Log:
+    raise Unreachable("there is no log")

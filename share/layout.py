@@ -1,8 +1,17 @@
-"""How a text is laid out in rows of a screen: lines end at 0DH, and long ones go on in the next row."""
+"""How a text is laid out in rows of a screen: lines end at 0DH, and long ones go on in the next row.
+
+A *character* here is what people see as one: a letter with its marks, a flag, a family. Debian's python3-regex
+finds where each ends, and python3-wcwidth how wide it is; without them simpler rules do."""
+import importlib
 import unicodedata
+from collections.abc import Callable
 from dataclasses import dataclass
 from functools import lru_cache
 
+from share.controls import CONTROL, DOT, UNREADABLE
+
+# The bytes of a text, or of a part of it.
+Text = bytes | bytearray
 # Where a character begins in its part of a line, what is drawn for it, and how many columns that takes.
 Cell = tuple[int, str, int]
 
@@ -11,6 +20,13 @@ TAB = 8
 # A longer line is laid out in parts, each beginning a row, so that a key in a line of a megabyte is answered
 # at once.
 PART = 4_096
+# No character takes more bytes, so that a run of marks without an end is walked in pieces. It is a multiple of
+# a flag's size: a row of flags is parted into pairs from where this begins.
+NEAR = 256
+# A word is looked for in so many bytes at a time.
+STRETCH = 1_024
+# What marks are drawn over that have no character before them.
+BASE = "\u25cc"
 
 
 @dataclass
@@ -36,49 +52,94 @@ class Row:
         return self.end
 
 
-def characters(data: bytes, begin: int) -> list[tuple[int, str]]:
-    """The characters of bytes, with the place where each begins. A byte that is no UTF-8 is one by itself."""
-    out = []
-    for character in data.decode("utf-8", "surrogateescape"):
-        out.append((begin, character))
-        begin += 1 if character < "\u0080" else len(character.encode("utf-8", "surrogateescape"))
-    return out
+def decoded(data: Text) -> str:
+    """The code points of bytes. A byte that is no UTF-8 is one by itself."""
+    return data.decode("utf-8", "surrogateescape")
+
+
+def size_of(text: str) -> int:
+    """How many bytes code points take."""
+    return len(text) if text.isascii() else len(text.encode("utf-8", "surrogateescape"))
+
+
+def simple_width(point: str) -> int:
+    """How many columns a code point takes, by the tables of Python."""
+    return 2 if unicodedata.east_asian_width(point) in "WF" else 1
+
+
+def is_drawn_over(point: str) -> bool:
+    """Whether a code point is drawn over the one before it, or says how that is drawn: marks, joiners, and
+    the later letters of a Korean syllable."""
+    if unicodedata.category(point) in ("Mn", "Me", "Cf"):
+        return point not in DRAWN_FORMATS
+    return "\u1160" <= point <= "\u11ff" or "\ud7b0" <= point <= "\ud7fb"
 
 
 @lru_cache(4_096)
-def look_of(character: str) -> tuple[str, int]:
-    """What is drawn for a character, and how many columns it takes: none where it is drawn over the one
+def look_of(point: str) -> tuple[str, int]:
+    """What is drawn for a code point, and how many columns it takes: none where it is drawn over the one
     before it."""
-    if 0xDC80 <= ord(character) <= 0xDCFF:
-        return "\ufffd", 1
-    category = unicodedata.category(character)
-    if category in ("Cc", "Zl", "Zp"):
-        return "\u00b7", 1
-    if category in ("Mn", "Me", "Cf") and character != "\u00ad":
-        return character, 0
-    return character, 2 if unicodedata.east_asian_width(character) in "WF" else 1
+    if "\ud800" <= point <= "\udfff":
+        return UNREADABLE, 1
+    if CONTROL.match(point):
+        return DOT, 1
+    return point, 0 if is_drawn_over(point) else max(1, width_of(point))
 
 
-def is_mark(character: str) -> bool:
-    """Whether a character is drawn over the one before it."""
-    return look_of(character)[1] == 0
+def simple_clusters(text: str) -> list[str]:
+    """The characters of a text: each begins with what is drawn over nothing, and after no joiner."""
+    begins = [place for place, point in enumerate(text)
+              if not place or look_of(point)[1] and text[place - 1] != JOINER]
+    return [text[begin:end] for begin, end in zip(begins, [*begins[1:], len(text)])]
+
+
+def joined(found: list[str]) -> list[str]:
+    """Characters, those that can't be seen with the one before them."""
+    out: list[list[str]] = []
+    for one in found:
+        if out and look_of(one[0])[1] == 0:
+            out[-1].append(one)
+        else:
+            out.append([one])
+    return ["".join(parts) for parts in out]
+
+
+def _clusters() -> Callable[[str], list[str]]:
+    """The best that is installed here to find characters."""
+    try:
+        find = importlib.import_module("regex").compile(r"\X").findall
+    except ImportError:
+        return simple_clusters
+    return lambda text: [*text] if text.isascii() else joined(find(text))
+
+
+def _width() -> Callable[[str], int]:
+    """The best that is installed here to measure."""
+    try:
+        found: Callable[[str], int] = importlib.import_module("wcwidth").wcwidth
+    except ImportError:
+        return simple_width
+    return found
+
+
+JOINER = "\u200d"
+# What is a format character by its category, and is drawn all the same.
+DRAWN_FORMATS = ("\xad\u0600\u0601\u0602\u0603\u0604\u0605\u06dd\u070f\u0890\u0891\u08e2\U000110bd"
+                 "\U000110cd")
+clusters, width_of = _clusters(), _width()
 
 
 class Layout:
     """The rows of a text in a width, as long as the text stays as it is."""
 
-    def __init__(self, text: bytearray, width: int):
+    def __init__(self, text: Text, width: int):
         self.text, self.width = text, width
         self._parts: dict[int, list[Row]] = {}
 
     def row_at(self, position: int) -> Row:
         """The row in which a position lies."""
-        found = None
-        for row in self._rows(self._part_begin(position)):
-            if row.begin > position:
-                break
-            found = row
-        return found
+        rows = self._rows(self._part_begin(position))
+        return next((row for row in reversed(rows) if row.begin <= position), rows[0])
 
     def after(self, row: Row) -> Row | None:
         """The row below; None below the last one."""
@@ -104,8 +165,8 @@ class Layout:
     def below(self, row: Row, height: int) -> list[Row]:
         """A row and those below it, so many in all at most."""
         rows = [row]
-        while len(rows) < height and (row := self.after(row)):
-            rows.append(row)
+        while len(rows) < height and (next_row := self.after(rows[-1])):
+            rows.append(next_row)
         return rows
 
     def _ends_line(self, position: int) -> bool:
@@ -114,23 +175,31 @@ class Layout:
     def _part_begin(self, position: int) -> int:
         """Where the line, or the part of a long line, begins in which a position lies."""
         line = self.text.rfind(b"\r", 0, position) + 1
-        size = position - line
-        # The end of a line is in the part ahead of it.
-        if size and self._ends_line(position):
-            size -= 1
-        begin = line + size // PART * PART
-        while line < begin < position and self.text[begin] & 0xC0 == 0x80:
-            begin += 1
+        number = (position - line) // PART
+        begin = self._cut(line, number)
+        # The end of a line is in the part before it.
+        if begin > position or number and begin == position and self._ends_line(position):
+            begin = self._cut(line, number - 1)
         return begin
 
     def _part_end(self, begin: int) -> int:
         line = self.text.rfind(b"\r", 0, begin) + 1
         end = self.text.find(b"\r", begin)
         end = len(self.text) if end < 0 else end
-        limit = line + ((begin - line) // PART + 1) * PART
-        while limit < end and self.text[limit] & 0xC0 == 0x80:
-            limit += 1
-        return min(end, limit)
+        number = (begin - line) // PART + 1
+        return min(end, self._cut(line, number)) if line + number * PART < end else end
+
+    def _cut(self, line: int, number: int) -> int:
+        """Where a part of a line begins: where a character does, at its place or soon after it."""
+        limit = line + number * PART
+        if not number:
+            return line
+        near = next_boundary(self.text, limit - NEAR)
+        for one in clusters(decoded(self.text[near:limit + NEAR].partition(b"\r")[0])):
+            if near >= limit:
+                return near
+            near += size_of(one)
+        return near if near >= limit else next_boundary(self.text, limit)
 
     def _rows(self, begin: int) -> list[Row]:
         if begin not in self._parts:
@@ -139,44 +208,111 @@ class Layout:
         return self._parts[begin]
 
 
-# A text is laid out anew behind each change of it, and most lines on the screen stay as they were.
+# A text is laid out anew after each change of it, and most lines on the screen stay as they were.
 @lru_cache(1_024)
 def rows_of(part: bytes, width: int) -> list[tuple[int, int, list[Cell]]]:
-    """Where the rows of a part of a line begin and end in it, and their cells. A row ends behind its last
+    """Where the rows of a part of a line begin and end in it, and their cells. A row ends after its last
     blank, where it has one."""
     rows: list[tuple[int, int, list[Cell]]] = []
     cells: list[Cell] = []
-    begin = at = blank = 0
-    for place, character in characters(part, 0):
-        seen, size = look_of(character)
+    begin = at = blank = place = 0
+    for character in pieces(decoded(part), width):
+        seen, size = drawn(character)
         while at + size > width and cells:
             kept = blank or len(cells)
             next_begin = cells[kept][0] if kept < len(cells) else place
             rows.append((begin, next_begin, cells[:kept]))
             begin, cells, blank = next_begin, cells[kept:], 0
             at = sum(cell[2] for cell in cells)
-        if character == "\t":
+        if character[0] == "\t":
             size = min(TAB - at % TAB, width - at)
             seen = " " * size
         cells.append((place, seen, size))
         at += size
-        if character in " \t":
+        if character[0] in " \t":
             blank = len(cells)
+        place += size_of(character)
     return [*rows, (begin, len(part), cells)]
 
 
-def cluster_before(text: bytearray, position: int) -> int:
-    """Where the character ahead of a position begins, with the marks that are drawn over it."""
-    near = characters(bytes(text[max(0, position - 64):position]), max(0, position - 64))
-    while len(near) > 1 and (is_mark(near[-1][1]) or near[-2][1] == "\u200d"):
-        near.pop()
-    return near[-1][0] if near else position
+def drawn(character: str) -> tuple[str, int]:
+    """What is drawn for a character, and how many columns it takes: one at least."""
+    if len(character) == 1 and (look := look_of(character))[1]:
+        return look
+    looks = [look_of(point) for point in character]
+    seen, size = "".join(look for look, _ in looks), sum(size for _, size in looks)
+    return (seen, size) if looks[0][1] else (BASE + seen, 1 + size)
 
 
-def cluster_after(text: bytearray, position: int) -> int:
-    """Where the character behind a position ends, with the marks that are drawn over it."""
-    near = characters(bytes(text[position:position + 64]), position)
-    last = 0
-    while last + 1 < len(near) and (is_mark(near[last + 1][1]) or near[last][1] == "\u200d"):
-        last += 1
-    return near[last + 1][0] if last + 1 < len(near) else min(len(text), position + 64)
+def pieces(text: str, width: int) -> list[str]:
+    """The characters of a text. One that is wider than a row comes in its parts."""
+    out: list[str] = []
+    for character in clusters(text):
+        if len(character) > 2 and drawn(character)[1] > width:
+            out += simple_parts(character)
+        else:
+            out.append(character)
+    return out
+
+
+def simple_parts(character: str) -> list[str]:
+    """The parts of a character that are drawn beside each other."""
+    return joined([*character])
+
+
+def next_boundary(text: Text, position: int) -> int:
+    """The first place from a position on at which a code point of UTF-8 begins."""
+    position = max(0, position)
+    end = position + 3 if position > 0 else 0
+    while position < min(end, len(text)) and text[position] & 0xC0 == 0x80:
+        position += 1
+    return position
+
+
+def cluster_before(text: Text, position: int) -> int:
+    """Where the character before a position begins."""
+    if not position or text[position - 1] == LINE_END:
+        return max(0, position - 1)
+    begin = text.rfind(b"\r", max(0, position - NEAR), position) + 1
+    begin = begin or next_boundary(text, position - NEAR)
+    return position - size_of(clusters(decoded(text[begin:position]))[-1])
+
+
+def cluster_after(text: Text, position: int) -> int:
+    """Where the character after a position ends."""
+    if position >= len(text) or text[position] == LINE_END:
+        return min(len(text), position + 1)
+    end = text.find(b"\r", position, position + NEAR)
+    end = end if end >= 0 else next_boundary(text, min(len(text), position + NEAR))
+    return position + size_of(clusters(decoded(text[position:end]))[0])
+
+
+def word_before(text: Text, position: int) -> int:
+    """Where the word before a position begins."""
+    seen = False
+    while position:
+        begin = next_boundary(text, position - STRETCH)
+        for point in reversed(decoded(text[begin:position])):
+            if not is_of_word(point) and seen:
+                return position
+            seen = seen or is_of_word(point)
+            position -= size_of(point)
+    return 0
+
+
+def word_after(text: Text, position: int) -> int:
+    """Where the word after a position ends."""
+    seen = False
+    while position < len(text):
+        end = next_boundary(text, min(len(text), position + STRETCH))
+        for point in decoded(text[position:end]):
+            if not is_of_word(point) and seen:
+                return position
+            seen = seen or is_of_word(point)
+            position += size_of(point)
+    return len(text)
+
+
+def is_of_word(point: str) -> bool:
+    """Whether a code point is of a word: letters, digits, marks and the underscore."""
+    return point.isalnum() or point == "_" or unicodedata.category(point)[0] == "M"

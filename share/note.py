@@ -2,18 +2,15 @@
 import re
 from collections.abc import Callable
 from dataclasses import dataclass
-from typing import TypeVar
 
 from share.message import DELETE, RESTORE, Message, Names, names_of
 from share.note_text import Change, boundary, change, make
 from share.session import Session
-from share.site import Told
-from share.words import Refused
+from share.site import Edited, Told
+from share.words import Refused, Trouble
 
 # The line end inside a text.
 LINE_END = b"\r"
-
-Result = TypeVar("Result")
 
 
 @dataclass
@@ -29,10 +26,10 @@ class Note:
 
     def __init__(self, session: Session):
         self.session = session
-        self.text = bytearray(session.site.text())
+        self.text = bytearray(session.text())
         self.cursor = self.top = 0
         self.notice = ""
-        self._site = session.site
+        self._number = session.number
         self._done: list[Undo] = []
         # Whether what is typed next goes on with what was typed last, and is taken back with it.
         self._goes_on = False
@@ -40,7 +37,7 @@ class Note:
     def type(self, characters: str) -> None:
         """Types characters at the cursor. What is typed in one go, up to a line end, is taken back as one."""
         data = re.sub("\r\n|\n", "\r", characters).encode("utf-8", "ignore")
-        messages = self._edited(lambda: self.session.site.insert(self.cursor, data))
+        messages = self._edited(lambda: self.session.insert(self.cursor, data))
         if messages is None:
             return
         for message in messages:
@@ -52,7 +49,7 @@ class Note:
         """Deletes a stretch."""
         if begin == end:
             return
-        messages = self._edited(lambda: self.session.site.cut(begin, end))
+        messages = self._edited(lambda: self.session.cut(begin, end))
         if messages is None:
             return
         self._done.append(Undo(RESTORE, [names_of(message) for message in reversed(messages)]))
@@ -64,14 +61,14 @@ class Note:
         self._forget_names_of_others()
         if not self._done:
             return False
-        undo, site = self._done.pop(), self.session.site
+        undo = self._done.pop()
         for done, names in enumerate(undo.names):
-            told = self._edited(lambda: site.name(undo.kind, names))
-            if told is None:
+            told: list[Told] = []
+            if self._edited(lambda: self._named(undo.kind, names, told)) is None:
                 # What was refused, and what comes behind it, can be taken back later.
                 self._done.append(Undo(undo.kind, undo.names[done:]))
                 return True
-            self._shows(told, follow=True)
+            self._shows(told[0], follow=True)
         self._goes_on = False
         return True
 
@@ -111,18 +108,25 @@ class Note:
             self._done.append(Undo(DELETE, [[names]]))
         self._goes_on = True
 
-    def _edited(self, edit: Callable[[], Result]) -> Result | None:
-        """What an edit gives; None where it was refused, or stands in part: the text is the program's
-        then."""
+    def _named(self, kind: int, names: list[Names], told: list[Told]) -> Edited:
+        edited, changed = self.session.name(kind, names)
+        told.append(changed)
+        return edited
+
+    def _edited(self, edit: Callable[[], Edited]) -> list[Message] | None:
+        """The messages of an edit; None where it was refused or couldn't be kept, or was done in part: the text
+        is the program's then."""
         self._forget_names_of_others()
         try:
-            return edit()
-        except Refused as why:
-            self.notice, self._goes_on = str(why), False
-            self._shows(self.session.site.text(), follow=True)
-            return None
-        finally:
-            self.session.made()
+            edited = edit()
+            if edited.refused is None:
+                return edited.messages
+            self.notice = str(Refused(edited.refused))
+        except Trouble as why:
+            self.notice = str(why)
+        self._goes_on = False
+        self._shows(self.session.text(), follow=True)
+        return None
 
     def _shows(self, told: Told, follow: bool = False) -> bool:
         """Takes over what the text has become; whether it changed. The cursor stays with its character, or
@@ -141,5 +145,5 @@ class Note:
 
     def _forget_names_of_others(self) -> None:
         # Under a new site number the names of what was typed before are another client's.
-        if self.session.site is not self._site:
-            self._site, self._done, self._goes_on = self.session.site, [], False
+        if self.session.number != self._number:
+            self._number, self._done, self._goes_on = self.session.number, [], False

@@ -1,5 +1,6 @@
 """What a change of a text is, how positions follow it, and how it is found by comparing the text before and
 after."""
+from collections.abc import Callable
 from dataclasses import dataclass
 
 # Bytes are compared so many at a time, and one by one only where these differ.
@@ -59,7 +60,7 @@ def boundary(text: bytes, position: int) -> int:
     return position
 
 
-def _common(equal, most: int) -> int:
+def _common(equal: Callable[[int, int], bool], most: int) -> int:
     """How many bytes are equal, from a place on; `equal` compares so many at a place."""
     done = 0
     while done < most and equal(done, min(BLOCK, most - done)):

@@ -15,6 +15,9 @@ BUILT = TOP / "crates" / "site_cli" / "out" / "site_cli"
 MOST_LINES = 2**20
 PIPE = 1 << 20
 F_SETPIPE_SZ = 1031
+# A process that neither reads nor answers for so long hangs, and is ended.
+HANGS_SECONDS = 30
+CLOSE_SECONDS = 1
 # The lines of an answer that others follow.
 FOLLOWED = (b"send ", b"front ", b"run ", b"shown ")
 
@@ -45,6 +48,7 @@ class Program:
         except OSError as why:
             raise Trouble(f"The program can't be run ({words[0]}: {why.strerror}). VIALSHOAL_PROGRAM names "
                           "it.") from why
+        assert self.process.stdin and self.process.stdout
         self._in, self._out = self.process.stdin.fileno(), self.process.stdout.fileno()
         os.set_blocking(self._in, False)
         for pipe in self._in, self._out:
@@ -59,7 +63,10 @@ class Program:
         answer: list[bytes] = []
         part: list[bytes] = []
         while len(answers) < len(events):
-            read, write, _ = select.select([self._out], [self._in] if script else [], [])
+            read, write, _ = select.select([self._out], [self._in] if script else [], [], HANGS_SECONDS)
+            if not (read or write):
+                self.process.kill()
+                raise Ended
             if write:
                 script = script[self._written(script):]
             if not read:
@@ -103,10 +110,11 @@ class Program:
 
     def close(self) -> None:
         """Ends the process, which ends by itself where its input does."""
-        self.process.stdin.close()
-        self.process.stdout.close()
+        for pipe in self.process.stdin, self.process.stdout:
+            if pipe:
+                pipe.close()
         try:
-            self.process.wait(5)
+            self.process.wait(CLOSE_SECONDS)
         except subprocess.TimeoutExpired:
             self.process.kill()
             self.process.wait()

@@ -1,34 +1,33 @@
-"""One user at one note: opens its log, its site and its journal, and goes on under a new number where it has
-to."""
-import os
+"""One editor at one note: its file, its number, its site, and the courier to the log."""
 import pathlib
-from collections.abc import Callable
-from contextlib import closing
+import secrets
+import time
+from collections.abc import Callable, Sequence
+from contextlib import suppress
 from dataclasses import dataclass
+from typing import TypeVar
 
+from share.anew import make_anew
 from share.courier import Courier
-from share.journal import InUse, Journal
-from share.log import START, Conflict, Entry, Log, Unreachable, open_log
-from share.note_text import Change, change
-from share.program import Program
-from share.site import SLICE, Forked, Site, Told
-from share.words import Trouble, counted
+from share.disk import Anew, Client, Damaged, Disk, Overtaken, Row, Unkept, inode_of, make, set_aside
+from share.entry import GREATEST_SITE, Entry, Kind, in_entries
+from share.holdings import Holdings, uncollected, who
+from share.judging import Counted
+from share.log import is_network, open_log
+from share.message import Message, Names
+from share.reading import found_in
+from share.site import SLICE, Edited, Site, Told
+from share.words import Trouble, counted, entries
 
-# How long closing waits for what isn't sent.
-CLOSE_SECONDS = 3
-# So many messages are taken in between two looks at the keys, where not so many wait that they are caught up
-# with at once.
-TURN = 200
+# How long opening waits for a log that answers, and closing for what isn't sent.
+OPEN_SECONDS = CLOSE_SECONDS = 3
+# The file is looked at so often for whether somebody took entries out of it.
+LOOK_SECONDS = 2
+# What couldn't be made anew is tried again after so many seconds.
+AGAIN_SECONDS = 5
 
 Bar = Callable[[int, int], None]
-
-
-def data_folder() -> pathlib.Path:
-    """Where logs and journals are kept."""
-    if named := os.environ.get("VIALSHOAL_DATA"):
-        return pathlib.Path(named)
-    home = os.environ.get("XDG_DATA_HOME") or pathlib.Path.home() / ".local" / "share"
-    return pathlib.Path(home) / "vialshoal"
+Result = TypeVar("Result")
 
 
 @dataclass
@@ -40,167 +39,388 @@ class Status:
     unsent: int
     offline: str | None
     waiting: int
+    trouble: str | None = None
+    can_type: bool = True
+    has_log: bool = True
 
 
 class Session:
-    """A site of a note that is open, with the courier to its log."""
+    """A note that is open for one editor."""
 
-    def __init__(self, name: str, url: str | None, bar: Bar = lambda done, total: None,
+    @uncollected()
+    def __init__(self, disk: Disk, password: str | None = None, bar: Bar = lambda done, total: None,
                  wake: Callable[[], None] = lambda: None):
-        self._folder, self._bar, self._wake, self._identity = data_folder(), bar, wake, None
-        self._open_log = lambda: self._checked(open_log(name, url, self._folder / "logs"))
+        self._disk, self._bar, self._wake = disk, bar, wake
+        self._about, self._form = disk.about, disk.form
+        if is_network(self._about.url) and not self._about.sealed:
+            raise Trouble(f"{disk.path} has a note that isn't sealed with a log on a server. Nothing is sent there.")
         self._notices: list[str] = []
-        try:
-            with closing(self._open_log()) as log:
-                self._identity = log.identity
-                after = self._enter(log)
-        except Unreachable as why:
-            raise Trouble(f"The log can't be reached ({why}). A note is opened only with its log, so that no "
-                          "edit of yours is made twice; try again when it is there.") from why
-        except OSError as why:
-            raise Trouble(f"{why.filename}: {why.strerror}. Set VIALSHOAL_DATA to a folder that can be "
-                          "written.") from why
-        self._courier = Courier(self._open_log, self.site, after, wake)
+        self._told_wrong: set[tuple[int, int]] = set()
+        self._trouble: str | None = None
+        self._unread: str | None = None
+        # Whether the site may lack something that counts, or have something that doesn't.
+        self._is_stale = False
+        # Whether the others are to be asked for what the disk damaged.
+        self._lacks = False
+        self._looked = self._anew_after = 0.0
+        # What is let through and to be taken in at the next turn.
+        self._coming: list[Message] = []
+        # Whether this editor has a number, and whether another one of this person got it, since the locks were
+        # removed.
+        self._has_number = self._is_taken = False
+        self._holdings = Holdings()
+        self._read()
+        messages = self._holdings.count().messages
+        self._client, self._has_number = self._free_client() or self._claim(), True
+        self._last = self._holdings.judge.last(self._client.site)
+        self.site = Site(self.number, messages, lambda done: bar(done, len(messages)))
+        # What the disk damaged the log may bring back; until that was read nothing is made anew.
+        self._is_settled = False
+        url, note = self._about.url, self._form.note
+        opens = (lambda: open_log(url, note, password)) if url else None
+        self._courier = Courier(lambda: Disk(disk.path), opens, self._form, wake)
+        self._begin()
 
-    def made(self) -> None:
-        """Says that the site made messages, which are to be sent."""
-        self._courier.made()
+    @property
+    def number(self) -> int:
+        """The site's number. The names of what was typed under another one are that one's."""
+        return self._client.site
+
+    def text(self) -> bytes:
+        """What the site shows."""
+        return self.site.text()
+
+    def insert(self, position: int, data: bytes) -> Edited:
+        """Types bytes behind the first so many of the text."""
+        return self._edited(lambda: self.site.insert(position, data))
+
+    def cut(self, begin: int, end: int) -> Edited:
+        """Deletes a stretch."""
+        return self._edited(lambda: self.site.cut(begin, end))
+
+    def name(self, kind: int, names: list[Names]) -> tuple[Edited, Told]:
+        """Deletes or restores characters by their names, and tells what the text has become."""
+        told: list[Told] = []
+
+        def edit() -> Edited:
+            edited, changed = self.site.name(kind, names)
+            told.append(changed)
+            return edited
+
+        return self._edited(edit), told[0]
 
     def arrived(self) -> Told:
-        """Takes in what came, some of it in one turn, and tells what the text has become."""
-        failure = self._courier.failure
-        if isinstance(failure, Trouble):
-            raise failure
-        waiting = self._courier.waiting()
-        if not (waiting or failure):
-            return []
-        many = waiting if waiting > SLICE else min(waiting, TURN)
-        entries = self._courier.arrivals(many)
-        if waiting > many:
-            self._wake()
-        begin = len(self.site.history)
-        self.site.progress = lambda done: self._bar(min(done - begin, many), many) if many > SLICE else None
+        """Takes in what came, and tells what the text has become."""
         try:
-            if isinstance(failure, Conflict):
-                raise Forked(failure.seq)
-            return self.site.take(entries, looks=True)
-        except Forked as fork:
-            return self._go_on(fork.seq, entries)
+            return self._arrived()
+        except Unkept as why:
+            # The text and the site stay as they are; all is looked at again later.
+            self._unread = f"The note's file can't be written now ({why})."
+            self._is_settled, self._is_stale = False, True
+            self._anew_after = time.monotonic() + AGAIN_SECONDS
+            return []
+
+    def _arrived(self) -> Told:
+        # Only what the log had before the file is read says what is lost.
+        has_read = self._courier.has_read()
+        new = self._read()
+        holdings = self._holdings
+        found = holdings.count()
+        # What another editor of this person made that one looks at by itself.
+        if found.anew or any(not row.made and (row.entry.kind is Kind.CLAIM or who(row.entry) in holdings.clients)
+                             for row in new):
+            self._is_settled = False
+        self._look_at_claims()
+        if self._is_stale:
+            found = Counted(holdings.judge.let_through_in_order(), True)
+        if self._settle(found.messages if found.anew else None, has_read):
+            self._is_stale = False
+            return self.site.text()
+        if self._lacks or holdings.judge.loose():
+            self._lacks = False
+            self._drop_what_is_too_much()
+            self._courier.ask()
+        coming, self._coming = self._coming + found.messages, []
+        many = len(coming)
+        return self.site.take(coming, looks=True,
+                              progress=lambda done: self._bar(done, many) if many > SLICE else None)
+
+    def tell(self, words: str) -> None:
+        """Has the user be told something."""
+        self._notices.append(words)
 
     def notices(self) -> list[str]:
         """What the user is to be told since this was last asked."""
-        told = self._notices + self.site.notices
-        self._notices, self.site.notices = [], []
+        told, self._notices = self._notices, []
+        while self._courier.notices:
+            told.append(self._courier.notices.pop(0))
+        for message in self._holdings.judge.wrong():
+            if (message.site, message.seq) not in self._told_wrong:
+                self._told_wrong.add((message.site, message.seq))
+                told.append(f"Message {message.seq} of site {message.site} is wrong, and was left out with what "
+                            "builds on it.")
         return told
 
     def status(self) -> Status:
-        """How things stand."""
-        courier = self._courier
-        return Status(self.site.number, courier.on, courier.unsent(), courier.offline(), self.site.waiting())
+        """How things are."""
+        courier, holdings = self._courier, self._holdings
+        return Status(self.number, courier.on, holdings.unsent(courier.has, courier.reading()), courier.offline(),
+                      holdings.judge.incomplete(), self._trouble or self._unread, self._client.stood,
+                      bool(self._about.url))
+
+    def has_sent(self, entry: Entry) -> bool:
+        """Whether the log is known to have an entry; without a log, whether the file has it."""
+        return self._courier.has(entry.hash)
+
+    def last(self) -> Entry:
+        """The last entry that was made here."""
+        return self._last
 
     def close(self) -> None:
-        """Closes the note; what isn't sent stays in the journal."""
+        """Closes the note; what isn't sent stays in its file."""
         self._courier.close(CLOSE_SECONDS)
         self.site.close()
+        self._disk.close()
 
-    def _checked(self, log: Log) -> Log:
-        if self._identity not in (None, log.identity):
-            log.close()
-            raise Trouble("The log was replaced by another one. Bring back a copy of it and open the note "
-                          f"again; your edits are kept in {self._journals()}.")
-        return log
+    def _begin(self) -> None:
+        """Takes in what a log has that answers soon, and waits until it has the claim of this number."""
+        end = time.monotonic() + OPEN_SECONDS
+        while True:
+            self.arrived()
+            if self._client.stood and self._courier.is_up_to_date() or self._courier.offline():
+                break
+            if time.monotonic() > end:
+                break
+            time.sleep(0.005)
 
-    def _journals(self) -> pathlib.Path:
-        return self._folder / "journals" / str(self._identity)
-
-    def _enter(self, log: Log) -> str:
-        """Takes in the log and then the journal; the place of the last entry."""
-        self._journals().mkdir(parents=True, exist_ok=True)
-        size = log.size()
-        entries: list[Entry] = []
-        while page := log.read(entries[-1].place if entries else START):
-            entries += page
-            size = max(size, len(entries))
-            self._bar(len(entries), 2 * size)
-        self.site = self._site(log)
-        self.site.progress = lambda done: self._bar(min(size, done) + size, 2 * size)
-        try:
-            self.site.take(entries)
-            self.site.open()
-        except Forked as fork:
-            self._renumber(log, fork.seq)
-            self.site.take(entries)
-        self.site.progress = lambda done: None
-        return entries[-1].place if entries else START
-
-    def _site(self, log: Log) -> Site:
-        """The site of a journal that nobody uses, else a new one."""
-        for path in sorted(self._journals().glob("*.journal"), key=lambda path: int(path.stem)):
+    def _edited(self, edit: Callable[[], Edited]) -> Edited:
+        """Makes an edit, and keeps its messages before anyone sees them."""
+        if not self._client.stood:
+            raise Trouble("Nothing can be typed here until the log has given this editor a number of its own.")
+        edited = edit()
+        if edited.messages:
             try:
-                journal = Journal(path)
-            except InUse:
-                continue
-            return Site(int(path.stem), journal)
-        return self._new_site(log)
+                self._keep(edited.messages)
+            except Unkept as why:
+                self.site.undo(edited)
+                self._trouble = f"The last edit couldn't be kept ({why}); all before it is. Make room on the disk."
+                raise Trouble(self._trouble) from why
+            self._trouble = None
+        return edited
 
-    def _new_site(self, log: Log) -> Site:
-        number = log.new_site()
-        return Site(number, Journal(self._journals() / f"{number}.journal"))
+    def _keep(self, messages: Sequence[Message], retired: Sequence[Client] = (), anew: Sequence[Anew] = ()) -> None:
+        """Puts messages that the site made into the file, and has them sent."""
+        made, before = [], self._last
+        for part in in_entries(messages):
+            before = self._form.entry(before, part, self._client.author)
+            made.append(before)
 
-    def _go_on(self, seq: int, entries: list[Entry]) -> bytes:
-        """Goes on under a new number, and gives the text shown then."""
-        self._courier.close(0)
+        def keep() -> int:
+            if self._is_taken:
+                raise Unkept("another editor of yours got this one's number")
+            return self._disk.keep(made, True, retired=retired, anew=anew)
+
+        self._mended(keep)
+        self._last = before
+        self._holdings.add(made)
+        self._holdings.gave_up(retired, anew)
+        own = {(message.site, message.seq) for message in messages}
+        self._coming += [one for one in self._holdings.count().messages if (one.site, one.seq) not in own]
+        self._courier.made()
+
+    def _read(self) -> list[Row]:
+        """The rows that the file has more."""
+        def read() -> list[Row]:
+            if not self._disk.is_in_place():
+                raise Damaged(f"{self._disk.path} was taken away")
+            new = self._holdings.read(self._disk)
+            if time.monotonic() - self._looked > LOOK_SECONDS:
+                self._looked = time.monotonic()
+                if self._disk.size() < len(self._holdings.rows):
+                    raise Damaged(f"{self._disk.path} lacks entries that it had")
+            return new
+
         try:
-            with closing(self._open_log()) as log:
-                self._renumber(log, seq)
-        except Unreachable as why:
-            raise Trouble(f"Another client writes as site {self.site.number} too, and the log can't be "
-                          f"reached for a new number ({why}). Open the note again when it is there: your "
-                          "edits are kept.") from why
-        entries += self._courier.arrivals(self._courier.waiting())
-        self.site.take(entries)
-        self._courier = Courier(self._open_log, self.site, self._courier.after, self._wake)
-        return self.site.text()
+            new = self._mended(read)
+        except Unkept as why:
+            self._unread = f"The note's file can't be read now ({why})."
+            return []
+        self._unread = None
+        if self._disk.damaged:
+            self._notices.append(f"The disk has damaged {entries(self._disk.damaged)} of the note's file. They are "
+                                 "taken from whoever has them.")
+            self._disk.damaged, self._lacks = 0, True
+        return new
 
-    def _renumber(self, log: Log, seq: int) -> None:
-        """Replaces the site by one of a new number, at which the own edits from a seq on are made anew."""
-        old = self.site
-        kept, edits = undone(old, seq)
-        self.site = self._new_site(log)
-        self.site.adopt([*kept, *(message.data for message in old.incoming.held())])
-        for edit in edits:
-            if edit.end > edit.begin:
-                self.site.cut(edit.begin, edit.end)
-            if edit.new:
-                self.site.insert(edit.begin, edit.new)
-        old.journal.set_aside()
-        old.close()
-        anew = f"Made anew: {counted(len(edits), 'edit')} that nobody saw." if edits else "No edit was lost."
-        self._notices += old.notices
-        self._notices.append(f"Another client writes as site {old.number} too, so you go on as site "
-                             f"{self.site.number}. {anew} Give each machine its own data folder, and don't "
-                             "copy it.")
+    def _mended(self, call: Callable[[], Result]) -> Result:
+        """What a call on the file gives, which is written anew from memory where it is gone or damaged."""
+        try:
+            return call()
+        except Damaged as why:
+            try:
+                self._mend(str(why))
+                return call()
+            except Damaged as again:
+                raise Unkept(str(again)) from again
 
+    def _mend(self, why: str) -> None:
+        """Has the note's file in its place again, with all that is in memory."""
+        path, holdings = self._disk.path, self._holdings
+        inode = inode_of(path)
+        try:
+            disk = Disk(path)
+            try:
+                disk.check()
+            except BaseException:
+                disk.close()
+                raise
+        except Damaged:
+            aside = set_aside(path, inode)
+            make(path, self._about, self._rows_and(aside), holdings.clients.values(),
+                 [Anew(*one, 0, 0) for one in holdings.anew], holdings.withdrawn(), offered=True)
+            disk = Disk(path)
+            self._notices.append(f"The note's file was gone or damaged ({why}) and was written anew."
+                                 + (f" What was there is {aside}." if aside else ""))
+        if disk.about.secret != self._about.secret:
+            disk.close()
+            raise Trouble(f"{path} is another note's file now. Save this note as a file, and look who moved it.")
+        disk.take_locks(self._disk)
+        self._disk.close()
+        self._disk = disk
+        self._is_taken = self._has_number and not disk.lock(self.number)
+        disk.restore(holdings.rows.values(), holdings.withdrawn())
+        holdings.read_again()
 
-def undone(site: Site, seq: int) -> tuple[list[bytes], list[Change]]:
-    """What a site holds but its own messages from a seq on, and what each of these did to the text.
+    def _rows_and(self, aside: pathlib.Path | None) -> list[Row]:
+        """All that is in memory, and as the note is opened what can be read of its damaged file besides."""
+        holdings = self._holdings
+        rows = [*holdings.rows.values()]
+        if aside and not self._has_number:
+            with suppress(Trouble):
+                rows += [Row(0, entry, who(entry) in holdings.clients) for entry in found_in(aside).entries
+                         if entry.hash not in holdings.rows]
+        return rows
 
-    They are made again, one by one, in a process of their own: no other site has seen them, so nothing rests
-    on them."""
-    own = [site.own[number] for number in sorted(site.own) if number >= seq]
-    refused = set(own)
-    kept = [data for data in site.history if data not in refused]
-    program = Program(site.number)
-    try:
-        for begin in range(0, len(kept), SLICE):
-            program.ask([program.taking(data) for data in kept[begin:begin + SLICE]])
-        edits, before = [], program.text()
-        for data in own:
-            program.ask([program.taking(data)])
-            after = program.text()
-            if after != before:
-                edits.append(change(before, after))
-            before = after
-    finally:
-        program.close()
-    return kept, edits
+    def _free_client(self) -> Client | None:
+        """A number of this person that nobody uses."""
+        broken = self._holdings.broken()
+        usable = [one for one in self._holdings.clients.values() if not one.retired and one not in broken]
+        usable.sort(key=lambda one: not one.stood)
+        return next((one for one in usable if self._disk.lock(one.site)), None)
+
+    def _claim(self, locks: bool = True) -> Client:
+        """A number that nobody has claimed as far as is known here. It is locked before other editors of this
+        person can see it, but where it is for one of them."""
+        taken = self._holdings.judge.claimed()
+        free = [number for number in range(1, GREATEST_SITE + 1) if number not in taken]
+        if not free:
+            raise Trouble(f"All {GREATEST_SITE:,} numbers of this note are claimed. Copy it by bin/note renew.")
+        site = secrets.choice(free)
+        while locks and not self._disk.lock(site):
+            site = secrets.choice(free)
+        # Where there is no log nobody else can claim it.
+        client = Client(site, self._form.new_author(), stood=not self._about.url)
+        claim = self._form.claim(client.site, client.author)
+        self._mended(lambda: self._disk.keep([claim], True, client=client))
+        self._holdings.clients[who(client)] = client
+        self._holdings.add([claim])
+        return client
+
+    def _look_at_claims(self) -> None:
+        """Notes which claims are in the log by now, with no other for their numbers; and has one more number
+        claimed for an editor that is opened while the log is away."""
+        holdings = self._holdings
+        for one in [*holdings.clients.values()]:
+            if one.stood or one.retired or holdings.judge.holder(one.site) != one.author.name:
+                continue
+            if self._courier.stands(self._form.claim(one.site, one.author)):
+                stood = one._replace(stood=True)
+                with suppress(Unkept):
+                    # Where there is no room now the next opening finds it in the log again.
+                    self._mended(lambda: self._disk.stands(stood))
+                holdings.clients[who(one)] = stood
+                if who(one) == who(self._client):
+                    self._client = stood
+        if self._client.stood and is_network(self._about.url) and self._courier.has_read() and len(
+                [one for one in holdings.clients.values() if not one.retired]) < self._courier.editors_here() + 1:
+            with suppress(Unkept):
+                self._claim(locks=False)
+
+    def _settle(self, anew: list[Message] | None, has_read: bool) -> bool:
+        """Gives up the numbers of this person that can't be gone on with, and makes anew what doesn't count.
+        `anew` has all messages that count where the site has some that don't. Whether the site began anew."""
+        holdings = self._holdings
+        broken = self._given_up() if has_read and time.monotonic() >= self._anew_after else []
+        if broken or self.site.number != self.number:
+            found = holdings.count()
+            anew = found.messages if found.anew else holdings.judge.let_through_in_order()
+        if anew is None:
+            return False
+        self._begin_anew(anew)
+        if broken:
+            self._make_anew(broken)
+        return True
+
+    def _given_up(self) -> list[Client]:
+        """The numbers that can't be gone on with and that no other editor has, this editor's among them; what was
+        made under them and not sent is withdrawn, and this editor has a number that can be gone on with."""
+        holdings = self._holdings
+        if self._is_settled and not self._is_taken:
+            return []
+        self._is_settled = True
+        try:
+            broken = [one for one in holdings.broken() if who(one) == who(self._client) or self._disk.lock(one.site)]
+            if broken:
+                self._mended(lambda: holdings.withdraw(self._disk.withdraw(holdings.made_by(broken))))
+            if self._is_taken or who(self._client) in map(who, broken):
+                self._client = self._claim()
+                self._last, self._is_taken = holdings.judge.last(self.number), False
+            return broken
+        except Unkept as why:
+            self._later(why)
+            return []
+
+    def _later(self, why: Unkept) -> None:
+        """Has what couldn't be made anew be tried again."""
+        self._trouble = f"Edits couldn't be made anew yet ({why}). Make room on the disk."
+        self._is_settled, self._anew_after = False, time.monotonic() + AGAIN_SECONDS
+
+    def _begin_anew(self, messages: list[Message]) -> None:
+        """Has the site be another one, under the number of now, with these messages."""
+        self._coming = []
+        self.site.close()
+        self.site = Site(self.number, messages)
+
+    def _make_anew(self, broken: list[Client]) -> None:
+        """Makes anew, under this number, what was made under others and doesn't count."""
+        holdings = self._holdings
+        lost = holdings.lost(broken)
+        done = make_anew([*holdings.rows.values()], lost, holdings.judge, self.site) if lost else []
+        authors = {one.site: one.author.name for one in broken}
+        # What was typed in one go may have come apart, and be several messages now: the first one stands for it.
+        anew = {(one.old.site, one.old.seq): Anew(authors[one.old.site], one.old.site, one.old.seq, self.number,
+                                                  one.new.seq if one.new else 0) for one in reversed(done)}
+        try:
+            self._keep([one.new for one in done if one.new], broken, [*anew.values()])
+        except (Unkept, Overtaken) as why:
+            # As if nothing had been made; it is tried again later.
+            if isinstance(why, Unkept):
+                self._later(why)
+            else:
+                self._is_settled = False
+                holdings.reread_anew(self._disk)
+            self._begin_anew(holdings.judge.let_through_in_order())
+            return
+        made = f"Made anew: {counted(len(lost), 'edit')} that nobody else has." if lost else "No edit was lost."
+        sites = ", ".join(str(one.site) for one in broken)
+        self._notices.append(f"Another client writes as site {sites} too, or this disk has lost what was written there, "
+                             f"so you go on as site {self.number}. {made} Give each machine its own data folder, and "
+                             "don't copy it.")
+
+    def _drop_what_is_too_much(self) -> None:
+        if dropped := self._holdings.is_too_much():
+            with suppress(Unkept):
+                self._mended(lambda: self._disk.drop(dropped))
+            self._notices.append(f"{entries(len(dropped))} lacked one before them and were too many to be kept.")
+        if self._holdings.may_come_now():
+            self._courier.read_anew()

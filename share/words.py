@@ -39,3 +39,8 @@ def refusal(number: int) -> str:
 def counted(number: int, noun: str) -> str:
     """A number with its noun, as `1 edit` and `2 edits`."""
     return f"{number:,} {noun}" if number == 1 else f"{number:,} {noun}s"
+
+
+def entries(number: int) -> str:
+    """So many entries, in words."""
+    return "1 entry" if number == 1 else f"{number:,} entries"

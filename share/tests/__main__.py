@@ -3,23 +3,28 @@ failed."""
 import io
 import pathlib
 import sys
+import time
 import unittest
 from concurrent.futures import ProcessPoolExecutor
 
 # So many modules run at a time. They wait more than they work.
-AT_A_TIME = 3
+AT_A_TIME = 6
 # The longest first.
-MODULES = ["test_killed", "test_same_text", "test_joining", "test_bad_input", "test_terminal", "test_told",
-           "test_logs", "test_parts"]
+MODULES = ["test_killed", "test_editor", "test_lost", "test_numbers", "test_terminal", "test_security", "test_logs",
+           "test_judging", "test_opening", "test_bad_input", "test_joining", "test_printing", "test_wire",
+           "test_same_text", "test_told", "test_parts", "test_old", "test_sealing", "test_entry", "test_spelling",
+           "test_reviewed"]
 
 
 def run(module: str) -> tuple[int, int, str]:
     """How many tests of a module passed and failed, and what is to be told of those that failed. A skipped
     one failed."""
     told = io.StringIO()
+    begin = time.monotonic()
     tests = unittest.defaultTestLoader.loadTestsFromName(f"share.tests.{module}")
     result = unittest.TextTestRunner(told, verbosity=2).run(tests)
     failed = len({str(test) for test, _ in [*result.failures, *result.errors, *result.skipped]})
+    told.write(f"{module}: {time.monotonic() - begin:.0f} s\n")
     return result.testsRun - failed, failed, told.getvalue()
 
 

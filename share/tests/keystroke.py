@@ -14,6 +14,7 @@ import tempfile
 import termios
 import time
 
+from share import opening
 from share.note import Note
 from share.session import Session
 from share.tests.support import NOTE
@@ -53,10 +54,15 @@ def measure(terminal: int, what: str, key: bytes, count: int = KEYS) -> None:
           flush=True)
 
 
+def opened() -> Note:
+    """The note."""
+    return Note(Session(opening.opened("large", None, None)))
+
+
 def type_beside(begun) -> None:
     """Types at the note's front, which isn't on the other screen: what is sent to that is for its own keys
     alone."""
-    note = Note(Session("large", None))
+    note = opened()
     begun.set()
     while True:
         note.moved_to(0)
@@ -68,7 +74,7 @@ def type_beside(begun) -> None:
 def main() -> None:
     """Makes the note, opens it in a terminal, and presses keys."""
     os.environ.update(VIALSHOAL_DATA=tempfile.mkdtemp(prefix="share-"), TERM="xterm-256color")
-    note = Note(Session("large", None))
+    note = opened()
     begin = time.perf_counter()
     note.type("".join(LINE.format(number) for number in range(SIZE // len(LINE.encode()))))
     print(f"typed in one go: {len(note.text):,} bytes in {time.perf_counter() - begin:.1f} s")

@@ -1,23 +1,29 @@
-"""What tests stand on: folders of their own, a Redis server of their own, and sites whose messages the test
-carries."""
+"""What tests stand on: folders of their own, a Redis server of their own, and people who share a note."""
 import contextlib
 import os
 import pathlib
 import random
 import shutil
 import socket
+import sqlite3
 import subprocess
 import sys
 import tempfile
 import time
 import unittest
 
-from share.journal import Journal
-from share.log import Entry, Log, open_log
+from share import link as links
+from share import opening
+from share.disk import Disk
+from share.entry import Form, Plain, in_entries
+from share.judging import Judge
+from share.log import START, Log, open_log
+from share.message import Names
 from share.note import Note
 from share.program import Program
-from share.session import Status
-from share.site import Site, Told
+from share.reading import found_in, shown
+from share.session import Session, Status
+from share.site import Edited, Site, Told
 
 TOP = pathlib.Path(__file__).resolve().parents[2]
 NOTE = str(TOP / "bin" / "note")
@@ -41,6 +47,7 @@ class RedisServer:
 
     def __init__(self, folder: pathlib.Path):
         self.folder = folder
+        folder.mkdir(exist_ok=True)
         with socket.socket() as free:
             free.bind(("127.0.0.1", 0))
             self.port = free.getsockname()[1]
@@ -65,37 +72,92 @@ class RedisServer:
         self.process.kill()
         self.process.wait()
 
+    def lose_all(self) -> None:
+        """Kills the server, and takes its files away."""
+        self.kill()
+        shutil.rmtree(self.folder)
+        self.folder.mkdir()
+
+
+class Person:
+    """Somebody with a data folder of their own, whose notes are opened in this process."""
+
+    def __init__(self, data: pathlib.Path):
+        self.data = data
+
+    @contextlib.contextmanager
+    def here(self):
+        """Has what is opened meanwhile be of this person."""
+        before = os.environ.get("VIALSHOAL_DATA")
+        os.environ["VIALSHOAL_DATA"] = str(self.data)
+        try:
+            yield
+        finally:
+            os.environ.pop("VIALSHOAL_DATA") if before is None else os.environ.update(VIALSHOAL_DATA=before)
+
+    def open(self, name: str = "note", url: str | None = None, link: str | None = None) -> Note:
+        """A note, as an editor has it open."""
+        with self.here():
+            return Note(Session(opening.opened(name, url, links.read(link) if link else None)))
+
+    def link(self, name: str = "note") -> str:
+        """A note's link."""
+        with self.here():
+            return opening.link_of(name)
+
+    def path(self, name: str = "note") -> pathlib.Path:
+        """A note's file."""
+        with self.here():
+            return opening.path_of(name)
+
+    def text(self, name: str = "note") -> bytes:
+        """What the file alone shows."""
+        return shown(found_in(self.path(name))).text
+
+    def disk(self, name: str = "note") -> Disk:
+        """The file of a note, which the caller closes."""
+        return Disk(self.path(name))
+
+    def log(self, name: str = "note") -> Log:
+        """The log of a note, which the caller closes."""
+        with contextlib.closing(self.disk(name)) as disk:
+            return open_log(disk.about.url, disk.form.note)
+
 
 class Case(unittest.TestCase):
-    """A test with a folder of its own as the data folder."""
+    """A test with a folder of its own."""
 
     def setUp(self) -> None:
         self.folder = pathlib.Path(tempfile.mkdtemp(prefix="share-"))
         self.addCleanup(shutil.rmtree, self.folder, ignore_errors=True)
-        self.use_data("data")
+        os.environ["VIALSHOAL_DATA"] = str(self.folder / "data")
 
-    def use_data(self, name: str) -> pathlib.Path:
-        """Has what is opened from now on use another data folder."""
-        data = self.folder / name
-        os.environ["VIALSHOAL_DATA"] = str(data)
-        return data
+    def person(self, name: str = "data") -> Person:
+        """Somebody with a data folder of this name."""
+        return Person(self.folder / name)
+
+    def opened(self, person: Person, *words: str | None, **more: str | None) -> Note:
+        """A note that is open until the test ends."""
+        note = person.open(*words, **more)
+        self.addCleanup(note.session.close)
+        return note
+
+    def file_log(self) -> str:
+        """The path of a log in a file."""
+        return str(self.folder / "shared" / "note.log")
 
     def redis(self) -> RedisServer:
         """A server of this test."""
-        (self.folder / "redis").mkdir()
         server = RedisServer(self.folder / "redis")
         self.addCleanup(server.kill)
         return server
 
-    def opened(self, url: str | None = None, name: str = "note") -> Log:
-        """The log of a note, which the caller closes."""
-        return open_log(name, url, self.folder / "data" / "logs")
-
-    def log(self, url: str | None = None, name: str = "note") -> Log:
-        """The log of a note, as long as the test runs."""
-        log = self.opened(url, name)
-        self.addCleanup(log.close)
-        return log
+    def together(self, url: str, *names: str) -> list[Note]:
+        """People of these names who have a note open, which the first one of them made."""
+        first = self.opened(self.person(names[0]), url=url)
+        type_at_the_end(first, "")
+        link = self.person(names[0]).link()
+        return [first, *(self.opened(self.person(name), link=link) for name in names[1:])]
 
     def note(self, *words: str, **environment: str) -> subprocess.CompletedProcess:
         """A run of bin/note."""
@@ -109,39 +171,70 @@ class Case(unittest.TestCase):
         for part in parts:
             self.assertIn(part, run.stderr)
 
+    def assert_meet(self, *notes: Note) -> bytes:
+        """That notes show the same soon, with all sent; what they show."""
+        wait_for(lambda: are_alike(notes), "all to show the same, with all sent")
+        for note in notes:
+            self.assertEqual(bytes(note.text), note.session.text())
+        return bytes(notes[0].text)
 
-class HandCarried:
-    """A session whose messages are carried when the test says so, in the order in which the test has them."""
 
-    def __init__(self, log: Log, folder: pathlib.Path):
-        self.log, number = log, log.new_site()
-        folder.mkdir(exist_ok=True)
-        self.site = Site(number, Journal(folder / f"{number}.journal"))
-        self.site.open()
-        self.sent, self.coming = 0, []
+class Carried:
+    """A site whose entries are carried when the test says so, in the order in which the test has them. It has no
+    file."""
 
-    def made(self) -> None:
-        """Nothing is sent by itself."""
+    def __init__(self, form: Form, number: int):
+        self.form, self.number, self.author = form, number, form.new_author()
+        self.judge, self.site = Judge(), Site(number)
+        claim = form.claim(number, self.author)
+        self.made, self.coming = [claim], []
+        self.judge.add(claim)
 
-    def send(self) -> None:
-        """Appends what isn't sent yet."""
-        messages = [self.site.own[seq] for seq in range(self.sent + 1, self.site.front + 1)]
-        self.log.append(self.site.number, self.sent + 1, *messages)
-        self.sent = self.site.front
+    def text(self) -> bytes:
+        """What the site shows."""
+        return self.site.text()
+
+    def insert(self, position: int, data: bytes) -> Edited:
+        """Types bytes."""
+        return self._kept(self.site.insert(position, data))
+
+    def cut(self, begin: int, end: int) -> Edited:
+        """Deletes a stretch."""
+        return self._kept(self.site.cut(begin, end))
+
+    def name(self, kind: int, names: list[Names]) -> tuple[Edited, Told]:
+        """Deletes or restores by names."""
+        edited, told = self.site.name(kind, names)
+        return self._kept(edited), told
+
+    def _kept(self, edited: Edited) -> Edited:
+        for part in in_entries(edited.messages):
+            self.made.append(self.form.entry(self.made[-1], part, self.author))
+            self.judge.add(self.made[-1])
+        own = self.judge.count().messages
+        assert own == edited.messages, (own, edited)
+        return edited
 
     def arrived(self) -> Told:
         """Takes in what the test has put here."""
         coming, self.coming = self.coming, []
-        return self.site.take(coming, looks=True)
+        for entry in coming:
+            self.judge.add(entry)
+        counted = self.judge.count()
+        assert not counted.anew
+        return self.site.take(counted.messages, looks=True)
 
     def notices(self) -> list[str]:
-        """What the site says."""
-        told, self.site.notices = self.site.notices, []
-        return told
+        """What the user is told: nothing."""
+        return []
 
     def status(self) -> Status:
-        """How things stand."""
-        return Status(self.site.number, 1, self.site.front - self.sent, None, self.site.waiting())
+        """How things are."""
+        return Status(self.number, 1, 0, None, self.judge.incomplete())
+
+    def close(self) -> None:
+        """Ends the program."""
+        self.site.close()
 
 
 class Pair(Case):
@@ -149,52 +242,71 @@ class Pair(Case):
 
     def setUp(self) -> None:
         super().setUp()
+        self.form = Plain(bytes(16))
         self.notes = [self.joined(), self.joined()]
-        self.places = ["", ""]
 
     def joined(self) -> Note:
-        """The note at one more site."""
-        return Note(HandCarried(self.log(), self.folder / "site"))
+        """The note at one more site, which has nothing yet."""
+        self.sites = getattr(self, "sites", 0) + 1
+        return Note(Carried(self.form, self.sites))
 
     def tearDown(self) -> None:
         for note in self.notes:
-            self.assertEqual(bytes(note.text), note.session.site.text())
-            note.session.site.close()
+            self.assertEqual(bytes(note.text), note.session.text())
+            note.session.close()
 
     def meet(self) -> None:
-        """Both take in what the other made."""
+        """All take in what the others made."""
+        made = [entry for note in self.notes for entry in note.session.made]
         for note in self.notes:
-            note.session.send()
-        for number, note in enumerate(self.notes):
-            if entries := note.session.log.read(self.places[number]):
-                self.places[number], note.session.coming = entries[-1].place, entries
+            note.session.coming = made
             note.take_in()
-        self.assertEqual(self.notes[0].text, self.notes[1].text)
+        for note in self.notes:
+            self.assertEqual(self.notes[0].text, note.text)
 
     def shows(self, words: str) -> None:
-        """That both show this when they have met."""
+        """That all show this when they have met."""
         self.meet()
         self.assertEqual(self.notes[0].text.decode(), words)
 
 
-class Shuffled:
-    """Reads a log, repeats some entries and shuffles all in a window, as a merge of logs might have them."""
+def are_alike(notes) -> bool:
+    """Whether notes show the same, with all sent and nothing that waits."""
+    for note in notes:
+        note.take_in()
+    states = [note.session.status() for note in notes]
+    return (not any(state.unsent or state.offline or state.waiting for state in states)
+            and all(state.can_type for state in states) and len({bytes(note.text) for note in notes}) == 1)
 
-    def __init__(self, log: Log, chance: random.Random, window: int = 100):
-        self.log, self.chance, self.window, self.after, self.held = log, chance, window, "", []
 
-    def read(self, everything: bool = False) -> list[Entry]:
-        """Entries that leave the window; all that are in it, where they are asked for."""
-        while page := self.log.read(self.after):
-            self.held += page
-            self.after = page[-1].place
-        out = []
-        while len(self.held) > (0 if everything else self.window):
-            entry = self.held.pop(self.chance.randrange(min(len(self.held), self.window)))
-            out.append(entry)
-            if self.chance.random() < 0.1:
-                self.held.append(entry)
-        return out
+def type_at_the_end(note: Note, words: str) -> None:
+    """Types words at the end, as soon as that may be."""
+    wait_for(lambda: (note.take_in(), note.session.status().can_type)[1], "an editor to get its number")
+    note.moved_to(len(note.text))
+    if words:
+        note.type(words)
+
+
+def written(note: Note, words: str) -> None:
+    """Types words at the end, and waits until they are sent."""
+    type_at_the_end(note, words)
+    wait_for(lambda: note.session.has_sent(note.session.last()), "words to be sent")
+
+
+def raws_of(log: Log) -> list[bytes | None]:
+    """All that a log has."""
+    raws: list[bytes | None] = []
+    after = START
+    while page := log.read(after):
+        raws += [one.raw for one in page]
+        after = page[-1].place
+    return raws
+
+
+def change(path: pathlib.Path, statement: str, *values) -> None:
+    """Changes a file of SQLite behind everyone's back."""
+    with contextlib.closing(sqlite3.connect(path)) as file, file:
+        file.execute(statement, values)
 
 
 def edit_at_random(note: Note, chance: random.Random) -> None:
@@ -211,13 +323,11 @@ def edit_at_random(note: Note, chance: random.Random) -> None:
         note.take_back()
 
 
-def plain_text(log: Log) -> bytes:
-    """What a plain site shows that takes in a log as it stands."""
-    program, after = Program(65_000), ""
+def plain_text(messages) -> bytes:
+    """What a plain site shows that takes in messages as they come."""
+    program = Program(65_000)
     try:
-        while page := log.read(after):
-            program.ask([program.taking(entry.data) for entry in page])
-            after = page[-1].place
+        program.ask([program.taking(message.data) for message in messages])
         return program.text()
     finally:
         program.close()

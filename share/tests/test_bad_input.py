@@ -1,5 +1,6 @@
 """What goes wrong is told in a sentence that says what to do, and leaves the note whole."""
 import contextlib
+import json
 import os
 import shutil
 import signal
@@ -7,44 +8,40 @@ import socket
 import sqlite3
 import subprocess
 import threading
-import zlib
+import unittest
 from unittest import mock
 
-from share.journal import Journal
-from share.log import Entry, Unreachable, open_log
-from share.message import DELETE, Message, Names, naming
-from share.note import Note
-from share.program import Program
-from share.session import Session
+from share.log import Unreachable
 from share.sqlite_log import SqliteLog
-from share.tests.support import TOP, Case, plain_text, python, wait_for
-from share.words import Trouble
+from share.tests.servers import Hostile
+from share.tests.support import NOTE, TOP, Case, change, python, raws_of, type_at_the_end, wait_for, written
 
+SOMEBODY = 65_534
 
-# Types until no file may grow any more, as where a disk is full; then prints how much was shown as sent.
+# Types until no file may grow any more, as where a disk is full; prints how much was shown by then, what was told, and
+# what is shown after it. Then there is room again.
 FILLS = """
-import resource, sys
+import json, resource
+from share import opening
 from share.note import Note
 from share.session import Session
-from share.words import Trouble
-note, sent = Note(Session("note", None)), 0
-resource.setrlimit(resource.RLIMIT_FSIZE, (100_000, 100_000))
-try:
-    while True:
-        note.moved_to(len(note.text))
-        note.type("x" * 500)
-        status = note.session.status()
-        if status.unsent == 0:
-            sent = len(note.text) - 14
-except Trouble as why:
-    print(sent)
-    print(why, file=sys.stderr)
-    sys.exit(2)
+note = Note(Session(opening.opened("note", None, None)))
+resource.setrlimit(resource.RLIMIT_FSIZE, (200_000, 300_000))
+while not note.notice:
+    before = len(note.text)
+    note.moved_to(before)
+    note.type("x" * 500)
+told = note.session.status().trouble
+full = [before, len(note.text), len(note.session.text())]
+resource.setrlimit(resource.RLIMIT_FSIZE, (300_000, 300_000))
+note.type("y")
+print(json.dumps([*full, note.notice, told, note.session.status().trouble, len(note.text)]))
+note.session.close()
 """
 
 
 class CutLine:
-    """A line to a server that can be cut behind a request, ahead of its answer."""
+    """A line to a server that can be cut after a request, before its answer."""
 
     def __init__(self, port: int):
         self.port, self.cuts, self.was_cut = port, False, False
@@ -58,296 +55,167 @@ class CutLine:
             while True:
                 client, _ = self._listening.accept()
                 server = socket.create_connection(("127.0.0.1", self.port))
-                self._open += client, server
-                threading.Thread(target=self._requests, args=(client, server), daemon=True).start()
-                threading.Thread(target=self._answers, args=(server, client), daemon=True).start()
+                self._open += [client, server]
+                for one, other, answers in (client, server, False), (server, client, True):
+                    threading.Thread(target=self._pass_on, args=(one, other, answers), daemon=True).start()
 
-    def _requests(self, client: socket.socket, server: socket.socket) -> None:
+    def _pass_on(self, one: socket.socket, other: socket.socket, answers: bool) -> None:
         with contextlib.suppress(OSError):
-            while data := client.recv(65_536):
-                appends = self.cuts and b"EVALSHA" in data and b"OT" in data
-                server.sendall(data)
-                if appends:
-                    # The server gets the message, and the client never learns it.
+            while data := one.recv(65_536):
+                if answers and self.cuts:
                     self.was_cut = True
-                    client.shutdown(socket.SHUT_RDWR)
-                    return
-
-    def _answers(self, server: socket.socket, client: socket.socket) -> None:
-        with contextlib.suppress(OSError):
-            while data := server.recv(65_536):
-                client.sendall(data)
+                    break
+                other.sendall(data)
+            for end in one, other:
+                end.shutdown(socket.SHUT_RDWR)
 
     def close(self) -> None:
-        """Lets nobody in any more."""
+        """Ends all that is open."""
         for one in self._open:
             with contextlib.suppress(OSError):
                 one.shutdown(socket.SHUT_RDWR)
             one.close()
 
 
-def written(note: Note, words: str) -> None:
-    """Types words at the end, and waits until they are sent."""
-    note.moved_to(len(note.text))
-    note.type(words)
-    wait_for(lambda: not note.session.status().unsent, "words to be sent")
-
-
 class BadInput(Case):
-    """Each test has a note with some words of one site."""
+    """Each test has a note with some words of one person, and a log in a file."""
 
     def setUp(self) -> None:
         super().setUp()
-        self.write(None)
-        self.path = self.folder / "data" / "logs" / "note.db"
-
-    def write(self, url: str | None) -> None:
-        """Types three edits into the note."""
-        note = Note(Session("note", url))
+        self.ann = self.person()
+        note = self.ann.open(url=self.file_log())
         for words in "one ", "two ", "three ":
             written(note, words)
         note.session.close()
 
-    def change(self, statement: str, *values) -> None:
-        """Changes the file of the log behind everyone's back."""
-        with contextlib.closing(sqlite3.connect(self.path)) as file, file:
-            file.execute(statement, values)
-
-    def reader(self, name: str) -> Note:
-        """The note as one opens it who has a copy of the log, and no journal."""
-        data = self.use_data(name)
-        shutil.copytree(self.path.parent, data / "logs")
-        note = Note(Session("note", None))
-        self.addCleanup(note.session.close)
-        note.take_in()
-        return note
-
-    def test_a_name_that_is_none(self) -> None:
-        for name in "", "a/b", "..", "x" * 65:
-            self.assert_says(self.note("--print", name), "can't be a note's name", "Use up to 64 letters")
-
     def test_a_log_that_is_none(self) -> None:
-        logs = self.folder / "data" / "logs"
-        (logs / "words.db").write_text("These are words.\n" * 100)
-        with contextlib.closing(sqlite3.connect(logs / "other.db")) as file, file:
+        words, other = self.folder / "words", self.folder / "other"
+        words.write_text("These are words.\n" * 100)
+        with contextlib.closing(sqlite3.connect(other)) as file, file:
             file.execute("CREATE TABLE something (else_ TEXT)")
-        self.assert_says(self.note("words", "--print"), "words.db isn't a note's log", "Move it away")
-        self.assert_says(self.note("other", "--print"), "other.db isn't a note's log", "Move it away")
-        run = self.note("note", "--print", "--log", "http://127.0.0.1")
-        self.assert_says(run, "isn't the URL of a log", "redis://HOST:PORT")
-        self.assertEqual(self.note("note", "--print").stdout, "one two three ")
+        for path in words, other:
+            before = path.read_bytes()
+            run = self.note("note", "--print", "--log", str(path))
+            self.assertEqual((run.stdout, run.returncode), ("one two three ", 3), run.stderr)
+            self.assertIn("isn't a note's log. Move it away, or name another file", run.stderr)
+            self.assertEqual(path.read_bytes(), before)
+        for url in "http://127.0.0.1", "redis://127.0.0.1", "redis://127.0.0.1:99999", "unix://x", "":
+            self.assert_says(self.note("note", "--print", "--log", url or "\n"), "redis://HOST:PORT")
 
     def test_a_server_that_keeps_no_log(self) -> None:
-        with socket.create_server(("127.0.0.1", 0)) as listening:
-            threading.Thread(target=self.greet, args=(listening,), daemon=True).start()
-            url = f"redis://127.0.0.1:{listening.getsockname()[1]}"
-            self.assert_says(self.note("note", "--print", "--log", url), "not as a Redis server", "the port")
-        run = self.note("note", "--print", "--log", "redis://127.0.0.1:1")
-        self.assert_says(run, "can't be reached", "try again")
-        server = self.redis()
-        self.command(server.port, "SET vialshoal:{note} words")
-        run = self.note("note", "--print", "--log", server.url)
-        self.assert_says(run, "something else under the note's name", "Choose")
-        self.command(server.port, "XADD vialshoal:{stream} * words many")
-        run = self.note("stream", "--print", "--log", server.url)
-        self.assert_says(run, "isn't one of a note's log", "Choose")
-
-    def greet(self, listening: socket.socket) -> None:
-        """Answers as a server of another kind does."""
-        with contextlib.suppress(OSError):
-            while True:
-                line, _ = listening.accept()
-                line.recv(100)
-                line.sendall(b"HTTP/1.1 400 Bad Request\r\n\r\n")
-                line.close()
-
-    def command(self, port: int, words: str) -> None:
-        """Has a Redis server do something."""
-        with socket.create_connection(("127.0.0.1", port)) as line:
-            line.sendall(words.encode() + b"\r\n")
-            line.recv(100)
-
-    def test_no_module_for_a_server(self) -> None:
-        with mock.patch.dict("sys.modules", {"redis": None, "share.redis_log": None}):
-            with self.assertRaisesRegex(Trouble, "apt-get install python3-redis"):
-                Session("note", "redis://127.0.0.1:1")
+        hostile = Hostile(lambda asked: b"HTTP/1.1 400 Bad Request\r\n\r\n")
+        self.addCleanup(hostile.close)
+        note = self.opened(self.person("bob"), url=self.redis().url)
+        written(note, "one ")
+        link = self.person("bob").link().split("@")[0]
+        for url, words in (hostile.url, "as a Redis server"), ("redis://127.0.0.1:1", "Connection refused"):
+            run = self.note("note", "--print", VIALSHOAL_DATA=str(self.folder / "new"),
+                            VIALSHOAL_LINK=f"{link}@{url}")
+            self.assertEqual((run.stdout, run.returncode), ("", 3))
+            self.assertIn(words, run.stderr)
 
     def test_no_program(self) -> None:
         run = self.note("note", "--print", VIALSHOAL_PROGRAM="/nowhere")
         self.assert_says(run, "can't be run", "VIALSHOAL_PROGRAM")
-        shutil.copytree(TOP / "share", self.folder / "copy" / "share")
-        shutil.copytree(TOP / "bin", self.folder / "copy" / "bin")
+        for part in "share", "bin":
+            shutil.copytree(TOP / part, self.folder / "copy" / part)
         run = subprocess.run([self.folder / "copy" / "bin" / "note", "note", "--print"], capture_output=True,
                              text=True, check=False, env={**os.environ, "VIALSHOAL_PROGRAM": ""})
         self.assert_says(run, "Nothing is built here", "bin/site_cli")
 
-    def test_a_bit_of_a_message(self) -> None:
-        (data,) = self.row("SELECT message FROM entry WHERE seq = 2")
-        changed = data[:-1] + bytes([data[-1] ^ 4])
-        self.change("UPDATE entry SET message = ? WHERE seq = 2", changed)
-        note = self.reader("other")
-        self.assertEqual(bytes(note.text), b"one ")
-        self.assertRegex(note.notice, "Entry 2 of the log is damaged and was left out.*Save the note")
-        written(note, "more ")
-        self.assertEqual(bytes(note.text), b"one more ")
-
-    def test_a_message_of_no_meaning(self) -> None:
-        (data,) = self.row("SELECT message FROM entry WHERE seq = 2")
-        no_kind, other_text = data[:3] + b"\x07" + data[4:], data[:4] + b"\x00\x02" + data[6:]
-        other_begin = data[:26] + b"\x00\x00\x00\x09" + data[30:]
-        for changed, words in ((no_kind, r"refused \(1\): its bytes are no message"),
-                               (other_text, r"refused \(2\): it is of another text"),
-                               (other_begin, r"refused \(4\): it doesn't begin")):
-            statement = "UPDATE entry SET message = ?, checksum = ? WHERE seq = 2"
-            self.change(statement, changed, zlib.crc32(changed))
-            note = self.reader(f"other {words}")
-            self.assertEqual(bytes(note.text), b"one ")
-            self.assertRegex(note.notice, f"Message 2 of site 1 was {words}.*Save the note")
-            written(note, "more ")
-            self.assertEqual(bytes(note.text), b"one more ")
-
-    def test_messages_that_name_nothing_or_too_much(self) -> None:
-        session = Session("note", None)
-        self.addCleanup(session.close)
-        site = session.site
-        bad = [naming(DELETE, number, 1, 99, [Names(1, 0, 0)] * 1_024) for number in range(100, 300)]
-        bad.append(naming(DELETE, 300, 1, 99, [Names(1, 0, 1)] * 2_000))
-        entries = [Entry(str(place), one.data, zlib.crc32(one.data)) for place, one in enumerate(bad)]
-        with mock.patch.object(Program, "ask", autospec=True, side_effect=Program.ask) as asked:
-            site.take(entries, looks=True)
-        # Each is handed in, and nothing is asked of it.
-        self.assertEqual(sum(len(call.args[1]) for call in asked.call_args_list), len(bad))
-        self.assertEqual(site.text(), b"one two three ")
-        self.assertEqual(len(site.notices), len(bad))
-        self.assertRegex(site.notices[0], r"refused \(1\)")
-
-    def test_a_disk_that_is_full(self) -> None:
-        words = [python(), "-B", "-c", FILLS]
-        run = subprocess.run(words, cwd=TOP, capture_output=True, text=True, check=False)
-        self.assert_says(run, "The last edit couldn't be kept", "Make room on the disk")
-        shown = self.note("note", "--print").stdout
-        self.assertEqual(shown, "one two three " + "x" * (len(shown) - 14))
-        self.assertGreaterEqual(len(shown) - 14, int(run.stdout))
-
-    def test_a_log_on_a_disk_that_is_full(self) -> None:
-        note = Note(Session("note", None))
-        self.addCleanup(note.session.close)
-        refusing = mock.patch.object(SqliteLog, "append", side_effect=Unreachable("database or disk is full"))
-        with refusing:
-            note.type("kept ")
-            wait_for(lambda: note.session.status().offline, "the log to be full")
-            self.assertEqual(note.session.status().offline, "database or disk is full")
-            self.assertEqual(note.session.status().unsent, 1)
-        wait_for(lambda: not note.session.status().unsent, "the log to have room again")
-        self.assertIsNone(note.session.status().offline)
-
-    def test_a_server_that_goes_away_while_it_appends(self) -> None:
-        line = CutLine(self.redis().port)
-        self.addCleanup(line.close)
-        note = Note(Session("note", line.url))
-        self.addCleanup(note.session.close)
-        written(note, "one ")
-        line.cuts = True
-        note.type("two ")
-        wait_for(lambda: line.was_cut, "the answer to an append to be cut off")
-        wait_for(lambda: note.session.status().offline, "the client to notice")
-        line.cuts = False
-        written(note, "three ")
-        with contextlib.closing(open_log("note", line.url, self.folder)) as log:
-            kept = [Message.read(entry.data) for entry in log.read("")]
-        self.assertEqual([(message.site, message.seq) for message in kept], [(1, 1), (1, 2), (1, 3)])
-        self.assertEqual(bytes(note.text), b"one two three ")
-
-    def test_two_clients_with_one_number(self) -> None:
-        server = self.redis()
-        self.write(server.url)
-        journals = self.folder / "data" / "journals"
-        shutil.copytree(journals, self.folder / "copied" / "journals")
-        first = Note(Session("note", server.url))
-        self.use_data("copied")
-        second = Note(Session("note", server.url))
-        for note in first, second:
-            self.addCleanup(note.session.close)
-            self.assertEqual(note.session.status().site, 1)
-        server.kill()
-        for note, words in (first, "F"), (second, "S"):
-            note.moved_to(len("one "))
-            note.type(words * 3)
-            note.erase(0, 1)
-            note.type(words)
-        server.start()
-        wait_for(lambda: self.settled(first, second), "both to show the same")
-        text = bytes(first.text).decode()
-        self.assertEqual(sorted(text), sorted("ne two three FFFFSSSS"))
-        for words in "ne FFF", "SSS":
-            self.assertIn(words, text.replace("SSSFFF", "FFFSSS"))
-        notices = [note.notice for note in (first, second) if note.notice]
-        self.assertEqual(len(notices), 1)
-        self.assertRegex(notices[0], "Another client writes as site 1 too.* as site 2. Made anew: 3 edits")
-        numbers = {note.session.status().site for note in (first, second)}
-        self.assertEqual(numbers, {1, 2})
-        with contextlib.closing(open_log("note", server.url, self.folder)) as log:
-            self.assertEqual(plain_text(log).decode(), text)
-
-    def settled(self, *notes: Note) -> bool:
-        """Whether notes show the same, with all sent and one of them under a new number."""
-        for note in notes:
-            note.take_in()
-        states = [note.session.status() for note in notes]
-        all_sent = not any(state.unsent or state.offline for state in states)
-        two_numbers = len({state.site for state in states}) == 2
-        return all_sent and two_numbers and len({bytes(note.text) for note in notes}) == 1
-
-    def test_another_client_types_under_our_number(self) -> None:
-        shutil.copytree(self.folder / "data" / "journals", self.folder / "copied" / "journals")
-        first = Note(Session("note", None))
-        (self.folder / "copied" / "logs").symlink_to(self.path.parent)
-        self.use_data("copied")
-        second = Note(Session("note", None))
-        for note in first, second:
-            self.addCleanup(note.session.close)
-        written(first, "F")
-        wait_for(lambda: second.take_in(), "the other client's word")
-        self.assertRegex(second.notice, "Another client writes as site 1 too.* as site 2. No edit was lost")
-        written(second, "S")
-        wait_for(lambda: first.take_in(), "the second client's word")
-        self.assertEqual(bytes(first.text), b"one two three FS")
-        self.assertEqual(bytes(second.text), b"one two three FS")
-        self.assertEqual(first.session.status().site, 1)
-
-    def test_two_clients_of_one_folder_have_two_numbers(self) -> None:
-        notes = [Note(Session("note", None)) for _ in range(2)]
-        for note in notes:
-            self.addCleanup(note.session.close)
-        self.assertEqual([note.session.status().site for note in notes], [1, 2])
-
     def test_a_program_that_ends_is_started_again(self) -> None:
-        note = Note(Session("note", None))
-        self.addCleanup(note.session.close)
+        note = self.opened(self.ann)
         for words in "four ", "five ":
             note.session.site._program.process.send_signal(signal.SIGKILL)
             written(note, words)
         note.session.site._program.process.send_signal(signal.SIGKILL)
         self.assertTrue(note.take_back())
-        self.assertEqual(note.session.site.text(), b"one two three four ")
+        self.assertEqual(note.session.text(), b"one two three four ")
         self.assertEqual(bytes(note.text), b"one two three four ")
 
-    def test_an_own_message_that_is_nowhere(self) -> None:
-        (path,) = (self.folder / "data" / "journals").glob("*/1.journal")
-        journal = Journal(path)
-        path.unlink()
-        fresh = Journal(path)
-        fresh.append(journal.messages[1:])
-        for one in journal, fresh:
-            one.close()
-        self.assertEqual(self.note("note", "--print").stdout, "one two three ")
-        self.change("DELETE FROM entry")
-        run = self.note("note", "--print")
-        self.assert_says(run, "Message 1 of this site is neither", "Bring back a copy")
+    def test_what_the_disk_damaged_is_brought_back(self) -> None:
+        for damage in ("raw = CAST(substr(raw, 1, 90) || x'00' AS BLOB)", "raw = 'words'", "raw = CAST(x'ff' AS TEXT)",
+                       "raw = 7", "body = 'words'", "sum = 'words'", "hash = CAST(x'ff01' AS TEXT)", "made = 'x'",
+                       "raw = x''", "raw = zeroblob(100000)"):
+            with self.subTest(damage=damage):
+                change(self.ann.path(), f"UPDATE entry SET {damage} WHERE place = 3")
+                note = self.ann.open()
+                wait_for(lambda: (note.take_in(), note.text == b"one two three ")[1], "the log to bring it back")
+                note.session.close()
+                self.assertEqual(self.ann.text(), b"one two three ")
+
+    def test_a_file_that_says_nothing_is_told(self) -> None:
+        good = self.ann.path().read_bytes()
+        for statement in ("DELETE FROM about WHERE name = 'secret'", "UPDATE about SET value = 'words'",
+                          "UPDATE about SET value = 7 WHERE name = 'url'", "DROP TABLE client", "DROP TABLE about",
+                          "UPDATE about SET value = x'00' WHERE name = 'secret'", "DROP TABLE entry"):
+            with self.subTest(statement=statement):
+                self.ann.path().write_bytes(good)
+                change(self.ann.path(), statement)
+                with self.assertRaisesRegex(Exception, "recover|renew|note's file") as raised:
+                    self.opened(self.ann)
+                self.assertEqual(type(raised.exception).__name__, "Trouble")
+                run = self.note("note", "--print")
+                if run.returncode == 2:
+                    self.assert_says(run, "note.note")
+
+    def test_a_disk_that_is_full(self) -> None:
+        data = str(self.folder / "full")
+        run = subprocess.run([python(), "-B", "-c", FILLS], cwd=TOP, capture_output=True, text=True, check=False,
+                             env={**os.environ, "VIALSHOAL_DATA": data}, timeout=120)
+        self.assertEqual(run.returncode, 0, run.stderr)
+        before, shown, site, notice, told, later, more = json.loads(run.stdout)
+        self.assertGreater(before, 5_000)
+        self.assertEqual((shown, site), (before, before))
+        for words in notice, told:
+            self.assertRegex(words, "The last edit couldn't be kept .*all before it is. Make room on the disk")
+        self.assertEqual((later, more), (None, before + 1))
+        printed = self.note("note", "--print", VIALSHOAL_DATA=data)
+        self.assertEqual(printed.stdout, "x" * before + "y")
+
+    def test_a_log_on_a_disk_that_is_full(self) -> None:
+        note = self.opened(self.ann)
+        with mock.patch.object(SqliteLog, "append", side_effect=Unreachable("database or disk is full")):
+            type_at_the_end(note, "kept ")
+            wait_for(lambda: note.session.status().offline, "the log to be full")
+            self.assertEqual(note.session.status().offline, "database or disk is full")
+            self.assertEqual(note.session.status().unsent, 1)
+        wait_for(lambda: not note.session.status().unsent, "the log to have room again")
+        wait_for(lambda: not note.session.status().offline, "it to be said")
+
+    def test_a_server_that_goes_away_while_it_appends(self) -> None:
+        server = self.redis()
+        line = CutLine(server.port)
+        self.addCleanup(line.close)
+        bob = self.person("bob")
+        note = self.opened(bob, url=line.url)
+        written(note, "one ")
+        wait_for(lambda: (note.take_in(), len(list(self.claims(note))) == 2)[1], "one more number")
+        line.cuts = True
+        type_at_the_end(note, "two ")
+        wait_for(lambda: line.was_cut, "the answer to an append to be cut off")
+        wait_for(lambda: note.session.status().offline, "the client to notice")
+        line.cuts = False
+        written(note, "three ")
+        with contextlib.closing(bob.log()) as log:
+            raws = raws_of(log)
+        self.assertEqual(len(raws), len(set(raws)))
+        self.assertEqual(len(raws), 5)
+        self.assertEqual(bytes(note.text), b"one two three ")
+
+    def claims(self, note) -> list[int]:
+        """The numbers that are claimed."""
+        return note.session._holdings.judge.claimed()
+
+    def test_two_editors_of_one_folder_have_two_numbers(self) -> None:
+        notes = [self.opened(self.ann) for _ in range(2)]
+        self.assertEqual(len({note.session.number for note in notes}), 2)
+        for note, words in zip(notes, ("four ", "five ")):
+            type_at_the_end(note, words)
+        self.assertEqual(sorted(self.assert_meet(*notes).split()), sorted(b"one two three four five".split()))
 
     def test_a_note_that_is_full(self) -> None:
-        note = Note(Session("note", None))
-        self.addCleanup(note.session.close)
+        note = self.opened(self.ann)
         with mock.patch("share.site.MOST_MESSAGES", 5):
             written(note, "a")
             written(note, "b")
@@ -359,25 +227,16 @@ class BadInput(Case):
             self.assertEqual(bytes(note.text), b"one two three ab")
         note.take_back()
         self.assertEqual(bytes(note.text), b"one two three a")
-        self.assertEqual(note.session.site.text(), b"one two three a")
+        self.assertEqual(note.session.text(), b"one two three a")
 
-    def test_a_message_whose_cause_is_missing(self) -> None:
-        self.change("DELETE FROM entry WHERE seq = 2")
-        note = self.reader("other")
-        self.assertEqual(bytes(note.text), b"one ")
-        self.assertEqual(note.session.status().waiting, 1)
+    @unittest.skipUnless(os.geteuid() == 0 and shutil.which("setpriv"), "root alone can be another account")
+    def test_a_folder_of_another_account(self) -> None:
+        os.chmod(self.folder, 0o755)
+        words = ["setpriv", f"--reuid={SOMEBODY}", f"--regid={SOMEBODY}", "--clear-groups", NOTE]
+        for more in ("note", "--print"), ("link", "note"), ("recover", str(self.ann.data)), ("renew", "note"):
+            run = subprocess.run([*words, *more], capture_output=True, text=True, check=False, timeout=60)
+            self.assert_says(run, "Permission denied")
 
-    def test_a_journal_that_is_damaged(self) -> None:
-        (path,) = (self.folder / "data" / "journals").glob("*/1.journal")
-        whole = path.read_bytes()
-        path.write_bytes(whole[:60] + bytes([whole[60] ^ 1]) + whole[61:])
-        self.assert_says(self.note("note", "--print"), "is damaged behind 0 edits", "Move it away")
-        path.write_bytes(whole[:-3])
-        self.assertEqual(self.note("note", "--print").stdout, "one two three ")
-        path.unlink()
-        self.assertEqual(self.note("note", "--print").stdout, "one two three ")
 
-    def row(self, question: str) -> tuple:
-        """A row of the log's file."""
-        with contextlib.closing(sqlite3.connect(self.path)) as file:
-            return file.execute(question).fetchone()
+if __name__ == "__main__":
+    unittest.main()

@@ -1,17 +1,28 @@
-"""A note with a long history is joined with a bar, and each message is handed in once."""
+"""A note with a long history is joined, opened and typed into, with a bar, and each message is handed in once. The
+figures of a note of 100,000 messages are printed where VIALSHOAL_FIGURES is set, as `share/tests/run` doesn't."""
+import contextlib
+import os
 import time
 from unittest import mock
 
-from share.log import Log
+from share import opening
+from share import link as links
+from share.entry import Entry, Form
+from share.log import is_network, open_log
 from share.message import Message
 from share.note import Note
 from share.program import Program
 from share.session import Session
-from share.tests.support import Case
+from share.tests.support import Case, Person, wait_for
 
-LONG, BACKWARDS = 100_000, 2_000
-# How many edits one of two sites makes before the other one takes them in and goes on.
-ROUND = 1_000
+FIGURES = bool(os.environ.get("VIALSHOAL_FIGURES"))
+LONG = 100_000 if FIGURES else 6_000
+BACKWARDS, KEYS = 2_000, 50
+# A log of so many messages may take a minute on a busy machine.
+PATIENCE = 300
+# How many edits one of two sites makes before the other one takes them in and goes on, and how many an entry has, as
+# of who types while all is sent.
+ROUND, EACH = 1_000, 1
 
 
 def history(count: int) -> tuple[list[list[Message]], bytes]:
@@ -31,51 +42,101 @@ def history(count: int) -> tuple[list[list[Message]], bytes]:
     return rounds, text
 
 
+def in_entries(form: Form, rounds: list[list[Message]]) -> list[bytes]:
+    """The entries of rounds, as who wrote them gave them to a log."""
+    authors = {site: form.new_author() for site in (1, 2)}
+    last: dict[int, Entry] = {site: form.claim(site, author) for site, author in authors.items()}
+    raws = [one.raw for one in last.values()]
+    for made in rounds:
+        for begin in range(0, len(made), EACH):
+            part = made[begin:begin + EACH]
+            last[part[0].site] = form.entry(last[part[0].site], part, authors[part[0].site])
+            raws.append(last[part[0].site].raw)
+    return raws
+
+
 class Joining(Case):
     """Joins notes whose logs the test has filled."""
 
-    def fill(self, log: Log, rounds: list[list[Message]]) -> None:
-        """Appends the messages of rounds; the log has given out both numbers."""
-        log.new_site()
-        log.new_site()
-        for made in rounds:
-            log.append(made[0].site, made[0].seq, *(message.data for message in made))
+    def fill(self, url: str, rounds: list[list[Message]], backwards: bool = False) -> str:
+        """Makes a log with the messages of rounds; the link of its note."""
+        about = opening.about_new(url)
+        form = about.form()
+        raws = in_entries(form, rounds)
+        with contextlib.closing(open_log(url, form.note)) as log:
+            for begin in range(0, len(raws), 1_000):
+                log.append((raws[::-1] if backwards else raws)[begin:begin + 1_000])
+        return links.Link("sealed" if about.sealed else "plain", about.secret, url).spelled()
 
-    def join(self, url: str | None, count: int, text: bytes) -> None:
-        """Joins the note, and counts what is handed in."""
-        steps, handed, ask = [], [], Program.ask
+    def timed(self, what: str, person: Person, text: bytes, link: str | None = None) -> tuple[Note, list[bytes]]:
+        """Opens a note, and counts what is handed in of the others' messages."""
+        handed: list[bytes] = []
+        steps: list[tuple[int, int]] = []
+        ask = Program.ask
 
         def counting(program: Program, events: list[bytes]) -> list[list[bytes]]:
             answers = ask(program, events)
-            handed.extend(answer for event, answer in zip(events, answers) if b" take " in event)
+            handed.extend(answer[-1] for event, answer in zip(events, answers) if b" take " in event)
             return answers
 
         begin = time.monotonic()
-        with mock.patch.object(Program, "ask", counting):
-            note = Note(Session("note", url, lambda done, total: steps.append((done, total))))
-        seconds = time.monotonic() - begin
-        print(f"{count:,} messages {'by a server' if url else 'in a file'} joined in {seconds:.1f} s")
-        self.addCleanup(note.session.close)
+        with person.here(), mock.patch.object(Program, "ask", counting):
+            disk = opening.opened("note", None, links.read(link) if link else None)
+            note = Note(Session(disk, None, lambda done, total: steps.append((done, total))))
+            end = begin + PATIENCE
+            while bytes(note.text) != text and time.monotonic() < end:
+                note.take_in()
+                time.sleep(0.02)
         self.assertEqual(bytes(note.text), text)
-        self.assertEqual(note.session.status().site, 3)
-        self.assertEqual(handed, [[b"taken 0 0"]] * count)
-        self.assertEqual(steps, sorted(steps))
-        self.assertGreaterEqual(len(steps), 2)
-        self.assertEqual(steps[-1], (2 * count, 2 * count))
+        self.told(f"{what} {len(text):,} messages", time.monotonic() - begin)
+        self.addCleanup(note.session.close)
+        self.assertTrue(all(total for _, total in steps))
+        return note, handed
 
-    def test_a_long_history(self) -> None:
+    def told(self, what: str, seconds: float) -> None:
+        """Prints a figure, where these are asked for."""
+        if FIGURES:
+            print(f"{what}: {seconds:.2f} s", flush=True)
+
+    def key(self, what: str, note: Note) -> None:
+        """Types some keys."""
+        seconds = []
+        wait_for(lambda: (note.take_in(), note.session.status().can_type)[1], "a number")
+        note.moved_to(len(note.text) // 2)
+        for _ in range(KEYS):
+            begin = time.perf_counter()
+            note.type("x")
+            seconds.append(time.perf_counter() - begin)
+            note.take_in()
+        seconds.sort()
+        self.told(f"a key by the median, {what}", seconds[KEYS // 2])
+        self.told(f"a key at most, {what}", seconds[-1])
+
+    def tried(self, what: str, url: str, away) -> None:
+        """Joins a long note, types, and opens it again, also without its log."""
         rounds, text = history(LONG)
-        for url in None, self.redis().url:
-            with self.subTest(url=url):
-                self.fill(self.log(url), rounds)
-                self.join(url, LONG, text)
+        link, person = self.fill(url, rounds), self.person("ann")
+        note, handed = self.timed(f"{what}: joining", person, text, link)
+        self.assertEqual(handed, [b"taken 0 0"] * len(text))
+        self.key(what, note)
+        text = bytes(note.text)
+        wait_for(lambda: not note.session.status().unsent, "all to be sent")
+        note.session.close()
+        self.timed(f"{what}: opening", person, text)[0].session.close()
+        away()
+        note, handed = self.timed(f"{what}: opening offline", person, text)
+        self.assertEqual(handed, [b"taken 0 0"] * len(text))
+        self.assertTrue(is_network(url) or note.session.status().can_type)
+
+    def test_a_long_history_in_a_file(self) -> None:
+        self.tried("plain, a log in a file", self.file_log(), lambda: None)
+
+    def test_a_long_history_on_a_server(self) -> None:
+        server = self.redis()
+        self.tried("sealed, a server", server.url, server.kill)
 
     def test_a_history_backwards(self) -> None:
         rounds, text = history(BACKWARDS)
-        log = self.log()
-        log.new_site()
-        log.new_site()
-        for made in reversed(rounds):
-            for message in reversed(made):
-                log.append(message.site, message.seq, message.data)
-        self.join(None, BACKWARDS, text)
+        link = self.fill(self.file_log(), rounds, backwards=True)
+        _, handed = self.timed("joining backwards", self.person("ann"), text, link)
+        self.assertEqual(handed, [b"taken 0 0"] * len(text))

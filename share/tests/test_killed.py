@@ -1,133 +1,167 @@
-"""Clients and servers that are killed lose nothing that a user was shown as sent, nor anything of a
-journal."""
+"""Clients and servers are killed at random points, servers rolled back, logs joined, folders copied and put back:
+nothing that was shown or said to be sent is lost, nothing is there twice, and all show the same.
+
+    SHARE_ROUNDS=200 share/tests/run test_killed
+"""
+import contextlib
 import os
-import pathlib
 import random
 import re
+import shutil
 import subprocess
 import threading
 import time
 
-from share.journal import Journal
-from share.tests.support import TOP, Case, RedisServer, plain_text, python
+from share.tests.support import TOP, Case, Person, RedisServer, are_alike, python, type_at_the_end, wait_for, written
 
-KILLS, SERVER_KILLS = 25, 5
+ROUNDS = int(os.environ.get("SHARE_ROUNDS", "6"))
+SEED = int(os.environ.get("SHARE_SEED", "1"))
+LONGEST_LIFE = 0.8
 
 
-class Typist:
-    """A client that types in a process of its own, is killed at random moments and started again."""
+class Life:
+    """A client that types in a process of its own, and is killed at a random moment."""
 
-    def __init__(self, tag: str, data: pathlib.Path, url: str | None, seed: int, longest: float = 0.5):
-        self.tag, self.data, self.url, self.longest = tag, data, url, longest
-        self.typed = self.sent = -1
-        self.faults: list[str] = []
-        self._chance = random.Random(seed)
-
-    def live_and_die(self) -> None:
-        """One life."""
-        words = [python(), "-B", "-m", "share.tests.typist", self.tag, "note", self.url or "",
-                 str(self._chance.random())]
-        process = subprocess.Popen(words, cwd=TOP, stdout=subprocess.PIPE, stderr=subprocess.PIPE, text=True,
-                                   env={**os.environ, "VIALSHOAL_DATA": str(self.data)})
-        killer = None
+    def __init__(self, person: Person, link: str, tag: str, chance: random.Random):
+        self.person, self.tag, self.typed, self.sent = person, tag, -1, -1
+        self.fault = ""
+        words = [python(), "-B", "-m", "share.tests.typist", tag, link, str(chance.random())]
+        self._longest = chance.random() * LONGEST_LIFE
         # Some die while they open the note.
-        if self._chance.random() < 0.2:
-            killer = threading.Timer(0.05 + self._chance.random() / 4, process.kill)
-            killer.start()
-        for line in process.stdout:
+        self._dies_early = chance.random() < 0.15
+        self._process = subprocess.Popen(words, cwd=TOP, stdout=subprocess.PIPE, stderr=subprocess.PIPE, text=True,
+                                         env={**os.environ, "VIALSHOAL_DATA": str(person.data)})
+        self._thread = threading.Thread(target=self._live)
+        self._thread.start()
+
+    def _live(self) -> None:
+        killer = threading.Timer(0.3 if self._dies_early else 15, self._process.kill)
+        killer.start()
+        for line in self._process.stdout:
             word, number = line.split()
-            if word == "open":
-                if not killer:
-                    killer = threading.Timer(self._chance.random() * self.longest, process.kill)
-                    killer.start()
-                # The last word of a life may be in the journal, and not have been told any more.
-                if int(number) - self.typed not in (1, 2):
-                    self.faults.append(f"{self.typed + 1} words were typed, and {number} are there")
-                self.typed = int(number) - 1
+            if word == "open" and not self._dies_early:
+                killer.cancel()
+                killer = threading.Timer(self._longest, self._process.kill)
+                killer.start()
             elif word == "typed":
                 self.typed = int(number)
             elif word == "sent":
                 self.sent = int(number)
-        killer.join()
-        if process.wait() != -9:
-            self.faults.append(process.stderr.read())
-        process.stdout.close()
-        process.stderr.close()
+        killer.cancel()
+        if self._process.wait() != -9:
+            self.fault = self._process.stderr.read()
+        self._process.stdout.close()
+        self._process.stderr.close()
+
+    def end(self) -> None:
+        """Waits until it was killed."""
+        self._thread.join()
 
 
 class Killed(Case):
-    """25 kills of a client over a file, 25 of one over a server, and 5 of a server with two clients."""
+    """Three people and a server, for some rounds."""
 
-    def live(self, typists: list[Typist], kills: int) -> None:
-        """Has typists live and die at once."""
-        threads = [threading.Thread(target=lambda one=typist: [one.live_and_die() for _ in range(kills)])
-                   for typist in typists]
-        for thread in threads:
-            thread.start()
-        for thread in threads:
-            thread.join()
+    def setUp(self) -> None:
+        super().setUp()
+        self.chance = random.Random(SEED)
+        self.server = self.redis()
+        self.others: list[RedisServer] = []
+        first = self.person("p0").open(url=self.server.url)
+        written(first, "begin ")
+        first.session.close()
+        self.link = self.person("p0").link()
+        self.people = [self.person("p0"), self.person("p1"), self.person("p2")]
+        # The words that each life has typed, and may have typed.
+        self.lives: list[Life] = []
+        self.backups: list[tuple[Person, object]] = []
 
-    def assert_whole(self, typists: list[Typist]) -> None:
-        """That each word of each typist is there once, in order, up to the last that was typed."""
-        for typist in typists:
-            self.assertEqual(typist.faults, [])
-            self.use_data(typist.data.name)
-            run = self.note("note", "--print", *(["--log", typist.url] if typist.url else []))
-            self.assertEqual(run.returncode, 0, run.stderr)
-        log = self.log(typists[0].url)
-        text = plain_text(log).decode()
-        for typist in typists:
-            numbers = [int(found) for found in re.findall(rf"{typist.tag}(\d+)\.", text)]
-            self.assertEqual(numbers, list(range(len(numbers))))
-            self.assertGreaterEqual(len(numbers), typist.typed + 1)
-            self.assertGreater(typist.sent, 20)
-            self.in_the_log(typist, log)
-        self.assertEqual(len(text), sum(map(len, re.findall(r"[a-z]\d+\.", text))))
+    def round(self, number: int) -> None:
+        """Has some type and be killed, and perhaps the server with them."""
+        lives = [Life(person, self.link, f"{person.data.name}-{number}-{turn}", self.chance)
+                 for person in self.people for turn in range(1 + (self.chance.random() < 0.3))]
+        if self.chance.random() < 0.5:
+            time.sleep(0.2 + self.chance.random())
+            self.server.kill()
+            time.sleep(self.chance.random() / 3)
+            self.server.start()
+        for life in lives:
+            life.end()
+            self.assertEqual(life.fault, "")
+        self.lives += lives
 
-    def in_the_log(self, typist: Typist, log) -> None:
-        """That the log has each message of a journal."""
-        held, after = set(), ""
-        while page := log.read(after):
-            held |= {entry.data for entry in page}
-            after = page[-1].place
-        (path,) = (typist.data / "journals" / log.identity).iterdir()
-        journal = Journal(path)
-        self.assertLessEqual({message.data for message in journal.messages}, held)
-        journal.close()
-
-    def test_a_client_over_a_file(self) -> None:
-        typist = Typist("f", self.folder / "data", None, 1)
-        self.live([typist], KILLS)
-        self.assert_whole([typist])
-
-    def test_a_client_over_a_server(self) -> None:
-        typist = Typist("r", self.folder / "data", self.redis().url, 2)
-        self.live([typist], KILLS)
-        self.assert_whole([typist])
-
-    def test_a_server(self) -> None:
-        server = self.redis()
-        typists = [Typist(tag, self.folder / tag, server.url, number, 2) for number, tag in enumerate("ab")]
-        stop = threading.Event()
-        killer = threading.Thread(target=self.kill_at_random, args=(server, stop))
-        killer.start()
+    def meet(self) -> bytes:
+        """Has all people show the same; what they show."""
+        notes = [person.open() if person.path().exists() else person.open(link=self.link)
+                 for person in self.people]
         try:
-            self.live(typists, 1)
-            lives = 0
-            while not stop.is_set():
-                self.live(typists, 1)
-                lives += 1
+            for note in notes:
+                type_at_the_end(note, "")
+            wait_for(lambda: are_alike(notes), "all to show the same, with all sent")
+            text = bytes(notes[0].text)
         finally:
-            killer.join()
-        self.assertGreater(lives, 0)
-        self.assert_whole(typists)
+            for note in notes:
+                note.session.close()
+        self.assert_whole(text)
+        return text
 
-    def kill_at_random(self, server: RedisServer, stop: threading.Event) -> None:
-        """Kills the server and starts it again, a few times."""
-        chance = random.Random(4)
-        for _ in range(SERVER_KILLS):
-            time.sleep(0.5 + chance.random())
-            server.kill()
-            time.sleep(0.2 * chance.random())
-            server.start()
-        stop.set()
+    def assert_whole(self, text: bytes) -> None:
+        """That each word that was typed is there once, and no other."""
+        found: dict[str, int] = {}
+        for word in text.decode().split():
+            found[word] = found.get(word, 0) + 1
+        self.assertEqual([word for word, count in found.items() if count > 1], [])
+        for life in self.lives:
+            numbers = sorted(int(one[1]) for word in found
+                             if (one := re.fullmatch(rf"{life.tag}\.(\d+)", word)))
+            # The last word of a life may be on the disk, and not have been told any more.
+            self.assertIn(numbers, [list(range(life.typed + 1)), list(range(life.typed + 2))], life.tag)
+
+    def disturb(self, number: int) -> None:
+        """Does to a server or a disk what people do. All have all at this moment."""
+        what = self.chance.randrange(6)
+        if what == 0:
+            self.server.lose_all()
+            self.server.start()
+        elif what == 1:
+            self.server.kill()
+            if (older := self.folder / "older").exists():
+                shutil.rmtree(self.server.folder)
+                shutil.copytree(older, self.server.folder)
+            else:
+                shutil.copytree(self.server.folder, older)
+            self.server.start()
+        elif what == 2 and len(self.people) < 6:
+            # Somebody copies a folder, and goes on with both.
+            person = self.chance.choice(self.people)
+            shutil.copytree(person.data, self.folder / f"c{number}")
+            self.people.append(self.person(f"c{number}"))
+        elif what == 3 and self.backups:
+            person, copy = self.backups.pop()
+            shutil.rmtree(person.data)
+            shutil.copytree(copy, person.data)
+        elif what == 4:
+            person = self.chance.choice(self.people[1:])
+            shutil.rmtree(person.data)
+        else:
+            person = self.chance.choice(self.people)
+            copy = self.folder / f"backup{number}"
+            shutil.copytree(person.data, copy)
+            self.backups.append((person, copy))
+
+    def test_rounds(self) -> None:
+        for number in range(ROUNDS):
+            self.round(number)
+            if number % 2:
+                self.meet()
+                self.disturb(number)
+        text = self.meet()
+        for person in self.people:
+            self.assertEqual(person.text(), text)
+            with person.here():
+                run = self.note("note", "--print")
+            self.assertEqual((run.returncode, run.stderr), (0, ""))
+            self.assertEqual(run.stdout, text.decode())
+        print(f"{ROUNDS} rounds, {len(self.lives)} kills, {len(text.split())} words")
+        self.assertGreater(sum(life.sent for life in self.lives), 0)
+        with contextlib.suppress(OSError):
+            print(f"{sum(path.stat().st_size for path in self.folder.rglob('*.note')):,} bytes of notes")

@@ -1,32 +1,40 @@
-"""The parts by themselves: rows, characters, splitting, the order of what came in, and journals."""
+"""The parts by themselves: rows, characters, splitting, and changes."""
+import importlib.util
 import random
+import sys
+import time
+import unittest.mock
+from collections.abc import Iterator
+from types import ModuleType
 
-from share.incoming import Incoming
-from share.journal import InUse, Journal
-from share.layout import PART, Layout, cluster_after, cluster_before
-from share.message import Message
+from share import layout
+from share.layout import (NEAR, PART, Layout, Text, cluster_after, cluster_before, decoded, drawn, word_after,
+                          word_before)
 from share.note_text import Change, boundary, make
 from share.site import MOST_BYTES, split
 from share.tests.support import Case
 
 WIDTH = 20
-
-
-def message(site: int, seq: int, stamp: int) -> Message:
-    """A message of which only its place is looked at."""
-    return Message(site, seq, stamp, 1, b"%d %d %d" % (site, seq, stamp))
+ALPHABET = "abc  \r\té漢🎉e\u0301\u200d🇩🇪"
+ENGLAND = "🏴\U000e0067\U000e0062\U000e0065\U000e006e\U000e0067\U000e007f"
 
 
 class Rows(Case):
     """Each byte of a text is in one row, or ends a line."""
 
-    def texts(self):
+    def texts(self) -> Iterator[bytes]:
         """Texts with long lines and short, wide characters, marks, tabs, and bytes that are no UTF-8."""
         chance = random.Random(1)
         for _ in range(200):
-            yield "".join(chance.choices("abc  \r\té漢🎉e\u0301\u200d", k=chance.randrange(200))).encode()
+            yield "".join(chance.choices(ALPHABET, k=chance.randrange(200))).encode()
         yield b"\xff\x80\x80" * 30 + b"\r\xf0\x9f"
+        yield b"\x80" * (2 * PART)
         yield "é".encode() * PART + b"\r" + b"x" * (PART + 1)
+        for character in "🇩🇪", "👩\u200d👩\u200d👧", "e\u0301", "\u1112\u1161\u11ab":
+            for size in range(PART - 9, PART):
+                yield b"x" * size + character.encode() + b"\r"
+                yield b"x" * size + character.encode() * 60
+        yield "\u0301".encode() * PART
 
     def test_rows_have_the_whole_text(self) -> None:
         for text in map(bytearray, self.texts()):
@@ -58,20 +66,99 @@ class Rows(Case):
         self.assertEqual(max(ends), PART + WIDTH)
 
 
+    def test_parts_of_a_long_line_begin_at_characters(self) -> None:
+        for character in "🇩🇪", "👩\u200d👩\u200d👧", "e\u0301":
+            text = b"x" * (PART - 3) + character.encode() * PART
+            part = Layout(text, WIDTH).row_at(PART + NEAR).part
+            self.assertEqual((part - PART + 3) % len(character.encode()), 0)
+            self.assertLess(part - PART, len(character.encode()))
+
+
+def without_packages() -> ModuleType:
+    """Layout as it is where Debian's packages for characters aren't."""
+    specification = importlib.util.spec_from_file_location("plain_layout", layout.__file__)
+    assert specification and specification.loader
+    plain = importlib.util.module_from_spec(specification)
+    with unittest.mock.patch.dict(sys.modules, {"regex": None, "wcwidth": None, "plain_layout": plain}):
+        specification.loader.exec_module(plain)
+    return plain
+
+
+def walked(text: str, module: ModuleType = layout) -> list[str]:
+    """The characters of a text, which are the same both ways."""
+    data = text.encode("utf-8", "surrogateescape")
+    stops, back = [0], [len(data)]
+    while stops[-1] < len(data):
+        stops.append(module.cluster_after(data, stops[-1]))
+    while back[-1]:
+        back.append(module.cluster_before(data, back[-1]))
+    if back[::-1] != stops:
+        raise AssertionError(f"forth {stops}, and back {back[::-1]}")
+    return [decoded(data[a:b]) for a, b in zip(stops, stops[1:])]
+
+
 class Characters(Case):
-    """Characters are walked and split whole."""
+    """Characters are walked, drawn and split whole."""
+
+    SIMPLE = ["a", "e\u0301", "👩\u200d👩\u200d👧", "é", "\r", "\n", "漢", "\t", "\u1112\u1161\u11ab",
+              "\udcff", "\udc80", "❤\ufe0f", "x\u200b", "1\ufe0f\u20e3", "\u202e", "\x1b", "\r", "\r", " "]
+    FULL = ["🇩🇪", "🇫🇷", "👍🏽", "कि", "நி", ENGLAND, "👨🏽\u200d🚀"]
 
     def test_a_walk_goes_over_whole_characters(self) -> None:
-        text = bytearray("ae\u0301👩‍👩‍👧é".encode())
+        self.assertEqual(walked("".join(self.SIMPLE + self.FULL)), self.SIMPLE + self.FULL)
+        self.assertEqual(walked("🇩🇪" * 1_000), ["🇩🇪"] * 1_000)
+
+    def test_without_packages(self) -> None:
+        plain = without_packages()
+        self.assertIs(plain.clusters, plain.simple_clusters)
+        self.assertIs(plain.width_of, plain.simple_width)
+        self.assertEqual(walked("".join(self.SIMPLE), plain), self.SIMPLE)
+        for character in self.SIMPLE[:9]:
+            self.assertEqual(plain.drawn(character), drawn(character))
+
+    def test_widths(self) -> None:
+        for character, width in (("a", 1), ("漢", 2), ("🎉", 2), ("e\u0301", 1), ("\u1112\u1161\u11ab", 2),
+                                 ("🇩🇪", 2), ("\x1b", 1), ("\u202e", 1), ("\udcff", 1), ("\u0301", 1),
+                                 ("\u200b", 1)):
+            self.assertEqual(drawn(character)[1], width, character)
+        self.assertEqual(drawn("\u0301")[0], "\u25cc\u0301")
+
+    def test_marks_without_end(self) -> None:
+        text = "e".encode() + "\u0301".encode() * 500_000
+        for begin, step in ((500_001, cluster_before), (1, cluster_after)):
+            position = begin
+            for _ in range(100):
+                position = step(text, position)
+            self.assertTrue(0 < abs(position - begin) <= 100 * (NEAR + 3))
+
+    def test_a_place_in_a_long_line_is_found_at_once(self) -> None:
+        def seconds(text: Text) -> float:
+            begin = time.process_time()
+            for _ in range(50):
+                for place in range(len(text) - 2_048, len(text), 256):
+                    cluster_before(text, place)
+                    cluster_after(text, place)
+            return time.process_time() - begin
+        for character in "x", "\u0301", "🇩🇪", "👩\u200d👩\u200d":
+            short = character.encode() * (4_096 // len(character.encode()))
+            few = min(seconds(short) for _ in range(3))
+            self.assertLess(seconds(short * 250), 10 * few + 0.1)
+
+    def test_words(self) -> None:
+        text = "one, two_3\r\r e\u0301té—पानी " + " " * 3_000 + "end" + "漢" * 2_000
+        data = text.encode()
         stops = [0]
-        while stops[-1] < len(text):
-            stops.append(cluster_after(text, stops[-1]))
-        walked = [text[a:b].decode() for a, b in zip(stops, stops[1:])]
-        self.assertEqual(walked, ["a", "e\u0301", "👩‍👩‍👧", "é"])
-        back = [len(text)]
+        while stops[-1] < len(data):
+            stops.append(word_after(data, stops[-1]))
+        words = ["one", ", two_3", "\r\r e\u0301té", "—पानी", " " * 3_001 + "end" + "漢" * 2_000]
+        self.assertEqual([data[a:b].decode() for a, b in zip(stops, stops[1:])], words)
+        back = [len(data)]
         while back[-1]:
-            back.append(cluster_before(text, back[-1]))
-        self.assertEqual(back[::-1], stops)
+            back.append(word_before(data, back[-1]))
+        words = ["one, ", "two_3\r\r ", "e\u0301té—", "पानी" + " " * 3_001, "end" + "漢" * 2_000]
+        self.assertEqual([data[a:b].decode() for a, b in zip(back[::-1], back[-2::-1])], words)
+        for data in b"", b" ", b"\x80", b"\x80\xff" * 2_000, b"a":
+            self.assertEqual((word_before(data, len(data)), word_after(data, 0)), (0, len(data)))
 
     def test_an_insertion_is_split_between_characters(self) -> None:
         for lead in range(4):
@@ -99,65 +186,3 @@ class Changes(Case):
                 text[begin:end] = changes[-1].new
             make(begun, changes)
             self.assertEqual(begun, text)
-
-
-class Order(Case):
-    """What came in any order is handed in with each site's next, the lowest stamp first."""
-
-    def test_all_at_once(self) -> None:
-        sent = [message(site, seq, 3 * seq + site) for site in (1, 2, 3) for seq in range(1, 50)]
-        incoming = Incoming()
-        for one in random.Random(2).sample(sent, len(sent)):
-            incoming.add(one)
-        self.assertEqual(incoming.ready(), sorted(sent, key=lambda one: one.stamp))
-        self.assertEqual((incoming.ready(), incoming.held()), ([], []))
-
-    def test_a_gap_holds_back_its_site_alone(self) -> None:
-        incoming = Incoming()
-        for one in message(1, 2, 2), message(2, 1, 1), message(1, 3, 3):
-            incoming.add(one)
-        self.assertEqual(incoming.ready(), [message(2, 1, 1)])
-        self.assertEqual(len(incoming.held()), 2)
-        incoming.add(message(1, 1, 1))
-        self.assertEqual([one.seq for one in incoming.ready()], [1, 2, 3])
-
-    def test_what_had_no_room_comes_again(self) -> None:
-        incoming = Incoming()
-        for seq in 1, 2, 3:
-            incoming.add(message(1, seq, seq))
-        handed = incoming.ready()
-        for one in handed:
-            incoming.put_back(one)
-        self.assertEqual(incoming.ready(), handed[:1])
-        incoming.went_in(1)
-        self.assertEqual(incoming.ready(), handed[1:])
-
-
-class Journals(Case):
-    """A journal has what was written to it, and one process has a journal."""
-
-    def test_a_journal_that_was_cut_short(self) -> None:
-        path = self.folder / "1.journal"
-        heads = [b"OT\1\1\0\1\0\1\0\0\0" + bytes([seq]) for seq in range(1, 6)]
-        kept = [Message.read(head + b"\0" * 8 + b"rest") for head in heads]
-        journal = Journal(path)
-        journal.append(kept[:2])
-        journal.append(kept[2:])
-        journal.close()
-        whole = path.read_bytes()
-        for end in range(len(whole) + 1):
-            path.write_bytes(whole[:end])
-            journal = Journal(path)
-            held = len(journal.messages)
-            self.assertEqual(journal.messages, kept[:held])
-            self.assertEqual(held, max(0, end - 20) // (8 + len(kept[0].data)))
-            journal.append(kept[held:])
-            journal.close()
-            self.assertEqual(path.read_bytes(), whole)
-
-    def test_a_journal_in_use(self) -> None:
-        journal = Journal(self.folder / "1.journal")
-        with self.assertRaises(InUse):
-            Journal(self.folder / "1.journal")
-        journal.close()
-        Journal(self.folder / "1.journal").close()

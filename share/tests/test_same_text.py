@@ -1,68 +1,50 @@
-"""Sites that share a note show the same, however their messages come."""
+"""Sites that share a note show the same, however their entries come."""
 import random
 
-from share.message import Message
-from share.note import Note
+from share.message import inserted
 from share.note_text import change
-from share.tests.support import Case, HandCarried, Pair, Shuffled, edit_at_random, plain_text
+from share.tests.support import Case, Pair, edit_at_random, plain_text
 
 EDITS = 600
 OFFLINE = range(200, 400)
 
 
-class SameText(Case):
-    """Three sites edit at random; one is offline for 200 edits, and one joins late."""
+class SameText(Pair):
+    """Three sites edit at random; one is offline for 200 edits, one joins late, and entries come shuffled and
+    repeated."""
 
-    def share(self, url: str | None, seed: int) -> None:
-        """Runs the edits over a log, and looks at what all show."""
-        chance, log = random.Random(seed), self.log(url)
-        notes = [Note(HandCarried(log, self.folder / "site")) for _ in range(3)]
-        readers = [Shuffled(log, chance) for _ in notes]
+    def test_at_random(self) -> None:
+        chance = random.Random(1)
+        self.notes.append(self.joined())
+        held: list[list] = [[] for _ in self.notes]
+        sent = [0 for _ in self.notes]
         for turn in range(EDITS):
-            for number, (note, reader) in enumerate(zip(notes, readers)):
+            for number, note in enumerate(self.notes):
                 edit_at_random(note, chance)
                 if number == 0 and turn in OFFLINE:
                     continue
-                note.session.send()
-                note.session.coming += reader.read()
+                made = note.session.made[sent[number]:]
+                sent[number] += len(made)
+                for other in held:
+                    other += made
                 if turn % 7 == number:
+                    chance.shuffle(held[number])
+                    note.session.coming = held[number][:100]
+                    held[number] = held[number][100:] + note.session.coming[:5]
                     note.take_in()
-                    self.assertEqual(bytes(note.text), note.session.site.text())
-        late = Note(HandCarried(log, self.folder / "site"))
-        notes.append(late)
-        readers.append(Shuffled(log, chance))
-        for note, reader in zip(notes, readers):
-            note.session.send()
-            note.session.coming += reader.read(everything=True)
-            note.take_in()
-        shown = plain_text(log)
-        self.assertGreater(len(shown), 1_000)
-        for note in notes:
-            note.session.coming += Shuffled(log, chance).read(everything=True)
-            note.take_in()
-            self.assertEqual(bytes(note.text), shown)
-            self.assertEqual(note.session.site.text(), shown)
-            self.assertEqual(note.notice, "")
-            self.assertEqual(note.session.site.waiting(), 0)
-            note.session.site.close()
-        shown.decode()
-        self.only_whole_characters(log)
-
-    def only_whole_characters(self, log) -> None:
-        """Looks whether each insertion in the log has whole characters."""
-        after = ""
-        while page := log.read(after):
-            for entry in page:
-                message = Message.read(entry.data)
-                if message.kind == 1:
-                    message.data[35 + message.data[30]:].decode()
-            after = page[-1].place
-
-    def test_in_a_file(self) -> None:
-        self.share(None, 1)
-
-    def test_by_a_server(self) -> None:
-        self.share(self.redis().url, 2)
+                    self.assertEqual(bytes(note.text), note.session.text())
+        self.notes.append(self.joined())
+        self.meet()
+        counted = self.notes[3].session.judge.let_through_in_order()
+        text = plain_text(counted)
+        self.assertGreater(len(text), 1_000)
+        text.decode()
+        for note in self.notes:
+            self.assertEqual(bytes(note.text), text)
+            self.assertEqual(note.session.status().waiting, 0)
+        for message in counted:
+            if names := inserted(message):
+                message.data[-names.length:].decode()
 
 
 class TakingBack(Pair):

@@ -1,5 +1,7 @@
 """Two people at two terminals: real ones, of tmux, with bin/note in each."""
 import os
+import pathlib
+import signal
 import subprocess
 
 from share.tests.support import NOTE, Case, wait_for
@@ -8,19 +10,25 @@ WIDTH, HEIGHT = 70, 12
 
 
 class Terminal:
-    """A terminal with a note in it."""
+    """A terminal with a note in it, or with another command."""
 
-    def __init__(self, case: Case, data: str, *words: str):
+    def __init__(self, case: Case, data: str, *words: str, command: str = NOTE, begins: str = "site ",
+                 link: str = ""):
         self.socket = str(case.folder / f"tmux-{len([*case.folder.glob('tmux-*')])}")
-        environment = {**os.environ, "VIALSHOAL_DATA": str(case.folder / data), "LC_ALL": "C.UTF-8"}
-        command = " ".join([NOTE, *words]) + "; echo status $?; cat"
+        environment = {**os.environ, "VIALSHOAL_DATA": str(case.folder / data), "LC_ALL": "C.UTF-8",
+                       "VIALSHOAL_LINK": link}
+        line = " ".join([command, *words]) + "; echo status $?; cat"
         subprocess.run(["tmux", "-S", self.socket, "-f", "/dev/null", "new-session", "-d", "-x", str(WIDTH),
-                        "-y", str(HEIGHT), command], check=True, env=environment)
+                        "-y", str(HEIGHT), line], check=True, env=environment)
         case.addCleanup(self._tmux, "kill-server")
-        self.sees("site ")
+        wait_for(lambda: any(words in "\n".join(self.lines()) for words in (begins, "Link:")), begins)
+        if "Link:" in "\n".join(self.lines()):
+            # A note that isn't here yet is made.
+            self.press("Enter")
+        self.sees(begins)
 
-    def _tmux(self, *words: str) -> str:
-        run = subprocess.run(["tmux", "-S", self.socket, *words], capture_output=True, check=False)
+    def _tmux(self, *words: str, given: bytes = b"") -> str:
+        run = subprocess.run(["tmux", "-S", self.socket, *words], input=given, capture_output=True, check=False)
         return run.stdout.decode()
 
     def type(self, words: str) -> None:
@@ -30,6 +38,24 @@ class Terminal:
     def press(self, *keys: str) -> None:
         """Presses keys by their names."""
         self._tmux("send-keys", *keys)
+
+    def send(self, sequence: bytes) -> None:
+        """Has the terminal send bytes, as it does for keys."""
+        self._tmux("send-keys", "-H", *(f"{byte:02x}" for byte in sequence))
+
+    def paste(self, text: bytes) -> None:
+        """Pastes bytes as they are, in brackets where they are asked for."""
+        self._tmux("load-buffer", "-", given=text)
+        self._tmux("paste-buffer", "-p", "-r")
+
+    def resize(self, width: int, height: int) -> None:
+        """Gives the terminal another size."""
+        self._tmux("resize-window", "-x", str(width), "-y", str(height))
+
+    def programs(self) -> list[int]:
+        """The processes that were started by what runs here."""
+        shell = int(self._tmux("display", "-p", "#{pane_pid}"))
+        return [child for command in children(shell) for child in children(command)]
 
     def lines(self) -> list[str]:
         """What the screen shows, without blanks at the ends of lines."""
@@ -51,9 +77,15 @@ class Terminal:
             raise AssertionError(f"waited for {words!r}, and saw {self.lines()}") from None
 
     def cursor_is(self, column: int, line: int) -> None:
-        """Waits until the cursor stands there."""
+        """Waits until the cursor is there."""
         wait_for(lambda: self._tmux("display", "-p", "#{cursor_x} #{cursor_y}") == f"{column} {line}\n",
                  f"the cursor at {column}, {line}")
+
+
+def children(process: int) -> list[int]:
+    """The processes that the threads of a process started."""
+    lists = pathlib.Path(f"/proc/{process}/task").glob("*/children")
+    return [int(child) for threads in lists for child in threads.read_text().split()]
 
 
 class Terminals(Case):
@@ -65,12 +97,12 @@ class Terminals(Case):
         left.press("Enter")
         for one in left, right:
             one.shows("Grüße 🎉 from here")
-            one.sees("2 on  all sent")
+            one.sees("2 on  kept here")
         right.press("End")
         right.type(" and from there")
         left.shows("Grüße 🎉 from here and from there")
         left.cursor_is(0, 1)
-        # What comes in ahead of the cursor moves it with its character; what comes behind doesn't.
+        # What comes in before the cursor moves it with its character; what comes after doesn't.
         left.press("Up", "Right", "Right")
         left.cursor_is(2, 0)
         right.press("Home")
@@ -109,7 +141,8 @@ class Terminals(Case):
 
     def test_offline_and_back(self) -> None:
         server = self.redis()
-        left, right = (Terminal(self, data, "diary", "--log", server.url) for data in ("left", "right"))
+        left = Terminal(self, "left", "diary", "--log", server.url)
+        right = Terminal(self, "right", "diary", link=self.person("left").link("diary"))
         left.type("one ")
         right.shows("one")
         server.kill()
@@ -159,6 +192,37 @@ class Terminals(Case):
         one.press("C-q")
         one.sees("status 0")
         self.assertEqual(self.note("diary", "--print").stdout, saved.read_text())
+
+    def test_a_program_that_hangs(self) -> None:
+        one, file = Terminal(self, "data", "diary"), self.folder / "saved.txt"
+        one.type("text")
+        one.sees("kept here")
+        (program,) = one.programs()
+        os.kill(program, signal.SIGSTOP)
+        self.addCleanup(os.kill, program, signal.SIGKILL)
+        one.type("more")
+        one.sees("Waiting for 2 seconds")
+        one.press("C-s", *["BSpace"] * len("diary.txt"))
+        one.type(str(file))
+        one.press("Enter")
+        one.sees("Saved as")
+        self.assertEqual(file.read_text(), "text")
+        one.press("C-q")
+        wait_for(lambda: "status" in "\n".join(one.lines()), "the end")
+
+    def test_a_server_that_hangs(self) -> None:
+        server = self.redis()
+        server.process.send_signal(signal.SIGSTOP)
+        one = Terminal(self, "data", "diary", "--log", server.url, begins="diary  opening")
+        one.press("C-q")
+        one.sees("status 2")
+        server.process.send_signal(signal.SIGCONT)
+        one = Terminal(self, "data", "diary", "--log", server.url)
+        server.process.send_signal(signal.SIGSTOP)
+        one.type("text")
+        one.shows("text")
+        one.press("C-q")
+        wait_for(lambda: "status" in "\n".join(one.lines()), "the end")
 
     def test_the_end_of_the_note_is_deleted_above_the_screen(self) -> None:
         one = Terminal(self, "data", "diary")

@@ -7,10 +7,9 @@ from unittest import mock
 from share.note import Note
 from share.note_text import boundary
 from share.program import Program, command
-from share.session import Session
-from share.site import MOST_BYTES, MOST_NAMES, Site
+from share.site import MOST_BYTES, MOST_NAMES, Edited, Site
 from share.telling import stretches
-from share.tests.support import Pair, edit_at_random, wait_for
+from share.tests.support import Pair, edit_at_random
 
 ROUNDS = 150
 # So many bytes each of two sites types in all of them at most.
@@ -88,21 +87,19 @@ class Told(Pair):
         self.shows("bc")
         self.cursors(0, 1)
 
-    def test_what_waited_comes_in_with_what_it_waited_for(self) -> None:
+    def test_what_came_early_comes_in_with_what_it_builds_on(self) -> None:
         one, two = self.notes
         one.type("ab")
         self.meet()
         two.moved_to(1)
         two.type("X")
-        two.session.send()
         self.notes.append(three := self.joined())
-        first, second = three.session.log.read("")
-        for entry, words in (second, ""), (first, "aXb"):
-            three.session.coming = [entry]
+        for entries, words in ((two.session.made, ""), (one.session.made, "aXb")):
+            three.session.coming = entries
             three.take_in()
             self.assertEqual(three.text.decode(), words)
-        one.session.coming = [second]
-        one.take_in()
+        self.assertEqual(three.session.status().waiting, 0)
+        self.meet()
 
     def test_much_at_once_is_found_by_comparing(self) -> None:
         one, two = self.notes
@@ -131,7 +128,7 @@ class Told(Pair):
             with mock.patch.object(Site, "text", side_effect=AssertionError("the whole text was asked for")):
                 self.meet()
             for note, (cursor, was) in zip(self.notes, before):
-                self.assertEqual(bytes(note.text), note.session.site.text())
+                self.assertEqual(bytes(note.text), note.session.text())
                 now = self.named(note)
                 ahead = next((name for name, position in was.items() if position == cursor - 1), None)
                 if ahead in now:
@@ -167,6 +164,7 @@ class Told(Pair):
         old = self.folder / "old"
         old.write_text(f'#!/bin/sh\nsed -u "s/ where / nowhere /" | {shlex.join(command())} "$@"\n')
         old.chmod(0o755)
+        self.person().open("empty").session.close()
         run = self.note("empty", "--print", VIALSHOAL_PROGRAM=str(old))
         self.assert_says(run, "too old", "Build it anew, with bin/site_cli")
 
@@ -185,7 +183,8 @@ class Told(Pair):
         one, _ = self.notes
         one.type("abcd")
         cut = Site.cut
-        with mock.patch.object(Site, "cut", lambda site, *_: cut(site, 2, 4) + cut(site, 0, 2)):
+        with mock.patch.object(Site, "cut", lambda site, *_: Edited(
+                cut(site, 2, 4).messages + cut(site, 0, 2).messages)):
             one.erase(0, 4)
         with mock.patch("share.site.MOST_MESSAGES", len(one.session.site.history) + 1):
             one.take_back()
@@ -194,7 +193,7 @@ class Told(Pair):
         one.take_back()
         self.shows("abcd")
         # Typed, deleted by halves, and each half restored once.
-        self.assertEqual(one.session.site.front, 5)
+        self.assertEqual(one.session.judge.front(1), 5)
         one.take_back()
         self.shows("")
 
@@ -218,19 +217,3 @@ class Told(Pair):
         self.shows("a" + "b" * MOST_BYTES + "c")
         one.take_back()
         self.shows("a" + "b" * MOST_BYTES)
-
-    def test_many_messages_come_in_turns(self) -> None:
-        wakes = mock.Mock(), mock.Mock()
-        notes = [Note(Session("turns", None, wake=wake)) for wake in wakes]
-        for note in notes:
-            self.addCleanup(note.session.close)
-        for number in range(25):
-            notes[0].moved_to(number)
-            notes[0].type("x")
-        wait_for(lambda: notes[1].session._courier.waiting() == 25, "all messages")
-        with mock.patch("share.session.TURN", 10):
-            for length in 10, 20, 25:
-                wakes[1].reset_mock()
-                notes[1].take_in()
-                self.assertEqual(len(notes[1].text), length)
-                self.assertEqual(wakes[1].called, length < 25)

@@ -1,27 +1,16 @@
-"""Types numbered words into a note until it is killed, and says which were typed and which were shown as
-sent.
+"""Types numbered words into a note until it is killed, and says which were typed, and up to which all were sent.
 
-Its words are `<tag><number>.`; it goes on behind the last one that the note has.
+Its words are `<tag>.<number>` with a blank behind each.
 """
 import os
 import random
-import re
 import sys
 import time
 
+from share import link as links
+from share import opening
 from share.note import Note
 from share.session import Session
-from share.words import Trouble
-
-
-def opened(name: str, url: str | None) -> Session:
-    """The note, as soon as its log can be reached."""
-    while True:
-        try:
-            return Session(name, url)
-        except Trouble as why:
-            print(why, file=sys.stderr)
-            time.sleep(0.05)
 
 
 def say(word: str, number: int) -> None:
@@ -29,28 +18,29 @@ def say(word: str, number: int) -> None:
     os.write(1, f"{word} {number}\n".encode())
 
 
-def main(tag: str, name: str, url: str | None, seed: str) -> None:
+def main(tag: str, link: str, seed: str) -> None:
     """Types for as long as it is let."""
     chance = random.Random(seed)
-    note = Note(opened(name, url))
-    have = [int(found) for found in re.findall(rf"{tag}(\d+)\.", note.text.decode())]
-    number = max(have, default=-1) + 1
-    say("open", len(have))
-    sent: dict[int, int] = {}
+    note = Note(Session(opening.opened("note", None, links.read(link))))
+    say("open", 0)
+    number = 0
     while True:
-        note.moved_to(len(note.text))
-        note.type(f"{tag}{number}.")
-        say("typed", number)
-        sent[note.session.site.front] = number
-        number += 1
-        for _ in range(chance.randrange(4)):
-            note.take_in()
-            status = note.session.status()
-            done = note.session.site.front - status.unsent
-            if status.offline is None and done in sent:
-                say("sent", sent[done])
-            time.sleep(0.002)
+        note.take_in()
+        status = note.session.status()
+        if status.can_type and number < 60:
+            # Near the end, where others type, too.
+            note.moved_to(len(note.text) - chance.choice((0, 0, 0, *range(min(40, len(note.text) + 1)))))
+            while note.cursor < len(note.text) and note.text[note.cursor - 1:note.cursor] not in (b" ", b""):
+                note.moved_to(note.cursor + 1)
+            note.type(f"{tag}.{number} ")
+            if note.notice.startswith("The edit was"):
+                sys.exit(note.notice)
+            say("typed", number)
+            number += 1
+        if not status.offline and not status.unsent:
+            say("sent", number - 2)
+        time.sleep(chance.random() / 50)
 
 
 if __name__ == "__main__":
-    main(sys.argv[1], sys.argv[2], sys.argv[3] or None, sys.argv[4])
+    main(*sys.argv[1:])

@@ -1,0 +1,166 @@
+"""Makes edits anew that don't count any more: their number was another's too, or what they build on was left out.
+
+What the user saw is looked at in a process of its own, and what remained of these edits in that text is done
+again under the new number: what was typed goes behind the same characters, and what was deleted is deleted.
+"""
+from bisect import bisect_left, bisect_right
+from collections.abc import Iterable, Sequence
+from contextlib import closing
+from typing import NamedTuple
+
+from share.disk import Row
+from share.judging import Judge
+from share.message import DELETE, MOST_RANGES, RESTORE, Message, Names, inserted, mentioned
+from share.site import Edited, Site
+from share.telling import Stretch
+from share.words import Trouble
+
+GREATEST_LENGTH = 2**24
+# The site and the offset of a character.
+Name = tuple[int, int]
+
+
+class Done(NamedTuple):
+    """A message that was made, and the one for which it stands; none was needed where it is None."""
+
+    old: Message
+    new: Message | None
+
+
+class _Differing(NamedTuple):
+    """What differs between the text that was seen and the one that counts."""
+
+    # What was inserted in the one alone. Two clients of one number may have used the same names.
+    seen: list[Names]
+    counted: list[Names]
+    # Other names that may be shown in one of them alone.
+    named: list[Names]
+
+    def is_common(self, name: Name) -> bool:
+        """Whether a name is that of one character in both texts."""
+        return not (_has(self.seen, name) or _has(self.counted, name))
+
+
+def make_anew(rows: Sequence[Row], lost: Sequence[Message], judge: Judge, site: Site) -> list[Done]:
+    """Does at a site, which has all that counts, what remains of lost messages."""
+    # What was made here first, then what came first: so what was seen as these edits were made is found again.
+    order = {row.entry.hash: bytes([not row.made]) + row.place.to_bytes(8, "big") for row in rows}
+    before = Judge((row.entry for row in rows), prefers=lambda entry: order[entry.hash])
+    seen = before.count().messages
+    seen_ones = {(message.site, message.seq): message for message in seen}
+    here = [message for message in lost if seen_ones.get((message.site, message.seq)) == message]
+    gone = [message for message in lost if seen_ones.get((message.site, message.seq)) != message]
+    differing = _differing(seen, judge)
+    with closing(Site(lost[0].site, seen)) as old:
+        done = [*_deleted_and_restored(here, differing, old, site)]
+        done += _typed(here, differing, old, site)
+        done += _at_the_end(gone, site)
+    made = {(one.old.site, one.old.seq) for one in done}
+    return done + [Done(message, None) for message in lost if (message.site, message.seq) not in made]
+
+
+def _differing(seen: Sequence[Message], judge: Judge) -> _Differing:
+    """The names of what messages speak of that count in one of the texts alone."""
+    counted = {(message.site, message.seq): message for message in judge.let_through()}
+    only_seen = [message for message in seen if counted.get((message.site, message.seq)) != message]
+    for message in seen:
+        if counted.get((message.site, message.seq)) == message:
+            del counted[message.site, message.seq]
+    seen_names, counted_names = (_united(filter(None, map(inserted, some))) for some in (only_seen, counted.values()))
+    return _Differing(seen_names, counted_names, _united(
+        names for message in (*only_seen, *counted.values()) if message.kind in (DELETE, RESTORE)
+        for names in mentioned(message)))
+
+
+def _deleted_and_restored(lost: Sequence[Message], differing: _Differing, old: Site, site: Site) -> list[Done]:
+    """Deletes again what is hidden in the old text and shown in the new one, and the other way round."""
+    done = []
+    for message in lost:
+        if message.kind not in (DELETE, RESTORE):
+            continue
+        was, now = (_shown(of, mentioned(message)).keys() for of in (old, site))
+        wanted = _as_set(filter(differing.is_common, now - was if message.kind == DELETE else was - now))
+        for begin in range(0, len(wanted), MOST_RANGES):
+            edited, _ = site.name(message.kind, wanted[begin:begin + MOST_RANGES])
+            done += _all_of(message, edited)
+    return done
+
+
+def _typed(lost: Sequence[Message], differing: _Differing, old: Site, site: Site) -> list[Done]:
+    """Types again what is shown of lost messages in the old text."""
+    was, now = _shown(old, differing.named), _shown(site, differing.named)
+    gone = sorted([*_shown(old, differing.seen).values(), *(
+        at for name, at in was.items() if name not in now and differing.is_common(name))])
+    come = sorted([*_shown(site, differing.counted).values(), *(
+        at for name, at in now.items() if name not in was and differing.is_common(name))])
+    typing = [(message, one) for message in lost if (one := inserted(message))]
+    found = old.where([one for _, one in typing]) if typing else []
+    stretches = sorted((stretch.position, stretch.data, message)
+                       for (message, _), shown in zip(typing, found) for stretch in shown)
+    done, more = [], 0
+    for position, data, message in stretches:
+        place = _place(position - bisect_left(gone, position), come) + more
+        done += _all_of(message, site.insert(place, data))
+        more += len(data)
+    return done
+
+
+def _place(common: int, come: Sequence[int]) -> int:
+    """Where in the new text the first so many characters end that are in both; `come` has the positions of
+    those that are in the new one alone."""
+    place = common
+    for position in come:
+        if position >= place:
+            break
+        place += 1
+    return place
+
+
+def _at_the_end(lost: Sequence[Message], site: Site) -> list[Done]:
+    """Types at the end what was typed behind something that isn't known any more."""
+    typed = [(message, message.data[-names.length:]) for message in lost if (names := inserted(message))]
+    done, end = [], len(site.text()) if typed else 0
+    for message, data in typed:
+        done += _all_of(message, site.insert(end, data))
+        end += len(data)
+    return done
+
+
+def _all_of(old: Message, edited: Edited) -> list[Done]:
+    if edited.refused:
+        raise Trouble(f"An edit couldn't be made anew (refused {edited.refused}). Save the note as a file.")
+    return [Done(old, message) for message in edited.messages]
+
+
+def _shown(site: Site, names: list[Names]) -> dict[Name, int]:
+    """The positions of those characters of these names that are shown."""
+    found: dict[Name, int] = {}
+    stretches: list[list[Stretch]] = site.where(names) if names else []
+    for one, shown in zip(names, stretches):
+        for stretch in shown:
+            found |= {(one.site, stretch.at + number): stretch.position + number
+                      for number in range(len(stretch.data))}
+    return found
+
+
+def _united(names: Iterable[Names]) -> list[Names]:
+    """The same names in ranges that don't meet."""
+    out: list[Names] = []
+    for one in sorted(set(names)):
+        if out and out[-1].site == one.site and one.at <= out[-1].at + out[-1].length:
+            end = max(out[-1].at + out[-1].length, one.at + one.length)
+            out[-1] = out[-1]._replace(length=end - out[-1].at)
+        else:
+            out.append(one)
+    return out
+
+
+def _has(ranges: Sequence[Names], name: Name) -> bool:
+    """Whether a name is in ranges that rise."""
+    at = bisect_right(ranges, (*name, GREATEST_LENGTH)) - 1
+    return at >= 0 and ranges[at].site == name[0] and name[1] < ranges[at].at + ranges[at].length
+
+
+def _as_set(names: Iterable[Name]) -> list[Names]:
+    """Characters' names as the ranges of a set."""
+    return _united(Names(site, at, 1) for site, at in names)

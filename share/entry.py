@@ -1,0 +1,263 @@
+"""Entries: what a log carries and each person's disk keeps. An entry is a claim of a site's number, or some
+messages of a site that follow one another.
+
+All numbers are big-endian. An entry has this head:
+
+    form      1      1 plain, 2 sealed
+    kind      1      1 a claim, 2 messages
+    note      16     the note's identity
+    site      2      1 to 65,528
+    first     4      the seq of its first message; 0 in a claim
+    count     2      how many messages; 0 in a claim
+    before    32     the hash of this site's entry before it; zeros in a claim
+    author    16/32  who claims or writes: 128 random bits where plain, an Ed25519 public key where sealed
+
+Then the messages, each behind its length in two bytes: as they are, where the form is plain, with a digest of
+all before it; else sealed, with the head as what is authenticated beside them, and signed.
+The hash of an entry is that of all its bytes. So the entries of a site make a chain that begins with its claim.
+"""
+import hashlib
+import secrets
+import struct
+from abc import ABC, abstractmethod
+from collections.abc import Sequence
+from enum import IntEnum
+from typing import NamedTuple
+
+from share.log import MOST_PRESENCE
+from share.message import Message, is_spelled
+
+HEAD = struct.Struct(">BB16sHIH32s")
+LENGTH = struct.Struct(">H")
+# The messages of an entry have so many bytes at most, their lengths among them.
+MOST_BODY = 16_000
+# An entry has so many bytes at most.
+MOST_BYTES = 16_384
+NOTE_BYTES = 16
+NO_HASH = bytes(32)
+MOST_AUTHOR_BYTES = 32
+DIGEST_BYTES = 16
+# Sites have these numbers, as the program's option says.
+GREATEST_SITE = 65_528
+
+
+class Kind(IntEnum):
+    """What an entry is."""
+
+    CLAIM = 1
+    MESSAGES = 2
+
+
+KINDS = {int(kind): kind for kind in Kind}
+
+
+class Bad(Exception):
+    """Bytes that are no entry of this note, and why, in words that follow `An entry`."""
+
+
+class Entry(NamedTuple):
+    """An entry that was opened: its form, its size, its messages' spelling and their places were found right.
+    """
+
+    kind: Kind
+    site: int
+    first: int
+    before: bytes
+    author: bytes
+    messages: tuple[Message, ...]
+    raw: bytes
+    hash: bytes
+
+    @property
+    def last(self) -> int:
+        """The seq of the last message, 0 in a claim."""
+        return self.first + len(self.messages) - 1 if self.messages else 0
+
+
+class Author(NamedTuple):
+    """Who makes entries: the name that stands in them, and the secret that signs them, where they are
+    signed."""
+
+    name: bytes
+    secret: bytes
+
+
+class Form(ABC):
+    """How entries of one note are spelled: plain, or sealed with the note's key."""
+
+    number: int
+    author_bytes: int
+
+    def __init__(self, note: bytes):
+        self.note = note
+
+    @abstractmethod
+    def new_author(self) -> Author:
+        """An author whom nobody else can be."""
+
+    @abstractmethod
+    def presence(self, data: bytes) -> bytes:
+        """What an editor says of itself, as a log may have it."""
+
+    @abstractmethod
+    def present(self, raw: bytes) -> bytes | None:
+        """What an editor said of itself; None where nobody of this note can have said it."""
+
+    def body(self, raw: bytes) -> bytes:
+        """The messages of an entry that was opened before, one behind the other."""
+        return self._checked(raw)
+
+    @abstractmethod
+    def _closed(self, head: bytes, body: bytes, author: Author) -> bytes:
+        """The bytes of an entry of this head and these messages."""
+
+    @abstractmethod
+    def _opened(self, head: bytes, rest: bytes, author: bytes) -> bytes:
+        """The messages of an entry, spelled one behind the other; raises Bad where it isn't right."""
+
+    def claim(self, site: int, author: Author) -> Entry:
+        """The entry with which an author claims a site's number."""
+        return self._made(Kind.CLAIM, site, 0, NO_HASH, author, ())
+
+    def entry(self, before: Entry, messages: Sequence[Message], author: Author) -> Entry:
+        """The entry of messages that follow those of an author's entry before it. They fit one."""
+        return self._made(Kind.MESSAGES, before.site, messages[0].seq, before.hash, author, tuple(messages))
+
+    def open(self, raw: bytes) -> Entry:
+        """The entry that has these bytes; Bad where they are none of this note's."""
+        entry = self.reopened(raw, self._checked(raw), digest(raw))
+        _check(entry)
+        return entry
+
+    def kind(self, raw: bytes) -> Kind:
+        """The kind of an entry that was opened before, by its first bytes."""
+        return KINDS[raw[1]]
+
+    def author(self, raw: bytes) -> bytes:
+        """The author of such an entry."""
+        return raw[HEAD.size:HEAD.size + self.author_bytes]
+
+    def open_many(self, raws: Sequence[bytes]) -> list["Entry | Bad"]:
+        """What each of these bytes are."""
+        return [self._found(raw) for raw in raws]
+
+    def _found(self, raw: bytes) -> "Entry | Bad":
+        try:
+            return self.open(raw)
+        except Bad as why:
+            return why
+
+    def reopened(self, raw: bytes, body: bytes, of: bytes) -> Entry:
+        """The entry of bytes that were opened before: its messages, one behind the other, and its hash were
+        kept."""
+        _, kind, _, site, first, _, before = HEAD.unpack_from(raw)
+        return Entry(KINDS[kind], site, first, before, self.author(raw), tuple(map(Message.read, _split(body))), raw, of)
+
+    def _checked(self, raw: bytes) -> bytes:
+        """The messages, one behind the other, of bytes that are spelled as an entry."""
+        if len(raw) > MOST_BYTES:
+            raise Bad(f"has {len(raw):,} bytes, more than {MOST_BYTES:,}")
+        begin = HEAD.size + self.author_bytes
+        if len(raw) < begin or raw[0] != self.number:
+            raise Bad("isn't spelled as one")
+        head = HEAD.unpack_from(raw)
+        if head[2] != self.note:
+            raise Bad("is of another note")
+        if head[1] not in KINDS:
+            raise Bad("is of a kind that this version doesn't know")
+        body = self._opened(raw[:begin], raw[begin:], raw[HEAD.size:begin])
+        try:
+            parts = _split(body)
+        except struct.error as why:
+            raise Bad("has messages that are cut short") from why
+        if len(parts) != head[5]:
+            raise Bad("doesn't have as many messages as it says")
+        if not all(map(is_spelled, parts)):
+            raise Bad("has bytes that are no message")
+        return body
+
+    def _made(self, kind: Kind, site: int, first: int, before: bytes, author: Author,
+              messages: tuple[Message, ...]) -> Entry:
+        head = HEAD.pack(self.number, kind, self.note, site, first, len(messages), before) + author.name
+        raw = self._closed(head, body_of(messages), author)
+        return Entry(kind, site, first, before, author.name, messages, raw, digest(raw))
+
+
+class Plain(Form):
+    """Entries of a note on one machine, which nobody but its accounts can reach. A digest shows damage."""
+
+    number, author_bytes = 1, 16
+
+    def new_author(self) -> Author:
+        return Author(secrets.token_bytes(self.author_bytes), b"")
+
+    def presence(self, data: bytes) -> bytes:
+        return data
+
+    def present(self, raw: bytes) -> bytes | None:
+        return raw if len(raw) <= MOST_PRESENCE else None
+
+    def body(self, raw: bytes) -> bytes:
+        return raw[HEAD.size + self.author_bytes:-DIGEST_BYTES]
+
+    def _closed(self, head: bytes, body: bytes, author: Author) -> bytes:
+        return head + body + _short_digest(head + body)
+
+    def _opened(self, head: bytes, rest: bytes, author: bytes) -> bytes:
+        body = rest[:-DIGEST_BYTES]
+        if len(rest) < DIGEST_BYTES or rest[-DIGEST_BYTES:] != _short_digest(head + body):
+            raise Bad("is damaged")
+        return body
+
+
+def body_of(messages: Sequence[Message]) -> bytes:
+    """Messages one behind the other, each behind its length."""
+    return b"".join(LENGTH.pack(len(message.data)) + message.data for message in messages)
+
+
+def in_entries(messages: Sequence[Message]) -> list[list[Message]]:
+    """Messages in parts that fit an entry each."""
+    parts: list[list[Message]] = []
+    room = 0
+    for message in messages:
+        size = LENGTH.size + len(message.data)
+        if not parts or size > room:
+            parts.append([])
+            room = MOST_BODY
+        parts[-1].append(message)
+        room -= size
+    return parts
+
+
+def digest(raw: bytes) -> bytes:
+    """The hash of an entry's bytes."""
+    return hashlib.blake2b(raw, digest_size=32).digest()
+
+
+def _short_digest(data: bytes) -> bytes:
+    return hashlib.blake2b(data, digest_size=DIGEST_BYTES).digest()
+
+
+def _split(body: bytes) -> list[bytes]:
+    parts, begin = [], 0
+    while begin < len(body):
+        (length,) = LENGTH.unpack_from(body, begin)
+        begin += LENGTH.size + length
+        if begin > len(body):
+            raise struct.error("a message is cut short")
+        parts.append(body[begin - length:begin])
+    return parts
+
+
+def _check(entry: Entry) -> None:
+    """Raises Bad where an entry's messages aren't those of its place."""
+    if not 1 <= entry.site <= GREATEST_SITE:
+        raise Bad("is of a site that can't be")
+    if entry.kind is Kind.CLAIM:
+        if entry.first or entry.messages or entry.before != NO_HASH:
+            raise Bad("is a claim with more in it than a claim has")
+    elif not entry.messages or entry.before == NO_HASH:
+        raise Bad("has no messages, or nothing before it")
+    for seq, message in enumerate(entry.messages, entry.first):
+        if message.site != entry.site or message.seq != seq:
+            raise Bad("has messages of another place")

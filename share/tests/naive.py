@@ -1,0 +1,278 @@
+"""The rules of judging as a plain, slow program, which tests compare with the quick one.
+
+It was written from what the rules say, and shares no code with what it is compared with. A set of entries goes
+in as a whole; what counts of it comes out.
+"""
+import hashlib
+from collections.abc import Callable, Iterable, Iterator
+from dataclasses import dataclass
+from itertools import chain
+from typing import NamedTuple
+
+from share.entry import Entry, Kind
+from share.message import Message
+
+LEAP = 1 << 20
+INSERT, DELETE, CHANGE_LOOKS, RESTORE = 1, 2, 3, 4
+
+# A character: the site that inserted it, and its offset in that site's file.
+Name = tuple[int, int]
+Rank = Callable[[Entry], tuple]
+
+
+class Reading(NamedTuple):
+    """What a message's bytes say."""
+
+    kind: int
+    site: int
+    seq: int
+    stamp: int
+    # Where an insertion's characters begin, and how many they are.
+    at: int
+    length: int
+    # The ranges of names that it mentions, as site, first offset and length.
+    ranges: list[tuple[int, int, int]]
+
+    def inserted(self) -> Iterator[Name]:
+        """The characters that it inserts."""
+        return ((self.site, self.at + offset) for offset in range(self.length))
+
+    def mentioned(self) -> Iterator[Name]:
+        """The characters that it mentions."""
+        return ((site, at + offset) for site, at, length in self.ranges for offset in range(length))
+
+
+def reading(data: bytes) -> Reading:
+    """Reads the bytes of a message, field by field."""
+    fields = _Fields(data)
+    tag, _, kind, _ = fields.take(2), fields.take(1), fields.take(1), fields.take(2)
+    assert tag == int.from_bytes(b"OT", "big")
+    site, seq, stamp = fields.take(2), fields.take(4), fields.take(8)
+    at = length = 0
+    if kind == INSERT:
+        cause_site, cause_offset, at = fields.take(2), fields.take(4), fields.take(4)
+        fields.skip(fields.take(1) + 2)
+        length = fields.take(2)
+        fields.skip(length)
+        ranges = [(cause_site, cause_offset, 1)] if cause_site else []
+    else:
+        if kind == CHANGE_LOOKS:
+            selected = fields.take(1)
+            for bit in 1, 2, 4:
+                if selected & bit:
+                    fields.skip(fields.take(1) if bit == 1 else 1)
+        ranges = [(fields.take(2), fields.take(4), fields.take(4)) for _ in range(fields.take(2))]
+    assert fields.at == len(data)
+    return Reading(kind, site, seq, stamp, at, length, ranges)
+
+
+class _Fields:
+    """Bytes that are read from the front."""
+
+    def __init__(self, data: bytes):
+        self.data, self.at = data, 0
+
+    def take(self, count: int) -> int:
+        """The number that so many bytes spell."""
+        self.skip(count)
+        return int.from_bytes(self.data[self.at - count:self.at], "big")
+
+    def skip(self, count: int) -> None:
+        self.at += count
+        assert self.at <= len(self.data)
+
+
+def rank(entry: Entry) -> tuple:
+    """The smaller one of two claims, or of two entries of one place, holds. Two claims of one author are told
+    apart by their own hashes."""
+    if entry.kind is Kind.CLAIM:
+        return hashlib.blake2b(entry.site.to_bytes(2, "big") + entry.author, digest_size=32).digest(), entry.hash
+    return (entry.hash,)
+
+
+@dataclass
+class Answer:
+    """What counts of a set of entries."""
+
+    # The entries of each site that hold, its claim first.
+    chains: dict[int, list[Entry]]
+    # The messages of each site that are let through, and those that are next.
+    through: dict[int, list[Message]]
+    following: dict[int, list[Message]]
+    # The stamp of the Insert of each character that is there.
+    stamps: dict[Name, int]
+
+    @property
+    def greatest(self) -> int:
+        """The greatest stamp that was let through."""
+        return max((one.stamp for messages in self.through.values() for one in messages), default=0)
+
+    def length(self, site: int) -> int:
+        """How many characters of a site are there."""
+        return sum(reading(one.data).length for one in self.through.get(site, []))
+
+    def is_let_through(self, message: Message) -> bool:
+        """Whether a message is among those that are let through."""
+        return message in self.through.get(message.site, [])
+
+    def is_wrong(self, message: Message) -> bool:
+        """Whether a message that is next at its site can never be let through. As where a message is taken
+        in, its place is looked at first, then whether all that it mentions is there, then its stamp."""
+        read, before = reading(message.data), self.through[message.site]
+        if before and message.stamp <= before[-1].stamp:
+            return True
+        if read.kind == INSERT and read.at != self.length(message.site):
+            return True
+        # What is held back for its stamp isn't looked at further.
+        if message.stamp > self.greatest + LEAP:
+            return False
+        lacking = {name for name in read.mentioned() if name not in self.stamps}
+        if lacking:
+            return any(site == message.site for site, _ in lacking)
+        return any(self.stamps[name] >= message.stamp for name in read.mentioned())
+
+    def is_right(self, message: Message) -> bool:
+        """Whether the message that is next at its site is let through."""
+        return (not self.is_wrong(message) and message.stamp <= self.greatest + LEAP
+                and all(name in self.stamps for name in reading(message.data).mentioned()))
+
+    def wrong(self) -> list[Message]:
+        """The messages that end their sites' chains."""
+        return [messages[0] for messages in self.following.values() if messages and self.is_wrong(messages[0])]
+
+    def incomplete(self, entries: list[Entry]) -> int:
+        """How many messages of these entries came that something is missing for."""
+        at_hand = loose(entries)
+        kept = {entry.hash for entry in [*at_hand, *chain.from_iterable(self.chains.values())]}
+        # The characters that were left out, as far as each site has them.
+        ends: dict[int, int] = {}
+        for read in (reading(one.data) for entry in entries if entry.hash not in kept for one in entry.messages):
+            ends[read.site] = max(ends.get(read.site, 0), read.at + read.length)
+        blocked = {site: messages for site, messages in self.following.items()
+                   if messages and not self.is_wrong(messages[0])}
+        while gone := [site for site, messages in blocked.items() if any(
+                name not in self.stamps and self._is_left_out(name, ends)
+                for name in reading(messages[0].data).mentioned())]:
+            for site in gone:
+                del blocked[site]
+                # All that this site would have inserted is left out with it.
+                ends[site] = 1 << 32
+        return sum(map(len, blocked.values())) + sum(len(entry.messages) for entry in at_hand)
+
+    def _is_left_out(self, name: Name, ends: dict[int, int]) -> bool:
+        """Whether a character that isn't there is one of those that were left out."""
+        return name[1] < ends.get(name[0], 0)
+
+
+def judged(entries: Iterable[Entry], prefers: Rank = rank) -> Answer:
+    """What counts of a set of entries: the least that has all that is right over it."""
+    known = {entry.hash: entry for entry in entries}.values()
+    chains = {site: chain_of(known, site, prefers) for site in sorted({
+        entry.site for entry in known if entry.kind is Kind.CLAIM})}
+    following = {site: [one for entry in chain for one in entry.messages] for site, chain in chains.items()}
+    answer = Answer(chains, {site: [] for site in chains}, following, {})
+    while site := next((site for site in chains if following[site] and answer.is_right(following[site][0])), None):
+        message = following[site].pop(0)
+        answer.through[site].append(message)
+        answer.stamps |= dict.fromkeys(reading(message.data).inserted(), message.stamp)
+    return answer
+
+
+def chain_of(known: Iterable[Entry], site: int, prefers: Rank) -> list[Entry]:
+    """The entries of a site that hold: from its claim on, each time the one that holds of all that follow."""
+    chain: list[Entry] = []
+    found = [entry for entry in known if entry.kind is Kind.CLAIM and entry.site == site]
+    while found:
+        chain.append(min(found, key=prefers))
+        found = [entry for entry in known if follows(entry, chain[-1])]
+    return chain
+
+
+def follows(entry: Entry, before: Entry) -> bool:
+    """Whether an entry has the place behind another one: of its site and author, with the seq that is next."""
+    return (entry.kind is Kind.MESSAGES and entry.before == before.hash and entry.site == before.site
+            and entry.author == before.author
+            and entry.first == (before.messages[-1].seq if before.messages else 0) + 1)
+
+
+def ended(entries: Iterable[Entry]) -> set[bytes]:
+    """The hashes of the entries that a smaller hash keeps from holding, for good."""
+    known = list({entry.hash: entry for entry in entries}.values())
+    gone: set[bytes] = set()
+    for entry in known:
+        # Those that have its place, itself among them.
+        rivals = [one for one in known if one.kind is entry.kind and one.site == entry.site
+                  and (entry.kind is Kind.CLAIM or one.before == entry.before and one.author == entry.author
+                       and one.first == entry.first)]
+        if min(rivals, key=rank).hash != entry.hash:
+            gone.add(entry.hash)
+    while more := {entry.hash for entry in known if entry.before in gone} - gone:
+        gone |= more
+    return gone
+
+
+def loose(entries: Iterable[Entry]) -> list[Entry]:
+    """The entries from which no walk to what came before them ends at a claim that is there."""
+    known = {entry.hash: entry for entry in entries}
+    found = []
+    for entry in known.values():
+        at: Entry | None = entry
+        while at is not None and at.kind is Kind.MESSAGES:
+            at = known.get(at.before)
+        if at is None:
+            found.append(entry)
+    return sorted(found, key=lambda one: (one.site, one.first, one.hash))
+
+
+class Replica:
+    """A text's replica as far as it says whether a message can be taken in at once."""
+
+    def __init__(self) -> None:
+        self.fronts: dict[int, Reading] = {}
+        self.lengths: dict[int, int] = {}
+        self.stamps: dict[Name, int] = {}
+
+    def take(self, messages: Iterable[Message]) -> list[bytes]:
+        """What is answered to messages that are handed in: that each is taken in, and else something else."""
+        return [b"taken 0 0" if self._is_ready(reading(one.data)) else b"not ready" for one in messages]
+
+    def close(self) -> None:
+        """There is nothing to end."""
+
+    def _is_ready(self, read: Reading) -> bool:
+        before, length = self.fronts.get(read.site), self.lengths.get(read.site, 0)
+        if read.seq != (before.seq if before else 0) + 1 or read.kind == INSERT and read.at != length:
+            return False
+        causes = [self.stamps.get(name) for name in read.mentioned()] + ([before.stamp] if before else [])
+        if any(stamp is None or stamp >= read.stamp for stamp in causes):
+            return False
+        self.fronts[read.site], self.lengths[read.site] = read, length + read.length
+        self.stamps |= dict.fromkeys(read.inserted(), read.stamp)
+        return True
+
+
+LOOKS = b"\x10Oberon10.Scn.Fnt\x01\x00"
+
+
+def head(kind: int, site: int, seq: int, stamp: int) -> bytes:
+    """The first 20 bytes of a message of the note's text."""
+    version = 2 if kind == RESTORE else 1
+    return b"OT%c%c\x00\x01" % (version, kind) + b"".join([
+        site.to_bytes(2, "big"), seq.to_bytes(4, "big"), stamp.to_bytes(8, "big")])
+
+
+def inserting(site: int, seq: int, stamp: int, cause: Name | None, at: int, data: bytes) -> Message:
+    """An Insert of these bytes in the default looks, behind a character or, without one, at the beginning."""
+    cause_site, offset = cause or (0, 0)
+    parts = [head(INSERT, site, seq, stamp), cause_site.to_bytes(2, "big"), offset.to_bytes(4, "big"),
+             at.to_bytes(4, "big"), LOOKS, len(data).to_bytes(2, "big"), data]
+    return Message(site, seq, stamp, INSERT, b"".join(parts))
+
+
+def about(kind: int, site: int, seq: int, stamp: int, ranges: list[tuple[int, int, int]]) -> Message:
+    """A Delete or a Restore of ranges of names, or a change of their colour."""
+    parts = [head(kind, site, seq, stamp), b"\x02\x07" if kind == CHANGE_LOOKS else b"",
+             len(ranges).to_bytes(2, "big")]
+    parts += [b"".join([of.to_bytes(2, "big"), at.to_bytes(4, "big"), length.to_bytes(4, "big")])
+              for of, at, length in ranges]
+    return Message(site, seq, stamp, kind, b"".join(parts))

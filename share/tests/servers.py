@@ -1,0 +1,150 @@
+"""Redis servers for tests, each in a folder of its own: by a port, with TLS, or by a Unix socket."""
+import contextlib
+import pathlib
+import socket
+import ssl
+import subprocess
+import threading
+import time
+from collections.abc import Callable
+
+PATIENCE = 30
+
+
+def wait_for(condition: Callable[[], object], what: str) -> None:
+    """Returns as soon as the condition is true."""
+    end = time.monotonic() + PATIENCE
+    while not condition():
+        if time.monotonic() > end:
+            raise AssertionError(f"waited {PATIENCE} seconds for {what}")
+        time.sleep(0.02)
+
+
+def free_port() -> int:
+    """A port of the loopback that nobody listens at."""
+    with socket.socket() as free:
+        free.bind(("127.0.0.1", 0))
+        port: int = free.getsockname()[1]
+        return port
+
+
+class RedisServer:
+    """A server on the loopback, which keeps each append on the disk before it answers."""
+
+    scheme = "redis"
+
+    def __init__(self, folder: pathlib.Path, *options: str):
+        folder.mkdir(exist_ok=True)
+        self.folder, self.options = folder, options
+        self.port = free_port()
+        self.url = f"{self.scheme}://127.0.0.1:{self.port}"
+        self.start()
+
+    def start(self) -> None:
+        """Starts the server, with what its folder has."""
+        words = ["redis-server", *self.listening(), "--bind", "127.0.0.1", "--dir", str(self.folder),
+                 "--appendonly", "yes", "--appendfsync", "always", "--save", "", *self.options]
+        self.process = subprocess.Popen(words, stdout=subprocess.DEVNULL, stderr=subprocess.DEVNULL)
+        wait_for(self.answers, "a Redis server to answer")
+
+    def listening(self) -> list[str]:
+        """The options that say where it listens."""
+        return ["--port", str(self.port)]
+
+    def connected(self) -> socket.socket:
+        """A connection to the server, with nothing looked at."""
+        return socket.create_connection(("127.0.0.1", self.port), 5)
+
+    def answers(self) -> bool:
+        """Whether the server answers."""
+        with contextlib.suppress(OSError), self.connected() as line:
+            line.sendall(b"PING\r\n")
+            return line.recv(16)[:5] in (b"+PONG", b"-NOAU")
+        return False
+
+    def cli(self, *words: str | bytes) -> bytes:
+        """What the server answers to a command, as redis-cli prints it."""
+        return subprocess.run(["redis-cli", "-p", str(self.port), *words], capture_output=True, check=True,
+                              timeout=PATIENCE).stdout.strip()
+
+    def kill(self) -> None:
+        """Kills the server without a word."""
+        self.process.kill()
+        self.process.wait()
+
+
+class SocketServer(RedisServer):
+    """A server that listens at a Unix socket alone."""
+
+    def __init__(self, folder: pathlib.Path, *options: str):
+        self.path = folder / "redis.sock"
+        super().__init__(folder, *options)
+        self.url = f"unix://{self.path}"
+
+    def listening(self) -> list[str]:
+        return ["--port", "0", "--unixsocket", str(self.path)]
+
+    def connected(self) -> socket.socket:
+        line = socket.socket(socket.AF_UNIX)
+        try:
+            line.connect(str(self.path))
+        except OSError:
+            line.close()
+            raise
+        return line
+
+
+class TlsServer(RedisServer):
+    """A server with TLS alone, whose certificate `certificate` made for some hosts."""
+
+    scheme = "rediss"
+
+    def __init__(self, folder: pathlib.Path, hosts: str, *options: str):
+        folder.mkdir(exist_ok=True)
+        self.certificate, self.key = certificate(folder, hosts)
+        super().__init__(folder, *options)
+
+    def listening(self) -> list[str]:
+        return ["--port", "0", "--tls-port", str(self.port), "--tls-cert-file", str(self.certificate),
+                "--tls-key-file", str(self.key), "--tls-auth-clients", "no", "--tls-ca-cert-file",
+                str(self.certificate)]
+
+    def connected(self) -> socket.socket:
+        context = ssl.create_default_context()
+        context.check_hostname, context.verify_mode = False, ssl.CERT_NONE
+        return context.wrap_socket(super().connected())
+
+
+def certificate(folder: pathlib.Path, hosts: str) -> tuple[pathlib.Path, pathlib.Path]:
+    """A certificate that signs itself, for hosts as openssl spells them, and its key."""
+    made, key = folder / "made.crt", folder / "made.key"
+    subprocess.run(["openssl", "req", "-x509", "-newkey", "ec", "-pkeyopt", "ec_paramgen_curve:prime256v1", "-nodes",
+                    "-days", "2", "-subj", "/CN=note", "-addext", f"subjectAltName={hosts}", "-keyout", str(key),
+                    "-out", str(made)], check=True, capture_output=True)
+    return made, key
+
+
+class Hostile:
+    """Something at a port that gives an answer of its own to whatever comes in."""
+
+    def __init__(self, answer: Callable[[bytes], bytes]):
+        self.answer = answer
+        self._listening = socket.create_server(("127.0.0.1", 0))
+        self.url = f"redis://127.0.0.1:{self._listening.getsockname()[1]}"
+        threading.Thread(target=self._accept, daemon=True).start()
+
+    def close(self) -> None:
+        """Listens no more."""
+        self._listening.close()
+
+    def _accept(self) -> None:
+        with contextlib.suppress(OSError):
+            while True:
+                threading.Thread(target=self._serve, args=self._listening.accept()[:1], daemon=True).start()
+
+    def _serve(self, line: socket.socket) -> None:
+        with contextlib.suppress(OSError), line:
+            while asked := line.recv(2**20):
+                if not (said := self.answer(asked)):
+                    return
+                line.sendall(said)

@@ -1,0 +1,466 @@
+"""Judging: what counts depends on the set of entries alone, and is what the rules say.
+
+Sets of entries are made at random, with all that authors can do wrong or that others can do to them, and are
+handed in one by one, in random orders and with repeats. With VIALSHOAL_EXAMPLES=N each test tries N times as
+many as else, and others each time.
+"""
+import os
+import random
+import unittest
+from collections.abc import Callable, Iterable, Sequence
+from functools import partial
+from itertools import chain as chained
+from typing import NamedTuple
+
+from hypothesis import HealthCheck, given, settings
+from hypothesis import strategies as st
+
+from share.entry import Author, Bad, Entry, Kind, Plain
+from share.judging import LEAP, Judge, Rank, rank
+from share.message import Message
+from share.program import Program
+from share.tests import naive
+from share.tests.naive import CHANGE_LOOKS, DELETE, RESTORE, about, inserting
+
+
+class Salted(Plain):
+    """Plain entries with a byte more, which says nothing. So one author can make two entries of the same
+    messages or claim, as whoever signs can."""
+
+    salt = 0
+
+    def _closed(self, head: bytes, body: bytes, author: Author) -> bytes:
+        return super()._closed(head, bytes([self.salt]) + body, author)
+
+    def _opened(self, head: bytes, rest: bytes, author: bytes) -> bytes:
+        return super()._opened(head, rest, author)[1:]
+
+
+FORM = Salted(bytes(range(16)))
+AUTHORS = [Author(bytes([number]) * 16, b"") for number in range(1, 5)]
+SITES = (1, 2, 3, 65_528)
+TIMES = int(os.environ.get("VIALSHOAL_EXAMPLES", "0"))
+
+
+def tries(count: int) -> settings:
+    """That a test tries so many examples, the same ones each time unless more are asked for."""
+    return settings(max_examples=count * max(TIMES, 1), derandomize=not TIMES, database=None, deadline=None,
+                    suppress_health_check=list(HealthCheck))
+
+
+class End(NamedTuple):
+    """What a branch has come to with an entry: how many characters it has, and its last stamp."""
+
+    length: int = 0
+    stamp: int = 0
+
+
+class Fault(NamedTuple):
+    """What is out of the ordinary with a message."""
+
+    # How far its stamp is above the greatest, or above what it builds on.
+    leap: int | None = None
+    under: bool = False
+    # How far from the end of its site's characters its own ones begin.
+    at: int = 0
+    # How far behind the end of a site's characters those are that it mentions.
+    beyond: int | None = None
+
+
+class History:
+    """Entries that are made one after another. Each step takes what it needs from a number of its own, so that
+    a step that is left out changes little about the others."""
+
+    def __init__(self, steps: list[tuple[str, int]]):
+        self.steps = steps
+        self.entries: list[Entry] = []
+        self._ends: dict[bytes, End] = {}
+        self._followed: set[bytes] = set()
+        # The greatest stamp of all.
+        self._top = 0
+        for what, seed in steps:
+            self._chance = random.Random(seed)
+            FORM.salt = int(self._chance.random() < 0.1)
+            getattr(self, what)()
+
+    def __repr__(self) -> str:
+        return f"History({self.steps})"
+
+    def rest(self) -> None:
+        """Nobody does anything."""
+
+    def claim(self) -> None:
+        """Someone claims a number, which others may have claimed."""
+        self._add(FORM.claim(self._chance.choice(SITES), self._chance.choice(AUTHORS[:1] * 4 + AUTHORS)), End())
+
+    def write(self) -> None:
+        """A branch gets longer by what is right, if all that it builds on counts."""
+        self._follow(self._leaf())
+
+    def fork(self) -> None:
+        """An author goes on from an older entry, as from a copied folder."""
+        self._follow(self._any())
+
+    def walk_up(self) -> None:
+        """An author takes the greatest stamp that may be, or one around it."""
+        self._follow(self._leaf(), Fault(leap=LEAP + self._chance.choice([-1, 0, 0, 0, 0, 1])))
+
+    def leap(self) -> None:
+        """An author takes a stamp far up."""
+        self._follow(self._leaf(), Fault(leap=self._chance.choice([LEAP // 2, LEAP + 2, 2 * LEAP, 5 * LEAP])))
+
+    def put_wrong(self) -> None:
+        """The characters of an insertion don't begin where those of its site end."""
+        self._follow(self._leaf(), Fault(at=self._chance.choice([-1, 1, 7])))
+
+    def stamp_wrong(self) -> None:
+        """A stamp isn't above those of what it builds on."""
+        self._follow(self._leaf(), Fault(leap=self._chance.choice([-3, -1, 0]), under=True))
+
+    def mention_nobody(self) -> None:
+        """A message speaks of characters that aren't there, and perhaps come."""
+        self._follow(self._leaf(), Fault(beyond=self._chance.choice([0, 0, 1, 3])))
+
+    def forge(self) -> None:
+        """An entry names one before it that isn't of its place: of another author, another site, or with
+        another seq."""
+        if (before := self._leaf()) is None or (other := self._any()) is None:
+            return
+        what = self._chance.randrange(3)
+        if what == 0:
+            self._follow(before, author=self._chance.choice(AUTHORS))
+        elif what == 1:
+            self._follow(before, place=other)
+        else:
+            self._follow(before, skipped=self._chance.choice([1, 2]))
+
+    def _leaf(self) -> Entry | None:
+        leaves = [entry for entry in self.entries if entry.hash not in self._followed]
+        return self._chance.choice(leaves) if leaves else None
+
+    def _any(self) -> Entry | None:
+        return self._chance.choice(self.entries) if self.entries else None
+
+    def _add(self, entry: Entry, end: End) -> None:
+        self.entries.append(entry)
+        self._ends[entry.hash] = end
+        self._top = max(self._top, end.stamp)
+
+    def _follow(self, before: Entry | None, fault: Fault = Fault(), author: Author | None = None,
+                place: Entry | None = None, skipped: int = 0) -> None:
+        """Makes an entry behind another one. Its messages may have a place behind a third one, and skip some;
+        a fault is in one of them."""
+        if before is None:
+            return
+        place = place or before
+        author = author or Author(place.author, b"")
+        end, seq, messages = self._ends[place.hash], place.last + skipped, []
+        count = self._chance.choice([1, 1, 2, 3])
+        wrong = self._chance.randrange(count)
+        for number in range(count):
+            seq += 1
+            message, end = self._said(place.site, seq, end, fault if number == wrong else Fault())
+            messages.append(message)
+        self._followed.add(before.hash)
+        self._add(FORM.entry(before._replace(site=place.site), messages, author), end)
+
+    def _said(self, site: int, seq: int, end: End, fault: Fault) -> tuple[Message, End]:
+        """A message of a branch, and what this comes to."""
+        of, length, stamp = self._spoken_of(site, end)
+        stamp = max(stamp, end.stamp)
+        if fault.leap is None:
+            stamp += self._chance.choice([1, 1, 1, 2, 10])
+        else:
+            stamp = max(1, (stamp if fault.under else self._chance.choice([stamp, self._top])) + fault.leap)
+        first = self._chance.randrange(length) if length else None
+        if fault.beyond is not None:
+            first = length + fault.beyond
+        if first is None or fault.beyond is None and self._chance.random() < 0.5:
+            at = max(0, end.length + fault.at)
+            cause = (of, first) if first is not None and (of != site or first < at) else None
+            data = bytes(self._chance.choices(b"abc\r", k=self._chance.choice([1, 1, 2, 3])))
+            return inserting(site, seq, stamp, cause, at, data), End(at + len(data), stamp)
+        kind = self._chance.choice([DELETE, RESTORE, CHANGE_LOOKS])
+        count = self._chance.randint(1, max(1, length - first))
+        return about(kind, site, seq, stamp, [(of, first, count)]), End(end.length, stamp)
+
+    def _spoken_of(self, site: int, end: End) -> tuple[int, int, int]:
+        """A site that a message may speak of, how many characters it has there, and its stamp."""
+        other = self._any()
+        if other is None or other.site == site or self._chance.random() < 0.3:
+            return site, end.length, end.stamp
+        return other.site, *self._ends[other.hash]
+
+
+# A step that does nothing stands first, so that what fails is told with few others.
+RIGHT = ["rest", "claim", "write", "write", "write", "write", "fork", "walk_up"]
+STEPS = RIGHT * 2 + ["leap", "put_wrong", "stamp_wrong", "mention_nobody", "forge"]
+SEEDS = st.integers(0, 2**16 - 1)
+
+
+def histories(steps: list[str] = STEPS) -> st.SearchStrategy[History]:
+    """Sets of entries, some claims first."""
+    claims = st.lists(st.tuples(st.just("claim"), SEEDS), min_size=3, max_size=6)
+    others = st.lists(st.tuples(st.sampled_from(steps), SEEDS), min_size=10, max_size=40)
+    return st.builds(lambda first, then: History(first + then), claims, others)
+
+
+def handed(entries: list[Entry], chance: random.Random) -> list[Entry]:
+    """Entries in an order in which they may come: some come twice, and perhaps some don't come."""
+    some = entries if chance.random() < 0.5 else [entry for entry in entries if chance.random() < 0.9]
+    coming = some + chance.choices(some, k=len(some) // 4) if some else []
+    if chance.random() < 0.7:
+        chance.shuffle(coming)
+    return coming
+
+
+def damaged(entry: Entry, chance: random.Random) -> bytes:
+    """The bytes of an entry that came otherwise than they were sent, or that its author made so that they are
+    none."""
+    raw = bytearray(entry.raw)
+    what = chance.randrange(5)
+    if what == 0:
+        raw[chance.randrange(len(raw))] ^= 1 << chance.randrange(8)
+    elif what == 1:
+        del raw[chance.randrange(len(raw)):]
+    elif what == 2:
+        raw += bytes(chance.randint(1, 40))
+    elif what == 3:
+        return FORM.entry(entry, [inserting(entry.site % 3 + 4, 1, 1, None, 0, b"x")], Author(entry.author, b"")).raw
+    else:
+        bad = inserting(entry.site, entry.last + 1, 0, None, 0, b"x")
+        return FORM.entry(entry, [bad], Author(entry.author, b"")).raw
+    return bytes(raw)
+
+
+class Taker:
+    """A run of the program that takes in what counts."""
+
+    def __init__(self, site: int = SITES[0]):
+        self.program = Program(site)
+
+    def take(self, messages: Sequence[Message]) -> list[bytes]:
+        """What it answers to messages that are handed in."""
+        return [answer for [answer] in self.program.ask([self.program.taking(one.data) for one in messages])]
+
+    def close(self) -> None:
+        """Ends the run."""
+        self.program.close()
+
+
+class Follower:
+    """One who hands entries to a judge, and has a replica take in what counts."""
+
+    def __init__(self, case: unittest.TestCase, prefers: Rank = rank, replica: Callable = naive.Replica):
+        self.case, self.judge, self._new = case, Judge(prefers=prefers), replica
+        self.replica = replica()
+        self.through: list[Message] = []
+        self.came: list[Entry] = []
+
+    def add(self, entry: Entry) -> None:
+        """Hands an entry in, as it comes."""
+        opened = FORM.open(entry.raw)
+        self.case.assertEqual(opened, entry)
+        self.judge.add(opened)
+        self.came.append(opened)
+
+    def count(self) -> None:
+        """Asks what counts. Each message must be such that the replica takes it in at once."""
+        counted = self.judge.count()
+        if counted.anew:
+            self.replica.close()
+            self.replica, self.through = self._new(), []
+        self.case.assertEqual(set(self.replica.take(counted.messages)) - {b"taken 0 0"}, set())
+        self.through += counted.messages
+        self.case.assertEqual(sorted(self.through), sorted(self.judge.let_through()))
+
+    def chains(self) -> set[bytes]:
+        """The hashes of the entries that hold."""
+        known, found = self.judge.known, set()
+        for site in self.judge.claimed():
+            entry = self.judge.last(site)
+            found.add(entry.hash)
+            while entry.kind is Kind.MESSAGES:
+                entry = known[entry.before]
+                found.add(entry.hash)
+        return found
+
+    def agrees(self, prefers: Callable[[Entry], tuple] = naive.rank) -> None:
+        """That all that the judge says is as the rules have it."""
+        answer, judge, case = naive.judged(self.came, prefers), self.judge, self.case
+        case.assertEqual(self.chains(), {entry.hash for chain in answer.chains.values() for entry in chain})
+        for site in SITES:
+            chain, through = answer.chains.get(site), answer.through.get(site, [])
+            case.assertEqual(judge.holder(site), chain[0].author if chain else None)
+            case.assertEqual((judge.front(site), judge.length(site)), (len(through), answer.length(site)))
+        for message in chained.from_iterable(entry.messages for entry in self.came):
+            case.assertEqual(judge.is_let_through(message), answer.is_let_through(message))
+        in_order = judge.let_through_in_order()
+        case.assertEqual(sorted(in_order), sorted(chained.from_iterable(answer.through.values())))
+        case.assertEqual(set(naive.Replica().take(in_order)) - {b"taken 0 0"}, set())
+        case.assertEqual(judge.loose(), naive.loose(self.came))
+        case.assertEqual(sorted(judge.wrong()), sorted(answer.wrong()))
+        case.assertEqual(judge.incomplete(), answer.incomplete([*judge.known.values()]))
+
+
+class Editor:
+    """Someone who writes with the program, and has from others what the test hands in."""
+
+    def __init__(self, case: unittest.TestCase, site: int, author: Author, last: Entry | None = None):
+        self.case, self.site, self.author = case, site, author
+        self.follower = Follower(case, replica=partial(Taker, site))
+        self.last = last or FORM.claim(site, author)
+
+    @property
+    def holds(self) -> bool:
+        """Whether all that was written here counts, so that it can be gone on with."""
+        judge = self.follower.judge
+        return (judge.holder(self.site) is not None and judge.last(self.site) == self.last
+                and judge.front(self.site) == self.last.last)
+
+    def comes(self, entries: Iterable[Entry]) -> None:
+        """Takes in what counts with these entries."""
+        for entry in entries:
+            self.follower.add(entry)
+        self.follower.count()
+
+    def copied(self) -> "Editor":
+        """One who goes on from a copy of all that is here."""
+        other = Editor(self.case, self.site, self.author, self.last)
+        other.comes(self.follower.came)
+        return other
+
+    def edits(self, chance: random.Random) -> Entry:
+        """The entry of an edit or two. What the program made counts at once."""
+        program, judge = self.program, self.follower.judge
+        sent: list[Message] = []
+        while not sent:
+            length = len(program.text())
+            begin, end = sorted(chance.choices(range(length + 1), k=2))
+            events = [program.event("type", begin, bytes(chance.choices(b"abcdef", k=chance.choice([1, 1, 1, 9])))),
+                      program.event("cut", begin, end), program.event("restore"),
+                      program.event("looks", begin, end, b"colour=%d" % chance.randrange(16))]
+            for answer in program.ask(chance.choices(events, weights=[6, 2, 1, 1], k=chance.choice([1, 2]))):
+                # The second of two may lie outside what the first left.
+                self.case.assertIn(answer[-1], [b"ok", b"refused 11"])
+                sent += [Message.read(bytes.fromhex(line.split()[2].decode())) for line in answer[:-1]]
+        self.last = FORM.entry(self.last, sent, self.author)
+        judge.add(self.last)
+        self.follower.came.append(self.last)
+        self.case.assertEqual(judge.count(), (sent, False))
+        self.follower.through += sent
+        return self.last
+
+    @property
+    def program(self) -> Program:
+        """The run of the program."""
+        return self.follower.replica.program
+
+
+class Written(unittest.TestCase):
+    """What several write with the program, at once and from copies."""
+
+    @tries(3)
+    @given(SEEDS)
+    def test_all_come_to_the_same(self, seed: int) -> None:
+        chance = random.Random(seed)
+        editors = [Editor(self, chance.choice(SITES), author) for author in AUTHORS]
+        sent = {editor.last.hash: editor.last for editor in editors}
+        for editor in editors:
+            editor.comes([editor.last])
+        for _ in range(60):
+            editor = chance.choice(editors)
+            what = chance.random()
+            if what < 0.6 and editor.holds:
+                entry = editor.edits(chance)
+                sent[entry.hash] = entry
+            elif what < 0.95 or len(editors) > 6:
+                editor.comes(chance.sample(sorted(sent.values()), chance.randrange(len(sent) + 1)))
+            else:
+                editors.append(editor.copied())
+        texts = set()
+        for editor in editors:
+            editor.comes(chance.sample(sorted(sent.values()), len(sent)))
+            texts.add(editor.program.text())
+            editor.program.close()
+        self.assertEqual(len(texts), 1)
+        editors[0].follower.agrees()
+
+
+class AnyOrder(unittest.TestCase):
+    """The same entries come to the same, whatever order they have."""
+
+    @tries(300)
+    @given(histories(), SEEDS)
+    def test_what_counts_is_what_the_rules_say(self, history: History, seed: int) -> None:
+        chance, follower = random.Random(seed), Follower(self)
+        counts, looks = chance.choice([0.05, 0.3, 1]), chance.choice([0, 0, 0.3, 1])
+        for entry in handed(history.entries, chance):
+            follower.add(entry)
+            if chance.random() < looks:
+                follower.agrees()
+            if chance.random() < counts:
+                follower.count()
+        follower.count()
+        follower.agrees()
+
+    @tries(40)
+    @given(histories(), SEEDS)
+    def test_the_program_takes_in_at_once_what_counts(self, history: History, seed: int) -> None:
+        chance, follower = random.Random(seed), Follower(self, replica=Taker)
+        for entry in handed(history.entries, chance):
+            follower.add(entry)
+            if chance.random() < 0.2:
+                follower.count()
+        follower.count()
+        other = Taker()
+        other.take(follower.judge.let_through_in_order())
+        self.assertEqual(follower.replica.program.text(), other.program.text())
+        other.close()
+        follower.replica.close()
+
+    @tries(80)
+    @given(histories(RIGHT), SEEDS)
+    def test_what_was_dropped_stays_dropped(self, history: History, seed: int) -> None:
+        follower = Follower(self)
+        held: set[bytes] = set()
+        dropped: set[bytes] = set()
+        for entry in handed(history.entries, random.Random(seed)):
+            follower.add(entry)
+            holds = follower.chains()
+            dropped |= (held - holds) | naive.ended(follower.came)
+            held = holds
+            self.assertEqual(held & dropped, set())
+
+    @tries(80)
+    @given(histories(RIGHT), SEEDS)
+    def test_what_one_saw_is_found_again(self, history: History, seed: int) -> None:
+        chance, before = random.Random(seed), Follower(self)
+        for entry in handed(history.entries, chance):
+            before.add(entry)
+        seen = before.chains()
+        after = Follower(self, prefers=lambda entry: bytes([entry.hash not in seen]) + rank(entry))
+        coming = history.entries * 2
+        chance.shuffle(coming)
+        for entry in coming:
+            after.add(entry)
+            if chance.random() < 0.2:
+                after.count()
+        after.agrees(lambda entry: (entry.hash not in seen, naive.rank(entry)))
+        self.assertLessEqual(seen, after.chains())
+        self.assertLessEqual(set(before.judge.let_through()), set(after.judge.let_through()))
+
+    @tries(50)
+    @given(histories(), SEEDS)
+    def test_what_is_no_entry_changes_nothing(self, history: History, seed: int) -> None:
+        chance, follower = random.Random(seed), Follower(self)
+        for entry in handed(history.entries, chance):
+            with self.assertRaises(Bad):
+                follower.judge.add(FORM.open(damaged(entry, chance)))
+            follower.add(entry)
+        follower.count()
+        follower.agrees()
+
+
+if __name__ == "__main__":
+    unittest.main()

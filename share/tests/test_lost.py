@@ -1,0 +1,271 @@
+"""The log, or a note's file, is lost, replaced or damaged, while editors are on and while they are off: nothing
+that was typed is lost, and all show the same."""
+import contextlib
+import os
+import pathlib
+import shutil
+import subprocess
+
+from share.tests.support import Case, RedisServer, change, raws_of, type_at_the_end, wait_for, written
+
+
+class InAFile(Case):
+    """People of one machine, whose log is a file."""
+
+    def setUp(self) -> None:
+        super().setUp()
+        self.path = pathlib.Path(self.file_log())
+
+    def test_two_editors_that_were_offline_are_both_sent(self) -> None:
+        anna = self.person("anna")
+        first = self.opened(anna, url=str(self.path))
+        written(first, "begun ")
+        second = self.opened(anna)
+        type_at_the_end(second, "")
+        self.path.parent.rename(self.folder / "away")
+        self.path.parent.write_text("no folder")
+        for note, words in (first, "first "), (second, "second "):
+            wait_for(lambda one=note: one.session.status().offline, "the log to be away")
+            type_at_the_end(note, words)
+            note.session.close()
+        self.path.parent.unlink()
+        (self.folder / "away").rename(self.path.parent)
+        again = self.opened(anna)
+        self.assertEqual(self.assert_meet(again), b"begun first second ")
+        berta = self.opened(self.person("berta"), link=anna.link())
+        self.assertEqual(self.assert_meet(again, berta), b"begun first second ")
+
+    def lost(self, lose) -> None:
+        """That three go on, and fill the log again, when it is lost while two are on and one is off."""
+        notes = self.together(str(self.path), "anna", "berta", "carla")
+        for note, words in zip(notes, ("anna ", "berta ", "carla ")):
+            written(note, words)
+        text = self.assert_meet(*notes)
+        notes[2].session.close()
+        for turn in range(2):
+            lose()
+            for number, note in enumerate(notes[:2]):
+                type_at_the_end(note, f"on{turn}{number} ")
+            text = self.assert_meet(*notes[:2])
+        self.assertEqual(sorted(text.split()), sorted(b"anna berta carla on00 on01 on10 on11".split()))
+        carla = self.opened(self.person("carla"))
+        type_at_the_end(carla, "back ")
+        text = self.assert_meet(*notes[:2], carla)
+        self.assertIn(b"back", text)
+        with contextlib.closing(self.person("anna").log()) as log:
+            raws = raws_of(log)
+        self.assertEqual(len(raws), len(set(raws)))
+        self.assertEqual(self.opened(self.person("new"), link=self.person("anna").link()).text, text)
+
+    def files(self) -> list[pathlib.Path]:
+        """The files of the log."""
+        return list(self.path.parent.glob(f"{self.path.name}*"))
+
+    def test_removed(self) -> None:
+        self.lost(lambda: [path.unlink() for path in self.files()])
+
+    def test_removed_alone(self) -> None:
+        self.lost(self.path.unlink)
+
+    def test_emptied(self) -> None:
+        self.lost(lambda: os.truncate(self.path, 0))
+
+    def test_replaced_by_what_is_no_log(self) -> None:
+        anna, berta = self.together(str(self.path), "anna", "berta")
+        written(anna, "before ")
+        for path in self.files():
+            path.unlink()
+        self.path.write_bytes(b"These are words.\n" * 1_000)
+        type_at_the_end(anna, "kept ")
+        # Somebody's file isn't taken away.
+        words = wait_for(lambda: anna.session.status().offline, "the log to be told away")
+        self.assertIn("isn't a note's log. Move it away", words)
+        self.assertEqual(self.path.read_bytes()[:5], b"These")
+        self.path.unlink()
+        self.assertEqual(self.assert_meet(anna, berta), b"before kept ")
+
+    def test_trimmed(self) -> None:
+        self.lost(lambda: change(self.path, "DELETE FROM entry WHERE place % 2"))
+
+    def test_replaced_by_an_older_copy(self) -> None:
+        anna, berta = self.together(str(self.path), "anna", "berta")
+        written(anna, "old ")
+        self.assert_meet(anna, berta)
+        copy = self.folder / "copy"
+        copy.mkdir()
+        for path in self.files():
+            shutil.copy(path, copy)
+        written(anna, "new ")
+        self.assert_meet(anna, berta)
+        for path in self.files():
+            path.unlink()
+        for path in copy.iterdir():
+            shutil.copy(path, self.path.parent)
+        written(berta, "newer ")
+        self.assertEqual(self.assert_meet(anna, berta), b"old new newer ")
+        carla = self.opened(self.person("carla"), link=self.person("anna").link())
+        self.assertEqual(self.assert_meet(anna, carla), b"old new newer ")
+
+    def test_a_bit_of_an_entry(self) -> None:
+        anna = self.opened(self.person("anna"), url=str(self.path))
+        for words in "one ", "two ", "three ":
+            written(anna, words)
+        anna.session.close()
+        flip(self.path)
+        link = self.person("anna").link()
+        berta = self.opened(self.person("berta"), link=link)
+        self.assertEqual(bytes(berta.text), b"one ")
+        berta.take_in()
+        self.assertRegex(berta.notice, "An entry of the log is damaged and was left out")
+        written(berta, "behind ")
+        # Who has the right one brings it.
+        anna = self.opened(self.person("anna"))
+        wait_for(lambda: (berta.take_in(), anna.take_in(), anna.text == berta.text)[2], "both to be the same")
+        self.assertEqual(sorted(anna.text.split()), sorted(b"one two three behind".split()))
+        self.assert_meet(anna, berta)
+        self.assertEqual(bytes(self.opened(self.person("carla"), link=link).text), bytes(anna.text))
+
+    def test_a_bit_of_an_entry_while_the_author_is_on(self) -> None:
+        anna = self.opened(self.person("anna"), url=str(self.path))
+        for words in "one ", "two ", "three ":
+            written(anna, words)
+        flip(self.path)
+        berta = self.opened(self.person("berta"), link=self.person("anna").link())
+        self.assertEqual(self.assert_meet(berta, anna), b"one two three ")
+
+
+class OwnFile(Case):
+    """The note's own file, which an editor has open."""
+
+    def test_removed_or_damaged(self) -> None:
+        person = self.person()
+        path = person.path()
+        for number, lose in enumerate((
+                path.unlink, lambda: os.truncate(path, 0), lambda: path.write_bytes(b"no note" * 5_000),
+                lambda: [one.unlink() for one in path.parent.glob("note.note*")],
+                lambda: change(path, "DELETE FROM entry"), lambda: change(path, "DROP TABLE entry"))):
+            with self.subTest(number=number):
+                shutil.rmtree(path.parent, ignore_errors=True)
+                first, second = person.open(), person.open()
+                first.type("first ")
+                wait_for(lambda: (second.take_in(), second.text == b"first ")[1], "the second one to see it")
+                lose()
+                first.type("lost? ")
+                self.assertEqual(first.text, b"first lost? ", first.notice)
+                type_at_the_end(second, "second")
+                self.assert_meet(first, second)
+                for note in first, second:
+                    note.session.close()
+                self.assertEqual(person.text(), bytes(first.text))
+                self.assertIn(b"lost? ", person.text())
+                again = person.open()
+                self.assertEqual(again.text, first.text)
+                again.session.close()
+
+
+def flip(path: pathlib.Path) -> None:
+    """Changes a bit of the second message's entry."""
+    change(path, "PRAGMA wal_checkpoint(TRUNCATE)")
+    data = path.read_bytes()
+    at = data.index(b"two ")
+    path.write_bytes(data[:at] + bytes([data[at] ^ 4]) + data[at + 1:])
+
+
+class OnAServer(Case):
+    """People who share a note by a Redis server."""
+
+    def setUp(self) -> None:
+        super().setUp()
+        self.server = self.redis()
+
+    def test_all_files_of_a_server_are_lost_twice(self) -> None:
+        notes = self.together(self.server.url, "anna", "berta", "carla")
+        for note, words in zip(notes, ("anna ", "berta ", "carla ")):
+            written(note, words)
+        self.assert_meet(*notes)
+        notes[2].session.close()
+        for turn in range(2):
+            self.server.lose_all()
+            for number, note in enumerate(notes[:2]):
+                type_at_the_end(note, f"off{turn}{number} ")
+            self.server.start()
+            for number, note in enumerate(notes[:2]):
+                type_at_the_end(note, f"on{turn}{number} ")
+            text = self.assert_meet(*notes[:2])
+        carla = self.opened(self.person("carla"))
+        type_at_the_end(carla, "back ")
+        text = self.assert_meet(*notes[:2], carla)
+        words = "anna berta carla back off00 off01 off10 off11 on00 on01 on10 on11"
+        self.assertEqual(sorted(text.decode().split()), sorted(words.split()))
+        with contextlib.closing(self.person("anna").log()) as log:
+            raws = raws_of(log)
+        self.assertEqual(len(raws), len(set(raws)))
+        new = self.opened(self.person("new"), link=self.person("anna").link())
+        self.assertEqual(self.assert_meet(new, carla), text)
+
+    def test_a_server_that_loses_its_tail(self) -> None:
+        anna, berta = self.together(self.server.url, "anna", "berta")
+        written(anna, "kept ")
+        self.assert_meet(anna, berta)
+        self.server.kill()
+        shutil.copytree(self.server.folder, self.folder / "older")
+        self.server.start()
+        for note, words in (anna, "anna "), (berta, "berta "):
+            written(note, words)
+        text = self.assert_meet(anna, berta)
+        # One of those who saw the tail is off; the other brings back what both wrote.
+        anna.session.close()
+        self.server.kill()
+        shutil.rmtree(self.server.folder)
+        shutil.copytree(self.folder / "older", self.server.folder)
+        self.server.start()
+        carla = self.opened(self.person("carla"), link=self.person("anna").link())
+        self.assertEqual(self.assert_meet(berta, carla), text)
+        written(carla, "carla ")
+        berta.session.close()
+        anna = self.opened(self.person("anna"))
+        self.assertEqual(self.assert_meet(anna, carla), text + b"carla ")
+        numbers = {note.session.number for note in (anna, berta, carla)}
+        self.assertEqual(len(numbers), 3)
+
+    def test_trimmed(self) -> None:
+        anna, berta = self.together(self.server.url, "anna", "berta")
+        for number in range(5):
+            written(anna, f"{number} ")
+        berta.session.close()
+        for trim in "XTRIM {} MAXLEN 2", "XTRIM {} MAXLEN 0", "DEL {}", "FLUSHALL":
+            self.command(trim)
+            written(anna, "more ")
+            wait_for(lambda: len(self.raws()) == len(set(self.raws())) > 6, "the log to be full again")
+            new = self.opened(self.person(trim[:7]), link=self.person("anna").link())
+            self.assert_meet(new, anna)
+
+    def raws(self) -> list[bytes | None]:
+        """All that the log has."""
+        with contextlib.closing(self.person("anna").log()) as log:
+            return raws_of(log)
+
+    def command(self, words: str) -> None:
+        """Has the server do something with the note's entries."""
+        with contextlib.closing(self.person("anna").disk()) as disk:
+            key = f"vialshoal:note:{{{disk.form.note.hex()}}}:entries"
+        run = ["redis-cli", "-p", str(self.server.port), *words.format(key).split()]
+        subprocess.run(run, check=True, stdout=subprocess.DEVNULL)
+
+    def test_two_logs_are_joined(self) -> None:
+        anna, berta = self.together(self.server.url, "anna", "berta")
+        written(anna, "both ")
+        self.assert_meet(anna, berta)
+        (self.folder / "second").mkdir()
+        second = RedisServer(self.folder / "second")
+        self.addCleanup(second.kill)
+        berta.session.close()
+        berta = self.opened(self.person("berta"), url=second.url)
+        written(berta, "berta ")
+        written(anna, "anna ")
+        carla = self.opened(self.person("carla"), link=self.person("berta").link())
+        self.assertEqual(self.assert_meet(berta, carla), b"both berta ")
+        berta.session.close()
+        berta = self.opened(self.person("berta"), url=self.server.url)
+        text = self.assert_meet(anna, berta)
+        self.assertEqual(sorted(text.split()), [b"anna", b"berta", b"both"])

@@ -1,0 +1,272 @@
+"""Site numbers: claims, folders that were copied, disks that were put back, and what is made anew under another
+number."""
+import contextlib
+import os
+import shutil
+import time
+
+from share.entry import Form
+from share.judging import rank
+from share.log import Log
+from share.message import Message, naming
+from share.note import Note
+from share.program import Program
+from share.tests.support import Case, Person, raws_of, type_at_the_end, wait_for, written
+
+
+class Numbers(Case):
+    """A note in a log that is a file."""
+
+    def setUp(self) -> None:
+        super().setUp()
+        self.url = self.file_log()
+        self.anna = self.person("anna")
+
+    def begun(self) -> str:
+        """Has a note with some words; its link."""
+        note = self.anna.open(url=self.url)
+        for words in "one ", "two ", "three ":
+            written(note, words)
+        note.session.close()
+        return self.anna.link()
+
+    def copied(self, name: str = "copied") -> Person:
+        """A copy of the first one's folder."""
+        shutil.copytree(self.folder / "anna", self.folder / name)
+        return self.person(name)
+
+    def away(self) -> None:
+        """Has nobody reach the log."""
+        os.rename(self.folder / "shared", self.folder / "away")
+        (self.folder / "shared").write_text("no folder")
+
+    def back(self) -> None:
+        """Has all reach the log again."""
+        (self.folder / "shared").unlink()
+        os.rename(self.folder / "away", self.folder / "shared")
+
+    def words_of(self, note: Note) -> list[str]:
+        """The words that a note shows, sorted."""
+        return sorted(bytes(note.text).decode().split())
+
+    def log(self) -> Log:
+        """The log, as a stranger has it open."""
+        log = self.anna.log()
+        self.addCleanup(log.close)
+        return log
+
+    def form(self) -> Form:
+        """How entries are spelled."""
+        with contextlib.closing(self.anna.disk()) as disk:
+            return disk.form
+
+    def test_a_copied_folder_of_which_both_type_offline(self) -> None:
+        link = self.begun()
+        copy = self.copied()
+        first, second = self.opened(self.anna), self.opened(copy)
+        self.assertEqual(first.session.number, second.session.number)
+        self.away()
+        for note, words in (first, "F"), (second, "S"):
+            wait_for(lambda one=note: one.session.status().offline, "the log to be away")
+            for number in range(3):
+                type_at_the_end(note, f"{words}{number} ")
+        second.erase(0, 4)
+        self.back()
+        text = self.assert_meet(first, second)
+        self.assertEqual(sorted(text.split()), sorted(b"two three F0 F1 F2 S0 S1 S2".split()))
+        notices = [note.notice for note in (first, second) if "Made anew" in note.notice]
+        self.assertGreaterEqual(len(notices), 1)
+        self.assertNotEqual(first.session.number, second.session.number)
+        third = self.opened(self.person("third"), link=link)
+        self.assertEqual(self.assert_meet(third, first), text)
+
+    def test_a_copied_folder_used_after_the_other(self) -> None:
+        self.begun()
+        copy = self.copied()
+        first = self.opened(self.anna)
+        written(first, "first ")
+        second = self.opened(copy)
+        written(second, "second ")
+        self.assertEqual(self.assert_meet(first, second), b"one two three first second ")
+        self.assertNotEqual(first.session.number, second.session.number)
+
+    def test_what_came_apart_is_made_anew(self) -> None:
+        self.begun()
+        copy = self.copied()
+        first = self.opened(self.anna)
+        self.away()
+        second = copy.open()
+        type_at_the_end(second, "abcdefghi ")
+        for words in "X", "Y":
+            second.moved_to(len(second.text) - 4)
+            second.type(words)
+        second.erase(len(second.text) - 12, len(second.text) - 11)
+        text = bytes(second.text)
+        second.session.close()
+        self.back()
+        written(first, "first ")
+        again = self.opened(copy)
+        shown = self.assert_meet(first, again)
+        self.assertIn(text.split()[-1], shown.split())
+        self.assertEqual(len(shown.split()), 5)
+
+    def test_a_disk_that_was_put_back(self) -> None:
+        self.begun()
+        copy = self.copied("backup")
+        first = self.opened(self.anna)
+        other = self.opened(self.person("other"), link=self.anna.link())
+        written(first, "four ")
+        first.session.close()
+        shutil.rmtree(self.folder / "anna")
+        shutil.copytree(copy.data, self.folder / "anna")
+        self.away()
+        again = self.opened(self.anna)
+        self.assertEqual(again.text, b"one two three ")
+        type_at_the_end(again, "offline ")
+        self.back()
+        text = self.assert_meet(again, other)
+        self.assertEqual(sorted(text.split()), sorted(b"one two three four offline".split()))
+
+    def test_a_disk_that_is_lost(self) -> None:
+        link = self.begun()
+        shutil.rmtree(self.folder / "anna")
+        again = self.opened(self.anna, link=link)
+        written(again, "four ")
+        self.assertEqual(again.text, b"one two three four ")
+
+    def test_edits_made_anew_are_made_once_over_kills(self) -> None:
+        self.begun()
+        copy = self.copied()
+        first = self.opened(self.anna)
+        self.away()
+        second = copy.open()
+        for number in range(500):
+            type_at_the_end(second, f"{number:04} " * 80)
+        second.session.close()
+        self.back()
+        written(first, "first ")
+        begin = time.monotonic()
+        again = copy.open()
+        print(f"500 edits of 200 KB were made anew in {time.monotonic() - begin:.2f} s")
+        again.session.close()
+        for _ in range(2):
+            again = copy.open()
+            text = self.assert_meet(first, again)
+            again.session.close()
+        words = text.decode().split()
+        self.assertEqual(words.count("first"), 1)
+        self.assertEqual(len(words), 4 + 500 * 80)
+        self.assertEqual([words.count(f"{number:04}") for number in range(500)], [80] * 500)
+
+    def test_entries_under_my_number_while_i_am_off(self) -> None:
+        self.begun()
+        with contextlib.closing(self.anna.disk()) as disk:
+            (client,) = [one for one in disk.clients() if not one.retired]
+            form, log = disk.form, self.log()
+        claim = form.claim(client.site, client.author)
+        forged = Program(client.site)
+        made = Message.read(bytes.fromhex(forged.ask([forged.event("type", 0, b"forged\\20")])[0][0].split()[2].decode()))
+        forged.close()
+        stranger = form.new_author()
+        for entry in (form.entry(claim, [made], stranger), form.entry(claim, [made], client.author)):
+            log.append([entry.raw])
+        note = self.opened(self.anna)
+        for number in range(30):
+            type_at_the_end(note, f"w{number} ")
+        wait_for(lambda: (note.take_in(), not note.session.status().unsent)[1], "all to be sent")
+        berta = self.opened(self.person("berta"), link=self.anna.link())
+        text = self.assert_meet(note, berta)
+        for word in [b"one", b"two", b"three", *(b"w%d" % number for number in range(30))]:
+            self.assertEqual(text.split().count(word), 1, (word, text))
+
+    def test_a_number_that_another_claims_too(self) -> None:
+        link = self.begun()
+        note = self.opened(self.anna)
+        form, log = self.form(), self.log()
+        mine = note.session.last()
+        greater = smaller = None
+        while not (greater and smaller):
+            one = form.claim(mine.site, form.new_author())
+            with contextlib.closing(self.anna.disk()) as disk:
+                own = form.claim(mine.site, disk.clients()[0].author)
+            if rank(one) < rank(own):
+                smaller = one
+            else:
+                greater = one
+        log.append([greater.raw])
+        written(note, "four ")
+        self.assertEqual(note.session.number, mine.site)
+        other = self.opened(self.person("other"), link=link)
+        type_at_the_end(other, "other ")
+        self.assert_meet(note, other)
+        log.append([smaller.raw])
+        wait_for(lambda: (note.take_in(), note.session.number != mine.site)[1], "a new number")
+        text = self.assert_meet(note, other)
+        self.assertEqual(sorted(text.split()), sorted(b"one two three four other".split()))
+        for person, link_of in (self.person("late"), link), (self.person("later"), link):
+            self.assertEqual(self.assert_meet(self.opened(person, link=link_of), note), text)
+
+    def test_every_number_that_isnt_given_out_yet(self) -> None:
+        link = self.begun()
+        form, log = self.form(), self.log()
+        author = form.new_author()
+        claims = [form.claim(site, author).raw for site in range(1, 65_000, 7)]
+        for begin in range(0, len(claims), 2_000):
+            log.append(claims[begin:begin + 2_000])
+        note = self.opened(self.person("new"), link=link)
+        written(note, "four ")
+        self.assertEqual(note.text, b"one two three four ")
+
+    def test_the_greatest_stamp(self) -> None:
+        link = self.begun()
+        form, log = self.form(), self.log()
+        author = form.new_author()
+        claim = form.claim(4_711, author)
+        message = naming(2, 4_711, 1, 2**48 - 1, [(self.site_of(), 0, 1)])
+        log.append([claim.raw, form.entry(claim, [message], author).raw])
+        note, other = self.opened(self.anna), self.opened(self.person("other"), link=link)
+        for one, words in (note, "four "), (other, "five "):
+            type_at_the_end(one, words)
+        wait_for(lambda: (note.take_in(), other.take_in(), note.text == other.text)[2], "both to be the same")
+        self.assertEqual(sorted(note.text.split()), sorted(b"one two three four five".split()))
+
+    def site_of(self) -> int:
+        """The first one's number."""
+        with contextlib.closing(self.anna.disk()) as disk:
+            return disk.clients()[0].site
+
+
+class OnAServer(Case):
+    """Numbers of people whose log is on a server."""
+
+    def test_one_more_editor_while_the_server_is_away(self) -> None:
+        server, anna = self.redis(), self.person("anna")
+        first = self.opened(anna, url=server.url)
+        written(first, "first ")
+        wait_for(lambda: (first.take_in(), len(self.stood(anna)))[1] > 1, "a number in advance")
+        server.kill()
+        second, third = self.opened(anna), self.opened(anna)
+        self.assertTrue(second.session.status().can_type)
+        self.assertFalse(third.session.status().can_type)
+        second.moved_to(len(second.text))
+        second.type("second ")
+        third.type("third ")
+        self.assertIn("Nothing can be typed here until", third.notice)
+        wait_for(lambda: (third.take_in(), third.text == b"first second ")[1], "it to be seen by the other editor")
+        server.start()
+        type_at_the_end(third, "third ")
+        self.assertEqual(self.assert_meet(first, second, third), b"first second third ")
+        self.assertEqual(len({note.session.number for note in (first, second, third)}), 3)
+
+    def stood(self, person: Person) -> list[int]:
+        """The numbers of a person that can be typed under."""
+        with contextlib.closing(person.disk()) as disk:
+            return [one.site for one in disk.clients() if one.stood]
+
+    def test_numbers_arent_used_up(self) -> None:
+        server, anna = self.redis(), self.person("anna")
+        for _ in range(6):
+            note = anna.open(url=server.url)
+            written(note, "word ")
+            note.session.close()
+        self.assertLessEqual(len(self.stood(anna)), 2)

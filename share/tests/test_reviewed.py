@@ -1,0 +1,274 @@
+"""What a reading of sharing found: files taken away under several editors of one person, numbers that are given up,
+full disks between two steps, damaged files, and names that aren't what they are taken for."""
+import contextlib
+import pathlib
+import subprocess
+import time
+from unittest import mock
+
+from share.disk import Anew, Disk, Overtaken, Unkept, make
+from share.judging import rank
+from share.note import Note
+from share.session import Session
+from share.tests import test_numbers
+from share.tests.support import TOP, Case, change, python, type_at_the_end, wait_for, written
+
+# Types words under a name until a second is over; then prints how many.
+TYPES = """
+import sys, time
+from share import opening
+from share.note import Note
+from share.session import Session
+note, number = Note(Session(opening.opened("note", None, None))), 0
+print("open", flush=True)
+sys.stdin.readline()
+end = time.monotonic() + 1
+while time.monotonic() < end + 0.5:
+    note.take_in()
+    if time.monotonic() < end:
+        note.moved_to(len(note.text))
+        note.type(f"{sys.argv[1]}.{number} ")
+        # What couldn't be kept is told, and typed again.
+        number += not note.notice.startswith("The last edit")
+        note.notice = ""
+    time.sleep(0.01)
+note.session.close()
+print(number)
+"""
+
+
+class UnderSeveral(Case):
+    """A note's file that is taken away under several editors of one person."""
+
+    def typed_while(self, *lost: str) -> None:
+        """That three type on when files are removed, and each word is there once."""
+        person = self.person()
+        with person.here():
+            runs = [subprocess.Popen([python(), "-B", "-c", TYPES, tag], cwd=TOP, stdin=subprocess.PIPE,
+                                     stdout=subprocess.PIPE, text=True) for tag in "abc"]
+        for run in runs:
+            self.assertEqual(run.stdout.readline(), "open\n")
+        for run in runs:
+            run.stdin.write("\n")
+            run.stdin.flush()
+        time.sleep(0.4)
+        for pattern in lost:
+            for path in person.path().parent.glob(pattern):
+                path.unlink(missing_ok=True)
+        words = [f"{tag}.{number}" for tag, run in zip("abc", runs)
+                 for number in range(int(run.communicate()[0]))]
+        self.assertGreater(len(words), 2)
+        self.assertEqual(sorted(person.text().decode().split()), sorted(words))
+
+    def test_all_files_are_removed(self) -> None:
+        self.typed_while("note.*")
+
+    def test_the_locks_are_removed(self) -> None:
+        person = self.person()
+        first = self.opened(person)
+        first.type("first ")
+        person.path().with_suffix(".lock").unlink()
+        second = self.opened(person)
+        second.moved_to(len(second.text))
+        second.type("second ")
+        first.take_in()
+        type_at_the_end(first, "more ")
+        text = self.assert_meet(first, second)
+        self.assertEqual(sorted(text.split()), [b"first", b"more", b"second"])
+        self.assertNotEqual(first.session.number, second.session.number)
+
+    def test_one_opens_as_the_other_claims(self) -> None:
+        person = self.person()
+        first = self.opened(person)
+        keep, opened = Disk.keep, []
+
+        def kept(disk: Disk, *words: object, **more: object) -> int:
+            place = keep(disk, *words, **more)
+            if more.get("client") and not opened:
+                opened.append(None)
+                opened[0] = self.opened(person)
+            return place
+
+        with mock.patch.object(Disk, "keep", kept):
+            second = self.opened(person)
+        numbers = {note.session.number for note in (first, second, *opened)}
+        self.assertEqual(len(numbers), 3)
+
+    def test_a_file_isnt_made_over_another_ones_log(self) -> None:
+        person = self.person()
+        first = self.opened(person)
+        first.type("kept ")
+        with contextlib.closing(person.disk()) as disk:
+            about = disk.about
+        wal = person.path().with_name("note.note-wal")
+        before = wal.stat().st_ino
+        make(person.path(), about)
+        self.assertEqual(wal.stat().st_ino, before)
+
+
+class GivenUp(Case):
+    """Numbers that were given up, and what was withdrawn."""
+
+    begun, copied, away, back, form = (getattr(test_numbers.Numbers, name)
+                                       for name in ("begun", "copied", "away", "back", "form"))
+
+    def setUp(self) -> None:
+        super().setUp()
+        self.url, self.anna = self.file_log(), self.person("anna")
+
+    def forked(self) -> tuple[Note, Note]:
+        """Two of whom one was copied, who both typed offline, and met."""
+        self.begun()
+        first, second = self.opened(self.anna), self.opened(self.copied())
+        self.away()
+        for note, words in (first, "F"), (second, "S"):
+            wait_for(lambda one=note: one.session.status().offline, "the log to be away")
+            for number in range(3):
+                type_at_the_end(note, f"{words}{number} ")
+        self.back()
+        self.assert_meet(first, second)
+        return first, second
+
+    def test_what_was_withdrawn_stays_so_in_a_file_that_is_written_anew(self) -> None:
+        notes = self.forked()
+        for person in self.anna, self.person("copied"):
+            for path in person.path().parent.glob("note.note*"):
+                path.unlink()
+        for note in notes:
+            type_at_the_end(note, "more ")
+        words = b"one two three F0 F1 F2 S0 S1 S2 more more"
+        self.assertEqual(sorted(self.assert_meet(*notes).split()), sorted(words.split()))
+
+    def test_a_number_that_was_given_up_is_taken(self) -> None:
+        link = self.begun()
+        copy = self.copied()
+        first, second = self.opened(self.anna), self.opened(copy)
+        written(second, "second ")
+        wait_for(lambda: (first.take_in(), second.text == first.text)[1], "it to be seen")
+        # Whoever met the other's entry has given the number up.
+        gave_up = first if first.session.number != second.session.number else second
+        old = next(one for one in self.clients(gave_up) if one.retired)
+        second.session.close()
+        form, author = self.form(), None
+        while author is None or rank(form.claim(old.site, author)) > rank(form.claim(old.site, old.author)):
+            author = form.new_author()
+        with contextlib.closing(self.anna.log()) as log:
+            log.append([form.claim(old.site, author).raw])
+        late = self.opened(self.person("late"), link=link)
+        wait_for(lambda: (first.take_in(), late.take_in(), b"three" in late.text)[2], "the text to be back")
+        words = self.assert_meet(first, late).split()
+        self.assertEqual([words.count(one) for one in (b"one", b"two", b"three")], [1, 1, 1])
+
+    def clients(self, note: Note) -> list:
+        """The numbers of who has a note open."""
+        with contextlib.closing(Disk(note.session._disk.path)) as disk:
+            return disk.clients()
+
+    def test_what_another_editor_made_anew_isnt_kept_twice(self) -> None:
+        for person in self.forked() and (self.anna, self.person("copied")):
+            with contextlib.closing(person.disk()) as disk:
+                for one in disk._file.execute("SELECT * FROM anew").fetchall():
+                    with self.assertRaises(Overtaken):
+                        disk.keep([], True, anew=[Anew(*one)])
+
+    def test_a_disk_that_is_full_between_two_steps(self) -> None:
+        for number, step in enumerate(("withdraw", "stands", "keep")):
+            with self.subTest(step=step):
+                if number:
+                    self.doCleanups()
+                    self.setUp()
+                self.begun()
+                first, second = self.opened(self.anna), self.opened(self.copied())
+                self.away()
+                for note, words in (first, "F "), (second, "S "):
+                    wait_for(lambda one=note: one.session.status().offline, "the log to be away")
+                    type_at_the_end(note, words)
+                with mock.patch("share.session.AGAIN_SECONDS", 0.3):
+                    with mock.patch.object(Disk, step, side_effect=Unkept("full")):
+                        self.back()
+                        end = time.monotonic() + 1.2
+                        while time.monotonic() < end:
+                            first.take_in()
+                            second.take_in()
+                            time.sleep(0.02)
+                    # Until there is room the status line says that edits couldn't be made anew.
+                    wait_for(lambda: (first.take_in(), second.take_in(), b"F" in second.text and b"S" in second.text)[2],
+                             "both edits to be there")
+                    self.assertEqual(sorted(self.assert_meet(first, second).split()), sorted(b"one two three F S".split()))
+
+    def test_what_the_log_brings_back_isnt_made_anew(self) -> None:
+        self.begun()
+        with contextlib.closing(self.anna.disk()) as disk:
+            place = disk.rows()[2].place
+        change(self.anna.path(), "UPDATE entry SET raw = x'00' WHERE place = ?", place)
+        read = Session._read
+
+        def slowly(session: Session) -> list:
+            rows = read(session)
+            if hasattr(session, "_courier"):
+                wait_for(session._courier.has_read, "the log to be read")
+            return rows
+
+        with mock.patch.object(Session, "_read", slowly):
+            note = self.opened(self.anna)
+        wait_for(lambda: (note.take_in(), note.text == b"one two three ")[1], "the text to be whole")
+        self.assertEqual(self.assert_meet(note), b"one two three ")
+        self.assertNotIn("Made anew", note.notice)
+
+
+class Damaged(Case):
+    """A note's file of which some pages are damaged."""
+
+    def damaged(self) -> pathlib.Path:
+        """A note of 200 words, some pages of which are overwritten."""
+        person = self.person()
+        note = person.open()
+        for number in range(200):
+            note.type(f"w{number} ")
+        note.session.close()
+        path = person.path()
+        data = bytearray(path.read_bytes())
+        middle = len(data) // 2 // 4096 * 4096
+        data[middle:middle + 2 * 4096] = b"\x55" * (2 * 4096)
+        path.write_bytes(data)
+        return path
+
+    def test_opening_has_what_can_be_read(self) -> None:
+        path = self.damaged()
+        note = self.opened(self.person())
+        self.assertGreater(len(note.text.split()), 20)
+        note.take_in()
+        type_at_the_end(note, "typed")
+        self.assertIn(b"typed", note.text)
+        self.assertTrue(path.with_name("note.note.damaged-1").exists())
+
+    def test_recovering_says_it(self) -> None:
+        path = self.damaged()
+        run = self.note("recover", str(path.parent), VIALSHOAL_DATA=str(self.person().data))
+        self.assertEqual(run.returncode, 0, run.stderr)
+        self.assertRegex(run.stdout, r"note\.2: .* in .*note\.2\.note")
+        self.assertNotIn("Traceback", run.stderr)
+
+
+class Names(Case):
+    """What is taken for something else."""
+
+    def test_a_notes_file_is_no_log(self) -> None:
+        person = self.person()
+        note = person.open("diary")
+        note.type("dear diary")
+        note.session.close()
+        other = self.opened(person, "other", url=str(person.path("diary")))
+        wait_for(lambda: other.session.status().offline, "the log to be away")
+        self.assertIn("isn't a note's log", other.session.status().offline)
+        self.assertEqual(person.text("diary"), b"dear diary")
+
+    def test_renewing_takes_what_the_log_has(self) -> None:
+        anna, berta = self.together(self.file_log(), "anna", "berta")
+        written(anna, "anna ")
+        self.assert_meet(anna, berta)
+        anna.session.close()
+        written(berta, "berta ")
+        run = self.note("renew", "note", VIALSHOAL_DATA=str(self.folder / "anna"))
+        self.assertEqual(run.returncode, 0, run.stderr)
+        self.assertEqual(self.person("anna").text(), b"anna berta ")

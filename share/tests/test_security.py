@@ -1,0 +1,458 @@
+"""What a server's operator, somebody with the link, and another account of the machine can't do: each claim of the page
+on sharing has a test here."""
+import base64
+import contextlib
+import json
+import os
+import pathlib
+import pty
+import socket
+import stat
+import subprocess
+import threading
+import time
+import unittest
+
+from share.courier import PRESENCE
+from share.disk import About
+from share.entry import MOST_BYTES, Author, Entry, Form
+from share.link import Link, read
+from share.message import DELETE, HEADER, INSERT, INSERTION, LENGTH, TAG, TEXT, Message, Names, naming
+from share.note import Note
+from share.tests.servers import Hostile
+from share.tests.servers import RedisServer as Server
+from share.tests.support import (NOTE, TOP, Case, Person, change, python, raws_of, type_at_the_end, wait_for,
+                                 written)
+
+HUGE = 100_000_000
+# More than the 100 MB of one entry that must not be held.
+MOST_MEMORY = 60_000
+# What would have a terminal do something: colours, a title, what is pasted, other control characters of one byte.
+CONTROLS = "\x1b[31m\x1b]0;title\x07\x1b]52;c;d29yZHM=\x07\x9b31m\x08\x7f"
+
+# Joins a note, and prints what it shows as soon as it has some words, and how much memory that took.
+JOINS = """
+import json, os, pathlib, re, sys, time
+from share import link, opening
+from share.session import Session
+session = Session(opening.opened("note", None, link.read(os.environ["VIALSHOAL_LINK"])))
+end = time.monotonic() + 60
+told = []
+while time.monotonic() < end and not (session.text() == b"one two " and (told or sys.argv[1] == "quiet")):
+    session.arrived()
+    told += session.notices()
+    time.sleep(0.05)
+time.sleep(0.5)
+most = int(re.search("VmHWM:\\s+(\\d+)", pathlib.Path("/proc/self/status").read_text())[1])
+print(json.dumps([session.text().decode(), most, told]))
+session.close()
+"""
+
+
+class Tapped:
+    """A line to a server that keeps all that goes to it."""
+
+    def __init__(self, port: int):
+        self.port, self.sent = port, bytearray()
+        self._listening = socket.create_server(("127.0.0.1", 0))
+        self._open = [self._listening]
+        self.url = f"redis://127.0.0.1:{self._listening.getsockname()[1]}"
+        threading.Thread(target=self._listen, daemon=True).start()
+
+    def close(self) -> None:
+        """Listens no more."""
+        for line in self._open:
+            with contextlib.suppress(OSError):
+                line.shutdown(socket.SHUT_RDWR)
+            line.close()
+
+    def _listen(self) -> None:
+        with contextlib.suppress(OSError):
+            while True:
+                client, _ = self._listening.accept()
+                server = socket.create_connection(("127.0.0.1", self.port))
+                self._open += [client, server]
+                for one, other, kept in (client, server, self.sent), (server, client, bytearray()):
+                    threading.Thread(target=self._pass_on, args=(one, other, kept), daemon=True).start()
+
+    def _pass_on(self, one: socket.socket, other: socket.socket, kept: bytearray) -> None:
+        with contextlib.suppress(OSError):
+            while data := one.recv(65_536):
+                kept += data
+                other.sendall(data)
+            other.shutdown(socket.SHUT_RDWR)
+
+
+def insertion(site: int, seq: int, stamp: int, at: int, data: bytes) -> Message:
+    """A message that types at the front of the text."""
+    head = HEADER.pack(TAG, 1, INSERT, TEXT, site, seq, stamp) + INSERTION.pack(0, 0, at, 1) + b"A" + bytes(2)
+    return Message.read(head + LENGTH.pack(len(data)) + data)
+
+
+class Shared(Case):
+    """Each test has a note on a server, in which Ann wrote two words."""
+
+    def setUp(self) -> None:
+        super().setUp()
+        self.server = Server(self.folder / "redis")
+        self.addCleanup(self.server.kill)
+        self.ann = self.person("ann")
+        self.note_of_ann = self.opened(self.ann, url=self.server.url)
+        for words in "one ", "two ":
+            written(self.note_of_ann, words)
+        self.link = self.ann.link()
+        self.about = About(True, read(self.link).secret, self.server.url)
+        self.form: Form = self.about.form()
+
+    @property
+    def key(self) -> str:
+        """The key of the stream of entries."""
+        return f"vialshoal:note:{{{self.form.note.hex()}}}:entries"
+
+    def append(self, *raws: bytes) -> None:
+        """Appends as the server's operator can, whatever it is."""
+        for raw in raws:
+            self.add(raw)
+
+    def add(self, raw: bytes, *fields: bytes) -> None:
+        """One entry of the stream, by the server's own commands."""
+        words = [b"XADD", self.key.encode(), b"*", *(fields or (b"e",)), raw]
+        with self.server.connected() as line:
+            line.sendall(b"*%d\r\n" % len(words) + b"".join(b"$%d\r\n%s\r\n" % (len(one), one) for one in words))
+            self.assertEqual(line.recv(1), b"$")
+
+    def raws(self) -> list[bytes]:
+        """The entries that the server has."""
+        with contextlib.closing(self.ann.log()) as log:
+            return [raw for raw in raws_of(log) if raw is not None]
+
+    def peer(self, site: int, *messages: Message) -> tuple[Author, list[Entry]]:
+        """Somebody with the link who claims a number and sends messages."""
+        author = self.form.new_author()
+        made = [self.form.claim(site, author)]
+        for message in messages:
+            made.append(self.form.entry(made[-1], [message], author))
+        return author, made
+
+    def assert_others_go_on(self, shows: bytes = b"one two ") -> Note:
+        """That who is on and who joins have all, and nothing else, and go on."""
+        bob = self.opened(self.person("bob"), link=self.link)
+        self.assertEqual(bytes(bob.text), shows)
+        type_at_the_end(bob, "three ")
+        type_at_the_end(self.note_of_ann, "four ")
+        wait_for(lambda: (bob.take_in(), self.note_of_ann.take_in(), bob.text == self.note_of_ann.text
+                          and b"three " in bob.text and b"four " in bob.text)[2], "both to show the same")
+        self.assertEqual(sorted(bob.text.split()), sorted(shows.split() + [b"three", b"four"]))
+        return bob
+
+
+class Operators(Shared):
+    """What a server's operator can't do."""
+
+    def test_an_operator_reads_neither_text_nor_who_is_on_nor_keys(self) -> None:
+        tapped = Tapped(self.server.port)
+        self.addCleanup(tapped.close)
+        note = self.opened(self.ann, url=tapped.url)
+        bob = self.opened(self.person("bob"), link=self.link.split("@")[0] + "@" + tapped.url)
+        for words in "marzipan", "gooseberry":
+            written(note, words)
+        self.assert_meet(note, bob)
+        seen = [bytes(tapped.sent), *(path.read_bytes() for path in (self.folder / "redis").rglob("*")
+                                      if path.is_file())]
+        self.assertIn(self.form.note.hex().encode(), seen[0])
+        token = note.session._courier._token
+        self.assertIn(token, seen[0])
+        key = self.about.secret
+        with contextlib.closing(self.ann.disk()) as disk:
+            secrets = [one.author.secret[:32] for one in disk.clients()]
+        unseen = [b"marzipan", b"marz", b"gooseberry", b"one ", b"OT\1", token + bytes(4), token + bytes(3),
+                  PRESENCE.pack(token, 0), key, key.hex().encode(), base64.urlsafe_b64encode(key)[:20], *secrets]
+        for one in unseen:
+            for data in seen:
+                self.assertFalse(one in data, one)
+
+    def test_an_operator_changes_nothing(self) -> None:
+        right = self.note_of_ann.session.last().raw
+        self.note_of_ann.session.close()
+        others = [raw for raw in self.raws() if raw != right]
+        changed = [right[:at] + bytes([right[at] ^ 1]) + right[at + 1:] for at in range(0, len(right), 7)]
+        self.server.cli("DEL", self.key)
+        self.append(*changed, *others, right[:-1], right + b"\0")
+        bob = self.opened(self.person("bob"), link=self.link)
+        self.assertEqual(bytes(bob.text), b"one ")
+        wait_for(lambda: (bob.take_in(), "left out" in bob.notice)[1], "it to be told")
+        self.note_of_ann = self.opened(self.ann)
+        wait_for(lambda: (bob.take_in(), bytes(bob.text) == b"one two ")[1], "the right entry from Ann's disk")
+
+    def test_an_operator_repeats_and_reorders_nothing(self) -> None:
+        self.note_of_ann.erase(0, 4)
+        written(self.note_of_ann, "")
+        written(self.note_of_ann, "end ")
+        raws = self.of_ann()
+        self.server.cli("DEL", self.key)
+        self.append(*reversed(raws), *raws, *raws[:1], *raws)
+        self.assert_others_go_on(b"two end ")
+
+    def of_ann(self) -> list[bytes]:
+        """The entries on Ann's disk."""
+        with contextlib.closing(self.ann.disk()) as disk:
+            return [row.entry.raw for row in disk.rows()]
+
+    def test_an_operator_forges_nothing(self) -> None:
+        forger = About(True, bytes(range(32))).form()
+        author = forger.new_author()
+        claim = forger.claim(7, author)
+        forged = forger.entry(claim, [insertion(7, 1, 1, 0, b"forged")], author)
+        for made in claim, forged:
+            # With the note's identity in place of the other one's.
+            self.add(made.raw[:2] + self.form.note + made.raw[18:])
+            self.add(made.raw)
+        self.assert_others_go_on()
+
+    def test_a_server_named_as_a_private_note_gets_nothing_of_it(self) -> None:
+        diary = self.opened(self.ann, "diary")
+        type_at_the_end(diary, "dear diary")
+        identity = diary.session._form.note
+        tapped = Tapped(self.server.port)
+        self.addCleanup(tapped.close)
+        for name in "vialshoal:note", f"vialshoal:{{{identity.hex()}}}:note", "vialshoal:{note}:note":
+            self.server.cli("SET", name, identity.hex()[:16])
+        note = self.opened(self.ann, url=tapped.url)
+        written(note, "three ")
+        self.assertFalse(identity in tapped.sent or identity.hex().encode() in tapped.sent)
+        self.assertFalse(b"diary" in tapped.sent)
+        with self.ann.here(), self.assertRaisesRegex(Exception, "isn't sealed"):
+            self.ann.open("diary", url=tapped.url)
+
+    def test_an_operator_takes_nothing_from_a_disk(self) -> None:
+        self.server.cli("FLUSHALL")
+        wait_for(lambda: len(self.raws()) >= 3, "the log to be filled again")
+        self.assertEqual(self.ann.text(), b"one two ")
+        self.assert_others_go_on()
+
+    def test_a_key_that_is_something_else(self) -> None:
+        self.server.cli("DEL", self.key)
+        self.server.cli("SET", self.key, "words")
+        wait_for(lambda: self.note_of_ann.session.status().offline, "the log to be offline")
+        type_at_the_end(self.note_of_ann, "three ")
+        self.assertEqual(self.ann.text(), b"one two three ")
+        self.server.cli("DEL", self.key)
+        wait_for(lambda: (self.note_of_ann.take_in(), not self.note_of_ann.session.status().offline)[1],
+                 "the log to be back")
+        wait_for(lambda: len(self.raws()) >= 4, "the log to be filled again")
+
+    def joined(self, *words: str) -> tuple[str, int, list[str]]:
+        """What a process of its own shows that joins the note, its memory in KB, and what it told."""
+        run = subprocess.run([python(), "-B", "-c", JOINS, *words], cwd=TOP, capture_output=True, text=True, check=True,
+                             timeout=120, env={**os.environ, "VIALSHOAL_LINK": self.link,
+                                               "VIALSHOAL_DATA": str(self.folder / "-".join(words))})
+        text, memory, told = json.loads(run.stdout)
+        return text, memory, told
+
+    def test_an_entry_of_100_mb_takes_no_memory(self) -> None:
+        _, before, _ = self.joined("quiet")
+        self.add(bytes(HUGE))
+        text, after, told = self.joined("told")
+        self.assertEqual(text, "one two ")
+        self.assertRegex(told[0], "Entry .* of the log can't be one and was left out")
+        self.assertLess(after - before, MOST_MEMORY)
+
+
+class Peers(Shared):
+    """What somebody with the link can't do."""
+
+    def test_entries_of_another_note_are_left_out(self) -> None:
+        other = About(True, bytes(32)).form()
+        author = other.new_author()
+        claim = other.claim(7, author)
+        self.append(claim.raw, other.entry(claim, [insertion(7, 1, 1, 0, b"other")], author).raw)
+        bob = self.assert_others_go_on()
+        self.assertRegex(bob.notice, "of another note|left out")
+
+    def test_entries_without_a_signature_are_left_out(self) -> None:
+        _, (claim, entry) = self.peer(7, insertion(7, 1, 1, 0, b"unsigned"))
+        self.append(claim.raw, entry.raw[:-64] + bytes(64), entry.raw[:-64])
+        self.assert_others_go_on()
+
+    def test_who_has_the_link_cant_sign_for_another(self) -> None:
+        last, author = self.note_of_ann.session.last(), self.form.new_author()
+        forged = self.form.entry(last, [insertion(last.site, 3, 9, 8, b"not Ann's")], Author(last.author, author.secret))
+        self.append(forged.raw)
+        self.assert_others_go_on()
+        self.assertEqual(self.note_of_ann.session.number, last.site)
+
+    def test_entries_of_anothers_number_are_left_out(self) -> None:
+        last, author = self.note_of_ann.session.last(), self.form.new_author()
+        self.append(self.form.entry(last, [insertion(last.site, 3, 9, 8, b"not Ann's")], author).raw)
+        self.assert_others_go_on()
+        self.assertEqual(self.note_of_ann.session.number, last.site)
+
+    def test_an_entry_over_the_size_is_left_out(self) -> None:
+        _, (claim, _) = self.peer(7, insertion(7, 1, 1, 0, b"x"))
+        self.append(claim.raw + bytes(MOST_BYTES + 1 - len(claim.raw)), claim.raw + bytes(MOST_BYTES - len(claim.raw)))
+        self.assert_others_go_on()
+
+    def test_other_things_in_the_stream_are_left_out(self) -> None:
+        for raw, *fields in ((b"words", b"many"), (b"words", b"e", b"x", b"y"), (b"", b"e"), (b"TEXT", b"message")):
+            self.add(raw, *fields)
+        self.assert_others_go_on()
+
+    def test_the_greatest_stamp_is_held_back(self) -> None:
+        _, made = self.peer(7, insertion(7, 1, 2**48 - 1, 0, b"last "))
+        self.append(*(one.raw for one in made))
+        bob = self.assert_others_go_on()
+        self.assertEqual(bob.session.status().waiting, 1)
+
+    def test_a_message_that_names_what_isnt_there(self) -> None:
+        _, made = self.peer(7, naming(DELETE, 7, 1, 9, [Names(60_000, 5, 3)]))
+        _, wrong = self.peer(8, insertion(8, 1, 9, 5, b"far"))
+        self.append(*(one.raw for one in (*made, *wrong)))
+        bob = self.assert_others_go_on()
+        self.assertEqual(bob.session.status().waiting, 1)
+
+    def test_a_number_that_is_taken_costs_no_text(self) -> None:
+        site = self.note_of_ann.session.number
+        for _ in range(12):
+            _, made = self.peer(site, insertion(site, 1, 1, 0, b"mine "))
+            self.append(made[0].raw)
+        wait_for(lambda: (self.note_of_ann.take_in(), self.note_of_ann.session.status().can_type)[1],
+                 "Ann to have a number")
+        self.assert_others_go_on()
+
+
+class Accounts(Case):
+    """What another account of the machine can't do, nor its terminal."""
+
+    def assert_is_private(self, *kinds: str) -> None:
+        """That nobody else may read or enter anything here, and that there are files of these kinds."""
+        paths = [path for path in self.folder.rglob("*") if not path.is_relative_to(self.folder / "redis")]
+        for path in paths:
+            mode = stat.S_IMODE(path.stat().st_mode)
+            self.assertEqual(oct(mode), oct(0o700 if path.is_dir() else 0o600), path)
+        for kind in kinds:
+            self.assertTrue([path for path in paths if path.name.endswith(kind)], kind)
+
+    def test_nobody_else_reads_files(self) -> None:
+        before = os.umask(0)
+        self.addCleanup(os.umask, before)
+        notes = self.together(self.file_log(), "ann", "bob")
+        written(notes[0], "words")
+        self.assert_is_private(".note", ".note-wal", ".note-shm", ".lock", ".log", ".log-wal", ".log-shm")
+        path = self.person("ann").path()
+        path.unlink()
+        type_at_the_end(notes[0], "more")
+        self.assertTrue(path.exists())
+        self.assert_is_private(".note")
+
+    def test_a_name_is_no_path(self) -> None:
+        for name in "../x", "/tmp/x", "a/../../x", "..", ".", "~nouser", "", "x\n", "x\0", "\x1b[2J":
+            with self.assertRaisesRegex(Exception, "can't be a note's name"):
+                self.person().open(name)
+        self.assertEqual(list(self.folder.iterdir()), [])
+
+    def test_no_key_and_no_password_in_arguments(self) -> None:
+        server = Server(self.folder / "redis", "--requirepass", "gooseberry")
+        self.addCleanup(server.kill)
+        person, password = self.person(), self.folder / "password"
+        password.write_text("gooseberry\n")
+        terminal = Terminal(self, person, "note", "--log", server.url, "--password-file", str(password))
+        wait_for(lambda: (terminal.read(), b"Link: " in terminal.shown)[1], "the link to be asked for")
+        terminal.press(b"\n")
+        wait_for(lambda: (terminal.read(), b"all sent" in terminal.shown)[1], "the editor")
+        link = person.link()
+        secrets = [b"gooseberry", link.split(":")[3].split("@")[0].encode()[:20], read(link).secret]
+        of_server = server.process.pid
+        running = [path for path in pathlib.Path("/proc").glob("[0-9]*/cmdline") if path.parent.name != str(of_server)]
+        for path in running:
+            with contextlib.suppress(OSError):
+                words = path.read_bytes()
+                self.assertFalse(any(one in words for one in secrets), words)
+        run = self.note("note", "--print", "--log", f"redis://:gooseberry@127.0.0.1:{server.port}")
+        self.assert_says(run, "no user or password in it")
+        self.assertNotIn("gooseberry", run.stderr)
+
+    def test_control_characters_do_nothing_to_a_terminal(self) -> None:
+        note = self.opened(self.person())
+        type_at_the_end(note, f"begin {CONTROLS} end")
+        printed = Terminal(self, self.person(), "note", "--print")
+        printed.read_to_end()
+        self.assert_harmless(printed.shown, b"begin ", b" end")
+        # To a file goes what was typed.
+        run = subprocess.run([NOTE, "note", "--print"], capture_output=True, check=True)
+        self.assertEqual(run.stdout.decode(), f"begin {CONTROLS} end")
+        editor = Terminal(self, self.person(), "note")
+        wait_for(lambda: (editor.read(), b"begin" in editor.shown)[1], "the editor")
+        time.sleep(0.3)
+        editor.read()
+        for one in "\x1b[31m", "\x1b]", "\x9b", "\x07":
+            self.assertNotIn(one.encode(), editor.shown)
+
+    def test_what_a_server_says_does_nothing_to_a_terminal(self) -> None:
+        hostile = Hostile(lambda asked: b"-ERR begin " + CONTROLS.encode() + b" end\r\n")
+        self.addCleanup(hostile.close)
+        link = "vialshoal:1:s:" + self.link_of_nobody() + "@" + hostile.url
+        run = self.note("note", "--print", VIALSHOAL_LINK=link)
+        self.assertEqual(run.returncode, 3)
+        self.assertIn("begin", run.stderr)
+        self.assert_harmless(run.stderr.encode())
+        run = self.note("\x1b[31m", "--print")
+        self.assert_harmless(run.stderr.encode())
+        run = self.note("note", "--print", "--link-file", "/\x1b]0;title\x07")
+        self.assert_harmless(run.stderr.encode())
+        run = self.note("recover", "/\x1b]0;title\x07")
+        self.assert_harmless(run.stderr.encode())
+
+    def link_of_nobody(self) -> str:
+        """The secret of a note's link."""
+        return Link("sealed", bytes(32), "redis://127.0.0.1:1").spelled().split(":")[3].split("@")[0]
+
+    def assert_harmless(self, shown: bytes, *parts: bytes) -> None:
+        """That no control characters but line ends are in what was written, and that these parts are."""
+        text = shown.decode("utf-8", "surrogateescape")
+        bad = [one for one in text if one not in "\r\n" and (ord(one) < 32 or 127 <= ord(one) < 160)]
+        self.assertEqual(bad, [], shown)
+        for part in parts:
+            self.assertIn(part, shown)
+
+
+class Terminal:
+    """A run of bin/note in a terminal of its own."""
+
+    def __init__(self, case: Case, person: Person, *words: str):
+        self.shown = b""
+        self.child, self._file = pty.fork()
+        if not self.child:
+            os.environ.update(VIALSHOAL_DATA=str(person.data), TERM="xterm-256color")
+            os.execv(NOTE, [NOTE, *words])
+        os.set_blocking(self._file, False)
+        case.addCleanup(self.end)
+
+    def read(self) -> bool:
+        """Takes what was written; whether something may follow."""
+        try:
+            while data := os.read(self._file, 65_536):
+                self.shown += data
+        except BlockingIOError:
+            return True
+        except OSError:
+            pass
+        return False
+
+    def read_to_end(self) -> None:
+        """Takes all that is written."""
+        wait_for(lambda: not self.read(), "a run to end")
+
+    def press(self, keys: bytes) -> None:
+        """Types keys."""
+        os.write(self._file, keys)
+
+    def end(self) -> None:
+        """Quits."""
+        with contextlib.suppress(OSError):
+            os.write(self._file, b"\x11")
+        wait_for(lambda: (self.read(), os.waitpid(self.child, os.WNOHANG)[0])[1], "a run to end")
+        os.close(self._file)
+
+
+if __name__ == "__main__":
+    unittest.main()
