@@ -196,7 +196,7 @@ class Terminals(Case):
     def test_a_program_that_hangs(self) -> None:
         one, file = Terminal(self, "data", "diary"), self.folder / "saved.txt"
         one.type("text")
-        one.sees("kept here")
+        one.shows("text")
         (program,) = one.programs()
         os.kill(program, signal.SIGSTOP)
         self.addCleanup(os.kill, program, signal.SIGKILL)
