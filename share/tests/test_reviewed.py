@@ -134,9 +134,9 @@ class GivenUp(Case):
         for person in self.anna, self.person("copied"):
             for path in person.path().parent.glob("note.note*"):
                 path.unlink()
-        for note in notes:
-            type_at_the_end(note, "more ")
-        words = b"one two three F0 F1 F2 S0 S1 S2 more more"
+        for note, typed in zip(notes, ("more ", "most ")):
+            type_at_the_end(note, typed)
+        words = b"one two three F0 F1 F2 S0 S1 S2 more most"
         self.assertEqual(sorted(self.assert_meet(*notes).split()), sorted(words.split()))
 
     def test_a_number_that_was_given_up_is_taken(self) -> None:
