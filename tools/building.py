@@ -27,8 +27,9 @@ PROVED_PARTS = ("src", "specs", "proofs")
 # A build that has to prove something takes longer than this, and is reported.
 QUIET_SECONDS = 5
 REPORT_SECONDS = 2
-# A crate that the tool is through with, as its gate and as rt run report it.
-IS_DONE = re.compile(r"^rt: \w+ (?:proved$|is kept)|^logic=proved", re.MULTILINE)
+# A crate that the tool is through with, as rt run and as its gate report it; the gate prints the other line, too.
+IS_DONE_IN_A_RUN = re.compile(r"^logic=proved", re.MULTILINE)
+IS_DONE_IN_THE_GATE = re.compile(r"^rt: \w+ (?:proved$|is kept)", re.MULTILINE)
 
 
 class Unproved(Exception):
@@ -125,8 +126,9 @@ def is_worked_on(crates: Sequence[str]) -> bool:
 class Progress:
     """How far a build is, on standard error: one line that grows on a terminal, and elsewhere a line for each crate."""
 
-    def __init__(self, crates: int) -> None:
-        self.crates, self.began, self.is_terminal = crates, time.monotonic(), sys.stderr.isatty()
+    def __init__(self, crates: int, is_done: re.Pattern[str]) -> None:
+        self.crates, self.is_done = crates, is_done
+        self.began, self.is_terminal = time.monotonic(), sys.stderr.isatty()
         self.has_begun, self.ended = False, threading.Event()
         self.thread = threading.Thread(target=self.report, daemon=True)
 
@@ -147,9 +149,9 @@ class Progress:
         say("the program is proved and built first, which takes minutes; bin/look answers sooner, and proves nothing.")
         say(f"what the tool says is in {LOG.relative_to(TOP)}")
         while True:
-            done = len(IS_DONE.findall(LOG.read_text(errors="replace")))
+            done = len(self.is_done.findall(LOG.read_text(errors="replace")))
             minutes = int(time.monotonic() - self.began) // 60
-            line = f"{PROGRAM}: {min(done, self.crates)} of {self.crates} crates proved, {minutes} minutes so far"
+            line = f"{PROGRAM}: {done} of {self.crates} crates proved, {minutes} minutes so far"
             if self.is_terminal:
                 print(f"\r{line}", end="", file=sys.stderr, flush=True)
             elif done != last:
@@ -171,8 +173,9 @@ def build() -> None:
     crates = needed_crates()
     LOG.parent.mkdir(exist_ok=True)
     LOG.write_bytes(b"")
-    with Progress(len(crates)):
-        if is_worked_on([name for name in crates if name != PROGRAM]):
+    by_itself = is_worked_on([name for name in crates if name != PROGRAM])
+    with Progress(len(crates), IS_DONE_IN_A_RUN if by_itself else IS_DONE_IN_THE_GATE):
+        if by_itself:
             call(["rt", "run"], CRATE)
         else:
             prove_side_by_side(crates)

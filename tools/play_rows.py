@@ -8,16 +8,19 @@ from collections.abc import Sequence
 from pathlib import Path
 
 from tools import TOP, rows
+from tools.building import BUILT
 from tools.running import lay, run
 
 
-def program() -> str | None:
-    """What runs the program. VIALSHOAL_PROGRAM may name another executable."""
+NOTHING_BUILT = "nothing is built here; bin/site_cli proves and builds the program"
+
+
+def program(runs_it: Path = TOP / "bin" / "built") -> str | None:
+    """What runs the program, if it is built. VIALSHOAL_PROGRAM may name another executable."""
     named = os.environ.get("VIALSHOAL_PROGRAM")
     if named:
         return os.path.abspath(named)
-    built = TOP / "crates" / "site_cli" / "out" / "site_cli"
-    return str(TOP / "bin" / "built") if built.is_file() else None
+    return str(runs_it) if BUILT.is_file() else None
 
 
 def play(row: rows.Row, command: str) -> list[str]:
@@ -32,7 +35,7 @@ def play(row: rows.Row, command: str) -> list[str]:
 def main(wanted: Sequence[str]) -> int:
     command = program()
     if command is None:
-        print("rows: nothing is built here; bin/site_cli proves and builds the program", file=sys.stderr)
+        print(f"rows: {NOTHING_BUILT}", file=sys.stderr)
         return 2
     known = rows.names()
     unknown = [name for name in wanted if name not in known]

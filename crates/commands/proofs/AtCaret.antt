@@ -3,7 +3,7 @@ use Rattle.std.proofs.Common.{◌≡◌, ◌⊎◌, ℕ, ◌+◌, ◌-◌, ◌�
 use Rattle.std.proofs.Common.{None, Result, Ok, Err, refl, sym, ap, subst, ◌∙◌, inl, inr, arith, length-append}
 use Rattle.std.specs.Prelude.{◌==◌, if◌then◌else◌, option_map, slice_get, slice_set}
 use Rattle.std.proofs.lemmas.Bool.Decides.{Decides-eqb}
-use Rattle.std.proofs.lemmas.List.{take-append-drop}
+use Rattle.std.proofs.lemmas.List.{set-set, take-append-drop}
 use Rattle.looks.specs.declared.refusal.Refusal.TheVariants.{NoCaret}
 use Rattle.char_files.specs.Stretch.{Item}
 use Rattle.char_files.specs.declared.character.Char.{Char}
@@ -17,21 +17,22 @@ use Rattle.texts.specs.TextState.{TextState, all_told, shown_of}
 use Rattle.texts.specs.declared.edit_refusal.EditRefusal.{EditRefusal}
 use Rattle.texts.specs.declared.edit_refusal.EditRefusal.TheVariants.{Whole, Partial}
 use Rattle.machine.specs.DeskState.{DeskState, InText, IsTextOf}
-use Rattle.machine.specs.Machine.{Does, EditsDesk, EditsText, EditsTextShort, IsTextAt, Replies, Reply, Short, State, alone}
-use Rattle.machine.specs.Machine.{edit, edit_reply, refuses}
-use Rattle.machine.specs.Whole.{AtCaret, DoesTask, Refuses, RunReplies, RunReply, RunState, ShortTask, ask, caret_after, of_text}
-use Rattle.machine.specs.Whole.{told_at, untouched}
+use Rattle.machine.specs.Events.{Reply, ask, edit_reply, messages_of, refuses, untouched}
+use Rattle.machine.specs.Machine.{Replies}
+use Rattle.machine.specs.OnTexts.{EditsDesk, EditsText, EditsTextShort}
+use Rattle.machine.specs.State.{IsTextAt, Refuses, State, with_screen_at}
+use Rattle.machine.specs.Tasks.{AtCaret, DoesTask, EditsAt, EditsShortAt, ShortTask, caret_after}
 use Rattle.machine.specs.Windows.{Caret, Screened, Window, place_in, shown_by, window_of}
 use Rattle.machine_laws.proofs.Arranging.{shows_so}
-use Rattle.machine_laws.proofs.OneReply.{one_element}
-use Rattle.machine_laws.proofs.OneRunReply.{shown_parts}
+use Rattle.machine_laws.proofs.OneOfTexts.{one_element}
+use Rattle.machine_laws.proofs.OneReply.{shown_parts}
 use Rattle.machine_laws.proofs.Rooms.{by_test}
 use Rattle.machine_laws.proofs.Telling.{put_there}
 use Rattle.desk_windows.proofs.Scrolling.{shown_is}
 use Rattle.desk_windows.specs.Windows.{AreOf, HasMovedTo, IsCaretPlace, WindowsSeen, screened, windows_of}
 use Rattle.desk_windows.specs.Windows.{window_of as seen_as}
-use Rattle.commands.proofs.Lifting.{HasText, edited_in, replies_lifted}
-use Rattle.commands.proofs.Steps.{Asked, run_stays, told_state}
+use Rattle.commands.proofs.Lifting.{HasText}
+use Rattle.commands.proofs.Steps.{Asked, at_text, run_stays}
 use Rattle.commands.specs.Putting.{edit_of, task_of_put}
 use Rattle.commands.specs.Steps.{DeskSeen, IsEditStep, StandsIn, with_desk}
 
@@ -100,22 +101,22 @@ caret_moves t u was old more =
     (unequal_is (length (shown_of u)) (length (shown_of t)) (λ same. omega arith))
 
 -- what is put in at the caret is the task's
-module _ (s : RunState) (i : ℕ) (d : DeskState) (w : Screened) (c : Caret) (shown : Window × TextState) where
-  put_does : (what : Option (List Item)) (r : RunReply) (new : RunState) → w.caret ≡ Some c
-      → window_of d w c.viewer ≡ Some shown → AtCaret Does s i w c shown.0 shown.1 (edit_of what) r new
+module _ (s : State) (i : ℕ) (d : DeskState) (w : Screened) (c : Caret) (shown : Window × TextState) where
+  put_does : (what : Option (List Item)) (r : Reply) (new : State) → w.caret ≡ Some c
+      → window_of d w c.viewer ≡ Some shown → AtCaret EditsAt s i w c shown.0 shown.1 (edit_of what) r new
       → DoesTask s i d w (task_of_put what) untouched r new
   put_does (Some items) r new caret at does = inr (c, shown, caret, at, (refl, does))
   put_does None r new caret at does = inr (c, shown, caret, at, (refl, does))
 
-  put_short : (what : Option (List Item)) (r : RunReply) (new : RunState) → w.caret ≡ Some c
-      → window_of d w c.viewer ≡ Some shown → AtCaret Short s i w c shown.0 shown.1 (edit_of what) r new
+  put_short : (what : Option (List Item)) (r : Reply) (new : State) → w.caret ≡ Some c
+      → window_of d w c.viewer ≡ Some shown → AtCaret EditsShortAt s i w c shown.0 shown.1 (edit_of what) r new
       → ShortTask s i d w (task_of_put what) untouched r new
   put_short (Some items) r new caret at short = (refl, (c, shown, caret, at, short))
   put_short None r new caret at short = (refl, (c, shown, caret, at, short))
 
 -- without a caret it is refused
-put_without_caret : (s : RunState) (i : ℕ) (d : DeskState) (w : Screened) (what : Option (List Item)) (r : RunReply)
-    (new : RunState) → w.caret ≡ None → Refuses s NoCaret r new → DoesTask s i d w (task_of_put what) untouched r new
+put_without_caret : (s : State) (i : ℕ) (d : DeskState) (w : Screened) (what : Option (List Item)) (r : Reply)
+    (new : State) → w.caret ≡ None → Refuses s NoCaret r new → DoesTask s i d w (task_of_put what) untouched r new
 put_without_caret s i d w (Some items) r new none refused = inl (none, refl, refused)
 put_without_caret s i d w None r new none refused = inl (none, refl, refused)
 
@@ -132,7 +133,7 @@ pub record IsPutIn (d d' new : DeskState) (old mid : WindowsSeen) (place : ℕ �
   pub anchor : IsAnchor t.operations c.anchor
   pub on : place.0 ≡ window.text
   pub at : place.1 ≡ place_in t c.anchor
-  pub edited : EditsDesk d (edit 0 window.text (edit_of what (place_in t c.anchor))) result d' before after
+  pub edited : EditsDesk d window.text (edit_of what (place_in t c.anchor)) result d' before after
   pub told : Asked d' window.text new
   pub same : screened mid ≡ screened old
 
@@ -153,7 +154,7 @@ anchored d w c shown are is_caret shows =
 -- what is put in at the caret's place is put in so
 pub put_at : (d d' new : DeskState) (old mid : WindowsSeen) (place : ℕ × ℕ) (what : Option (List Item)) (result : Result ℕ EditRefusal)
     (before after : List (List ℕ)) → AreOf d old → IsCaretPlace d old (Some place) → HasText d place.0
-    → EditsDesk d (edit 0 place.0 (edit_of what place.1)) result d' before after → Asked d' place.0 new
+    → EditsDesk d place.0 (edit_of what place.1) result d' before after → Asked d' place.0 new
     → screened mid ≡ screened old → IsPutIn d d' new old mid place what result before after
 put_at d d' new old mid place what result before after are (c, shown, caret, shows, text, pos) (t, at, is) edited told same =
     let one : t ≡ shown.1 = one_element (slice_get d.texts (shown.0.text - 1)) t shown.1
@@ -168,8 +169,8 @@ put_at d d' new old mid place what result before after are (c, shown, caret, sho
       anchor = anchored d old c shown are caret shows;
       on = text;
       at = pos;
-      edited = subst (λ (n : ℕ). EditsDesk d (edit 0 n (edit_of what (place_in shown.1 c.anchor))) result d' before after) text
-          (subst (λ (n : ℕ). EditsDesk d (edit 0 place.0 (edit_of what n)) result d' before after) pos edited);
+      edited = subst (λ (n : ℕ). EditsDesk d n (edit_of what (place_in shown.1 c.anchor)) result d' before after) text
+          (subst (λ (n : ℕ). EditsDesk d place.0 (edit_of what n) result d' before after) pos edited);
       told = subst (λ (n : ℕ). Asked d' n new) text told;
       same = same;
     }
@@ -182,10 +183,12 @@ module _ {d d' new : DeskState} {old mid : WindowsSeen} {place : ℕ × ℕ} {wh
   parts : (shown_by c.viewer (screened old).windows ≡ Some window) × IsTextOf d window.text t
   parts = shown_parts d (screened old) c.viewer (window, t) shown
 
-  put_so : InText (λ x u. EditsText (edit_of what (place_in t c.anchor)) (edit_reply result edited.0) x u
-      ⊎ EditsTextShort (edit_of what (place_in t c.anchor)) (edit_reply result edited.0) x u) d window.text d'
-  put_so =
-      edited_in d d' window.text (edit_of what (place_in t c.anchor)) (edit_reply result edited.0) before after edited.2
+  abbrev messages : List (List ℕ)
+  messages = edited.3.0
+
+  put_so : InText (λ x u. EditsText (edit_of what (place_in t c.anchor)) (edit_reply result messages) x u
+      ⊎ EditsTextShort (edit_of what (place_in t c.anchor)) (edit_reply result messages) x u) d window.text d'
+  put_so = (edited.0, edited.1, edited.2, edited.3.3, edited.4)
 
   pub text_then : TextState
   text_then = put_so.1
@@ -207,7 +210,7 @@ module _ {d d' new : DeskState} {old mid : WindowsSeen} {place : ℕ × ℕ} {wh
   no_less =
       let one : put_so.0 ≡ t = one_element (slice_get d.texts (window.text - 1)) put_so.0 t put_so.2 parts.1 in
       subst (λ (x : TextState). length (shown_of x) ≤ length (shown_of put_so.1)) one
-      (inserts_no_less put_so.0 put_so.1 (place_in t c.anchor) what (edit_reply result edited.0) put_so.3)
+      (inserts_no_less put_so.0 put_so.1 (place_in t c.anchor) what (edit_reply result messages) put_so.3)
 
   caret_there : mid.caret ≡ Some c
   caret_there = ap (λ (w : Screened). w.caret) same ∙ caret
@@ -259,48 +262,66 @@ module _ {d d' new : DeskState} {old mid : WindowsSeen} {place : ℕ × ℕ} {wh
         caret = Some (record c { anchor = sym (caret_moves t text_then (place_in t c.anchor) c.anchor more) k });
       })
 
+  -- the run with the texts as they are then
+  abbrev mid_of : State → ℕ → State
+  mid_of s i = with_desk s i (record { texts = new; screen = screened old }) after
+
   -- so what is put in is one step of every run in which the desk stands
   put_step : (seen : DeskSeen) (w : Screened) → record { texts = d; screen = screened old } ≡ seen → CaretIsSet w
       → IsEditStep seen (λ i. ask i (task_of_put what)) result (record { texts = new; screen = w }) before after
   put_step seen w is set =
       subst (λ (x : DeskSeen). IsEditStep x (λ i. ask i (task_of_put what)) result (record { texts = new; screen = w }) before after) is
-      (edited.0, edited.1, steps)
+      (messages, edited.3.1, steps)
     where
-      steps : (s : RunState) (i : ℕ) → StandsIn s i (record { texts = d; screen = screened old }) → s.texts.sent ≡ before
-          → RunReplies s (ask i (task_of_put what)) untouched (of_text (edit_reply result edited.0))
+      there_in_mid : (s : State) (i : ℕ) → StandsIn s i (record { texts = d; screen = screened old })
+          → IsTextAt (mid_of s i) i window.text (all_told text_then)
+      there_in_mid s i stands = (new, put_there s.desks i d new stands.texts, in_new)
+
+      set_in_mid : (s : State) (i : ℕ) → with_desk s i (record { texts = new; screen = w }) after
+          ≡ with_screen_at (mid_of s i) i (record (screened old)
+          { caret = Some (record c { anchor = caret_after t (all_told text_then) (place_in t c.anchor) c.anchor }) })
+      set_in_mid s i = λ k. record s {
+        desks = slice_set s.desks i new;
+        screens = (ap (slice_set s.screens i) set ∙ sym (set-set s.screens i (screened old) (record (screened old)
+            { caret = Some (record c { anchor = caret_after t (all_told text_then) (place_in t c.anchor) c.anchor }) }))) k;
+        sent = after;
+      }
+
+      steps : (s : State) (i : ℕ) → StandsIn s i (record { texts = d; screen = screened old }) → s.sent ≡ before
+          → Replies s (ask i (task_of_put what)) untouched (edit_reply result messages)
           (with_desk s i (record { texts = new; screen = w }) after)
       steps s i stands sent =
-          let mid_state : State = record s.texts { desks = slice_set s.texts.desks i d'; sent = after } in
-          let replies : Replies (alone d s.texts.sent) (edit 0 window.text (edit_of what (place_in t c.anchor)))
-          (edit_reply result edited.0) (alone d' after) =
-          subst (λ (all : List (List ℕ)). Replies (alone d all) (edit 0 window.text (edit_of what (place_in t c.anchor)))
-          (edit_reply result edited.0) (alone d' after)) (sym sent) edited.2 in
-          let at_then : IsTextAt mid_state i window.text text_then = (d', put_there s.texts.desks i d d' stands.texts, there_then) in
-          let run : with_desk s i (record { texts = new; screen = w }) after ≡ record s {
-            texts = told_at mid_state i window.text;
-            screens = slice_set s.screens i (record (screened old)
-                { caret = Some (record c { anchor = caret_after t text_then (place_in t c.anchor) c.anchor }) });
-          } = (λ k. record s {
-            texts = sym (told_state s i d (screened old) stands d' new after window.text told) k;
-            screens = slice_set s.screens i (set k);
-          }) in
-          elim (replies_lifted s.texts i d d' after stands.texts (edit 0 window.text (edit_of what (place_in t c.anchor)))
-          (edit_reply result edited.0) tt replies) [
+          let more : after ≡ s.sent ++ messages_of (edit_reply result messages) =
+          edited.3.2 ∙ ap (λ (all : List (List ℕ)). all ++ messages_of (edit_reply result messages)) (sym sent) in
+          let run = with_desk s i (record { texts = new; screen = w }) after in
+          let e = edit_of what (place_in t c.anchor) in
+          elim (edited.3.3) [
             | inl does ↦ inl (
               d,
               screened old,
               stands,
-              put_does s i d (screened old) c (window, t) what (of_text (edit_reply result edited.0))
-                  (with_desk s i (record { texts = new; screen = w }) after) caret shown
-                  (edit_reply result edited.0, mid_state, text_then, does, at_then, refl, run),
+              put_does s i d (screened old) c (window, t) what (edit_reply result messages) run caret shown (
+                mid_of s i,
+                all_told text_then,
+                at_text s i d (screened old) stands (EditsText e (edit_reply result messages)) window.text d' new (screened old)
+                    (messages_of (edit_reply result messages)) after (edited.0, edited.1, edited.2, does, edited.4) told refl more,
+                there_in_mid s i stands,
+                set_in_mid s i,
+              ),
             )
             | inr short ↦ inr (
               d,
               screened old,
               stands,
-              put_short s i d (screened old) c (window, t) what (of_text (edit_reply result edited.0))
-                  (with_desk s i (record { texts = new; screen = w }) after) caret shown
-                  (edit_reply result edited.0, mid_state, text_then, short, at_then, refl, run),
+              put_short s i d (screened old) c (window, t) what (edit_reply result messages) run caret shown (
+                mid_of s i,
+                all_told text_then,
+                at_text s i d (screened old) stands (EditsTextShort e (edit_reply result messages)) window.text d' new
+                    (screened old) (messages_of (edit_reply result messages)) after
+                    (edited.0, edited.1, edited.2, short, edited.4) told refl more,
+                there_in_mid s i stands,
+                set_in_mid s i,
+              ),
             )
           ]
 
@@ -360,7 +381,7 @@ no_caret_step seen d w is none what sent =
         d,
         w,
         stands,
-        put_without_caret s i d w what (of_text (refuses NoCaret)) (with_desk s i (record { texts = d; screen = w }) sent) none (
+        put_without_caret s i d w what (refuses NoCaret) (with_desk s i (record { texts = d; screen = w }) sent) none (
           refl,
           (λ k. with_desk s i (record { texts = d; screen = w }) (sym same k)) ∙ sym (run_stays s i d w stands),
         ),

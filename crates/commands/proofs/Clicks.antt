@@ -18,9 +18,11 @@ use Rattle.texts.specs.TextState.{TextState, shown_items, shown_of}
 use Rattle.machine.specs.DeskState.{DeskState, IsTextOf}
 use Rattle.viewers.specs.Screen.{area_of}
 use Rattle.viewers.specs.declared.screen.Area.{Area}
-use Rattle.machine.specs.Whole.{IsTaskAt, IsTaskOfCall, Task, clicked, clicked_in, is_caret_sign, refuse, task_of, Clicked as ClickedSeen}
+use Rattle.machine.specs.Commands.{Clicked as ClickedSeen, IsTaskAt, IsTaskOfCall, clicked, clicked_in, is_caret_sign}
+use Rattle.machine.specs.Commands.{task_of}
+use Rattle.machine.specs.Events.{Task, refuse}
 use Rattle.machine.specs.Windows.{Marked, Screened, Window, bytes_shown, marked, viewer_with, window_of}
-use Rattle.machine_laws.proofs.OneReply.{one_element}
+use Rattle.machine_laws.proofs.OneOfTexts.{one_element}
 use Rattle.desk_windows.specs.Pointing.{IsClick, IsPlaceOf}
 use Rattle.desk_windows.specs.Windows.{IsTextShown, WindowsSeen, screened}
 use Rattle.desk_windows.specs.declared.pointing.Clicked.{Clicked}

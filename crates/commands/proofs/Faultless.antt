@@ -13,12 +13,15 @@ use Rattle.texts.specs.declared.edit_refusal.EditRefusal.{EditRefusal}
 use Rattle.texts.specs.declared.edit_refusal.EditRefusal.TheVariants.{Whole, Partial}
 use Rattle.viewers.specs.declared.screen.Track.{Track}
 use Rattle.machine.specs.DeskState.{DeskState}
-use Rattle.machine.specs.Machine.{Does, EditsText, EditsTextShort, Reply, Short, State, alone, edit, edit_reply, refuses}
-use Rattle.machine.specs.Whole.{Change, DoesTask, Refuses, RunReplies, RunReply, RunState, ShortTask, Task, arrange, ask, change, done}
-use Rattle.machine.specs.Whole.{dress_marked, forget, load, of_text, opens}
-use Rattle.machine.specs.Whole.{keep, print, put, put_recalled, refuse, reopen, search, store, untouched, with_screen_at, with_told}
-use Rattle.machine.specs.Windows.{Arranged, Marked, Screened, close, closed_at, marked, move, open_in, opened_at, place_in, point}
-use Rattle.machine.specs.Windows.{scroll, select}
+use Rattle.machine.specs.Commands.{Change, dress_marked, with_told}
+use Rattle.machine.specs.Events.{Reply, Task, arrange, ask, change, done, edit_reply, forget, keep, load, opens, print}
+use Rattle.machine.specs.Events.{put, put_recalled, refuse, refuses, reopen, search, store, untouched}
+use Rattle.machine.specs.Machine.{Replies}
+use Rattle.machine.specs.OnTexts.{EditsText, EditsTextShort}
+use Rattle.machine.specs.State.{Refuses, State, with_screen_at}
+use Rattle.machine.specs.Tasks.{DoesTask, EditsAt, EditsShortAt, ShortTask}
+use Rattle.machine.specs.Windows.{Arranged, Marked, Screened, closed_at, marked, opened_at, place_in}
+use Rattle.machine.specs.declared.asked.Arrangement.TheVariants.{Close, Move, Open, Point, Scroll, Select}
 use Rattle.machine_laws.proofs.Rooms.{by_test}
 use Rattle.commands.proofs.Shelves.{sent_replies}
 use Rattle.commands.specs.declared.answer.Answer.{Answer}
@@ -37,10 +40,6 @@ IsSound why = is_fault why ≡ false
 abbrev IsSoundReply : Reply → Type 0
 IsSoundReply (refuses why) = IsSound why
 IsSoundReply other = ⊤
-
-abbrev IsSoundRun : RunReply → Type 0
-IsSoundRun (of_text r) = IsSoundReply r
-IsSoundRun other = ⊤
 
 -- ---- edits
 
@@ -102,15 +101,13 @@ text_sound_short e r t new (within, inl (result, messages, edits, shows, replied
 text_sound_short e r t new (within, inr (some, replied, same)) = subst IsSoundReply (sym replied) refl
 
 -- an edit of a run's text
-run_sound : (s : State) (i text : ℕ) (e : Edit) (told : Reply) (mid : State) (r : RunReply) → Does s (edit i text e) told mid
-    → r ≡ of_text told → IsSoundRun r
-run_sound s i text e told mid r (d, d', at, (t, t', there, edits, changed), is_mid) is =
-    subst IsSoundRun (sym is) (text_sound e told t t' edits)
+run_sound : (s : State) (i text : ℕ) (e : Edit) (r : Reply) (mid : State) → EditsAt s i text e r mid → IsSoundReply r
+run_sound s i text e r mid (d, d', at, (t, u, there, (t', edits, told), changed), is_mid) = text_sound e r t t' edits
 
-run_sound_short : (s : State) (i text : ℕ) (e : Edit) (told : Reply) (mid : State) (r : RunReply)
-    → Short s (edit i text e) told mid → r ≡ of_text told → IsSoundRun r
-run_sound_short s i text e told mid r (d, d', at, (t, t', there, edits, changed), is_mid) is =
-    subst IsSoundRun (sym is) (text_sound_short e told t t' edits)
+run_sound_short : (s : State) (i text : ℕ) (e : Edit) (r : Reply) (mid : State) → EditsShortAt s i text e r mid
+    → IsSoundReply r
+run_sound_short s i text e r mid (d, d', at, (t, u, there, (t', edits, told), changed), is_mid) =
+    text_sound_short e r t t' edits
 
 -- ---- arrangements
 
@@ -134,12 +131,12 @@ closed_sound w v = by _ _
     by true out = tt
     by false out = refl
 
-arranged_sound : (out : Arranged) (s : RunState) (i : ℕ) (r : RunReply) (new : RunState) → IsSoundOut out
+arranged_sound : (out : Arranged) (s : State) (i : ℕ) (r : Reply) (new : State) → IsSoundOut out
     → MatchResult out (λ x. (r ≡ option_map_or (λ v. opens v) x.1 done) × (new ≡ with_screen_at s i x.0))
-    (λ why. Refuses s why r new) → IsSoundRun r
-arranged_sound (Ok (w, None)) s i r new sound (is, is_new) = subst IsSoundRun (sym is) tt
-arranged_sound (Ok (w, Some v)) s i r new sound (is, is_new) = subst IsSoundRun (sym is) tt
-arranged_sound (Err why) s i r new sound (is, is_new) = subst IsSoundRun (sym is) sound
+    (λ why. Refuses s why r new) → IsSoundReply r
+arranged_sound (Ok (w, None)) s i r new sound (is, is_new) = subst IsSoundReply (sym is) tt
+arranged_sound (Ok (w, Some v)) s i r new sound (is, is_new) = subst IsSoundReply (sym is) tt
+arranged_sound (Err why) s i r new sound (is, is_new) = subst IsSoundReply (sym is) sound
 
 -- ---- tasks
 
@@ -153,82 +150,83 @@ IsSoundTask (store text name) = ⊤
 IsSoundTask (search bytes) = ⊤
 IsSoundTask (change text e) = ⊤
 IsSoundTask (forget text) = ⊤
-IsSoundTask (arrange (open_in track text row)) = ⊤
-IsSoundTask (arrange (close v)) = ⊤
-IsSoundTask (arrange (move v row)) = ⊥
-IsSoundTask (arrange (scroll v line)) = ⊥
-IsSoundTask (arrange (point col row)) = ⊥
-IsSoundTask (arrange (select col row col' row')) = ⊥
+IsSoundTask (arrange (Open track text row)) = ⊤
+IsSoundTask (arrange (Close v)) = ⊤
+IsSoundTask (arrange (Move v row)) = ⊥
+IsSoundTask (arrange (Scroll v line)) = ⊥
+IsSoundTask (arrange (Point cell)) = ⊥
+IsSoundTask (arrange (Select beg end)) = ⊥
 IsSoundTask (print v) = ⊤
 IsSoundTask (keep text name) = ⊥
 IsSoundTask (reopen text name) = ⊥
 
-module _ (s : RunState) (i : ℕ) (d : DeskState) (w : Screened) where
-  does_sound : (task : Task) (r : RunReply) (new : RunState) → IsSoundTask task → DoesTask s i d w task untouched r new
-      → IsSoundRun r
-  does_sound (refuse why) r new sound (part, (is, same)) = subst IsSoundRun (sym is) sound
-  does_sound (put items) r new sound (inl (none, part, (is, same))) = subst IsSoundRun (sym is) refl
-  does_sound (put items) r new sound (inr (c, shown, caret, at, (part, (told, mid, t', does, there, is, is_new)))) =
-      run_sound s.texts i shown.0.text (insertion (place_in shown.1 c.anchor) items) told mid r does is
-  does_sound put_recalled r new sound (inl (none, part, (is, same))) = subst IsSoundRun (sym is) refl
-  does_sound put_recalled r new sound (inr (c, shown, caret, at, (part, (told, mid, t', does, there, is, is_new)))) =
-      run_sound s.texts i shown.0.text (recalling (place_in shown.1 c.anchor)) told mid r does is
-  does_sound (load name) r new sound (inl (none, part, (is, same))) = subst IsSoundRun (sym is) refl
+module _ (s : State) (i : ℕ) (d : DeskState) (w : Screened) where
+  does_sound : (task : Task) (r : Reply) (new : State) → IsSoundTask task → DoesTask s i d w task untouched r new
+      → IsSoundReply r
+  does_sound (refuse why) r new sound (part, (is, same)) = subst IsSoundReply (sym is) sound
+  does_sound (put items) r new sound (inl (none, part, (is, same))) = subst IsSoundReply (sym is) refl
+  does_sound (put items) r new sound (inr (c, shown, caret, at, (part, (mid, t', does, there, is_new)))) =
+      run_sound s i shown.0.text (insertion (place_in shown.1 c.anchor) items) r mid does
+  does_sound put_recalled r new sound (inl (none, part, (is, same))) = subst IsSoundReply (sym is) refl
+  does_sound put_recalled r new sound (inr (c, shown, caret, at, (part, (mid, t', does, there, is_new)))) =
+      run_sound s i shown.0.text (recalling (place_in shown.1 c.anchor)) r mid does
+  does_sound (load name) r new sound (inl (none, part, (is, same))) = subst IsSoundReply (sym is) refl
   does_sound (load name) r new sound (inr (c, shown, caret, at, loads)) = absurd loads
-  does_sound (store text name) r new sound (t, at, (long, (is, same))) = subst IsSoundRun (sym is) refl
-  does_sound (search bytes) r new sound (inl (none, part, (is, same))) = subst IsSoundRun (sym is) refl
+  does_sound (store text name) r new sound (t, at, (long, (is, same))) = subst IsSoundReply (sym is) refl
+  does_sound (search bytes) r new sound (inl (none, part, (is, same))) = subst IsSoundReply (sym is) refl
   does_sound (search bytes) r new sound (inr (c, shown, caret, at, (part, inl (q, first, is, is_new)))) =
-      subst IsSoundRun (sym is) tt
+      subst IsSoundReply (sym is) tt
   does_sound (search bytes) r new sound (inr (c, shown, caret, at, (part, inr (none, is, same)))) =
-      subst IsSoundRun (sym is) tt
-  does_sound (change text e) r new sound (part, (told, mid, does, is, is_new)) = run_sound s.texts i text e told mid r does is
-  does_sound (forget text) r new sound (part, (t, mid, at, emptied, is, is_new)) = subst IsSoundRun (sym is) tt
-  does_sound (arrange (open_in track text row)) r new sound (part, out) =
+      subst IsSoundReply (sym is) tt
+  does_sound (change text e) r new sound (part, does) = run_sound s i text e r new does
+  does_sound (forget text) r new sound (part, (e, e', at, (t, u, there, (t', (is, emptied), told), changed), is_new)) =
+      subst IsSoundReply (sym is) tt
+  does_sound (arrange (Open track text row)) r new sound (part, out) =
       arranged_sound (opened_at w track text row) s i r new (opened_sound w track text row) out
-  does_sound (arrange (close v)) r new sound (part, out) =
+  does_sound (arrange (Close v)) r new sound (part, out) =
       arranged_sound (closed_at w v) s i r new (closed_sound w v) out
-  does_sound (arrange (move v row)) r new sound does = absurd sound
-  does_sound (arrange (scroll v line)) r new sound does = absurd sound
-  does_sound (arrange (point col row)) r new sound does = absurd sound
-  does_sound (arrange (select col row col' row')) r new sound does = absurd sound
-  does_sound (print v) r new sound (part, is, same) = subst IsSoundRun (sym is) tt
+  does_sound (arrange (Move v row)) r new sound does = absurd sound
+  does_sound (arrange (Scroll v line)) r new sound does = absurd sound
+  does_sound (arrange (Point cell)) r new sound does = absurd sound
+  does_sound (arrange (Select beg end)) r new sound does = absurd sound
+  does_sound (print v) r new sound (part, is, same) = subst IsSoundReply (sym is) tt
   does_sound (keep text name) r new sound does = absurd sound
   does_sound (reopen text name) r new sound does = absurd sound
 
-  short_sound : (task : Task) (r : RunReply) (new : RunState) → ShortTask s i d w task untouched r new → IsSoundRun r
+  short_sound : (task : Task) (r : Reply) (new : State) → ShortTask s i d w task untouched r new → IsSoundReply r
   short_sound (refuse why) r new short = absurd short
-  short_sound (put items) r new (part, (c, shown, caret, at, (told, mid, t', does, there, is, is_new))) =
-      run_sound_short s.texts i shown.0.text (insertion (place_in shown.1 c.anchor) items) told mid r does is
-  short_sound put_recalled r new (part, (c, shown, caret, at, (told, mid, t', does, there, is, is_new))) =
-      run_sound_short s.texts i shown.0.text (recalling (place_in shown.1 c.anchor)) told mid r does is
-  short_sound (load name) r new (c, shown, caret, at, (is, same)) = subst IsSoundRun (sym is) refl
-  short_sound (store text name) r new (part, long, (is, same)) = subst IsSoundRun (sym is) refl
+  short_sound (put items) r new (part, (c, shown, caret, at, (mid, t', does, there, is_new))) =
+      run_sound_short s i shown.0.text (insertion (place_in shown.1 c.anchor) items) r mid does
+  short_sound put_recalled r new (part, (c, shown, caret, at, (mid, t', does, there, is_new))) =
+      run_sound_short s i shown.0.text (recalling (place_in shown.1 c.anchor)) r mid does
+  short_sound (load name) r new (c, shown, caret, at, (is, same)) = subst IsSoundReply (sym is) refl
+  short_sound (store text name) r new (part, long, (is, same)) = subst IsSoundReply (sym is) refl
   short_sound (search bytes) r new short = absurd short
-  short_sound (change text e) r new (part, (told, mid, does, is, is_new)) = run_sound_short s.texts i text e told mid r does is
+  short_sound (change text e) r new (part, does) = run_sound_short s i text e r new does
   short_sound (forget text) r new short = absurd short
-  short_sound (arrange (open_in track text row)) r new (part, well, (is, same)) = subst IsSoundRun (sym is) refl
-  short_sound (arrange (close v)) r new short = absurd short
-  short_sound (arrange (move v row)) r new short = absurd short
-  short_sound (arrange (scroll v line)) r new short = absurd short
-  short_sound (arrange (point col row)) r new short = absurd short
-  short_sound (arrange (select col row col' row')) r new short = absurd short
-  short_sound (print v) r new (part, (is, same)) = subst IsSoundRun (sym is) refl
-  short_sound (keep text name) r new (part, few, (is, same)) = subst IsSoundRun (sym is) refl
-  short_sound (reopen text name) r new (fresh, (is, same)) = subst IsSoundRun (sym is) refl
+  short_sound (arrange (Open track text row)) r new (part, well, (is, same)) = subst IsSoundReply (sym is) refl
+  short_sound (arrange (Close v)) r new short = absurd short
+  short_sound (arrange (Move v row)) r new short = absurd short
+  short_sound (arrange (Scroll v line)) r new short = absurd short
+  short_sound (arrange (Point cell)) r new short = absurd short
+  short_sound (arrange (Select beg end)) r new short = absurd short
+  short_sound (print v) r new (part, (is, same)) = subst IsSoundReply (sym is) refl
+  short_sound (keep text name) r new (part, few, (is, same)) = subst IsSoundReply (sym is) refl
+  short_sound (reopen text name) r new (fresh, (is, same)) = subst IsSoundReply (sym is) refl
 
-replies_sound : (s : RunState) (i : ℕ) (task : Task) (r : RunReply) (new : RunState) → IsSoundTask task
-    → RunReplies s (ask i task) untouched r new → IsSoundRun r
+replies_sound : (s : State) (i : ℕ) (task : Task) (r : Reply) (new : State) → IsSoundTask task
+    → Replies s (ask i task) untouched r new → IsSoundReply r
 replies_sound s i task r new sound (inl (d, w, stands, does)) = does_sound s i d w task r new sound does
 replies_sound s i task r new sound (inr (d, w, stands, short)) = short_sound s i d w task r new short
 
 -- an answer that the shelf failed isn't sound
-no_fault : (result : Result Answer EditRefusal) (messages : List (List ℕ)) → IsSoundRun (answer_reply result messages)
+no_fault : (result : Result Answer EditRefusal) (messages : List (List ℕ)) → IsSoundReply (answer_reply result messages)
     → IsFault result → ⊥
 no_fault result messages sound (inl is) =
-    let lost : true ≡ false = subst (λ (x : Result Answer EditRefusal). IsSoundRun (answer_reply x messages)) is sound in
+    let lost : true ≡ false = subst (λ (x : Result Answer EditRefusal). IsSoundReply (answer_reply x messages)) is sound in
     absurd cc
 no_fault result messages sound (inr is) =
-    let lost : true ≡ false = subst (λ (x : Result Answer EditRefusal). IsSoundRun (answer_reply x messages)) is sound in
+    let lost : true ≡ false = subst (λ (x : Result Answer EditRefusal). IsSoundReply (answer_reply x messages)) is sound in
     absurd cc
 
 -- a missing selection isn't a fault
@@ -236,8 +234,14 @@ pub no_selection_sound : (why : Refusal) → why ≡ NoSelection → IsFault (Er
 no_selection_sound why is = no_fault (Err (Whole why)) [] (subst IsSound (sym is) refl)
 
 -- the run of a desk alone
-abbrev run_of : DeskSeen → List (List ℕ) → RunState
-run_of seen sent = record { texts = alone seen.texts sent; screens = seen.screen ∷ []; files = λ name. None }
+abbrev run_of : DeskSeen → List (List ℕ) → State
+run_of seen sent = record {
+  first = seen.texts.site;
+  desks = seen.texts ∷ [];
+  screens = seen.screen ∷ [];
+  sent = sent;
+  files = λ name. None;
+}
 
 -- so neither a task in which nothing is sent nor an edit answers that the shelf failed
 pub task_sound : (seen new : DeskSeen) (task : Task) (result : Result Answer EditRefusal) → IsSoundTask task
@@ -251,8 +255,8 @@ pub edit_step_sound : (seen new : DeskSeen) (task : Task) (result : Result ℕ E
     → IsSoundTask task → IsEditStep seen (λ i. ask i task) result new before after → IsFault (sent_answer result) → ⊥
 edit_step_sound seen new task result before after sound (messages, counts, steps) =
     no_fault (sent_answer result) messages
-    (subst IsSoundRun (sent_replies result messages)
-    (replies_sound (run_of seen before) 0 task (of_text (edit_reply result messages)) (with_desk (run_of seen before) 0 new after)
+    (subst IsSoundReply (sent_replies result messages)
+    (replies_sound (run_of seen before) 0 task (edit_reply result messages) (with_desk (run_of seen before) 0 new after)
     sound (steps (run_of seen before) 0 (record { texts = refl; screen = refl }) refl)))
 
 -- ---- the tasks of commands

@@ -1,5 +1,5 @@
 -- What a text grew by is what its changes tell.
-use Rattle.std.proofs.Common.{◌≡◌, ℕ, ◌-◌, List, take, drop, length, Contains, refl, sym, ap, subst, ◌∙◌, inl, inr}
+use Rattle.std.proofs.Common.{◌≡◌, ℕ, ◌-◌, List, take, drop, length, Contains, refl, sym, ap, subst, ◌∙◌, inl, inr, None}
 use Rattle.std.specs.Prelude.{slice_get}
 use Rattle.std.proofs.lemmas.List.{set-set}
 use Rattle.std.proofs.Math.Seq.{take-append_seam}
@@ -102,6 +102,6 @@ module _ (d mid new : DeskState) (text : ℕ) (told : AreTold d) (grown : InText
 
 -- a desk that begins has told all: there is nothing to tell
 pub new_is_told : (site : ℕ) → AreTold (new_desk site)
-new_is_told site text t there =
-    let (number, its_site, is) = new_texts site 1 0 text t (new_desk site, refl, there) in
+new_is_told site text t at =
+    let (number, its_site, is) = new_texts site 1 0 0 (λ name. None) 0 text t (new_desk site, refl, at) in
     subst (λ (x : TextState). x.asked ≡ length x.operations) is refl

@@ -2,7 +2,6 @@
 use Rattle.std.proofs.Common.{◌≡◌, ℕ, ◌+◌, ◌-◌, Bool, true, false, List, [], ◌∷◌, ◌++◌, length, Option, None, Result, Ok, Err, refl, sym, ap, subst, ◌∙◌, inl, inr, append-nil, arith}
 use Rattle.std.specs.Prelude.{◌==◌, ◌&&◌, MatchBool, nat_lt, slice_get, slice_set}
 use Rattle.std.proofs.lemmas.Bool.{and_parts}
-use Rattle.std.proofs.lemmas.List.{set-set}
 use Rattle.looks.specs.declared.refusal.Refusal.{Refusal}
 use Rattle.looks.specs.declared.refusal.Refusal.TheVariants.{BadFile, Conflict, OutOfMemory, ReadFault, WrongText}
 use Rattle.operations.specs.Operation.{Operation}
@@ -14,17 +13,16 @@ use Rattle.texts.specs.TextState.{TextState, all_told, empty_text}
 use Rattle.texts.specs.declared.edit_refusal.EditRefusal.{EditRefusal}
 use Rattle.texts.specs.declared.edit_refusal.EditRefusal.TheVariants.{Whole}
 use Rattle.machine.specs.DeskState.{DeskState, InText, IsTextOf, with_text}
-use Rattle.machine.specs.Machine.{State, refuses}
-use Rattle.machine.specs.Whole.{BeginsWith, DoesTask, IsDeskAt, Part, Reopens, RunReply, RunState, ask, done, failed, has_begun}
-use Rattle.machine.specs.Whole.{of_text, reopen, untouched, went_well}
+use Rattle.machine.specs.Events.{Part, Reply, ask, done, failed, refuses, reopen, untouched, went_well}
+use Rattle.machine.specs.State.{IsDeskAt, State}
+use Rattle.machine.specs.Tasks.{BeginsWith, DoesTask, Reopens, has_begun}
 use Rattle.machine.specs.Windows.{Screened}
-use Rattle.machine_laws.proofs.OneReply.{one_element}
-use Rattle.machine_laws.proofs.Telling.{put_there}
+use Rattle.machine_laws.proofs.OneOfTexts.{one_element}
+use Rattle.machine_laws.proofs.Telling.{put_back}
 use Rattle.machine_laws.specs.Growing.{Grows}
 use Rattle.commands.proofs.Following.{is_new}
 use Rattle.commands.proofs.Lifting.{HasText}
-use Rattle.commands.proofs.Shelves.{files_of, files_read, files_same, over_files, refused_over, same_of}
-use Rattle.commands.proofs.Steps.{run_told}
+use Rattle.commands.proofs.Shelves.{files_of, files_read, files_same, refused_over, same_of}
 use Rattle.commands.specs.Filing.{BeginsSo, ReadsNot}
 use Rattle.commands.specs.declared.answer.Answer.{Answer}
 use Rattle.commands.specs.declared.answer.Answer.TheVariants.{Done}
@@ -101,7 +99,7 @@ module _ (d : DeskState) (w : Screened) (text : ℕ) (t : TextState) (there : Is
 
   module _ (fresh : has_begun t ≡ false) (told told' : Option Files) (same : SameFiles told told') (sent : List (List ℕ)) where
     -- what it begins with
-    reopens : (s : RunState) (i : ℕ) (part : Part) (r : RunReply) (new : RunState) → IsDeskAt s i d w
+    reopens : (s : State) (i : ℕ) (part : Part) (r : Reply) (new : State) → IsDeskAt s i d w
         → Reopens s i text t name part r new → DoesTask s i d w (reopen text name) part r new
     reopens s i part r new stands goes = (t, (d, stands.texts, there), rw fresh goes)
 
@@ -110,7 +108,7 @@ module _ (d : DeskState) (w : Screened) (text : ℕ) (t : TextState) (there : Is
     unread =
         let (files, files', are, stay) = files_same told told' same in
         refused_over d w (reopen text name) told told' (failed None) ReadFault files files' sent are stay
-        (λ s i new stands is refused. inl (reopens s i (failed None) (of_text (refuses ReadFault)) new stands refused))
+        (λ s i new stands is refused. inl (reopens s i (failed None) (refuses ReadFault) new stands refused))
 
     -- memory is short
     short : ReopensSo (Err (Whole OutOfMemory)) seen sent told told'
@@ -124,7 +122,7 @@ module _ (d : DeskState) (w : Screened) (text : ℕ) (t : TextState) (there : Is
     bad file has none =
         let (files, files', are, stay, read) = files_read told told' name file same has in
         refused_over d w (reopen text name) told told' went_well BadFile files files' sent are stay
-        (λ s i new stands is refused. inl (reopens s i went_well (of_text (refuses BadFile)) new stands
+        (λ s i new stands is refused. inl (reopens s i went_well (refuses BadFile) new stands
         (file, ap (λ (f : Files). f name) is ∙ read, inl (none, refused))))
 
     pub unread_step : (why : Refusal) → ReadsNot IsNoSiteFile told name why → ReopensSo (Err (Whole why)) seen sent told told'
@@ -142,7 +140,7 @@ module _ (d : DeskState) (w : Screened) (text : ℕ) (t : TextState) (there : Is
       other apart =
           let (files, files', are, stay, read) = files_read told told' name file same has in
           refused_over d w (reopen text name) told told' went_well WrongText files files' sent are stay
-          (λ s i new stands is refused. inl (reopens s i went_well (of_text (refuses WrongText)) new stands
+          (λ s i new stands is refused. inl (reopens s i went_well (refuses WrongText) new stands
           (file, ap (λ (f : Files). f name) is ∙ read, inr (kept.text, kept.site, kept.operations, of, rw apart refused))))
 
       abbrev now : DeskSeen
@@ -156,30 +154,24 @@ module _ (d : DeskState) (w : Screened) (text : ℕ) (t : TextState) (there : Is
           (subst (λ (n : ℕ). HasTakenAll (empty_text kept.text n) kept.operations kept) (grind (arith, site_is)) taken)
 
       -- so it begins, and tells its changes
-      begins_with : (s : RunState) (i : ℕ) (files files' : Files) → StandsIn s i seen → s.texts.sent ≡ sent → s.files ≡ files
+      begins_with : (s : State) (i : ℕ) (files files' : Files) → StandsIn s i seen → s.sent ≡ sent → s.files ≡ files
           → files' ≡ files → HasTakenAll (empty_text t.text t.site) kept.operations kept
           → BeginsWith s i text kept.operations done (record (with_desk s i now sent) { files = files' })
-      begins_with s i files files' stands is_sent is stay its =
-          let d' = with_text d text kept in
-          let mid : State = record s.texts { desks = slice_set s.texts.desks i d'; sent = sent } in
-          let asked : InText (λ x u. u ≡ all_told x) d' text now.texts = (
-            kept,
-            all_told kept,
-            put_there d.texts (text - 1) t kept there,
-            refl,
-            λ k. record d { texts = sym (set-set d.texts (text - 1) kept (all_told kept)) k },
-          ) in (
-            mid,
-            (
-              d,
-              d',
-              stands.texts,
-              (t, kept, there, its, refl),
-              λ k. record s.texts { desks = slice_set s.texts.desks i d'; sent = (sym is_sent ∙ sym (append-nil s.texts.sent)) k },
-            ),
-            refl,
-            sym (run_told s i d w stands d' now.texts w sent text refl asked ∙ over_files s i now sent files files' is stay),
-          )
+      begins_with s i files files' stands is_sent is stay its = (
+        (
+          d,
+          now.texts,
+          stands.texts,
+          (t, all_told kept, there, (kept, its, refl), refl),
+          (λ k. record s {
+            desks = slice_set s.desks i now.texts;
+            screens = put_back s.screens i w stands.screen k;
+            sent = (sym is_sent ∙ sym (append-nil s.sent)) k;
+            files = (stay ∙ sym is) k;
+          }),
+        ),
+        refl,
+      )
 
       begins : (kept.text == t.text && kept.site == t.site) ≡ true → ReopensSo (Ok Done) now sent told told'
       begins same_copy =

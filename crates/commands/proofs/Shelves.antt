@@ -15,11 +15,14 @@ use Rattle.texts.specs.declared.TheConstants.{MAX_KEPT}
 use Rattle.texts.specs.declared.edit_refusal.EditRefusal.{EditRefusal}
 use Rattle.texts.specs.declared.edit_refusal.EditRefusal.TheVariants.{Whole}
 use Rattle.machine.specs.DeskState.{DeskState, IsTextOf}
-use Rattle.machine.specs.Machine.{edit_reply, refuses}
-use Rattle.machine.specs.Whole.{DoesTask, FileBecomes, IsDeskAt, IsTaskAt, Part, Refuses, RunReplies, RunReply, RunState, ShortTask}
-use Rattle.machine.specs.Whole.{Task, Writes, ask, click, done, failed, keep, load, of_text, put, store, task_of, untouched, went_well}
+use Rattle.machine.specs.Commands.{IsTaskAt, task_of}
+use Rattle.machine.specs.Events.{Part, Reply, Task, ask, click, done, edit_reply, failed, keep, load, put, refuses, store}
+use Rattle.machine.specs.Events.{untouched, went_well}
+use Rattle.machine.specs.Machine.{Replies}
+use Rattle.machine.specs.State.{IsDeskAt, Refuses, State}
+use Rattle.machine.specs.Tasks.{DoesTask, FileBecomes, ShortTask, Writes}
 use Rattle.machine.specs.Windows.{Caret, Screened, Window, window_of}
-use Rattle.machine_laws.proofs.OneReply.{one_element}
+use Rattle.machine_laws.proofs.OneOfTexts.{one_element}
 use Rattle.commands.proofs.Steps.{run_stays}
 use Rattle.commands.specs.Filing.{ReadsText, WritesFile, WritesNot, WritesSite, WritesText}
 use Rattle.commands.specs.declared.answer.Answer.{Answer}
@@ -37,13 +40,13 @@ same_of None = tt
 same_of (Some files) = (refl, refl)
 
 -- a run over these files is as it was
-pub over_files : (s : RunState) (i : ℕ) (new : DeskSeen) (sent : List (List ℕ)) (files files' : Files) → s.files ≡ files
+pub over_files : (s : State) (i : ℕ) (new : DeskSeen) (sent : List (List ℕ)) (files files' : Files) → s.files ≡ files
     → files' ≡ files → with_desk s i new sent ≡ record (with_desk s i new sent) { files = files' }
 over_files s i new sent files files' is same = λ k. record (with_desk s i new sent) { files = (is ∙ sym same) k }
 
 -- and one in which nothing changed is itself
-run_over : (s : RunState) (i : ℕ) (seen : DeskSeen) → StandsIn s i seen → (sent : List (List ℕ)) (files files' : Files)
-    → s.texts.sent ≡ sent → s.files ≡ files → files' ≡ files → s ≡ record (with_desk s i seen sent) { files = files' }
+run_over : (s : State) (i : ℕ) (seen : DeskSeen) → StandsIn s i seen → (sent : List (List ℕ)) (files files' : Files)
+    → s.sent ≡ sent → s.files ≡ files → files' ≡ files → s ≡ record (with_desk s i seen sent) { files = files' }
 run_over s i seen stands sent files files' same is stay =
     run_stays s i seen.texts seen.screen stands ∙ (λ k. with_desk s i seen (same k))
     ∙ over_files s i seen sent files files' is stay
@@ -55,7 +58,7 @@ sent_counts (Ok count) messages counts = counts
 sent_counts (Err why) messages counts = tt
 
 pub sent_replies : (result : Result ℕ EditRefusal) (messages : List (List ℕ))
-    → of_text (edit_reply result messages) ≡ answer_reply (sent_answer result) messages
+    → (edit_reply result messages) ≡ answer_reply (sent_answer result) messages
 sent_replies (Ok count) messages = refl
 sent_replies (Err why) messages = refl
 
@@ -70,7 +73,7 @@ module _ (seen new : DeskSeen) (task : Task) (told : Option Files) where
     files_of told,
     counts,
     same_of told,
-    λ s i stands same is. subst (RunReplies s (ask i task) untouched (answer_reply result []))
+    λ s i stands same is. subst (Replies s (ask i task) untouched (answer_reply result []))
         ((λ k. with_desk s i new (same k)) ∙ over_files s i new sent (files_of told) (files_of told) is refl)
         (steps s i stands),
   )
@@ -87,9 +90,9 @@ module _ (seen new : DeskSeen) (task : Task) (told : Option Files) where
     sent_counts result messages counts,
     same_of told,
     λ s i stands same is.
-        subst (λ (r : RunReply). RunReplies s (ask i task) untouched r (record (with_desk s i new after) { files = files_of told }))
+        subst (λ (r : Reply). Replies s (ask i task) untouched r (record (with_desk s i new after) { files = files_of told }))
         (sent_replies result messages)
-        (subst (RunReplies s (ask i task) untouched (of_text (edit_reply result messages)))
+        (subst (Replies s (ask i task) untouched (edit_reply result messages))
         (over_files s i new after (files_of told) (files_of told) is refl) (steps s i stands same)),
   )
 
@@ -135,12 +138,12 @@ module _ (d : DeskState) (w : Screened) (task : Task) (told told' : Option Files
 
   -- the task goes so where nothing changes
   abbrev GoesSo : (part : Part) (why : Refusal) (files : Files) → Type 0
-  GoesSo part why files = (s : RunState) (i : ℕ) (new : RunState) → IsDeskAt s i d w → s.files ≡ files
-      → Refuses s why (of_text (refuses why)) new
-      → DoesTask s i d w task part (of_text (refuses why)) new ⊎ ShortTask s i d w task part (of_text (refuses why)) new
+  GoesSo part why files = (s : State) (i : ℕ) (new : State) → IsDeskAt s i d w → s.files ≡ files
+      → Refuses s why (refuses why) new
+      → DoesTask s i d w task part (refuses why) new ⊎ ShortTask s i d w task part (refuses why) new
 
-  replies_so : (s : RunState) (i : ℕ) (part : Part) (r : RunReply) (new : RunState) → IsDeskAt s i d w
-      → DoesTask s i d w task part r new ⊎ ShortTask s i d w task part r new → RunReplies s (ask i task) part r new
+  replies_so : (s : State) (i : ℕ) (part : Part) (r : Reply) (new : State) → IsDeskAt s i d w
+      → DoesTask s i d w task part r new ⊎ ShortTask s i d w task part r new → Replies s (ask i task) part r new
   replies_so s i part r new stands (inl does) = inl (d, w, stands, does)
   replies_so s i part r new stands (inr short) = inr (d, w, stands, short)
 
@@ -154,7 +157,7 @@ module _ (d : DeskState) (w : Screened) (task : Task) (told told' : Option Files
     files',
     tt,
     are,
-    λ s i stands same is. replies_so s i part (of_text (refuses why)) (record (with_desk s i its_desk sent) { files = files' })
+    λ s i stands same is. replies_so s i part (refuses why) (record (with_desk s i its_desk sent) { files = files' })
         stands
         (goes s i (record (with_desk s i its_desk sent) { files = files' }) stands is
         (refl, sym (run_over s i its_desk stands sent files files' same is stay))),
@@ -202,8 +205,8 @@ module _ (d : DeskState) (w : Screened) (name : List ℕ) (told told' : Option F
 
     -- the file's characters are put in
     module _ (file : List ℕ) (items : List Item) (of : IsFileOf items file) where
-      put_loads : (s : RunState) (i : ℕ) (r : RunReply) (new : RunState) → IsDeskAt s i d w → s.files name ≡ Some file
-          → RunReplies s (ask i (put items)) untouched r new → RunReplies s (ask i (load name)) went_well r new
+      put_loads : (s : State) (i : ℕ) (r : Reply) (new : State) → IsDeskAt s i d w → s.files name ≡ Some file
+          → Replies s (ask i (put items)) untouched r new → Replies s (ask i (load name)) went_well r new
       put_loads s i r new stands there (inl (d', w', stands', inl (none, part, refused))) =
           let one : w' ≡ w = one_element (slice_get s.screens i) w' w stands'.screen stands.screen in
           let lost : w.caret ≡ None = ap (λ (x : Screened). x.caret) (sym one) ∙ none in
@@ -227,9 +230,9 @@ module _ (d : DeskState) (w : Screened) (name : List ℕ) (told told' : Option F
             λ s i stands sent is.
                 put_loads s i (answer_reply (sent_answer result) messages) (record (with_desk s i new after) { files = files' }) stands
                 (ap (λ (f : Files). f name) is ∙ there)
-                (subst (λ (r : RunReply). RunReplies s (ask i (put items)) untouched r (record (with_desk s i new after) { files = files' }))
+                (subst (λ (r : Reply). Replies s (ask i (put items)) untouched r (record (with_desk s i new after) { files = files' }))
                 (sent_replies result messages)
-                (subst (RunReplies s (ask i (put items)) untouched (of_text (edit_reply result messages)))
+                (subst (Replies s (ask i (put items)) untouched (edit_reply result messages))
                 (over_files s i new after files files' is stay) (steps s i stands sent))),
           )
 
@@ -245,9 +248,9 @@ load_without_caret d w name told sent none =
 -- a task that writes a file, if there isn't too much for one
 module _ (d : DeskState) (w : Screened) (task : Task) (much most : ℕ) (name file : List ℕ) (told told' : Option Files)
     (sent : List (List ℕ))
-    (does : (s : RunState) (i : ℕ) (part : Part) (r : RunReply) (new : RunState) → IsDeskAt s i d w
+    (does : (s : State) (i : ℕ) (part : Part) (r : Reply) (new : State) → IsDeskAt s i d w
     → Writes s much most name file part r new → DoesTask s i d w task part r new)
-    (short : (s : RunState) (i : ℕ) (r : RunReply) (new : RunState) → IsDeskAt s i d w → much ≤ most
+    (short : (s : State) (i : ℕ) (r : Reply) (new : State) → IsDeskAt s i d w → much ≤ most
     → Refuses s OutOfMemory r new → ShortTask s i d w task untouched r new) where
   abbrev WritesSo : Result Answer EditRefusal → Type 0
   WritesSo result = IsShelfStep (record { texts = d; screen = w }) (λ i. ask i task) result
@@ -258,17 +261,17 @@ module _ (d : DeskState) (w : Screened) (task : Task) (much most : ℕ) (name fi
   kept same = subst (λ (o : Option Files). AreFilesOf told o (files_of told) (files_of told)) (sym same) (same_of told)
 
   -- the run with other files
-  becomes : (s : RunState) (i : ℕ) (files files' : Files) (its : Option (List ℕ))
-      → StandsIn s i (record { texts = d; screen = w }) → s.texts.sent ≡ sent → s.files ≡ files → files' name ≡ its
+  becomes : (s : State) (i : ℕ) (files files' : Files) (its : Option (List ℕ))
+      → StandsIn s i (record { texts = d; screen = w }) → s.sent ≡ sent → s.files ≡ files → files' name ≡ its
       → ((other : List ℕ) → other ≢ name → files' other ≡ files other)
       → FileBecomes s name its (record (with_desk s i (record { texts = d; screen = w }) sent) { files = files' })
   becomes s i files files' its stands same is there others =
       let stays : with_desk s i (record { texts = d; screen = w }) sent ≡ s =
       (λ k. with_desk s i (record { texts = d; screen = w }) (sym same k)) ∙ sym (run_stays s i d w stands) in (
-        ap (λ (x : RunState). x.texts) stays,
-        ap (λ (x : RunState). x.screens) stays,
+        files',
         there,
         λ other apart. others other apart ∙ ap (λ (f : Files). f other) (sym is),
+        λ k. record (stays k) { files = files' },
       )
 
   writes_well : much ≤ most → HasFile told' name file → OthersStay told told' name → WritesSo (Ok Done)
@@ -293,11 +296,11 @@ module _ (d : DeskState) (w : Screened) (task : Task) (much most : ℕ) (name fi
   writes_not why (inl (bad, long, same)) =
       subst (λ (e : Refusal). WritesSo (Err (Whole e))) (sym bad)
       (refused_over d w task told told' untouched BadFile (files_of told) (files_of told) sent (kept same) refl
-      (λ s i new stands is refused. inl (does s i untouched (of_text (refuses BadFile)) new stands (long, refused))))
+      (λ s i new stands is refused. inl (does s i untouched (refuses BadFile) new stands (long, refused))))
   writes_not why (inr (inl (memory, few, same))) =
       subst (λ (e : Refusal). WritesSo (Err (Whole e))) (sym memory)
       (refused_over d w task told told' untouched OutOfMemory (files_of told) (files_of told) sent (kept same) refl
-      (λ s i new stands is refused. inr (short s i (of_text (refuses OutOfMemory)) new stands few refused)))
+      (λ s i new stands is refused. inr (short s i (refuses OutOfMemory) new stands few refused)))
   writes_not why (inr (inr (fault, few, stay))) =
       let (files, files', are, others) = files_failed told told' name stay in
       subst (λ (e : Refusal). WritesSo (Err (Whole e))) (sym fault) (
@@ -311,7 +314,7 @@ module _ (d : DeskState) (w : Screened) (task : Task) (much most : ℕ) (name fi
           d,
           w,
           stands,
-          does s i (failed (files' name)) (of_text (refuses WriteFault))
+          does s i (failed (files' name)) (refuses WriteFault)
               (record (with_desk s i (record { texts = d; screen = w }) sent) { files = files' }) stands
               (few, refl, becomes s i files files' (files' name) stands same is refl others),
         ),
@@ -342,18 +345,18 @@ module _ (d : DeskState) (w : Screened) (text : ℕ) (t : TextState) (there : Is
       (λ s i r new stands few refused. (refl, (t, (d, stands.texts, there), few), refused)) result writes
 
 -- the task that stands in a cell of the desk stands there in the run
-task_at_it : (seen : DeskSeen) (s : RunState) (i col row : ℕ) (task : Task) (d : DeskState) (w : Screened) → StandsIn s i seen
+task_at_it : (seen : DeskSeen) (s : State) (i col row : ℕ) (task : Task) (d : DeskState) (w : Screened) → StandsIn s i seen
     → IsDeskAt s i d w → IsTaskAt seen.texts seen.screen col row task → IsTaskAt d w col row task
 task_at_it seen s i col row task d w stands there is =
-    let desk : seen.texts ≡ d = one_element (slice_get s.texts.desks i) seen.texts d stands.texts there.texts in
+    let desk : seen.texts ≡ d = one_element (slice_get s.desks i) seen.texts d stands.texts there.texts in
     let screen : seen.screen ≡ w = one_element (slice_get s.screens i) seen.screen w stands.screen there.screen in
     subst (λ (x : Screened). IsTaskAt d x col row task) screen
     (subst (λ (x : DeskState). IsTaskAt x seen.screen col row task) desk is)
 
 -- a click does the task that stands in its cell
-click_does : (seen : DeskSeen) (s : RunState) (i col row : ℕ) (task : Task) (part : Part) (r : RunReply) (new : RunState)
-    → StandsIn s i seen → IsTaskAt seen.texts seen.screen col row task → RunReplies s (ask i task) part r new
-    → RunReplies s (click i col row) part r new
+click_does : (seen : DeskSeen) (s : State) (i col row : ℕ) (task : Task) (part : Part) (r : Reply) (new : State)
+    → StandsIn s i seen → IsTaskAt seen.texts seen.screen col row task → Replies s (ask i task) part r new
+    → Replies s (click i col row) part r new
 click_does seen s i col row task part r new stands is (inl (d, w, there, does)) =
     inl (d, w, task, there, task_at_it seen s i col row task d w stands there is, does)
 click_does seen s i col row task part r new stands is (inr (d, w, there, short)) =

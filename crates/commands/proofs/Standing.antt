@@ -4,7 +4,7 @@ use Rattle.std.proofs.Common.{length-take, length-drop, length-append}
 use Rattle.std.proofs.lemmas.List.{append_assoc, ext_get_or, get_or-append-add, get_or-drop, get_or-take}
 use Rattle.std.proofs.lemmas.List.{get_or_append_left, take-append-drop}
 use Rattle.std.proofs.Math.Nat.{eq-or-lt_of_le}
-use Rattle.machine.specs.Whole.{StandsAt}
+use Rattle.machine.specs.Tasks.{StandsAt}
 
 -- the text goes on so far
 pub stands_within : (bytes text : List ℕ) (q : ℕ) → StandsAt bytes text q → q + length bytes ≤ length text

@@ -1,6 +1,6 @@
 -- What a task does is a step of the run: refusals, edits, a search, and an emptied room.
 use Rattle.std.proofs.Common.{◌≡◌, ℕ, ◌+◌, ◌-◌, ◌≤◌, List, [], length, Option, Some, None, Result, Ok, Err, refl, sym, ap, subst, ◌∙◌, inl, inr, append-nil, arith, Contains}
-use Rattle.std.specs.Prelude.{slice_get, slice_set}
+use Rattle.std.specs.Prelude.{slice_get}
 use Rattle.std.specs.Option.{option_map_or}
 use Rattle.std.proofs.lemmas.List.Elements.{All-nil}
 use Rattle.looks.specs.declared.refusal.Refusal.{Refusal}
@@ -11,25 +11,27 @@ use Rattle.convergence.proofs.OneWay.{text_with_room}
 use Rattle.texts.specs.Edit.{Edit, looks_change}
 use Rattle.text_frames.proofs.Places.{place_within}
 use Rattle.texts.specs.Text.{IsAnchor, IsText}
-use Rattle.texts.specs.TextState.{TextState, all_told, shown_of, with_room}
+use Rattle.texts.specs.TextState.{TextState, shown_of, with_room}
 use Rattle.texts.specs.declared.edit_refusal.EditRefusal.{EditRefusal}
 use Rattle.texts.specs.declared.edit_refusal.EditRefusal.TheVariants.{Whole}
-use Rattle.machine.specs.DeskState.{DeskState, InText, IsTextOf, with_text}
-use Rattle.machine.specs.Machine.{State, edit, edit_reply, refuses}
-use Rattle.machine.specs.Whole.{Change, IsFirstFrom, RunReplies, RunReply, RunState, StandsAt, Task, ask, change, dress_marked, forget}
-use Rattle.machine.specs.Whole.{forgot, of_text, on_text, refuse, search, untouched, with_screen_at, with_told}
+use Rattle.machine.specs.DeskState.{DeskState, InText, IsTextOf}
+use Rattle.machine.specs.Commands.{Change, dress_marked, with_told}
+use Rattle.machine.specs.Events.{Reply, Task, ask, change, edit, edit_reply, forget, forgot, refuse, refuses, search}
+use Rattle.machine.specs.Events.{untouched}
+use Rattle.machine.specs.Machine.{Replies}
+use Rattle.machine.specs.State.{State, with_screen_at}
+use Rattle.machine.specs.Tasks.{IsFirstFrom, StandsAt}
 use Rattle.machine.specs.Windows.{Marked, Screened, bytes_shown, marked, place_in, window_of}
-use Rattle.machine_laws.proofs.OneReply.{one_element}
-use Rattle.machine_laws.proofs.OneRunReply.{shown_parts}
+use Rattle.machine_laws.proofs.OneOfTexts.{one_element}
+use Rattle.machine_laws.proofs.OneReply.{shown_parts}
 use Rattle.machine_laws.specs.Growing.{Grows}
 use Rattle.desk_windows.specs.Windows.{AreOf, HasMovedTo, IsCaretPlace, WindowsSeen, screened}
-use Rattle.commands.proofs.Following.{is_new}
 use Rattle.commands.proofs.AtCaret.{anchored}
 use Rattle.commands.proofs.Lifting.{HasText}
-use Rattle.commands.proofs.Steps.{Asked, run_arranged, run_stays, screen_stays}
+use Rattle.commands.proofs.Steps.{Asked, at_text_silent, run_arranged, run_stays}
 use Rattle.commands.specs.declared.answer.Answer.{Answer}
 use Rattle.commands.specs.declared.answer.Answer.TheVariants.{Found, NotFound, Forgot}
-use Rattle.commands.specs.Steps.{AreTold, DeskSeen, IsEditStep, IsStep, IsTaskStep, StandsIn, with_desk}
+use Rattle.commands.specs.Steps.{DeskSeen, IsEditStep, IsStep, IsTaskStep, StandsIn, with_desk}
 
 -- a parameter that tells nothing, and one that tells this
 pub untold : {X : Type 0} (Goes : Task → Type 0) (told : Option X) (task : X → Task) → told ≡ None
@@ -42,9 +44,9 @@ told_so Goes told x task is goes = subst (λ (o : Option _). Goes (with_told o t
 
 -- a refusal changes nothing
 module _ (seen : DeskSeen) (why : Refusal) where
-  pub refuse_step : IsStep seen (λ i. ask i (refuse why)) (of_text (refuses why)) seen
+  pub refuse_step : IsStep seen (λ i. ask i (refuse why)) (refuses why) seen
   refuse_step = λ s i stands.
-      subst (RunReplies s (ask i (refuse why)) untouched (of_text (refuses why))) (run_stays s i seen.texts seen.screen stands)
+      subst (Replies s (ask i (refuse why)) untouched (refuses why)) (run_stays s i seen.texts seen.screen stands)
       (inl (seen.texts, seen.screen, stands, (refl, (refl, refl))))
 
   pub refused_task : IsTaskStep seen (refuse why) (Err (Whole why)) seen
@@ -54,24 +56,24 @@ module _ (seen : DeskSeen) (why : Refusal) where
   refused_edit sent = (
     [],
     tt,
-    λ s i stands same. subst (λ (x : List (List ℕ)). RunReplies s (ask i (refuse why)) untouched (of_text (refuses why))
+    λ s i stands same. subst (λ (x : List (List ℕ)). Replies s (ask i (refuse why)) untouched (refuses why)
         (with_desk s i seen x)) same (refuse_step s i stands),
   )
 
 -- an edit of a text is a task
-changes_so : (s : RunState) (i : ℕ) (seen : DeskSeen) (text : ℕ) (e : Edit) (r : RunReply) (new : RunState)
-    → StandsIn s i seen → RunReplies s (on_text (edit i text e)) untouched r new
-    → RunReplies s (ask i (change text e)) untouched r new
+changes_so : (s : State) (i : ℕ) (seen : DeskSeen) (text : ℕ) (e : Edit) (r : Reply) (new : State)
+    → StandsIn s i seen → Replies s (edit i text e) untouched r new
+    → Replies s (ask i (change text e)) untouched r new
 changes_so s i seen text e r new stands (inl does) = inl (seen.texts, seen.screen, stands, does)
 changes_so s i seen text e r new stands (inr short) = inr (seen.texts, seen.screen, stands, short)
 
 pub change_step : (seen new : DeskSeen) (text : ℕ) (e : Edit) (result : Result ℕ EditRefusal) (before after : List (List ℕ))
-    → IsEditStep seen (λ i. on_text (edit i text e)) result new before after
+    → IsEditStep seen (λ i. (edit i text e)) result new before after
     → IsEditStep seen (λ i. ask i (change text e)) result new before after
 change_step seen new text e result before after (messages, count, steps) = (
   messages,
   count,
-  λ s i stands same. changes_so s i seen text e (of_text (edit_reply result messages)) (with_desk s i new after) stands
+  λ s i stands same. changes_so s i seen text e (edit_reply result messages) (with_desk s i new after) stands
       (steps s i stands same),
 )
 
@@ -91,7 +93,7 @@ dresses d w dressed at is =
 pub dressed_step : (seen new : DeskSeen) (dressed : Change) (at : Marked) (text beg end : ℕ) (result : Result ℕ EditRefusal)
     (before after : List (List ℕ)) → marked seen.texts seen.screen ≡ Some at → text ≡ at.window.text → beg ≡ at.beg
     → end ≡ at.end
-    → IsEditStep seen (λ i. on_text (edit i text (looks_change beg end dressed.0 dressed.1))) result new before after
+    → IsEditStep seen (λ i. (edit i text (looks_change beg end dressed.0 dressed.1))) result new before after
     → IsEditStep seen (λ i. ask i (dress_marked seen.texts seen.screen dressed)) result new before after
 dressed_step seen new dressed at text beg end result before after is text_is beg_is end_is step =
     subst (λ (task : Task). IsEditStep seen (λ i. ask i task) result new before after)
@@ -224,45 +226,23 @@ forgets_grow d d' text count (t, at, is) (u, new, at', (counted, emptied), chang
       changed,
     )
 
--- a text that has told its changes has told them with an emptied room
-room_told : (t : TextState) → t.asked ≡ length t.operations → all_told (with_room t []) ≡ with_room t []
-room_told t told = λ k. record t { waiting_room = []; asked = sym told k }
-
 -- so what waited for a text is forgotten
 pub forget_task : (seen : DeskSeen) (d d' new : DeskState) (w w' : Screened) (text count : ℕ)
-    → record { texts = d; screen = w } ≡ seen → AreTold d → HasText d text
+    → record { texts = d; screen = w } ≡ seen
     → InText (λ t u. (count ≡ length t.waiting_room) × (u ≡ with_room t [])) d text d' → Asked d' text new → w' ≡ w
     → IsTaskStep seen (forget text) (Ok (Forgot count)) (record { texts = new; screen = w' })
-unfolding forgets_grow
-forget_task seen d d' new w w' text count is told has (t, u, at, (counted, emptied), changed) asked same =
-    let now : new ≡ with_text d text (with_room t []) =
-    is_new d d' new text told (forgets_grow d d' text count has (t, u, at, (counted, emptied), changed)) asked
-    ∙ ap (λ (x : TextState). with_text d text (all_told x)) emptied
-    ∙ ap (with_text d text) (room_told t (told text t at)) in
+forget_task seen d d' new w w' text count is (t, u, at, (counted, emptied), changed) asked same =
     subst (λ (x : DeskSeen). IsTaskStep x (forget text) (Ok (Forgot count)) (record { texts = new; screen = w' })) is (
       tt,
-      λ s i stands.
-          let mid : State = record s.texts { desks = slice_set s.texts.desks i new; sent = s.texts.sent } in
-          inl (
-            d,
-            w,
-            stands,
-            (
-              refl,
-              (
-                t,
-                mid,
-                (d, stands.texts, at),
-                (
-                  d,
-                  new,
-                  stands.texts,
-                  (t, with_room t [], at, refl, now),
-                  λ k. record s.texts { desks = slice_set s.texts.desks i new; sent = sym (append-nil s.texts.sent) k },
-                ),
-                ap forgot counted,
-                sym (screen_stays s i d w stands w' mid same),
-              ),
-            ),
-          ),
+      λ s i stands. inl (
+        d,
+        w,
+        stands,
+        (
+          refl,
+          at_text_silent s i d w stands
+              (λ t u. (forgot count ≡ forgot (length t.waiting_room)) × (u ≡ with_room t [])) text d' new w'
+              (t, u, at, (ap forgot counted, emptied), changed) asked same,
+        ),
+      ),
     )

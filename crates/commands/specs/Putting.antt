@@ -4,7 +4,7 @@ use Rattle.looks.specs.Looks.{plain_looks}
 use Rattle.char_files.specs.Stretch.{Item}
 use Rattle.char_files.specs.declared.TheConstants.{MAX_FILE}
 use Rattle.texts.specs.Edit.{Edit, insertion, recalling}
-use Rattle.machine.specs.Whole.{Task, put, put_recalled}
+use Rattle.machine.specs.Events.{Task, put, put_recalled}
 use Rattle.commands.specs.declared.putting.Insertion.{Insertion}
 use Rattle.commands.specs.declared.putting.Insertion.TheVariants.{Bytes, Items, Recalled}
 

@@ -11,9 +11,11 @@ use Rattle.texts.specs.declared.edit_refusal.EditRefusal.TheVariants.{Whole}
 use Rattle.texts.specs.declared.merge_refusal.MergeRefusal.{MergeRefusal}
 use Rattle.texts.specs.declared.took.Took.{Took}
 use Rattle.machine.specs.DeskState.{DeskState, IsTextOf}
-use Rattle.machine.specs.Machine.{Delivery, edit_reply, merge, merge_reply, message_in, prints, refuses, sends, take, take_reply}
-use Rattle.machine.specs.Whole.{IsDeskAt, Part, RunEvent, RunReplies, RunReply, RunState, Task, ask, done, forgot, found, not_found}
-use Rattle.machine.specs.Whole.{of_text, on_text, opens, prints_screen, refuse, task_of, untouched}
+use Rattle.machine.specs.Commands.{task_of}
+use Rattle.machine.specs.Events.{Delivery, Event, Part, Reply, Task, ask, done, edit_reply, forgot, found, merge}
+use Rattle.machine.specs.Events.{merge_reply, not_found, opens, prints, refuse, refuses, sends, take, take_reply, untouched}
+use Rattle.machine.specs.Machine.{Replies, message_in}
+use Rattle.machine.specs.State.{IsDeskAt, State}
 use Rattle.machine.specs.Windows.{Screened}
 use Rattle.commands.specs.declared.answer.Answer.{Answer}
 use Rattle.commands.specs.declared.answer.Answer.TheVariants.{Sent, Viewer, Found, NotFound, Forgot, Done}
@@ -28,39 +30,40 @@ abbrev pub AreTold : DeskState → Type 0
 AreTold d = (text : ℕ) (t : TextState) → IsTextOf d text t → t.asked ≡ length t.operations
 
 -- the desk stands in the run at this index
-abbrev pub StandsIn : RunState → ℕ → DeskSeen → Type 0
+abbrev pub StandsIn : State → ℕ → DeskSeen → Type 0
 StandsIn s i d = IsDeskAt s i d.texts d.screen
 
 -- the run, with this desk at the index, and these messages sent
-abbrev pub with_desk : RunState → ℕ → DeskSeen → List (List ℕ) → RunState
+abbrev pub with_desk : State → ℕ → DeskSeen → List (List ℕ) → State
 with_desk s i d sent = record s {
-  texts = record s.texts { desks = slice_set s.texts.desks i d.texts; sent = sent };
+  desks = slice_set s.desks i d.texts;
   screens = slice_set s.screens i d.screen;
+  sent = sent;
 }
 
 -- Wherever the desk stands in a run, this event is replied to so, and goes on to the run with the new desk; nothing is sent,
 -- and no file asked for.
-abbrev pub IsStep : DeskSeen → (ℕ → RunEvent) → RunReply → DeskSeen → Type 0
-IsStep d event r new = (s : RunState) (i : ℕ) → StandsIn s i d
-    → RunReplies s (event i) untouched r (with_desk s i new s.texts.sent)
+abbrev pub IsStep : DeskSeen → (ℕ → Event) → Reply → DeskSeen → Type 0
+IsStep d event r new = (s : State) (i : ℕ) → StandsIn s i d
+    → Replies s (event i) untouched r (with_desk s i new s.sent)
 
 -- the same of an edit, which answers how many messages it put behind those that were sent
-abbrev pub IsEditStep : DeskSeen → (ℕ → RunEvent) → Result ℕ EditRefusal → DeskSeen
+abbrev pub IsEditStep : DeskSeen → (ℕ → Event) → Result ℕ EditRefusal → DeskSeen
     → (before after : List (List ℕ)) → Type 0
 IsEditStep d event result new before after = (messages : List (List ℕ)) × IfOk result (λ count. count ≡ length messages)
-    × ((s : RunState) (i : ℕ) → StandsIn s i d → s.texts.sent ≡ before
-    → RunReplies s (event i) untouched (of_text (edit_reply result messages)) (with_desk s i new after))
+    × ((s : State) (i : ℕ) → StandsIn s i d → s.sent ≡ before
+    → Replies s (event i) untouched (edit_reply result messages) (with_desk s i new after))
 
 -- the same of a message for one of its texts, however it is told
 abbrev pub IsTakeStep : DeskSeen → (text : ℕ) → (message : List ℕ) → Result Took Refusal → DeskSeen → Type 0
-IsTakeStep d text message result new = (s : RunState) (i : ℕ) (told : Delivery) → StandsIn s i d
-    → message_in s.texts told ≡ Some message
-    → RunReplies s (on_text (take i text told)) untouched (of_text (take_reply result)) (with_desk s i new s.texts.sent)
+IsTakeStep d text message result new = (s : State) (i : ℕ) (told : Delivery) → StandsIn s i d
+    → message_in s told ≡ Some message
+    → Replies s (take i text told) untouched (take_reply result) (with_desk s i new s.sent)
 
 -- the same of a merge of another desk's text of this number, wherever that stands
 abbrev pub IsMergeStep : DeskSeen → (text : ℕ) → (other : DeskSeen) → Result ℕ MergeRefusal → DeskSeen → Type 0
-IsMergeStep d text other result new = (s : RunState) (i j : ℕ) → StandsIn s i d → StandsIn s j other
-    → RunReplies s (on_text (merge i text j)) untouched (of_text (merge_reply result)) (with_desk s i new s.texts.sent)
+IsMergeStep d text other result new = (s : State) (i j : ℕ) → StandsIn s i d → StandsIn s j other
+    → Replies s (merge i text j) untouched (merge_reply result) (with_desk s i new s.sent)
 
 -- The files that a shelf tells ahead of a call and behind it: these; any, where it tells none.
 abbrev pub AreFilesOf : (told told' : Option Files) → (files files' : Files) → Type 0
@@ -70,14 +73,14 @@ AreFilesOf (Some was) None files files' = ⊥
 AreFilesOf (Some was) (Some now) files files' = (files ≡ was) × (files' ≡ now)
 
 -- the reply to a command that answered so, with these messages
-abbrev pub answer_reply : Result Answer EditRefusal → List (List ℕ) → RunReply
-answer_reply (Ok (Sent count)) messages = of_text (sends messages)
+abbrev pub answer_reply : Result Answer EditRefusal → List (List ℕ) → Reply
+answer_reply (Ok (Sent count)) messages = (sends messages)
 answer_reply (Ok (Viewer number)) messages = opens number
 answer_reply (Ok (Found at)) messages = found at
 answer_reply (Ok NotFound) messages = not_found
 answer_reply (Ok (Forgot count)) messages = forgot count
 answer_reply (Ok Done) messages = done
-answer_reply (Err why) messages = of_text (edit_reply (Err why) messages)
+answer_reply (Err why) messages = (edit_reply (Err why) messages)
 
 -- what an edit answers, as a command does
 abbrev pub sent_answer : Result ℕ EditRefusal → Result Answer EditRefusal
@@ -97,13 +100,13 @@ CountsSent other messages = ⊤
 -- Wherever the desk stands in a run, over the files that the shelf tells, this event is replied to so, with some part of the
 -- files in it, and goes on to the run with the new desk, over the files that the shelf tells behind. Of a shelf that tells
 -- none this holds over some files.
-abbrev pub IsShelfStep : DeskSeen → (ℕ → RunEvent) → Result Answer EditRefusal → DeskSeen
+abbrev pub IsShelfStep : DeskSeen → (ℕ → Event) → Result Answer EditRefusal → DeskSeen
     → (before after : List (List ℕ)) → (told told' : Option Files) → Type 0
 IsShelfStep d event result new before after told told' =
     (messages : List (List ℕ)) × (part : Part) × (files files' : Files) × CountsSent result messages
     × AreFilesOf told told' files files'
-    × ((s : RunState) (i : ℕ) → StandsIn s i d → s.texts.sent ≡ before → s.files ≡ files
-    → RunReplies s (event i) part (answer_reply result messages) (record (with_desk s i new after) { files = files' }))
+    × ((s : State) (i : ℕ) → StandsIn s i d → s.sent ≡ before → s.files ≡ files
+    → Replies s (event i) part (answer_reply result messages) (record (with_desk s i new after) { files = files' }))
 
 -- a task that sends nothing and asks for no file
 abbrev pub IsTaskStep : DeskSeen → Task → Result Answer EditRefusal → DeskSeen → Type 0
@@ -118,22 +121,17 @@ task_told d w command (Err why) viewer text = refuse why
 abbrev pub IsFault : Result Answer EditRefusal → Type 0
 IsFault result = (result ≡ Err (Whole ReadFault)) ⊎ (result ≡ Err (Whole WriteFault))
 
--- the reply to a query of a text that answered so, with these bytes
-abbrev pub query_reply : {X : Type 0} → Result X Refusal → (X → List ℕ) → RunReply
-query_reply (Ok lines) bytes_of = of_text (prints (bytes_of lines))
-query_reply (Err why) bytes_of = of_text (refuses why)
-
--- the reply to a view of the screen
-abbrev pub view_reply : {X : Type 0} → Result X Refusal → (X → List ℕ) → RunReply
-view_reply (Ok lines) bytes_of = prints_screen (bytes_of lines)
-view_reply (Err why) bytes_of = of_text (refuses why)
+-- the reply to a query or a view that answered so, with these bytes
+abbrev pub print_reply : {X : Type 0} → Result X Refusal → (X → List ℕ) → Reply
+print_reply (Ok lines) bytes_of = prints (bytes_of lines)
+print_reply (Err why) bytes_of = refuses why
 
 -- the reply to an opening
-abbrev pub open_reply : Result ℕ Refusal → RunReply
+abbrev pub open_reply : Result ℕ Refusal → Reply
 open_reply (Ok viewer) = opens viewer
-open_reply (Err why) = of_text (refuses why)
+open_reply (Err why) = (refuses why)
 
 -- the reply to another arrangement
-abbrev pub done_reply : Result (Unit {0}) Refusal → RunReply
+abbrev pub done_reply : Result (Unit {0}) Refusal → Reply
 done_reply (Ok _) = done
-done_reply (Err why) = of_text (refuses why)
+done_reply (Err why) = (refuses why)

@@ -7,11 +7,10 @@ ghost use Rattle.texts.specs.Text.{IsText};
 ghost use Rattle.texts.specs.TextState.{TextState, shown_of};
 ghost use Rattle.texts.specs.declared.edit_refusal.EditRefusal.TheVariants.{Whole};
 ghost use Rattle.machine.specs.DeskState.{IsTextOf, new_desk};
-ghost use Rattle.machine.specs.Machine.{copy, edit, print_fronts, print_places, print_runs, print_text, query, settle, settles};
-ghost use Rattle.machine.specs.Whole.{arrange, ask, of_text, on_text, print, put};
-ghost use Rattle.machine.specs.Whole.{marks, show, views};
-ghost use Rattle.machine.specs.Windows.{blank_screen, close, move, open_in, point, scroll, select};
-ghost use Rattle.commands.specs.Steps.{IsEditStep, IsMergeStep, IsStep, IsTakeStep, done_reply, open_reply, query_reply, view_reply};
+ghost use Rattle.machine.specs.Events.{arrange, ask, copy, edit, print, put, query, settle, settles};
+ghost use Rattle.machine.specs.Windows.{blank_screen};
+ghost use Rattle.machine.specs.declared.asked.Arrangement.TheVariants.{Close, Move, Open, Point, Scroll, Select};
+ghost use Rattle.commands.specs.Steps.{IsEditStep, IsMergeStep, IsStep, IsTakeStep, done_reply, open_reply, print_reply};
 
 use crate::putting::Insertion;
 use crate::telling::tell;
@@ -19,8 +18,7 @@ use char_files::{MAX_FILE, SiteNo, TextNo};
 use desk_texts::Texts;
 use desk_windows::Windows;
 use looks::{Looks, Refusal, Sel};
-use machine::MAX_TEXT;
-use operations::NameRange;
+use machine::{MAX_TEXT, Query, View};
 use std::alloc::Global;
 use std::marker::Model;
 use texts::{EditRefusal, MergeRefusal, Outbox, Settled, Took};
@@ -92,7 +90,7 @@ impl Desk {
     ) -> Result<u32, EditRefusal>
         requires on_desk { text ≤ MAX_TEXT }
         ensures step { length bytes.now ≤ MAX_FILE → IsEditStep self.old
-            (λ i. on_text (edit i text (insertion pos (map (λ b. (b, plain_looks)) bytes.now))))
+            (λ i. (edit i text (insertion pos (map (λ b. (b, plain_looks)) bytes.now))))
             result self.new outbox.old outbox.new }
         ensures long { MAX_FILE < length bytes.now → (t : TextState) × IsTextOf self.old.texts text t
             × (result ≡ Err (Whole (if nat_le pos (length (shown_of t)) then FileSpent else OutOfRange)))
@@ -116,7 +114,7 @@ impl Desk {
         outbox: &mut Outbox,
     ) -> Result<u32, EditRefusal>
         requires on_desk { text ≤ MAX_TEXT }
-        ensures { IsEditStep self.old (λ i. on_text (edit i text (deletion beg end))) result self.new
+        ensures { IsEditStep self.old (λ i. edit i text (deletion beg end)) result self.new
             outbox.old outbox.new }
     {
         self.texts.has_text(text);
@@ -136,7 +134,7 @@ impl Desk {
         outbox: &mut Outbox,
     ) -> Result<u32, EditRefusal>
         requires on_desk { text ≤ MAX_TEXT }
-        ensures { IsEditStep self.old (λ i. on_text (edit i text (looks_change beg end sel looks.now))) result self.new
+        ensures { IsEditStep self.old (λ i. edit i text (looks_change beg end sel looks.now)) result self.new
             outbox.old outbox.new }
     {
         self.texts.has_text(text);
@@ -153,7 +151,7 @@ impl Desk {
         outbox: &mut Outbox,
     ) -> Result<u32, EditRefusal>
         requires on_desk { text ≤ MAX_TEXT }
-        ensures { IsEditStep self.old (λ i. on_text (edit i text (recalling pos))) result self.new
+        ensures { IsEditStep self.old (λ i. edit i text (recalling pos)) result self.new
             outbox.old outbox.new }
     {
         self.texts.has_text(text);
@@ -165,7 +163,7 @@ impl Desk {
     /// Shows again what was cut last out of a text.
     pub fn restore(&mut self, text: TextNo, outbox: &mut Outbox) -> Result<u32, EditRefusal>
         requires on_desk { text ≤ MAX_TEXT }
-        ensures { IsEditStep self.old (λ i. on_text (edit i text restoration)) result self.new outbox.old outbox.new }
+        ensures { IsEditStep self.old (λ i. edit i text restoration) result self.new outbox.old outbox.new }
     {
         self.texts.has_text(text);
         let outcome = self.texts.restore(text, outbox);
@@ -186,7 +184,7 @@ impl Desk {
     ) -> Result<u32, EditRefusal>
         requires on_desk { text ≤ MAX_TEXT }
         requires other_on_desk { other ≤ MAX_TEXT }
-        ensures { IsEditStep self.old (λ i. on_text (copy i text beg end other pos)) result self.new
+        ensures { IsEditStep self.old (λ i. copy i text beg end other pos) result self.new
             outbox.old outbox.new }
     {
         self.texts.has_text(other);
@@ -209,8 +207,8 @@ impl Desk {
     /// Drains what waits for a text, as its replica does.
     pub fn settle(&mut self, text: TextNo) -> Settled
         requires on_desk { text ≤ MAX_TEXT }
-        ensures { IsStep self.old (λ i. on_text (settle i text))
-            (of_text (settles result.drained result.dropped result.stopped)) self.new }
+        ensures { IsStep self.old (λ i. settle i text)
+            (settles result.drained result.dropped result.stopped) self.new }
     {
         self.texts.has_text(text);
         let outcome = self.texts.settle(text);
@@ -238,43 +236,42 @@ impl Desk {
         self.texts.has_text(text);
     }
 
+    /// The lines that a query prints of a text. Refused `OutOfMemory` alone.
+    pub fn query(&self, text: TextNo, asked: Query) -> Result<Vec<u8>, Refusal>
+        requires { text ≤ MAX_TEXT }
+        ensures step { IsStep self.now (λ i. query i text asked) (print_reply result (λ lines. lines.items)) self.now }
+        ensures errors { RefusedForMemoryAlone result }
+    {
+        self.texts.query(text, asked)
+    }
+
     /// The line that prints a text: its length and its characters. Refused `OutOfMemory` alone.
     pub fn text(&self, text: TextNo) -> Result<Vec<u8>, Refusal>
         requires { text ≤ MAX_TEXT }
-        ensures step { IsStep self.now (λ i. on_text (query i text print_text)) (query_reply result (λ lines. lines.items)) self.now }
+        ensures step { IsStep self.now (λ i. query i text Query.Text) (print_reply result (λ lines. lines.items)) self.now }
         ensures errors { RefusedForMemoryAlone result }
     {
-        self.texts.text(text)
+        self.query(text, Query::Text)
     }
 
     /// The lines that print the fronts of a text: of each site of which it has operations, and how many wait. Refused
     /// `OutOfMemory` alone.
     pub fn front(&self, text: TextNo) -> Result<Vec<u8>, Refusal>
-        requires on_desk { text ≤ MAX_TEXT }
-        ensures step { IsStep self.now (λ i. on_text (query i text print_fronts)) (query_reply result (λ lines. lines.items)) self.now }
+        requires { text ≤ MAX_TEXT }
+        ensures step { IsStep self.now (λ i. query i text Query.Front) (print_reply result (λ lines. lines.items)) self.now }
         ensures errors { RefusedForMemoryAlone result }
     {
-        self.texts.front(text)
+        self.query(text, Query::Front)
     }
 
     /// The lines that print the looks of a text: of each maximal run of equal looks, and how many characters it has.
     /// Refused `OutOfMemory` alone.
     pub fn runs(&self, text: TextNo) -> Result<Vec<u8>, Refusal>
-        requires on_desk { text ≤ MAX_TEXT }
-        ensures step { IsStep self.now (λ i. on_text (query i text print_runs)) (query_reply result (λ lines. lines.items)) self.now }
+        requires { text ≤ MAX_TEXT }
+        ensures step { IsStep self.now (λ i. query i text Query.Runs) (print_reply result (λ lines. lines.items)) self.now }
         ensures errors { RefusedForMemoryAlone result }
     {
-        self.texts.runs(text)
-    }
-
-    /// The lines that print where the characters of names are shown: of each maximal stretch of names that stand one
-    /// behind the other. Refused `OutOfMemory` alone.
-    pub fn places(&self, text: TextNo, names: NameRange) -> Result<Vec<u8>, Refusal>
-        requires on_desk { text ≤ MAX_TEXT }
-        ensures step { IsStep self.now (λ i. on_text (query i text (print_places names))) (query_reply result (λ lines. lines.items)) self.now }
-        ensures errors { RefusedForMemoryAlone result }
-    {
-        self.texts.places(text, names)
+        self.query(text, Query::Runs)
     }
 
     /// Opens a viewer of a text at a row of a track; where no row is named, in the middle of the track's tallest viewer.
@@ -283,68 +280,81 @@ impl Desk {
     /// rows or no number is left, and `OutOfMemory`. Nothing is changed then.
     pub fn open(&mut self, track: Track, text: TextNo, row: Option<usize>) -> Result<u32, Refusal>
         requires on_desk { text ≤ MAX_TEXT }
-        ensures { IsStep self.old (λ i. ask i (arrange (open_in track text row))) (open_reply result) self.new }
+        ensures { IsStep self.old (λ i. ask i (arrange (Open track text row))) (open_reply result) self.new }
     {
         self.windows.open(&self.texts, track, text, row)
     }
 
     /// Closes a viewer: its rows go to its neighbour, and the caret and the selection go with it.
     pub fn close(&mut self, viewer: u32) -> Result<(), Refusal>
-        ensures { IsStep self.old (λ i. ask i (arrange (close viewer))) (done_reply result) self.new }
+        ensures { IsStep self.old (λ i. ask i (arrange (Close viewer))) (done_reply result) self.new }
     {
         self.windows.close(&self.texts, viewer)
     }
 
     /// Moves the top of a viewer to a row, and with it the bottom of the one above.
     pub fn move_top(&mut self, viewer: u32, row: usize) -> Result<(), Refusal>
-        ensures { IsStep self.old (λ i. ask i (arrange (move viewer row))) (done_reply result) self.new }
+        ensures { IsStep self.old (λ i. ask i (arrange (Move viewer row))) (done_reply result) self.new }
     {
         self.windows.move_top(&self.texts, viewer, row)
     }
 
     /// Begins a viewer with another line, counted from 0; past the last one, with that.
     pub fn scroll(&mut self, viewer: u32, line: u64) -> Result<(), Refusal>
-        ensures { IsStep self.old (λ i. ask i (arrange (scroll viewer line))) (done_reply result) self.new }
+        ensures { IsStep self.old (λ i. ask i (arrange (Scroll viewer line))) (done_reply result) self.new }
     {
         self.windows.scroll(&self.texts, viewer, line)
     }
 
     /// Sets the caret into a cell below a viewer's menu.
     pub fn point(&mut self, col: usize, row: usize) -> Result<(), Refusal>
-        ensures { IsStep self.old (λ i. ask i (arrange (point col row))) (done_reply result) self.new }
+        ensures { IsStep self.old (λ i. ask i (arrange (Point (record { col = col; row = row })))) (done_reply result) self.new }
     {
         self.windows.point(&self.texts, col, row)
     }
 
     /// Selects what a viewer shows from one cell to another, each told by its column and its row.
     pub fn select(&mut self, beg: (usize, usize), end: (usize, usize)) -> Result<(), Refusal>
-        ensures { IsStep self.old (λ i. ask i (arrange (select beg.0 beg.1 end.0 end.1))) (done_reply result) self.new }
+        ensures { IsStep self.old (λ i. ask i (arrange (Select (record { col = beg.0; row = beg.1 })
+            (record { col = end.0; row = end.1 })))) (done_reply result) self.new }
     {
         self.windows.select(&self.texts, beg, end)
     }
 
-    /// The lines that tell where caret and selection stand. Refused `OutOfMemory` alone.
-    pub fn marks(&self) -> Result<Vec<u8>, Refusal>
-        ensures step { IsStep self.now (λ i. ask i (print marks)) (view_reply result (λ lines. lines.items)) self.now }
+    /// The lines that are printed of the screen: a row for each view. Refused `OutOfMemory` alone.
+    pub fn view(&self, asked: View) -> Result<Vec<u8>, Refusal>
+        ensures step { IsStep self.now (λ i. ask i (print asked)) (print_reply result (λ lines. lines.items)) self.now }
         ensures errors { RefusedForMemoryAlone result }
     {
-        self.windows.marks(&self.texts)
+        match asked {
+            View::Views => self.windows.views(&self.texts),
+            View::Marks => self.windows.marks(&self.texts),
+            View::Show => self.windows.show(&self.texts),
+        }
+    }
+
+    /// The lines that tell where caret and selection stand. Refused `OutOfMemory` alone.
+    pub fn marks(&self) -> Result<Vec<u8>, Refusal>
+        ensures step { IsStep self.now (λ i. ask i (print View.Marks)) (print_reply result (λ lines. lines.items)) self.now }
+        ensures errors { RefusedForMemoryAlone result }
+    {
+        self.view(View::Marks)
     }
 
     /// The lines of the viewers. Refused `OutOfMemory` alone.
     pub fn views(&self) -> Result<Vec<u8>, Refusal>
-        ensures step { IsStep self.now (λ i. ask i (print views)) (view_reply result (λ lines. lines.items)) self.now }
+        ensures step { IsStep self.now (λ i. ask i (print View.Views)) (print_reply result (λ lines. lines.items)) self.now }
         ensures errors { RefusedForMemoryAlone result }
     {
-        self.windows.views(&self.texts)
+        self.view(View::Views)
     }
 
     /// The screen's rows of cells. Refused `OutOfMemory` alone.
     pub fn show(&self) -> Result<Vec<u8>, Refusal>
-        ensures step { IsStep self.now (λ i. ask i (print show)) (view_reply result (λ lines. lines.items)) self.now }
+        ensures step { IsStep self.now (λ i. ask i (print View.Show)) (print_reply result (λ lines. lines.items)) self.now }
         ensures errors { RefusedForMemoryAlone result }
     {
-        self.windows.show(&self.texts)
+        self.view(View::Show)
     }
 
     /// Types bytes of default looks at the caret, which stands behind the last that came in then.

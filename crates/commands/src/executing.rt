@@ -2,8 +2,9 @@
 
 ghost use Rattle.std.specs.Prelude.{◌≡◌, ◌≤◌, IfSome, None as Nothing};
 ghost use Rattle.std.specs.Option.{option_copied};
-ghost use Rattle.machine.specs.Whole.{arrange, ask, dress_marked, forget, search, with_told};
-ghost use Rattle.machine.specs.Windows.{close, open_in};
+ghost use Rattle.machine.specs.Commands.{dress_marked, with_told};
+ghost use Rattle.machine.specs.Events.{arrange, ask, forget, search};
+ghost use Rattle.machine.specs.declared.asked.Arrangement.TheVariants.{Close, Open};
 ghost use Rattle.machine.specs.declared.TheConstants.{MAX_TEXT};
 ghost use Rattle.commands.specs.Steps.{IsEditStep, IsTaskStep, sent_answer, written_answer};
 
@@ -44,7 +45,7 @@ impl Desk {
         text: Option<TextNo>,
     ) -> Result<Answer, EditRefusal>
         requires { IfSome text (λ n. n ≤ MAX_TEXT) }
-        ensures { IsTaskStep self.old (with_told text (λ n. arrange (open_in track n Nothing))) result self.new }
+        ensures { IsTaskStep self.old (with_told text (λ n. arrange (Open track n Nothing))) result self.new }
     {
         let Some(text) = text else {
             return Err(EditRefusal::Whole(Refusal::BadParameter));
@@ -57,7 +58,7 @@ impl Desk {
 
     // Closes a viewer.
     pub(crate) fn close_clicked(&mut self, viewer: u32) -> Result<Answer, EditRefusal>
-        ensures { IsTaskStep self.old (arrange (close viewer)) result self.new }
+        ensures { IsTaskStep self.old (arrange (Close viewer)) result self.new }
     {
         match self.close(viewer) {
             Ok(()) => Ok(Answer::Done),

@@ -3,7 +3,8 @@
 ghost use Rattle.std.specs.Prelude.{◌≡◌, ◌≤◌, ℕ, List, IsErrOf};
 ghost use Rattle.std.specs.Option.{option_copied};
 ghost use Rattle.shelf.specs.Files.{Counts, SameFiles};
-ghost use Rattle.machine.specs.Whole.{ask, load, store, with_told};
+ghost use Rattle.machine.specs.Commands.{with_told};
+ghost use Rattle.machine.specs.Events.{ask, load, store};
 ghost use Rattle.machine.specs.declared.TheConstants.{MAX_TEXT};
 ghost use Rattle.commands.specs.Filing.{ReadsText, WritesText};
 ghost use Rattle.commands.specs.Steps.{IsFault, IsShelfStep};

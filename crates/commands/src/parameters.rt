@@ -1,8 +1,8 @@
 ghost use Rattle.std.specs.Prelude.{◌≡◌, ◌≤◌, IfSome, Some, None, if◌then◌else◌};
 ghost use Rattle.std.specs.Option.{option_copied};
-ghost use Rattle.machine.specs.Whole.{bytes_told, colour_told, file_told, font_told, is_caret_sign};
+ghost use Rattle.machine.specs.Commands.{bytes_told, colour_told, file_told, font_told, is_caret_sign, offset_told};
+ghost use Rattle.machine.specs.Commands.{text_told};
 ghost use Rattle.operations.specs.Reading.{is_font_name};
-ghost use Rattle.machine.specs.Whole.{offset_told, text_told};
 
 use char_files::TextNo;
 use looks::{Colour, FontName, Looks, Sel};

@@ -1,8 +1,8 @@
 //! What is put in at the caret, which stands behind it then.
 
 ghost use Rattle.std.specs.Prelude.{◌≡◌, ◌≤◌};
-ghost use Rattle.machine.specs.Machine.{EditsDesk, edit};
-ghost use Rattle.machine.specs.Whole.{ask};
+ghost use Rattle.machine.specs.Events.{ask, edit};
+ghost use Rattle.machine.specs.OnTexts.{EditsDesk};
 ghost use Rattle.machine.specs.declared.TheConstants.{MAX_TEXT};
 ghost use Rattle.commands.specs.Putting.{FitsFile, edit_of, items_in, task_of_put};
 ghost use Rattle.commands.specs.Steps.{IsEditStep};
@@ -32,7 +32,7 @@ fn put_into(
 ) -> Result<u32, EditRefusal>
     requires on_desk { text ≤ MAX_TEXT }
     requires short { FitsFile what }
-    ensures { EditsDesk texts.old (edit 0 text (edit_of (items_in what.entry) pos)) result texts.new outbox.old outbox.new }
+    ensures { EditsDesk texts.old text (edit_of (items_in what.entry) pos) result texts.new outbox.old outbox.new }
 {
     match what {
         Insertion::Bytes(bytes) => texts.type_in(text, pos, bytes, outbox),

@@ -1,6 +1,6 @@
 ghost use Rattle.std.specs.Prelude.{◌≡◌, ◌<◌, ◌≤◌, ◌+◌, ◌↔◌, ℕ, length, IfSome, IfNone, IsTrue, slice_index};
 ghost use Rattle.texts.specs.TextState.{shown_of};
-ghost use Rattle.machine.specs.Whole.{IsFirstFrom, StandsAt};
+ghost use Rattle.machine.specs.Tasks.{IsFirstFrom, StandsAt};
 ghost use Rattle.machine.specs.Windows.{bytes_shown};
 
 use texts::Replica;

@@ -17,9 +17,10 @@ use Rattle.texts.specs.Outcome.{Edits, EditsSending, EditsShort, Shows}
 use Rattle.texts.specs.TextState.{TextState, shown_items, shown_of}
 use Rattle.texts.specs.declared.edit_refusal.EditRefusal.{EditRefusal}
 use Rattle.texts.specs.declared.edit_refusal.EditRefusal.TheVariants.{Whole, Partial}
-use Rattle.machine.specs.Machine.{CopiesText, EditsText, EditsTextShort, Reply, copied, edit_reply, is_copy_in}
-use Rattle.machine.specs.Machine.{refuses, stretch_of}
-use Rattle.desk_texts.specs.TextStep.{CopiesOut, CopiesTextSending, EditsTextSending}
+use Rattle.machine.specs.Events.{Reply, edit_reply, refuses}
+use Rattle.machine.specs.OnTexts.{CopiesText, CopiesTextSending, EditsText, EditsTextSending, EditsTextShort, copied, is_copy_in}
+use Rattle.machine.specs.OnTexts.{stretch_of}
+use Rattle.desk_texts.specs.TextStep.{CopiesOut}
 
 pub mapped_some : {A B : Type 0} (f : A → B) (xs : List A) → xs ≢ [] → map f xs ≢ []
 mapped_some f [] some = λ e. some refl

@@ -8,9 +8,7 @@ ghost use Rattle.texts.specs.Text.{IsText};
 ghost use Rattle.texts.specs.TextState.{TextState, all_told, shown_of, with_room};
 ghost use Rattle.texts.specs.contracts.replica.Replica.{the_row as replica_row};
 ghost use Rattle.machine.specs.DeskState.{InText, IsTextOf, new_desk, with_text};
-ghost use Rattle.machine.specs.Machine.{copy, edit};
-ghost use Rattle.machine.specs.Machine.{EditsDesk, MergesDesk, QueriesDesk, SettlesDesk, TakesDesk};
-ghost use Rattle.machine.specs.Machine.{print_fronts, print_places, print_runs, print_text};
+ghost use Rattle.machine.specs.OnTexts.{CopiesDesk, EditsDesk, MergesDesk, QueriesDesk, SettlesDesk, TakesDesk};
 ghost use Rattle.desk_texts.specs.contracts.desk.Texts.{the_row};
 
 use crate::editing::{
@@ -22,8 +20,7 @@ use crate::runs::run_lines;
 use char_files::{Buffer, MAX_FILE, SiteNo, TextNo};
 use list_changes::Change;
 use looks::{Looks, Refusal, Sel};
-use machine::MAX_TEXT;
-use operations::NameRange;
+use machine::{MAX_TEXT, Query};
 use std::alloc::Global;
 use std::marker::Model;
 use texts::{EditRefusal, MergeRefusal, Outbox, Replica, Settled, Took};
@@ -75,7 +72,7 @@ impl Texts {
     ) -> Result<u32, EditRefusal>
         requires on_desk { text ≤ MAX_TEXT }
         requires short { length bytes.now ≤ MAX_FILE }
-        ensures { EditsDesk self.old (edit 0 text (insertion pos (map (λ b. (b, plain_looks)) bytes.now)))
+        ensures { EditsDesk self.old text (insertion pos (map (λ b. (b, plain_looks)) bytes.now))
             result self.new outbox.old outbox.new }
     {
         let alloc = *self.texts.allocator();
@@ -92,7 +89,7 @@ impl Texts {
         outbox: &mut Outbox,
     ) -> Result<u32, EditRefusal>
         requires on_desk { text ≤ MAX_TEXT }
-        ensures { EditsDesk self.old (edit 0 text (insertion pos items.now)) result
+        ensures { EditsDesk self.old text (insertion pos items.now) result
             self.new outbox.old outbox.new }
     {
         let replica = self.replica_mut(text);
@@ -108,7 +105,7 @@ impl Texts {
         outbox: &mut Outbox,
     ) -> Result<u32, EditRefusal>
         requires on_desk { text ≤ MAX_TEXT }
-        ensures { EditsDesk self.old (edit 0 text (deletion beg end)) result self.new outbox.old outbox.new }
+        ensures { EditsDesk self.old text (deletion beg end) result self.new outbox.old outbox.new }
     {
         let replica = self.replica_mut(text);
         cut_out_of(replica, beg, end, outbox)
@@ -125,7 +122,7 @@ impl Texts {
         outbox: &mut Outbox,
     ) -> Result<u32, EditRefusal>
         requires on_desk { text ≤ MAX_TEXT }
-        ensures { EditsDesk self.old (edit 0 text (looks_change beg end sel looks.now)) result
+        ensures { EditsDesk self.old text (looks_change beg end sel looks.now) result
             self.new outbox.old outbox.new }
     {
         let replica = self.replica_mut(text);
@@ -140,7 +137,7 @@ impl Texts {
         outbox: &mut Outbox,
     ) -> Result<u32, EditRefusal>
         requires on_desk { text ≤ MAX_TEXT }
-        ensures { EditsDesk self.old (edit 0 text (recalling pos)) result self.new outbox.old outbox.new }
+        ensures { EditsDesk self.old text (recalling pos) result self.new outbox.old outbox.new }
     {
         let replica = self.replica_mut(text);
         recall_into(replica, pos, outbox)
@@ -149,7 +146,7 @@ impl Texts {
     /// Shows again what was cut last out of a text.
     pub fn restore(&mut self, text: TextNo, outbox: &mut Outbox) -> Result<u32, EditRefusal>
         requires on_desk { text ≤ MAX_TEXT }
-        ensures { EditsDesk self.old (edit 0 text restoration) result self.new outbox.old outbox.new }
+        ensures { EditsDesk self.old text restoration result self.new outbox.old outbox.new }
     {
         self.replica_mut(text).restore(outbox)
     }
@@ -167,7 +164,7 @@ impl Texts {
     ) -> Result<u32, EditRefusal>
         requires on_desk { text ≤ MAX_TEXT }
         requires other_on_desk { other ≤ MAX_TEXT }
-        ensures { EditsDesk self.old (copy 0 text beg end other pos) result self.new outbox.old outbox.new }
+        ensures { CopiesDesk self.old text beg end other pos result self.new outbox.old outbox.new }
     {
         match copy_out_of(self.replica(text), beg, end, self.replica(other), pos) {
             Ok(buffer) => self.replica_mut(other).insert(pos, &buffer, outbox),
@@ -234,43 +231,20 @@ impl Texts {
         self.replica(text).is_text();
     }
 
-    /// The line that prints a text: its length and its characters. Refused `OutOfMemory` alone.
-    pub fn text(&self, text: TextNo) -> Result<Vec<u8>, Refusal>
+    /// The lines that a query prints of a text: a row for each query. Refused `OutOfMemory` alone.
+    pub fn query(&self, text: TextNo, asked: Query) -> Result<Vec<u8>, Refusal>
         requires { text ≤ MAX_TEXT }
-        ensures ok { IfOk result (λ lines. QueriesDesk self.now text print_text lines.items) }
+        ensures ok { IfOk result (λ lines. QueriesDesk self.now text asked lines.items) }
         ensures errors { RefusedForMemoryAlone result }
     {
-        text_lines(*self.texts.allocator(), self.replica(text))
-    }
-
-    /// The lines that print the fronts of a text: of each site of which it has operations, and how many
-    /// wait. Refused `OutOfMemory` alone.
-    pub fn front(&self, text: TextNo) -> Result<Vec<u8>, Refusal>
-        requires on_desk { text ≤ MAX_TEXT }
-        ensures ok { IfOk result (λ lines. QueriesDesk self.now text print_fronts lines.items) }
-        ensures errors { RefusedForMemoryAlone result }
-    {
-        front_lines(*self.texts.allocator(), self.replica(text))
-    }
-
-    /// The lines that print the looks of a text: of each maximal run of equal looks, and how many characters
-    /// it has. Refused `OutOfMemory` alone.
-    pub fn runs(&self, text: TextNo) -> Result<Vec<u8>, Refusal>
-        requires on_desk { text ≤ MAX_TEXT }
-        ensures ok { IfOk result (λ lines. QueriesDesk self.now text print_runs lines.items) }
-        ensures errors { RefusedForMemoryAlone result }
-    {
-        run_lines(*self.texts.allocator(), self.replica(text))
-    }
-
-    /// The lines that print where the characters of names are shown: of each maximal stretch of names that stand one
-    /// behind the other. Refused `OutOfMemory` alone.
-    pub fn places(&self, text: TextNo, names: NameRange) -> Result<Vec<u8>, Refusal>
-        requires on_desk { text ≤ MAX_TEXT }
-        ensures ok { IfOk result (λ lines. QueriesDesk self.now text (print_places names) lines.items) }
-        ensures errors { RefusedForMemoryAlone result }
-    {
-        place_lines(*self.texts.allocator(), self.replica(text), names)
+        let alloc = *self.texts.allocator();
+        let replica = self.replica(text);
+        match asked {
+            Query::Text => text_lines(alloc, replica),
+            Query::Front => front_lines(alloc, replica),
+            Query::Runs => run_lines(alloc, replica),
+            Query::Places(names) => place_lines(alloc, replica, names),
+        }
     }
 
     /// The replica of a text.

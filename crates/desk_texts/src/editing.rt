@@ -5,7 +5,8 @@ ghost use Rattle.looks.specs.Looks.{plain_looks};
 ghost use Rattle.looks.specs.Refusal.{RefusedForMemoryAlone};
 ghost use Rattle.texts.specs.Edit.{deletion, insertion, is_range_in, looks_change, recalling};
 ghost use Rattle.texts.specs.TextState.{shown_of};
-ghost use Rattle.desk_texts.specs.TextStep.{CopiesOut, EditsTextSending};
+ghost use Rattle.machine.specs.OnTexts.{EditsTextSending};
+ghost use Rattle.desk_texts.specs.TextStep.{CopiesOut};
 
 use char_files::{Buffer, MAX_FILE};
 use looks::{Looks, Refusal, Sel};

@@ -4,7 +4,8 @@ ghost use Rattle.std.specs.Prelude.{◌≡◌, ◌+◌, ◌-◌, ◌<◌, ◌≤
 ghost use Rattle.std.specs.Fmt.{decimal};
 ghost use Rattle.looks.specs.Refusal.{RefusedForMemoryAlone};
 ghost use Rattle.operations.specs.NameSet.{names_of};
-ghost use Rattle.machine.specs.Machine.{Prints, print_places};
+ghost use Rattle.machine.specs.OnTexts.{Prints};
+ghost use Rattle.machine.specs.declared.asked.Query.TheVariants.{Places};
 ghost use Rattle.machine.specs.Places.{shown_at, stand_line, stand_lines, stands};
 ghost use Rattle.texts.specs.TextState.{shown_of};
 
@@ -123,7 +124,7 @@ pub(crate) fn place_lines(
     replica: &Replica,
     names: NameRange,
 ) -> Result<Vec<u8>, Refusal>
-    ensures ok { IfOk result (λ lines. Prints (print_places names) replica.now lines.items) }
+    ensures ok { IfOk result (λ lines. Prints (Places names) replica.now lines.items) }
     ensures errors { RefusedForMemoryAlone result }
 {
     let mut lines = Vec::new(alloc);

@@ -1,7 +1,8 @@
 ghost use Rattle.std.specs.Prelude.{◌≡◌, ◌≤◌, ◌++◌, length, slice_range, OnOk, IfOk};
 ghost use Rattle.std.specs.Fmt.{decimal};
 ghost use Rattle.looks.specs.Refusal.{RefusedForMemoryAlone};
-ghost use Rattle.machine.specs.Machine.{Prints, print_fronts};
+ghost use Rattle.machine.specs.OnTexts.{Prints};
+ghost use Rattle.machine.specs.declared.asked.Query.TheVariants.{Front};
 ghost use Rattle.texts.specs.TextState.{shown_of};
 ghost use Rattle.machine.specs.Printing.{front_line, print_of, printed_byte, text_lines, waiting_line};
 
@@ -88,7 +89,7 @@ fn put_waiting(out: &mut Vec<u8>, count: u32) -> Result<(), AllocError>
 
 // The lines that print a replica's fronts.
 pub(crate) fn front_lines(alloc: Global, replica: &Replica) -> Result<Vec<u8>, Refusal>
-    ensures ok { IfOk result (λ lines. Prints print_fronts replica.now lines.items) }
+    ensures ok { IfOk result (λ lines. Prints Front replica.now lines.items) }
     ensures errors { RefusedForMemoryAlone result }
 {
     let sites = replica.sites()?;

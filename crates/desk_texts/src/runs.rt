@@ -2,7 +2,8 @@ ghost use Rattle.std.specs.Prelude.{◌≡◌, ℕ, List, [], ◌∷◌, ◌++�
 ghost use Rattle.std.specs.Fmt.{signed_decimal};
 ghost use Rattle.looks.specs.Refusal.{RefusedForMemoryAlone};
 ghost use Rattle.char_files.specs.Stretch.{Item};
-ghost use Rattle.machine.specs.Machine.{Prints, print_runs};
+ghost use Rattle.machine.specs.OnTexts.{Prints};
+ghost use Rattle.machine.specs.declared.asked.Query.TheVariants.{Runs};
 ghost use Rattle.machine.specs.Printing.{run_line};
 ghost use Rattle.desk_texts.specs.RunSoFar.{IsCounted, ended_line};
 
@@ -80,7 +81,7 @@ fn go_on(out: &mut Vec<u8>, run: &mut RunSoFar, looks: &Looks) -> Result<(), All
 
 // The lines that print a replica's runs of equal looks.
 pub(crate) fn run_lines(alloc: Global, replica: &Replica) -> Result<Vec<u8>, Refusal>
-    ensures ok { IfOk result (λ lines. Prints print_runs replica.now lines.items) }
+    ensures ok { IfOk result (λ lines. Prints Runs replica.now lines.items) }
     ensures errors { RefusedForMemoryAlone result }
 {
     // No run has more characters than there are, and these fit a `u64`.

@@ -17,8 +17,10 @@ use Rattle.texts.specs.Text.{IsAnchor, IsText}
 use Rattle.texts.specs.TextState.{TextState, shown_of}
 use Rattle.machine.specs.DeskState.{DeskState, IsTextOf}
 use Rattle.command_words.specs.Commands.{menu_of}
-use Rattle.machine.specs.Whole.{clicked, clicked_in, Clicked as ClickedSeen}
-use Rattle.machine.specs.Windows.{Caret, Marked, Pointed, Selected, Window, bytes_shown, marked, marked_as, place_in, pointed, pointed_in, position_in, selected_between, selected_by, selected_from, stretch_in, window_of as shown_window}
+use Rattle.machine.specs.Commands.{Clicked as ClickedSeen, clicked, clicked_in}
+use Rattle.machine.specs.Windows.{Caret, Marked, Pointed, Selected, Window, bytes_shown, marked, marked_as, place_in}
+use Rattle.machine.specs.Windows.{pointed, pointed_in, position_in, selected_between, selected_by, selected_from, stretch_in}
+use Rattle.machine.specs.Windows.{window_of as shown_window}
 use Rattle.text_frames.specs.Frames.{IsDrawn}
 use Rattle.text_frames.specs.Marks.{range_in}
 use Rattle.text_frames.proofs.Ahead.{ahead_is_anchor}

@@ -6,8 +6,9 @@ use Rattle.command_words.specs.Commands.{menu_of}
 use Rattle.texts.specs.TextState.{TextState, shown_of}
 use Rattle.machine.specs.DeskState.{DeskState, IsTextOf}
 use Rattle.machine.specs.declared.TheConstants.{MAX_TEXT}
-use Rattle.machine.specs.Whole.{clicked, Clicked as ClickedSeen}
-use Rattle.machine.specs.Windows.{Caret, Marked, Pointed, Window, bytes_shown, marked, place_in, pointed, position_in, window_of as shown_in}
+use Rattle.machine.specs.Commands.{Clicked as ClickedSeen, clicked}
+use Rattle.machine.specs.Windows.{Caret, Marked, Pointed, Window, bytes_shown, marked, place_in, pointed, position_in}
+use Rattle.machine.specs.Windows.{window_of as shown_in}
 use Rattle.text_frames.specs.Frames.{IsDrawn}
 use Rattle.desk_windows.specs.Windows.{WindowSeen, WindowsSeen, screened}
 use Rattle.desk_windows.specs.declared.pointing.Clicked.{Clicked}

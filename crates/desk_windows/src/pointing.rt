@@ -1,7 +1,8 @@
 //! Caret and selection, set by cells of the screen.
 
 ghost use Rattle.std.specs.Prelude.{◌≡◌, ◌+◌, ◌≤◌, None as Nothing, length, max, min, option_map, slice_get};
-ghost use Rattle.machine.specs.Windows.{arranged, point, select, selected_from};
+ghost use Rattle.machine.specs.Windows.{arranged, selected_from};
+ghost use Rattle.machine.specs.declared.asked.Arrangement.TheVariants.{Point, Select};
 ghost use Rattle.texts.specs.TextState.{shown_of};
 ghost use Rattle.desk_windows.specs.Pointing.{IsClicked, IsInWindow, IsPlaceIn, IsPointed, spot_of};
 ghost use Rattle.desk_windows.specs.Windows.{AreOf, ComesTo, screened};
@@ -133,7 +134,7 @@ impl Windows {
     /// Refused `NoViewer` for a cell of a menu, of a blank track and outside the screen. Nothing is changed then.
     pub fn point(&mut self, texts: &Texts, col: usize, row: usize) -> Result<(), Refusal>
         requires { AreOf texts.now self.old }
-        ensures comes { ComesTo (arranged texts.now (screened self.old) (point col row))
+        ensures comes { ComesTo (arranged texts.now (screened self.old) (Point (record { col = col; row = row })))
             self.old (λ _. Nothing) result self.new }
         ensures of { AreOf texts.now self.new }
     {
@@ -162,7 +163,7 @@ impl Windows {
         end: (usize, usize),
     ) -> Result<(), Refusal>
         requires { AreOf texts.now self.old }
-        ensures comes { ComesTo (arranged texts.now (screened self.old) (select beg.0 beg.1 end.0 end.1))
+        ensures comes { ComesTo (arranged texts.now (screened self.old) (Select (record { col = beg.0; row = beg.1 }) (record { col = end.0; row = end.1 })))
             self.old (λ _. Nothing) result self.new }
         ensures of { AreOf texts.now self.new }
     {

@@ -4,7 +4,8 @@ ghost use Rattle.looks.specs.Refusal.{RefusedForMemoryAlone};
 ghost use Rattle.looks.specs.declared.refusal.Refusal.TheVariants.{NoRoom};
 ghost use Rattle.viewers.specs.Viewers.{after_opening, has_room};
 ghost use Rattle.machine.specs.DeskState.{DeskState, InText};
-ghost use Rattle.machine.specs.Windows.{arranged, blank_screen, close, is_open, is_row_below, move, open_in, scroll};
+ghost use Rattle.machine.specs.Windows.{arranged, blank_screen, is_open, is_row_below};
+ghost use Rattle.machine.specs.declared.asked.Arrangement.TheVariants.{Close, Move, Open, Scroll};
 ghost use Rattle.desk_windows.specs.Windows.{AreLeft, AreOf, ComesTo, ComesToOrShort, Follows, IsTextShown, screened, width_of};
 
 use crate::fitting::fit_all;
@@ -150,7 +151,7 @@ impl Windows {
     ) -> Result<u32, Refusal>
         requires on_desk { text ≤ MAX_TEXT }
         requires of { AreOf texts.now self.old }
-        ensures comes { ComesToOrShort (arranged texts.now (screened self.old) (open_in track text row))
+        ensures comes { ComesToOrShort (arranged texts.now (screened self.old) (Open track text row))
             self.old (λ v. Just v) result self.new }
         ensures of { AreOf texts.now self.new }
     {
@@ -173,7 +174,7 @@ impl Windows {
     /// Refused `NoViewer` for a number that isn't on the screen. Nothing is changed then.
     pub fn close(&mut self, texts: &Texts, viewer: u32) -> Result<(), Refusal>
         requires { AreOf texts.now self.old }
-        ensures comes { ComesTo (arranged texts.now (screened self.old) (close viewer))
+        ensures comes { ComesTo (arranged texts.now (screened self.old) (Close viewer))
             self.old (λ _. Nothing) result self.new }
         ensures of { AreOf texts.now self.new }
     {
@@ -191,7 +192,7 @@ impl Windows {
     /// `NoRoom` for the topmost viewer and where one of the two would keep fewer than two rows. Nothing is changed then.
     pub fn move_top(&mut self, texts: &Texts, viewer: u32, row: usize) -> Result<(), Refusal>
         requires { AreOf texts.now self.old }
-        ensures comes { ComesTo (arranged texts.now (screened self.old) (move viewer row))
+        ensures comes { ComesTo (arranged texts.now (screened self.old) (Move viewer row))
             self.old (λ _. Nothing) result self.new }
         ensures of { AreOf texts.now self.new }
     {
@@ -211,7 +212,7 @@ impl Windows {
     /// Refused `NoViewer` for a number that isn't on the screen. Nothing is changed then.
     pub fn scroll(&mut self, texts: &Texts, viewer: u32, line: u64) -> Result<(), Refusal>
         requires { AreOf texts.now self.old }
-        ensures comes { ComesTo (arranged texts.now (screened self.old) (scroll viewer line))
+        ensures comes { ComesTo (arranged texts.now (screened self.old) (Scroll viewer line))
             self.old (λ _. Nothing) result self.new }
         ensures of { AreOf texts.now self.new }
     {

@@ -1,7 +1,11 @@
+pub mod Commands
 pub mod DeskState
+pub mod Events
 pub mod Machine
+pub mod OnTexts
 pub mod Places
 pub mod Printing
 pub mod ScreenPrinting
-pub mod Whole
+pub mod State
+pub mod Tasks
 pub mod Windows

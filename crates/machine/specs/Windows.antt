@@ -21,6 +21,8 @@ use Rattle.viewers.specs.declared.screen.Track.{Track}
 use Rattle.viewers.specs.declared.screen.Track.TheVariants.{User, System}
 use Rattle.viewers.specs.declared.seats.Seat.{Seat}
 use Rattle.machine.specs.DeskState.{DeskState}
+use Rattle.machine.specs.declared.asked.Arrangement.{Arrangement}
+use Rattle.machine.specs.declared.asked.Arrangement.TheVariants.{Open, Close, Move, Scroll, Point, Select}
 
 -- the bytes that a text shows
 abbrev pub bytes_shown : TextState → List ℕ
@@ -151,16 +153,6 @@ marked_as s shown =
 abbrev pub marked : DeskState → Screened → Option Marked
 marked d w = option_and_then (λ s. option_and_then (marked_as s) (window_of d w s.viewer)) w.selected
 
--- What a site does with its screen alone. An opening may name a row; a line is counted from 0; cells are columns and rows of
--- the whole screen.
-pub data Arrangement : Type 0 where
-  open_in : (track : Track) (text : ℕ) (row : Option ℕ) → Arrangement
-  close : (viewer : ℕ) → Arrangement
-  move : (viewer row : ℕ) → Arrangement
-  scroll : (viewer line : ℕ) → Arrangement
-  point : (col row : ℕ) → Arrangement
-  select : (col row col' row' : ℕ) → Arrangement
-
 -- what it comes to: the screen then, and the number of a viewer that was opened
 abbrev pub Arranged : Type 0
 Arranged = Result (Screened × Option ℕ) Refusal
@@ -279,9 +271,9 @@ selected_by d w col row col' row' =
 
 -- each has one outcome: the screen then, or why nothing was done
 abbrev pub arranged : DeskState → Screened → Arrangement → Arranged
-arranged d w (open_in track text row) = opened_at w track text row
-arranged d w (close v) = closed_at w v
-arranged d w (move v row) = moved_to w v row
-arranged d w (scroll v line) = scrolled_in d w v line
-arranged d w (point col row) = pointed_to d w col row
-arranged d w (select col row col' row') = selected_by d w col row col' row'
+arranged d w (Open track text row) = opened_at w track text row
+arranged d w (Close v) = closed_at w v
+arranged d w (Move v row) = moved_to w v row
+arranged d w (Scroll v line) = scrolled_in d w v line
+arranged d w (Point cell) = pointed_to d w cell.col cell.row
+arranged d w (Select beg end) = selected_by d w beg.col beg.row end.col end.row

@@ -1,8 +1,10 @@
 //! The machine of events, as definitions: what a run of several sites may reply to an event, and how it goes on.
 #![tactic(auto)]
 
+mod asked;
 mod limits;
 
+pub use asked::{Arrangement, Cell, Query, View};
 pub use limits::the_limits;
 
 /// The greatest number of a text on a desk; the least is 1. This project's own.

@@ -30,26 +30,30 @@ use Rattle.texts.specs.Laws.{OwnEditsArePlain}
 use Rattle.texts.specs.Outcome.{Edits, Shows, count_standing, first_refusal}
 use Rattle.texts.specs.SiteFiles.{HasSiteFile, IsNoSiteFile, IsSiteFileOf, site_bytes}
 use Rattle.texts.specs.Text.{IsText}
-use Rattle.texts.specs.TextState.{TextState, shown_items, with_room}
+use Rattle.texts.specs.Taking.{HasTakenAll}
+use Rattle.texts.specs.TextState.{TextState, all_told, empty_text, shown_items, with_room}
 use Rattle.texts.specs.declared.TheConstants.{MAX_KEPT}
 use Rattle.texts.specs.declared.edit_refusal.EditRefusal.{EditRefusal}
 use Rattle.texts.specs.declared.edit_refusal.EditRefusal.TheVariants.{Whole, Partial}
 use Rattle.convergence.proofs.OwnOperations.{standing_within}
-use Rattle.machine.specs.DeskState.{DeskState, with_text}
-use Rattle.machine.specs.Machine.{Does, EditsText, IsTextAt, Reply, State, edit, edit_reply, messages_of, refuses}
-use Rattle.machine.specs.Whole.{AtCaret, BeginsAs, BeginsWith, Change, Clicked, DoesTask, FileBecomes, IfCaret, IsDeskAt}
-use Rattle.machine.specs.Whole.{IsFirstFrom, IsParameter, IsTaskAt, IsTaskOfCall, Loads, Part, Refuses, RunReply, RunState}
-use Rattle.machine.specs.Whole.{Searches, StandsAt, Task, arrange, bytes_told, change, clicked, clicked_in, colour_told, done}
-use Rattle.machine.specs.Whole.{dress_marked, failed, file_told, font_told, forget, forgot, found, has_begun, is_caret_sign}
-use Rattle.machine.specs.Whole.{keep, lines_of_view, load, not_found, of_text, offset_told, opens, print, prints_screen, put}
-use Rattle.machine.specs.Whole.{put_recalled, refuse, reopen, search, store, task_of, text_told, told_at, untouched, went_well}
-use Rattle.machine.specs.Whole.{with_screen_at, with_told}
-use Rattle.machine.specs.Windows.{Arranged, Caret, Marked, Screened, Window, arranged, bytes_shown, marked, marked_as, place_in}
-use Rattle.machine.specs.Windows.{stretch_in, viewer_with, window_of}
 use Rattle.viewers.specs.Screen.{area_of}
 use Rattle.viewers.specs.declared.screen.Area.{Area}
-use Rattle.machine_laws.proofs.OneRunReply.{BeginsOf, ComesTo, IsParameterBy, IsTaskBy, IsTaskIn, IsTaskTold, ReopensBy}
-use Rattle.machine_laws.proofs.OneRunReply.{shown_parts}
+use Rattle.machine.specs.Commands.{Change, Clicked, IsParameter, IsTaskAt, IsTaskOfCall, bytes_told, clicked, clicked_in}
+use Rattle.machine.specs.Commands.{colour_told, dress_marked, file_told, font_told, is_caret_sign, offset_told, task_of}
+use Rattle.machine.specs.Commands.{text_told, with_told}
+use Rattle.machine.specs.DeskState.{DeskState, with_text}
+use Rattle.machine.specs.Events.{Part, Reply, Task, arrange, change, done, edit_reply, failed, forget, forgot, found, keep}
+use Rattle.machine.specs.Events.{load, messages_of, not_found, opens, print, prints, put, put_recalled, refuse, refuses}
+use Rattle.machine.specs.Events.{reopen, search, store, untouched, went_well}
+use Rattle.machine.specs.OnTexts.{EditsText}
+use Rattle.machine.specs.State.{AtText, IsDeskAt, IsTextAt, Refuses, State, with_screen_at}
+use Rattle.machine.specs.Tasks.{AtCaret, BeginsAs, BeginsWith, DoesTask, EditsAt, FileBecomes, Forgets, IfCaret, IsFirstFrom}
+use Rattle.machine.specs.Tasks.{Loads, Searches, StandsAt, has_begun, lines_of_view}
+use Rattle.machine.specs.Windows.{Arranged, Caret, Marked, Screened, Window, arranged, bytes_shown, marked, marked_as}
+use Rattle.machine.specs.Windows.{place_in, stretch_in, viewer_with, window_of}
+use Rattle.machine_laws.proofs.OneOfTexts.{one_text}
+use Rattle.machine_laws.proofs.OneReply.{BeginsOf, ComesTo, IsParameterBy, IsTaskBy, IsTaskIn, IsTaskTold, ReopensBy}
+use Rattle.machine_laws.proofs.OneReply.{shown_parts}
 use Rattle.machine_laws.proofs.Reopening.{some_begun}
 use Rattle.machine_laws.proofs.Telling.{put_there}
 use Rattle.machine_laws.specs.Laws.{AnswersAll, AreTexts, CaretHasText, EachTaskIsAnswered, HasText, MayHavePart}
@@ -105,17 +109,23 @@ edit_answered plain t e is = by (is_in_text t e) refl
         (edit_reply result messages, new, (result, messages, stand, shows, refl))
     by false past = (refuses OutOfRange, t, (refl, refl))
 
+-- where a text that is there can do so, the run can
+goes_at : (F : TextState → TextState → Type 0) (s : State) (i text : ℕ) (messages : List (List ℕ)) (t u : TextState)
+    → IsTextAt s i text t → F t u → (new : State) × AtText F s i text messages new × IsTextAt new i text (all_told u)
+goes_at F s i text messages t u (d, at, there) does =
+    let D : DeskState = with_text d text (all_told u) in (
+      record s { desks = slice_set s.desks i D; sent = s.sent ++ messages },
+      (d, D, at, (t, all_told u, there, (u, does, refl), refl), refl),
+      (D, put_there s.desks i d D at, put_there d.texts (text - 1) t (all_told u) there),
+    )
+
 -- each edit of a text that is there is answered, and the text is there then
 edits : OwnEditsArePlain → (s : State) (i text : ℕ) (e : Edit) (t : TextState) → AreTexts s → IsTextAt s i text t
-    → (r : Reply) × (mid : State) × (u : TextState) × Does s (edit i text e) r mid × IsTextAt mid i text u
-edits plain s i text e t are (d, at, there) =
-    let (r, u, does) = edit_answered plain t e (are i text t (d, at, there)) in (
-      r,
-      record s { desks = slice_set s.desks i (with_text d text u); sent = s.sent ++ messages_of r },
-      u,
-      (d, with_text d text u, at, (t, u, there, does, refl), refl),
-      (with_text d text u, put_there s.desks i d (with_text d text u) at, put_there d.texts (text - 1) t u there),
-    )
+    → (r : Reply) × (mid : State) × (u : TextState) × EditsAt s i text e r mid × IsTextAt mid i text u
+edits plain s i text e t are there =
+    let (r, u, does) = edit_answered plain t e (are i text t there) in
+    let (mid, goes, later) = goes_at (EditsText e r) s i text (messages_of r) t u there does in
+    (r, mid, all_told u, goes, later)
 
 -- a search
 
@@ -176,24 +186,24 @@ first_or_none bytes text from = elim (cases_lt (length text) from) [
       (λ other from_le lt. absurd (omega (arith, from_le, lt)))
 ]
 
-searches : (s : RunState) (i : ℕ) (w : Screened) (c : Caret) (t : TextState) (bytes : List ℕ)
-    → (r : RunReply) × (new : RunState) × Searches s i w c t bytes r new
+searches : (s : State) (i : ℕ) (w : Screened) (c : Caret) (t : TextState) (bytes : List ℕ)
+    → (r : Reply) × (new : State) × Searches s i w c t bytes r new
 searches s i w c t bytes = by (first_or_none bytes (bytes_shown t) (place_in t c.anchor))
   where
     by : FirstOrNone bytes (bytes_shown t) (place_in t c.anchor)
-        → (r : RunReply) × (new : RunState) × Searches s i w c t bytes r new
+        → (r : Reply) × (new : State) × Searches s i w c t bytes r new
     by (inl (q, first)) = (found (q + length bytes), _, inl (q, first, refl, refl))
     by (inr none) = (not_found, s, inr (none, refl, refl))
 
 -- what a desk is asked
 
 -- a task is answered, with this part
-abbrev Answers : RunState → ℕ → DeskState → Screened → Task → Part → Type 0
-Answers s i d w t part = (r : RunReply) × (new : RunState) × DoesTask s i d w t part r new
+abbrev Answers : State → ℕ → DeskState → Screened → Task → Part → Type 0
+Answers s i d w t part = (r : Reply) × (new : State) × DoesTask s i d w t part r new
 
-arranges : (s : RunState) (i : ℕ) (out : Arranged) → (r : RunReply) × (new : RunState) × ComesTo s i out r new
+arranges : (s : State) (i : ℕ) (out : Arranged) → (r : Reply) × (new : State) × ComesTo s i out r new
 arranges s i (Ok out) = (option_map_or (λ v. opens v) out.1 done, with_screen_at s i out.0, (refl, refl))
-arranges s i (Err why) = (of_text (refuses why), s, (refl, refl))
+arranges s i (Err why) = ((refuses why), s, (refl, refl))
 
 -- a click is into the text that the viewer shows
 clicked_number : (v : ℕ) (area : Area) (col row : ℕ) (shown : Window × TextState)
@@ -202,132 +212,139 @@ clicked_number v area col row shown =
     cond_both (row == area.top) _ _ (λ (x : Clicked). shown.0.text ≡ x.text) (λ e. refl) (λ e. refl)
 
 -- at a desk whose caret has a text
-module _ (plain : OwnEditsArePlain) (s : RunState) (i : ℕ) (d : DeskState) (w : Screened) (are : AreTexts s.texts)
+module _ (plain : OwnEditsArePlain) (s : State) (i : ℕ) (d : DeskState) (w : Screened) (are : AreTexts s)
     (at : IsDeskAt s i d w) (has : CaretHasText d w) where
   -- what a viewer shows is one of the texts
   shown_at : (v : ℕ) (window : Window) (t : TextState) → window_of d w v ≡ Some (window, t)
-      → IsTextAt s.texts i window.text t
+      → IsTextAt s i window.text t
   shown_at v window t shows = (d, at.texts, (shown_parts d w v (window, t) shows).1)
 
-  at_caret : (c : Caret) (window : Window) (t : TextState) (edit_at : ℕ → Edit) → IsTextAt s.texts i window.text t
-      → (r : RunReply) × (new : RunState) × AtCaret Does s i w c window t edit_at r new
+  at_caret : (c : Caret) (window : Window) (t : TextState) (edit_at : ℕ → Edit) → IsTextAt s i window.text t
+      → (r : Reply) × (new : State) × AtCaret EditsAt s i w c window t edit_at r new
   at_caret c window t edit_at here =
-      let (r, mid, u, step, there) = edits plain s.texts i window.text (edit_at (place_in t c.anchor)) t are here in
-      (of_text r, _, (r, mid, u, step, there, refl, refl))
+      let (r, mid, u, step, there) = edits plain s i window.text (edit_at (place_in t c.anchor)) t are here in
+      (r, _, (mid, u, step, there, refl))
 
   -- where a caret is needed
-  with_caret : (part : Part) (Goes : RunReply → RunState → Caret → Window → TextState → Type 0)
-      → ((c : Caret) (window : Window) (t : TextState) → w.caret ≡ Some c → IsTextAt s.texts i window.text t
-      → (r : RunReply) × (new : RunState) × Goes r new c window t) → (o : Option Caret) → w.caret ≡ o
-      → (o ≡ None → part ≡ untouched) → (r : RunReply) × (new : RunState) × IfCaret s d w part r new (Goes r new)
-  with_caret part Goes goes None is free = (of_text (refuses NoCaret), s, inl (is, free refl, (refl, refl)))
+  with_caret : (part : Part) (Goes : Reply → State → Caret → Window → TextState → Type 0)
+      → ((c : Caret) (window : Window) (t : TextState) → w.caret ≡ Some c → IsTextAt s i window.text t
+      → (r : Reply) × (new : State) × Goes r new c window t) → (o : Option Caret) → w.caret ≡ o
+      → (o ≡ None → part ≡ untouched) → (r : Reply) × (new : State) × IfCaret s d w part r new (Goes r new)
+  with_caret part Goes goes None is free = ((refuses NoCaret), s, inl (is, free refl, (refl, refl)))
   with_caret part Goes goes (Some c) is free =
       let (shown, shows) = has c is in
       let (r, new, g) = goes c shown.0 shown.1 is (shown_at c.viewer shown.0 shown.1 shows) in
       (r, new, inr (c, shown, is, shows, g))
 
   loads : (name file : List ℕ) (c : Caret) (window : Window) (t : TextState) → s.files name ≡ Some file
-      → IsNoFile file ⊎ ((items : List Item) × IsFileOf items file) → IsTextAt s.texts i window.text t
-      → (r : RunReply) × (new : RunState) × Loads s i w name went_well c window t r new
+      → IsNoFile file ⊎ ((items : List Item) × IsFileOf items file) → IsTextAt s i window.text t
+      → (r : Reply) × (new : State) × Loads s i w name went_well c window t r new
   loads name file c window t there (inl none) here =
-      (of_text (refuses BadFile), s, (file, there, inl (none, (refl, refl))))
+      ((refuses BadFile), s, (file, there, inl (none, (refl, refl))))
   loads name file c window t there (inr (items, is)) here =
       let (r, new, goes) = at_caret c window t (λ p. insertion p items) here in
       (r, new, (file, there, inr (items, is, goes)))
 
   -- a reopening of a text in which nothing was done, where a file was read
-  begins_with : (text : ℕ) (t : TextState) (ops : List Operation) → IsTextAt s.texts i text t
-      → HasSiteFile t.text t.site ops → (r : RunReply) × (new : RunState) × BeginsWith s i text ops r new
-  begins_with text t ops (d', at_d, of_d) has_file =
+  begins_with : (text : ℕ) (t : TextState) (ops : List Operation) → IsTextAt s i text t
+      → HasSiteFile t.text t.site ops → (r : Reply) × (new : State) × BeginsWith s i text ops r new
+  begins_with text t ops there has_file =
       let (u, taken) = some_begun t.text t.site ops has_file in
-      (done, _, (_, (d', with_text d' text u, at_d, (t, u, of_d, taken, refl), refl), refl, refl))
+      let (new, goes, later) = goes_at (λ t u. HasTakenAll (empty_text t.text t.site) ops u) s i text [] t u there taken in
+      (done, new, (goes, refl))
 
-  begins_of : (text : ℕ) (t : TextState) (number site : ℕ) (ops : List Operation) → IsTextAt s.texts i text t
-      → HasSiteFile number site ops → (r : RunReply) × (new : RunState) × BeginsOf s i text t number site ops r new
+  begins_of : (text : ℕ) (t : TextState) (number site : ℕ) (ops : List Operation) → IsTextAt s i text t
+      → HasSiteFile number site ops → (r : Reply) × (new : State) × BeginsOf s i text t number site ops r new
   begins_of text t number site ops there has_file = by (number == t.text && site == t.site) refl
     where
-      by : (its : Bool) → (number == t.text && site == t.site) ≡ its → (r : RunReply) × (new : RunState)
+      by : (its : Bool) → (number == t.text && site == t.site) ≡ its → (r : Reply) × (new : State)
           × MatchBool its (BeginsWith s i text ops r new) (Refuses s WrongText r new)
       by true is =
           let both = and_parts (number == t.text) (site == t.site) is in
           begins_with text t ops there (subst (λ (x : ℕ). HasSiteFile x t.site ops) (eqb-true number t.text both.0)
           (subst (λ (x : ℕ). HasSiteFile number x ops) (eqb-true site t.site both.1) has_file))
-      by false other = (of_text (refuses WrongText), s, (refl, refl))
+      by false other = ((refuses WrongText), s, (refl, refl))
 
-  begins_as : (text : ℕ) (t : TextState) (file : List ℕ) → IsTextAt s.texts i text t
+  begins_as : (text : ℕ) (t : TextState) (file : List ℕ) → IsTextAt s i text t
       → IsNoSiteFile file ⊎ ((number site : ℕ) × (ops : List Operation) × IsSiteFileOf number site ops file)
-      → (r : RunReply) × (new : RunState) × BeginsAs s i text t file r new
-  begins_as text t file there (inl none) = (of_text (refuses BadFile), s, inl (none, (refl, refl)))
+      → (r : Reply) × (new : State) × BeginsAs s i text t file r new
+  begins_as text t file there (inl none) = ((refuses BadFile), s, inl (none, (refl, refl)))
   begins_as text t file there (inr (number, site, ops, is)) =
       let (r, new, goes) = begins_of text t number site ops there is.tells in
       (r, new, inr (number, site, ops, is, goes))
 
   -- what is done where something was done in the text already, or nothing was yet
-  by_begun : (text : ℕ) (t : TextState) (name : List ℕ) (part : Part) (r : RunReply) (new : RunState) (begun : Bool)
+  by_begun : (text : ℕ) (t : TextState) (name : List ℕ) (part : Part) (r : Reply) (new : State) (begun : Bool)
       → has_begun t ≡ begun → ReopensBy s i text t name part begun r new → ReopensBy s i text t name part (has_begun t) r new
   by_begun text t name part r new begun is goes =
       subst (λ (b : Bool). ReopensBy s i text t name part b r new) (sym is) goes
 
   -- what a store leaves
-  abbrev with_file : List ℕ → Option (List ℕ) → RunState
+  abbrev with_file : List ℕ → Option (List ℕ) → State
   with_file name left = record s { files = λ other. if bytes_eq other name then left else s.files other }
 
   becomes : (name : List ℕ) (left : Option (List ℕ)) → FileBecomes s name left (with_file name left)
   becomes name left = (
-    refl,
-    refl,
+    λ other. if bytes_eq other name then left else s.files other,
     ap (λ (b : Bool). if b then left else s.files name) ((bytes_eq-Decides name name).1 refl),
     λ other apart. ap (λ (b : Bool). if b then left else s.files other)
         (false_from_ne_true (bytes_eq other name) (λ same. apart ((bytes_eq-Decides other name).0 same))),
+    refl,
   )
 
+  -- a room that is emptied tells how many waited there
+  forgotten : (text : ℕ) (t : TextState) → IsTextAt s i text t → (new : State)
+      → AtText (λ x u. (forgot (length x.waiting_room) ≡ forgot (length x.waiting_room)) × (u ≡ with_room x [])) s i text [] new
+      → Forgets s i text (forgot (length t.waiting_room)) new
+  forgotten text t there new (e, e', at_e, (u, v, of_e, (v', (same, is_v'), is_v), is_e'), is_new) =
+      let here : t ≡ u = one_text s i text t u there (e, at_e, of_e) in
+      (e, e', at_e, (u, v, of_e, (v', (ap (λ (x : TextState). forgot (length x.waiting_room)) here, is_v'), is_v), is_e'), is_new)
+
   tasks : (t : Task) (part : Part) → HasText s i t → MayHavePart s i w t part → Answers s i d w t part
-  tasks (refuse why) part text free = (of_text (refuses why), s, (free, (refl, refl)))
+  tasks (refuse why) part text free = ((refuses why), s, (free, (refl, refl)))
   tasks (put items) part text free = with_caret part _
       (λ c window t is here. let (r, new, g) = at_caret c window t (λ p. insertion p items) here in (r, new, (free, g)))
       w.caret refl (λ e. free)
   tasks put_recalled part text free = with_caret part _
       (λ c window t is here. let (r, new, g) = at_caret c window t recalling here in (r, new, (free, g)))
       w.caret refl (λ e. free)
-  tasks (load name) untouched text free = (of_text (refuses NoCaret), s, inl (free, refl, (refl, refl)))
+  tasks (load name) untouched text free = ((refuses NoCaret), s, inl (free, refl, (refl, refl)))
   tasks (load name) went_well text (caret, (file, there, told)) = with_caret went_well _
       (λ c window t is here. loads name file c window t there told here) w.caret refl (λ e. absurd (caret e))
   tasks (load name) (failed left) text caret = with_caret (failed left) _
-      (λ c window t is here. (of_text (refuses ReadFault), s, (refl, refl))) w.caret refl (λ e. absurd (caret e))
-  tasks (store text name) untouched has_text (t, there, long) = (of_text (refuses BadFile), s, (t, there, (long, (refl, refl))))
+      (λ c window t is here. ((refuses ReadFault), s, (refl, refl))) w.caret refl (λ e. absurd (caret e))
+  tasks (store text name) untouched has_text (t, there, long) = ((refuses BadFile), s, (t, there, (long, (refl, refl))))
   tasks (store text name) went_well has_text (t, there, few) = (
     done,
     with_file name (Some (formatted (shown_items t))),
     (t, there, (few, refl, becomes name (Some (formatted (shown_items t))))),
   )
   tasks (store text name) (failed left) has_text (t, there, few) =
-      (of_text (refuses WriteFault), with_file name left, (t, there, (few, refl, becomes name left)))
+      ((refuses WriteFault), with_file name left, (t, there, (few, refl, becomes name left)))
   tasks (search bytes) part text free = with_caret part _
       (λ c window t is here. let (r, new, g) = searches s i w c t bytes in (r, new, (free, g)))
       w.caret refl (λ e. free)
   tasks (change text e) part (t, there) free =
-      let (r, mid, u, step, later) = edits plain s.texts i text e t are there in
-      (of_text r, record s { texts = told_at mid i text }, (free, (r, mid, step, refl, refl)))
-  tasks (forget text) part (t, (d', at_d, of_d)) free = (
-    forgot (length t.waiting_room),
-    _,
-    (free, (t, _, (d', at_d, of_d), (d', _, at_d, (t, with_room t [], of_d, refl, refl), refl), refl, refl)),
-  )
+      let (r, mid, u, step, later) = edits plain s i text e t are there in (r, mid, (free, step))
+  tasks (forget text) part (t, there) free =
+      let (new, goes, later) = goes_at (λ t u. (forgot (length t.waiting_room) ≡ forgot (length t.waiting_room))
+      × (u ≡ with_room t [])) s i text [] t (with_room t []) there (refl, refl) in
+      (forgot (length t.waiting_room), new, (free, forgotten text t there new goes))
   tasks (arrange a) part text free = let (r, new, g) = arranges s i (arranged d w a) in (r, new, (free, g))
-  tasks (print v) part text free = (prints_screen (lines_of_view d w v), s, (free, refl, refl))
-  tasks (keep text name) untouched has_text (t, there, long) = (of_text (refuses BadFile), s, (t, there, (long, (refl, refl))))
+  tasks (print v) part text free = (prints (lines_of_view d w v), s, (free, refl, refl))
+  tasks (keep text name) untouched has_text (t, there, long) = ((refuses BadFile), s, (t, there, (long, (refl, refl))))
   tasks (keep text name) went_well has_text (t, there, few) =
       let file : List ℕ = site_bytes t.text t.site t.operations in
       (done, with_file name (Some file), (t, there, (few, refl, becomes name (Some file))))
   tasks (keep text name) (failed left) has_text (t, there, few) =
-      (of_text (refuses WriteFault), with_file name left, (t, there, (few, refl, becomes name left)))
+      ((refuses WriteFault), with_file name left, (t, there, (few, refl, becomes name left)))
   tasks (reopen text name) untouched has_text (t, there, begun) =
-      (of_text (refuses Conflict), s, (t, there, by_begun text t name untouched _ s true begun (refl, (refl, refl))))
+      ((refuses Conflict), s, (t, there, by_begun text t name untouched _ s true begun (refl, (refl, refl))))
   tasks (reopen text name) went_well has_text ((t, there, fresh), (file, at_name, told)) =
       let (r, new, goes) = begins_as text t file there told in
       (r, new, (t, there, by_begun text t name went_well r new false fresh (file, at_name, goes)))
   tasks (reopen text name) (failed left) has_text (t, there, fresh) =
-      (of_text (refuses ReadFault), s, (t, there, by_begun text t name (failed left) _ s false fresh (refl, refl)))
+      ((refuses ReadFault), s, (t, there, by_begun text t name (failed left) _ s false fresh (refl, refl)))
 
   -- a part that may be
   parts : (t : Task) → HasText s i t → (part : Part) × MayHavePart s i w t part
@@ -384,12 +401,12 @@ module _ (plain : OwnEditsArePlain) (s : RunState) (i : ℕ) (d : DeskState) (w 
       by false = (task_of d w call.command call.token.value v text, refl)
 
   -- the text of what is marked is there
-  marked_text : (m : Marked) → marked d w ≡ Some m → IsTextAt s.texts i m.window.text m.text
+  marked_text : (m : Marked) → marked d w ≡ Some m → IsTextAt s i m.window.text m.text
   marked_text m is = option_and_then_some (λ s. option_and_then (marked_as s) (window_of d w s.viewer)) w.selected m is
       (λ selected at_selected is'. option_and_then_some (marked_as selected) (window_of d w selected.viewer) m is'
       (λ shown shows is''.
       let same = (cond_some (nat_lt (stretch_in shown.1 selected).0 (stretch_in shown.1 selected).1) _ m is'').1 in
-      subst (λ (x : Marked). IsTextAt s.texts i x.window.text x.text) same
+      subst (λ (x : Marked). IsTextAt s i x.window.text x.text) same
       (shown_at selected.viewer shown.0 shown.1 shows)))
 
   told_text : {X : Type 0} (o : Option X) (task : X → Task) → ((x : X) → HasText s i (task x))
@@ -406,7 +423,7 @@ module _ (plain : OwnEditsArePlain) (s : RunState) (i : ℕ) (d : DeskState) (w 
       by (Some m) is = (m.text, marked_text m is)
 
   -- the text that a command's task names is there
-  command_text : (c : Command) (told : TokenValue) (v text : ℕ) (t : TextState) → IsTextAt s.texts i text t
+  command_text : (c : Command) (told : TokenValue) (v text : ℕ) (t : TextState) → IsTextAt s i text t
       → HasText s i (task_of d w c told v text)
   command_text command.SystemOpen told v text t there = told_text (text_told told) _ (λ n. tt)
   command_text command.SystemClose told v text t there = tt
@@ -422,7 +439,7 @@ module _ (plain : OwnEditsArePlain) (s : RunState) (i : ℕ) (d : DeskState) (w 
   command_text command.ShareForget told v text t there = (t, there)
 
   -- so is that of a call's task
-  call_text : (call : Call) (v text : ℕ) (t : TextState) (task : Task) → IsTextAt s.texts i text t
+  call_text : (call : Call) (v text : ℕ) (t : TextState) (task : Task) → IsTextAt s i text t
       → IsTaskOfCall d w call v text task → HasText s i task
   call_text call v text t task there is = by (has_parameter call.command) is
     where
@@ -435,25 +452,25 @@ module _ (plain : OwnEditsArePlain) (s : RunState) (i : ℕ) (d : DeskState) (w 
       by false e = subst (HasText s i) (sym e) (command_text call.command call.token.value v text t there)
 
   -- and that of what a click meets
-  clicked_text : (col row : ℕ) (c : Clicked) → clicked d w col row ≡ Some c → (t : TextState) × IsTextAt s.texts i c.text t
+  clicked_text : (col row : ℕ) (c : Clicked) → clicked d w col row ≡ Some c → (t : TextState) × IsTextAt s i c.text t
   clicked_text col row c is = option_and_then_some _ (viewer_with w col row) c is
       (λ v at_v is'. option_and_then_some _ (area_of w.tracks v) c is'
       (λ area at_area is''. clicked_shown v area (window_of d w v) refl is''))
     where
       clicked_shown : (v : ℕ) (area : Area) (o : Option (Window × TextState)) → window_of d w v ≡ o
-          → option_map (clicked_in v area col row) o ≡ Some c → (t : TextState) × IsTextAt s.texts i c.text t
+          → option_map (clicked_in v area col row) o ≡ Some c → (t : TextState) × IsTextAt s i c.text t
       clicked_shown v area None shows is = absurd (none-some c is)
       clicked_shown v area (Some shown) shows is =
           let same = ap (λ (x : Clicked). x.text) (same_Some (clicked_in v area col row shown) c is) in (
             shown.1,
-            subst (λ (x : ℕ). IsTextAt s.texts i x shown.1) (clicked_number v area col row shown ∙ same)
+            subst (λ (x : ℕ). IsTextAt s i x shown.1) (clicked_number v area col row shown ∙ same)
                 (shown_at v shown.0 shown.1 shows),
           )
 
   task_at : (col row : ℕ) → (t : Task) × IsTaskAt d w col row t × HasText s i t
   task_at col row = by (clicked d w col row) refl
     where
-      at_call : (at : Clicked) → ((t : TextState) × IsTextAt s.texts i at.text t)
+      at_call : (at : Clicked) → ((t : TextState) × IsTextAt s i at.text t)
           → NoCallAt at.bytes at.pos ⊎ ((call : Call) × IsCallAt at.bytes at.pos call)
           → (t : Task) × IsTaskIn d w (Some at) t × HasText s i t
       at_call at text (inl none) = (refuse UnknownCommand, inl (none, refl), tt)

@@ -22,13 +22,14 @@ use Rattle.texts.specs.Text.{IsAnchor, IsText}
 use Rattle.texts.specs.TextState.{TextState, shown_of}
 use Rattle.texts.proofs.Chars.{shown_are_chars}
 use Rattle.machine.specs.DeskState.{DeskState, IsTextOf}
-use Rattle.machine.specs.Windows.{Arranged, Arrangement, Caret, Pointed, Screened, Selected, Window, arranged, close}
-use Rattle.machine.specs.Windows.{closed_at, has_room, is_open, is_row_below, line_anchor, move, moved_to, open_in, opened_at, point}
-use Rattle.machine.specs.Windows.{pointed, pointed_in, pointed_to, scroll, scrolled_in, seats_with, select, selected_between}
-use Rattle.machine.specs.Windows.{selected_by, selected_from, shown_by, text_of, track_of, viewer_with, window_of, with_next}
-use Rattle.machine.specs.Windows.{with_track}
-use Rattle.machine_laws.proofs.OneReply.{one_element}
-use Rattle.machine_laws.proofs.OneRunReply.{shown_parts}
+use Rattle.machine.specs.Windows.{Arranged, Caret, Pointed, Screened, Selected, Window, arranged, closed_at, has_room}
+use Rattle.machine.specs.Windows.{is_open, is_row_below, line_anchor, moved_to, opened_at, pointed, pointed_in, pointed_to}
+use Rattle.machine.specs.Windows.{scrolled_in, seats_with, selected_between, selected_by, selected_from, shown_by, text_of}
+use Rattle.machine.specs.Windows.{track_of, viewer_with, window_of, with_next, with_track}
+use Rattle.machine.specs.declared.asked.Arrangement.{Arrangement}
+use Rattle.machine.specs.declared.asked.Arrangement.TheVariants.{Close, Move, Open, Point, Scroll, Select}
+use Rattle.machine_laws.proofs.OneOfTexts.{one_element}
+use Rattle.machine_laws.proofs.OneReply.{shown_parts}
 use Rattle.machine_laws.specs.Laws.{ShowsTextOf, StandsByChars}
 
 -- what a text shows at a place is a character
@@ -380,9 +381,9 @@ module _ (d : DeskState) (w : Screened) (are : (n : ℕ) (t : TextState) → IsT
 
   -- so it is with each arrangement
   pub arranged_leaves : (a : Arrangement) → LeavesChars d (arranged d w a)
-  arranged_leaves (open_in track text row) = opened_leaves track text row
-  arranged_leaves (close v) = closed_leaves v
-  arranged_leaves (move v row) = moved_leaves v row
-  arranged_leaves (scroll v line) = scrolled_leaves v line
-  arranged_leaves (point col row) = point_leaves col row
-  arranged_leaves (select col row col' row') = selected_leaves col row col' row'
+  arranged_leaves (Open track text row) = opened_leaves track text row
+  arranged_leaves (Close v) = closed_leaves v
+  arranged_leaves (Move v row) = moved_leaves v row
+  arranged_leaves (Scroll v line) = scrolled_leaves v line
+  arranged_leaves (Point cell) = point_leaves cell.col cell.row
+  arranged_leaves (Select beg end) = selected_leaves beg.col beg.row end.col end.row

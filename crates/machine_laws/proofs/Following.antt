@@ -1,11 +1,10 @@
 -- The texts of a run go on: behind an event each is what its operations define, has told its changes, and holds what it held.
-use Rattle.std.proofs.Common.{◌≡◌, ℕ, zero, suc, ◌-◌, List, [], ◌∷◌, length, Option, Some, None, Contains, refl, sym, ap}
-use Rattle.std.proofs.Common.{subst, ◌∙◌, inl, inr, arith, true, false}
-use Rattle.std.specs.Prelude.{MatchOption, slice_get, slice_set}
+use Rattle.std.proofs.Common.{◌≡◌, ℕ, zero, suc, ◌-◌, List, [], ◌∷◌, length, Some, Contains, refl, sym, ap}
+use Rattle.std.proofs.Common.{subst, ◌∙◌, inl, inr, arith}
+use Rattle.std.specs.Prelude.{slice_get, slice_set}
 use Rattle.std.proofs.lemmas.List.{length-set}
 use Rattle.std.proofs.lemmas.List.Elements.{All-nil, Contains-append_left}
 use Rattle.std.proofs.lemmas.Option.{none-some}
-use Rattle.looks.specs.declared.refusal.Refusal.TheVariants.{BadEvent}
 use Rattle.operations.specs.Operation.{Operation}
 use Rattle.set_laws.specs.Sets.{AreIdentified, IsPartOf}
 use Rattle.texts.specs.Laws.{OwnEditsArePlain}
@@ -13,16 +12,15 @@ use Rattle.texts.specs.Text.{IsText}
 use Rattle.texts.specs.TextState.{TextState, all_told, with_room}
 use Rattle.convergence.proofs.OneWay.{text_with_room}
 use Rattle.machine.specs.DeskState.{DeskState, InText, IsTextOf}
-use Rattle.machine.specs.Machine.{CopiesText, CopiesTextShort, Does, EditsText, EditsTextShort, Event, InDesk, MergesText}
-use Rattle.machine.specs.Machine.{MergesTextShort, Reply, SettlesText, Short, State, TakesText, TakesTextShort, copy, edit, merge}
-use Rattle.machine.specs.Machine.{message_in, messages_of, query, refuses, settle, unknown}
-use Rattle.machine.specs.Machine.{take as taking}
-use Rattle.machine.specs.Whole.{told_at, told_behind}
+use Rattle.machine.specs.OnTexts.{CopiesText, CopiesTextShort, EditsText, EditsTextShort, MergesText, MergesTextShort}
+use Rattle.machine.specs.OnTexts.{SettlesText, TakesText, TakesTextShort}
+use Rattle.machine.specs.State.{State, Tells}
+use Rattle.machine_laws.proofs.Going.{TextGoes, TextsGo, as_they_are, begins, by_text, copies, copies_short, edits}
+use Rattle.machine_laws.proofs.Going.{edits_short, empties, merges_short, merges_so, settles_so, takes, takes_short}
 use Rattle.machine_laws.proofs.Growing.{copies_grow, copies_short_grow, edits_grow, edits_short_grow, merges_grow}
 use Rattle.machine_laws.proofs.Growing.{merges_short_grow, settles_grow, takes_grow, takes_short_grow}
 use Rattle.machine_laws.proofs.Reaching.{set_old}
 use Rattle.machine_laws.proofs.Reopening.{Begins, held_nothing}
-use Rattle.machine_laws.proofs.Telling.{Tells, told_in, told_same}
 use Rattle.machine_laws.specs.Growing.{Grows}
 use Rattle.machine_laws.specs.Laws.{AreTexts, HaveTold}
 
@@ -66,20 +64,46 @@ grown_follows Does' grow t u (t', does, is_u) is told =
           (Contains-append_left t.operations grows.more op held),
     )
 
--- a room that is emptied leaves a text that follows
-pub emptied_follows : AreIdentified [] → (t u : TextState) → u ≡ with_room t [] → Follows t u
-emptied_follows none t u is_u is told =
-    subst (λ (x : TextState). IsText x × (x.asked ≡ length x.operations) × IsPartOf t.operations x.operations) (sym is_u) (
-      text_with_room t [] is (record { of_text = All-nil _; identified = none; few = omega arith }),
-      told,
+-- so does one whose room is emptied
+emptied_follows : AreIdentified [] → (t u : TextState) → Tells (λ t u. u ≡ with_room t []) t u → Follows t u
+emptied_follows none t u (t', is_t', is_u) is told =
+    subst (λ (x : TextState). IsText x × (x.asked ≡ length x.operations) × IsPartOf t.operations x.operations)
+    (sym (is_u ∙ ap all_told is_t')) (
+      text_told (with_room t [])
+          (text_with_room t [] is (record { of_text = All-nil _; identified = none; few = omega arith })),
+      refl,
       λ op held. held,
     )
 
--- so does a text in which nothing was done, and that began anew and has told its changes
+-- and a text in which nothing was done, and that began anew
 begun_follows : (ops : List Operation) (t u : TextState) → Tells (Begins ops) t u → Follows t u
 begun_follows ops t u (t', (fresh, taken), is_u) is told =
     subst (λ (x : TextState). IsText x × (x.asked ≡ length x.operations) × IsPartOf t.operations x.operations) (sym is_u)
     (text_told t' taken.is, refl, held_nothing t t'.operations fresh)
+
+module _ (plain : OwnEditsArePlain) (none : AreIdentified []) (s : State) where
+  -- in whichever way it goes on
+  pub goes_follows : (t u : TextState) → Tells (TextGoes s) t u → Follows t u
+  goes_follows t u (t', edits e r does, is) =
+      grown_follows (EditsText e r) (edits_grow plain e r) t u (t', does, is)
+  goes_follows t u (t', edits_short e r does, is) =
+      grown_follows (EditsTextShort e r) (edits_short_grow plain e r) t u (t', does, is)
+  goes_follows t u (t', copies from beg end pos r does, is) =
+      grown_follows (CopiesText from beg end pos r) (copies_grow plain from beg end pos r) t u (t', does, is)
+  goes_follows t u (t', copies_short from beg end pos r does, is) =
+      grown_follows (CopiesTextShort from beg end pos r) (copies_short_grow plain from beg end pos r) t u (t', does, is)
+  goes_follows t u (t', takes message r does, is) =
+      grown_follows (TakesText message r) (takes_grow message r) t u (t', does, is)
+  goes_follows t u (t', takes_short message r does, is) =
+      grown_follows (TakesTextShort message r) (takes_short_grow message r) t u (t', does, is)
+  goes_follows t u (t', settles_so stopped r does, is) =
+      grown_follows (SettlesText stopped r) (settles_grow stopped r) t u (t', does, is)
+  goes_follows t u (t', merges_so j text other r there does, is) =
+      grown_follows (MergesText other r) (λ x new m. merges_grow x other m.0 new m.1) t u (t', does, is)
+  goes_follows t u (t', merges_short j text other r there does, is) =
+      grown_follows (MergesTextShort other r) (λ x new m. merges_short_grow x other m.0 new m.1) t u (t', does, is)
+  goes_follows t u (t', empties same, is) = emptied_follows none t u (t', same, is)
+  goes_follows t u (t', begins ops spelled does, is) = begun_follows ops t u (t', does, is)
 
 -- each text of a desk follows the one of its number, where there was one there is one, and there are as many
 abbrev pub DeskFollows : DeskState → DeskState → Type 0
@@ -96,8 +120,8 @@ StateFollows s new = (i : ℕ) (d' : DeskState) → slice_get new.desks i ≡ So
 desk_same : (d : DeskState) → DeskFollows d d
 desk_same d = (λ n u there. (u, there, same_follows u), λ n t there. (t, there), refl)
 
-pub state_same : (s new : State) → new ≡ s → StateFollows s new
-state_same s new same = subst (StateFollows s) (sym same) (λ i d at. (d, at, desk_same d))
+state_same : (s new : State) → new.desks ≡ s.desks → StateFollows s new
+state_same s new same i d at = (d, ap (λ (ds : List DeskState). slice_get ds i) (sym same) ∙ at, desk_same d)
 
 desk_follows : (Does' : TextState → TextState → Type 0) → ((t u : TextState) → Does' t u → Follows t u)
     → (d : DeskState) (text : ℕ) (d' : DeskState) → InText Does' d text d' → DeskFollows d d'
@@ -119,11 +143,11 @@ desk_follows Does' follow d text d' (t, u, at, does, is) = (
 )
 
 -- what a text does that lets it follow lets the run's texts follow
-pub state_follows : (Does' : TextState → TextState → Type 0) → ((t u : TextState) → Does' t u → Follows t u)
-    → (s new : State) (i text : ℕ) (messages : List (List ℕ)) → InDesk (λ d d'. InText Does' d text d') s i messages new
-    → StateFollows s new
-state_follows Does' follow s new i text messages (d, d', at, does, is) j e there =
-    let (x, at_x, how) = set_old s.desks i j d' e (subst (λ (y : State). slice_get y.desks j ≡ Some e) is there) in
+state_follows : (Does' : TextState → TextState → Type 0) → ((t u : TextState) → Does' t u → Follows t u)
+    → (s new : State) (i text : ℕ) (d d' : DeskState) → slice_get s.desks i ≡ Some d → InText Does' d text d'
+    → new.desks ≡ slice_set s.desks i d' → StateFollows s new
+state_follows Does' follow s new i text d d' at does is j e there =
+    let (x, at_x, how) = set_old s.desks i j d' e (subst (λ (ds : List DeskState). slice_get ds j ≡ Some e) is there) in
     elim how [
       | inl same ↦ (x, at_x, subst (DeskFollows x) (sym same) (desk_same x))
       | inr set ↦ (
@@ -133,13 +157,11 @@ state_follows Does' follow s new i text messages (d, d', at, does, is) j e there
       )
     ]
 
--- and so does what lets it grow, behind which it tells its changes
-grown_state : (Does' : TextState → TextState → Type 0) → ((t u : TextState) → Does' t u → IsText t → Grows t u)
-    → (s mid : State) (i text : ℕ) (messages : List (List ℕ)) → InDesk (λ d d'. InText Does' d text d') s i messages mid
-    → StateFollows s (told_at mid i text)
-grown_state Does' grow s mid i text messages does =
-    state_follows (Tells Does') (grown_follows Does' grow) s (told_at mid i text) i text messages
-    (told_in Does' s mid i text messages does)
+-- so does each event
+pub texts_go : OwnEditsArePlain → AreIdentified [] → (s new : State) → TextsGo s new → StateFollows s new
+texts_go plain none s new (as_they_are same) = state_same s new same
+texts_go plain none s new (by_text i text d d' at does is) =
+    state_follows (Tells (TextGoes s)) (goes_follows plain none s) s new i text d d' at does is
 
 -- the texts that follow are what their operations define
 pub texts_follow : (s new : State) → StateFollows s new → AreTexts s → HaveTold s → AreTexts new
@@ -154,51 +176,3 @@ told_follow s new follow are told i n u (d', at, there) =
     let (d, at_d, desk) = follow i d' at in
     let (t, there_t, goes) = desk.0 n u there in
     (goes (are i n t (d, at_d, there_t)) (told i n t (d, at_d, there_t))).1
-
--- where a text begins anew, and tells its changes, the run's texts follow
-pub begun_state : (ops : List Operation) (s mid : State) (i text : ℕ)
-    → InDesk (λ d d'. InText (Begins ops) d text d') s i [] mid → StateFollows s (told_at mid i text)
-begun_state ops s mid i text does =
-    state_follows (Tells (Begins ops)) (begun_follows ops) s (told_at mid i text) i text []
-    (told_in (Begins ops) s mid i text [] does)
-
--- a message that is told, or not
-taken_follows : (s : State) (i text : ℕ) (message : Option (List ℕ)) (r : Reply) (mid : State) → HaveTold s
-    → MatchOption message ((mid ≡ s) × (r ≡ refuses BadEvent))
-    (λ bytes. InDesk (λ d d'. InText (TakesText bytes r) d text d') s i [] mid) → StateFollows s (told_at mid i text)
-taken_follows s i text None r mid told does =
-    state_same s (told_at mid i text) (ap (λ (x : State). told_at x i text) does.0 ∙ told_same s i text (told i text))
-taken_follows s i text (Some bytes) r mid told does =
-    grown_state (TakesText bytes r) (takes_grow bytes r) s mid i text [] does
-
-module _ (plain : OwnEditsArePlain) where
-  -- behind each event the texts follow, where memory is there
-  pub does_follow : (s : State) (e : Event) (r : Reply) (mid : State) → HaveTold s → Does s e r mid
-      → StateFollows s (told_behind e mid)
-  does_follow s (edit i text e) r mid told does =
-      grown_state (EditsText e r) (edits_grow plain e r) s mid i text (messages_of r) does
-  does_follow s (copy i text beg end other at) r mid told (t, there, does) =
-      grown_state (CopiesText t beg end at r) (copies_grow plain t beg end at r) s mid i other (messages_of r) does
-  does_follow s (taking i text d) r mid told does = taken_follows s i text (message_in s d) r mid told does
-  does_follow s (settle i text) r mid told does =
-      grown_state (SettlesText false r) (settles_grow false r) s mid i text [] does
-  does_follow s (merge i text j) r mid told (u, there, does) =
-      grown_state (MergesText u r) (λ t new m. merges_grow t u m.0 new m.1) s mid i text [] does
-  does_follow s (query i text q) r mid told does = state_same s mid does.0
-  does_follow s unknown r mid told does = state_same s mid does.0
-
-  -- and where it was refused
-  pub short_follow : (s : State) (e : Event) (r : Reply) (mid : State) → HaveTold s → Short s e r mid
-      → StateFollows s (told_behind e mid)
-  short_follow s (edit i text e) r mid told short =
-      grown_state (EditsTextShort e r) (edits_short_grow plain e r) s mid i text (messages_of r) short
-  short_follow s (copy i text beg end other at) r mid told (t, there, short) =
-      grown_state (CopiesTextShort t beg end at r) (copies_short_grow plain t beg end at r) s mid i other (messages_of r) short
-  short_follow s (taking i text d) r mid told (bytes, is, short) =
-      grown_state (TakesTextShort bytes r) (takes_short_grow bytes r) s mid i text [] short
-  short_follow s (settle i text) r mid told short =
-      grown_state (SettlesText true r) (settles_grow true r) s mid i text [] short
-  short_follow s (merge i text j) r mid told (u, there, short) =
-      grown_state (MergesTextShort u r) (λ t new m. merges_short_grow t u m.0 new m.1) s mid i text [] short
-  short_follow s (query i text q) r mid told short = state_same s mid short.0
-  short_follow s unknown r mid told short = absurd short

@@ -24,8 +24,9 @@ use Rattle.texts.specs.declared.merge_refusal.MergeRefusal.{MergeRefusal}
 use Rattle.texts.specs.declared.merge_refusal.MergeRefusal.TheVariants.{Whole as MergesNothing, Stopped}
 use Rattle.texts.specs.declared.took.Took.{Took}
 use Rattle.texts.specs.declared.took.Took.TheVariants.{Waits}
-use Rattle.machine.specs.Machine.{CopiesText, CopiesTextShort, EditsText, EditsTextShort, Reply, SettlesText, TakesText}
-use Rattle.machine.specs.Machine.{TakesTextShort, copied, is_copy_in}
+use Rattle.machine.specs.Events.{Reply}
+use Rattle.machine.specs.OnTexts.{CopiesText, CopiesTextShort, EditsText, EditsTextShort, SettlesText, TakesText}
+use Rattle.machine.specs.OnTexts.{TakesTextShort, copied, is_copy_in}
 use Rattle.machine_laws.proofs.Reaching.{copies_text, copies_text_short, edits_text, edits_text_short, left_by_merge}
 use Rattle.machine_laws.proofs.Reaching.{merged, merged_short, settles_text, takes_text, takes_text_short}
 use Rattle.machine_laws.proofs.Rooms.{by_test}

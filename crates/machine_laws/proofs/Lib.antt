@@ -5,14 +5,13 @@ pub mod FrontLines
 pub mod Going
 pub mod Growing
 pub mod Numbered
+pub mod OneOfTexts
 pub mod OneReply
-pub mod OneRunReply
 pub mod Reaching
 pub mod ReachedRuns
 pub mod Reopening
 pub mod RisingSites
 pub mod Rooms
 pub mod SameScreens
-pub mod Sending
 pub mod ShownLines
 pub mod Telling

@@ -2,13 +2,13 @@
 use Rattle.std.proofs.Common.{◌≡◌, ℕ, zero, suc, ◌+◌, ◌-◌, ◌^◌, ◌<◌, ◌≤◌, length, true, false, Bool, List, [], ◌∷◌}
 use Rattle.std.proofs.Common.{◌++◌, All, map, Option, Some, None, Result, Ok, Err, refl, sym, ap, subst, ◌∙◌, inl, inr}
 use Rattle.std.proofs.Common.{arith, get_or}
-use Rattle.std.specs.Prelude.{◌⊎◌, ◌==◌, MatchBool, MatchOption, if◌then◌else◌, nat_lt, slice_get, slice_set, take}
+use Rattle.std.specs.Prelude.{◌⊎◌, ◌==◌, MatchBool, if◌then◌else◌, nat_lt, slice_get, slice_set, take}
 use Rattle.std.specs.List.{range_with_len}
 use Rattle.std.specs.Option.{option_map_or}
 use Rattle.std.proofs.lemmas.List.Elements.{All-append, All-filter, All-nil, All-take}
 use Rattle.std.proofs.lemmas.Option.{same_Some}
 use Rattle.looks.specs.declared.refusal.Refusal.{Refusal}
-use Rattle.looks.specs.declared.refusal.Refusal.TheVariants.{BadEvent, Behind, Conflict, RoomFull, SeqSpent, WrongText}
+use Rattle.looks.specs.declared.refusal.Refusal.TheVariants.{Behind, Conflict, RoomFull, SeqSpent, WrongText}
 use Rattle.char_files.specs.Stretch.{Stretch}
 use Rattle.char_files.specs.declared.TheConstants.{MAX_FILE}
 use Rattle.operations.specs.Operation.{Operation, OpKind}
@@ -33,19 +33,18 @@ use Rattle.texts.specs.declared.merge_refusal.MergeRefusal.{MergeRefusal}
 use Rattle.texts.specs.declared.merge_refusal.MergeRefusal.TheVariants.{Whole as MergesNothing, Stopped}
 use Rattle.texts.specs.declared.took.Took.{Took}
 use Rattle.texts.specs.declared.took.Took.TheVariants.{Waits}
-use Rattle.machine.specs.DeskState.{DeskState, InText, IsTextOf, new_desk}
-use Rattle.machine.specs.Machine.{CopiesText, CopiesTextShort, Does, EditsText, EditsTextShort, Event, InDesk}
-use Rattle.machine.specs.Machine.{IsTextAt, MergesText, MergesTextShort, Replies, Reply, SettlesText, Short, State}
-use Rattle.machine.specs.Machine.{TakesText, TakesTextShort, copied, copy, edit, is_copy_in, merge, message_in}
-use Rattle.machine.specs.Machine.{messages_of, new_state, query, refuses, settle, unknown}
-use Rattle.machine.specs.Machine.{take as taking}
-use Rattle.machine.specs.Whole.{RunState, told_at, told_behind}
+use Rattle.machine.specs.DeskState.{DeskState, IsTextOf, new_desk}
+use Rattle.machine.specs.Events.{Reply}
+use Rattle.machine.specs.OnTexts.{CopiesText, EditsText, EditsTextShort, MergesText, MergesTextShort, SettlesText, TakesText}
+use Rattle.machine.specs.OnTexts.{TakesTextShort, copied, is_copy_in}
+use Rattle.machine.specs.State.{IsTextAt, State, new_state}
 use Rattle.machine_laws.proofs.FrontLines.{small_front}
-use Rattle.machine_laws.proofs.Going.{TextsGo, as_they_are, by_beginning, by_emptying, by_event, replies_go}
+use Rattle.machine_laws.proofs.Going.{TextGoes, TextsGo, as_they_are, begins as begins_anew, by_text, copies, copies_short}
+use Rattle.machine_laws.proofs.Going.{edits as edited, edits_short as in_part, empties, merges_short as merged_short, merges_so}
+use Rattle.machine_laws.proofs.Going.{replies_go, settles_so, takes, takes_short as taken_short}
 use Rattle.machine_laws.proofs.Reaching.{set_cases}
 use Rattle.machine_laws.proofs.Reopening.{Begins}
-use Rattle.machine_laws.proofs.Telling.{told_cases}
-use Rattle.machine_laws.specs.Laws.{AreNumbered, RunReached, WhatIsReachedIsNumbered, run_begins, run_goes_on}
+use Rattle.machine_laws.specs.Laws.{AreNumbered, Reached, WhatIsReachedIsNumbered, begins, goes_on}
 
 -- an operation whose site and seq fit
 abbrev IsNumbered : Operation → Type 0
@@ -294,61 +293,42 @@ settles_text stopped r t new (n, m, drains, replied) is = drained drains is
 abbrev AllHaveNumbers : State → Type 0
 AllHaveNumbers s = (i text : ℕ) (t : TextState) → IsTextAt s i text t → HasNumbers t
 
--- what keeps the numbers of a text keeps those of the run
-on_text : (F : TextState → TextState → Type 0) (s new : State) (i text : ℕ) (m : List (List ℕ))
-    → ((t u : TextState) → F t u → HasNumbers t → HasNumbers u)
-    → InDesk (λ d d'. InText F d text d') s i m new → AllHaveNumbers s → AllHaveNumbers new
-on_text F s new i text m keeps (d, d', at, (t, t', there, does, is), stands) all j number u (x, at_x, there_x) =
-    let desks : new.desks ≡ slice_set s.desks i d' = ap (λ (x : State). x.desks) stands in
+-- so does what a text does in any of the ways that there are
+text_goes_so : (s : State) → AllHaveNumbers s → (t u : TextState) → TextGoes s t u → HasNumbers t → HasNumbers u
+text_goes_so s all t u (edited e r does) is = edits_text e r t u does is
+text_goes_so s all t u (in_part e r does) is = edits_short e r t u does is
+text_goes_so s all t u (copies from beg end pos r does) is = copies_text from beg end pos r t u does is
+text_goes_so s all t u (copies_short from beg end pos r does) is =
+    edits_short (copied from beg end pos) r t u does.2 is
+text_goes_so s all t u (takes message r does) is = takes_text message r t u does is
+text_goes_so s all t u (taken_short message r does) is = takes_short message r t u does is
+text_goes_so s all t u (settles_so stopped r does) is = settles_text stopped r t u does is
+text_goes_so s all t u (merges_so j text other r there does) is = merges_text other r t u (all j text other there) does is
+text_goes_so s all t u (merged_short j text other r there does) is =
+    merges_short other r t u (all j text other there) does is
+text_goes_so s all t u (empties same) is = subst HasNumbers (sym same) (in_room t [] (All-nil IsNumbered) is)
+text_goes_so s all t u (begins_anew ops spelled does) is = begins_text ops spelled t u does is
+
+-- telling changes adds no number
+tells_so : (t u : TextState) → u ≡ all_told t → HasNumbers t → HasNumbers u
+tells_so t u is has = subst HasNumbers (sym is) (record { site = has.site; taken = has.taken; waits = has.waits })
+
+-- and what the run's texts do
+goes_so : (s new : State) → TextsGo s new → AllHaveNumbers s → AllHaveNumbers new
+goes_so s new (as_they_are same) all i number u (x, at_x, there) =
+    all i number u (x, ap (λ (ds : List DeskState). slice_get ds i) (sym same) ∙ at_x, there)
+goes_so s new (by_text i text d d' at (t, t', there, (t'', does, told), is) desks) all j number u (x, at_x, there_x) =
     let texts : d'.texts ≡ slice_set d.texts (text - 1) t' = ap (λ (x : DeskState). x.texts) is in
     elim (set_cases s.desks i j d' x (rw desks at at_x)) [
       | inl same ↦ let there' : slice_get d'.texts (number - 1) ≡ Some u
           = subst (λ (y : DeskState). IsTextOf y number u) same there_x in
           elim (set_cases d.texts (text - 1) (number - 1) t' u (rw texts at there')) [
-            | inl same' ↦ subst HasNumbers (sym same') (keeps t t' does (all i text t (d, at, there)))
+            | inl same' ↦ subst HasNumbers (sym same')
+                (tells_so t'' t' told (text_goes_so s all t t'' does (all i text t (d, at, there))))
             | inr before ↦ all i number u (d, at, before)
           ]
       | inr before ↦ all j number u (x, before, there_x)
     ]
-
-taken_text : (s : State) (i text : ℕ) (told : Option (List ℕ)) (r : Reply) (new : State)
-    → MatchOption told ((new ≡ s) × (r ≡ refuses BadEvent))
-    (λ message. InDesk (λ d d'. InText (TakesText message r) d text d') s i [] new)
-    → AllHaveNumbers s → AllHaveNumbers new
-taken_text s i text None r new does all = subst AllHaveNumbers (sym does.0) all
-taken_text s i text (Some message) r new does all =
-    on_text (TakesText message r) s new i text [] (takes_text message r) does all
-
-does_so : (s : State) (e : Event) (r : Reply) (new : State) → Does s e r new → AllHaveNumbers s → AllHaveNumbers new
-does_so s (edit i text e) r new does all =
-    on_text (EditsText e r) s new i text (messages_of r) (edits_text e r) does all
-does_so s (copy i text beg end other pos) r new (t, there, does) all =
-    on_text (CopiesText t beg end pos r) s new i other (messages_of r) (copies_text t beg end pos r) does all
-does_so s (taking i text told) r new does all = taken_text s i text (message_in s told) r new does all
-does_so s (settle i text) r new does all = on_text (SettlesText false r) s new i text [] (settles_text false r) does all
-does_so s (merge i text j) r new (u, there, does) all =
-    on_text (MergesText u r) s new i text [] (λ t v. merges_text u r t v (all j text u there)) does all
-does_so s (query i text q) r new does all = subst AllHaveNumbers (sym does.0) all
-does_so s unknown r new does all = subst AllHaveNumbers (sym does.0) all
-
-short_so : (s : State) (e : Event) (r : Reply) (new : State) → Short s e r new → AllHaveNumbers s → AllHaveNumbers new
-short_so s (edit i text e) r new does all =
-    on_text (EditsTextShort e r) s new i text (messages_of r) (edits_short e r) does all
-short_so s (copy i text beg end other pos) r new (t, there, does) all =
-    on_text (CopiesTextShort t beg end pos r) s new i other (messages_of r)
-    (λ u v short. edits_short (copied t beg end pos) r u v short.2) does all
-short_so s (taking i text told) r new (message, is, does) all =
-    on_text (TakesTextShort message r) s new i text [] (takes_short message r) does all
-short_so s (settle i text) r new does all = on_text (SettlesText true r) s new i text [] (settles_text true r) does all
-short_so s (merge i text j) r new (u, there, does) all =
-    on_text (MergesTextShort u r) s new i text [] (λ t v. merges_short u r t v (all j text u there)) does all
-short_so s (query i text q) r new does all = subst AllHaveNumbers (sym does.0) all
-short_so s unknown r new does all = absurd does
-
-replies_so : (s : State) (e : Event) (r : Reply) (new : State) → Replies s e r new → AllHaveNumbers s
-    → AllHaveNumbers new
-replies_so s e r new (inl does) all = does_so s e r new does all
-replies_so s e r new (inr short) all = short_so s e r new short all
 
 -- an element that is made of a number of a range
 of_range : {A : Type 0} (f : ℕ → A) (a n i : ℕ) (y : A) → slice_get (map f (range_with_len a n)) i ≡ Some y
@@ -357,8 +337,9 @@ of_range f a zero i y at = absurd cc
 of_range f a (suc n) zero y at = (a, omega arith, same_Some (f a) y at)
 of_range f a (suc n) (suc i) y at = let (k, below, is) = of_range f (a + 1) n i y at in (k, omega (arith, below), is)
 
-new_so : (first count : ℕ) → first + count ≤ 2 ^ 16 → AllHaveNumbers (new_state first count)
-new_so first count few i text t (d, at, there) =
+new_so : (first count width height : ℕ) (files : Files) → first + count ≤ 2 ^ 16
+    → AllHaveNumbers (new_state first count width height files)
+new_so first count width height files few i text t (d, at, there) =
     let (site, below, is) = of_range new_desk first count i d at in
     let here : slice_get (new_desk site).texts (text - 1) ≡ Some t = ap
     (λ (x : DeskState). slice_get x.texts (text - 1)) is ∙ there in
@@ -370,39 +351,11 @@ new_so first count few i text t (d, at, there) =
       waits = All-nil IsNumbered;
     })
 
--- telling changes adds no number
-told_so : (s : State) (i text : ℕ) → AllHaveNumbers s → AllHaveNumbers (told_at s i text)
-told_so s i text all = elim (told_cases s i text) [
-  | inl same ↦ subst AllHaveNumbers (sym same) all
-  | inr tells ↦ on_text (λ t u. u ≡ all_told t) s (told_at s i text) i text []
-      (λ t u is has. subst HasNumbers (sym is) (record { site = has.site; taken = has.taken; waits = has.waits })) tells all
-]
-
-told_behind_so : (e : Event) (mid : State) → AllHaveNumbers mid → AllHaveNumbers (told_behind e mid)
-told_behind_so (edit i text e) mid all = told_so mid i text all
-told_behind_so (copy i text beg end other pos) mid all = told_so mid i other all
-told_behind_so (taking i text told) mid all = told_so mid i text all
-told_behind_so (settle i text) mid all = told_so mid i text all
-told_behind_so (merge i text j) mid all = told_so mid i text all
-told_behind_so (query i text q) mid all = all
-told_behind_so unknown mid all = all
-
--- and so do the texts of the whole machine
-goes_so : (s new : State) → TextsGo s new → AllHaveNumbers s → AllHaveNumbers new
-goes_so s new (as_they_are same) all = subst AllHaveNumbers (sym same) all
-goes_so s new (by_event e r mid replies is) all =
-    subst AllHaveNumbers (sym is) (told_behind_so e mid (replies_so s e r mid replies all))
-goes_so s new (by_emptying i text does) all = on_text (λ t u. u ≡ with_room t []) s new i text []
-    (λ t u is has. subst HasNumbers (sym is) (in_room t [] (All-nil IsNumbered) has)) does all
-goes_so s new (by_beginning i text ops mid spelled does is) all =
-    subst AllHaveNumbers (sym is)
-    (told_so mid i text (on_text (Begins ops) s mid i text [] (begins_text ops spelled) does all))
-
-reached_so : (first count width height : ℕ) (files : Files) (s : RunState) → first + count ≤ 2 ^ 16
-    → RunReached first count width height files s → AllHaveNumbers s.texts
-reached_so first count width height files s few run_begins = new_so first count few
-reached_so first count width height files s few (run_goes_on {s = before} e part r new reached replies) =
-    goes_so before.texts new.texts (replies_go before e part r new replies).0
+reached_so : (first count width height : ℕ) (files : Files) (s : State) → first + count ≤ 2 ^ 16
+    → Reached first count width height files s → AllHaveNumbers s
+reached_so first count width height files s few begins = new_so first count width height files few
+reached_so first count width height files s few (goes_on {s = before} e part r new reached replies) =
+    goes_so before new (replies_go before e part r new replies).0
     (reached_so first count width height files before few reached)
 
 pub reached-numbered : WhatIsReachedIsNumbered

@@ -1,4 +1,4 @@
--- What a run of the whole machine comes to: texts that their operations define and that have told their changes, and screens that
+-- What a run comes to: texts that their operations define and that have told their changes, and screens that
 -- point at their characters.
 use Rattle.std.proofs.Common.{◌≡◌, ℕ, zero, suc, ◌-◌, List, [], Some, refl, sym, subst, ◌∙◌, inl, inr, length}
 use Rattle.std.specs.Prelude.{replicate, slice_get, slice_set}
@@ -14,21 +14,19 @@ use Rattle.tree_order.proofs.SameSet.{char}
 use Rattle.set_laws.specs.Sets.{AreIdentified, IsPartOf}
 use Rattle.texts.specs.Laws.{OwnEditsArePlain}
 use Rattle.texts.specs.Text.{IsAnchor, IsText}
-use Rattle.texts.specs.TextState.{TextState, with_room}
+use Rattle.texts.specs.TextState.{TextState}
 use Rattle.machine.specs.DeskState.{DeskState, IsTextOf}
-use Rattle.machine.specs.Machine.{State, new_state}
-use Rattle.machine.specs.Whole.{IsDeskAt, RunState, new_run}
+use Rattle.machine.specs.State.{IsDeskAt, State, new_state}
 use Rattle.machine.specs.Windows.{Caret, Screened, Window, blank_screen, window_of}
 use Rattle.machine.specs.declared.TheConstants.{MAX_TEXT}
 use Rattle.machine_laws.proofs.Arranging.{LeavesChars, anchor_stands, arranged_leaves, caret_set, shows_so}
-use Rattle.machine_laws.proofs.Following.{DeskFollows, StateFollows, begun_state, does_follow, emptied_follows, short_follow, state_follows}
-use Rattle.machine_laws.proofs.Following.{state_same, texts_follow, told_follow}
-use Rattle.machine_laws.proofs.Going.{PlaceGoes, ScreensGo, TextsGo, as_they_are, by_arranging, by_beginning, by_caret}
-use Rattle.machine_laws.proofs.Going.{by_emptying, by_event, no_screen, replies_go}
-use Rattle.machine_laws.proofs.OneReply.{one_element}
-use Rattle.machine_laws.proofs.OneRunReply.{shown_parts}
+use Rattle.machine_laws.proofs.Following.{DeskFollows, StateFollows, texts_follow, texts_go, told_follow}
+use Rattle.machine_laws.proofs.Going.{PlaceGoes, ScreensGo, by_arranging, by_caret, no_screen, replies_go}
+use Rattle.machine_laws.proofs.OneOfTexts.{one_element}
+use Rattle.machine_laws.proofs.OneReply.{shown_parts}
 use Rattle.machine_laws.proofs.Reaching.{new_are_texts, new_desks, new_texts, set_old}
-use Rattle.machine_laws.specs.Laws.{HaveTold, IsSound, ShowsTextOf, StandsByChars, WhatARunReachesIsSound, run_begins, run_goes_on}
+use Rattle.machine_laws.specs.Laws.{HaveTold, IsSound, ShowsTextOf, StandsByChars, WhatARunReachesIsSound, begins}
+use Rattle.machine_laws.specs.Laws.{goes_on}
 
 -- screens of texts that follow
 
@@ -70,22 +68,22 @@ module _ (d d' : DeskState) (w : Screened) (sound : HasSoundTexts d) (follow : D
         (has.windows v (shown.0, t) (shows_so d w v shown.0 t at there_t));
   }
 
-sound_at : (s : RunState) (i : ℕ) (d : DeskState) → IsSound s → slice_get s.texts.desks i ≡ Some d → HasSoundTexts d
+sound_at : (s : State) (i : ℕ) (d : DeskState) → IsSound s → slice_get s.desks i ≡ Some d → HasSoundTexts d
 sound_at s i d sound at n t there = (sound.texts i n t (d, at, there), sound.told i n t (d, at, there))
 
 -- a desk has as many texts as before
-desks_followed : (s new : RunState) → IsSound s → StateFollows s.texts new.texts → (i : ℕ) (d : DeskState)
-    → slice_get new.texts.desks i ≡ Some d → length d.texts ≡ MAX_TEXT
+desks_followed : (s new : State) → IsSound s → StateFollows s new → (i : ℕ) (d : DeskState)
+    → slice_get new.desks i ≡ Some d → length d.texts ≡ MAX_TEXT
 desks_followed s new sound follow i d' at' =
     let (d, at, goes) = follow i d' at' in
     goes.2 ∙ sound.desks i d at
 
 -- where no screen changes
-sound_texts : (s new : RunState) → IsSound s → StateFollows s.texts new.texts → new.screens ≡ s.screens → IsSound new
+sound_texts : (s new : State) → IsSound s → StateFollows s new → new.screens ≡ s.screens → IsSound new
 sound_texts s new sound follow same = record {
   desks = desks_followed s new sound follow;
-  texts = texts_follow s.texts new.texts follow sound.texts sound.told;
-  told = told_follow s.texts new.texts follow sound.texts sound.told;
+  texts = texts_follow s new follow sound.texts sound.told;
+  told = told_follow s new follow sound.texts sound.told;
   screens = λ i d' w at.
       let (d, at_d, goes) = follow i d' at.texts in
       stands_followed d d' w (sound_at s i d sound at_d) goes (sound.screens i d w (record {
@@ -95,13 +93,13 @@ sound_texts s new sound follow same = record {
 }
 
 -- where one does
-sound_screen : (s new : RunState) (i : ℕ) (d : DeskState) (w w' : Screened) → IsSound s → StateFollows s.texts new.texts
+sound_screen : (s new : State) (i : ℕ) (d : DeskState) (w w' : Screened) → IsSound s → StateFollows s new
     → new.screens ≡ slice_set s.screens i w' → IsDeskAt s i d w
-    → ((d' : DeskState) → slice_get new.texts.desks i ≡ Some d' → DeskFollows d d' → StandsByChars d' w') → IsSound new
+    → ((d' : DeskState) → slice_get new.desks i ≡ Some d' → DeskFollows d d' → StandsByChars d' w') → IsSound new
 sound_screen s new i d w w' sound follow same at has = record {
   desks = desks_followed s new sound follow;
-  texts = texts_follow s.texts new.texts follow sound.texts sound.told;
-  told = told_follow s.texts new.texts follow sound.texts sound.told;
+  texts = texts_follow s new follow sound.texts sound.told;
+  told = told_follow s new follow sound.texts sound.told;
   screens = λ j e' v at'.
       let (e, at_e, goes) = follow j e' at'.texts in
       let (x, at_x, how) = set_old s.screens i j w' v
@@ -110,28 +108,13 @@ sound_screen s new i d w w' sound follow same at has = record {
         | inl old ↦ stands_followed e e' v (sound_at s j e sound at_e) goes
             (subst (StandsByChars e) (sym old) (sound.screens j e x (record { texts = at_e; screen = at_x })))
         | inr set ↦
-            let ds : e ≡ d = one_element (slice_get s.texts.desks j) e d at_e
-            (subst (λ (k : ℕ). slice_get s.texts.desks k ≡ Some d) (sym set.1) at.texts) in
+            let ds : e ≡ d = one_element (slice_get s.desks j) e d at_e
+            (subst (λ (k : ℕ). slice_get s.desks k ≡ Some d) (sym set.1) at.texts) in
             subst (StandsByChars e') (sym set.0)
-            (has e' (subst (λ (k : ℕ). slice_get new.texts.desks k ≡ Some e') set.1 at'.texts)
+            (has e' (subst (λ (k : ℕ). slice_get new.desks k ≡ Some e') set.1 at'.texts)
             (subst (λ (y : DeskState). DeskFollows y e') ds goes))
       ];
 }
-
--- what an event leaves
-
-module _ (plain : OwnEditsArePlain) (none : AreIdentified []) where
-  -- the texts follow
-  texts_go : (s new : State) → HaveTold s → TextsGo s new → StateFollows s new
-  texts_go s new told (as_they_are same) = state_same s new same
-  texts_go s new told (by_event e r mid (inl does) is) =
-      subst (StateFollows s) (sym is) (does_follow plain s e r mid told does)
-  texts_go s new told (by_event e r mid (inr short) is) =
-      subst (StateFollows s) (sym is) (short_follow plain s e r mid told short)
-  texts_go s new told (by_emptying i text does) =
-      state_follows (λ t u. u ≡ with_room t []) (emptied_follows none) s new i text [] does
-  texts_go s new told (by_beginning i text ops mid spelled does is) =
-      subst (StateFollows s) (sym is) (begun_state ops s mid i text does)
 
 -- a place of a text goes to one that is a character of it, or its beginning
 place_stands : (t : TextState) (old new : Anchor) → IsText t → PlaceGoes t old new → IsAnchor t.operations old
@@ -149,20 +132,20 @@ caret_stands d w c window t anchor is is_c shows goes has =
     (one_element (window_of d w c.viewer) x (window, t) shows_x shows) stood in
     caret_set d w (record c { anchor = anchor }) ((window, t), shows, place_stands t c.anchor anchor is goes old) has
 
-screens_go : (s new : RunState) → IsSound s → StateFollows s.texts new.texts → ScreensGo s new → IsSound new
+screens_go : (s new : State) → IsSound s → StateFollows s new → ScreensGo s new → IsSound new
 screens_go s new sound follow (no_screen same) = sound_texts s new sound follow same
 screens_go s new sound follow (by_arranging i d w a out at is texts same) =
     let leaves : StandsByChars d out.0 = subst (LeavesChars d) is
     (arranged_leaves d w (λ n t there. sound.texts i n t (d, at.texts, there)) (sound.screens i d w at) a) in
     sound_screen s new i d w out.0 sound follow same at (λ d' at' goes.
-    subst (λ (y : DeskState). StandsByChars y out.0) (one_element (slice_get s.texts.desks i) d d' at.texts
-    (subst (λ (x : State). slice_get x.desks i ≡ Some d') texts at')) leaves)
+    subst (λ (y : DeskState). StandsByChars y out.0) (one_element (slice_get s.desks i) d d' at.texts
+    (subst (λ (ds : List DeskState). slice_get ds i ≡ Some d') texts at')) leaves)
 screens_go s new sound follow (by_caret i d w c shown t anchor at is_c shows there moves same) =
-    let is : IsText t = texts_follow s.texts new.texts follow sound.texts sound.told i shown.0.text t there in
+    let is : IsText t = texts_follow s new follow sound.texts sound.told i shown.0.text t there in
     sound_screen s new i d w _ sound follow same at (λ d' at' goes.
     let (e, at_e, of_e) = there in
     let here : IsTextOf d' shown.0.text t = subst (λ (y : DeskState). IsTextOf y shown.0.text t)
-    (one_element (slice_get new.texts.desks i) e d' at_e at') of_e in
+    (one_element (slice_get new.desks i) e d' at_e at') of_e in
     caret_stands d' w c shown.0 t anchor is is_c
     (shows_so d' w c.viewer shown.0 t (shown_parts d w c.viewer shown shows).0 here) moves
     (stands_followed d d' w (sound_at s i d sound at.texts) goes (sound.screens i d w at)))
@@ -182,24 +165,24 @@ blank_stands d width height = record {
 }
 
 -- and with texts that have no changes
-new_told : (first count : ℕ) → HaveTold (new_state first count)
-new_told first count i text t there =
-    let (number, site, is) = new_texts first count i text t there in
+new_told : (first count width height : ℕ) (files : Files) → HaveTold (new_state first count width height files)
+new_told first count width height files i text t there =
+    let (number, site, is) = new_texts first count width height files i text t there in
     subst (λ (x : TextState). x.asked ≡ length x.operations) is refl
 
 module _ (plain : OwnEditsArePlain) (good : Good []) (none : AreIdentified []) (order : OneWriterGoesBehindCauses) where
-  new_sound : (first count width height : ℕ) (files : Files) → IsSound (new_run first count width height files)
+  new_sound : (first count width height : ℕ) (files : Files) → IsSound (new_state first count width height files)
   new_sound first count width height files = record {
-    desks = new_desks first count;
-    texts = new_are_texts good none order first count;
-    told = new_told first count;
+    desks = new_desks first count width height files;
+    texts = new_are_texts good none order first count width height files;
+    told = new_told first count width height files;
     screens = λ i d w at. subst (StandsByChars d) (blank_at count width height i w at.screen) (blank_stands d width height);
   }
 
   -- so whatever a run does all is sound
   pub reached_sound : WhatARunReachesIsSound
-  reached_sound first count width height files s run_begins = new_sound first count width height files
-  reached_sound first count width height files s (run_goes_on {s = before} e part r new reached replies) =
+  reached_sound first count width height files s begins = new_sound first count width height files
+  reached_sound first count width height files s (goes_on {s = before} e part r new reached replies) =
       let sound = reached_sound first count width height files before reached in
       let (texts, screens, sends) = replies_go before e part r new replies in
-      screens_go before new sound (texts_go plain none before.texts new.texts sound.told texts) screens
+      screens_go before new sound (texts_go plain none before new texts) screens

@@ -12,6 +12,7 @@ use Rattle.char_files.specs.declared.TheConstants.{MAX_FILE}
 use Rattle.char_files.specs.CharName.{CharName}
 use Rattle.operations.specs.NameSet.{IsAmong}
 use Rattle.operations.specs.Operation.{Operation}
+use Rattle.shelf.specs.Files.{Files}
 use Rattle.tree_order.specs.Good.{Good}
 use Rattle.tree_order.specs.Sequential.{OneWriterGoesBehindCauses}
 use Rattle.set_laws.specs.Sets.{AreIdentified}
@@ -31,8 +32,10 @@ use Rattle.texts.specs.declared.merge_refusal.MergeRefusal.{MergeRefusal}
 use Rattle.texts.specs.declared.merge_refusal.MergeRefusal.TheVariants.{Whole as MergesNothing, Stopped}
 use Rattle.texts.specs.declared.took.Took.{Took}
 use Rattle.machine.specs.DeskState.{DeskState, new_desk}
-use Rattle.machine.specs.Machine.{CopiesText, CopiesTextShort, EditsText, EditsTextShort, IsTextAt, Reply, SettlesText}
-use Rattle.machine.specs.Machine.{TakesText, TakesTextShort, copied, is_copy_in, new_state}
+use Rattle.machine.specs.Events.{Reply}
+use Rattle.machine.specs.OnTexts.{CopiesText, CopiesTextShort, EditsText, EditsTextShort, SettlesText, TakesText}
+use Rattle.machine.specs.OnTexts.{TakesTextShort, copied, is_copy_in}
+use Rattle.machine.specs.State.{IsTextAt, new_state}
 use Rattle.machine.specs.declared.TheConstants.{MAX_TEXT}
 use Rattle.convergence.proofs.OwnOperations.{standing_within}
 use Rattle.machine_laws.proofs.Rooms.{by_test, drained_is_text, entered}
@@ -100,9 +103,9 @@ mapped : {A B : Type 0} (f : A → B) (xs : List A) (i : ℕ) (b : B) → slice_
 mapped f xs i b at = of_option f (slice_get xs i) b (sym (slice_get-map f xs i) ∙ at)
 
 -- the texts of a new run are empty
-pub new_texts : (first count i text : ℕ) (t : TextState) → IsTextAt (new_state first count) i text t
+pub new_texts : (first count width height : ℕ) (files : Files) (i text : ℕ) (t : TextState) → IsTextAt (new_state first count width height files) i text t
     → (number site : ℕ) × (empty_text number site ≡ t)
-new_texts first count i text t (d, at, there) =
+new_texts first count width height files i text t (d, at, there) =
     let (site, is) = mapped new_desk (range_with_len first count) i d at in
     let here : slice_get (new_desk site).texts (text - 1) ≡ Some t =
     ap (λ (x : DeskState). slice_get x.texts (text - 1)) is ∙ there in
@@ -110,15 +113,17 @@ new_texts first count i text t (d, at, there) =
     (number, site, same)
 
 -- so each is what its operations define
-pub new_are_texts : Good [] → AreIdentified [] → OneWriterGoesBehindCauses → (first count : ℕ) → AreTexts (new_state first count)
-new_are_texts good identified order first count i text t there =
-    let (number, site, is) = new_texts first count i text t there in
+pub new_are_texts : Good [] → AreIdentified [] → OneWriterGoesBehindCauses → (first count width height : ℕ) (files : Files)
+    → AreTexts (new_state first count width height files)
+new_are_texts good identified order first count width height files i text t there =
+    let (number, site, is) = new_texts first count width height files i text t there in
     subst IsText is (empty_is_text good identified order number site)
 
 -- and each desk has a text of each number
-pub new_desks : (first count i : ℕ) (d : DeskState) → slice_get (new_state first count).desks i ≡ Some d
+pub new_desks : (first count width height : ℕ) (files : Files) (i : ℕ) (d : DeskState)
+    → slice_get (new_state first count width height files).desks i ≡ Some d
     → length d.texts ≡ MAX_TEXT
-new_desks first count i d at =
+new_desks first count width height files i d at =
     let (site, is) = mapped new_desk (range_with_len first count) i d at in
     subst (λ (x : DeskState). length x.texts ≡ MAX_TEXT) is refl
 

@@ -13,7 +13,7 @@ use Rattle.texts.specs.SiteFiles.{HasSiteFile}
 use Rattle.texts.specs.Taking.{HasTakenAll}
 use Rattle.texts.specs.TextState.{TextState, empty_text, state_of}
 use Rattle.texts.proofs.Chars.{has_chars, one_chars}
-use Rattle.machine.specs.Whole.{has_begun}
+use Rattle.machine.specs.Tasks.{has_begun}
 use Rattle.machine_laws.proofs.Reaching.{no_name}
 
 -- in this text nothing was done yet, and it begins anew with these operations

@@ -29,9 +29,11 @@ use Rattle.machine.specs.DeskState.{DeskState}
 use Rattle.machine.specs.Printing.{line}
 use Rattle.machine.specs.ScreenPrinting.{caret_line, screen_line, selection_line, spaced, track_cells}
 use Rattle.machine.specs.ScreenPrinting.{track_lines, viewer_cells, viewer_line}
-use Rattle.machine.specs.Whole.{View, lines_of_view, marks, show, views}
+use Rattle.machine.specs.Tasks.{lines_of_view}
 use Rattle.machine.specs.Windows.{Caret, Marked, Screened, Selected, Window, bytes_shown, marked_as, place_ahead, place_in}
 use Rattle.machine.specs.Windows.{shown_by, stretch_in, text_of, window_of}
+use Rattle.machine.specs.declared.asked.View.{View}
+use Rattle.machine.specs.declared.asked.View.TheVariants.{Marks, Show, Views}
 use Rattle.machine_laws.specs.Laws.{HoldTheSame, TextsTellTheScreen}
 
 -- lists of the same operations pass a test alike
@@ -216,11 +218,11 @@ module _ (tell : OperationsTellTheText) (d e : DeskState) (same : HoldTheSame d 
       ++ tracks_alike w.tracks.system (w.tracks.width - user_width w.tracks.width) row k ++ 124 ∷ [])
 
   printed : (v : View) → lines_of_view d w v ≡ lines_of_view e w v
-  printed marks = λ k. carets_alike k ++ selections_alike k
-  printed views = λ k.
+  printed Marks = λ k. carets_alike k ++ selections_alike k
+  printed Views = λ k.
       viewers_alike (codes "user") 0 w.tracks.user k ++ viewers_alike (codes "system") 0 w.tracks.system k
       ++ line (codes "ok")
-  printed show = λ k. flat_map (λ row. rows_alike row k) (range_with_len 0 w.tracks.height)
+  printed Show = λ k. flat_map (λ row. rows_alike row k) (range_with_len 0 w.tracks.height)
 
 -- two desks that hold the same print one screen alike
 pub printed_alike : OperationsTellTheText → TextsTellTheScreen

@@ -6,7 +6,7 @@ use Rattle.char_files.specs.declared.character.Char.{Char}
 use Rattle.operations.specs.NameSet.{names_of}
 use Rattle.texts.specs.TextState.{TextState, shown_items, shown_of}
 use Rattle.machine_laws.specs.Laws.{PrintTheSame}
-use Rattle.machine.specs.Machine.{print_fronts, print_places, print_runs, print_text}
+use Rattle.machine.specs.declared.asked.Query.TheVariants.{Front, Places, Runs, Text}
 use Rattle.machine.specs.Places.{place_lines}
 use Rattle.machine.specs.Printing.{AreRunsOf, run_lines, text_lines}
 
@@ -25,10 +25,10 @@ items-shown t u same = rw same refl
 
 -- texts that show the same print the same of it
 pub prints-shown : NoOtherRuns → (t u : TextState) → shown_of t ≡ shown_of u → PrintTheSame t u
-prints-shown only t u same print_text a b is prints_a prints_b = prints_a ∙ text_lines-shown t u same ∙ sym prints_b
-prints-shown only t u same print_fronts a b is prints_a prints_b = absurd is
-prints-shown only t u same print_runs a b is (runs, are, prints_a) (runs', are', prints_b) =
+prints-shown only t u same Text a b is prints_a prints_b = prints_a ∙ text_lines-shown t u same ∙ sym prints_b
+prints-shown only t u same Front a b is prints_a prints_b = absurd is
+prints-shown only t u same Runs a b is (runs, are, prints_a) (runs', are', prints_b) =
     prints_a ∙ ap run_lines (one_runs only (shown_items t) (shown_items u) runs runs' are are' (items-shown t u same))
     ∙ sym prints_b
-prints-shown only t u same (print_places names) a b is prints_a prints_b =
+prints-shown only t u same (Places names) a b is prints_a prints_b =
     prints_a ∙ ap (λ (chars : List Char). place_lines chars (names_of names)) same ∙ sym prints_b

@@ -16,21 +16,26 @@ use Rattle.texts.specs.TextState.{TextState, shown_items}
 use Rattle.texts.specs.declared.TheConstants.{MAX_KEPT}
 use Rattle.texts.specs.declared.took.Took.TheVariants.{Taken}
 use Rattle.machine.specs.DeskState.{DeskState, IsTextOf}
-use Rattle.machine.specs.Machine.{Does, Event, IsTextAt, Prints, Query, Reply, Short, State, print_fronts, print_runs}
-use Rattle.machine.specs.Machine.{print_places, print_text, refuses, settles, stops, takes}
-use Rattle.machine.specs.Printing.{waiting_line}
-use Rattle.machine.specs.Whole.{IsDeskAt, IsTaskAt, Part, RunDoes, RunEvent, RunReplies, RunReply, RunShort, RunState}
-use Rattle.machine.specs.Whole.{Task, View, ask, change, has_begun, lines_of_view}
-use Rattle.machine.specs.Whole.{click, failed, forget, keep, load, new_run, of_text, reopen, store, untouched, went_well}
+use Rattle.machine.specs.Commands.{IsTaskAt}
+use Rattle.machine.specs.Events.{Event, Part, Reply, Task, ask, change, click, failed, forget, keep, load, refuses, reopen}
+use Rattle.machine.specs.Events.{settles, stops, store, takes, untouched, went_well}
+use Rattle.machine.specs.Machine.{Does, Replies, Short}
+use Rattle.machine.specs.OnTexts.{Prints}
+use Rattle.machine.specs.State.{IsDeskAt, IsTextAt, State, new_state}
+use Rattle.machine.specs.Tasks.{has_begun, lines_of_view}
 use Rattle.machine.specs.Windows.{Caret, Screened, Selected, Window, window_of}
+use Rattle.machine.specs.declared.asked.Query.{Query}
+use Rattle.machine.specs.declared.asked.Query.TheVariants.{Front, Places, Runs, Text}
+use Rattle.machine.specs.declared.asked.View.{View}
+use Rattle.machine.specs.Printing.{waiting_line}
 use Rattle.machine.specs.declared.TheConstants.{MAX_TEXT}
 
--- the states that a run of the whole machine can come to, over these files, with screens of this size
-pub data RunReached (first count width height : ℕ) (files : Files) : RunState → Type 0 where
-  run_begins : RunReached first count width height files (new_run first count width height files)
-  run_goes_on : {s : RunState} (e : RunEvent) (part : Part) (r : RunReply) (new : RunState)
-      → RunReached first count width height files s → RunReplies s e part r new
-      → RunReached first count width height files new
+-- the states that a run can come to, over these files, with screens of this size
+pub data Reached (first count width height : ℕ) (files : Files) : State → Type 0 where
+  begins : Reached first count width height files (new_state first count width height files)
+  goes_on : {s : State} (e : Event) (part : Part) (r : Reply) (new : State)
+      → Reached first count width height files s → Replies s e part r new
+      → Reached first count width height files new
 
 -- each text of each desk is what its operations define
 abbrev pub AreTexts : State → Type 0
@@ -42,10 +47,10 @@ HaveTold s = (i text : ℕ) (t : TextState) → IsTextAt s i text t → t.asked 
 
 -- a query of what is shown: the characters, their looks, or where names stand
 abbrev pub IsOfWhatIsShown : Query → Type 0
-IsOfWhatIsShown print_text = Unit {0}
-IsOfWhatIsShown print_fronts = ⊥
-IsOfWhatIsShown print_runs = Unit {0}
-IsOfWhatIsShown (print_places names) = Unit {0}
+IsOfWhatIsShown Text = Unit {0}
+IsOfWhatIsShown Front = ⊥
+IsOfWhatIsShown Runs = Unit {0}
+IsOfWhatIsShown (Places names) = Unit {0}
 
 -- a query of what is shown prints the same lines of two texts, of one run or of two
 abbrev pub PrintTheSame : TextState → TextState → Type 0
@@ -69,12 +74,12 @@ AreNumbered ops = All (λ op. (op.site < 2 ^ 16) × (op.seq < 2 ^ 32)) ops
 -- what a run of sites below 2^16 comes to is numbered so
 abbrev pub WhatIsReachedIsNumbered : Type 0
 WhatIsReachedIsNumbered =
-    (first count width height : ℕ) (files : Files) (s : RunState) (i text : ℕ) (t : TextState) → first + count ≤ 2 ^ 16
-    → RunReached first count width height files s → IsTextAt s.texts i text t → AreNumbered t.operations
+    (first count width height : ℕ) (files : Files) (s : State) (i text : ℕ) (t : TextState) → first + count ≤ 2 ^ 16
+    → Reached first count width height files s → IsTextAt s i text t → AreNumbered t.operations
 
 -- the answer to `front` of a text: these lines of its fronts, and then how many operations wait
 abbrev pub PrintsFronts : TextState → List ℕ → Type 0
-PrintsFronts t lines = Prints print_fronts t (lines ++ waiting_line (length t.waiting_room))
+PrintsFronts t lines = Prints Front t (lines ++ waiting_line (length t.waiting_room))
 
 -- texts whose lines of fronts are the same, byte for byte, have equal fronts, however many operations wait
 abbrev pub FrontLinesTellFronts : Type 0
@@ -89,42 +94,37 @@ HaveOneShape (refuses why) (refuses why') = Unit {0}
 HaveOneShape (stops messages done why) (stops messages' done' why') = done ≡ done'
 HaveOneShape r r' = ⊥
 
--- An event has at most one reply and next state where memory is there; and at most one of each shape, with its
--- counts, where memory was refused.
-pub record HasOneReply (s : State) (e : Event) : Type 0 where
-  pub whole : (r r' : Reply) (new new' : State) → Does s e r new → Does s e r' new' → (r ≡ r') × (new ≡ new')
-  pub short : (r r' : Reply) (new new' : State) → Short s e r new → Short s e r' new' → HaveOneShape r r'
-      → (r ≡ r') × (new ≡ new')
+-- a load, which puts in what a file has
+abbrev pub IsLoad : Task → Type 0
+IsLoad (load name) = Unit {0}
+IsLoad t = ⊥
 
--- so it is with each event, in each state whose texts are what their operations define
-abbrev pub EachEventHasOneReply : Type 0
-EachEventHasOneReply = (s : State) (e : Event) → AreTexts s → HasOneReply s e
+-- an event that may be one
+abbrev pub MayLoad : Event → Type 0
+MayLoad (ask i t) = IsLoad t
+MayLoad (click i col row) = Unit {0}
+MayLoad e = ⊥
 
--- the same of two replies of the whole machine: both are of texts, and have one shape
-abbrev pub HaveOneRunShape : RunReply → RunReply → Type 0
-HaveOneRunShape (of_text r) (of_text r') = HaveOneShape r r'
-HaveOneRunShape r r' = ⊥
-
--- An event of the whole machine, with this part of the files, has at most one reply and next state where memory is there; and
--- at most one of each shape, with its counts, where memory was refused and each text had told its changes. (Else a refused load
--- would end in two ways: it reads nothing, and nothing changes; or its edit is refused, and the text tells its changes.)
-pub record HasOneRunReply (s : RunState) (e : RunEvent) (part : Part) : Type 0 where
-  pub whole : (r r' : RunReply) (new new' : RunState) → RunDoes s e part r new → RunDoes s e part r' new'
-      → (r ≡ r') × (new ≡ new')
-  pub short : HaveTold s.texts → (r r' : RunReply) (new new' : RunState) → RunShort s e part r new
-      → RunShort s e part r' new' → HaveOneRunShape r r' → (r ≡ r') × (new ≡ new')
+-- An event, with this part of the files, has at most one reply and next state where memory is there; and at most one of each
+-- shape, with its counts, where memory was refused, if each text had told its changes before an event that may be a load.
+-- (Else a refused load would end in two ways: it reads nothing, and nothing changes; or its edit is refused, and the text tells
+-- its changes.)
+pub record HasOneReply (s : State) (e : Event) (part : Part) : Type 0 where
+  pub whole : (r r' : Reply) (new new' : State) → Does s e part r new → Does s e part r' new' → (r ≡ r') × (new ≡ new')
+  pub short : (MayLoad e → HaveTold s) → (r r' : Reply) (new new' : State) → Short s e part r new → Short s e part r' new'
+      → HaveOneShape r r' → (r ≡ r') × (new ≡ new')
 
 -- so it is with each event and each part, in each state whose texts are what their operations define
-abbrev pub EachRunEventHasOneReply : Type 0
-EachRunEventHasOneReply = (s : RunState) (e : RunEvent) (part : Part) → AreTexts s.texts → HasOneRunReply s e part
+abbrev pub EachEventHasOneReply : Type 0
+EachEventHasOneReply = (s : State) (e : Event) (part : Part) → AreTexts s → HasOneReply s e part
 
 -- the text whose number a task names is there
-abbrev pub HasText : RunState → (i : ℕ) → Task → Type 0
-HasText s i (store text name) = (t : TextState) × IsTextAt s.texts i text t
-HasText s i (change text e) = (t : TextState) × IsTextAt s.texts i text t
-HasText s i (forget text) = (t : TextState) × IsTextAt s.texts i text t
-HasText s i (keep text name) = (t : TextState) × IsTextAt s.texts i text t
-HasText s i (reopen text name) = (t : TextState) × IsTextAt s.texts i text t
+abbrev pub HasText : State → (i : ℕ) → Task → Type 0
+HasText s i (store text name) = (t : TextState) × IsTextAt s i text t
+HasText s i (change text e) = (t : TextState) × IsTextAt s i text t
+HasText s i (forget text) = (t : TextState) × IsTextAt s i text t
+HasText s i (keep text name) = (t : TextState) × IsTextAt s i text t
+HasText s i (reopen text name) = (t : TextState) × IsTextAt s i text t
 HasText s i t = Unit {0}
 
 -- the caret, if there is one, stands in a viewer that shows one of the desk's texts
@@ -133,12 +133,12 @@ CaretHasText d w =
     (c : Caret) → w.caret ≡ Some c → (shown : Window × TextState) × (window_of d w c.viewer ≡ Some shown)
 
 -- a file of this name is there, and it is a text's or no text's
-abbrev pub IsFileThere : RunState → (name : List ℕ) → Type 0
+abbrev pub IsFileThere : State → (name : List ℕ) → Type 0
 IsFileThere s name =
     (file : List ℕ) × (s.files name ≡ Some file) × (IsNoFile file ⊎ ((items : List Item) × IsFileOf items file))
 
 -- a file of this name is there, and it is a site's or no site's
-abbrev pub IsSiteFileThere : RunState → (name : List ℕ) → Type 0
+abbrev pub IsSiteFileThere : State → (name : List ℕ) → Type 0
 IsSiteFileThere s name =
     (file : List ℕ) × (s.files name ≡ Some file)
     × (IsNoSiteFile file ⊎ ((text site : ℕ) × (ops : List Operation) × IsSiteFileOf text site ops file))
@@ -146,33 +146,33 @@ IsSiteFileThere s name =
 -- What the files' part in a task may be: a load at a caret reads a file that is there, or fails; a store of a text that
 -- isn't too long writes one, or fails, whatever is left, and so does a keeping of one that hasn't taken in too much; a
 -- reopening of a text in which nothing was done yet reads one that is there, or fails; nothing else asks for a file.
-abbrev pub MayHavePart : RunState → (i : ℕ) → Screened → Task → Part → Type 0
+abbrev pub MayHavePart : State → (i : ℕ) → Screened → Task → Part → Type 0
 MayHavePart s i w (load name) untouched = w.caret ≡ None
 MayHavePart s i w (load name) went_well = (w.caret ≢ None) × IsFileThere s name
 MayHavePart s i w (load name) (failed left) = w.caret ≢ None
 MayHavePart s i w (store text name) untouched =
-    (t : TextState) × IsTextAt s.texts i text t × (MAX_STORED < length (shown_items t))
+    (t : TextState) × IsTextAt s i text t × (MAX_STORED < length (shown_items t))
 MayHavePart s i w (store text name) part =
-    (t : TextState) × IsTextAt s.texts i text t × (length (shown_items t) ≤ MAX_STORED)
+    (t : TextState) × IsTextAt s i text t × (length (shown_items t) ≤ MAX_STORED)
 MayHavePart s i w (keep text name) untouched =
-    (t : TextState) × IsTextAt s.texts i text t × (MAX_KEPT < length t.operations)
+    (t : TextState) × IsTextAt s i text t × (MAX_KEPT < length t.operations)
 MayHavePart s i w (keep text name) part =
-    (t : TextState) × IsTextAt s.texts i text t × (length t.operations ≤ MAX_KEPT)
+    (t : TextState) × IsTextAt s i text t × (length t.operations ≤ MAX_KEPT)
 MayHavePart s i w (reopen text name) untouched =
-    (t : TextState) × IsTextAt s.texts i text t × IsTrue (has_begun t)
+    (t : TextState) × IsTextAt s i text t × IsTrue (has_begun t)
 MayHavePart s i w (reopen text name) went_well =
-    ((t : TextState) × IsTextAt s.texts i text t × IsFalse (has_begun t)) × IsSiteFileThere s name
+    ((t : TextState) × IsTextAt s i text t × IsFalse (has_begun t)) × IsSiteFileThere s name
 MayHavePart s i w (reopen text name) (failed left) =
-    (t : TextState) × IsTextAt s.texts i text t × IsFalse (has_begun t)
+    (t : TextState) × IsTextAt s i text t × IsFalse (has_begun t)
 MayHavePart s i w t part = part ≡ untouched
 
 -- an event is answered where memory is there, with this part of the files
-abbrev pub IsAnswered : RunState → RunEvent → Part → Type 0
-IsAnswered s e part = (r : RunReply) × (new : RunState) × RunDoes s e part r new
+abbrev pub IsAnswered : State → Event → Part → Type 0
+IsAnswered s e part = (r : Reply) × (new : State) × Does s e part r new
 
 -- At a desk each task whose text is there has a part of the files that may be, and is answered with each such part; and so
 -- is each click, by the task of its cell.
-pub record AnswersAll (s : RunState) (i : ℕ) (d : DeskState) (w : Screened) : Type 0 where
+pub record AnswersAll (s : State) (i : ℕ) (d : DeskState) (w : Screened) : Type 0 where
   pub parts : (t : Task) → HasText s i t → (part : Part) × MayHavePart s i w t part
   pub tasks : (t : Task) (part : Part) → HasText s i t → MayHavePart s i w t part → IsAnswered s (ask i t) part
   pub clicks : (col row : ℕ) → (t : Task) × IsTaskAt d w col row t × HasText s i t
@@ -180,7 +180,7 @@ pub record AnswersAll (s : RunState) (i : ℕ) (d : DeskState) (w : Screened) : 
 
 -- so it is at each desk whose caret has a text, in each state whose texts are what their operations define
 abbrev pub EachTaskIsAnswered : Type 0
-EachTaskIsAnswered = (s : RunState) (i : ℕ) (d : DeskState) (w : Screened) → AreTexts s.texts → IsDeskAt s i d w
+EachTaskIsAnswered = (s : State) (i : ℕ) (d : DeskState) (w : Screened) → AreTexts s → IsDeskAt s i d w
     → CaretHasText d w → AnswersAll s i d w
 
 -- the viewer shows one of the desk's texts, whose operations are such
@@ -199,16 +199,16 @@ pub record StandsByChars (d : DeskState) (w : Screened) : Type 0 where
 
 -- each desk has a text of each number; each text is what its operations define and has told its changes; and all that each
 -- screen points at are its characters
-pub record IsSound (s : RunState) : Type 0 where
-  pub desks : (i : ℕ) (d : DeskState) → slice_get s.texts.desks i ≡ Some d → length d.texts ≡ MAX_TEXT
-  pub texts : AreTexts s.texts
-  pub told : HaveTold s.texts
+pub record IsSound (s : State) : Type 0 where
+  pub desks : (i : ℕ) (d : DeskState) → slice_get s.desks i ≡ Some d → length d.texts ≡ MAX_TEXT
+  pub texts : AreTexts s
+  pub told : HaveTold s
   pub screens : (i : ℕ) (d : DeskState) (w : Screened) → IsDeskAt s i d w → StandsByChars d w
 
--- so it is whatever a run of the whole machine does
+-- so it is whatever a run does
 abbrev pub WhatARunReachesIsSound : Type 0
-WhatARunReachesIsSound = (first count width height : ℕ) (files : Files) (s : RunState)
-    → RunReached first count width height files s → IsSound s
+WhatARunReachesIsSound = (first count width height : ℕ) (files : Files) (s : State)
+    → Reached first count width height files s → IsSound s
 
 -- Two desks have equally many texts, and those of one number, each what its operations define, have taken in the same
 -- operations, in whatever order.

@@ -3,7 +3,7 @@
 #![tactic(auto)]
 
 ghost use Rattle.machine_laws.specs.Laws.{OperationsTellWhatIsPrinted, WhatIsReachedIsNumbered};
-ghost use Rattle.machine_laws.specs.Laws.{EachEventHasOneReply, EachRunEventHasOneReply, FrontLinesTellFronts};
+ghost use Rattle.machine_laws.specs.Laws.{EachEventHasOneReply, FrontLinesTellFronts};
 ghost use Rattle.machine_laws.specs.Laws.{EachTaskIsAnswered, FrontsTellWhatIsPrinted, TextsTellTheScreen};
 ghost use Rattle.machine_laws.specs.Laws.{WhatARunReachesIsSound};
 
@@ -47,8 +47,9 @@ pub fn front_lines_tell_the_fronts()
     ensures { FrontLinesTellFronts }
 {}
 
-/// A law: an event has one reply and one next state, where memory is there; where it was refused, one of each shape
-/// and its counts.
+/// A law: an event has one reply and one next state for each part that the files have in it, where memory is there; where it
+/// was refused, one of each shape and its counts. Of an event that may load a file the latter holds where each text had told its
+/// changes, which is so in each state that a run can come to.
 pub fn each_event_has_one_reply()
     ensures { EachEventHasOneReply }
 {
@@ -57,15 +58,6 @@ pub fn each_event_has_one_reply()
     drainings_end_one_way();
     merges_end_one_way();
     runs_are_maximal();
-}
-
-/// A law: an event of texts, screens, commands and files has one reply and one next state for each part that the files
-/// have in it, where memory is there; where it was refused, one of each shape and its counts, as long as each text had told
-/// its changes, which is so in each state that a run can come to.
-pub fn each_run_event_has_one_reply()
-    ensures { EachRunEventHasOneReply }
-{
-    each_event_has_one_reply();
     one_text();
     one_site();
 }

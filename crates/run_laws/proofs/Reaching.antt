@@ -1,15 +1,19 @@
 -- What a script comes to, and what its texts and screens answer.
-use Rattle.std.proofs.Common.{◌≡◌, ◌≢◌, ℕ, true, false, Bool, List, [], Some, sym, ap, subst, ◌∙◌, inl, inr}
+use Rattle.std.proofs.Common.{◌≡◌, ◌≢◌, ℕ, true, false, Bool, List, [], Some, sym, subst, ◌∙◌, inl, inr}
 use Rattle.std.specs.Prelude.{MatchBool, slice_get}
 use Rattle.looks.specs.declared.refusal.Refusal.{Refusal}
 use Rattle.shelf.specs.Files.{Files}
 use Rattle.texts.specs.TextState.{TextState}
 use Rattle.machine.specs.DeskState.{DeskState}
-use Rattle.machine.specs.Machine.{IsTextAt, Prints, Query, prints, refuses}
-use Rattle.machine.specs.Whole.{IsDeskAt, RunEvent, RunState, View, lines_of_view, new_run, of_text, prints_screen}
+use Rattle.machine.specs.Events.{Event, prints, refuses}
+use Rattle.machine.specs.OnTexts.{Prints}
+use Rattle.machine.specs.State.{IsDeskAt, IsTextAt, State, new_state}
+use Rattle.machine.specs.Tasks.{lines_of_view}
 use Rattle.machine.specs.Windows.{Screened}
-use Rattle.machine_laws.proofs.OneReply.{one_element, one_text}
-use Rattle.machine_laws.specs.Laws.{HoldTheSame, IsSound, PrintTheSame, RunReached, WhatARunReachesIsSound, run_begins, run_goes_on}
+use Rattle.machine.specs.declared.asked.Query.{Query}
+use Rattle.machine.specs.declared.asked.View.{View}
+use Rattle.machine_laws.proofs.OneOfTexts.{one_element, one_text}
+use Rattle.machine_laws.specs.Laws.{HoldTheSame, IsSound, PrintTheSame, Reached, WhatARunReachesIsSound, begins, goes_on}
 use Rattle.script_io.specs.Lines.{without_return}
 use Rattle.script_runs.specs.Trace.{Step, Trace, is_silent}
 use Rattle.script_runs.specs.Trace.{begins as starts, goes_on as follows}
@@ -18,67 +22,60 @@ use Rattle.run_laws.specs.Laws.{IsBehindLines, Start}
 
 module _ (first count width height : ℕ) (files : Files) where
   -- one line further
-  line_reached : (s : RunState) (silent : Bool) (e : RunEvent) (answer : List ℕ) (new : RunState)
-      → RunReached first count width height files s → MatchBool silent ((answer ≡ []) × (new ≡ s)) (Step s e answer new)
-      → RunReached first count width height files new
+  line_reached : (s : State) (silent : Bool) (e : Event) (answer : List ℕ) (new : State)
+      → Reached first count width height files s → MatchBool silent ((answer ≡ []) × (new ≡ s)) (Step s e answer new)
+      → Reached first count width height files new
   line_reached s true e answer new reached answered =
-      subst (RunReached first count width height files) (sym answered.1) reached
-  line_reached s false e answer new reached (part, r, is, replies) = run_goes_on e part r new reached replies
+      subst (Reached first count width height files) (sym answered.1) reached
+  line_reached s false e answer new reached (part, r, is, replies) = goes_on e part r new reached replies
 
-  pub trace_reached : (n : ℕ) (script answers : List ℕ) (s : RunState)
-      → Trace (new_run first count width height files) n script answers s → RunReached first count width height files s
-  trace_reached n script answers s starts = run_begins
+  pub trace_reached : (n : ℕ) (script answers : List ℕ) (s : State)
+      → Trace (new_state first count width height files) n script answers s → Reached first count width height files s
+  trace_reached n script answers s starts = begins
   trace_reached n script answers s
       (follows {n = before} {script = front} {answers = said} {s = old} raw answer new trace is_raw answered) =
       line_reached old (is_silent (without_return raw)) _ answer new (trace_reached before front said old trace) answered
 
 -- so behind any lines all is sound
-pub behind_sound : EachTraceIsReached → WhatARunReachesIsSound → (start : Start) (s : RunState) → IsBehindLines start s
+pub behind_sound : EachTraceIsReached → WhatARunReachesIsSound → (start : Start) (s : State) → IsBehindLines start s
     → IsSound s
 behind_sound reached sound start s behind =
     sound start.first start.count start.width start.height start.files s (reached start s behind)
 
 -- equal replies print equal lines
-same_lines : (a b : List ℕ) → of_text (prints a) ≡ of_text (prints b) → a ≡ b
+same_lines : (a b : List ℕ) → prints a ≡ prints b → a ≡ b
 same_lines a b e = cc
 
-same_screen_lines : (a b : List ℕ) → prints_screen a ≡ prints_screen b → a ≡ b
-same_screen_lines a b e = cc
-
 -- a reply that prints refuses nothing
-prints_refuses : (lines : List ℕ) (why : Refusal) → of_text (prints lines) ≢ of_text (refuses why)
+prints_refuses : (lines : List ℕ) (why : Refusal) → prints lines ≢ refuses why
 prints_refuses lines why e = cc
 
-screen_refuses : (lines : List ℕ) (why : Refusal) → prints_screen lines ≢ of_text (refuses why)
-screen_refuses lines why e = cc
-
 -- what is replied to a query is what it prints of the text there
-pub query_replied : (s : RunState) (i text : ℕ) (t : TextState) (q : Query) (lines : List ℕ) → IsTextAt s.texts i text t
+pub query_replied : (s : State) (i text : ℕ) (t : TextState) (q : Query) (lines : List ℕ) → IsTextAt s i text t
     → AnswersQuery s i text q lines → Prints q t lines
-query_replied s i text t q lines there (new, inl (free, (told, mid, (stays, (u, said, at, is, replied)), is_told, is_new))) =
-    subst (λ (x : TextState). Prints q x lines) (one_text s.texts i text u t at there)
-    (subst (Prints q u) (sym (same_lines lines said (is_told ∙ ap of_text replied))) is)
-query_replied s i text t q lines there (new, inr (free, (told, mid, short, is_told, is_new))) =
-    absurd (prints_refuses lines _ (is_told ∙ ap of_text short.1))
+query_replied s i text t q lines there (new, inl (free, stays, (u, said, at, is, replied))) =
+    subst (λ (x : TextState). Prints q x lines) (one_text s i text u t at there)
+    (subst (Prints q u) (sym (same_lines lines said replied)) is)
+query_replied s i text t q lines there (new, inr (free, refused)) = absurd (prints_refuses lines _ refused.0)
 
 -- texts that print the same are answered the same
-pub answered : (s s' : RunState) (i j text text' : ℕ) (t u : TextState) → IsTextAt s.texts i text t
-    → IsTextAt s'.texts j text' u → PrintTheSame t u → AreAnsweredTheSame s s' i j text text'
+pub answered : (s s' : State) (i j text text' : ℕ) (t u : TextState) → IsTextAt s i text t
+    → IsTextAt s' j text' u → PrintTheSame t u → AreAnsweredTheSame s s' i j text text'
 answered s s' i j text text' t u at_t at_u same q a b of_shown asked asked' =
     same q a b of_shown (query_replied s i text t q a at_t asked) (query_replied s' j text' u q b at_u asked')
 
 -- what is replied to a view is what is printed of the screen there
-pub view_replied : (s : RunState) (i : ℕ) (d : DeskState) (w : Screened) (v : View) (lines : List ℕ) → IsDeskAt s i d w
+pub view_replied : (s : State) (i : ℕ) (d : DeskState) (w : Screened) (v : View) (lines : List ℕ) → IsDeskAt s i d w
     → AnswersView s i v lines → lines ≡ lines_of_view d w v
 view_replied s i d w v lines at (new, inl (e, x, at', (free, is, stays))) =
-    let desk : e ≡ d = one_element (slice_get s.texts.desks i) e d at'.texts at.texts in
+    let desk : e ≡ d = one_element (slice_get s.desks i) e d at'.texts at.texts in
     let screen : x ≡ w = one_element (slice_get s.screens i) x w at'.screen at.screen in
-    same_screen_lines lines (lines_of_view e x v) is ∙ (λ k. lines_of_view (desk k) (screen k) v)
-view_replied s i d w v lines at (new, inr (e, x, at', (free, refused))) = absurd (screen_refuses lines _ refused.0)
+    same_lines lines (lines_of_view e x v) is ∙ (λ k. lines_of_view (desk k) (screen k) v)
+view_replied s i d w v lines at (new, inr (e, x, at', (free, refused))) = absurd (prints_refuses lines _ refused.0)
 
 -- desks that are sound and whose texts have taken in the same hold the same
-pub same_held : (s s' : RunState) (i j : ℕ) (d e : DeskState) → IsSound s → IsSound s' → slice_get s.texts.desks i ≡ Some d
-    → slice_get s'.texts.desks j ≡ Some e → HaveTakenTheSame d e → HoldTheSame d e
+pub same_held : (s s' : State) (i j : ℕ) (d e : DeskState) → IsSound s → IsSound s' → slice_get s.desks i ≡ Some d
+    → slice_get s'.desks j ≡ Some e → HaveTakenTheSame d e → HoldTheSame d e
 same_held s s' i j d e sound sound' at at' same = record {
   count = sound.desks i d at ∙ sym (sound'.desks j e at');
   texts = λ n t u there there'. (sound.texts i n t (d, at, there), sound'.texts j n u (e, at', there'), same n t u there there');

@@ -5,12 +5,15 @@ use Rattle.tree_order.specs.Laws.{AreSameSet}
 use Rattle.set_laws.specs.Sets.{AreIdentified}
 use Rattle.texts.specs.TextState.{TextState}
 use Rattle.machine.specs.DeskState.{DeskState, IsTextOf}
-use Rattle.machine.specs.Machine.{Query, IsTextAt, prints, print_fronts, query}
-use Rattle.machine.specs.Printing.{waiting_line}
-use Rattle.machine.specs.Whole.{IsDeskAt, RunReplies, RunState, View, ask, new_run, of_text, on_text, print, prints_screen}
-use Rattle.machine.specs.Whole.{untouched}
+use Rattle.machine.specs.Events.{ask, print, prints, query, untouched}
+use Rattle.machine.specs.Machine.{Replies}
+use Rattle.machine.specs.State.{IsDeskAt, IsTextAt, State, new_state}
 use Rattle.machine.specs.Windows.{Screened}
-use Rattle.machine_laws.specs.Laws.{IsOfWhatIsShown, RunReached}
+use Rattle.machine.specs.declared.asked.Query.{Query}
+use Rattle.machine.specs.declared.asked.Query.TheVariants.{Front}
+use Rattle.machine.specs.declared.asked.View.{View}
+use Rattle.machine.specs.Printing.{waiting_line}
+use Rattle.machine_laws.specs.Laws.{IsOfWhatIsShown, Reached}
 use Rattle.script_runs.specs.Trace.{Trace}
 
 -- how a run begins: the number of its first site, how many sites there are, the size of their screens, and the files
@@ -22,49 +25,49 @@ pub record Start : Type 0 where
   pub files : Files
 
 -- a state behind some lines of a script, in a run that began so
-pub record IsBehindLines (start : Start) (s : RunState) : Type 0 where
+pub record IsBehindLines (start : Start) (s : State) : Type 0 where
   pub lines : ℕ
   pub script : List ℕ
   pub answers : List ℕ
-  pub trace : Trace (new_run start.first start.count start.width start.height start.files) lines script answers s
+  pub trace : Trace (new_state start.first start.count start.width start.height start.files) lines script answers s
 
 -- the state behind any lines of a script is one that a run can come to
 abbrev pub EachTraceIsReached : Type 0
-EachTraceIsReached = (start : Start) (s : RunState) → IsBehindLines start s
-    → RunReached start.first start.count start.width start.height start.files s
+EachTraceIsReached = (start : Start) (s : State) → IsBehindLines start s
+    → Reached start.first start.count start.width start.height start.files s
 
 -- a text at a desk behind some lines of a script
-pub record IsTraced (start : Start) (s : RunState) (i text : ℕ) (t : TextState) : Type 0 where
+pub record IsTraced (start : Start) (s : State) (i text : ℕ) (t : TextState) : Type 0 where
   pub behind : IsBehindLines start s
-  pub there : IsTextAt s.texts i text t
+  pub there : IsTextAt s i text t
 
 -- a query of a text is answered by these lines
-abbrev pub AnswersQuery : RunState → (i text : ℕ) → Query → List ℕ → Type 0
+abbrev pub AnswersQuery : State → (i text : ℕ) → Query → List ℕ → Type 0
 AnswersQuery s i text q lines =
-    (new : RunState) × RunReplies s (on_text (query i text q)) untouched (of_text (prints lines)) new
+    (new : State) × Replies s (query i text q) untouched (prints lines) new
 
 -- a query of what is shown is answered the same of two texts, byte for byte
-abbrev pub AreAnsweredTheSame : (s s' : RunState) (i j text text' : ℕ) → Type 0
+abbrev pub AreAnsweredTheSame : (s s' : State) (i j text text' : ℕ) → Type 0
 AreAnsweredTheSame s s' i j text text' = (q : Query) (a b : List ℕ) → IsOfWhatIsShown q
     → AnswersQuery s i text q a → AnswersQuery s' j text' q b → a ≡ b
 
 -- wherever two texts have taken in the same operations, in one run or in two, `text`, `runs` and `where` are answered the same
 abbrev pub TheSameIsAnswered : Type 0
 TheSameIsAnswered =
-    (start start' : Start) (i j text text' : ℕ) (s s' : RunState) (t u : TextState)
+    (start start' : Start) (i j text text' : ℕ) (s s' : State) (t u : TextState)
     → IsTraced start s i text t → IsTraced start' s' j text' u
     → AreSameSet t.operations u.operations → AreAnsweredTheSame s s' i j text text'
 
 -- `front` is answered of a text by these lines of its fronts, and then how many operations wait
-abbrev pub AnswersFronts : RunState → (i text : ℕ) → TextState → List ℕ → Type 0
-AnswersFronts s i text t lines = AnswersQuery s i text print_fronts (lines ++ waiting_line (length t.waiting_room))
+abbrev pub AnswersFronts : State → (i text : ℕ) → TextState → List ℕ → Type 0
+AnswersFronts s i text t lines = AnswersQuery s i text Front (lines ++ waiting_line (length t.waiting_room))
 
 -- wherever `front` is answered by the same lines of fronts of two texts, in one run or in two, however many operations
 -- wait, `text`, `runs` and `where` are answered the same, if the sites are numbers that a message has places for, and no identity
 -- is used twice
 abbrev pub TheSameFrontsAreAnswered : Type 0
 TheSameFrontsAreAnswered =
-    (start start' : Start) (i j text text' : ℕ) (s s' : RunState) (t u : TextState) (lines : List ℕ)
+    (start start' : Start) (i j text text' : ℕ) (s s' : State) (t u : TextState) (lines : List ℕ)
     → start.first + start.count ≤ 2 ^ 16 → start'.first + start'.count ≤ 2 ^ 16
     → IsTraced start s i text t → IsTraced start' s' j text' u
     → AreIdentified (t.operations ++ u.operations)
@@ -72,7 +75,7 @@ TheSameFrontsAreAnswered =
     → AreAnsweredTheSame s s' i j text text'
 
 -- a desk and its screen behind some lines of a script
-pub record IsTracedDesk (start : Start) (s : RunState) (i : ℕ) (d : DeskState) (w : Screened) : Type 0 where
+pub record IsTracedDesk (start : Start) (s : State) (i : ℕ) (d : DeskState) (w : Screened) : Type 0 where
   pub behind : IsBehindLines start s
   pub there : IsDeskAt s i d w
 
@@ -82,13 +85,13 @@ HaveTakenTheSame d e =
     (n : ℕ) (t u : TextState) → IsTextOf d n t → IsTextOf e n u → AreSameSet t.operations u.operations
 
 -- a view of a desk is answered by these lines
-abbrev pub AnswersView : RunState → (i : ℕ) → View → List ℕ → Type 0
-AnswersView s i v lines = (new : RunState) × RunReplies s (ask i (print v)) untouched (prints_screen lines) new
+abbrev pub AnswersView : State → (i : ℕ) → View → List ℕ → Type 0
+AnswersView s i v lines = (new : State) × Replies s (ask i (print v)) untouched (prints lines) new
 
 -- wherever the texts of two desks have taken in the same operations, in one run or in two, and their screens are the same,
 -- tracks, windows, caret, selection and the next viewer's number, `views`, `marks` and `show` are answered the same
 abbrev pub TheSameViewsAreAnswered : Type 0
 TheSameViewsAreAnswered =
-    (start start' : Start) (i j : ℕ) (s s' : RunState) (d e : DeskState) (w : Screened)
+    (start start' : Start) (i j : ℕ) (s s' : State) (d e : DeskState) (w : Screened)
     → IsTracedDesk start s i d w → IsTracedDesk start' s' j e w → HaveTakenTheSame d e
     → (v : View) (a b : List ℕ) → AnswersView s i v a → AnswersView s' j v b → a ≡ b

@@ -1,4 +1,5 @@
 pub mod HexPairs
 pub mod LooksValues
 pub mod Spelling
+pub mod Verbs
 pub mod Words

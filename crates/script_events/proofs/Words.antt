@@ -1,6 +1,6 @@
 -- Words of a line, and the numbers that they spell.
-use Rattle.std.proofs.Common.{◌≡◌, ℕ, ◌+◌, ◌-◌, ◌^◌, ◌<◌, ◌≤◌, List, length, take, drop, Bool, true, false, ◌&&◌, ◌==◌, Some, None, Result, Ok, Err, Bor, inl, inr, option_map, refl, sym, ap, ◌∙◌, arith}
-use Rattle.std.specs.Prelude.{nat_le, nat_lt, MatchResult}
+use Rattle.std.proofs.Common.{◌≡◌, ℕ, ◌+◌, ◌-◌, ◌^◌, ◌<◌, ◌≤◌, List, length, take, drop, Bool, true, false, ◌&&◌, ◌==◌, Option, Some, None, Result, Ok, Err, Bor, inl, inr, option_map, refl, sym, ap, ◌∙◌, arith}
+use Rattle.std.specs.Prelude.{nat_le, nat_lt, IfSome, MatchResult}
 use Rattle.std.specs.List.{position}
 use Rattle.std.specs.Result.{OkIff, result_ok}
 use Rattle.std.specs.Str.{all_ascii_digits, IsAscii, IsUtf8}
@@ -64,3 +64,15 @@ text_of-utf8 (Err why) bytes text P Q h e = absurd cc
 pub text_of-none : {E : Type 0} (r : Result (Bor (List ℕ)) E) (bytes : List ℕ) (P : Bor (List ℕ) → Type 0) (Q : E → Type 0) → IsUtf8 bytes → MatchResult r P (λ e. ¬ (IsUtf8 bytes) × Q e) → result_ok r ≡ None → ⊥
 text_of-none (Ok s) bytes P Q utf8 h e = absurd cc
 text_of-none (Err why) bytes P Q utf8 h e = h.0 utf8
+
+-- what is no longer than a list is no longer than a longer one
+pub shorter : (o : Option (Bor (List ℕ))) (n m : ℕ) → n ≤ m → IfSome o (λ rest. length rest.now ≤ n)
+    → IfSome o (λ rest. length rest.now ≤ m)
+shorter None n m le h = tt
+shorter (Some rest) n m le h = omega (arith, h, le)
+
+-- what holds of a value for each number that passes holds for one that does
+pub applied : {A : Type 0} (o : Option A) (Holds : ℕ → A → Type 0) (Passes : ℕ → Type 0) (n : ℕ)
+    → IfSome o (λ a. (m : ℕ) → Passes m → Holds m a) → Passes n → IfSome o (λ a. Holds n a)
+applied None Holds Passes n h passes = tt
+applied (Some a) Holds Passes n h passes = h n passes

@@ -1,20 +1,19 @@
 -- Events as the code has them, seen as the machine's.
 use Rattle.std.specs.Prelude.{ℕ, ◌<◌, ◌≤◌, Option, length, option_map, unwrap_or}
 use Rattle.texts.specs.Edit.{Edit as AskedEdit, deletion, looks_change, recalling, restoration}
-use Rattle.machine.specs.Machine.{copy, edit, take, settle, merge, query, unknown, print_text, print_fronts}
-use Rattle.machine.specs.Machine.{print_places, print_runs, sent}
-use Rattle.machine.specs.Machine.{bytes}
-use Rattle.machine.specs.Machine.{Event as AskedEvent, Query as AskedQuery, Delivery as AskedDelivery}
+use Rattle.machine.specs.Events.{Delivery as AskedDelivery, Event as AskedEvent, arrange, ask, bytes as by_bytes, click, copy}
+use Rattle.machine.specs.Events.{edit, keep, merge, print, put, query, reopen, sent, settle, take, unknown}
 use Rattle.machine.specs.declared.TheConstants.{MAX_TEXT}
+use Rattle.machine.specs.declared.asked.Arrangement.{Arrangement}
+use Rattle.machine.specs.declared.asked.Arrangement.TheVariants.{Close, Move, Open, Point, Scroll, Select}
 use Rattle.script_events.specs.declared.event.Delivery.{Delivery}
 use Rattle.script_events.specs.declared.event.Delivery.TheVariants.{Sent, Bytes}
 use Rattle.script_events.specs.declared.event.Edit.{Edit}
 use Rattle.script_events.specs.declared.event.Edit.TheVariants.{TypeIn, Cut, Looks, Recall, Restore}
-use Rattle.script_events.specs.declared.event.Query.{Query}
-use Rattle.script_events.specs.declared.event.Query.TheVariants.{Text, Front, Runs, Places}
 use Rattle.script_events.specs.declared.event.Event.{Event}
 use Rattle.script_events.specs.declared.event.Event.TheVariants.{Edits, Saves, Takes, Settles, Merges, Queries}
-use Rattle.script_events.specs.Script.{typing}
+use Rattle.script_events.specs.declared.event.Event.TheVariants.{Arranges, Clicks, Keeps, Keys, Prints, Reopens}
+use Rattle.script_events.specs.Script.{plain_items, typing}
 
 -- an edit, with its bytes decoded
 abbrev pub edit_of : Edit → AskedEdit
@@ -27,14 +26,7 @@ edit_of Restore = restoration
 -- how a message is told, with its hex decoded
 abbrev pub delivery_of : Delivery → AskedDelivery
 delivery_of (Sent k) = sent k
-delivery_of (Bytes message) = bytes message
-
--- what is to be printed
-abbrev pub query_of : Query → AskedQuery
-query_of Text = print_text
-query_of Front = print_fronts
-query_of Runs = print_runs
-query_of (Places names) = print_places names
+delivery_of (Bytes message) = by_bytes message
 
 -- what was parsed, as the machine's event
 abbrev pub event_of : Event → AskedEvent
@@ -43,11 +35,26 @@ event_of (Saves desk text save) = copy desk text save.beg save.end save.other sa
 event_of (Takes desk text d) = take desk text (delivery_of d)
 event_of (Settles desk text) = settle desk text
 event_of (Merges desk text other) = merge desk text other
-event_of (Queries desk text q) = query desk text (query_of q)
+event_of (Queries desk text q) = query desk text q
+event_of (Keeps desk text name) = ask desk (keep text name.now)
+event_of (Reopens desk text name) = ask desk (reopen text name.now)
+event_of (Arranges desk arrangement) = ask desk (arrange arrangement)
+event_of (Prints desk what) = ask desk (print what)
+event_of (Keys desk bytes) = ask desk (put (plain_items bytes))
+event_of (Clicks desk cell) = click desk cell.col cell.row
 
 -- what was parsed, or nothing that there is
 abbrev pub event_or_unknown : Option Event → AskedEvent
 event_or_unknown parsed = unwrap_or (option_map event_of parsed) unknown
+
+-- a text that is opened is a desk's
+abbrev pub OpensDeskText : Arrangement → Type 0
+OpensDeskText (Open track text row) = text ≤ MAX_TEXT
+OpensDeskText (Close viewer) = Unit {0}
+OpensDeskText (Move viewer row) = Unit {0}
+OpensDeskText (Scroll viewer line) = Unit {0}
+OpensDeskText (Point cell) = Unit {0}
+OpensDeskText (Select beg end) = Unit {0}
 
 -- its desks are of the run's count, and its texts are a desk's
 abbrev pub IsInRun : ℕ → Event → Type 0
@@ -57,6 +64,12 @@ IsInRun count (Takes desk text d) = (desk < count) × (text ≤ MAX_TEXT)
 IsInRun count (Settles desk text) = (desk < count) × (text ≤ MAX_TEXT)
 IsInRun count (Merges desk text other) = (desk < count) × (text ≤ MAX_TEXT) × (other < count)
 IsInRun count (Queries desk text q) = (desk < count) × (text ≤ MAX_TEXT)
+IsInRun count (Keeps desk text name) = (desk < count) × (text ≤ MAX_TEXT)
+IsInRun count (Reopens desk text name) = (desk < count) × (text ≤ MAX_TEXT)
+IsInRun count (Arranges desk arrangement) = (desk < count) × OpensDeskText arrangement
+IsInRun count (Prints desk what) = desk < count
+IsInRun count (Keys desk bytes) = desk < count
+IsInRun count (Clicks desk cell) = desk < count
 
 -- what an edit types has so many bytes at most
 abbrev pub TypesAtMost : ℕ → Edit → Type 0
@@ -79,3 +92,9 @@ IsOfLine len (Takes desk text d) = IsWithin len d
 IsOfLine len (Settles desk text) = Unit {0}
 IsOfLine len (Merges desk text other) = Unit {0}
 IsOfLine len (Queries desk text q) = Unit {0}
+IsOfLine len (Keeps desk text name) = Unit {0}
+IsOfLine len (Reopens desk text name) = Unit {0}
+IsOfLine len (Arranges desk arrangement) = Unit {0}
+IsOfLine len (Prints desk what) = Unit {0}
+IsOfLine len (Keys desk bytes) = length bytes ≤ len
+IsOfLine len (Clicks desk cell) = Unit {0}

@@ -2,5 +2,3 @@ pub mod Words
 pub mod LooksWords
 pub mod Script
 pub mod EventView
-pub mod ScreenScript
-pub mod ScreenEventView

@@ -7,11 +7,7 @@ use Rattle.looks.specs.declared.looks.Looks.{Looks}
 use Rattle.looks.specs.Looks.{plain_looks}
 use Rattle.looks.specs.Sel.{Selection, bits_of}
 use Rattle.operations.specs.Reading.{is_font_name}
-use Rattle.script_events.specs.Words.{◌>>=◌, some_if, is_word, cut_word, number_in}
-
--- the word in front, and what stands behind its blank: nothing where it is the line's last word
-abbrev pub front_word : List ℕ → List ℕ × Option (List ℕ)
-front_word words = option_map_or (λ cut. (cut.0, Some cut.1)) (cut_word words) (words, None)
+use Rattle.script_events.specs.Words.{◌>>=◌, some_if, is_word, front_word, number_in}
 
 -- what stands behind this key, where a word begins with it
 abbrev pub value_of : (key word : List ℕ) → Option (List ℕ)

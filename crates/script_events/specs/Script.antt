@@ -1,17 +1,39 @@
 -- How events are spelled in a script: words with one blank between them.
-use Rattle.std.specs.Prelude.{ℕ, ◌+◌, ◌*◌, ◌^◌, ◌&&◌, nat_le, nat_lt, List, [], ◌∷◌, length, map, ◌==◌, if◌then◌else◌}
+use Rattle.std.specs.Prelude.{ℕ, ◌+◌, ◌*◌, ◌^◌, ◌&&◌, not, nat_le, nat_lt, List, [], ◌∷◌, length, map, ◌==◌, if◌then◌else◌}
 use Rattle.std.specs.Prelude.{Option, Some, None, option_map, unwrap_or, codes}
+use Rattle.std.specs.List.{find, list_any}
 use Rattle.std.specs.Option.{option_map_or}
 use Rattle.hex.specs.Hex.{hex_digit_value}
 use Rattle.looks.specs.Looks.{plain_looks}
+use Rattle.char_files.specs.Stretch.{Item}
 use Rattle.char_files.specs.declared.TheConstants.{MAX_FILE}
 use Rattle.operations.specs.NameSet.{Range}
+use Rattle.shelf.specs.Names.{is_file_name}
 use Rattle.texts.specs.Edit.{Edit, insertion, deletion, looks_change, recalling, restoration}
-use Rattle.machine.specs.Machine.{Delivery, Event, Query, copy, edit, merge, query, settle, unknown}
-use Rattle.machine.specs.Machine.{print_places, print_text, print_fronts}
-use Rattle.machine.specs.Machine.{print_runs, take as taking, sent as by_number, bytes as by_bytes}
-use Rattle.script_events.specs.Words.{◌>>=◌, some_if, is_word, cut_word, number_in, cut_number, desk_in, text_in}
+use Rattle.viewers.specs.declared.screen.Track.{Track}
+use Rattle.viewers.specs.declared.screen.Track.TheVariants.{User, System}
+use Rattle.machine.specs.Events.{Delivery, Event, arrange, ask, bytes as by_bytes, click, copy, edit, keep, merge, print}
+use Rattle.machine.specs.Events.{put, query, reopen, sent as by_number, settle, take as taking, unknown}
+use Rattle.machine.specs.declared.asked.Arrangement.{Arrangement}
+use Rattle.machine.specs.declared.asked.Arrangement.TheVariants.{Close, Move, Open, Point, Scroll, Select}
+use Rattle.machine.specs.declared.asked.Cell.{Cell}
+use Rattle.machine.specs.declared.asked.Query.TheVariants.{Front, Places, Runs, Text}
+use Rattle.machine.specs.declared.asked.View.TheVariants.{Marks, Show, Views}
 use Rattle.script_events.specs.LooksWords.{change_in}
+use Rattle.script_events.specs.Words.{◌>>=◌, some_if, is_word, cut_word, front_word, number_in, cut_number, desk_in, text_in}
+use Rattle.script_events.specs.declared.event.verbs.ArrangeVerb.{ArrangeVerb}
+use Rattle.script_events.specs.declared.event.verbs.ArrangeVerb.TheVariants.{Close as Closes, Move as Moves, Open as Opens}
+use Rattle.script_events.specs.declared.event.verbs.ArrangeVerb.TheVariants.{Point as Points, Scroll as Scrolls, Select as Selects}
+use Rattle.script_events.specs.declared.event.verbs.DeskVerb.{DeskVerb}
+use Rattle.script_events.specs.declared.event.verbs.DeskVerb.TheVariants.{Click, Keep, Key, Reopen}
+use Rattle.script_events.specs.declared.event.verbs.EditVerb.{EditVerb}
+use Rattle.script_events.specs.declared.event.verbs.EditVerb.TheVariants.{Cut, Looks, Recall, TypeIn}
+use Rattle.script_events.specs.declared.event.verbs.LongVerb.{LongVerb}
+use Rattle.script_events.specs.declared.event.verbs.LongVerb.TheVariants.{Merge, Save, Take, Where}
+use Rattle.script_events.specs.declared.event.verbs.ShortVerb.{ShortVerb}
+use Rattle.script_events.specs.declared.event.verbs.ShortVerb.TheVariants.{Restore, Settle}
+use Rattle.script_events.specs.declared.event.verbs.Verb.{Verb}
+use Rattle.script_events.specs.declared.event.verbs.Verb.TheVariants.{Arrange, Desk, Edit as EditOf, Long, Prints, Queries, Short}
 
 -- the byte of two hex digits
 abbrev pub byte_of_digits : ℕ → ℕ → Option ℕ
@@ -83,14 +105,6 @@ looks_edit rest = do
 abbrev pub recall_edit : List ℕ → Option Edit
 recall_edit rest = option_map (λ pos. recalling pos) (number_in rest)
 
--- the edit that a verb asks for with what stands behind the text: a row for each verb
-abbrev pub edit_in : List ℕ → List ℕ → Option Edit
-edit_in verb rest =
-    if is_word verb (codes "type") then type_edit rest
-    else (if is_word verb (codes "cut") then cut_edit rest
-    else (if is_word verb (codes "looks") then looks_edit rest
-    else (if is_word verb (codes "recall") then recall_edit rest else None)))
-
 -- what `save` goes on with behind its text: from where to where, the other text, and a position in that
 abbrev pub save_event : (desk text : ℕ) → List ℕ → Option Event
 save_event desk text rest = do
@@ -112,49 +126,188 @@ names_in rest = do
 
 -- `where`: names of a site
 abbrev pub places_event : (desk text : ℕ) → List ℕ → Option Event
-places_event desk text rest = option_map (λ names. query desk text (print_places names)) (names_in rest)
-
--- what a verb prints of a text: a row for each verb
-abbrev pub query_in : List ℕ → Option Query
-query_in verb =
-    if is_word verb (codes "text") then Some print_text
-    else (if is_word verb (codes "front") then Some print_fronts
-    else (if is_word verb (codes "runs") then Some print_runs else None))
-
--- what a verb asks of a text that ends the line: to restore, to settle, or a query
-abbrev pub short_event : List ℕ → (desk text : ℕ) → Option Event
-short_event verb desk text =
-    if is_word verb (codes "restore") then Some (edit desk text restoration)
-    else (if is_word verb (codes "settle") then Some (settle desk text)
-    else option_map (λ q. query desk text q) (query_in verb))
+places_event desk text rest = option_map (λ names. query desk text (Places names)) (names_in rest)
 
 -- `merge`: the site whose text is taken over
 abbrev pub merge_event : (first count desk text : ℕ) → List ℕ → Option Event
 merge_event first count desk text rest = option_map (λ other. merge desk text other) (desk_in first count rest)
 
--- what a verb asks of a text with what stands behind it: to take a message, to merge, to save, where names stand, or another
--- edit
-abbrev pub long_event : (first count : ℕ) → List ℕ → (desk text : ℕ) → List ℕ → Option Event
-long_event first count verb desk text rest =
-    if is_word verb (codes "take") then option_map (λ message. taking desk text message) (delivery_in rest)
-    else (if is_word verb (codes "merge") then merge_event first count desk text rest
-    else (if is_word verb (codes "save") then save_event desk text rest
-    else (if is_word verb (codes "where") then places_event desk text rest
-    else option_map (λ e. edit desk text e) (edit_in verb rest))))
+-- a track's name
+abbrev pub track_in : List ℕ → Option Track
+track_in word =
+    if is_word word (codes "user") then Some User
+    else (if is_word word (codes "system") then Some System else None)
 
--- what a verb goes on with: a text, which ends the line or has a blank and more behind it
-abbrev pub verb_event : (first count : ℕ) → List ℕ → ℕ → List ℕ → Option Event
-verb_event first count verb desk rest =
-    option_map_or (λ cut. text_in cut.0 >>= λ text. long_event first count verb desk text cut.1) (cut_word rest)
-    (text_in rest >>= λ text. short_event verb desk text)
+-- two numbers that end the line
+abbrev pub pair_in : List ℕ → Option (ℕ × ℕ)
+pair_in rest = do
+  first ← cut_number rest
+  second ← number_in first.1
+  Some (first.0, second)
+
+-- the column and the row of a cell, which end the line
+abbrev pub cell_in : List ℕ → Option Cell
+cell_in rest = option_map (λ pair. record { col = pair.0; row = pair.1 }) (pair_in rest)
+
+-- what `open` goes on with behind its track: a text, which ends the line or has a row behind it
+abbrev pub opening_in : Track → List ℕ → Option Arrangement
+opening_in track rest =
+    option_map_or
+    (λ cut. text_in cut.0 >>= λ text. option_map (λ row. Open track text (Some row)) (number_in cut.1))
+    (cut_word rest) (option_map (λ text. Open track text None) (text_in rest))
+
+-- `open`: a track, a text, and perhaps a row
+abbrev pub open_arrangement : List ℕ → Option Arrangement
+open_arrangement rest = do
+  cut ← cut_word rest
+  track ← track_in cut.0
+  opening_in track cut.1
+
+-- `close`: a viewer
+abbrev pub close_arrangement : List ℕ → Option Arrangement
+close_arrangement rest = option_map (λ viewer. Close viewer) (number_in rest)
+
+-- `move`: a viewer, and a row
+abbrev pub move_arrangement : List ℕ → Option Arrangement
+move_arrangement rest = option_map (λ pair. Move pair.0 pair.1) (pair_in rest)
+
+-- `scroll`: a viewer, and a line
+abbrev pub scroll_arrangement : List ℕ → Option Arrangement
+scroll_arrangement rest = option_map (λ pair. Scroll pair.0 pair.1) (pair_in rest)
+
+-- `point`: a cell
+abbrev pub point_arrangement : List ℕ → Option Arrangement
+point_arrangement rest = option_map (λ cell. Point cell) (cell_in rest)
+
+-- `select`: the columns and rows of two cells
+abbrev pub select_arrangement : List ℕ → Option Arrangement
+select_arrangement rest = do
+  col ← cut_number rest
+  row ← cut_number col.1
+  cell ← cell_in row.1
+  Some (Select (record { col = col.0; row = row.0 }) cell)
+
+-- bytes as characters of default looks
+abbrev pub plain_items : List ℕ → List Item
+plain_items bytes = map (λ b. (b, plain_looks)) bytes
+
+-- a file's name without a blank
+abbrev pub file_in : List ℕ → Option (List ℕ)
+file_in word = some_if (is_file_name word && not (list_any (λ b. b == 32) word)) word
+
+-- what `keep` and `reopen` go on with: a text, and the file, which ends the line
+abbrev pub filing_in : List ℕ → Option (ℕ × List ℕ)
+filing_in rest = do
+  cut ← cut_word rest
+  text ← text_in cut.0
+  name ← file_in cut.1
+  Some (text, name)
+
+-- `keep`: a text, and the file
+abbrev pub keep_event : (desk : ℕ) → List ℕ → Option Event
+keep_event desk rest = option_map (λ filing. ask desk (keep filing.0 filing.1)) (filing_in rest)
+
+-- `reopen`: the same
+abbrev pub reopen_event : (desk : ℕ) → List ℕ → Option Event
+reopen_event desk rest = option_map (λ filing. ask desk (reopen filing.0 filing.1)) (filing_in rest)
+
+-- what a verb asks of a text that ends the line: a row for each verb
+abbrev pub short_event : ShortVerb → (desk text : ℕ) → Event
+short_event Restore desk text = edit desk text restoration
+short_event Settle desk text = settle desk text
+
+-- the edit that a verb asks for with what stands behind the text: a row for each verb
+abbrev pub edit_in : EditVerb → List ℕ → Option Edit
+edit_in TypeIn rest = type_edit rest
+edit_in Cut rest = cut_edit rest
+edit_in Looks rest = looks_edit rest
+edit_in Recall rest = recall_edit rest
+
+-- what else a verb asks of a text with what stands behind it: a row for each verb
+abbrev pub long_event : (first count : ℕ) → LongVerb → (desk text : ℕ) → List ℕ → Option Event
+long_event first count Save desk text rest = save_event desk text rest
+long_event first count Take desk text rest = option_map (λ message. taking desk text message) (delivery_in rest)
+long_event first count Merge desk text rest = merge_event first count desk text rest
+long_event first count Where desk text rest = places_event desk text rest
+
+-- the arrangement that a verb asks for with what stands behind it: a row for each verb
+abbrev pub arrangement_in : ArrangeVerb → List ℕ → Option Arrangement
+arrangement_in Opens rest = open_arrangement rest
+arrangement_in Closes rest = close_arrangement rest
+arrangement_in Moves rest = move_arrangement rest
+arrangement_in Scrolls rest = scroll_arrangement rest
+arrangement_in Points rest = point_arrangement rest
+arrangement_in Selects rest = select_arrangement rest
+
+-- what else a verb asks of a desk with what stands behind it: a row for each verb
+abbrev pub desk_event : DeskVerb → (desk : ℕ) → List ℕ → Option Event
+desk_event Keep desk rest = keep_event desk rest
+desk_event Reopen desk rest = reopen_event desk rest
+desk_event Key desk rest = option_map (λ bytes. ask desk (put (plain_items bytes))) (bytes_in rest)
+desk_event Click desk rest = option_map (λ cell. click desk cell.col cell.row) (cell_in rest)
+
+-- what a verb asks with what stands behind its blank, if it doesn't end the line
+abbrev pub verb_event : (first count : ℕ) → Verb → (desk : ℕ) → Option (List ℕ) → Option Event
+verb_event first count (Queries q) desk rest =
+    rest >>= λ words. option_map (λ text. query desk text q) (text_in words)
+verb_event first count (Short verb) desk rest =
+    rest >>= λ words. option_map (λ text. short_event verb desk text) (text_in words)
+verb_event first count (EditOf verb) desk rest =
+    rest >>= λ words. cut_word words >>= λ cut. text_in cut.0 >>= λ text.
+    option_map (λ e. edit desk text e) (edit_in verb cut.1)
+verb_event first count (Long verb) desk rest =
+    rest >>= λ words. cut_word words >>= λ cut. text_in cut.0 >>= λ text. long_event first count verb desk text cut.1
+verb_event first count (Arrange verb) desk rest =
+    rest >>= λ words. option_map (λ a. ask desk (arrange a)) (arrangement_in verb words)
+verb_event first count (Desk verb) desk rest = rest >>= λ words. desk_event verb desk words
+verb_event first count (Prints what) desk None = Some (ask desk (print what))
+verb_event first count (Prints what) desk (Some words) = None
+
+-- the verbs: a row for each
+abbrev pub verbs : List (List ℕ × Verb)
+verbs =
+    (codes "type", EditOf TypeIn) ∷
+    (codes "cut", EditOf Cut) ∷
+    (codes "looks", EditOf Looks) ∷
+    (codes "recall", EditOf Recall) ∷
+    (codes "restore", Short Restore) ∷
+    (codes "save", Long Save) ∷
+    (codes "take", Long Take) ∷
+    (codes "settle", Short Settle) ∷
+    (codes "merge", Long Merge) ∷
+    (codes "text", Queries Text) ∷
+    (codes "front", Queries Front) ∷
+    (codes "runs", Queries Runs) ∷
+    (codes "where", Long Where) ∷
+    (codes "keep", Desk Keep) ∷
+    (codes "reopen", Desk Reopen) ∷
+    (codes "open", Arrange Opens) ∷
+    (codes "close", Arrange Closes) ∷
+    (codes "move", Arrange Moves) ∷
+    (codes "scroll", Arrange Scrolls) ∷
+    (codes "point", Arrange Points) ∷
+    (codes "select", Arrange Selects) ∷
+    (codes "key", Desk Key) ∷
+    (codes "click", Desk Click) ∷
+    (codes "views", Prints Views) ∷
+    (codes "marks", Prints Marks) ∷
+    (codes "show", Prints Show) ∷ []
+
+-- the verb of a word, among these rows
+abbrev pub verb_among : List (List ℕ × Verb) → List ℕ → Option Verb
+verb_among rows word = option_map (λ row. row.1) (find (λ row. is_word row.0 word) rows)
+
+-- the verb of a word
+abbrev pub verb_in : List ℕ → Option Verb
+verb_in word = verb_among verbs word
 
 -- the event that a line spells, if it spells one: a site, a verb, and what the verb goes on with
 unfoldable pub spelled_event : (first count : ℕ) → List ℕ → Option Event
 spelled_event first count line = do
   site ← cut_word line
-  verb ← cut_word site.1
+  verb ← verb_in (front_word site.1).0
   desk ← desk_in first count site.0
-  verb_event first count verb.0 desk verb.1
+  verb_event first count verb desk (front_word site.1).1
 
 -- what a line asks of the run's sites
 abbrev pub event_in : (first count : ℕ) → List ℕ → Event

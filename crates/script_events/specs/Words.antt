@@ -2,6 +2,7 @@
 use Rattle.std.specs.Prelude.{ℕ, ◌+◌, ◌-◌, ◌^◌, List, length, take, drop, Bool, ◌&&◌, ◌==◌}
 use Rattle.std.specs.Prelude.{nat_eq, nat_le, nat_lt, if◌then◌else◌, Option, Some, None, option_and_then}
 use Rattle.std.specs.Prelude.{option_map, position}
+use Rattle.std.specs.Option.{option_map_or}
 use Rattle.std.specs.Cmp.Lexicographic.{pointwise}
 use Rattle.std.specs.Str.{all_ascii_digits}
 use Rattle.std.specs.Str.Parse.{digits_value}
@@ -23,6 +24,10 @@ is_word word other = pointwise nat_eq word other
 -- the word up to the first blank, and what stands behind that blank
 abbrev pub cut_word : List ℕ → Option (List ℕ × List ℕ)
 cut_word bytes = option_map (λ i. (take i bytes, drop (i + 1) bytes)) (position (λ b. b == 32) bytes)
+
+-- the word in front, and what stands behind its blank: nothing where it is the line's last word
+abbrev pub front_word : List ℕ → List ℕ × Option (List ℕ)
+front_word words = option_map_or (λ cut. (cut.0, Some cut.1)) (cut_word words) (words, None)
 
 -- a number: 1 to 10 decimal digits, with a value to 2^32 - 1
 abbrev pub number_in : List ℕ → Option ℕ

@@ -1,20 +1,29 @@
 ghost use Rattle.std.specs.Prelude.{◌≡◌, ℕ, ◌<◌, ◌≤◌, length, option_map, IfSome};
-ghost use Rattle.script_events.specs.EventView.{delivery_of, event_of, query_of, event_or_unknown};
-ghost use Rattle.script_events.specs.EventView.{IsInRun, IsOfLine, IsWithin};
-ghost use Rattle.script_events.specs.Script.{delivery_in, names_in, places_event, query_in, merge_event, save_event, short_event, long_event};
-ghost use Rattle.script_events.specs.Script.{verb_event, event_in};
+ghost use Rattle.script_events.specs.EventView.{delivery_of, edit_of, event_of, event_or_unknown, IsInRun, IsOfLine, IsWithin};
+ghost use Rattle.script_events.specs.EventView.{OpensDeskText, TypesAtMost};
+ghost use Rattle.script_events.specs.Script.{arrangement_in, delivery_in, desk_event, edit_in, event_in, keep_event, long_event, merge_event, names_in};
+ghost use Rattle.script_events.specs.Script.{places_event, reopen_event, save_event, short_event, verb_event};
 
+mod arrangements;
 mod edits;
+mod filings;
 mod looks_words;
+mod verbs;
 pub(crate) mod words;
 
 use crate::escaped::Escaped;
-use crate::event::edits::edit_in;
-use crate::event::words::{cut_number, cut_word, desk_in, number_in, text_in};
+use crate::event::arrangements::{
+    cell_in, close_arrangement, move_arrangement, open_arrangement, point_arrangement,
+    scroll_arrangement, select_arrangement,
+};
+use crate::event::edits::{cut_edit, looks_edit, recall_edit, type_edit};
+use crate::event::filings::filing_in;
+use crate::event::verbs::{ArrangeVerb, DeskVerb, EditVerb, LongVerb, ShortVerb, Verb};
+use crate::event::words::{cut_number, cut_word, desk_in, front_word, number_in, text_in};
 use crate::hex_bytes::Hex;
 use char_files::{MAX_FILE, SiteNo, TextNo};
 use looks::{Looks, Sel};
-use machine::MAX_TEXT;
+use machine::{Arrangement, Cell, MAX_TEXT, Query, View};
 use operations::NameRange;
 
 /// What a line of a script asks; it borrows its bytes from the line.
@@ -56,6 +65,38 @@ pub enum Event<'a> {
         desk: usize,
         text: TextNo,
         query: Query,
+    },
+    /// A keeping of a desk's text in its site's file, with all that it has taken in.
+    Keeps {
+        desk: usize,
+        text: TextNo,
+        name: &'a str,
+    },
+    /// A reopening of a desk's text, which begins as its site's file tells.
+    Reopens {
+        desk: usize,
+        text: TextNo,
+        name: &'a str,
+    },
+    /// An arrangement of a desk's screen.
+    Arranges {
+        desk: usize,
+        arrangement: Arrangement,
+    },
+    /// A print of a desk's screen.
+    Prints {
+        desk: usize,
+        view: View,
+    },
+    /// Bytes of default looks that are put in at the caret.
+    Keys {
+        desk: usize,
+        bytes: Escaped<'a>,
+    },
+    /// A click into a cell of a desk's screen.
+    Clicks {
+        desk: usize,
+        cell: Cell,
     },
 }
 
@@ -105,19 +146,6 @@ pub enum Delivery<'a> {
     Bytes(Hex<'a>),
 }
 
-/// What is to be printed of a text.
-#[derive(Clone, Copy, Debug)]
-pub enum Query {
-    /// Its length and its characters.
-    Text,
-    /// The fronts of its sites, and how many operations wait.
-    Front,
-    /// Its runs of equal looks.
-    Runs,
-    /// Where the characters of these names are shown.
-    Places(NameRange),
-}
-
 // The number of the run's first site, and how many there are.
 #[derive(Clone, Copy)]
 struct RunSites {
@@ -133,21 +161,6 @@ fn delivery_in(word: &[u8]) -> Option<Delivery<'_>>
     match word {
         [b'm', number @ ..] => Some(Delivery::Sent(number_in(number)?)),
         _ => Some(Delivery::Bytes(Hex::new(word)?)),
-    }
-}
-
-// What a verb prints of a text: a row for each verb.
-fn query_in(verb: &[u8]) -> Option<Query>
-    ensures { option_map query_of result ≡ query_in verb.now }
-{
-    if verb == b"text".as_slice() {
-        Some(Query::Text)
-    } else if verb == b"front".as_slice() {
-        Some(Query::Front)
-    } else if verb == b"runs".as_slice() {
-        Some(Query::Runs)
-    } else {
-        None
     }
 }
 
@@ -194,24 +207,6 @@ fn places_event(desk: usize, text: TextNo, rest: &[u8]) -> Option<Event<'static>
     Some(Event::Queries { desk, text, query })
 }
 
-// What a verb asks of a text that ends the line: to restore, to settle, or a query.
-fn short_event(verb: &[u8], desk: usize, text: TextNo) -> Option<Event<'static>>
-    requires { text ≤ MAX_TEXT }
-    ensures event { option_map event_of result ≡ short_event verb.now desk text }
-    ensures in_run { IfSome result (λ event. (count : ℕ) → desk < count → IsInRun count event) }
-    ensures within { IfSome result (λ event. (len : ℕ) → IsOfLine len event) }
-{
-    if verb == b"restore".as_slice() {
-        let edit = Edit::Restore;
-        return Some(Event::Edits { desk, text, edit });
-    }
-    if verb == b"settle".as_slice() {
-        return Some(Event::Settles { desk, text });
-    }
-    let query = query_in(verb)?;
-    Some(Event::Queries { desk, text, query })
-}
-
 // `merge`: the site whose text is taken over.
 fn merge_event(run: RunSites, desk: usize, text: TextNo, rest: &[u8]) -> Option<Event<'static>>
     requires { text ≤ MAX_TEXT }
@@ -223,48 +218,160 @@ fn merge_event(run: RunSites, desk: usize, text: TextNo, rest: &[u8]) -> Option<
     Some(Event::Merges { desk, text, other })
 }
 
-// What a verb asks of a text with what stands behind it: to take a message, to merge, to save, where names stand, or
-// another edit.
+// `keep`: a text, and the file.
+fn keep_event(desk: usize, rest: &[u8]) -> Option<Event<'_>>
+    ensures event { option_map event_of result ≡ keep_event desk rest.now }
+    ensures in_run { IfSome result (λ event. (count : ℕ) → desk < count → IsInRun count event) }
+    ensures within { IfSome result (λ event. (len : ℕ) → IsOfLine len event) }
+{
+    let Some((text, name)) = filing_in(rest) else {
+        return None;
+    };
+    Some(Event::Keeps { desk, text, name })
+}
+
+// `reopen`: the same.
+fn reopen_event(desk: usize, rest: &[u8]) -> Option<Event<'_>>
+    ensures event { option_map event_of result ≡ reopen_event desk rest.now }
+    ensures in_run { IfSome result (λ event. (count : ℕ) → desk < count → IsInRun count event) }
+    ensures within { IfSome result (λ event. (len : ℕ) → IsOfLine len event) }
+{
+    let Some((text, name)) = filing_in(rest) else {
+        return None;
+    };
+    Some(Event::Reopens { desk, text, name })
+}
+
+// What a verb asks of a text that ends the line: a row for each verb.
+fn short_event(verb: ShortVerb, desk: usize, text: TextNo) -> Event<'static>
+    requires { text ≤ MAX_TEXT }
+    ensures event { event_of result ≡ short_event verb desk text }
+    ensures in_run { (count : ℕ) → desk < count → IsInRun count result }
+    ensures within { (len : ℕ) → IsOfLine len result }
+{
+    match verb {
+        ShortVerb::Restore => {
+            let edit = Edit::Restore;
+            Event::Edits { desk, text, edit }
+        }
+        ShortVerb::Settle => Event::Settles { desk, text },
+    }
+}
+
+// The edit that a verb asks for with what stands behind the text: a row for each verb.
+fn edit_in(verb: EditVerb, rest: &[u8]) -> Option<Edit<'_>>
+    ensures edit { option_map edit_of result ≡ edit_in verb rest.now }
+    ensures short { IfSome result (λ edit. (len : ℕ) → length rest.now ≤ len → TypesAtMost len edit) }
+{
+    match verb {
+        EditVerb::TypeIn => type_edit(rest),
+        EditVerb::Cut => cut_edit(rest),
+        EditVerb::Looks => looks_edit(rest),
+        EditVerb::Recall => recall_edit(rest),
+    }
+}
+
+// What else a verb asks of a text with what stands behind it: a row for each verb.
 fn long_event<'a>(
     run: RunSites,
-    verb: &[u8],
+    verb: LongVerb,
     desk: usize,
     text: TextNo,
     rest: &'a [u8],
 ) -> Option<Event<'a>>
     requires { text ≤ MAX_TEXT }
-    ensures event { option_map event_of result ≡ long_event run.first run.count verb.now desk text rest.now }
+    ensures event { option_map event_of result ≡ long_event run.first run.count verb desk text rest.now }
     ensures in_run { IfSome result (λ event. desk < run.count → IsInRun run.count event) }
     ensures within { IfSome result (λ event. (len : ℕ) → length rest.now ≤ len → IsOfLine len event) }
 {
-    if verb == b"take".as_slice() {
-        let message = delivery_in(rest)?;
-        Some(Event::Takes {
-            desk,
-            text,
-            message,
-        })
-    } else if verb == b"merge".as_slice() {
-        merge_event(run, desk, text, rest)
-    } else if verb == b"save".as_slice() {
-        save_event(desk, text, rest)
-    } else if verb == b"where".as_slice() {
-        places_event(desk, text, rest)
-    } else {
-        let edit = edit_in(verb, rest)?;
-        Some(Event::Edits { desk, text, edit })
+    match verb {
+        LongVerb::Save => save_event(desk, text, rest),
+        LongVerb::Take => {
+            let message = delivery_in(rest)?;
+            Some(Event::Takes {
+                desk,
+                text,
+                message,
+            })
+        }
+        LongVerb::Merge => merge_event(run, desk, text, rest),
+        LongVerb::Where => places_event(desk, text, rest),
     }
 }
 
-// What a verb goes on with: a text, which ends the line or has a blank and more behind it.
-fn verb_event<'a>(run: RunSites, verb: &[u8], desk: usize, rest: &'a [u8]) -> Option<Event<'a>>
-    ensures event { option_map event_of result ≡ verb_event run.first run.count verb.now desk rest.now }
-    ensures in_run { IfSome result (λ event. desk < run.count → IsInRun run.count event) }
+// The arrangement that a verb asks for with what stands behind it: a row for each verb.
+fn arrangement_in(verb: ArrangeVerb, rest: &[u8]) -> Option<Arrangement>
+    ensures arrangement { result ≡ arrangement_in verb rest.now }
+    ensures on_desk { IfSome result (λ arrangement. OpensDeskText arrangement) }
+{
+    match verb {
+        ArrangeVerb::Open => open_arrangement(rest),
+        ArrangeVerb::Close => close_arrangement(rest),
+        ArrangeVerb::Move => move_arrangement(rest),
+        ArrangeVerb::Scroll => scroll_arrangement(rest),
+        ArrangeVerb::Point => point_arrangement(rest),
+        ArrangeVerb::Select => select_arrangement(rest),
+    }
+}
+
+// What else a verb asks of a desk with what stands behind it: a row for each verb.
+fn desk_event<'a>(verb: DeskVerb, desk: usize, rest: &'a [u8]) -> Option<Event<'a>>
+    ensures event { option_map event_of result ≡ desk_event verb desk rest.now }
+    ensures in_run { IfSome result (λ event. (count : ℕ) → desk < count → IsInRun count event) }
     ensures within { IfSome result (λ event. (len : ℕ) → length rest.now ≤ len → IsOfLine len event) }
 {
-    match cut_word(rest) {
-        Some((text, rest)) => long_event(run, verb, desk, text_in(text)?, rest),
-        None => short_event(verb, desk, text_in(rest)?),
+    match verb {
+        DeskVerb::Keep => keep_event(desk, rest),
+        DeskVerb::Reopen => reopen_event(desk, rest),
+        DeskVerb::Key => {
+            let bytes = Escaped::new(rest)?;
+            Some(Event::Keys { desk, bytes })
+        }
+        DeskVerb::Click => {
+            let cell = cell_in(rest)?;
+            Some(Event::Clicks { desk, cell })
+        }
+    }
+}
+
+// What a verb asks with what stands behind its blank, if it doesn't end the line.
+fn verb_event<'a>(
+    run: RunSites,
+    verb: Verb,
+    desk: usize,
+    rest: Option<&'a [u8]>,
+) -> Option<Event<'a>>
+    ensures event { option_map event_of result
+        ≡ verb_event run.first run.count verb desk (option_map (λ rest. rest.now) rest.entry) }
+    ensures in_run { IfSome result (λ event. desk < run.count → IsInRun run.count event) }
+    ensures within { IfSome result (λ event. (len : ℕ)
+        → IfSome rest.entry (λ rest. length rest.now ≤ len) → IsOfLine len event) }
+{
+    match verb {
+        Verb::Prints(view) => match rest {
+            Some(_) => None,
+            None => Some(Event::Prints { desk, view }),
+        },
+        Verb::Queries(query) => {
+            let text = text_in(rest?)?;
+            Some(Event::Queries { desk, text, query })
+        }
+        Verb::Short(verb) => Some(short_event(verb, desk, text_in(rest?)?)),
+        Verb::Edit(verb) => {
+            let (text, rest) = cut_word(rest?)?;
+            let text = text_in(text)?;
+            let edit = edit_in(verb, rest)?;
+            Some(Event::Edits { desk, text, edit })
+        }
+        Verb::Long(verb) => {
+            let (text, rest) = cut_word(rest?)?;
+            long_event(run, verb, desk, text_in(text)?, rest)
+        }
+        Verb::Arrange(verb) => {
+            let arrangement = arrangement_in(verb, rest?)?;
+            Some(Event::Arranges { desk, arrangement })
+        }
+        Verb::Desk(verb) => desk_event(verb, desk, rest?),
     }
 }
 
@@ -276,11 +383,8 @@ pub fn event_in<'a>(first: u16, count: usize, line: &'a [u8]) -> Option<Event<'a
     ensures within { IfSome result (λ event. IsOfLine (length line.now) event) }
 {
     let (site, rest) = cut_word(line)?;
-    let (verb, rest) = cut_word(rest)?;
-    verb_event(
-        RunSites { first, count },
-        verb,
-        desk_in(first, count, site)?,
-        rest,
-    )
+    let (word, rest) = front_word(rest);
+    let verb = Verb::named(word)?;
+    let desk = desk_in(first, count, site)?;
+    verb_event(RunSites { first, count }, verb, desk, rest)
 }

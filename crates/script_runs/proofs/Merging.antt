@@ -12,8 +12,10 @@ use Rattle.texts.specs.Merge.{CanMerge, Merges, is_past_front, news}
 use Rattle.texts.specs.Text.{IsText}
 use Rattle.texts.specs.TextState.{TextState}
 use Rattle.machine.specs.DeskState.{DeskState, IsTextOf}
-use Rattle.machine.specs.Machine.{Replies, State, merge, merges}
-use Rattle.machine_laws.proofs.Telling.{put_back}
+use Rattle.machine.specs.Events.{merge, merges, untouched}
+use Rattle.machine.specs.Machine.{Replies}
+use Rattle.machine.specs.State.{State}
+use Rattle.machine_laws.proofs.Telling.{put_back, told_same}
 
 module _ {X : Type 0} (xs front back : List X) (n : ℕ) (is : xs ≡ front ++ back) (len : length front ≡ n) where
   -- what stands in the front part
@@ -56,9 +58,9 @@ once ops op in_both = elim (Contains-append_cases ops ops op in_both) [
 ]
 
 -- a text merged into itself stays as it is
-pub merged_itself : (s : State) (i text : ℕ) (d : DeskState) → slice_get s.desks i ≡ Some d → (t : TextState) → IsTextOf d text t → IsText t → ((ops : List Operation) → Good ops → AreIdentified ops → AreHeldToTheFront ops)
-    → Replies s (merge i text i) (merges 0) s
-merged_itself s i text d at_i t is_t is held =
+pub merged_itself : (s : State) (i text : ℕ) (d : DeskState) → slice_get s.desks i ≡ Some d → (t : TextState) → IsTextOf d text t → IsText t → t.asked ≡ length t.operations → ((ops : List Operation) → Good ops → AreIdentified ops → AreHeldToTheFront ops)
+    → Replies s (merge i text i) untouched (merges 0) s
+merged_itself s i text d at_i t is_t is told held =
     let none : news t t ≡ [] = no_news t t.operations (λ op in_ops. ((held t.operations is.good is.identified op.site op.seq).0 (op, in_ops, refl, refl)).1) in
     let twice : AreIdentified (t.operations ++ t.operations) = record {
       counted = λ op in_ops. is.identified.counted op (once t.operations op in_ops);
@@ -69,4 +71,4 @@ merged_itself s i text d at_i t is_t is held =
     let merged : Merges t t (Ok 0) t = (can, rw none refl, record { is = is; grown = same }) in
     let texts : d ≡ record d { texts = slice_set d.texts (text - 1) t } = rw (put_back d.texts (text - 1) t is_t) refl in
     let all : s ≡ record s { desks = slice_set s.desks i d; sent = s.sent ++ [] } = rw (put_back s.desks i d at_i, append-nil s.sent) refl in
-    inl (t, (d, at_i, is_t), (d, d, at_i, (t, t, is_t, (Ok 0, merged, refl), texts), all))
+    inl (refl, (t, (d, at_i, is_t), (d, d, at_i, (t, t, is_t, (t, (Ok 0, merged, refl), sym (told_same t told)), texts), all)))

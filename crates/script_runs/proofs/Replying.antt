@@ -1,32 +1,31 @@
 -- Replies as steps of the machine, and their lines.
 use Rattle.std.proofs.Common.{◌≡◌, ℕ, zero, suc, ◌-◌, ◌<◌, ◌⊎◌, ◌==◌, false, List, [], length, drop, map, true, subst, Option, Some, None, Result, Ok, Err, refl, sym, ap, ◌∙◌, inl, inr, arith}
-use Rattle.std.specs.Prelude.{option_map, slice_get, unwrap_or}
+use Rattle.std.specs.Prelude.{slice_get}
 use Rattle.std.proofs.lemmas.List.{drop_at, length-map}
 use Rattle.std.proofs.lemmas.Option.{slice_get_past}
 use Rattle.looks.specs.declared.refusal.Refusal.TheVariants.{BadEvent}
 use Rattle.texts.specs.declared.edit_refusal.EditRefusal.{EditRefusal}
 use Rattle.texts.specs.declared.edit_refusal.EditRefusal.TheVariants.{Whole, Partial}
 use Rattle.shelf.specs.Files.{Files}
-use Rattle.machine.specs.Machine.{Event, Replies, Reply, State, edit_reply, message_in, messages_of, refuses, sends, sent, unknown}
-use Rattle.machine.specs.Whole.{Part, RunEvent, RunReplies, RunReply, RunState, of_text, on_text, told_behind, untouched}
-use Rattle.machine_laws.proofs.Going.{replies_go, told_messages}
+use Rattle.machine.specs.Events.{Event, Part, Reply, edit_reply, messages_of, refuses, sends, sent, unknown}
+use Rattle.machine.specs.Events.{untouched}
+use Rattle.machine.specs.Machine.{Replies, message_in}
+use Rattle.machine.specs.State.{State}
+use Rattle.machine_laws.proofs.Going.{replies_go}
 use Rattle.commands.specs.Steps.{DeskSeen, answer_reply}
 use Rattle.commands.specs.declared.answer.Answer.{Answer}
 use Rattle.commands.specs.declared.answer.Answer.TheVariants.{Done, Forgot, Found, NotFound, Sent, Viewer}
 use Rattle.script_events.specs.Script.{event_in}
-use Rattle.script_events.specs.ScreenEventView.{screen_event_of}
-use Rattle.script_events.specs.ScreenScript.{run_event_in, spelled_screen_event}
-use Rattle.script_events.specs.declared.screen_event.ScreenEvent.{ScreenEvent}
-use Rattle.script_runs.specs.Answers.{refused_line, reply_lines, run_reply_lines}
+use Rattle.script_runs.specs.Answers.{refused_line, reply_lines}
 use Rattle.script_runs.specs.Seen.{OverFiles, Replied, SitesSeen, Stepped, run_of}
 use Rattle.script_runs.proofs.Filing.{over_same, over_weaker}
 use Rattle.script_runs.specs.Trace.{Answers, Step, is_silent}
 
 -- the messages sent behind those before are those that the reply tells
-told_behind_those : (s new : RunState) (e : RunEvent) (part : Part) (r : RunReply) → RunReplies s e part r new → drop (length s.texts.sent) new.texts.sent ≡ told_messages r
+told_behind_those : (s new : State) (e : Event) (part : Part) (r : Reply) → Replies s e part r new → drop (length s.sent) new.sent ≡ messages_of r
 told_behind_those s new e part r replies =
     let goes = replies_go s e part r new replies in
-    ap (drop (length s.texts.sent)) goes.2 ∙ drop_at s.texts.sent (told_messages r) (length s.texts.sent) refl
+    ap (drop (length s.sent)) goes.2 ∙ drop_at s.sent (messages_of r) (length s.sent) refl
 
 -- the reply to an edit is told by them
 edit_told : (result : Result ℕ EditRefusal) (messages behind : List (List ℕ)) → behind ≡ messages_of (edit_reply result messages) → edit_reply result behind ≡ edit_reply result messages
@@ -35,40 +34,40 @@ edit_told (Err (Whole why)) messages behind is = refl
 edit_told (Err (Partial count why)) messages behind is = ap (edit_reply (Err (Partial count why))) is
 
 -- and so is that to a command
-answer_told : (result : Result Answer EditRefusal) (messages behind : List (List ℕ)) → behind ≡ told_messages (answer_reply result messages) → answer_reply result behind ≡ answer_reply result messages
-answer_told (Ok (Sent count)) messages behind is = ap (λ (m : List (List ℕ)). of_text (sends m)) is
+answer_told : (result : Result Answer EditRefusal) (messages behind : List (List ℕ)) → behind ≡ messages_of (answer_reply result messages) → answer_reply result behind ≡ answer_reply result messages
+answer_told (Ok (Sent count)) messages behind is = ap sends is
 answer_told (Ok (Viewer number)) messages behind is = refl
 answer_told (Ok (Found at)) messages behind is = refl
 answer_told (Ok NotFound) messages behind is = refl
 answer_told (Ok (Forgot count)) messages behind is = refl
 answer_told (Ok Done) messages behind is = refl
-answer_told (Err why) messages behind is = ap of_text (edit_told (Err why) messages behind is)
+answer_told (Err why) messages behind is = edit_told (Err why) messages behind is
 
 -- the lines of an edit's reply: of the messages that came behind those before
 abbrev pub change_lines : SitesSeen → Result ℕ EditRefusal → SitesSeen → List ℕ
 change_lines s result new = reply_lines (length s.sent) (edit_reply result (drop (length s.sent) new.sent))
 
 -- the step of an edit, whatever its messages are
-pub change_step : (s new : SitesSeen) (e : RunEvent) (result : Result ℕ EditRefusal) → (messages : List (List ℕ)) × Replied s e (of_text (edit_reply result messages)) new
+pub change_step : (s new : SitesSeen) (e : Event) (result : Result ℕ EditRefusal) → (messages : List (List ℕ)) × Replied s e (edit_reply result messages) new
     → Stepped s e (change_lines s result new) new
 change_step s new e result (messages, replied) = λ files.
     let reply = edit_reply result messages in
-    let told = edit_told result messages (drop (length s.sent) new.sent) (told_behind_those (run_of s files) (run_of new files) e untouched (of_text reply) (replied files)) in
-    (untouched, of_text reply, ap (reply_lines (length s.sent)) told, replied files)
+    let told = edit_told result messages (drop (length s.sent) new.sent) (told_behind_those (run_of s files) (run_of new files) e untouched reply (replied files)) in
+    (untouched, reply, ap (reply_lines (length s.sent)) told, replied files)
 
 -- the step of a command
-pub answer_step : (s new : RunState) (e : RunEvent) (part : Part) (result : Result Answer EditRefusal) (messages : List (List ℕ)) → RunReplies s e part (answer_reply result messages) new
-    → Step s e (run_reply_lines (length s.texts.sent) (answer_reply result (drop (length s.texts.sent) new.texts.sent))) new
+pub answer_step : (s new : State) (e : Event) (part : Part) (result : Result Answer EditRefusal) (messages : List (List ℕ)) → Replies s e part (answer_reply result messages) new
+    → Step s e (reply_lines (length s.sent) (answer_reply result (drop (length s.sent) new.sent))) new
 answer_step s new e part result messages replies =
-    let told = answer_told result messages (drop (length s.texts.sent) new.texts.sent) (told_behind_those s new e part (answer_reply result messages) replies) in
-    (part, answer_reply result messages, ap (run_reply_lines (length s.texts.sent)) told, replies)
+    let told = answer_told result messages (drop (length s.sent) new.sent) (told_behind_those s new e part (answer_reply result messages) replies) in
+    (part, answer_reply result messages, ap (reply_lines (length s.sent)) told, replies)
 
 -- the step of any other event
-pub other_step : (s new : SitesSeen) (e : RunEvent) (r : RunReply) → Replied s e r new → Stepped s e (run_reply_lines (length s.sent) r) new
+pub other_step : (s new : SitesSeen) (e : Event) (r : Reply) → Replied s e r new → Stepped s e (reply_lines (length s.sent) r) new
 other_step s new e r replied = λ files. (untouched, r, refl, replied files)
 
 -- over files that stay
-pub stepped_over : (told : Option Files) (s new : SitesSeen) (e : RunEvent) (answer : List ℕ) → Stepped s e answer new → OverFiles told told (λ was now. Step (run_of s was) e answer (run_of new now))
+pub stepped_over : (told : Option Files) (s new : SitesSeen) (e : Event) (answer : List ℕ) → Stepped s e answer new → OverFiles told told (λ was now. Step (run_of s was) e answer (run_of new now))
 stepped_over told s new e answer stepped = over_same told (λ was now. Step (run_of s was) e answer (run_of new now)) stepped
 
 -- the message of a number that was sent
@@ -84,43 +83,24 @@ no_message s (suc k) (inr past) =
     let test : (suc k == 0) ≡ false = grind arith in
     rw test (slice_get_past s.sent (suc k - 1) (omega (arith, past)))
 
--- an event of texts that leaves the texts as they are, where they have told their changes
-pub still : (s : SitesSeen) (e : Event) (r : Reply) → ((files : Files) → Replies (run_of s files).texts e r (run_of s files).texts)
-    → ((files : Files) → told_behind e (run_of s files).texts ≡ (run_of s files).texts) → Replied s (on_text e) (of_text r) s
-still s e r replies told = λ files.
-    let same : run_of s files ≡ record (run_of s files) { texts = told_behind e (run_of s files).texts } = λ k. record (run_of s files) { texts = sym (told files) k } in
-    elim (replies files) [
-      | inl does ↦ inl (refl, (r, (run_of s files).texts, does, refl, same))
-      | inr short ↦ inr (refl, (r, (run_of s files).texts, short, refl, same))
-    ]
-
 -- what asks nothing that there is
-pub unknown_step : (s : SitesSeen) → Stepped s (on_text unknown) (refused_line BadEvent) s
-unknown_step s = other_step s s (on_text unknown) (of_text (refuses BadEvent)) (still s unknown (refuses BadEvent) (λ files. inl (refl, refl)) (λ files. refl))
+pub unknown_step : (s : SitesSeen) → Stepped s (unknown) (refused_line BadEvent) s
+unknown_step s = other_step s s unknown (refuses BadEvent) (λ files. inl (refl, (refl, refl)))
 
 -- a line that isn't silent is answered by a step
-pub line_step : (s : SitesSeen) (was : Files) (new : RunState) (line answer : List ℕ) → is_silent line ≡ false → Step (run_of s was) (run_event_in s.first (length s.desks) line) answer new
+pub line_step : (s : SitesSeen) (was : Files) (new : State) (line answer : List ℕ) → is_silent line ≡ false → Step (run_of s was) (event_in s.first (length s.desks) line) answer new
     → Answers (run_of s was) line answer new
 line_step s was new line answer heard step =
     let count : length s.desks ≡ length (map (λ (d : DeskSeen). d.texts) s.desks) = sym (length-map s.desks (λ (d : DeskSeen). d.texts)) in
-    rw heard (subst (λ (n : ℕ). Step (run_of s was) (run_event_in s.first n line) answer new) count step)
+    rw heard (subst (λ (n : ℕ). Step (run_of s was) (event_in s.first n line) answer new) count step)
 
 -- over the files that a shelf tells
-pub line_over : (told told' : Option Files) (s new : SitesSeen) (line answer : List ℕ) (e : RunEvent) → is_silent line ≡ false → e ≡ run_event_in s.first (length s.desks) line
+pub line_over : (told told' : Option Files) (s new : SitesSeen) (line answer : List ℕ) (e : Event) → is_silent line ≡ false → e ≡ event_in s.first (length s.desks) line
     → OverFiles told told' (λ was now. Step (run_of s was) e answer (run_of new now)) → OverFiles told told' (λ was now. Answers (run_of s was) line answer (run_of new now))
 line_over told told' s new line answer e heard asked stepped =
     over_weaker told told' (λ was now. Step (run_of s was) e answer (run_of new now)) (λ was now. Answers (run_of s was) line answer (run_of new now))
-    (λ was now step. line_step s was (run_of new now) line answer heard (subst (λ (x : RunEvent). Step (run_of s was) x answer (run_of new now)) asked step)) stepped
+    (λ was now step. line_step s was (run_of new now) line answer heard (subst (λ (x : Event). Step (run_of s was) x answer (run_of new now)) asked step)) stepped
 
 -- and one that is, by nothing
 pub silent_over : (told : Option Files) (s : SitesSeen) (line : List ℕ) → is_silent line ≡ true → OverFiles told told (λ was now. Answers (run_of s was) line [] (run_of s now))
 silent_over told s line silent = over_same told (λ was now. Answers (run_of s was) line [] (run_of s now)) (λ files. rw silent (refl, refl))
-
--- what a line asks for: an event of the screen, if it spells one
-pub screen_asked : (first count : ℕ) (line : List ℕ) (event : ScreenEvent) → option_map screen_event_of (Some event) ≡ spelled_screen_event first count line
-    → screen_event_of event ≡ run_event_in first count line
-screen_asked first count line event is = ap (λ (o : Option RunEvent). unwrap_or o (on_text (event_in first count line))) is
-
--- else one of texts
-pub text_asked : (first count : ℕ) (line : List ℕ) → None ≡ spelled_screen_event first count line → on_text (event_in first count line) ≡ run_event_in first count line
-text_asked first count line is = ap (λ (o : Option RunEvent). unwrap_or o (on_text (event_in first count line))) is

@@ -14,17 +14,18 @@ use Rattle.texts.specs.declared.merge_refusal.MergeRefusal.{MergeRefusal}
 use Rattle.texts.specs.declared.took.Took.{Took}
 use Rattle.shelf.specs.Files.{Files}
 use Rattle.machine.specs.DeskState.{DeskState, IsTextOf, new_desk}
-use Rattle.machine.specs.Machine.{Delivery, IsTextAt, edit_reply, merge, merge_reply, merges, message_in, refuses, sent, take, take_reply}
-use Rattle.machine.specs.Whole.{RunState}
-use Rattle.machine.specs.Whole.{RunEvent, RunReplies, RunReply, arrange, ask, new_run, of_text, on_text, told_at, untouched}
-use Rattle.machine.specs.Windows.{Arrangement, Screened, blank_screen}
-use Rattle.machine_laws.proofs.Telling.{put_back, told_same}
-use Rattle.machine_laws.proofs.OneReply.{one_text}
+use Rattle.machine.specs.Events.{Delivery, Event, Reply, arrange, ask, edit_reply, merge, merge_reply, merges, refuses, sent}
+use Rattle.machine.specs.Events.{take, take_reply, untouched}
+use Rattle.machine.specs.Machine.{Replies, message_in}
+use Rattle.machine.specs.State.{State, new_state}
+use Rattle.machine.specs.Windows.{Screened, blank_screen}
+use Rattle.machine.specs.declared.asked.Arrangement.{Arrangement}
+use Rattle.machine_laws.proofs.Telling.{put_back}
 use Rattle.commands.specs.Steps.{DeskSeen, IsEditStep, IsMergeStep, IsShelfStep, IsStep, IsTakeStep, StandsIn, answer_reply, with_desk}
 use Rattle.commands.specs.declared.answer.Answer.{Answer}
 use Rattle.script_runs.proofs.Merging.{merged_itself}
-use Rattle.script_runs.proofs.Replying.{answer_step, no_message, other_step, still}
-use Rattle.script_runs.specs.Answers.{run_reply_lines}
+use Rattle.script_runs.proofs.Replying.{answer_step, no_message, other_step}
+use Rattle.script_runs.specs.Answers.{reply_lines}
 use Rattle.script_runs.specs.Seen.{OverFiles, Replied, SitesSeen, Stepped, run_of}
 use Rattle.script_runs.specs.Trace.{Step}
 
@@ -51,86 +52,78 @@ pub put_in : (s : SitesSeen) (files : Files) (i : ℕ) (d : DeskSeen) (messages 
 put_in s files i d messages =
     let texts : slice_set (map texts_of s.desks) i d.texts ≡ map texts_of (slice_set s.desks i d) = sym (map-set texts_of s.desks i d) in
     let screens : slice_set (map screen_of s.desks) i d.screen ≡ map screen_of (slice_set s.desks i d) = sym (map-set screen_of s.desks i d) in
-    λ k. record { texts = record { first = s.first; desks = texts k; sent = messages }; screens = screens k; files = files }
+    λ k. record { first = s.first; desks = texts k; screens = screens k; sent = messages; files = files }
 
 module _ (s : SitesSeen) (i : ℕ) (d : DeskSeen) (at : slice_get s.desks i ≡ Some d) where
   -- a step of the desk is one of the sites
-  pub replied : (event : ℕ → RunEvent) (r : RunReply) (new : DeskSeen) → IsStep d event r new → Replied s (event i) r (with_seen s i new s.sent)
+  pub replied : (event : ℕ → Event) (r : Reply) (new : DeskSeen) → IsStep d event r new → Replied s (event i) r (with_seen s i new s.sent)
   replied event r new step = λ files.
-      subst (RunReplies (run_of s files) (event i) untouched r) (put_in s files i new s.sent) (step (run_of s files) i (stands s files i d at))
+      subst (Replies (run_of s files) (event i) untouched r) (put_in s files i new s.sent) (step (run_of s files) i (stands s files i d at))
 
   -- a step that leaves the desk as it was leaves the sites so
-  pub replied_same : (event : ℕ → RunEvent) (r : RunReply) → IsStep d event r d → Replied s (event i) r s
+  pub replied_same : (event : ℕ → Event) (r : Reply) → IsStep d event r d → Replied s (event i) r s
   replied_same event r step =
       let same : with_seen s i d s.sent ≡ s = λ k. record s { desks = put_back s.desks i d at k } in
       subst (Replied s (event i) r) same (replied event r d step)
 
   -- an arrangement's step, printed
-  pub arranged_step : (a : Arrangement) (r : RunReply) (new : DeskSeen) → IsStep d (λ i. ask i (arrange a)) r new
-      → Stepped s (ask i (arrange a)) (run_reply_lines (length s.sent) r) (with_seen s i new s.sent)
+  pub arranged_step : (a : Arrangement) (r : Reply) (new : DeskSeen) → IsStep d (λ i. ask i (arrange a)) r new
+      → Stepped s (ask i (arrange a)) (reply_lines (length s.sent) r) (with_seen s i new s.sent)
   arranged_step a r new step = other_step s (with_seen s i new s.sent) (ask i (arrange a)) r (replied (λ i. ask i (arrange a)) r new step)
 
   -- a step over the files that the shelf tells, printed
-  pub filed_step : (event : ℕ → RunEvent) (result : Result Answer EditRefusal) (new : DeskSeen) (after : List (List ℕ)) (told told' : Option Files)
+  pub filed_step : (event : ℕ → Event) (result : Result Answer EditRefusal) (new : DeskSeen) (after : List (List ℕ)) (told told' : Option Files)
       → IsShelfStep d event result new s.sent after told told'
-      → OverFiles told told' (λ was now. Step (run_of s was) (event i) (run_reply_lines (length s.sent) (answer_reply result (drop (length s.sent) after))) (run_of (with_seen s i new after) now))
+      → OverFiles told told' (λ was now. Step (run_of s was) (event i) (reply_lines (length s.sent) (answer_reply result (drop (length s.sent) after))) (run_of (with_seen s i new after) now))
   filed_step event result new after None told' step = tt
   filed_step event result new after (Some was) None (messages, part, files, files', counts, of_files, goes) = absurd of_files
   filed_step event result new after (Some was) (Some now) (messages, part, files, files', counts, (is_was, is_now), goes) =
-      let there : RunState = run_of (with_seen s i new after) now in
+      let there : State = run_of (with_seen s i new after) now in
       let same : record (with_desk (run_of s was) i new after) { files = files' } ≡ there = λ k. record (put_in s was i new after k) { files = is_now k } in
       answer_step (run_of s was) there (event i) part result messages
-      (subst (RunReplies (run_of s was) (event i) part (answer_reply result messages)) same (goes (run_of s was) i (stands s was i d at) refl (sym is_was)))
+      (subst (Replies (run_of s was) (event i) part (answer_reply result messages)) same (goes (run_of s was) i (stands s was i d at) refl (sym is_was)))
 
   -- one that leaves the desk as it was leaves the sites so
-  pub filed_same : (event : ℕ → RunEvent) (result : Result Answer EditRefusal) (told told' : Option Files)
+  pub filed_same : (event : ℕ → Event) (result : Result Answer EditRefusal) (told told' : Option Files)
       → IsShelfStep d event result d s.sent s.sent told told'
-      → OverFiles told told' (λ was now. Step (run_of s was) (event i) (run_reply_lines (length s.sent) (answer_reply result (drop (length s.sent) s.sent))) (run_of s now))
+      → OverFiles told told' (λ was now. Step (run_of s was) (event i) (reply_lines (length s.sent) (answer_reply result (drop (length s.sent) s.sent))) (run_of s now))
   filed_same event result told told' step =
       let same : with_seen s i d s.sent ≡ s = λ k. record s { desks = put_back s.desks i d at k } in
-      subst (λ (new : SitesSeen). OverFiles told told' (λ was now. Step (run_of s was) (event i) (run_reply_lines (length s.sent) (answer_reply result (drop (length s.sent) s.sent))) (run_of new now))) same
+      subst (λ (new : SitesSeen). OverFiles told told' (λ was now. Step (run_of s was) (event i) (reply_lines (length s.sent) (answer_reply result (drop (length s.sent) s.sent))) (run_of new now))) same
       (filed_step event result d s.sent told told' step)
 
   -- an edit's step
-  pub replied_edit : (event : ℕ → RunEvent) (result : Result ℕ EditRefusal) (new : DeskSeen) (after : List (List ℕ)) → IsEditStep d event result new s.sent after
-      → (messages : List (List ℕ)) × Replied s (event i) (of_text (edit_reply result messages)) (with_seen s i new after)
+  pub replied_edit : (event : ℕ → Event) (result : Result ℕ EditRefusal) (new : DeskSeen) (after : List (List ℕ)) → IsEditStep d event result new s.sent after
+      → (messages : List (List ℕ)) × Replied s (event i) (edit_reply result messages) (with_seen s i new after)
   replied_edit event result new after (messages, count, step) =
-      (messages, λ files. subst (RunReplies (run_of s files) (event i) untouched (of_text (edit_reply result messages))) (put_in s files i new after) (step (run_of s files) i (stands s files i d at) refl))
+      (messages, λ files. subst (Replies (run_of s files) (event i) untouched (edit_reply result messages)) (put_in s files i new after) (step (run_of s files) i (stands s files i d at) refl))
 
   -- a taking's step, however its message is told
-  pub replied_take : (text : ℕ) (told : Delivery) (message : List ℕ) (result : Result Took Refusal) (new : DeskSeen) → ((files : Files) → message_in (run_of s files).texts told ≡ Some message)
-      → IsTakeStep d text message result new → Replied s (on_text (take i text told)) (of_text (take_reply result)) (with_seen s i new s.sent)
+  pub replied_take : (text : ℕ) (told : Delivery) (message : List ℕ) (result : Result Took Refusal) (new : DeskSeen) → ((files : Files) → message_in (run_of s files) told ≡ Some message)
+      → IsTakeStep d text message result new → Replied s (take i text told) (take_reply result) (with_seen s i new s.sent)
   replied_take text told message result new is step = λ files.
-      subst (RunReplies (run_of s files) (on_text (take i text told)) untouched (of_text (take_reply result))) (put_in s files i new s.sent) (step (run_of s files) i told (stands s files i d at) (is files))
+      subst (Replies (run_of s files) (take i text told) untouched (take_reply result)) (put_in s files i new s.sent) (step (run_of s files) i told (stands s files i d at) (is files))
 
   -- a merge's step
   pub replied_merge : (text j : ℕ) (other : DeskSeen) (result : Result ℕ MergeRefusal) (new : DeskSeen) → slice_get s.desks j ≡ Some other
-      → IsMergeStep d text other result new → Replied s (on_text (merge i text j)) (of_text (merge_reply result)) (with_seen s i new s.sent)
+      → IsMergeStep d text other result new → Replied s (merge i text j) (merge_reply result) (with_seen s i new s.sent)
   replied_merge text j other result new at_j step = λ files.
-      subst (RunReplies (run_of s files) (on_text (merge i text j)) untouched (of_text (merge_reply result))) (put_in s files i new s.sent) (step (run_of s files) i j (stands s files i d at) (stands s files j other at_j))
+      subst (Replies (run_of s files) (merge i text j) untouched (merge_reply result)) (put_in s files i new s.sent) (step (run_of s files) i j (stands s files i d at) (stands s files j other at_j))
 
 -- the desk that is read at an index in the run
 pub desk_read : (s : SitesSeen) (i : ℕ) (d : DeskSeen) → i < length s.desks → d ≡ slice_index_or s.desks i d → slice_get s.desks i ≡ Some d
 desk_read s i d within read = slice_get_read s.desks (length s.desks) i d refl within read
 
--- a text that has told its changes has none to tell in the run
-pub told_still : (s : SitesSeen) (i text : ℕ) (d : DeskSeen) (t : TextState) → slice_get s.desks i ≡ Some d → IsTextOf d.texts text t → t.asked ≡ length t.operations
-    → (files : Files) → told_at (run_of s files).texts i text ≡ (run_of s files).texts
-told_still s i text d t at there told files =
-    let in_run : IsTextAt (run_of s files).texts i text t = (d.texts, (stands s files i d at).texts, there) in
-    told_same (run_of s files).texts i text (λ u at_u. subst (λ (x : TextState). x.asked ≡ length x.operations) (one_text (run_of s files).texts i text t u in_run at_u) told)
-
 -- a text that is merged into itself stays as it is
 pub merged_still : (s : SitesSeen) (i text : ℕ) (d : DeskSeen) (t : TextState) → slice_get s.desks i ≡ Some d → IsTextOf d.texts text t → IsText t → t.asked ≡ length t.operations
-    → Replied s (on_text (merge i text i)) (of_text (merges 0)) s
-merged_still s i text d t at there is told =
-    still s (merge i text i) (merges 0) (λ files. merged_itself (run_of s files).texts i text d.texts (stands s files i d at).texts t there is are_held_to_the_front) (told_still s i text d t at there told)
+    → Replied s (merge i text i) (merges 0) s
+merged_still s i text d t at there is told = λ files.
+    merged_itself (run_of s files) i text d.texts (stands s files i d at).texts t there is told are_held_to_the_front
 
 -- a message that wasn't sent yet is none
-pub unsent_still : (s : SitesSeen) (i text k : ℕ) (d : DeskSeen) (t : TextState) → slice_get s.desks i ≡ Some d → IsTextOf d.texts text t → t.asked ≡ length t.operations
-    → (k ≡ 0) ⊎ (length s.sent < k) → Replied s (on_text (take i text (sent k))) (of_text (refuses BadEvent)) s
-unsent_still s i text k d t at there told unsent =
-    still s (take i text (sent k)) (refuses BadEvent) (λ files. inl (rw (no_message (run_of s files).texts k unsent) (refl, refl))) (told_still s i text d t at there told)
+pub unsent_still : (s : SitesSeen) (i text k : ℕ) → (k ≡ 0) ⊎ (length s.sent < k)
+    → Replied s (take i text (sent k)) (refuses BadEvent) s
+unsent_still s i text k unsent = λ files. inl (refl, rw (no_message (run_of s files) k unsent) (refl, refl))
 
 -- the sites as a run of them begins
 abbrev pub new_seen : Screened → ℕ → DeskSeen
@@ -147,9 +140,11 @@ empty_texts w [] = refl
 empty_texts w (site ∷ sites) = ap (λ (ds : List DeskState). new_desk site ∷ ds) (empty_texts w sites)
 
 pub begins_new : (first count width height : ℕ) (files : Files)
-    → run_of (record { first = first; desks = map (new_seen (blank_screen width height)) (range_with_len first count); sent = [] }) files ≡ new_run first count width height files
+    → run_of (record { first = first; desks = map (new_seen (blank_screen width height)) (range_with_len first count); sent = [] }) files ≡ new_state first count width height files
 begins_new first count width height files = λ k. record {
-  texts = record { first = first; desks = empty_texts (blank_screen width height) (range_with_len first count) k; sent = [] };
+  first = first;
+  desks = empty_texts (blank_screen width height) (range_with_len first count) k;
+  sent = [];
   screens = blank_screens (blank_screen width height) first count k;
   files = files;
 }

@@ -6,7 +6,7 @@ use Rattle.std.proofs.KnownBytes.{Consumes-nil, Consumes-trans, Appends-nil, App
 use Rattle.looks.specs.declared.refusal.Refusal.{Refusal}
 use Rattle.looks.specs.declared.refusal.Refusal.TheVariants.{ReadFault, WriteFault}
 use Rattle.shelf.specs.Files.{Files}
-use Rattle.machine.specs.Whole.{RunState}
+use Rattle.machine.specs.State.{State}
 use Rattle.script_runs.specs.Answers.{refused_line}
 use Rattle.script_runs.specs.Ends.{Breaks, IsAnswered, IsBrokenOff, AreDue, Ends}
 use Rattle.script_io.specs.Lines.{IsRaw, without_return, Takes}
@@ -20,18 +20,18 @@ use Rattle.script_io.specs.declared.lines.NextLine.TheVariants.{Line, Last, End}
 use Rattle.script_runs.specs.declared.running.TheConstants.{MAX_LINES}
 
 -- a front of the script was taken, n lines, and was answered; the rest is what the reader has left
-pub record IsSoFar (start : RunState) (script : List ℕ) (left old new : Option (List ℕ)) (n : ℕ) (s : RunState) : Type 0 where
+pub record IsSoFar (start : State) (script : List ℕ) (left old new : Option (List ℕ)) (n : ℕ) (s : State) : Type 0 where
   pub front : List ℕ
   pub answers : List ℕ
   pub taken : Consumes (Some script) left front
   pub written : Appends old new answers
   pub trace : Trace start n front answers s
 
-module _ (start : RunState) (script : List ℕ) where
+module _ (start : State) (script : List ℕ) where
   pub so_far_begins : (old : Option (List ℕ)) → IsSoFar start script (Some script) old old 0 (start)
   so_far_begins old = record { front = []; answers = []; taken = Consumes-nil (Some script); written = Appends-nil old; trace = begins }
 
-  pub so_far_goes_on : (left left' old mid new : Option (List ℕ)) (n : ℕ) (s s' : RunState) (raw answer : List ℕ) → IsSoFar start script left old mid n s
+  pub so_far_goes_on : (left left' old mid new : Option (List ℕ)) (n : ℕ) (s s' : State) (raw answer : List ℕ) → IsSoFar start script left old mid n s
       → IsRaw raw → Consumes left left' (raw ++ 10 ∷ []) → Appends mid new answer → Answers s (without_return raw) answer s' → IsSoFar start script left' old new (n + 1) s'
   so_far_goes_on left left' old mid new n s s' raw answer f is_raw taken written step = record {
     front = f.front ++ (raw ++ 10 ∷ []);
@@ -50,7 +50,7 @@ module _ (start : RunState) (script : List ℕ) where
   IsWhole left answers now = IsAnswered start script answers now × Consumes (Some script) left script
 
   -- nothing was left behind the lines
-  whole_by_end : (left left' old mid : Option (List ℕ)) (n : ℕ) (s : RunState) (f : IsSoFar start script left old mid n s) → n ≤ MAX_LINES → Consumes left left' [] → IsAtEnd left' → IsWhole left' f.answers s.files
+  whole_by_end : (left left' old mid : Option (List ℕ)) (n : ℕ) (s : State) (f : IsSoFar start script left old mid n s) → n ≤ MAX_LINES → Consumes left left' [] → IsAtEnd left' → IsWhole left' f.answers s.files
   whole_by_end left left' old mid n s f few taken end =
       let all = Consumes-trans (Some script) left left' f.front [] f.taken taken in
       let is = whole left' (f.front ++ []) all end in
@@ -58,7 +58,7 @@ module _ (start : RunState) (script : List ℕ) where
       (inl (n, s, few, trace, refl), subst (Consumes (Some script) left') (sym is) all)
 
   -- the last line has no newline
-  whole_by_last : (left left' old mid : Option (List ℕ)) (n : ℕ) (s s' : RunState) (raw answer : List ℕ) (f : IsSoFar start script left old mid n s) → n < MAX_LINES
+  whole_by_last : (left left' old mid : Option (List ℕ)) (n : ℕ) (s s' : State) (raw answer : List ℕ) (f : IsSoFar start script left old mid n s) → n < MAX_LINES
       → IsRaw raw → raw ≢ [] → Consumes left left' raw → IsAtEnd left' → Answers s raw answer s' → IsWhole left' (f.answers ++ answer) s'.files
   whole_by_last left left' old mid n s s' raw answer f few is_raw some taken end step =
       let all = Consumes-trans (Some script) left left' f.front raw f.taken taken in
@@ -77,7 +77,7 @@ module _ (start : RunState) (script : List ℕ) where
     ends_whole (Err why) cut left old new answers now w h = ends_unwritten left old new why answers now w.0 w.2 (inr (inl h))
 
     -- the writer failed at the answer to a line
-    ends_in_line : (result : Result (Unit {0}) Refusal) (cut : Bool) (why : Refusal) (left left' old mid new : Option (List ℕ)) (n : ℕ) (s s' : RunState) (raw answer : List ℕ) → IsSoFar start script left old mid n s
+    ends_in_line : (result : Result (Unit {0}) Refusal) (cut : Bool) (why : Refusal) (left left' old mid new : Option (List ℕ)) (n : ℕ) (s s' : State) (raw answer : List ℕ) → IsSoFar start script left old mid n s
         → n < MAX_LINES → IsRaw raw → Consumes left left' (raw ++ 10 ∷ []) → Answers s (without_return raw) answer s' → IsErrAnd result (λ e. e ≡ why) → Writes (Err why) cut mid new answer
         → Ends start script result failed left' old new s'.files
     ends_in_line (Ok done) cut why left left' old mid new n s s' raw answer f few is_raw taken step e w = absurd e
@@ -87,7 +87,7 @@ module _ (start : RunState) (script : List ℕ) where
         (inl (n + 1, f.front ++ (raw ++ 10 ∷ []), s', one_more, goes_on raw answer s' f.trace is_raw step, Consumes-trans (Some script) left left' f.front (raw ++ 10 ∷ []) f.taken taken, refl))
 
     -- what was written could not be put out
-    pub ends_by_put_out : (left old mid new : Option (List ℕ)) (n : ℕ) (s : RunState) (r : Result (Unit {0}) Refusal) (why : Refusal) → IsSoFar start script left old mid n s
+    pub ends_by_put_out : (left old mid new : Option (List ℕ)) (n : ℕ) (s : State) (r : Result (Unit {0}) Refusal) (why : Refusal) → IsSoFar start script left old mid n s
         → n ≤ MAX_LINES → IsErrAnd r (λ e. e ≡ why) → why ≡ WriteFault → Keeps mid new → Ends start script r failed left old new s.files
     ends_by_put_out left old mid new n s (Ok done) why f few e fault kept = absurd e
     ends_by_put_out left old mid new n s (Err y) why f few e fault kept =
@@ -95,7 +95,7 @@ module _ (start : RunState) (script : List ℕ) where
         ends_unwritten left old new y f.answers s.files (e ∙ fault) all (inl (n, f.front, s, few, f.trace, f.taken, refl))
 
     -- taking broke off behind the lines
-    pub ends_broken : (left left' old mid new : Option (List ℕ)) (n : ℕ) (s : RunState) (part : List ℕ) (result : Result (Unit {0}) Refusal) (cut : Bool) → IsSoFar start script left old mid n s
+    pub ends_broken : (left left' old mid new : Option (List ℕ)) (n : ℕ) (s : State) (part : List ℕ) (result : Result (Unit {0}) Refusal) (cut : Bool) → IsSoFar start script left old mid n s
         → n ≤ MAX_LINES → Breaks failed n part → Consumes left left' part → BreaksOff cut mid new result → Ends start script result failed left' old new s.files
     ends_broken left left' old mid new n s part (Ok done) cut f few broken taken b = elim b [ ]
     ends_broken left left' old mid new n s part (Err why) cut f few broken taken b =
@@ -111,21 +111,21 @@ pub IfSome-weaker : {X : Type 0} (o : Option X) (P Q : X → Type 0) → ((x : X
 IfSome-weaker None P Q f h = tt
 IfSome-weaker (Some x) P Q f h = f x h
 
-pub begins_known : (start : RunState) (left old : Option (List ℕ)) → IfSome left (λ script. IsSoFar start script left old old 0 (start))
+pub begins_known : (start : State) (left old : Option (List ℕ)) → IfSome left (λ script. IsSoFar start script left old old 0 (start))
 begins_known start None old = tt
 begins_known start (Some script) old = so_far_begins start script old
 
 -- what was written is put out
-pub so_far_out : (start : RunState) (known left old mid new : Option (List ℕ)) (n : ℕ) (s : RunState) → IfSome known (λ script. IsSoFar start script left old mid n s) → Keeps mid new → IfSome known (λ script. IsSoFar start script left old new n s)
+pub so_far_out : (start : State) (known left old mid new : Option (List ℕ)) (n : ℕ) (s : State) → IfSome known (λ script. IsSoFar start script left old mid n s) → Keeps mid new → IfSome known (λ script. IsSoFar start script left old new n s)
 so_far_out start known left old mid new n s f k =
     IfSome-weaker known (λ script. IsSoFar start script left old mid n s) (λ script. IsSoFar start script left old new n s)
     (λ script f. record { front = f.front; answers = f.answers; taken = f.taken; written = Appends-kept old mid new f.answers f.written k; trace = f.trace }) f
 
 -- a line's answer is written
-abbrev pub IsWritten : Result (Unit {0}) Refusal → (cut : Bool) → (mid new : Option (List ℕ)) (s s' : RunState) (line : List ℕ) → Type 0
+abbrev pub IsWritten : Result (Unit {0}) Refusal → (cut : Bool) → (mid new : Option (List ℕ)) (s s' : State) (line : List ℕ) → Type 0
 IsWritten result cut mid new s s' line = (answer : List ℕ) × Writes result cut mid new answer × Answers s line answer s'
 
-module _ (start : RunState) (script : List ℕ) (failed cut : Bool) (left left' old mid new : Option (List ℕ)) (n : ℕ) (s s' : RunState) (f : IsSoFar start script left old mid n s) where
+module _ (start : State) (script : List ℕ) (failed cut : Bool) (left left' old mid new : Option (List ℕ)) (n : ℕ) (s s' : State) (f : IsSoFar start script left old mid n s) where
   pub ends_by_last : (r : Result (Unit {0}) Refusal) (line : List ℕ) → n < MAX_LINES → Takes failed left left' (Ok Last) line → IsWritten r cut mid new s s' line → Ends start script r failed left' old new s'.files
   ends_by_last r line few t w =
       ends_whole start script failed r cut left' old new (f.answers ++ w.0) s'.files (writes_after r cut old mid new f.answers w.0 f.written w.1)

@@ -6,9 +6,9 @@ use Rattle.looks.specs.declared.refusal.Refusal.{Refusal}
 use Rattle.looks.specs.Refusal.{number_of}
 use Rattle.texts.specs.declared.took.Took.{Took}
 use Rattle.texts.specs.declared.took.Took.TheVariants.{Taken, Repeat, Waits}
-use Rattle.machine.specs.Machine.{Reply, sends, takes, settles, merges, prints, refuses, stops}
+use Rattle.machine.specs.Events.{Reply, done, forgot, found, merges, not_found, opens, prints, refuses, sends, settles}
+use Rattle.machine.specs.Events.{stops, takes}
 use Rattle.machine.specs.Printing.{line}
-use Rattle.machine.specs.Whole.{RunReply, done, forgot, found, not_found, of_text, opens, prints_screen}
 
 -- the k-th message of the run goes out
 unfoldable pub send_line : ℕ → List ℕ → List ℕ
@@ -50,26 +50,21 @@ refused_line why = line (codes "refused " ++ decimal (number_of why))
 abbrev pub partial_line : ℕ → Refusal → List ℕ
 partial_line count why = line (codes "partial " ++ decimal count ++ 32 ∷ decimal (number_of why))
 
--- the lines of a reply, where k messages were sent before
+-- a viewer was opened
+abbrev pub opened_line : (viewer : ℕ) → List ℕ
+opened_line viewer = line (codes "viewer " ++ decimal viewer)
+
+-- the lines of a reply, where k messages were sent before: a row for each
 abbrev pub reply_lines : ℕ → Reply → List ℕ
 reply_lines k (sends messages) = send_lines k messages ++ ok_line
 reply_lines k (takes took) = took_line took
 reply_lines k (settles drained dropped stopped) = settled_line drained dropped stopped
 reply_lines k (merges count) = merged_line count
 reply_lines k (prints lines) = lines
+reply_lines k (opens viewer) = opened_line viewer
+reply_lines k (found pos) = line (codes "found " ++ decimal pos)
+reply_lines k not_found = line (codes "not found")
+reply_lines k (forgot count) = line (codes "forgot " ++ decimal count)
+reply_lines k done = ok_line
 reply_lines k (refuses why) = refused_line why
 reply_lines k (stops messages count why) = send_lines k messages ++ partial_line count why
-
--- a viewer was opened
-abbrev pub opened_line : (viewer : ℕ) → List ℕ
-opened_line viewer = line (codes "viewer " ++ decimal viewer)
-
--- the lines of a reply of the whole machine: a row for each
-abbrev pub run_reply_lines : ℕ → RunReply → List ℕ
-run_reply_lines k (of_text r) = reply_lines k r
-run_reply_lines k (opens viewer) = opened_line viewer
-run_reply_lines k (found pos) = line (codes "found " ++ decimal pos)
-run_reply_lines k not_found = line (codes "not found")
-run_reply_lines k (forgot count) = line (codes "forgot " ++ decimal count)
-run_reply_lines k (prints_screen lines) = lines
-run_reply_lines k done = ok_line

@@ -6,7 +6,7 @@ use Rattle.std.specs.Io.KnownBytes.{Appends, Consumes, Keeps}
 use Rattle.looks.specs.declared.refusal.Refusal.{Refusal}
 use Rattle.looks.specs.declared.refusal.Refusal.TheVariants.{ReadFault, WriteFault, OutOfMemory}
 use Rattle.shelf.specs.Files.{Files}
-use Rattle.machine.specs.Whole.{RunState}
+use Rattle.machine.specs.State.{State}
 use Rattle.script_runs.specs.Answers.{refused_line}
 use Rattle.script_io.specs.Lines.{BreaksLine, IsRaw}
 use Rattle.script_runs.specs.Trace.{Answers, Trace}
@@ -15,10 +15,10 @@ use Rattle.script_runs.specs.declared.running.TheConstants.{MAX_LINES}
 
 -- the answers to a whole script, behind which the files are these: to its lines, not too many, the last of which may lack its
 -- newline
-abbrev pub IsAnswered : RunState → List ℕ → List ℕ → (now : Files) → Type 0
+abbrev pub IsAnswered : State → List ℕ → List ℕ → (now : Files) → Type 0
 IsAnswered start script answers now =
-    ((n : ℕ) × (s : RunState) × (n ≤ MAX_LINES) × Trace start n script answers s × (s.files ≡ now))
-    ⊎ ((n : ℕ) × (front before raw answer : List ℕ) × (s new : RunState)
+    ((n : ℕ) × (s : State) × (n ≤ MAX_LINES) × Trace start n script answers s × (s.files ≡ now))
+    ⊎ ((n : ℕ) × (front before raw answer : List ℕ) × (s new : State)
     × (n < MAX_LINES) × Trace start n front before s × IsRaw raw × (raw ≢ [])
     × Answers s raw answer new × (script ≡ front ++ raw) × (answers ≡ before ++ answer) × (new.files ≡ now))
 
@@ -33,17 +33,17 @@ Breaks failed n part =
 
 -- the answers of a run that broke off, the reader having this left: to the lines that were ended before, not
 -- too many, then the refusal
-abbrev pub IsBrokenOff : RunState → List ℕ → (failed : Bool) → Option (List ℕ) → List ℕ → (now : Files) → Type 0
+abbrev pub IsBrokenOff : State → List ℕ → (failed : Bool) → Option (List ℕ) → List ℕ → (now : Files) → Type 0
 IsBrokenOff start script failed left answers now =
-    (n : ℕ) × (front part before : List ℕ) × (s : RunState)
+    (n : ℕ) × (front part before : List ℕ) × (s : State)
     × (n ≤ MAX_LINES) × Trace start n front before s × Breaks failed n part
     × Consumes (Some script) left (front ++ part) × (answers ≡ before ++ refused_line ReadFault) × (s.files ≡ now)
 
 -- the answers that a run was giving where the writer failed, the reader having this left: those to the lines
 -- that were taken, each ended by its newline; or to the whole script; or those of a run that broke off
-abbrev pub AreDue : RunState → List ℕ → (failed : Bool) → Option (List ℕ) → List ℕ → (now : Files) → Type 0
+abbrev pub AreDue : State → List ℕ → (failed : Bool) → Option (List ℕ) → List ℕ → (now : Files) → Type 0
 AreDue start script failed left answers now =
-    ((n : ℕ) × (front : List ℕ) × (s : RunState)
+    ((n : ℕ) × (front : List ℕ) × (s : State)
     × (n ≤ MAX_LINES) × Trace start n front answers s × Consumes (Some script) left front × (s.files ≡ now))
     ⊎ ((IsAnswered start script answers now × Consumes (Some script) left script)
     ⊎ IsBrokenOff start script failed left answers now)
@@ -51,7 +51,7 @@ AreDue start script failed left answers now =
 -- How a run over the script ends that began so; whether a read failed and what the reader then has left; what
 -- was written; and the files then. Refused memory is told before the first byte is read. Where the writer fails,
 -- a prefix of the answers that were due was written.
-abbrev pub Ends : RunState → List ℕ → Result (Unit {0}) Refusal → (failed : Bool)
+abbrev pub Ends : State → List ℕ → Result (Unit {0}) Refusal → (failed : Bool)
     → (left old new : Option (List ℕ)) → (now : Files) → Type 0
 Ends start script (Ok done) failed left old new now =
     (answers : List ℕ) × Appends old new answers × IsAnswered start script answers now

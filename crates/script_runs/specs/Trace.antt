@@ -1,14 +1,16 @@
 -- A script line by line, and the answers to its lines.
 use Rattle.std.specs.Prelude.{◌≡◌, ℕ, ◌+◌, List, [], ◌∷◌, ◌++◌, length, Bool, true, ◌==◌, MatchBool}
-use Rattle.machine.specs.Whole.{Part, RunEvent, RunReplies, RunReply, RunState}
-use Rattle.script_runs.specs.Answers.{run_reply_lines}
+use Rattle.machine.specs.Events.{Event, Part, Reply}
+use Rattle.machine.specs.Machine.{Replies}
+use Rattle.machine.specs.State.{State}
+use Rattle.script_runs.specs.Answers.{reply_lines}
 use Rattle.script_io.specs.Lines.{IsRaw, without_return}
-use Rattle.script_events.specs.ScreenScript.{run_event_in}
+use Rattle.script_events.specs.Script.{event_in}
 
 -- one step of the machine: a reply to the event, printed, with some part of the files in it
-abbrev pub Step : RunState → RunEvent → List ℕ → RunState → Type 0
+abbrev pub Step : State → Event → List ℕ → State → Type 0
 Step s e answer new =
-    (part : Part) × (r : RunReply) × (answer ≡ run_reply_lines (length s.texts.sent) r) × RunReplies s e part r new
+    (part : Part) × (r : Reply) × (answer ≡ reply_lines (length s.sent) r) × Replies s e part r new
 
 -- empty lines and those that begin with `#` are answered by nothing
 abbrev pub is_silent : List ℕ → Bool
@@ -16,15 +18,15 @@ is_silent [] = true
 is_silent (b ∷ line) = b == 35
 
 -- any other line is answered by a step of the machine
-abbrev pub Answers : RunState → List ℕ → List ℕ → RunState → Type 0
+abbrev pub Answers : State → List ℕ → List ℕ → State → Type 0
 Answers s line answer new =
     MatchBool (is_silent line) ((answer ≡ []) × (new ≡ s))
-    (Step s (run_event_in s.texts.first (length s.texts.desks) line) answer new)
+    (Step s (event_in s.first (length s.desks) line) answer new)
 
 -- the run began so, has taken n lines, which are this front of the script, and has given these answers
-pub data Trace (start : RunState) : ℕ → List ℕ → List ℕ → RunState → Type 0 where
+pub data Trace (start : State) : ℕ → List ℕ → List ℕ → State → Type 0 where
   begins : Trace start 0 [] [] start
-  goes_on : {n : ℕ} {script answers : List ℕ} {s : RunState} (raw answer : List ℕ) (new : RunState)
+  goes_on : {n : ℕ} {script answers : List ℕ} {s : State} (raw answer : List ℕ) (new : State)
       → Trace start n script answers s → IsRaw raw
       → Answers s (without_return raw) answer new
       → Trace start (n + 1) (script ++ (raw ++ 10 ∷ [])) (answers ++ answer) new

@@ -1,14 +1,16 @@
 ghost use Rattle.std.specs.Prelude.{ℕ, ◌≤◌, ◌∷◌, ◌++◌, codes, drop, length};
 ghost use Rattle.std.specs.Fmt.{decimal};
 ghost use Rattle.hex.specs.Hex.{encode_lower};
-ghost use Rattle.machine.specs.Machine.{edit_reply, merge_reply};
+ghost use Rattle.machine.specs.Events.{edit_reply, merge_reply, take_reply};
 ghost use Rattle.machine.specs.Printing.{line};
-ghost use Rattle.commands.specs.Steps.{answer_reply, done_reply, open_reply};
-ghost use Rattle.script_runs.specs.Answers.{drained_line, refused_line, reply_lines, run_reply_lines, send_line};
-ghost use Rattle.script_runs.specs.Answers.{send_lines, settled_line, took_line};
+ghost use Rattle.commands.specs.Steps.{answer_reply, done_reply, open_reply, print_reply};
+ghost use Rattle.script_runs.specs.Answers.{drained_line, refused_line, reply_lines, send_line};
+ghost use Rattle.script_runs.specs.Answers.{send_lines, settled_line};
+ghost use Rattle.script_runs.specs.Replying.{reply_of};
 ghost use Rattle.script_runs.specs.Writing.{Puts};
 ghost use Rattle.script_runs.specs.declared.answers.TheConstants.{STRETCH};
 
+use crate::reply::Reply;
 use commands::Answer;
 use looks::{OUT_OF_MEMORY, Refusal};
 use script_io::Output;
@@ -111,8 +113,8 @@ fn put_partial<W: Write>(output: &mut Output<W>, done: u64, number: u8) -> Resul
     put(output, b"\n")
 }
 
-/// Writes the lines of an edit's reply, where the outbox had `from` messages before the edit.
-pub fn put_edit<W: Write>(
+// Writes the lines of an edit's reply, where the outbox had `from` messages before the edit.
+fn put_edit<W: Write>(
     output: &mut Output<W>,
     outbox: &Outbox,
     from: usize,
@@ -153,23 +155,29 @@ fn put_drained<W: Write>(
     }
 }
 
-/// Writes the line of a message that was taken.
-pub fn put_took<W: Write>(output: &mut Output<W>, took: Took) -> Result<(), Refusal>
-    ensures { Puts result output.old output.new (took_line took) }
+// Writes the line of a message that was taken.
+fn put_taken<W: Write>(
+    output: &mut Output<W>,
+    outcome: Result<Took, Refusal>,
+) -> Result<(), Refusal>
+    ensures { (k : ℕ) → Puts result output.old output.new (reply_lines k (take_reply outcome)) }
 {
-    match took {
-        Took::Taken {
-            drained,
-            dropped,
-            stopped,
-        } => put_drained(output, b"taken ", drained, dropped, stopped),
-        Took::Repeat => put(output, b"repeat\n"),
-        Took::Waits => put(output, b"waits\n"),
+    match outcome {
+        Ok(
+            Took::Taken {
+                drained,
+                dropped,
+                stopped,
+            },
+        ) => put_drained(output, b"taken ", drained, dropped, stopped),
+        Ok(Took::Repeat) => put(output, b"repeat\n"),
+        Ok(Took::Waits) => put(output, b"waits\n"),
+        Err(why) => put_refused(output, why),
     }
 }
 
-/// Writes the line of a room that was drained.
-pub fn put_settled<W: Write>(output: &mut Output<W>, settled: Settled) -> Result<(), Refusal>
+// Writes the line of a room that was drained.
+fn put_settled<W: Write>(output: &mut Output<W>, settled: Settled) -> Result<(), Refusal>
     ensures { Puts result output.old output.new (settled_line settled.drained settled.dropped settled.stopped) }
 {
     let Settled {
@@ -180,8 +188,8 @@ pub fn put_settled<W: Write>(output: &mut Output<W>, settled: Settled) -> Result
     put_drained(output, b"settled ", drained, dropped, stopped)
 }
 
-/// Writes the line of a merge.
-pub fn put_merged<W: Write>(
+// Writes the line of a merge.
+fn put_merged<W: Write>(
     output: &mut Output<W>,
     outcome: Result<u64, MergeRefusal>,
 ) -> Result<(), Refusal>
@@ -194,12 +202,12 @@ pub fn put_merged<W: Write>(
     }
 }
 
-/// Writes the line of an opening.
-pub fn put_opened<W: Write>(
+// Writes the line of an opening.
+fn put_opened<W: Write>(
     output: &mut Output<W>,
     outcome: Result<u32, Refusal>,
 ) -> Result<(), Refusal>
-    ensures { (k : ℕ) → Puts result output.old output.new (run_reply_lines k (open_reply outcome)) }
+    ensures { (k : ℕ) → Puts result output.old output.new (reply_lines k (open_reply outcome)) }
 {
     match outcome {
         Ok(viewer) => put_count(output, b"viewer ", u64::from(viewer)),
@@ -207,12 +215,9 @@ pub fn put_opened<W: Write>(
     }
 }
 
-/// Writes the line of another arrangement.
-pub fn put_done<W: Write>(
-    output: &mut Output<W>,
-    outcome: Result<(), Refusal>,
-) -> Result<(), Refusal>
-    ensures { (k : ℕ) → Puts result output.old output.new (run_reply_lines k (done_reply outcome)) }
+// Writes the line of another arrangement.
+fn put_done<W: Write>(output: &mut Output<W>, outcome: Result<(), Refusal>) -> Result<(), Refusal>
+    ensures { (k : ℕ) → Puts result output.old output.new (reply_lines k (done_reply outcome)) }
 {
     match outcome {
         Ok(()) => put(output, b"ok\n"),
@@ -220,14 +225,14 @@ pub fn put_done<W: Write>(
     }
 }
 
-/// Writes the lines of a command's reply, where the outbox had `from` messages before it.
-pub fn put_answer<W: Write>(
+// Writes the lines of a command's reply, where the outbox had `from` messages before it.
+fn put_answer<W: Write>(
     output: &mut Output<W>,
     outbox: &Outbox,
     from: usize,
     outcome: Result<Answer, EditRefusal>,
 ) -> Result<(), Refusal>
-    ensures { Puts result output.old output.new (run_reply_lines from (answer_reply outcome (drop from outbox.now))) }
+    ensures { Puts result output.old output.new (reply_lines from (answer_reply outcome (drop from outbox.now))) }
 {
     match outcome {
         Ok(Answer::Sent(count)) => put_edit(output, outbox, from, Ok(count)),
@@ -237,5 +242,40 @@ pub fn put_answer<W: Write>(
         Ok(Answer::Forgot(count)) => put_count(output, b"forgot ", u64::from(count)),
         Ok(Answer::Done) => put(output, b"ok\n"),
         Err(why) => put_edit(output, outbox, from, Err(why)),
+    }
+}
+
+// Writes the lines of a print.
+fn put_printed<W: Write>(
+    output: &mut Output<W>,
+    outcome: Result<Vec<u8>, Refusal>,
+) -> Result<(), Refusal>
+    ensures { (k : ℕ) → Puts result output.old output.new
+        (reply_lines k (print_reply outcome (λ lines. lines.items))) }
+{
+    match outcome {
+        Ok(lines) => put(output, &lines),
+        Err(why) => put_refused(output, why),
+    }
+}
+
+/// Writes the lines of a reply, where the outbox had `from` messages before it: a row for each.
+pub fn put_reply<W: Write>(
+    output: &mut Output<W>,
+    outbox: &Outbox,
+    from: usize,
+    reply: Reply,
+) -> Result<(), Refusal>
+    ensures { Puts result output.old output.new (reply_lines from (reply_of reply (drop from outbox.now))) }
+{
+    match reply {
+        Reply::Edited(outcome) => put_edit(output, outbox, from, outcome),
+        Reply::Taken(outcome) => put_taken(output, outcome),
+        Reply::Settled(settled) => put_settled(output, settled),
+        Reply::Merged(outcome) => put_merged(output, outcome),
+        Reply::Printed(outcome) => put_printed(output, outcome),
+        Reply::Opened(outcome) => put_opened(output, outcome),
+        Reply::Arranged(outcome) => put_done(output, outcome),
+        Reply::Commanded(outcome) => put_answer(output, outbox, from, outcome),
     }
 }

@@ -3,6 +3,7 @@
 
 mod answers;
 mod limits;
+mod reply;
 mod running;
 mod settings;
 mod sites;

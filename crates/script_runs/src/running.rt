@@ -1,7 +1,7 @@
 ghost use Rattle.std.specs.Prelude.{◌≡◌, ◌≤◌, ◌⊎◌, ℕ, List, Contains, IsTrue, OnErr, OnOk, length, vec_capacity, is_ok};
 ghost use Rattle.std.specs.Prelude.{if◌then◌else◌, Err, IfSome, IfErr};
 ghost use Rattle.std.specs.Io.KnownBytes.{Keeps};
-ghost use Rattle.machine.specs.Whole.{new_run};
+ghost use Rattle.machine.specs.State.{new_state};
 ghost use Rattle.script_runs.specs.Ends.{Ends, IsEnd};
 ghost use Rattle.script_runs.specs.Parts.{BreaksOff};
 ghost use Rattle.script_runs.specs.Seen.{OverFiles, run_of};
@@ -113,7 +113,7 @@ pub fn run<R: Read + Drop, W: Write, S: Shelf>(
     settings: Settings,
 ) -> Result<(), Refusal>
     ensures answers { OverFiles (S.files shelf.old) (S.files shelf.new) (λ was now. IfSome input.old.left (λ script.
-        Ends (new_run settings.first settings.count settings.width settings.height was) script result input.new.failed
+        Ends (new_state settings.first settings.count settings.width settings.height was) script result input.new.failed
         input.new.left output.old.contents output.new.contents now)) }
     ensures errors { IfErr result IsEnd }
     ensures write_fault { result ≡ Err Refusal.WriteFault → IsTrue output.new.failed }

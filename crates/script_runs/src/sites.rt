@@ -1,26 +1,28 @@
-ghost use Rattle.std.specs.Prelude.{◌≡◌, ◌≤◌, ◌<◌, List, ℕ, None as Nothing, length, IfOk};
+ghost use Rattle.std.specs.Prelude.{◌≡◌, ◌≤◌, ◌<◌, List, ℕ, drop, length, IfOk};
 ghost use Rattle.looks.specs.Refusal.{RefusedForMemoryAlone};
-ghost use Rattle.machine.specs.Machine.{copy, edit, edit_reply, merge, merge_reply, query, sent, settle, settles, take, take_reply};
-ghost use Rattle.machine.specs.Whole.{new_run, of_text, on_text};
+ghost use Rattle.machine.specs.Events.{copy, edit, edit_reply, merge, merge_reply, sent, settle, settles, take};
+ghost use Rattle.machine.specs.Events.{take_reply};
+ghost use Rattle.machine.specs.State.{new_state};
 ghost use Rattle.shelf.specs.Files.{Files};
-ghost use Rattle.commands.specs.Steps.{query_reply};
-ghost use Rattle.script_events.specs.EventView.{delivery_of, edit_of, event_of, query_of, IsInRun, IsOfLine};
+ghost use Rattle.script_events.specs.EventView.{delivery_of, edit_of, event_of, IsInRun, IsOfLine};
 ghost use Rattle.script_events.specs.EventView.{IsWithin, TypesAtMost};
-ghost use Rattle.script_events.specs.Script.{event_in, typing};
-ghost use Rattle.script_events.specs.ScreenScript.{spelled_screen_event};
-ghost use Rattle.script_runs.specs.Seen.{OverFiles, Replied, Stepped, run_of};
-ghost use Rattle.script_runs.specs.Trace.{Answers, is_silent};
+ghost use Rattle.script_events.specs.Script.{typing};
+ghost use Rattle.script_runs.specs.Answers.{reply_lines};
+ghost use Rattle.script_runs.specs.Replying.{reply_of};
+ghost use Rattle.script_runs.specs.Seen.{OverFiles, Replied, run_of};
+ghost use Rattle.script_runs.specs.Trace.{Answers, Step, is_silent};
 ghost use Rattle.script_runs.specs.Writing.{Puts};
 
 mod screen;
 
-use crate::answers::{put, put_edit, put_merged, put_refused, put_settled, put_took};
+use crate::answers::{put_refused, put_reply};
+use crate::reply::Reply;
 use crate::settings::Settings;
 use char_files::{SiteNo, TextNo};
 use commands::Desk;
 use looks::Refusal;
 use machine::MAX_TEXT;
-use script_events::{Delivery, Edit, Escaped, Event, Query, Save, event_in, screen_event_in};
+use script_events::{Delivery, Edit, Escaped, Event, Save, event_in};
 use script_io::{MAX_LINE, Output};
 use shelf::Shelf;
 use std::alloc::Global;
@@ -62,7 +64,7 @@ impl Sites {
     /// The sites as a run begins. Refused `OutOfMemory` alone.
     pub fn new(alloc: Global, settings: Settings) -> Result<Sites, Refusal>
         ensures ok { IfOk result (λ sites. (files : Files) → run_of sites files
-            ≡ new_run settings.first settings.count settings.width settings.height files) }
+            ≡ new_state settings.first settings.count settings.width settings.height files) }
         ensures errors { RefusedForMemoryAlone result }
     {
         let bytes = Vec::with_capacity(alloc, MAX_LINE)?;
@@ -100,64 +102,52 @@ impl Sites {
         if is_silent(line) {
             return Ok(());
         }
-        match screen_event_in(self.first, self.desks.len(), line) {
-            Some(event) => self.screen_step(output, shelf, event),
-            None => self.answer_text(output, line),
-        }
-    }
-
-    // Answers a line as an event of texts.
-    fn answer_text<W: Write>(&mut self, output: &mut Output<W>, line: &[u8]) -> Result<(), Refusal>
-        requires { length line.now ≤ MAX_LINE }
-        ensures { (answer : List ℕ) × Puts result output.old output.new answer
-            × Stepped self.old (on_text (event_in self.old.first (length self.old.desks) line.now)) answer self.new }
-    {
+        // What an event did stands, and its messages are in the Outbox, before the first byte of the answer goes out: the
+        // step is taken also where the writer fails.
+        let sent = self.outbox.len();
         match event_in(self.first, self.desks.len(), line) {
-            Some(event) => self.step(output, event),
+            Some(event) => {
+                let reply = self.step(shelf, event);
+                put_reply(output, &self.outbox, sent, reply)
+            }
             None => put_refused(output, Refusal::BadEvent),
         }
     }
 
-    // Answers an event of texts.
-    fn step<W: Write>(&mut self, output: &mut Output<W>, event: Event) -> Result<(), Refusal>
+    // Does what an event asks: a row for each.
+    fn step<S: Shelf>(&mut self, shelf: &mut S, event: Event) -> Reply
         requires in_run { IsInRun (length self.old.desks) event }
         requires of_line { IsOfLine MAX_LINE event }
-        ensures { (answer : List ℕ) × Puts result output.old output.new answer
-            × Stepped self.old (on_text (event_of event.entry)) answer self.new }
+        ensures { OverFiles (S.files shelf.old) (S.files shelf.new) (λ was now. Step (run_of self.old was) (event_of event.entry)
+            (reply_lines (length self.old.sent) (reply_of result (drop (length self.old.sent) self.new.sent)))
+            (run_of self.new now)) }
     {
         match event {
-            // An edit or a copy stands, and its messages are in the Outbox, before the first byte of the
-            // answer goes out: the step is taken also where the writer fails.
-            Event::Edits { desk, text, edit } => {
-                let sent = self.outbox.len();
-                let outcome = self.edit(desk, text, &edit);
-                put_edit(output, &self.outbox, sent, outcome)
-            }
-            Event::Saves { desk, text, save } => {
-                let sent = self.outbox.len();
-                let outcome = self.save(desk, text, save);
-                put_edit(output, &self.outbox, sent, outcome)
-            }
+            Event::Edits { desk, text, edit } => Reply::Edited(self.edit(desk, text, &edit)),
+            Event::Saves { desk, text, save } => Reply::Edited(self.save(desk, text, save)),
             Event::Takes {
                 desk,
                 text,
                 message,
-            } => match self.take(desk, text, &message) {
-                Ok(took) => put_took(output, took),
-                Err(why) => put_refused(output, why),
-            },
-            Event::Settles { desk, text } => {
-                let settled = self.settle(desk, text);
-                put_settled(output, settled)
+            } => Reply::Taken(self.take(desk, text, &message)),
+            Event::Settles { desk, text } => Reply::Settled(self.settle(desk, text)),
+            Event::Merges { desk, text, other } => Reply::Merged(self.merge(desk, text, other)),
+            Event::Queries { desk, text, query } => {
+                Reply::Printed(self.desks[desk].query(text, query))
             }
-            Event::Merges { desk, text, other } => {
-                let outcome = self.merge(desk, text, other);
-                put_merged(output, outcome)
+            Event::Keeps { desk, text, name } => {
+                Reply::Commanded(self.desks[desk].keep(text, name, shelf))
             }
-            Event::Queries { desk, text, query } => match self.query(desk, text, query) {
-                Ok(lines) => put(output, &lines),
-                Err(why) => put_refused(output, why),
-            },
+            Event::Reopens { desk, text, name } => {
+                Reply::Commanded(self.desks[desk].reopen(text, name, shelf))
+            }
+            Event::Arranges { desk, arrangement } => self.arrange(desk, arrangement),
+            Event::Prints { desk, view } => Reply::Printed(self.desks[desk].view(view)),
+            Event::Keys { desk, bytes } => Reply::Edited(self.key(desk, &bytes)),
+            Event::Clicks { desk, cell } => {
+                let outcome = self.desks[desk].click(cell.col, cell.row, shelf, &mut self.outbox);
+                Reply::Commanded(outcome)
+            }
         }
     }
 
@@ -167,7 +157,7 @@ impl Sites {
         requires on_desk { text ≤ MAX_TEXT }
         requires short { TypesAtMost MAX_LINE asked.now }
         ensures { (messages : List (List ℕ))
-            × Replied self.old (on_text (edit desk text (edit_of asked.now))) (of_text (edit_reply result messages)) self.new }
+            × Replied self.old (edit desk text (edit_of asked.now)) (edit_reply result messages) self.new }
     {
         match asked {
             Edit::TypeIn { pos, bytes } => self.type_in(desk, text, *pos, bytes),
@@ -195,7 +185,7 @@ impl Sites {
         requires on_desk { text ≤ MAX_TEXT }
         requires short { length bytes.now ≤ MAX_LINE }
         ensures { (messages : List (List ℕ)) × Replied self.old
-            (on_text (edit desk text (typing pos bytes.now))) (of_text (edit_reply result messages)) self.new }
+            (edit desk text (typing pos bytes.now)) (edit_reply result messages) self.new }
     {
         match bytes.as_plain() {
             Some(plain) => self.desks[desk].type_in(text, pos, plain, &mut self.outbox),
@@ -213,7 +203,7 @@ impl Sites {
         requires on_desk { text ≤ MAX_TEXT }
         requires other_on_desk { asked.other ≤ MAX_TEXT }
         ensures { (messages : List (List ℕ)) × Replied self.old
-            (on_text (copy desk text asked.beg asked.end asked.other asked.pos)) (of_text (edit_reply result messages)) self.new }
+            (copy desk text asked.beg asked.end asked.other asked.pos) (edit_reply result messages) self.new }
     {
         let Save {
             beg,
@@ -229,7 +219,7 @@ impl Sites {
         requires in_run { desk < length self.old.desks }
         requires on_desk { text ≤ MAX_TEXT }
         requires within { IsWithin MAX_LINE told.now }
-        ensures { Replied self.old (on_text (take desk text (delivery_of told.now))) (of_text (take_reply result)) self.new }
+        ensures { Replied self.old (take desk text (delivery_of told.now)) (take_reply result) self.new }
     {
         match told {
             Delivery::Sent(k) => self.take_sent(desk, text, *k),
@@ -245,11 +235,10 @@ impl Sites {
     fn take_sent(&mut self, desk: usize, text: TextNo, k: u32) -> Result<Took, Refusal>
         requires in_run { desk < length self.old.desks }
         requires on_desk { text ≤ MAX_TEXT }
-        ensures { Replied self.old (on_text (take desk text (sent k))) (of_text (take_reply result)) self.new }
+        ensures { Replied self.old (take desk text (sent k)) (take_reply result) self.new }
     {
         let k = k as usize;
         if k == 0 || self.outbox.len() < k {
-            self.desks[desk].has_text(text);
             return Err(Refusal::BadEvent);
         }
         let message = self.outbox.message(k - 1);
@@ -260,8 +249,8 @@ impl Sites {
     fn settle(&mut self, desk: usize, text: TextNo) -> Settled
         requires in_run { desk < length self.old.desks }
         requires on_desk { text ≤ MAX_TEXT }
-        ensures { Replied self.old (on_text (settle desk text))
-            (of_text (settles result.drained result.dropped result.stopped)) self.new }
+        ensures { Replied self.old (settle desk text)
+            (settles result.drained result.dropped result.stopped) self.new }
     {
         self.desks[desk].settle(text)
     }
@@ -271,7 +260,7 @@ impl Sites {
         requires in_run { desk < length self.old.desks }
         requires other_in_run { other < length self.old.desks }
         requires on_desk { text ≤ MAX_TEXT }
-        ensures { Replied self.old (on_text (merge desk text other)) (of_text (merge_reply result)) self.new }
+        ensures { Replied self.old (merge desk text other) (merge_reply result) self.new }
     {
         if other < desk {
             let (front, back) = self.desks.split_at_mut(desk);
@@ -282,20 +271,6 @@ impl Sites {
         } else {
             self.desks[desk].has_text(text);
             Ok(0)
-        }
-    }
-
-    // The lines that a query prints of a desk's text.
-    fn query(&self, desk: usize, text: TextNo, asked: Query) -> Result<Vec<u8>, Refusal>
-        requires in_run { desk < length self.now.desks }
-        requires on_desk { text ≤ MAX_TEXT }
-        ensures { Replied self.now (on_text (query desk text (query_of asked))) (query_reply result (λ lines. lines.items)) self.now }
-    {
-        match asked {
-            Query::Text => self.desks[desk].text(text),
-            Query::Front => self.desks[desk].front(text),
-            Query::Runs => self.desks[desk].runs(text),
-            Query::Places(names) => self.desks[desk].places(text, names),
         }
     }
 }

@@ -1,5 +1,4 @@
-//! Tests of how the events of the screen and of sites' files are spelled, in a crate of their own so that `script_events` is
-//! proved once.
+//! Tests of how events are spelled, in a crate of their own so that `script_events` is proved once.
 #![tactic(auto)]
 
 #[cfg(test)]

@@ -1,5 +1,5 @@
 use Rattle.std.specs.Prelude.{◌++◌, length}
-use Rattle.machine.specs.Machine.{print_fronts}
+use Rattle.machine.specs.declared.asked.Query.TheVariants.{Front}
 use Rattle.machine.specs.Printing.{waiting_line}
 use Rattle.run_laws.proofs.Reaching.{answered, behind_sound, query_replied}
 use Rattle.run_laws.proofs.the_same_fronts_are_answered_the_same.Goals as goal
@@ -13,8 +13,8 @@ returns c = λ start start' i j text text' s s' t u lines few few' at_t at_u ide
     let numbered' = c.what_is_reached_is_numbered.ensures start'.first start'.count start'.width start'.height start'.files s' j
     text' u few' (c.each_trace_is_reached.ensures start' s' at_u.behind) at_u.there in
     let fronts = c.front_lines_tell_the_fronts.ensures t u lines numbered numbered'
-    (query_replied s i text t print_fronts (lines ++ waiting_line (length t.waiting_room)) at_t.there said)
-    (query_replied s' j text' u print_fronts (lines ++ waiting_line (length u.waiting_room)) at_u.there said') in
+    (query_replied s i text t Front (lines ++ waiting_line (length t.waiting_room)) at_t.there said)
+    (query_replied s' j text' u Front (lines ++ waiting_line (length u.waiting_room)) at_u.there said') in
     answered s s' i j text text' t u at_t.there at_u.there
     (c.the_same_fronts_print_the_same.ensures t u (sound.texts i text t at_t.there) (sound'.texts j text' u at_u.there) identified
     fronts)

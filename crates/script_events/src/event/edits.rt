@@ -1,6 +1,6 @@
 ghost use Rattle.std.specs.Prelude.{◌≡◌, ℕ, ◌≤◌, length, option_map, IfSome};
 ghost use Rattle.script_events.specs.EventView.{edit_of, TypesAtMost};
-ghost use Rattle.script_events.specs.Script.{type_edit, cut_edit, looks_edit, recall_edit, edit_in};
+ghost use Rattle.script_events.specs.Script.{type_edit, cut_edit, looks_edit, recall_edit};
 
 use crate::escaped::Escaped;
 use crate::event::Edit;
@@ -8,7 +8,7 @@ use crate::event::looks_words::change_in;
 use crate::event::words::{cut_number, number_in};
 
 // What `type` goes on with behind its text: a position and the bytes.
-fn type_edit(rest: &[u8]) -> Option<Edit<'_>>
+pub(crate) fn type_edit(rest: &[u8]) -> Option<Edit<'_>>
     ensures edit { option_map edit_of result ≡ type_edit rest.now }
     ensures short { IfSome result (λ edit. (len : ℕ) → length rest.now ≤ len → TypesAtMost len edit) }
 {
@@ -20,7 +20,7 @@ fn type_edit(rest: &[u8]) -> Option<Edit<'_>>
 }
 
 // `cut`: from where to where.
-fn cut_edit(rest: &[u8]) -> Option<Edit<'_>>
+pub(crate) fn cut_edit(rest: &[u8]) -> Option<Edit<'_>>
     ensures edit { option_map edit_of result ≡ cut_edit rest.now }
     ensures short { IfSome result (λ edit. (len : ℕ) → TypesAtMost len edit) }
 {
@@ -30,7 +30,7 @@ fn cut_edit(rest: &[u8]) -> Option<Edit<'_>>
 }
 
 // `looks`: from where to where, and the attributes.
-fn looks_edit(rest: &[u8]) -> Option<Edit<'_>>
+pub(crate) fn looks_edit(rest: &[u8]) -> Option<Edit<'_>>
     ensures edit { option_map edit_of result ≡ looks_edit rest.now }
     ensures short { IfSome result (λ edit. (len : ℕ) → TypesAtMost len edit) }
 {
@@ -46,28 +46,10 @@ fn looks_edit(rest: &[u8]) -> Option<Edit<'_>>
 }
 
 // `recall`: a position.
-fn recall_edit(rest: &[u8]) -> Option<Edit<'_>>
+pub(crate) fn recall_edit(rest: &[u8]) -> Option<Edit<'_>>
     ensures edit { option_map edit_of result ≡ recall_edit rest.now }
     ensures short { IfSome result (λ edit. (len : ℕ) → TypesAtMost len edit) }
 {
     let pos = u64::from(number_in(rest)?);
     Some(Edit::Recall { pos })
-}
-
-// The edit that a verb asks for with what stands behind the text: a row for each verb.
-pub(crate) fn edit_in<'a>(verb: &[u8], rest: &'a [u8]) -> Option<Edit<'a>>
-    ensures edit { option_map edit_of result ≡ edit_in verb.now rest.now }
-    ensures short { IfSome result (λ edit. (len : ℕ) → length rest.now ≤ len → TypesAtMost len edit) }
-{
-    if verb == b"type".as_slice() {
-        type_edit(rest)
-    } else if verb == b"cut".as_slice() {
-        cut_edit(rest)
-    } else if verb == b"looks".as_slice() {
-        looks_edit(rest)
-    } else if verb == b"recall".as_slice() {
-        recall_edit(rest)
-    } else {
-        None
-    }
 }

@@ -1,20 +1,10 @@
 ghost use Rattle.std.specs.Prelude.{◌≡◌, option_map};
 ghost use Rattle.looks.specs.Looks.{plain_looks};
-ghost use Rattle.script_events.specs.LooksWords.{front_word, cut_value, colour_in, signed_in, offset_in};
+ghost use Rattle.script_events.specs.LooksWords.{cut_value, colour_in, signed_in, offset_in};
 ghost use Rattle.script_events.specs.LooksWords.{font_in, given_or, looks_of, selection_in, change_of, change_in};
 
-use crate::event::words::{cut_word, number_in};
+use crate::event::words::{front_word, number_in};
 use looks::{Colour, FontName, Looks, Sel};
-
-// The word in front, and what stands behind its blank, if it isn't the last word.
-fn front_word(words: &[u8]) -> (&[u8], Option<&[u8]>)
-    ensures { (result.0.now, option_map (λ rest. rest.now) result.1) ≡ front_word words.now }
-{
-    match cut_word(words) {
-        Some((word, rest)) => (word, Some(rest)),
-        None => (words, None),
-    }
-}
 
 // The value of this key's attribute, where the words that are left begin with it; and the words that are then
 // left.

@@ -1,6 +1,6 @@
 ghost use Rattle.std.specs.Prelude.{◌≡◌, ◌<◌, ◌≤◌, length, option_map, IfSome};
 ghost use Rattle.std.specs.Str.{all_ascii_digits};
-ghost use Rattle.script_events.specs.Words.{cut_word, number_in, cut_number, desk_in, text_in};
+ghost use Rattle.script_events.specs.Words.{cut_word, front_word, number_in, cut_number, desk_in, text_in};
 
 use char_files::TextNo;
 use machine::MAX_TEXT;
@@ -12,6 +12,17 @@ pub(crate) fn cut_word(bytes: &[u8]) -> Option<(&[u8], &[u8])>
 {
     let end = bytes.iter().position(|byte| *byte == b' ')?;
     Some((&bytes[..end], &bytes[end + 1..]))
+}
+
+// The word in front, and what stands behind its blank, if it isn't the last word.
+pub(crate) fn front_word(words: &[u8]) -> (&[u8], Option<&[u8]>)
+    ensures word { (result.0.now, option_map (λ rest. rest.now) result.1) ≡ front_word words.now }
+    ensures shorter { IfSome result.1 (λ rest. length rest.now ≤ length words.now) }
+{
+    match cut_word(words) {
+        Some((word, rest)) => (word, Some(rest)),
+        None => (words, None),
+    }
 }
 
 // Whether each byte is a decimal digit.

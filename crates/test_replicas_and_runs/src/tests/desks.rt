@@ -2,7 +2,7 @@ use super::is;
 use char_files::{SiteNo, TextNo};
 use desk_texts::Texts;
 use looks::Refusal;
-use machine::MAX_TEXT;
+use machine::{MAX_TEXT, Query};
 use std::alloc::Global;
 use std::test::Fail;
 use texts::{EditRefusal, Outbox};
@@ -21,9 +21,9 @@ fn prints(desk: &Texts, text: TextNo, want: &[u8]) -> Result<(), Fail> {
     if MAX_TEXT < text.get() {
         return Err("a text".into());
     }
-    let line = match desk.text(text) {
+    let line = match desk.query(text, Query::Text) {
         Ok(line) => line,
-        Err(_) => desk.text(text)?,
+        Err(_) => desk.query(text, Query::Text)?,
     };
     is(line.as_slice() == want, "a line")
 }

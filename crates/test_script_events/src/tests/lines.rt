@@ -1,7 +1,8 @@
-//! Lines that spell an event of the screen or of a site's file. None of them spells one of texts.
+//! Lines that spell an event of the screen or of a site's file.
 use super::{COUNT, FIRST, is};
 use char_files::TextNo;
-use script_events::{Arrangement, Cell, Escaped, ScreenEvent, View, event_in, screen_event_in};
+use machine::{Arrangement, Cell, View};
+use script_events::{Escaped, Event, event_in};
 use std::alloc::Global;
 use std::test::Fail;
 use viewers::Track;
@@ -63,19 +64,34 @@ const REOPENED: &[(&str, usize, u16, &str)] = &[
     ("4 reopen 1 1", 2, 1, "1"),
 ];
 
-// The event of the screen or of a file that a line spells, which spells none of texts.
-fn event(line: &str) -> Result<ScreenEvent<'_>, Fail> {
-    let line = line.as_bytes();
-    is(event_in(FIRST, COUNT, line).is_none(), "no event of texts")?;
-    match screen_event_in(FIRST, COUNT, line) {
+// Lines that ask something of a text.
+const OF_TEXTS: &[&str] = &[
+    "2 type 1 0 a",
+    "2 cut 1 0 1",
+    "2 looks 1 0 1 colour=1",
+    "2 recall 1 0",
+    "2 restore 1",
+    "2 save 1 0 1 2 0",
+    "2 take 1 m1",
+    "2 settle 1",
+    "2 merge 1 3",
+    "2 text 1",
+    "2 runs 1",
+    "2 front 1",
+    "2 where 1 2 0 1",
+];
+
+// The event that a line spells.
+fn event(line: &str) -> Result<Event<'_>, Fail> {
+    match event_in(FIRST, COUNT, line.as_bytes()) {
         Some(event) => Ok(event),
-        None => Err("an event of the screen or of a file".into()),
+        None => Err("an event".into()),
     }
 }
 
 fn arranges(line: &str, on: usize, want: Arrangement) -> Result<(), Fail> {
     match event(line)? {
-        ScreenEvent::Arranges { desk, arrangement } => {
+        Event::Arranges { desk, arrangement } => {
             is(desk == on && arrangement == want, "an arrangement")
         }
         _ => Err("an arrangement".into()),
@@ -84,14 +100,14 @@ fn arranges(line: &str, on: usize, want: Arrangement) -> Result<(), Fail> {
 
 fn prints(line: &str, on: usize, want: View) -> Result<(), Fail> {
     match event(line)? {
-        ScreenEvent::Prints { desk, view } => is(desk == on && view == want, "a print"),
+        Event::Prints { desk, view } => is(desk == on && view == want, "a print"),
         _ => Err("a print".into()),
     }
 }
 
 fn clicks(line: &str, on: usize, want: Cell) -> Result<(), Fail> {
     match event(line)? {
-        ScreenEvent::Clicks { desk, cell } => is(desk == on && cell == want, "a click"),
+        Event::Clicks { desk, cell } => is(desk == on && cell == want, "a click"),
         _ => Err("a click".into()),
     }
 }
@@ -104,7 +120,7 @@ fn spells(alloc: Global, bytes: &Escaped, want: &[u8]) -> Result<(), Fail> {
 
 fn puts(alloc: Global, line: &str, on: usize, want: &[u8]) -> Result<(), Fail> {
     match event(line)? {
-        ScreenEvent::Keys { desk, bytes } => {
+        Event::Keys { desk, bytes } => {
             is(desk == on, "the desk")?;
             spells(alloc, &bytes, want)
         }
@@ -114,7 +130,7 @@ fn puts(alloc: Global, line: &str, on: usize, want: &[u8]) -> Result<(), Fail> {
 
 fn keeps(line: &str, on: usize, want: TextNo, file: &str) -> Result<(), Fail> {
     match event(line)? {
-        ScreenEvent::Keeps { desk, text, name } => {
+        Event::Keeps { desk, text, name } => {
             is(desk == on && text == want && name == file, "a keeping")
         }
         _ => Err("a keeping".into()),
@@ -123,7 +139,7 @@ fn keeps(line: &str, on: usize, want: TextNo, file: &str) -> Result<(), Fail> {
 
 fn reopens(line: &str, on: usize, want: TextNo, file: &str) -> Result<(), Fail> {
     match event(line)? {
-        ScreenEvent::Reopens { desk, text, name } => {
+        Event::Reopens { desk, text, name } => {
             is(desk == on && text == want && name == file, "a reopening")
         }
         _ => Err("a reopening".into()),
@@ -210,6 +226,14 @@ fn texts_are_kept_and_reopened(_rt: HostRuntime) -> Result<(), Fail> {
     for (line, desk, text, name) in REOPENED {
         let text = TextNo::new(*text).ok_or("a text")?;
         reopens(line, *desk, text, name)?;
+    }
+    Ok(())
+}
+
+#[test]
+fn texts_are_asked(_rt: HostRuntime) -> Result<(), Fail> {
+    for line in OF_TEXTS {
+        event(line)?;
     }
     Ok(())
 }

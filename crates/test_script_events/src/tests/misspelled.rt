@@ -1,9 +1,9 @@
-//! Lines that spell no event of the screen, and none of a site's file.
+//! Lines that spell no event.
 use super::{COUNT, FIRST, is};
-use script_events::{event_in, screen_event_in};
+use script_events::event_in;
 use std::test::Fail;
 
-// Nor one of texts.
+// Lines, by the verb that they misspell.
 const WRONG: &[&str] = &[
     // No site, none of the run, or no verb.
     "",
@@ -141,39 +141,13 @@ const WRONG: &[&str] = &[
     "1 reopen 1 s.ots",
 ];
 
-// But one of texts.
-const OF_TEXTS: &[&str] = &[
-    "2 type 1 0 a",
-    "2 cut 1 0 1",
-    "2 looks 1 0 1 colour=1",
-    "2 recall 1 0",
-    "2 restore 1",
-    "2 save 1 0 1 2 0",
-    "2 take 1 m1",
-    "2 settle 1",
-    "2 merge 1 3",
-    "2 text 1",
-    "2 runs 1",
-    "2 front 1",
-];
-
 #[test]
-fn nothing_is_asked_of_a_screen_or_a_file(_rt: HostRuntime) -> Result<(), Fail> {
+fn nothing_is_asked(_rt: HostRuntime) -> Result<(), Fail> {
     for line in WRONG {
-        let line = line.as_bytes();
         is(
-            screen_event_in(FIRST, COUNT, line).is_none(),
-            "of a screen or a file",
+            event_in(FIRST, COUNT, line.as_bytes()).is_none(),
+            "no event",
         )?;
-        is(event_in(FIRST, COUNT, line).is_none(), "of texts")?;
-    }
-    for line in OF_TEXTS {
-        let line = line.as_bytes();
-        is(
-            screen_event_in(FIRST, COUNT, line).is_none(),
-            "of a screen or a file",
-        )?;
-        is(event_in(FIRST, COUNT, line).is_some(), "of texts")?;
     }
     Ok(())
 }

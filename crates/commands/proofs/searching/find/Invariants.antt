@@ -1,5 +1,5 @@
 use Rattle.std.proofs.Common.{ℕ, ◌<◌, ◌≤◌}
-use Rattle.machine.specs.Whole.{StandsAt}
+use Rattle.machine.specs.Tasks.{StandsAt}
 use Rattle.machine.specs.Windows.{bytes_shown}
 use Rattle.commands.proofs.searching.find.Given as goal
 

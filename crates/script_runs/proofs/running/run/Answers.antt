@@ -1,5 +1,5 @@
 use Rattle.std.specs.Prelude.{IfSome}
-use Rattle.machine.specs.Whole.{new_run}
+use Rattle.machine.specs.State.{new_state}
 use Rattle.script_runs.specs.Ends.{Ends}
 use Rattle.script_runs.proofs.Filing.{over_weaker}
 use Rattle.script_runs.proofs.Traces.{EndsOver}
@@ -16,5 +16,5 @@ returns-clause-answers g c =
     let new = c.run_lines.new.output.contents in
     over_weaker (g.S.Shelf.files c.args.shelf.now) (g.S.Shelf.files c.run_lines.new.shelf)
     (EndsOver c.in_ok-sites.sites known r failed left old new)
-    (λ was now. IfSome known (λ script. Ends (new_run settings.first settings.count settings.width settings.height was) script r failed left old new now))
+    (λ was now. IfSome known (λ script. Ends (new_state settings.first settings.count settings.width settings.height was) script r failed left old new now))
     (λ was now ends. rw (← c.in_ok-sites.ensures.ok was) ends) c.run_lines.ensures.answers

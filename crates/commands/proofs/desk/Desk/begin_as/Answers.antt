@@ -1,7 +1,7 @@
 use Rattle.std.proofs.Common.{◌≡◌, false, Ok, subst, sym}
 use Rattle.texts.specs.TextState.{TextState, all_told}
 use Rattle.machine.specs.DeskState.{IsTextOf, with_text}
-use Rattle.machine.specs.Whole.{has_begun}
+use Rattle.machine.specs.Tasks.{has_begun}
 use Rattle.desk_windows.specs.Windows.{screened}
 use Rattle.commands.proofs.Reopening.{begins_apart, begins_its_own, replaced_grows, replaced_now}
 use Rattle.commands.specs.Filing.{BeginsSo}

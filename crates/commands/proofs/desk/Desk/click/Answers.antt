@@ -3,7 +3,8 @@ use Rattle.std.specs.Prelude.{IsSome}
 use Rattle.looks.specs.declared.refusal.Refusal.TheVariants.{NoViewer, UnknownCommand}
 use Rattle.texts.specs.declared.edit_refusal.EditRefusal.TheVariants.{Whole}
 use Rattle.command_words.specs.Calls.{IsCallAt}
-use Rattle.machine.specs.Whole.{IsTaskOfCall, clicked, refuse}
+use Rattle.machine.specs.Commands.{IsTaskOfCall, clicked}
+use Rattle.machine.specs.Events.{refuse}
 use Rattle.machine.specs.Windows.{window_of}
 use Rattle.desk_windows.specs.Pointing.{IsClick}
 use Rattle.commands.proofs.Clicks.{call_there, clicked_shows, no_call_there, nothing_there}

@@ -1,7 +1,8 @@
 use Rattle.std.proofs.Common.{◌≡◌, Err, None, Some, sym, subst}
 use Rattle.looks.specs.declared.refusal.Refusal.TheVariants.{BadParameter, NoSelection}
 use Rattle.texts.specs.declared.edit_refusal.EditRefusal.TheVariants.{Whole}
-use Rattle.machine.specs.Whole.{Change, Task, ask, dress_marked}
+use Rattle.machine.specs.Commands.{Change, dress_marked}
+use Rattle.machine.specs.Events.{Task, ask}
 use Rattle.machine.specs.Windows.{marked}
 use Rattle.commands.proofs.Tasks.{dressed_step, dresses_none, refused_edit, told_so, untold}
 use Rattle.commands.specs.Steps.{DeskSeen, IsEditStep}

@@ -1,7 +1,8 @@
 use Rattle.std.proofs.Common.{◌≡◌, ℕ, ◌≤◌, Err, IfSome, Some, sym, subst}
 use Rattle.std.specs.Prelude.{IsSome}
 use Rattle.texts.specs.declared.edit_refusal.EditRefusal.TheVariants.{Whole}
-use Rattle.machine.specs.Whole.{IsTaskOfCall, refuse, task_of}
+use Rattle.machine.specs.Commands.{IsTaskOfCall, task_of}
+use Rattle.machine.specs.Events.{refuse}
 use Rattle.machine.specs.Windows.{window_of}
 use Rattle.machine.specs.declared.TheConstants.{MAX_TEXT}
 use Rattle.commands.proofs.Clicks.{text_shown, text_there}

@@ -11,5 +11,5 @@ invariant_of-self c =
 pub returns : goal.returns
 returns c =
     forget_task c.args.self.now c.self.inside.texts c.forget-count.new.self c.tell.new.texts (screened c.self.inside.windows)
-    (screened c.tell.new.windows) c.args.text c.forget-count.result c.self.view_is c.self.invariant.1 c.has_text.ensures
-    c.forget-count.ensures c.tell.ensures.told c.tell.ensures.screen
+    (screened c.tell.new.windows) c.args.text c.forget-count.result c.self.view_is c.forget-count.ensures
+    c.tell.ensures.told c.tell.ensures.screen

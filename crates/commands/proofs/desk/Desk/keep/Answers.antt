@@ -1,6 +1,6 @@
 use Rattle.std.proofs.Common.{Result, sym, subst}
 use Rattle.texts.specs.declared.edit_refusal.EditRefusal.{EditRefusal}
-use Rattle.machine.specs.Whole.{ask, keep}
+use Rattle.machine.specs.Events.{ask, keep}
 use Rattle.desk_windows.specs.Windows.{screened}
 use Rattle.commands.proofs.Shelves.{keep_step}
 use Rattle.commands.specs.declared.answer.Answer.{Answer}

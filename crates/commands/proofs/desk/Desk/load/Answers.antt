@@ -3,7 +3,7 @@ use Rattle.std.specs.Option.{option_copied}
 use Rattle.looks.specs.declared.refusal.Refusal.TheVariants.{BadParameter, NoCaret}
 use Rattle.texts.specs.declared.edit_refusal.EditRefusal.{EditRefusal}
 use Rattle.texts.specs.declared.edit_refusal.EditRefusal.TheVariants.{Whole}
-use Rattle.machine.specs.Whole.{Task, ask, load, put, refuse}
+use Rattle.machine.specs.Events.{Task, ask, load, put, refuse}
 use Rattle.desk_windows.specs.Windows.{screened}
 use Rattle.commands.proofs.Faultless.{edit_step_sound}
 use Rattle.commands.proofs.Shelves.{load_fails, load_puts, load_without_caret, task_over}

@@ -5,7 +5,7 @@ use Rattle.reader_scanner.specs.Tokens.{IsTokenAt}
 use Rattle.texts.specs.TextState.{TextState}
 use Rattle.machine.specs.DeskState.{IsTextOf}
 use Rattle.machine.specs.Windows.{marked}
-use Rattle.machine_laws.proofs.OneReply.{one_element}
+use Rattle.machine_laws.proofs.OneOfTexts.{one_element}
 use Rattle.commands.proofs.Clicks.{marked_told}
 use Rattle.commands.specs.Steps.{DeskSeen}
 use Rattle.commands.proofs.desk.Desk.marked_value.Goals as goal

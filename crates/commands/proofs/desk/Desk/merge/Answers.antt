@@ -1,6 +1,6 @@
 use Rattle.std.proofs.Common.{ap, subst}
 use Rattle.machine.specs.DeskState.{DeskState}
-use Rattle.machine.specs.Machine.{MergesDesk}
+use Rattle.machine.specs.OnTexts.{MergesDesk}
 use Rattle.desk_windows.specs.Windows.{screened}
 use Rattle.commands.proofs.Lifting.{merge_grows}
 use Rattle.commands.proofs.Steps.{merge_step}
@@ -15,7 +15,8 @@ invariant_of-self c =
 
 pub returns : goal.returns
 returns c =
-    merge_step c.args.self.now c.args.other.now c.self.inside.texts c.merge-outcome.new.self c.tell.new.texts
-    (screened c.self.inside.windows) (screened c.tell.new.windows) c.args.text c.merge-outcome.result c.self.view_is
+    merge_step c.args.self.now c.self.inside.texts c.merge-outcome.new.self c.tell.new.texts
+    (screened c.self.inside.windows) (screened c.tell.new.windows) c.self.view_is c.tell.ensures.screen c.args.other.now
+    c.args.text c.merge-outcome.result
     (subst (λ (x : DeskState). MergesDesk c.self.inside.texts c.args.text x c.merge-outcome.result c.merge-outcome.new.self)
-    (ap (λ (x : DeskSeen). x.texts) c.other.view_is) c.merge-outcome.ensures) c.tell.ensures.told c.tell.ensures.screen
+    (ap (λ (x : DeskSeen). x.texts) c.other.view_is) c.merge-outcome.ensures) c.tell.ensures.told

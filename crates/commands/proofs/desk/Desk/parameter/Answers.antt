@@ -2,7 +2,7 @@ use Rattle.std.proofs.Common.{◌≡◌, true, sym, ◌∙◌}
 use Rattle.std.specs.Prelude.{◌&&◌}
 use Rattle.std.proofs.lemmas.Bool.{and_parts}
 use Rattle.command_words.specs.Commands.{has_parameter}
-use Rattle.machine.specs.Whole.{is_caret_sign}
+use Rattle.machine.specs.Commands.{is_caret_sign}
 use Rattle.commands.proofs.Clicks.{followed, not_followed}
 use Rattle.commands.proofs.desk.Desk.parameter.Goals as goal
 

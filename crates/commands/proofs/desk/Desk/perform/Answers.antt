@@ -4,9 +4,9 @@ use Rattle.viewers.specs.declared.screen.Track.TheVariants.{User, System}
 use Rattle.command_words.specs.declared.command.Command.TheVariants as command
 use Rattle.texts.specs.Edit.{restoration}
 use Rattle.texts.specs.declared.edit_refusal.EditRefusal.{EditRefusal}
-use Rattle.machine.specs.Whole.{Change, Task, arrange, ask, change, dress_marked, forget, load, put_recalled}
-use Rattle.machine.specs.Whole.{search, store, with_told}
-use Rattle.machine.specs.Windows.{close, open_in}
+use Rattle.machine.specs.Commands.{Change, dress_marked, with_told}
+use Rattle.machine.specs.Events.{Task, arrange, ask, change, forget, load, put_recalled, search, store}
+use Rattle.machine.specs.declared.asked.Arrangement.TheVariants.{Close, Open}
 use Rattle.commands.proofs.Faultless.{dressed_sound, edit_step_sound, task_sound, told_sound}
 use Rattle.commands.proofs.Shelves.{commanded, edit_over, task_over}
 use Rattle.commands.proofs.Tasks.{change_step}
@@ -20,15 +20,15 @@ returns-in-SystemOpen-clause-step g c =
     let told = g.S.Shelf.files c.args.shelf.now in
     commanded (λ (task : Task). IsShelfStep seen (λ i. ask i task) c.open_told.result c.open_told.new.self sent sent told told) seen.texts seen.screen
     c.args.command command.SystemOpen c.args.value.now c.args.viewer c.args.text c.in-SystemOpen.is
-    (subst (λ (o : Option ℕ). IsShelfStep seen (λ i. ask i (with_told o (λ n. arrange (open_in System n None)))) c.open_told.result c.open_told.new.self sent sent told told)
+    (subst (λ (o : Option ℕ). IsShelfStep seen (λ i. ask i (with_told o (λ n. arrange (Open System n None)))) c.open_told.result c.open_told.new.self sent sent told told)
     c.text_told.ensures.told
-    (task_over seen c.open_told.new.self (with_told c.text_told.result (λ n. arrange (open_in System n None))) told c.open_told.result sent c.open_told.ensures))
+    (task_over seen c.open_told.new.self (with_told c.text_told.result (λ n. arrange (Open System n None))) told c.open_told.result sent c.open_told.ensures))
 
 pub returns-in-SystemOpen-clause-fault : goal.returns-in-SystemOpen-clause-fault
 returns-in-SystemOpen-clause-fault g c = λ fault.
     let seen : DeskSeen = c.args.self.now in
-    absurd (task_sound seen c.open_told.new.self (with_told c.text_told.result (λ n. arrange (open_in System n None))) c.open_told.result
-    (told_sound c.text_told.result (λ n. arrange (open_in System n None)) (λ n. tt)) c.open_told.ensures fault)
+    absurd (task_sound seen c.open_told.new.self (with_told c.text_told.result (λ n. arrange (Open System n None))) c.open_told.result
+    (told_sound c.text_told.result (λ n. arrange (Open System n None)) (λ n. tt)) c.open_told.ensures fault)
 
 pub returns-in-EditOpen-clause-step : goal.returns-in-EditOpen-clause-step
 returns-in-EditOpen-clause-step g c =
@@ -36,15 +36,15 @@ returns-in-EditOpen-clause-step g c =
     let told = g.S.Shelf.files c.args.shelf.now in
     commanded (λ (task : Task). IsShelfStep seen (λ i. ask i task) c.open_told-in-EditOpen.result c.open_told-in-EditOpen.new.self sent sent told told) seen.texts seen.screen
     c.args.command command.EditOpen c.args.value.now c.args.viewer c.args.text c.in-EditOpen.is
-    (subst (λ (o : Option ℕ). IsShelfStep seen (λ i. ask i (with_told o (λ n. arrange (open_in User n None)))) c.open_told-in-EditOpen.result c.open_told-in-EditOpen.new.self sent sent told told)
+    (subst (λ (o : Option ℕ). IsShelfStep seen (λ i. ask i (with_told o (λ n. arrange (Open User n None)))) c.open_told-in-EditOpen.result c.open_told-in-EditOpen.new.self sent sent told told)
     c.text_told-in-EditOpen.ensures.told
-    (task_over seen c.open_told-in-EditOpen.new.self (with_told c.text_told-in-EditOpen.result (λ n. arrange (open_in User n None))) told c.open_told-in-EditOpen.result sent c.open_told-in-EditOpen.ensures))
+    (task_over seen c.open_told-in-EditOpen.new.self (with_told c.text_told-in-EditOpen.result (λ n. arrange (Open User n None))) told c.open_told-in-EditOpen.result sent c.open_told-in-EditOpen.ensures))
 
 pub returns-in-EditOpen-clause-fault : goal.returns-in-EditOpen-clause-fault
 returns-in-EditOpen-clause-fault g c = λ fault.
     let seen : DeskSeen = c.args.self.now in
-    absurd (task_sound seen c.open_told-in-EditOpen.new.self (with_told c.text_told-in-EditOpen.result (λ n. arrange (open_in User n None))) c.open_told-in-EditOpen.result
-    (told_sound c.text_told-in-EditOpen.result (λ n. arrange (open_in User n None)) (λ n. tt)) c.open_told-in-EditOpen.ensures fault)
+    absurd (task_sound seen c.open_told-in-EditOpen.new.self (with_told c.text_told-in-EditOpen.result (λ n. arrange (Open User n None))) c.open_told-in-EditOpen.result
+    (told_sound c.text_told-in-EditOpen.result (λ n. arrange (Open User n None)) (λ n. tt)) c.open_told-in-EditOpen.ensures fault)
 
 pub returns-in-SystemClose-clause-step : goal.returns-in-SystemClose-clause-step
 returns-in-SystemClose-clause-step g c =
@@ -52,13 +52,13 @@ returns-in-SystemClose-clause-step g c =
     let told = g.S.Shelf.files c.args.shelf.now in
     commanded (λ (task : Task). IsShelfStep seen (λ i. ask i task) c.close_clicked.result c.close_clicked.new.self sent sent told told) seen.texts seen.screen
     c.args.command command.SystemClose c.args.value.now c.args.viewer c.args.text c.in-SystemClose.is
-    (task_over seen c.close_clicked.new.self (arrange (close c.args.viewer)) told c.close_clicked.result sent
+    (task_over seen c.close_clicked.new.self (arrange (Close c.args.viewer)) told c.close_clicked.result sent
     c.close_clicked.ensures)
 
 pub returns-in-SystemClose-clause-fault : goal.returns-in-SystemClose-clause-fault
 returns-in-SystemClose-clause-fault g c = λ fault.
     let seen : DeskSeen = c.args.self.now in
-    absurd (task_sound seen c.close_clicked.new.self (arrange (close c.args.viewer)) c.close_clicked.result tt
+    absurd (task_sound seen c.close_clicked.new.self (arrange (Close c.args.viewer)) c.close_clicked.result tt
     c.close_clicked.ensures fault)
 
 pub returns-in-EditLoad-clause-step : goal.returns-in-EditLoad-clause-step

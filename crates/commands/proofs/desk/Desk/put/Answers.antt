@@ -1,5 +1,4 @@
 use Rattle.std.proofs.Common.{arith}
-use Rattle.machine.specs.Machine.{edit}
 use Rattle.desk_windows.specs.Windows.{screened}
 use Rattle.commands.proofs.AtCaret.{in_text, is_long, moved_step, no_caret_step, room_then, stayed_step, put_at, was_long}
 use Rattle.commands.proofs.Lifting.{edit_grows}
@@ -26,9 +25,9 @@ overflow_add-pos c =
 pub move_caret-requires-clause-of : goal.move_caret-requires-clause-of
 move_caret-requires-clause-of c =
     (c.tell.ensures.shown c.self.inside.texts c.self.invariant.0 c.self.invariant.1
-    (edit_grows c.self.inside.texts c.put_into-outcome.new.texts
-    (edit 0 c.in-Some.place.0 (edit_of (items_in c.args.what) c.in-Some.place.1)) c.put_into-outcome.result
-    c.args.outbox.now c.put_into-outcome.new.outbox tt c.has_text.ensures c.put_into-outcome.ensures)).0
+    (edit_grows c.self.inside.texts c.put_into-outcome.new.texts c.in-Some.place.0
+    (edit_of (items_in c.args.what) c.in-Some.place.1) c.put_into-outcome.result
+    c.args.outbox.now c.put_into-outcome.new.outbox c.has_text.ensures c.put_into-outcome.ensures)).0
 
 pub move_caret-requires-clause-in_text : goal.move_caret-requires-clause-in_text
 move_caret-requires-clause-in_text c =
@@ -45,17 +44,17 @@ pub invariant_of-self : goal.invariant_of-self
 invariant_of-self c = (
   c.move_caret.ensures.of,
   (c.tell.ensures.shown c.self.inside.texts c.self.invariant.0 c.self.invariant.1
-      (edit_grows c.self.inside.texts c.put_into-outcome.new.texts
-      (edit 0 c.in-Some.place.0 (edit_of (items_in c.args.what) c.in-Some.place.1)) c.put_into-outcome.result
-      c.args.outbox.now c.put_into-outcome.new.outbox tt c.has_text.ensures c.put_into-outcome.ensures)).1,
+      (edit_grows c.self.inside.texts c.put_into-outcome.new.texts c.in-Some.place.0
+      (edit_of (items_in c.args.what) c.in-Some.place.1) c.put_into-outcome.result
+      c.args.outbox.now c.put_into-outcome.new.outbox c.has_text.ensures c.put_into-outcome.ensures)).1,
 )
 
 pub invariant_of-self-else-before-after : goal.invariant_of-self-else-before-after
 invariant_of-self-else-before-after c =
     c.tell.ensures.shown c.self.inside.texts c.self.invariant.0 c.self.invariant.1
-    (edit_grows c.self.inside.texts c.put_into-outcome.new.texts
-    (edit 0 c.in-Some.place.0 (edit_of (items_in c.args.what) c.in-Some.place.1)) c.put_into-outcome.result
-    c.args.outbox.now c.put_into-outcome.new.outbox tt c.has_text.ensures c.put_into-outcome.ensures)
+    (edit_grows c.self.inside.texts c.put_into-outcome.new.texts c.in-Some.place.0
+    (edit_of (items_in c.args.what) c.in-Some.place.1) c.put_into-outcome.result
+    c.args.outbox.now c.put_into-outcome.new.outbox c.has_text.ensures c.put_into-outcome.ensures)
 
 pub returns-then-before-after : goal.returns-then-before-after
 returns-then-before-after c =

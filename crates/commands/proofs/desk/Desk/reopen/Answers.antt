@@ -2,8 +2,8 @@ use Rattle.std.proofs.Common.{◌≡◌, ◌-◌, false, sym, subst, ◌∙◌}
 use Rattle.std.specs.Prelude.{slice_get}
 use Rattle.texts.specs.TextState.{TextState}
 use Rattle.machine.specs.DeskState.{IsTextOf}
-use Rattle.machine.specs.Whole.{has_begun}
-use Rattle.machine_laws.proofs.OneReply.{one_element}
+use Rattle.machine.specs.Tasks.{has_begun}
+use Rattle.machine_laws.proofs.OneOfTexts.{one_element}
 use Rattle.commands.proofs.Reopening.{begun_as, begun_step, unread_step}
 use Rattle.commands.specs.Steps.{DeskSeen}
 use Rattle.commands.proofs.desk.Desk.reopen.Goals as goal

@@ -2,7 +2,7 @@ use Rattle.std.proofs.Common.{◌+◌, List, ℕ, Err, Ok, ap, length}
 use Rattle.std.specs.Option.{option_copied}
 use Rattle.looks.specs.declared.refusal.Refusal.TheVariants.{BadParameter, NoCaret}
 use Rattle.texts.specs.declared.edit_refusal.EditRefusal.TheVariants.{Whole}
-use Rattle.machine.specs.Whole.{Task, search}
+use Rattle.machine.specs.Events.{Task, search}
 use Rattle.commands.proofs.Tasks.{found_task, no_caret_task, not_found_task, place_within_text, refused_task, told_so, untold}
 use Rattle.desk_windows.specs.Windows.{screened}
 use Rattle.commands.specs.declared.answer.Answer.TheVariants.{Found, NotFound}

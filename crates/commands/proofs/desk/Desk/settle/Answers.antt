@@ -12,6 +12,6 @@ invariant_of-self c =
 pub returns : goal.returns
 returns c =
     settle_step c.args.self.now c.self.inside.texts c.settle-outcome.new.self c.tell.new.texts
-    (screened c.self.inside.windows) (screened c.tell.new.windows) c.args.text c.settle-outcome.result.drained
-    c.settle-outcome.result.dropped c.settle-outcome.result.stopped c.self.view_is c.settle-outcome.ensures
-    c.tell.ensures.told c.tell.ensures.screen
+    (screened c.self.inside.windows) (screened c.tell.new.windows) c.self.view_is c.tell.ensures.screen c.args.text
+    c.settle-outcome.result.drained c.settle-outcome.result.dropped c.settle-outcome.result.stopped c.settle-outcome.ensures
+    c.tell.ensures.told

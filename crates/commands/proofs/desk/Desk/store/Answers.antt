@@ -3,7 +3,7 @@ use Rattle.std.specs.Option.{option_copied}
 use Rattle.looks.specs.declared.refusal.Refusal.TheVariants.{BadParameter}
 use Rattle.texts.specs.declared.edit_refusal.EditRefusal.{EditRefusal}
 use Rattle.texts.specs.declared.edit_refusal.EditRefusal.TheVariants.{Whole}
-use Rattle.machine.specs.Whole.{Task, ask, refuse, store}
+use Rattle.machine.specs.Events.{Task, ask, refuse, store}
 use Rattle.desk_windows.specs.Windows.{screened}
 use Rattle.commands.proofs.Shelves.{store_step, task_over}
 use Rattle.commands.proofs.Tasks.{refused_task, told_so, untold}

@@ -12,5 +12,5 @@ invariant_of-self c =
 pub returns : goal.returns
 returns c =
     take_step c.args.self.now c.self.inside.texts c.take-outcome.new.self c.tell.new.texts
-    (screened c.self.inside.windows) (screened c.tell.new.windows) c.args.text c.args.message.now c.take-outcome.result
-    c.self.view_is c.take-outcome.ensures c.tell.ensures.told c.tell.ensures.screen
+    (screened c.self.inside.windows) (screened c.tell.new.windows) c.self.view_is c.tell.ensures.screen c.args.text
+    c.args.message.now c.take-outcome.result c.take-outcome.ensures c.tell.ensures.told

@@ -1,6 +1,5 @@
 use Rattle.std.proofs.Common.{refl}
 use Rattle.texts.specs.Edit.{restoration}
-use Rattle.desk_texts.proofs.Lifting.{desk_edited}
 use Rattle.desk_texts.proofs.TextEdits.{text_edited}
 use Rattle.desk_texts.proofs.desk.Texts.restore.Goals as goal
 
@@ -9,5 +8,4 @@ returns c =
     let t = c.replica_mut.result.now in
     let edits = text_edited t restoration c.args.outbox.now refl c.restore.result c.restore.new.self
     c.restore.new.outbox c.restore.ensures in
-    desk_edited c.args.self.now c.args.text c.restore.new.self c.args.outbox.now c.restore.new.outbox t restoration
-    c.restore.result c.replica_mut.ensures.value edits
+    (t, c.restore.new.self, c.replica_mut.ensures.value, edits, refl)

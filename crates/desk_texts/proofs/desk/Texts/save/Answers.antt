@@ -1,7 +1,6 @@
-use Rattle.std.proofs.Common.{◌≡◌, Err}
+use Rattle.std.proofs.Common.{◌≡◌, Err, refl}
 use Rattle.texts.specs.declared.edit_refusal.EditRefusal.TheVariants.{Whole}
-use Rattle.machine.specs.Machine.{copy}
-use Rattle.desk_texts.proofs.Lifting.{desk_copied, desk_left, same_text}
+use Rattle.desk_texts.proofs.Lifting.{desk_left, same_text}
 use Rattle.desk_texts.proofs.TextEdits.{position_in, text_copied, text_not_copied}
 use Rattle.desk_texts.proofs.desk.Texts.save.Goals as goal
 
@@ -25,8 +24,7 @@ returns-in-Ok c =
     let edits = rw items at c.insert.ensures in
     let copies = text_copied t u c.args.beg c.args.end c.args.pos c.args.outbox.now (rw same at in_texts) few
     c.insert.result c.insert.new.self c.insert.new.outbox edits in
-    desk_copied d c.args.other c.insert.new.self c.args.outbox.now c.insert.new.outbox c.args.text
-    c.args.beg c.args.end c.args.pos t u c.insert.result c.replica.ensures c.replica_mut.ensures.value copies
+    (t, c.replica.ensures, (u, c.insert.new.self, c.replica_mut.ensures.value, copies, refl))
 
 pub returns-in-Err : goal.returns-in-Err
 returns-in-Err c =
@@ -36,7 +34,5 @@ returns-in-Err c =
     let sent = c.args.outbox.now in
     let refused = Err (Whole c.in-Err.why) in
     let copies = text_not_copied t u c.args.beg c.args.end c.args.pos sent c.in-Err.why c.in-Err.ensures in
-    desk_left d c.args.other u sent sent (copy 0 c.args.text c.args.beg c.args.end c.args.other c.args.pos) refused
-    c.replica-2.ensures
-    (desk_copied d c.args.other u sent sent c.args.text c.args.beg c.args.end c.args.pos t u refused
-    c.replica.ensures c.replica-2.ensures copies)
+    desk_left d c.args.other u c.args.text c.args.beg c.args.end c.args.pos refused sent sent c.replica-2.ensures
+    (t, c.replica.ensures, (u, u, c.replica-2.ensures, copies, refl))

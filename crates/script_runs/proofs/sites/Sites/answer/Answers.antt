@@ -1,22 +1,27 @@
 use Rattle.std.proofs.Common.{◌≡◌, false, length, sym, ap, ◌∙◌, arith}
-use Rattle.machine.specs.Whole.{on_text}
+use Rattle.looks.specs.declared.refusal.Refusal.TheVariants.{BadEvent}
+use Rattle.machine.specs.Events.{unknown}
+use Rattle.script_events.specs.EventView.{event_of}
 use Rattle.script_events.specs.Script.{event_in}
-use Rattle.script_events.specs.ScreenEventView.{screen_event_of}
+use Rattle.script_runs.specs.Answers.{refused_line}
 use Rattle.script_runs.specs.Seen.{SitesSeen}
 use Rattle.script_runs.specs.Trace.{is_silent}
-use Rattle.script_runs.proofs.Replying.{line_over, screen_asked, stepped_over, text_asked}
+use Rattle.script_runs.proofs.Replying.{line_over, stepped_over, unknown_step}
 use Rattle.script_runs.proofs.sites.Sites.answer.Goals as goal
 
 pub returns-in-Some : goal.returns-in-Some
 returns-in-Some g c =
     let s = c.args.self.now in
+    let new = c.step-reply.new.self in
     let line = c.args.line.now in
     let heard : is_silent line ≡ false = sym c.is_silent.ensures ∙ c.if-is_silent.false in
     let first : c.self.inside.first ≡ s.first = ap (λ (x : SitesSeen). x.first) c.self.view_is in
     let count : c.len.result ≡ length s.desks = omega (arith, c.len.ensures, c.self.inside.desks.ok, ap (λ (x : SitesSeen). length x.desks) c.self.view_is) in
-    let asked = screen_asked s.first (length s.desks) line c.in-Some.event (rw (first, count) at c.in-Some.ensures.event) in
-    let (answer, written, stepped) = c.screen_step.ensures in
-    (answer, written, line_over (g.S.Shelf.files c.args.shelf.now) (g.S.Shelf.files c.screen_step.new.shelf) s c.screen_step.new.self line answer (screen_event_of c.in-Some.event) heard asked stepped)
+    let asked : event_of c.in-Some.event ≡ event_in s.first (length s.desks) line = rw (first, count) at c.in-Some.ensures.event in
+    let before : c.len-sent.result ≡ length s.sent = c.len-sent.ensures ∙ ap (λ (x : SitesSeen). length x.sent) c.self.view_is in
+    let behind : c.self-in-Some.inside.outbox ≡ new.sent = ap (λ (x : SitesSeen). x.sent) c.self-in-Some.view_is in
+    let written = rw (before, behind) at c.put_reply.ensures in
+    (_, written, line_over (g.S.Shelf.files c.args.shelf.now) (g.S.Shelf.files c.step-reply.new.shelf) s new line _ (event_of c.in-Some.event) heard asked c.step-reply.ensures)
 
 pub returns-in-None : goal.returns-in-None
 returns-in-None g c =
@@ -25,8 +30,6 @@ returns-in-None g c =
     let heard : is_silent line ≡ false = sym c.is_silent.ensures ∙ c.if-is_silent.false in
     let first : c.self.inside.first ≡ s.first = ap (λ (x : SitesSeen). x.first) c.self.view_is in
     let count : c.len.result ≡ length s.desks = omega (arith, c.len.ensures, c.self.inside.desks.ok, ap (λ (x : SitesSeen). length x.desks) c.self.view_is) in
-    let asked = text_asked s.first (length s.desks) line (rw (first, count) at c.in-None.ensures.event) in
-    let (answer, written, stepped) = c.answer_text.ensures in
-    let event = on_text (event_in s.first (length s.desks) line) in
+    let asked : unknown ≡ event_in s.first (length s.desks) line = rw (first, count) at c.in-None.ensures.event in
     let told = (g.S.Shelf.files c.args.shelf.now) in
-    (answer, written, line_over told told s c.answer_text.new.self line answer event heard asked (stepped_over told s c.answer_text.new.self event answer stepped))
+    (refused_line BadEvent, c.put_refused.ensures, line_over told told s s line (refused_line BadEvent) (unknown) heard asked (stepped_over told s s (unknown) (refused_line BadEvent) (unknown_step s)))

@@ -2,8 +2,7 @@ use Rattle.std.proofs.Common.{◌≡◌, ◌++◌, List, length, subst, sym, ◌
 use Rattle.std.specs.Prelude.{slice_set}
 use Rattle.std.specs.Vec.{with_items}
 use Rattle.std.proofs.lemmas.List.{length-append, length-set, with_items_is}
-use Rattle.machine.specs.Machine.{merge, merge_reply}
-use Rattle.machine.specs.Whole.{of_text, on_text}
+use Rattle.machine.specs.Events.{merge, merge_reply}
 use Rattle.commands.specs.Steps.{DeskSeen}
 use Rattle.script_runs.specs.Seen.{Replied, SitesSeen}
 use Rattle.script_runs.proofs.Merging.{in_back, in_front, set_in_back, set_in_front}
@@ -27,7 +26,7 @@ returns-then-other-desk c =
     let at = in_back s.desks front back c.args.desk is parts.ensures.front_len d in_run c.index-back-0.is in
     let at_other = in_front s.desks front back c.args.desk is parts.ensures.front_len c.args.other other c.if-other-desk.true c.index-front-other.is in
     let set = set_in_back s.desks front back c.args.desk is parts.ensures.front_len c.merge.new.self in
-    rw (← c.self.view_is, desks) (subst (λ (ds : List DeskSeen). Replied s (on_text (merge c.args.desk c.args.text c.args.other)) (of_text (merge_reply c.merge.result)) (record s { desks = ds })) set
+    rw (← c.self.view_is, desks) (subst (λ (ds : List DeskSeen). Replied s (merge c.args.desk c.args.text c.args.other) (merge_reply c.merge.result) (record s { desks = ds })) set
     (replied_merge s c.args.desk d at c.args.text c.args.other other c.merge.result c.merge.new.self at_other merged))
 
 pub returns-then-desk-other : goal.returns-then-desk-other
@@ -47,7 +46,7 @@ returns-then-desk-other c =
     let at = in_front s.desks front back c.args.other is parts.ensures.front_len c.args.desk d c.if-desk-other.true c.index-front-desk.is in
     let at_other = in_back s.desks front back c.args.other is parts.ensures.front_len other in_run c.index-back-0-then-desk-other.is in
     let set = set_in_front s.desks front back c.args.other is parts.ensures.front_len c.args.desk c.merge-then-desk-other.new.self c.if-desk-other.true in
-    rw (← c.self.view_is, desks) (subst (λ (ds : List DeskSeen). Replied s (on_text (merge c.args.desk c.args.text c.args.other)) (of_text (merge_reply c.merge-then-desk-other.result)) (record s { desks = ds })) set
+    rw (← c.self.view_is, desks) (subst (λ (ds : List DeskSeen). Replied s (merge c.args.desk c.args.text c.args.other) (merge_reply c.merge-then-desk-other.result) (record s { desks = ds })) set
     (replied_merge s c.args.desk d at c.args.text c.args.other other c.merge-then-desk-other.result c.merge-then-desk-other.new.self at_other merged))
 
 pub returns-else-desk-other : goal.returns-else-desk-other

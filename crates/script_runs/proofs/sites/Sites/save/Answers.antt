@@ -1,5 +1,4 @@
-use Rattle.machine.specs.Machine.{copy}
-use Rattle.machine.specs.Whole.{on_text}
+use Rattle.machine.specs.Events.{copy}
 use Rattle.script_runs.specs.Seen.{SitesSeen}
 use Rattle.script_runs.proofs.Standing.{desk_read, replied_edit}
 use Rattle.script_runs.proofs.sites.Sites.save.Goals as goal
@@ -10,4 +9,4 @@ returns c =
     let in_run = rw (← c.self.view_is) at c.requires.in_run in
     let at = desk_read s c.args.desk c.index_mut.result.now in_run c.index_mut.ensures.value in
     let asked = c.args.asked in
-    rw (← c.self.view_is) (replied_edit s c.args.desk c.index_mut.result.now at (λ i. on_text (copy i c.args.text asked.beg asked.end asked.other asked.pos)) c.save.result c.save.new.self c.save.new.outbox c.save.ensures)
+    rw (← c.self.view_is) (replied_edit s c.args.desk c.index_mut.result.now at (λ i. (copy i c.args.text asked.beg asked.end asked.other asked.pos)) c.save.result c.save.new.self c.save.new.outbox c.save.ensures)

@@ -1,5 +1,4 @@
-use Rattle.machine.specs.Machine.{settle, settles}
-use Rattle.machine.specs.Whole.{of_text, on_text}
+use Rattle.machine.specs.Events.{settle, settles}
 use Rattle.script_runs.specs.Seen.{SitesSeen}
 use Rattle.script_runs.proofs.Standing.{desk_read, replied}
 use Rattle.script_runs.proofs.sites.Sites.settle.Goals as goal
@@ -10,4 +9,4 @@ returns c =
     let in_run = rw (← c.self.view_is) at c.requires.in_run in
     let at = desk_read s c.args.desk c.index_mut.result.now in_run c.index_mut.ensures.value in
     let settled = c.settle.result in
-    rw (← c.self.view_is) (replied s c.args.desk c.index_mut.result.now at (λ i. on_text (settle i c.args.text)) (of_text (settles settled.drained settled.dropped settled.stopped)) c.settle.new.self c.settle.ensures)
+    rw (← c.self.view_is) (replied s c.args.desk c.index_mut.result.now at (λ i. (settle i c.args.text)) ((settles settled.drained settled.dropped settled.stopped)) c.settle.new.self c.settle.ensures)

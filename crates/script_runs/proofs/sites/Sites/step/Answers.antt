@@ -1,60 +1,110 @@
-use Rattle.std.proofs.Common.{◌≡◌, length, Ok, Err, ap, ◌∙◌}
-use Rattle.machine.specs.Machine.{copy, edit, merge, merge_reply, prints, query, refuses, settle, settles, take, take_reply}
-use Rattle.machine.specs.Whole.{of_text, on_text}
-use Rattle.script_events.specs.EventView.{delivery_of, edit_of, query_of}
+use Rattle.std.proofs.Common.{length, drop}
+use Rattle.machine.specs.Events.{arrange, ask, click, copy, edit, keep, merge, merge_reply, print, put, query, reopen, settle}
+use Rattle.machine.specs.Events.{settles, take, take_reply}
+use Rattle.commands.specs.Steps.{print_reply}
+use Rattle.script_events.specs.EventView.{delivery_of, edit_of}
+use Rattle.script_events.specs.Script.{plain_items}
+use Rattle.script_runs.specs.Replying.{reply_of}
 use Rattle.script_runs.specs.Seen.{SitesSeen}
-use Rattle.script_runs.proofs.Replying.{change_step, other_step}
+use Rattle.script_runs.proofs.Replying.{change_lines, change_step, other_step, stepped_over}
+use Rattle.script_runs.proofs.Standing.{desk_read, filed_same, filed_step, replied_same}
 use Rattle.script_runs.proofs.sites.Sites.step.Goals as goal
 
 pub returns-in-Edits : goal.returns-in-Edits
 returns-in-Edits g c =
-    let new = c.edit-outcome.new.self in
-    let step = change_step c.args.self.now new (on_text (edit c.in-Edits.desk c.in-Edits.text (edit_of c.in-Edits.edit))) c.edit-outcome.result c.edit-outcome.ensures in
-    let before : c.len-sent.result ≡ length c.args.self.now.sent = c.len-sent.ensures ∙ ap (λ (x : SitesSeen). length x.sent) c.self.view_is in
-    let behind : c.self-in-Edits.inside.outbox ≡ new.sent = ap (λ (x : SitesSeen). x.sent) c.self-in-Edits.view_is in
-    let written = rw (before, behind) at c.put_edit.ensures in
-    rw c.in-Edits.is (_, written, step)
+    let s = c.args.self.now in
+    let new = c.edit.new.self in
+    let asked = edit c.in-Edits.desk c.in-Edits.text (edit_of c.in-Edits.edit) in
+    rw c.in-Edits.is (stepped_over (g.S.Shelf.files c.args.shelf.now) s new asked (change_lines s c.edit.result new) (change_step s new asked c.edit.result c.edit.ensures))
 
 pub returns-in-Saves : goal.returns-in-Saves
 returns-in-Saves g c =
-    let new = c.save-outcome.new.self in
+    let s = c.args.self.now in
+    let new = c.save.new.self in
     let save = c.in-Saves.save in
-    let step = change_step c.args.self.now new (on_text (copy c.in-Saves.desk c.in-Saves.text save.beg save.end save.other save.pos)) c.save-outcome.result c.save-outcome.ensures in
-    let before : c.len-sent-in-Saves.result ≡ length c.args.self.now.sent = c.len-sent-in-Saves.ensures ∙ ap (λ (x : SitesSeen). length x.sent) c.self-in-Saves.view_is in
-    let behind : c.self-in-Saves-2.inside.outbox ≡ new.sent = ap (λ (x : SitesSeen). x.sent) c.self-in-Saves-2.view_is in
-    let written = rw (before, behind) at c.put_edit-in-Saves.ensures in
-    rw c.in-Saves.is (_, written, step)
+    let asked = copy c.in-Saves.desk c.in-Saves.text save.beg save.end save.other save.pos in
+    rw c.in-Saves.is (stepped_over (g.S.Shelf.files c.args.shelf.now) s new asked (change_lines s c.save.result new) (change_step s new asked c.save.result c.save.ensures))
 
-pub returns-in-Ok : goal.returns-in-Ok
-returns-in-Ok g c =
-    let asked = on_text (take c.in-Takes.desk c.in-Takes.text (delivery_of c.in-Takes.message)) in
-    rw c.in-Takes.is (_, c.put_took.ensures, other_step c.args.self.now c.take.new.self asked (of_text (take_reply (Ok c.in-Ok.took))) c.in-Ok.ensures)
-
-pub returns-in-Err : goal.returns-in-Err
-returns-in-Err g c =
-    let asked = on_text (take c.in-Takes.desk c.in-Takes.text (delivery_of c.in-Takes.message)) in
-    rw c.in-Takes.is (_, c.put_refused.ensures, other_step c.args.self.now c.take.new.self asked (of_text (take_reply (Err c.in-Err.why))) c.in-Err.ensures)
-
-pub returns-in-Ok-query : goal.returns-in-Ok-query
-returns-in-Ok-query g c =
+pub returns-in-Takes : goal.returns-in-Takes
+returns-in-Takes g c =
     let s = c.args.self.now in
-    let asked = on_text (query c.in-Queries.desk c.in-Queries.text (query_of c.in-Queries.query)) in
-    let written = rw c.deref.ensures.value at c.put.ensures in
-    rw c.in-Queries.is (c.in-Ok-query.lines.items, written, other_step s s asked (of_text (prints c.in-Ok-query.lines.items)) c.in-Ok-query.ensures)
-
-pub returns-in-Err-query : goal.returns-in-Err-query
-returns-in-Err-query g c =
-    let s = c.args.self.now in
-    let asked = on_text (query c.in-Queries.desk c.in-Queries.text (query_of c.in-Queries.query)) in
-    rw c.in-Queries.is (_, c.put_refused-in-Err-query.ensures, other_step s s asked (of_text (refuses c.in-Err-query.why)) c.in-Err-query.ensures)
+    let new = c.take.new.self in
+    let asked = take c.in-Takes.desk c.in-Takes.text (delivery_of c.in-Takes.message) in
+    rw c.in-Takes.is (stepped_over (g.S.Shelf.files c.args.shelf.now) s new asked _ (other_step s new asked (take_reply c.take.result) c.take.ensures))
 
 pub returns-in-Settles : goal.returns-in-Settles
 returns-in-Settles g c =
-    let settled = c.settle-settled.result in
-    let asked = on_text (settle c.in-Settles.desk c.in-Settles.text) in
-    rw c.in-Settles.is (_, c.put_settled.ensures, other_step c.args.self.now c.settle-settled.new.self asked (of_text (settles settled.drained settled.dropped settled.stopped)) c.settle-settled.ensures)
+    let s = c.args.self.now in
+    let new = c.settle.new.self in
+    let settled = c.settle.result in
+    let asked = settle c.in-Settles.desk c.in-Settles.text in
+    rw c.in-Settles.is (stepped_over (g.S.Shelf.files c.args.shelf.now) s new asked _ (other_step s new asked (settles settled.drained settled.dropped settled.stopped) c.settle.ensures))
 
 pub returns-in-Merges : goal.returns-in-Merges
 returns-in-Merges g c =
-    let asked = on_text (merge c.in-Merges.desk c.in-Merges.text c.in-Merges.other) in
-    rw c.in-Merges.is (_, c.put_merged.ensures (length c.args.self.now.sent), other_step c.args.self.now c.merge-outcome.new.self asked (of_text (merge_reply c.merge-outcome.result)) c.merge-outcome.ensures)
+    let s = c.args.self.now in
+    let new = c.merge.new.self in
+    let asked = merge c.in-Merges.desk c.in-Merges.text c.in-Merges.other in
+    rw c.in-Merges.is (stepped_over (g.S.Shelf.files c.args.shelf.now) s new asked _ (other_step s new asked (merge_reply c.merge.result) c.merge.ensures))
+
+pub returns-in-Queries : goal.returns-in-Queries
+returns-in-Queries g c =
+    let s : SitesSeen = record { first = c.self.inside.first; desks = c.self.inside.desks.items; sent = c.self.inside.outbox } in
+    let in_run = rw (c.in-Queries.is, ← c.self.view_is) at c.requires.in_run in
+    let at = desk_read s c.in-Queries.desk c.index.result.now in_run.0 c.index.ensures in
+    let reply = print_reply c.query.result (λ lines. lines.items) in
+    let replied_so = replied_same s c.in-Queries.desk c.index.result.now at (λ i. query i c.in-Queries.text c.in-Queries.query) reply c.query.ensures.step in
+    let asked = query c.in-Queries.desk c.in-Queries.text c.in-Queries.query in
+    rw (c.in-Queries.is, ← c.self.view_is) (stepped_over (g.S.Shelf.files c.args.shelf.now) s s asked _ (other_step s s asked reply replied_so))
+
+pub returns-in-Keeps : goal.returns-in-Keeps
+returns-in-Keeps g c =
+    let s : SitesSeen = record { first = c.self-in-Keeps.inside.first; desks = c.self-in-Keeps.inside.desks.items; sent = c.self-in-Keeps.inside.outbox } in
+    let in_run = rw (c.in-Keeps.is, ← c.self-in-Keeps.view_is) at c.requires.in_run in
+    let at = desk_read s c.in-Keeps.desk c.index-in-Keeps.result.now in_run.0 c.index-in-Keeps.ensures in
+    let step = filed_same s c.in-Keeps.desk c.index-in-Keeps.result.now at (λ i. ask i (keep c.in-Keeps.text c.in-Keeps.name.now)) c.keep.result
+    (g.S.Shelf.files c.args.shelf.now) (g.S.Shelf.files c.keep.new.shelf) (c.keep.ensures.step s.sent) in
+    rw (c.in-Keeps.is, ← c.self-in-Keeps.view_is) step
+
+pub returns-in-Reopens : goal.returns-in-Reopens
+returns-in-Reopens g c =
+    let s : SitesSeen = record { first = c.self-in-Reopens.inside.first; desks = c.self-in-Reopens.inside.desks.items; sent = c.self-in-Reopens.inside.outbox } in
+    let in_run = rw (c.in-Reopens.is, ← c.self-in-Reopens.view_is) at c.requires.in_run in
+    let at = desk_read s c.in-Reopens.desk c.index_mut.result.now in_run.0 c.index_mut.ensures.value in
+    let step = filed_step s c.in-Reopens.desk c.index_mut.result.now at (λ i. ask i (reopen c.in-Reopens.text c.in-Reopens.name.now)) c.reopen.result c.reopen.new.self s.sent
+    (g.S.Shelf.files c.args.shelf.now) (g.S.Shelf.files c.reopen.new.shelf) (c.reopen.ensures.step s.sent) in
+    rw (c.in-Reopens.is, ← c.self-in-Reopens.view_is) step
+
+pub returns-in-Arranges : goal.returns-in-Arranges
+returns-in-Arranges g c =
+    let s = c.args.self.now in
+    let new = c.arrange.new.self in
+    let behind = drop (length s.sent) new.sent in
+    let asked = ask c.in-Arranges.desk (arrange c.in-Arranges.arrangement) in
+    rw c.in-Arranges.is (stepped_over (g.S.Shelf.files c.args.shelf.now) s new asked _ (other_step s new asked (reply_of c.arrange.result behind) (c.arrange.ensures behind)))
+
+pub returns-in-Prints : goal.returns-in-Prints
+returns-in-Prints g c =
+    let s : SitesSeen = record { first = c.self-in-Prints.inside.first; desks = c.self-in-Prints.inside.desks.items; sent = c.self-in-Prints.inside.outbox } in
+    let in_run = rw (c.in-Prints.is, ← c.self-in-Prints.view_is) at c.requires.in_run in
+    let at = desk_read s c.in-Prints.desk c.index-in-Prints.result.now in_run c.index-in-Prints.ensures in
+    let reply = print_reply c.view.result (λ lines. lines.items) in
+    let replied_so = replied_same s c.in-Prints.desk c.index-in-Prints.result.now at (λ i. ask i (print c.in-Prints.view)) reply c.view.ensures.step in
+    let asked = ask c.in-Prints.desk (print c.in-Prints.view) in
+    rw (c.in-Prints.is, ← c.self-in-Prints.view_is) (stepped_over (g.S.Shelf.files c.args.shelf.now) s s asked _ (other_step s s asked reply replied_so))
+
+pub returns-in-Keys : goal.returns-in-Keys
+returns-in-Keys g c =
+    let s = c.args.self.now in
+    let new = c.key.new.self in
+    let asked = ask c.in-Keys.desk (put (plain_items c.in-Keys.bytes)) in
+    rw c.in-Keys.is (stepped_over (g.S.Shelf.files c.args.shelf.now) s new asked (change_lines s c.key.result new) (change_step s new asked c.key.result c.key.ensures))
+
+pub returns-in-Clicks : goal.returns-in-Clicks
+returns-in-Clicks g c =
+    let s : SitesSeen = record { first = c.self-in-Clicks.inside.first; desks = c.self-in-Clicks.inside.desks.items; sent = c.self-in-Clicks.inside.outbox } in
+    let in_run = rw (c.in-Clicks.is, ← c.self-in-Clicks.view_is) at c.requires.in_run in
+    let at = desk_read s c.in-Clicks.desk c.index_mut-in-Clicks.result.now in_run c.index_mut-in-Clicks.ensures.value in
+    let step = filed_step s c.in-Clicks.desk c.index_mut-in-Clicks.result.now at (λ i. click i c.in-Clicks.cell.col c.in-Clicks.cell.row) c.click-outcome.result c.click-outcome.new.self c.click-outcome.new.outbox
+    (g.S.Shelf.files c.args.shelf.now) (g.S.Shelf.files c.click-outcome.new.shelf) c.click-outcome.ensures.step in
+    rw (c.in-Clicks.is, ← c.self-in-Clicks.view_is) step

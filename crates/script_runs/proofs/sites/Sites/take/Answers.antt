@@ -1,5 +1,5 @@
 use Rattle.std.proofs.Common.{◌≡◌, ◌++◌, ℕ, List, refl, ap, ◌∙◌}
-use Rattle.machine.specs.Machine.{bytes}
+use Rattle.machine.specs.Events.{bytes}
 use Rattle.script_runs.specs.Seen.{SitesSeen}
 use Rattle.script_runs.proofs.Standing.{desk_read, replied_take}
 use Rattle.script_runs.proofs.sites.Sites.take.Goals as goal

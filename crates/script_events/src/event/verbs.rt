@@ -1,0 +1,116 @@
+//! The table of verbs.
+
+ghost use Rattle.std.specs.Prelude.{◌≡◌, map};
+ghost use Rattle.script_events.specs.Script.{verb_among, verb_in};
+
+use machine::{Query, View};
+
+// A verb, by what stands behind it.
+#[derive(Clone, Copy, Debug)]
+pub(crate) enum Verb {
+    // A text, which ends the line and is printed.
+    Queries(Query),
+    // A text, which ends the line.
+    Short(ShortVerb),
+    // A text, and what an edit of it goes on with.
+    Edit(EditVerb),
+    // A text, and what else is asked of it.
+    Long(LongVerb),
+    // What an arrangement of the desk's screen goes on with.
+    Arrange(ArrangeVerb),
+    // What else is asked of the desk.
+    Desk(DeskVerb),
+    // Nothing: the desk's screen is printed.
+    Prints(View),
+}
+
+#[derive(Clone, Copy, Debug)]
+pub(crate) enum ShortVerb {
+    Restore,
+    Settle,
+}
+
+#[derive(Clone, Copy, Debug)]
+pub(crate) enum EditVerb {
+    TypeIn,
+    Cut,
+    Looks,
+    Recall,
+}
+
+#[derive(Clone, Copy, Debug)]
+pub(crate) enum LongVerb {
+    Save,
+    Take,
+    Merge,
+    Where,
+}
+
+#[derive(Clone, Copy, Debug)]
+pub(crate) enum ArrangeVerb {
+    Open,
+    Close,
+    Move,
+    Scroll,
+    Point,
+    Select,
+}
+
+#[derive(Clone, Copy, Debug)]
+pub(crate) enum DeskVerb {
+    Keep,
+    Reopen,
+    Key,
+    Click,
+}
+
+// The verbs: a row for each.
+const VERBS: [(&[u8], Verb); 26] = [
+    (b"type", Verb::Edit(EditVerb::TypeIn)),
+    (b"cut", Verb::Edit(EditVerb::Cut)),
+    (b"looks", Verb::Edit(EditVerb::Looks)),
+    (b"recall", Verb::Edit(EditVerb::Recall)),
+    (b"restore", Verb::Short(ShortVerb::Restore)),
+    (b"save", Verb::Long(LongVerb::Save)),
+    (b"take", Verb::Long(LongVerb::Take)),
+    (b"settle", Verb::Short(ShortVerb::Settle)),
+    (b"merge", Verb::Long(LongVerb::Merge)),
+    (b"text", Verb::Queries(Query::Text)),
+    (b"front", Verb::Queries(Query::Front)),
+    (b"runs", Verb::Queries(Query::Runs)),
+    (b"where", Verb::Long(LongVerb::Where)),
+    (b"keep", Verb::Desk(DeskVerb::Keep)),
+    (b"reopen", Verb::Desk(DeskVerb::Reopen)),
+    (b"open", Verb::Arrange(ArrangeVerb::Open)),
+    (b"close", Verb::Arrange(ArrangeVerb::Close)),
+    (b"move", Verb::Arrange(ArrangeVerb::Move)),
+    (b"scroll", Verb::Arrange(ArrangeVerb::Scroll)),
+    (b"point", Verb::Arrange(ArrangeVerb::Point)),
+    (b"select", Verb::Arrange(ArrangeVerb::Select)),
+    (b"key", Verb::Desk(DeskVerb::Key)),
+    (b"click", Verb::Desk(DeskVerb::Click)),
+    (b"views", Verb::Prints(View::Views)),
+    (b"marks", Verb::Prints(View::Marks)),
+    (b"show", Verb::Prints(View::Show)),
+];
+
+// The verb of a word, among these rows.
+fn verb_among(rows: &[(&[u8], Verb)], word: &[u8]) -> Option<Verb>
+    ensures { result ≡ verb_among (map (λ row. (row.0.now, row.1)) rows.now) word.now }
+{
+    for (spelled, verb) in rows {
+        if *spelled == word {
+            return Some(*verb);
+        }
+    }
+    None
+}
+
+impl Verb {
+    // The verb of this word.
+    pub(crate) fn named(word: &[u8]) -> Option<Verb>
+        ensures { result ≡ verb_in word.now }
+    {
+        verb_among(&VERBS, word)
+    }
+}
