@@ -11,12 +11,15 @@ import sys
 from collections.abc import Callable
 
 from share import link as links
-from share import opening, printing
+from share import opening, printing, serving
 from share.controls import shown
 from share.disk import Unkept
 from share.editor import edit
+from share.engine_note import EngineNote
 from share.link import Link
-from share.note import Note
+from share.measured import swapped
+from share.scripts import VERBS as SCRIPTS
+from share.scripts import Scripts
 from share.session import Bar, Session
 from share.words import Refused, Trouble, counted
 
@@ -25,17 +28,31 @@ Opens a shared note in the terminal. Whoever has opened the same note edits it a
 
   bin/note NAME                   opens a note; one that isn't here is made, or joined by its link
   bin/note NAME --print           prints it
+  bin/note web NAME               opens it in the browser, or prints the file that a browser opens it by
+  bin/note engine NAME            speaks JSON, for editors; docs/ENGINE.md has the protocol
   bin/note link NAME              prints the link by which others join it
   bin/note renew NAME             copies it into a new note with a new key, which those who have the old link
                                   can't read
   bin/note recover FOLDER ..      brings notes back from what is left of people's data folders
   bin/note open NAME              opens a note that has the name of one of these
 
+for scripts, each with --help:
+  bin/note cat NAME               prints its text
+  bin/note append NAME [TEXT]     types at its end
+  bin/note replace NAME OLD NEW   replaces what stands in it
+  bin/note import NAME FILE       makes a file's text the note's
+  bin/note export NAME FILE       writes its text as a file, or as HTML
+  bin/note history NAME [--at N]  its text as it was
+  bin/note log NAME               what was done, and by which site
+  bin/note list                   the notes that are here
+
 keys:
   arrows, Home, End, PgUp, PgDn   move; Ctrl-Left, Ctrl-Right by words
   Backspace, Delete               delete
-  Ctrl-Z                          take back your own last edit, and nobody else's; again, the one before it
+  Ctrl-Z, Ctrl-Y                  take back your own last edit, and nobody else's; again, the one before it; do it again
+  Ctrl-Space                      begin to select; Ctrl-X cuts, Alt-W copies, Ctrl-V puts what was cut or copied
   Ctrl-F                          find; without words, what was looked for last
+  Ctrl-R, Ctrl-L                  replace; go to a line
   Ctrl-S                          save as a file
   Ctrl-Q                          quit
 """
@@ -48,13 +65,16 @@ nobody else reads it.
 
 A link is read from VIALSHOAL_LINK, from the file that --link-file names, or asked for; a server's password from
 VIALSHOAL_PASSWORD or the file that --password-file names. A server needs Debian's python3-nacl.
-VIALSHOAL_PROGRAM names another program than bin/built.
+VIALSHOAL_NAME is what others see at your cursor, without it your account's name. VIALSHOAL_PROGRAM names another
+program than bin/built.
 
 Ends with 0; with 2 and a sentence where the note couldn't be opened; --print with 3 where something is missing
 in what it printed, which standard error says. docs/SHARING.md says more.
 """
-VERBS = ("open", "link", "renew", "recover")
+VERBS = ("open", "web", "engine", "link", "renew", "recover")
 INCOMPLETE = 3
+# By which a page's editors come to the note's engine.
+ENGINE = [str(pathlib.Path(__file__).resolve().parents[1] / "bin" / "note")]
 
 
 def words() -> argparse.Namespace:
@@ -65,6 +85,8 @@ def words() -> argparse.Namespace:
                         help="letters, digits, dots, hyphens and underscores")
     parser.add_argument("--log", metavar="URL", help="where the note's log is; without it, where it was last")
     parser.add_argument("--print", action="store_true", dest="prints", help="print the note and end")
+    parser.add_argument("--no-browser", action="store_false", dest="browses",
+                        help="web: only print the file that a browser opens the note by")
     parser.add_argument("--link-file", metavar="FILE", help="a file that has the note's link")
     parser.add_argument("--password-file", metavar="FILE", help="a file that has the server's password")
     given = parser.parse_args()
@@ -77,7 +99,7 @@ def words() -> argparse.Namespace:
 def _verb(names: list[str]) -> tuple[str, list[str]]:
     if names[0] in VERBS and len(names) > 1:
         return names[0], names[1:]
-    if names[0] in VERBS:
+    if names[0] in VERBS + SCRIPTS:
         raise Trouble(f"{names[0]} needs the name of a note; a note of this name is opened by bin/note open "
                       f"{names[0]}.")
     return "open", names
@@ -108,25 +130,45 @@ def link_of(given: argparse.Namespace, name: str) -> Link | None:
     return links.read(spelled) if spelled.strip() else None
 
 
+def opener(given: argparse.Namespace, name: str, link: Link | None) -> Callable[[Bar, Callable[[], None]], Session]:
+    """Opens the note that the command line names; what was left out of it is told."""
+    url = links.url_of(given.log) if given.log else None
+    password = secret(given.password_file, "VIALSHOAL_PASSWORD")
+
+    def opened(bar: Bar, wake: Callable[[], None]) -> Session:
+        told: list[str] = []
+        session = Session(opening.opened(name, url, link, password, told.append), password, bar, wake)
+        for left_out in told:
+            session.tell(left_out)
+        return session
+
+    return opened
+
+
+def opener_by_link(given: argparse.Namespace, name: str) -> Callable[[Bar, Callable[[], None]], Session]:
+    """The same, where nobody can be asked for a link."""
+    spelled = secret(given.link_file, "VIALSHOAL_LINK")
+    return opener(given, name, links.read(spelled) if spelled else None)
+
+
+def own_name() -> str:
+    """What others see at this person's cursor."""
+    with contextlib.suppress(KeyError, OSError):
+        return os.environ.get("VIALSHOAL_NAME") or getpass.getuser()
+    return ""
+
+
 def on_screen(given: argparse.Namespace, name: str) -> None:
     """Edits the note in the terminal, and says what is left to be sent."""
     opening.path_of(name)
     if not (sys.stdin.isatty() and sys.stdout.isatty()):
         raise Trouble("The editor needs a terminal. To print a note: bin/note NAME --print.")
-    url = links.url_of(given.log) if given.log else None
-    password = secret(given.password_file, "VIALSHOAL_PASSWORD")
     link = link_of(given, name)
+    serving.agree(name, links.url_of(given.log) if given.log else None, link)
+    line = serving.connected_or_started(name, opener(given, name, link))
     os.environ.setdefault("ESCDELAY", "25")
-
-    def open_note(bar: Bar, wake: Callable[[], None]) -> Note:
-        told: list[str] = []
-        session = Session(opening.opened(name, url, link, password, told.append), password, bar, wake)
-        for left_out in told:
-            session.tell(left_out)
-        return Note(session)
-
     try:
-        note = curses.wrapper(edit, name, open_note)
+        note = curses.wrapper(edit, name, lambda bar, wake: EngineNote(line, bar, wake, own_name()))
     except curses.error as why:
         raise Trouble(f"The terminal can't be used ({why}). TERM has to name one that this system "
                       "knows.") from why
@@ -135,13 +177,36 @@ def on_screen(given: argparse.Namespace, name: str) -> None:
               "its log can be reached.")
 
 
+def for_editors(given: argparse.Namespace, name: str) -> None:
+    """Hands lines on between an editor and the note's engine, which is started where it isn't there."""
+    spelled = secret(given.link_file, "VIALSHOAL_LINK")
+    serving.agree(name, links.url_of(given.log) if given.log else None, links.read(spelled) if spelled else None)
+    serving.relayed(name, opener_by_link(given, name))
+
+
+def on_page(given: argparse.Namespace, name: str) -> None:
+    """Opens the note in the browser, by engines of its own account."""
+    try:
+        from share.web import opening as pages
+    except ModuleNotFoundError as why:
+        raise Trouble(f"The page needs Debian's python3-aiohttp ({why}).") from why
+    opening.path_of(name)
+    link = link_of(given, name)
+    serving.agree(name, links.url_of(given.log) if given.log else None, link)
+    if link:
+        os.environ["VIALSHOAL_LINK"] = link.spelled()
+    words = [("--log", given.log), ("--password-file", given.password_file)]
+    command = [*ENGINE, "engine", name, *(word for pair in words if pair[1] for word in pair)]
+    pages.on_page(name, command, own_name(), given.browses)
+
+
 def printed(given: argparse.Namespace, name: str) -> int:
     """Prints the note, and what is missing in it on standard error."""
     url = links.url_of(given.log) if given.log else None
     spelled = secret(given.link_file, "VIALSHOAL_LINK")
     found = printing.printed(name, url, links.read(spelled) if spelled else None,
                              secret(given.password_file, "VIALSHOAL_PASSWORD"))
-    text = found.text.replace(b"\r", b"\n")
+    text = swapped(found.text)
     if sys.stdout.isatty():
         # A terminal does what control characters say, whoever typed them.
         lines = text.decode("utf-8", "surrogateescape").split("\n")
@@ -174,6 +239,10 @@ def done(given: argparse.Namespace) -> int:
     (name,) = given.names
     if given.verb == "link":
         print(opening.link_of(name))
+    elif given.verb == "engine":
+        for_editors(given, name)
+    elif given.verb == "web":
+        on_page(given, name)
     elif given.verb == "renew":
         return renewed(given, name)
     elif given.prints:
@@ -198,6 +267,10 @@ def main() -> int:
     for number in signal.SIGHUP, signal.SIGTERM:
         signal.signal(number, lambda *_: sys.exit(0))
     try:
+        if sys.stdout is None:
+            raise Trouble("Standard output is closed.")
+        if len(sys.argv) > 2 and sys.argv[1] in SCRIPTS or sys.argv[1:] in (["list"], ["list", "--json"]):
+            return Scripts(opener_by_link, secret).run(sys.argv[1:])
         return done(words())
     except (Trouble, Refused, Unkept) as why:
         print(f"note: {shown(str(why))}", file=sys.stderr)

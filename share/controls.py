@@ -59,6 +59,13 @@ class Key(Enum):
     DELETE = auto()
     ESCAPE = auto()
     UNDO = auto()
+    REDO = auto()
+    REPLACE = auto()
+    LINE = auto()
+    MARK = auto()
+    CUT = auto()
+    COPY = auto()
+    PUT = auto()
     FIND = auto()
     SAVE = auto()
     QUIT = auto()
@@ -79,12 +86,14 @@ class Pasted:
 Event = Key | Pasted | str
 
 _CONTROLS = {"\r": Key.ENTER, "\n": Key.ENTER, "\b": Key.BACKSPACE, "\x7f": Key.BACKSPACE, "\x1a": Key.UNDO,
+             "\x19": Key.REDO, "\x12": Key.REPLACE, "\x0c": Key.LINE, "\0": Key.MARK, "\x18": Key.CUT,
+             "\x16": Key.PUT,
              "\x06": Key.FIND, "\x13": Key.SAVE, "\x11": Key.QUIT, "\x03": Key.ESCAPE, "\x07": Key.ESCAPE}
 # By the last letter of a sequence, and by the number of one that ends in ~.
 _LETTERS = {"A": Key.UP, "B": Key.DOWN, "C": Key.RIGHT, "D": Key.LEFT, "H": Key.HOME, "F": Key.END}
 _NUMBERS = {1: Key.HOME, 3: Key.DELETE, 4: Key.END, 5: Key.PAGE_UP, 6: Key.PAGE_DOWN, 7: Key.HOME, 8: Key.END}
 _BY_WORDS = {Key.LEFT: Key.WORD_LEFT, Key.RIGHT: Key.WORD_RIGHT}
-_ALT = {"b": Key.WORD_LEFT, "f": Key.WORD_RIGHT, "\x11": Key.QUIT, "\x13": Key.SAVE}
+_ALT: dict[str, Key] = {"w": Key.COPY, "b": Key.WORD_LEFT, "f": Key.WORD_RIGHT, "\x11": Key.QUIT, "\x13": Key.SAVE}
 # The keys of a number pad that is switched to sequences.
 _PAD: dict[str, Event] = {"M": Key.ENTER, "X": "=", **dict(zip("jklmnopqrstuvwxy", "*+,-./0123456789"))}
 _SHIFT = 1

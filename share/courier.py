@@ -28,6 +28,8 @@ ASK_SECONDS, MOST_ASK_SECONDS = 2, 600
 ANSWER_SECONDS = 3
 # So many things wait to be told to the user at most.
 MOST_TOLD = 100
+# What editors show of themselves is told to others, and theirs heard, so often: while others are on, and while none is.
+SHOW_SECONDS, ALONE_SECONDS = 0.2, 1.0
 # What an editor says of itself: which one it is, and how often it has asked the others for what is missing.
 PRESENCE = struct.Struct(">16sI")
 
@@ -78,6 +80,10 @@ class Courier:
         self._token, self._asks, self._asked = secrets.token_bytes(16), 0, 0.0
         self._heard: dict[bytes, int] = {}
         self._is_asked, self._answers_again = False, 0.0
+        # What is shown of the editors here, by their tokens; and what was heard of others.
+        self._shows: dict[bytes, bytes] = {}
+        self._shown: list[bytes] = []
+        self._has_news = threading.Event()
         # Why a thread is without the log, by its part.
         self._offline: dict[str, str] = {}
         self._stopped, self._work = threading.Event(), threading.Event()
@@ -85,6 +91,25 @@ class Courier:
         self._threads = [threading.Thread(target=self._go_on, args=(part,), daemon=True) for part in parts]
         for thread in self._threads:
             thread.start()
+
+    @property
+    def token(self) -> bytes:
+        """What tells this one from the others that are on."""
+        return self._token
+
+    def show(self, shows: dict[bytes, bytes]) -> None:
+        """Has others hear what the editors here show of themselves, each under a token of its own, and hears theirs."""
+        if self._has_log and not any(thread.name == self._show.__name__ for thread in self._threads):
+            thread = threading.Thread(target=self._go_on, args=(self._show,), daemon=True, name=self._show.__name__)
+            self._threads.append(thread)
+            thread.start()
+        if shows != self._shows:
+            self._shows = shows
+            self._has_news.set()
+
+    def shown(self) -> list[bytes]:
+        """What others show of themselves."""
+        return self._shown
 
     def made(self) -> None:
         """Says that the file has more."""
@@ -136,6 +161,7 @@ class Courier:
             time.sleep(0.01)
         self._stopped.set()
         self._work.set()
+        self._has_news.set()
         for thread in self._threads:
             thread.join(2 * TURN_SECONDS)
 
@@ -209,7 +235,7 @@ class Courier:
                 self._pending |= {one.place: one for one in found if not self._carrying.has(one.hash)}
                 own = {one.author.name for one in disk.clients()}
                 self._shared |= {one.author for one in found
-                                 if not one.made and one.kind is Kind.MESSAGES and one.author in own}
+                                 if not one.made and one.kind is not Kind.CLAIM and one.author in own}
 
     def _lacks(self) -> list[Place]:
         """What the log is to be given. Where somebody else writes under a number of this person, nothing more is
@@ -246,6 +272,38 @@ class Courier:
             self._carrying.anew = True
         self._heard = heard
         self._is_on(len(heard))
+
+    def _show(self) -> None:
+        """Tells others what the editors here show, and hears what theirs do."""
+        with closing(self._open_log()) as log:
+            # Nothing hangs on it, so that it needn't be on the log's disk.
+            log.quick()
+            # When each token was said last, and what.
+            said: dict[bytes, tuple[float, bytes]] = {}
+            while not self._stopped.is_set():
+                self._works(self._show)
+                self._has_news.clear()
+                shows = self._shows
+                for token in said.keys() - shows.keys():
+                    log.leave(token)
+                    del said[token]
+                news = [token for token in shows if token not in said or said[token][1] != shows[token]]
+                # What is as it was is said again in turn, so that it doesn't end, and others are heard.
+                for token in news or sorted(shows, key=lambda token: said[token][0])[:1]:
+                    self._hear(log.meet(token, self._form.presence(shows[token])))
+                    said[token] = time.monotonic(), shows[token]
+                self._stopped.wait(SHOW_SECONDS)
+                if self.on <= 1:
+                    self._has_news.wait(ALONE_SECONDS)
+            for token in said:
+                log.leave(token)
+
+    def _hear(self, said: list[bytes]) -> None:
+        shown = [found for raw in said if (found := self._form.present(raw)) and len(found) > PRESENCE.size
+                 and not found.startswith(self._token)]
+        if sorted(shown) != sorted(self._shown):
+            self._shown = shown
+            self._wake()
 
     def _is_on(self, many: int) -> None:
         if many != self.on:

@@ -16,7 +16,7 @@ from collections.abc import Iterable, Iterator, Sequence
 from dataclasses import dataclass, replace
 from typing import NamedTuple
 
-from share.entry import HEAD, MOST_AUTHOR_BYTES, NOTE_BYTES, Author, Entry, Form, Kind, Plain, body_of, digest
+from share.entry import HEAD, MOST_AUTHOR_BYTES, NOTE_BYTES, Author, Entry, Form, Kind, Plain, digest
 from share.words import Trouble
 
 # Tells a note's file from other files of SQLite, in its header.
@@ -457,7 +457,7 @@ def held(folder: pathlib.Path) -> Iterator[int]:
 
 
 def _values_of(entry: Entry, made: bool, offered: bool, about: About) -> tuple[object, ...]:
-    body = body_of(entry.messages) if about.sealed else None
+    body = entry.body if about.sealed else None
     return entry.hash, entry.raw, body, zlib.crc32(body or b""), made, offered
 
 

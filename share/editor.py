@@ -9,7 +9,7 @@ import sys
 import threading
 import time
 from collections import deque
-from collections.abc import Callable, Iterator
+from collections.abc import Callable, Iterator, Sequence
 from concurrent.futures import Future, wait
 from contextlib import contextmanager, suppress
 from dataclasses import dataclass
@@ -20,6 +20,7 @@ from share import saving
 from share.controls import PASTES_OFF, PASTES_ON, Event, Key, Keyboard, Pasted, shown
 from share.layout import (Layout, Row, cluster_after, cluster_before, clusters, rows_of, word_after,
                           word_before)
+from share.engine_note import EngineNote
 from share.note import LINE_END, Note
 from share.session import Status
 from share.words import Refused, Trouble, counted
@@ -35,7 +36,7 @@ QUICK_SECONDS, SLOW_SECONDS = 0.05, 1.0
 LEAVE_SECONDS = 3.5
 # What is typed at once into a note that has just been opened waits so long for its number.
 NUMBER_SECONDS = 1.0
-HELP = "^Z undo  ^F find  ^S save  ^Q quit"
+HELP = "^Z undo  ^Y redo  ^F find  ^S save  ^Q quit"
 CANT_TYPE = "You can't type yet: this editor has no number of its own, which it gets once the log answers."
 NOT_CLOSED = "The note was left before it was closed, since it didn't answer."
 BAR = 30
@@ -43,7 +44,8 @@ BAR = 30
 Result = TypeVar("Result")
 # How much is done of all.
 Bar = Callable[[int, int], None]
-OpenNote = Callable[[Bar, Callable[[], None]], Note]
+AnyNote = Note | EngineNote
+OpenNote = Callable[[Bar, Callable[[], None]], AnyNote]
 
 
 class Left(Exception):
@@ -188,6 +190,13 @@ class Screen:
             self.window.clrtoeol()
             self.window.addstr(line, 0, words, look)
 
+    def _mark(self, line: int, row: Row, begin: int, end: int) -> None:
+        """Shows a stretch reversed, as far as it is in a row; of its end at least a cell."""
+        if begin <= row.end and end > row.begin:
+            first, last = row.column(max(begin, row.begin)), row.column(min(end, row.end))
+            with suppress(curses.error):
+                self.window.chgat(line, min(first, self.width), max(1, last - first), curses.A_REVERSE)
+
     def say(self, left: str, right: str = "") -> tuple[int, int]:
         """Draws the status line, with more to the right where there is room, and gives the place after what is
         said. Long words take lines of the text, too."""
@@ -200,15 +209,19 @@ class Screen:
             self.put(line, f" {words}{end.rjust(room)}", curses.A_REVERSE)
         return self.height, 1 + size
 
-    def draw(self, rows: list[Row], cursor: int, words: tuple[str, str], asks: bool = False) -> None:
-        """Draws rows of a text, the status line, and the cursor at its place; after a question, where one is
-        asked."""
+    def draw(self, rows: list[Row], cursor: int, words: tuple[str, str], asks: bool = False,
+             others: Sequence[int] = (), selected: tuple[int, int] | None = None) -> None:
+        """Draws rows of a text with others' cursors and what is selected, the status line, and the cursor at its place;
+        after a question, where one is asked."""
         at = 0, 0
         for line in range(self.height):
             row = rows[line] if line < len(rows) else None
             self.put(line, "".join(cell for _, cell, _ in row.cells) if row else "")
             if row and row.begin <= cursor <= row.end:
                 at = line, row.column(cursor)
+            if row:
+                for begin, end in [*((place, place + 1) for place in others), *([selected] if selected else [])]:
+                    self._mark(line, row, begin, end)
         said = self.say(*words)
         line, column = said if asks else at
         with suppress(curses.error):
@@ -229,6 +242,15 @@ class View:
     text: bytes
     cursor: int
     top: int
+    # Where others' cursors are, and whose; and the other end of what is selected.
+    others: list[tuple[int, str]]
+    anchor: int | None
+
+    def selected(self) -> tuple[int, int] | None:
+        """The stretch that is selected."""
+        if self.anchor is None or self.anchor == self.cursor:
+            return None
+        return min(self.anchor, self.cursor), max(self.anchor, self.cursor)
 
 
 @dataclass
@@ -244,7 +266,7 @@ class Prompt:
 class Editor:
     """Keys change the note, and the screen shows it."""
 
-    def __init__(self, screen: Screen, name: str, note: Note, status: Status, thread: Worker):
+    def __init__(self, screen: Screen, name: str, note: AnyNote, status: Status, thread: Worker):
         self.screen, self.name, self.note = screen, name, note
         # What ended the editing: the text can be moved in and saved then, and no more.
         self.failure: BaseException | None = None
@@ -253,6 +275,8 @@ class Editor:
         # How long there has been no answer; where the user quits then, since when.
         self._silent, self._silent_since = 0.0, 0.0
         self._searched, self._notice, self._noticed_at = "", "", 0.0
+        # What was cut or copied last.
+        self._kept = ""
         self._column: int | None = None
         self._prompt: Prompt | None = None
         # Keys that were pressed while the note didn't answer.
@@ -265,6 +289,9 @@ class Editor:
             Key.PAGE_UP: lambda: self._pages(-1), Key.PAGE_DOWN: lambda: self._pages(1),
             Key.HOME: self._home, Key.END: self._end, Key.ENTER: lambda: self._type("\r"),
             Key.BACKSPACE: self._backspace, Key.DELETE: self._delete, Key.UNDO: self._take_back,
+            Key.REDO: self._do_again, Key.REPLACE: lambda: self._ask("Replace", "", self._replace, saves=False),
+            Key.LINE: lambda: self._ask("Go to line", "", self._go_to_line, saves=False),
+            Key.MARK: self._mark, Key.ESCAPE: self._unmark, Key.CUT: self._cut, Key.COPY: self._copy, Key.PUT: self._put,
             Key.FIND: lambda: self._ask("Find", "", self._find, saves=False),
             Key.SAVE: lambda: self._ask("Save as", f"{self.name}.txt", self._save, saves=True),
             Key.QUIT: self._quit, Key.OTHER: lambda: self._say(HELP),
@@ -379,7 +406,8 @@ class Editor:
 
     def _is_early(self, key: Event) -> bool:
         """Whether a key waits for the number of a note that has just been opened."""
-        moves = key in self._commands and key not in (Key.ENTER, Key.BACKSPACE, Key.DELETE, Key.UNDO)
+        moves = key in self._commands and key not in (Key.ENTER, Key.BACKSPACE, Key.DELETE, Key.UNDO, Key.REDO,
+                                                            Key.CUT, Key.PUT)
         return not (moves or self._prompt or self.failure or self._status.can_type) \
             and time.monotonic() < self._opened + NUMBER_SECONDS
 
@@ -413,19 +441,67 @@ class Editor:
         elif pasted.dropped:
             self._say(f"Pasted without {counted(pasted.dropped, 'control character')}.")
 
+    def _mark(self) -> None:
+        """Begins to select at the cursor, or ends that."""
+        self.note.anchor = self.note.cursor if self.note.anchor is None else None
+        self._see()
+
+    def _unmark(self) -> None:
+        self.note.anchor = None
+        self._see()
+
+    def _copy(self) -> None:
+        """Keeps what is selected, to be put elsewhere."""
+        if stretch := self._view.selected():
+            self._kept = self._view.text[slice(*stretch)].decode("utf-8", "ignore")
+        self._unmark()
+
+    def _cut(self) -> None:
+        if stretch := self._view.selected():
+            begin, end = stretch
+            self._copy()
+            self._edit(lambda: self.note.erase(begin, end))
+
+    def _put(self) -> None:
+        if self._kept:
+            self._paste(Pasted(self._kept))
+
     def _backspace(self) -> None:
         end = self._view.cursor
-        begin = cluster_before(self._view.text, end)
+        begin, end = self._view.selected() or (cluster_before(self._view.text, end), end)
         self._edit(lambda: self.note.erase(begin, end))
 
     def _delete(self) -> None:
         begin = self._view.cursor
-        end = cluster_after(self._view.text, begin)
+        begin, end = self._view.selected() or (begin, cluster_after(self._view.text, begin))
         self._edit(lambda: self.note.erase(begin, end))
 
     def _take_back(self) -> None:
         if self._edit(self.note.take_back) is False:
             self._say("You have made no edit since the note was opened that could be taken back.")
+
+    def _do_again(self) -> None:
+        if self._edit(self.note.do_again) is False:
+            self._say("You have taken nothing back that could be done again.")
+
+    def _replace(self, old: str) -> None:
+        if old:
+            self._ask(f"Replace {old} by", "", lambda new: self._replace_by(old, new), saves=False)
+
+    def _replace_by(self, old: str, new: str) -> None:
+        """Puts words in the place of others, as one edit."""
+        many = self._edit(lambda: self.note.replace(old, new))
+        if many is not None:
+            self._say(f"Replaced {counted(many, 'time')}." if many else f"{old!r} isn't in the note.")
+
+    def _go_to_line(self, number: str) -> None:
+        """Goes to the begin of a line, which are counted from 1."""
+        if not number.isdecimal():
+            return
+        place, text = 0, self._view.text
+        for _ in range(min(int(number), text.count(LINE_END) + 1) - 1):
+            place = text.index(LINE_END, place) + 1
+        self._go_to(place)
 
     def _go_to(self, position: int) -> None:
         self.note.moved_to(position)
@@ -545,7 +621,8 @@ class Editor:
 
     def _see(self) -> None:
         """Takes over what the note is now."""
-        self._view = View(bytes(self.note.text), self.note.cursor, self.note.top)
+        self._view = View(bytes(self.note.text), self.note.cursor, self.note.top, self.note.others(),
+                          self.note.anchor)
         self._layout = Layout(self._view.text, self.screen.width)
 
     def _draw(self, words: str = "") -> None:
@@ -557,7 +634,9 @@ class Editor:
             self._stop(why)
             rows = []
         said = (words, "") if words else self._words()
-        self.screen.draw(rows, self._view.cursor, said, bool(self._prompt and not words))
+        others = [place for place, _ in self._view.others]
+        self.screen.draw(rows, self._view.cursor, said, bool(self._prompt and not words), others,
+                         self._view.selected())
 
     def _words(self) -> tuple[str, str]:
         """What the status line says."""
@@ -604,10 +683,10 @@ class Editor:
         return rows
 
 
-def opened(screen: Screen, name: str, open_note: OpenNote, thread: Worker) -> tuple[Note, Status]:
+def opened(screen: Screen, name: str, open_note: OpenNote, thread: Worker) -> tuple[AnyNote, Status]:
     """A note that is opened in a thread, with a bar. What is typed meanwhile is for the note."""
 
-    def work() -> tuple[Note, Status]:
+    def work() -> tuple[AnyNote, Status]:
         note = open_note(screen.progressed, screen.wake)
         return note, note.session.status()
 
@@ -624,7 +703,7 @@ def opened(screen: Screen, name: str, open_note: OpenNote, thread: Worker) -> tu
     return opening.result()
 
 
-def edit(window: "curses.window", name: str, open_note: OpenNote) -> Note:
+def edit(window: "curses.window", name: str, open_note: OpenNote) -> AnyNote:
     """Opens a note with a bar, and edits it on a window. All that the note does is done in one thread, which
     isn't this one. Raises Trouble at the end where the note ended the editing."""
     screen, thread = Screen(window), Worker()

@@ -4,7 +4,7 @@ messages of a site that follow one another.
 All numbers are big-endian. An entry has this head:
 
     form      1      1 plain, 2 sealed
-    kind      1      1 a claim, 2 messages
+    kind      1      1 a claim, 2 messages, 3 messages that say what they build on
     note      16     the note's identity
     site      2      1 to 65,528
     first     4      the seq of its first message; 0 in a claim
@@ -12,9 +12,15 @@ All numbers are big-endian. An entry has this head:
     before    32     the hash of this site's entry before it; zeros in a claim
     author    16/32  who claims or writes: 128 random bits where plain, an Ed25519 public key where sealed
 
-Then the messages, each behind its length in two bytes: as they are, where the form is plain, with a digest of
-all before it; else sealed, with the head as what is authenticated beside them, and signed.
+Then, in kind 3, 32 bytes that say what the messages build on, and the messages, each behind its length in two
+bytes: as they are, where the form is plain, with a digest of all before it; else sealed, with the head as what is
+authenticated beside them, and signed.
 The hash of an entry is that of all its bytes. So the entries of a site make a chain that begins with its claim.
+
+What messages build on is said where they mention characters of other sites: of each of these sites, in the order of
+their numbers, the entry in which the last mentioned one of its characters was inserted; 32 bytes are the hash of
+these entries' hashes. Names alone don't say it, since two copies of one number give theirs the same ones. Entries of
+kind 2 that mention characters of other sites were made before there was kind 3.
 """
 import hashlib
 import secrets
@@ -46,6 +52,7 @@ class Kind(IntEnum):
 
     CLAIM = 1
     MESSAGES = 2
+    BUILDING = 3
 
 
 KINDS = {int(kind): kind for kind in Kind}
@@ -64,6 +71,8 @@ class Entry(NamedTuple):
     first: int
     before: bytes
     author: bytes
+    # What the messages build on, where the entry says it.
+    on: bytes
     messages: tuple[Message, ...]
     raw: bytes
     hash: bytes
@@ -72,6 +81,11 @@ class Entry(NamedTuple):
     def last(self) -> int:
         """The seq of the last message, 0 in a claim."""
         return self.first + len(self.messages) - 1 if self.messages else 0
+
+    @property
+    def body(self) -> bytes:
+        """What the messages build on, and they themselves."""
+        return self.on + body_of(self.messages)
 
 
 class Author(NamedTuple):
@@ -104,24 +118,26 @@ class Form(ABC):
         """What an editor said of itself; None where nobody of this note can have said it."""
 
     def body(self, raw: bytes) -> bytes:
-        """The messages of an entry that was opened before, one behind the other."""
+        """What is behind the head of an entry that was opened before, unsealed."""
         return self._checked(raw)
 
     @abstractmethod
     def _closed(self, head: bytes, body: bytes, author: Author) -> bytes:
-        """The bytes of an entry of this head and these messages."""
+        """The bytes of an entry of this head and this body."""
 
     @abstractmethod
     def _opened(self, head: bytes, rest: bytes, author: bytes) -> bytes:
-        """The messages of an entry, spelled one behind the other; raises Bad where it isn't right."""
+        """The body of an entry; raises Bad where it isn't right."""
 
     def claim(self, site: int, author: Author) -> Entry:
         """The entry with which an author claims a site's number."""
-        return self._made(Kind.CLAIM, site, 0, NO_HASH, author, ())
+        return self._made(Kind.CLAIM, site, 0, NO_HASH, author, b"", ())
 
-    def entry(self, before: Entry, messages: Sequence[Message], author: Author) -> Entry:
-        """The entry of messages that follow those of an author's entry before it. They fit one."""
-        return self._made(Kind.MESSAGES, before.site, messages[0].seq, before.hash, author, tuple(messages))
+    def entry(self, before: Entry, messages: Sequence[Message], author: Author, on: bytes = b"") -> Entry:
+        """The entry of messages that follow those of an author's entry before it, and of what they build on. They
+        fit one."""
+        kind = Kind.BUILDING if on else Kind.MESSAGES
+        return self._made(kind, before.site, messages[0].seq, before.hash, author, on, tuple(messages))
 
     def open(self, raw: bytes) -> Entry:
         """The entry that has these bytes; Bad where they are none of this note's."""
@@ -148,13 +164,13 @@ class Form(ABC):
             return why
 
     def reopened(self, raw: bytes, body: bytes, of: bytes) -> Entry:
-        """The entry of bytes that were opened before: its messages, one behind the other, and its hash were
-        kept."""
+        """The entry of bytes that were opened before: its body and its hash were kept."""
         _, kind, _, site, first, _, before = HEAD.unpack_from(raw)
-        return Entry(KINDS[kind], site, first, before, self.author(raw), tuple(map(Message.read, _split(body))), raw, of)
+        on, parts = _parts_of(kind, body)
+        return Entry(KINDS[kind], site, first, before, self.author(raw), on, tuple(map(Message.read, parts)), raw, of)
 
     def _checked(self, raw: bytes) -> bytes:
-        """The messages, one behind the other, of bytes that are spelled as an entry."""
+        """The body of bytes that are spelled as an entry."""
         if len(raw) > MOST_BYTES:
             raise Bad(f"has {len(raw):,} bytes, more than {MOST_BYTES:,}")
         begin = HEAD.size + self.author_bytes
@@ -167,7 +183,7 @@ class Form(ABC):
             raise Bad("is of a kind that this version doesn't know")
         body = self._opened(raw[:begin], raw[begin:], raw[HEAD.size:begin])
         try:
-            parts = _split(body)
+            _, parts = _parts_of(head[1], body)
         except struct.error as why:
             raise Bad("has messages that are cut short") from why
         if len(parts) != head[5]:
@@ -176,11 +192,11 @@ class Form(ABC):
             raise Bad("has bytes that are no message")
         return body
 
-    def _made(self, kind: Kind, site: int, first: int, before: bytes, author: Author,
+    def _made(self, kind: Kind, site: int, first: int, before: bytes, author: Author, on: bytes,
               messages: tuple[Message, ...]) -> Entry:
         head = HEAD.pack(self.number, kind, self.note, site, first, len(messages), before) + author.name
-        raw = self._closed(head, body_of(messages), author)
-        return Entry(kind, site, first, before, author.name, messages, raw, digest(raw))
+        raw = self._closed(head, on + body_of(messages), author)
+        return Entry(kind, site, first, before, author.name, on, messages, raw, digest(raw))
 
 
 class Plain(Form):
@@ -236,6 +252,14 @@ def digest(raw: bytes) -> bytes:
 
 def _short_digest(data: bytes) -> bytes:
     return hashlib.blake2b(data, digest_size=DIGEST_BYTES).digest()
+
+
+def _parts_of(kind: int, body: bytes) -> tuple[bytes, list[bytes]]:
+    """What the messages of a body build on, and the bytes of each."""
+    size = len(NO_HASH) if kind == Kind.BUILDING else 0
+    if len(body) < size:
+        raise struct.error("it is cut short")
+    return body[:size], _split(body[size:])
 
 
 def _split(body: bytes) -> list[bytes]:

@@ -61,7 +61,7 @@ class Holdings:
         return len(self._unsent)
 
     def _is_edit(self, row: Row) -> bool:
-        return row.made and row.entry.kind is Kind.MESSAGES
+        return row.made and row.entry.kind is not Kind.CLAIM
 
     def read(self, disk: Disk) -> list[Row]:
         """Reads what the file has more; the rows that weren't known."""
@@ -107,8 +107,12 @@ class Holdings:
         """The numbers of this person that can't be gone on with: somebody else writes under them, or what was
         made under them doesn't count. Of one that was given up before what counted may do so no more, too."""
         losing = {(message.site, author) for author, message in self._lost()}
-        return [one for one in self.clients.values() if who(one) in losing or not one.retired and (
-            who(one) in self._shared or self.judge.holder(one.site) not in (None, one.author.name))]
+        return [one for one in self.clients.values()
+                if who(one) in losing or not one.retired and self.is_anothers(one)]
+
+    def is_anothers(self, client: Client) -> bool:
+        """Whether somebody else writes under a number, or has it."""
+        return who(client) in self._shared or self.judge.holder(client.site) not in (None, client.author.name)
 
     def lost(self, clients: Sequence[Client]) -> list[Message]:
         """What was made under numbers, doesn't count, and wasn't made anew."""
@@ -136,7 +140,7 @@ class Holdings:
         """The hashes of the messages' entries that were made under numbers."""
         wanted = {who(one) for one in clients}
         return [of for of, row in self.rows.items()
-                if row.made and row.entry.kind is Kind.MESSAGES and who(row.entry) in wanted]
+                if self._is_edit(row) and who(row.entry) in wanted]
 
     def gave_up(self, clients: Sequence[Client], anew: Sequence[Anew]) -> None:
         """Says that numbers were given up, and what was made anew."""
@@ -171,7 +175,7 @@ class Holdings:
         of = row.entry.hash
         if of in self._withdrawn:
             self._withdrawn.discard(of)
-        if not row.made and who(row.entry) in self.clients and row.entry.kind is Kind.MESSAGES:
+        if not row.made and who(row.entry) in self.clients and row.entry.kind is not Kind.CLAIM:
             self._shared.add(who(row.entry))
         self.rows[of] = row
         if self._is_edit(row):

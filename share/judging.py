@@ -11,6 +11,9 @@ messages through, in an order in which each is behind its causes:
 - **Messages.** Of a chain the messages are let through one after the other, as long as each is right: it mentions
   only characters that are there, its site's characters begin where they ended, and its stamp is above those of
   its causes. So what is let through is what a replica takes in at once, and nothing ever waits there.
+- **What they build on.** An entry that says what its messages build on has them let through only where that is
+  what counts: else its author saw other characters under the names that they mention. All that an entry mentions
+  of other sites was there before its first message.
 - **Stamps.** A message whose stamp is over `LEAP` above the greatest that was let through is held back, and is
   asked again when that has risen. To spend all stamps so takes 2^28 messages.
 
@@ -20,12 +23,12 @@ place. Then all is let through anew. What was left out for a smaller hash stays 
 import hashlib
 import heapq
 from bisect import bisect_right
-from collections.abc import Callable, Iterable
+from collections.abc import Callable, Iterable, Sequence
 from dataclasses import dataclass, field
 from enum import Enum
 from typing import NamedTuple
 
-from share.entry import Entry, Kind
+from share.entry import Entry, Kind, digest
 from share.message import Message, Names, inserted, mentioned
 
 # A message may have a stamp so far above the greatest that was let through.
@@ -55,7 +58,7 @@ class Counted(NamedTuple):
 def rank(entry: Entry) -> bytes:
     """What decides between entries: of claims the hash of author and number, and where that is equal their own;
     else their own."""
-    if entry.kind is Kind.MESSAGES:
+    if entry.kind is not Kind.CLAIM:
         return entry.hash
     return hashlib.blake2b(entry.site.to_bytes(2, "big") + entry.author, digest_size=32).digest() + entry.hash
 
@@ -68,13 +71,15 @@ class _Chain:
     # How many of the messages were let through, and how long the site's file is then.
     front: int = 0
     length: int = 0
-    # Where each insertion that was let through begins, and its stamp. Both rise.
+    # Where each insertion that was let through begins, its stamp, and the hash of its entry. The first two rise.
     begins: list[int] = field(default_factory=list)
     stamps: list[int] = field(default_factory=list)
+    inserted_by: list[bytes] = field(default_factory=list)
     # The stamp of the last message that was let through.
     stamp: int = 0
-    # The messages of the chain; seq 1 is the first.
+    # The messages of the chain, and the entry of each; seq 1 is the first.
     messages: list[Message] = field(default_factory=list)
+    entry_of: list[Entry] = field(default_factory=list)
     # Whether the next message is wrong.
     ended: bool = False
 
@@ -86,18 +91,23 @@ class _Chain:
         """The stamp of the insertion of the character at an offset, which was let through."""
         return self.stamps[bisect_right(self.begins, at) - 1]
 
+    def inserter_of(self, at: int) -> bytes:
+        """The hash of the entry in which it was inserted."""
+        return self.inserted_by[bisect_right(self.begins, at) - 1]
+
     def pass_on(self, message: Message, names: Names | None) -> None:
         """Lets the next message through, which inserts these names."""
         if names:
             self.begins.append(names.at)
             self.stamps.append(message.stamp)
+            self.inserted_by.append(self.entry_of[self.front].hash)
             self.length += names.length
         self.front, self.stamp = message.seq, message.stamp
 
     def begin_anew(self) -> None:
         """Lets nothing through yet."""
         self.front = self.length = self.stamp = 0
-        self.begins, self.stamps, self.ended = [], [], False
+        self.begins, self.stamps, self.inserted_by, self.ended = [], [], [], False
 
 
 class Judge:
@@ -191,6 +201,13 @@ class Judge:
         end = min(names.at + names.length, self.length(names.site))
         return names._replace(length=max(0, end - names.at))
 
+    def built_on(self, messages: Sequence[Message]) -> bytes:
+        """What messages build on, all of which is let through; nothing where they mention no other site's
+        characters."""
+        self._let_through()
+        last = _last_of_others(messages)
+        return digest(b"".join(self._chains[site].inserter_of(last[site]) for site in sorted(last))) if last else b""
+
     def counts(self, entry: Entry) -> bool:
         """Whether all of an entry is let through."""
         self._let_through()
@@ -234,9 +251,11 @@ class Judge:
 
     def _lacks_of(self, chain: _Chain, found: set[int], ends: dict[int, int]) -> bool:
         """Whether a chain's next message lacks a character of a site that was left out, or that is before an
-        end of what was."""
-        lacks = [names for names in mentioned(chain.messages[chain.front])
-                 if names.at + names.length > self.length(names.site)]
+        end of what was; or others have the names of those that it builds on, which were left out."""
+        lacks = [names for names in _speaks_of(chain) if names.at + names.length > self.length(names.site)]
+        if not lacks:
+            last = _last_of_others(chain.entry_of[chain.front].messages)
+            return not self._has_what_it_builds_on(chain) and any(last[site] < ends.get(site, 0) for site in last)
         return any(names.site in found or max(names.at, self.length(names.site)) < ends.get(names.site, 0)
                    for names in lacks)
 
@@ -281,6 +300,7 @@ class Judge:
             self._outside.pop(last.hash, None)
             chain.entries.append(last)
             chain.messages += last.messages
+            chain.entry_of += [last] * len(last.messages)
             holding = [one for one in self._after.get(last.hash, ()) if _follows(one, last)]
         self._stirred = True
 
@@ -291,7 +311,7 @@ class Judge:
             self._outside[entry.hash] = entry
         first = chain.entries[at].first
         del chain.entries[at:]
-        del chain.messages[max(0, first - 1):]
+        del chain.messages[max(0, first - 1):], chain.entry_of[max(0, first - 1):]
         if chain.front > len(chain.messages) or chain.ended:
             self._begin_anew()
 
@@ -340,17 +360,46 @@ class Judge:
             return State.WRONG
         if message.stamp > self._greatest + LEAP:
             return State.HIGH
-        state = State.RIGHT
-        for names in mentioned(message):
+        lacks, newest = False, 0
+        for names in _speaks_of(chain):
             last, of = names.at + names.length - 1, self._chains.get(names.site)
-            if of is None or last >= of.length:
+            if of is not None and last < of.length:
+                newest = max(newest, of.stamp_of(last))
+            elif names.site != message.site:
+                lacks = True
+            else:
                 # A site's own characters come with its own messages alone.
-                if names.site == message.site:
-                    return State.WRONG
-                state = State.LACKS
-            elif state is State.RIGHT and of.stamp_of(last) >= message.stamp:
-                state = State.WRONG
-        return state
+                return State.WRONG
+        if lacks or not self._has_what_it_builds_on(chain):
+            return State.LACKS
+        return State.WRONG if newest >= message.stamp else State.RIGHT
+
+    def _has_what_it_builds_on(self, chain: _Chain) -> bool:
+        """Whether the characters that a chain's next message mentions are those that its author saw."""
+        entry = chain.entry_of[chain.front]
+        return not entry.on or entry.first <= chain.front or self.built_on(entry.messages) == entry.on
+
+
+def _of_others(messages: Iterable[Message]) -> list[Names]:
+    """The characters of other sites that messages mention."""
+    return [names for message in messages for names in mentioned(message) if names.site != message.site]
+
+
+def _last_of_others(messages: Iterable[Message]) -> dict[int, int]:
+    """The offset of the last character that messages mention of each other site."""
+    last: dict[int, int] = {}
+    for names in _of_others(messages):
+        last[names.site] = max(last.get(names.site, 0), names.at + names.length - 1)
+    return last
+
+
+def _speaks_of(chain: _Chain) -> list[Names]:
+    """The characters that have to be there before a chain's next message: those that it mentions. All that the
+    others of its entry mention of other sites has to be there with the first one, where the entry says what they
+    build on."""
+    entry, message = chain.entry_of[chain.front], chain.messages[chain.front]
+    is_first = entry.on and message.seq == entry.first
+    return mentioned(message) + (_of_others(entry.messages[1:]) if is_first else [])
 
 
 def _follows(entry: Entry, before: Entry) -> bool:

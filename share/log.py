@@ -62,6 +62,9 @@ class Log(ABC):
         """Says under a token that an editor is on, and gives what all who are on have said last, this one
         included."""
 
+    def quick(self) -> None:
+        """Has what is said last over kills, and not over the loss of power, where that is quicker."""
+
     @abstractmethod
     def leave(self, token: bytes) -> None:
         """Says that an editor is on no more."""

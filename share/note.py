@@ -28,6 +28,8 @@ class Note:
         self.session = session
         self.text = bytearray(session.text())
         self.cursor = self.top = 0
+        # The other end of what is selected; nothing is here.
+        self.anchor: int | None = None
         self.notice = ""
         self._number = session.number
         self._done: list[Undo] = []
@@ -72,6 +74,24 @@ class Note:
         self._goes_on = False
         return True
 
+    def do_again(self) -> bool:
+        """Does nothing again: a site by itself keeps nothing for that."""
+        return False
+
+    def replace(self, old: str, new: str) -> int:
+        """Puts words in the place of others, wherever they stand; how often."""
+        wanted, place, many = old.encode("utf-8", "ignore"), len(self.text), 0
+        while wanted and (place := self.text.rfind(wanted, 0, place)) >= 0:
+            self.erase(place, place + len(wanted))
+            self.moved_to(place)
+            self.type(new)
+            many += 1
+        return many
+
+    def others(self) -> list[tuple[int, str]]:
+        """Where others' cursors are: they aren't known here."""
+        return []
+
     def take_in(self) -> bool:
         """Takes in what came from the others; whether the text changed."""
         changed = self._shows(self.session.arrived())
@@ -87,10 +107,7 @@ class Note:
     def find(self, words: str) -> bool:
         """Puts the cursor at the next place of words behind it, or from the front on. False where there is
         none."""
-        wanted = words.encode("utf-8", "ignore")
-        place = self.text.find(wanted, self.cursor + 1)
-        if place < 0:
-            place = self.text.find(wanted)
+        place = found(self.text, self.cursor, words)
         if place >= 0:
             self.moved_to(place)
         return place >= 0
@@ -147,3 +164,10 @@ class Note:
         # Under a new site number the names of what was typed before are another client's.
         if self.session.number != self._number:
             self._number, self._done, self._goes_on = self.session.number, [], False
+
+
+def found(text: bytearray, cursor: int, words: str) -> int:
+    """The next place of words behind a cursor, or from the front on; below 0 where there is none."""
+    wanted = words.encode("utf-8", "ignore")
+    place = text.find(wanted, cursor + 1)
+    return place if place >= 0 else text.find(wanted)

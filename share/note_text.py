@@ -1,7 +1,9 @@
 """What a change of a text is, how positions follow it, and how it is found by comparing the text before and
 after."""
 from collections.abc import Callable
-from dataclasses import dataclass
+from dataclasses import dataclass, field
+
+from share.message import Names
 
 # Bytes are compared so many at a time, and one by one only where these differ.
 BLOCK = 4_096
@@ -14,6 +16,8 @@ class Change:
     begin: int
     end: int
     new: bytes
+    # The names of what came or of what went, where it is one stretch of them and they are known.
+    names: Names | None = field(default=None, compare=False)
 
     def moved(self, position: int) -> int:
         """Where a position is then: behind the same character, or where that was."""

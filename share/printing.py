@@ -8,21 +8,26 @@ from share.together import with_log
 from share.words import Trouble
 
 
-@uncollected()
 def printed(name: str, url: str | None, link: Link | None, password: str | None) -> Shown:
     """The text of a note, and what is missing in it."""
+    return reading.shown(found(name, url, link, password))
+
+
+@uncollected()
+def found(name: str, url: str | None, link: Link | None, password: str | None) -> Found:
+    """What there is of a note, and what was wrong with it."""
     path = opening.path_of(name)
     if path.exists():
-        found = reading.found_in(path)
+        here = reading.found_in(path)
     elif link:
-        found = Found(About(link.form == "sealed", link.secret, link.url), [], [])
+        here = Found(About(link.form == "sealed", link.secret, link.url), [], [])
     elif kept := opening.of_before(name, url, password):
         about = opening.about_new(None)
         rows = opening.in_rows(about.form(), kept.messages)
-        return reading.shown(Found(about, [row.entry for row in rows], list(kept.left_out)))
+        return Found(about, [row.entry for row in rows], list(kept.left_out))
     else:
         raise Trouble(f"There is no note {name} here. To print one that isn't here, give its link.")
-    opening.agree(found.about, name, url, link)
-    if url or found.about.url:
-        found = with_log(found, url or found.about.url, password)
-    return reading.shown(found)
+    opening.agree(here.about, name, url, link)
+    if url or here.about.url:
+        here = with_log(here, url or here.about.url, password)
+    return here

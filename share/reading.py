@@ -42,6 +42,12 @@ def about(path: pathlib.Path) -> About:
     return _with_file(path, about_of)
 
 
+def own_sites(path: pathlib.Path) -> set[int]:
+    """The numbers that the person of a file has claimed."""
+    return {site for site in _with_file(path, lambda file: [one for one, in file.execute("SELECT site FROM client")])
+            if isinstance(site, int)}
+
+
 def found_in(path: pathlib.Path) -> Found:
     """What a file has, as far as it can be read. Each entry is judged as one that came from a stranger."""
     return _with_file(path, _found)

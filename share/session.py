@@ -70,8 +70,8 @@ class Session:
         self._has_number = self._is_taken = False
         self._holdings = Holdings()
         self._read()
-        messages = self._holdings.count().messages
         self._client, self._has_number = self._free_client() or self._claim(), True
+        messages = self._holdings.count().messages
         self._last = self._holdings.judge.last(self._client.site)
         self.site = Site(self.number, messages, lambda done: bar(done, len(messages)))
         # What the disk damaged the log may bring back; until that was read nothing is made anew.
@@ -109,6 +109,32 @@ class Session:
 
         return self._edited(edit), told[0]
 
+    def edit(self, work: Callable[[Site], Edited]) -> Edited:
+        """Does several things at the site as one edit: all that they made is kept, or nothing of it."""
+        return self._edited(lambda: work(self.site))
+
+    def lengths(self) -> dict[int, int]:
+        """How many characters count of each site that is known, those that aren't shown among them."""
+        judge = self._holdings.judge
+        return {site: judge.length(site) for site in judge.claimed()}
+
+    def messages(self) -> list[Message]:
+        """All messages that count, each behind its causes."""
+        return self._holdings.judge.let_through_in_order()
+
+    def is_own(self, site: int) -> bool:
+        """Whether a number is one of this person's."""
+        return any(one.site == site for one in self._holdings.clients.values())
+
+    def show(self, shows: dict[bytes, bytes]) -> list[bytes]:
+        """Has others hear what editors here show of themselves, by their tokens; what others show."""
+        self._courier.show(shows)
+        return self._courier.shown()
+
+    def token(self) -> bytes:
+        """What tells this session from others that are on."""
+        return self._courier.token
+
     def arrived(self) -> Told:
         """Takes in what came, and tells what the text has become."""
         try:
@@ -132,9 +158,8 @@ class Session:
             self._is_settled = False
         self._look_at_claims()
         if self._is_stale:
-            found = Counted(holdings.judge.let_through_in_order(), True)
+            found, self._is_stale = Counted(holdings.judge.let_through_in_order(), True), False
         if self._settle(found.messages if found.anew else None, has_read):
-            self._is_stale = False
             return self.site.text()
         if self._lacks or holdings.judge.loose():
             self._lacks = False
@@ -197,12 +222,21 @@ class Session:
         """Makes an edit, and keeps its messages before anyone sees them."""
         if not self._client.stood:
             raise Trouble("Nothing can be typed here until the log has given this editor a number of its own.")
-        edited = edit()
+        if self._is_stale:
+            # What is typed would be said to build on what counts, and others than the user sees may count.
+            raise Trouble("What counts of the note can't be shown yet. Type again as soon as it is.")
+        before = len(self.site.history)
+        try:
+            edited = edit()
+        except BaseException:
+            # The site may have made some of it, which nobody would keep.
+            self.site.go_back(before)
+            raise
         if edited.messages:
             try:
                 self._keep(edited.messages)
             except Unkept as why:
-                self.site.undo(edited)
+                self.site.go_back(before)
                 self._trouble = f"The last edit couldn't be kept ({why}); all before it is. Make room on the disk."
                 raise Trouble(self._trouble) from why
             self._trouble = None
@@ -212,7 +246,7 @@ class Session:
         """Puts messages that the site made into the file, and has them sent."""
         made, before = [], self._last
         for part in in_entries(messages):
-            before = self._form.entry(before, part, self._client.author)
+            before = self._form.entry(before, part, self._client.author, self._holdings.judge.built_on(part))
             made.append(before)
 
         def keep() -> int:
@@ -225,7 +259,11 @@ class Session:
         self._holdings.add(made)
         self._holdings.gave_up(retired, anew)
         own = {(message.site, message.seq) for message in messages}
-        self._coming += [one for one in self._holdings.count().messages if (one.site, one.seq) not in own]
+        found = self._holdings.count()
+        self._coming += [one for one in found.messages if (one.site, one.seq) not in own]
+        if found.anew:
+            # Something else counts now than what is shown, and own edits perhaps don't.
+            self._is_stale, self._is_settled = True, False
         self._courier.made()
 
     def _read(self) -> list[Row]:
@@ -302,11 +340,23 @@ class Session:
         return rows
 
     def _free_client(self) -> Client | None:
-        """A number of this person that nobody uses."""
-        broken = self._holdings.broken()
-        usable = [one for one in self._holdings.clients.values() if not one.retired and one not in broken]
-        usable.sort(key=lambda one: not one.stood)
-        return next((one for one in usable if self._disk.lock(one.site)), None)
+        """A number of this person that nobody uses, with all that was written under it until it was locked."""
+        while found := next((one for one in self._usable() if self._disk.lock(one.site)), None):
+            # Who had it may have written more, or given it up, since the file was read.
+            self._read()
+            self._holdings.reread_anew(self._disk)
+            for one in self._usable():
+                if who(one) == who(found):
+                    return one
+        return None
+
+    def _usable(self) -> list[Client]:
+        """The numbers that can be gone on with, those first that can be typed under. Their claims were read: another
+        editor may just have made one."""
+        holdings, broken = self._holdings, self._holdings.broken()
+        usable = [one for one in holdings.clients.values() if not one.retired and one not in broken
+                  and holdings.judge.holder(one.site) == one.author.name]
+        return sorted(usable, key=lambda one: not one.stood)
 
     def _claim(self, locks: bool = True) -> Client:
         """A number that nobody has claimed as far as is known here. It is locked before other editors of this
@@ -412,10 +462,13 @@ class Session:
             self._begin_anew(holdings.judge.let_through_in_order())
             return
         made = f"Made anew: {counted(len(lost), 'edit')} that nobody else has." if lost else "No edit was lost."
-        sites = ", ".join(str(one.site) for one in broken)
-        self._notices.append(f"Another client writes as site {sites} too, or this disk has lost what was written there, "
-                             f"so you go on as site {self.number}. {made} Give each machine its own data folder, and "
-                             "don't copy it.")
+        if sites := ", ".join(str(one.site) for one in broken if holdings.is_anothers(one)):
+            self._notices.append(f"Another client writes as site {sites} too, or this disk has lost what was written "
+                                 f"there, so you go on as site {self.number}. {made} Give each machine its own data "
+                                 "folder, and don't copy it.")
+        else:
+            self._notices.append("You typed after something that doesn't count any more, since two clients wrote it "
+                                 f"under one number. So you go on as site {self.number}. {made}")
 
     def _drop_what_is_too_much(self) -> None:
         if dropped := self._holdings.is_too_much():

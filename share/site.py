@@ -3,7 +3,7 @@
 The messages that it takes in are those that count, in an order in which each is behind its causes, so it takes
 in each at once.
 """
-from collections.abc import Callable, Iterable, Iterator
+from collections.abc import Callable, Iterable, Iterator, Sequence
 from itertools import chain, islice
 from typing import NamedTuple
 
@@ -88,6 +88,30 @@ class Site:
         first = self.cut(begin, middle)
         return Edited(last.messages + first.messages, first.refused)
 
+    def replace(self, changes: Sequence[tuple[int, int, bytes]]) -> list[Edited]:
+        """Makes changes, each in the text that those before it leave, and asks the program for all of them at once. It
+        may do those behind one that it refuses. No stretch that goes is too scattered for a message."""
+        if refused := self._full():
+            return [Edited([], refused)]
+        asked = [[*self._replacing(*one)] for one in changes]
+        answers = iter(self._ask([*chain.from_iterable(asked)]))
+        return [self._sent([*islice(answers, len(events))]) for events in asked]
+
+    def _replacing(self, begin: int, end: int, data: bytes) -> Iterator[bytes]:
+        """The events of a change."""
+        if begin < end:
+            yield self._program.event("cut", begin, end)
+        for part in split(data):
+            yield self._program.event("type", begin, escaped(part))
+            begin += len(part)
+
+    def _sent(self, answers: list[list[bytes]]) -> Edited:
+        """What an edit has made that was answered so."""
+        messages = [Message.read(bytes.fromhex(line.split()[2].decode())) for answer in answers for line in answer[:-1]]
+        self._holds(messages)
+        refused = [int(answer[-1].split()[-1]) for answer in answers if answer[-1] != b"ok"]
+        return Edited(messages, refused[0] if refused else None)
+
     def name(self, kind: int, names: list[Names]) -> tuple[Edited, Told]:
         """Deletes or restores characters by their names, wherever they are now, and tells what the text has
         become.
@@ -108,16 +132,23 @@ class Site:
         answers = self._ask([self._program.event("where", *one) for one in names])
         return [stretches(answer) for answer in answers]
 
+    def runs(self) -> list[tuple[str, int, int, int]]:
+        """The font, the colour and the offset of each longest stretch of equal looks, and its length."""
+        *found, end = self._ask([self._program.event("runs")])[0]
+        if end != b"ok":
+            raise Trouble(f"The program was asked for the looks and answered {end[:60]!r}.")
+        words = [line.decode("ascii").split(" ") for line in found]
+        return [(font, int(colour), int(offset), int(length)) for _, font, colour, offset, length in words]
+
     def text(self) -> bytes:
         """What the program shows."""
         return shown(self._ask([self._program.event("text")])[0])
 
-    def undo(self, edited: Edited) -> bytes:
-        """Goes on as if an edit that was just made hadn't been, since it couldn't be kept; the text then."""
-        del self.history[len(self.history) - len(edited.messages):]
-        self._front -= len(edited.messages)
+    def go_back(self, length: int) -> None:
+        """Goes on as if what was made here since the history had so many messages hadn't been, since it isn't kept."""
+        self._front -= len(self.history) - length
+        del self.history[length:]
         self._start_again(1)
-        return self.text()
 
     def close(self) -> None:
         """Ends the program."""
@@ -150,10 +181,7 @@ class Site:
     def _edit(self, verb: str, *words: int | bytes) -> Edited:
         if refused := self._full():
             return Edited([], refused)
-        (answer,) = self._ask([self._program.event(verb, *words)])
-        messages = [Message.read(bytes.fromhex(line.split()[2].decode())) for line in answer[:-1]]
-        self._holds(messages)
-        return Edited(messages, None if answer[-1] == b"ok" else int(answer[-1].split()[-1]))
+        return self._sent(self._ask([self._program.event(verb, *words)]))
 
     def _full(self) -> int | None:
         return TOO_MANY if len(self.history) >= MOST_MESSAGES else None

@@ -107,6 +107,10 @@ class SqliteLog(Log):
             self._file.execute("INSERT OR REPLACE INTO presence VALUES (?, ?, ?)", (token, now, presence))
             return [said for said, in self._file.execute(ON, (MOST_PRESENCE, MOST_ON))]
 
+    def quick(self) -> None:
+        with self._at_file():
+            self._file.execute("PRAGMA synchronous = NORMAL")
+
     def leave(self, token: bytes) -> None:
         with self._at_file():
             self._file.execute("DELETE FROM presence WHERE token = ?", (token,))

@@ -66,17 +66,18 @@ def told(names: list[Names], ahead: list[list[Stretch]], behind: list[list[Stret
     came = sorted(part for one, was, now in both for part in _only(one, now, was))
     # What goes was shown behind all that goes ahead of it; what comes finds all that in place.
     changes, gone = [], 0
-    for begin, data in went:
-        changes.append(Change(begin - gone, begin - gone + len(data), b""))
+    for begin, data, of in went:
+        changes.append(Change(begin - gone, begin - gone + len(data), b"", of))
         gone += len(data)
-    return changes + [Change(begin, begin, data) for begin, data in came]
+    return changes + [Change(begin, begin, data, of) for begin, data, of in came]
 
 
-def _only(names: Names, some: list[Stretch], others: list[Stretch]) -> Iterator[tuple[int, bytes]]:
-    """Where the names are shown that are in some stretches and not in others, and their bytes."""
+def _only(names: Names, some: list[Stretch], others: list[Stretch]) -> Iterator[tuple[int, bytes, Names]]:
+    """Where the names are shown that are in some stretches and not in others, their bytes, and which they are."""
     of_others = bytearray(names.length)
     for at, _, data in others:
         of_others[at - names.at:at - names.at + len(data)] = b"\1" * len(data)
     for at, position, data in some:
         for part in re.finditer(b"\0+", of_others[at - names.at:at - names.at + len(data)]):
-            yield position + part.start(), data[part.start():part.end()]
+            yield (position + part.start(), data[part.start():part.end()],
+                   Names(names.site, at + part.start(), part.end() - part.start()))

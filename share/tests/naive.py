@@ -4,7 +4,7 @@ It was written from what the rules say, and shares no code with what it is compa
 in as a whole; what counts of it comes out.
 """
 import hashlib
-from collections.abc import Callable, Iterable, Iterator
+from collections.abc import Callable, Iterable, Iterator, Mapping
 from dataclasses import dataclass
 from itertools import chain
 from typing import NamedTuple
@@ -99,8 +99,9 @@ class Answer:
     # The messages of each site that are let through, and those that are next.
     through: dict[int, list[Message]]
     following: dict[int, list[Message]]
-    # The stamp of the Insert of each character that is there.
+    # The stamp of the Insert of each character that is there, and the hash of its entry.
     stamps: dict[Name, int]
+    inserted_by: dict[Name, bytes]
 
     @property
     def greatest(self) -> int:
@@ -126,15 +127,34 @@ class Answer:
         # What is held back for its stamp isn't looked at further.
         if message.stamp > self.greatest + LEAP:
             return False
-        lacking = {name for name in read.mentioned() if name not in self.stamps}
+        spoken_of = self._spoken_of(message)
+        lacking = {name for name in spoken_of if name not in self.stamps}
         if lacking:
             return any(site == message.site for site, _ in lacking)
-        return any(self.stamps[name] >= message.stamp for name in read.mentioned())
+        return self._sees_the_same(message) and any(self.stamps[name] >= message.stamp for name in spoken_of)
 
     def is_right(self, message: Message) -> bool:
         """Whether the message that is next at its site is let through."""
         return (not self.is_wrong(message) and message.stamp <= self.greatest + LEAP
-                and all(name in self.stamps for name in reading(message.data).mentioned()))
+                and all(name in self.stamps for name in self._spoken_of(message)) and self._sees_the_same(message))
+
+    def entry_of(self, message: Message) -> Entry:
+        """The entry of the message that is next at its site."""
+        return next(entry for entry in self.chains[message.site] if message in entry.messages)
+
+    def _spoken_of(self, message: Message) -> set[Name]:
+        """The characters that have to be there before the message that is next at its site."""
+        names = set(reading(message.data).mentioned())
+        entry = self.entry_of(message)
+        if entry.on and message == entry.messages[0]:
+            names |= {name for one in entry.messages for name in reading(one.data).mentioned() if name[0] != entry.site}
+        return names
+
+    def _sees_the_same(self, message: Message) -> bool:
+        """Whether the characters that the entry of a message mentions are those that its author saw. They are
+        there."""
+        entry = self.entry_of(message)
+        return not entry.on or message != entry.messages[0] or entry.on == built_on(entry.messages, self.inserted_by)
 
     def wrong(self) -> list[Message]:
         """The messages that end their sites' chains."""
@@ -150,18 +170,22 @@ class Answer:
             ends[read.site] = max(ends.get(read.site, 0), read.at + read.length)
         blocked = {site: messages for site, messages in self.following.items()
                    if messages and not self.is_wrong(messages[0])}
-        while gone := [site for site, messages in blocked.items() if any(
-                name not in self.stamps and self._is_left_out(name, ends)
-                for name in reading(messages[0].data).mentioned())]:
+        # All that a site would have inserted whose next message is left out is left out with it.
+        further = dict(ends)
+        while gone := [site for site, messages in blocked.items() if self._builds_on(messages[0], ends, further)]:
             for site in gone:
                 del blocked[site]
-                # All that this site would have inserted is left out with it.
-                ends[site] = 1 << 32
+                further[site] = 1 << 32
         return sum(map(len, blocked.values())) + sum(len(entry.messages) for entry in at_hand)
 
-    def _is_left_out(self, name: Name, ends: dict[int, int]) -> bool:
-        """Whether a character that isn't there is one of those that were left out."""
-        return name[1] < ends.get(name[0], 0)
+    def _builds_on(self, message: Message, ends: dict[int, int], further: dict[int, int]) -> bool:
+        """Whether a message builds on characters that were left out: they aren't there, or others are in their
+        place."""
+        names = self._spoken_of(message)
+        if names <= self.stamps.keys():
+            return not self._sees_the_same(message) and any(
+                offset < ends.get(site, 0) for site, offset in lasts(self.entry_of(message).messages))
+        return any((site, offset) not in self.stamps and offset < further.get(site, 0) for site, offset in names)
 
 
 def judged(entries: Iterable[Entry], prefers: Rank = rank) -> Answer:
@@ -170,12 +194,26 @@ def judged(entries: Iterable[Entry], prefers: Rank = rank) -> Answer:
     chains = {site: chain_of(known, site, prefers) for site in sorted({
         entry.site for entry in known if entry.kind is Kind.CLAIM})}
     following = {site: [one for entry in chain for one in entry.messages] for site, chain in chains.items()}
-    answer = Answer(chains, {site: [] for site in chains}, following, {})
+    answer = Answer(chains, {site: [] for site in chains}, following, {}, {})
     while site := next((site for site in chains if following[site] and answer.is_right(following[site][0])), None):
         message = following[site].pop(0)
+        entry = answer.entry_of(message)
         answer.through[site].append(message)
         answer.stamps |= dict.fromkeys(reading(message.data).inserted(), message.stamp)
+        answer.inserted_by |= dict.fromkeys(reading(message.data).inserted(), entry.hash)
     return answer
+
+
+def lasts(messages: Iterable[Message]) -> list[Name]:
+    """The last character of each other site that messages mention, site by site."""
+    names = {name for one in messages for name in reading(one.data).mentioned() if name[0] != one.site}
+    return [max(name for name in names if name[0] == site) for site in sorted({site for site, _ in names})]
+
+
+def built_on(messages: Iterable[Message], inserted_by: Mapping[Name, bytes]) -> bytes:
+    """What messages build on, as an entry says it."""
+    hashes = [inserted_by[name] for name in lasts(messages)]
+    return hashlib.blake2b(b"".join(hashes), digest_size=32).digest() if hashes else b""
 
 
 def chain_of(known: Iterable[Entry], site: int, prefers: Rank) -> list[Entry]:
@@ -190,7 +228,7 @@ def chain_of(known: Iterable[Entry], site: int, prefers: Rank) -> list[Entry]:
 
 def follows(entry: Entry, before: Entry) -> bool:
     """Whether an entry has the place behind another one: of its site and author, with the seq that is next."""
-    return (entry.kind is Kind.MESSAGES and entry.before == before.hash and entry.site == before.site
+    return (entry.kind is not Kind.CLAIM and entry.before == before.hash and entry.site == before.site
             and entry.author == before.author
             and entry.first == (before.messages[-1].seq if before.messages else 0) + 1)
 
@@ -201,7 +239,8 @@ def ended(entries: Iterable[Entry]) -> set[bytes]:
     gone: set[bytes] = set()
     for entry in known:
         # Those that have its place, itself among them.
-        rivals = [one for one in known if one.kind is entry.kind and one.site == entry.site
+        rivals = [one for one in known if (one.kind is Kind.CLAIM) == (entry.kind is Kind.CLAIM)
+                  and one.site == entry.site
                   and (entry.kind is Kind.CLAIM or one.before == entry.before and one.author == entry.author
                        and one.first == entry.first)]
         if min(rivals, key=rank).hash != entry.hash:
@@ -217,7 +256,7 @@ def loose(entries: Iterable[Entry]) -> list[Entry]:
     found = []
     for entry in known.values():
         at: Entry | None = entry
-        while at is not None and at.kind is Kind.MESSAGES:
+        while at is not None and at.kind is not Kind.CLAIM:
             at = known.get(at.before)
         if at is None:
             found.append(entry)

@@ -171,6 +171,10 @@ class Case(unittest.TestCase):
         for part in parts:
             self.assertIn(part, run.stderr)
 
+    def assert_comes_to(self, note: Note, text: bytes) -> None:
+        """That a note shows a text soon. Where much goes on, opening doesn't wait until all is read."""
+        wait_for(lambda: (note.take_in(), bytes(note.text) == text)[1], f"{text!r} to be shown")
+
     def assert_meet(self, *notes: Note) -> bytes:
         """That notes show the same soon, with all sent; what they show."""
         wait_for(lambda: are_alike(notes), "all to show the same, with all sent")
@@ -209,7 +213,7 @@ class Carried:
 
     def _kept(self, edited: Edited) -> Edited:
         for part in in_entries(edited.messages):
-            self.made.append(self.form.entry(self.made[-1], part, self.author))
+            self.made.append(self.form.entry(self.made[-1], part, self.author, self.judge.built_on(part)))
             self.judge.add(self.made[-1])
         own = self.judge.count().messages
         assert own == edited.messages, (own, edited)

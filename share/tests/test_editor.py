@@ -43,9 +43,10 @@ SEQUENCES = {
     Key.ENTER: [b"\r", b"\n", b"\r\n", b"\x1bOM"],
     Key.BACKSPACE: [b"\x7f", b"\b"],
     Key.ESCAPE: [b"\x03", b"\x07"],
-    Key.UNDO: [b"\x1a"], Key.FIND: [b"\x06"],
+    Key.UNDO: [b"\x1a"], Key.REDO: [b"\x19"], Key.FIND: [b"\x06"], Key.REPLACE: [b"\x12"], Key.LINE: [b"\x0c"],
+    Key.MARK: [b"\0"], Key.CUT: [b"\x18"], Key.COPY: [b"\x1bw"], Key.PUT: [b"\x16"],
     Key.SAVE: [b"\x13", b"\x1b\x13"], Key.QUIT: [b"\x11", b"\x1b\x11"],
-    Key.OTHER: [b"\0", b"\x1bOP", b"\x1b[15~", b"\x1b[1;2P", b"\x1bx", "\x1bé".encode(), b"\x1b\r",
+    Key.OTHER: [b"\x1bOP", b"\x1b[15~", b"\x1b[1;2P", b"\x1bx", "\x1bé".encode(), b"\x1b\r",
                 b"\x1b\x7f"],
 }
 # What says nothing, and types nothing.
@@ -362,6 +363,7 @@ class ScriptedNote:
 
     def __init__(self, text: bytes, can_type: bool):
         self.text, self.cursor, self.top, self.notice = bytearray(text), 0, 0, ""
+        self.anchor: int | None = None
         self.session = self
         self.can_type, self._undo = can_type, [(0, 0)]
 
@@ -410,6 +412,10 @@ class ScriptedNote:
     def take_in(self) -> bool:
         """Nobody else is on."""
         return False
+
+    def others(self) -> list[tuple[int, str]]:
+        """Nobody else is on."""
+        return []
 
     def moved_to(self, position: int) -> None:
         """Puts the cursor at a position."""

@@ -45,17 +45,20 @@ def samples() -> list[Entry]:
     entries = [FORM.claim(7, ANNE), FORM.claim(GREATEST_SITE, ANNE)]
     first = FORM.entry(entries[0], typed(1), ANNE)
     second = FORM.entry(first, [*typed(2, first=2), about(DELETE, 7, 4, 9, [(1, 0, 3), (1, 5, 1)])], ANNE)
-    return [*entries, first, second]
+    third = FORM.entry(second, [about(DELETE, 7, 5, 10, [(1, 0, 3)])], ANNE, b"on" * 16)
+    return [*entries, first, second, third]
 
 
 class Spelling(unittest.TestCase):
     """An entry has one spelling, and what is spelled otherwise is none."""
 
     def test_the_bytes_are_those_of_the_table(self) -> None:
-        claim, _, first, second = samples()
+        claim, _, first, second, third = samples()
         self.assertEqual(claim.raw, spelled(kind=1, first=0, before=NO_HASH))
         self.assertEqual(first.raw, spelled(before=claim.hash, messages=first.messages))
         self.assertEqual(second.raw, spelled(first=2, before=first.hash, messages=second.messages))
+        self.assertEqual(third.raw, spelled(kind=3, first=5, before=second.hash, count=1,
+                                            body=b"on" * 16 + body_of(third.messages)))
         self.assertEqual(first.raw[74:76], len(first.messages[0].data).to_bytes(2, "big"))
         self.assertEqual(first.hash, hashlib.blake2b(first.raw, digest_size=32).digest())
 
@@ -64,7 +67,8 @@ class Spelling(unittest.TestCase):
             self.assertEqual(FORM.open(entry.raw), entry)
             self.assertEqual(FORM.reopened(entry.raw, FORM.body(entry.raw), entry.hash), entry)
         self.assertEqual([(entry.kind, entry.first, entry.last) for entry in samples()],
-                         [(Kind.CLAIM, 0, 0), (Kind.CLAIM, 0, 0), (Kind.MESSAGES, 1, 1), (Kind.MESSAGES, 2, 4)])
+                         [(Kind.CLAIM, 0, 0), (Kind.CLAIM, 0, 0), (Kind.MESSAGES, 1, 1), (Kind.MESSAGES, 2, 4),
+                          (Kind.BUILDING, 5, 5)])
         self.assertEqual({entry.author for entry in samples()}, {ANNE.name})
 
     def test_each_prefix_and_each_bit(self) -> None:
@@ -104,7 +108,7 @@ class Wrong(unittest.TestCase):
         self.assert_bad("isn't spelled", spelled(form=0, messages=one))
         self.assert_bad("isn't spelled", spelled(form=2, messages=one))
         self.assert_bad("another note", spelled(note=bytes(16), messages=one))
-        for kind in 0, 3, 255:
+        for kind in 0, 4, 255:
             self.assert_bad("of a kind", spelled(kind=kind, messages=one))
         for site in 0, GREATEST_SITE + 1, 65_535:
             self.assert_bad("a site that can't be", spelled(kind=1, site=site, first=0, before=NO_HASH))
@@ -130,6 +134,8 @@ class Wrong(unittest.TestCase):
             self.assert_bad("as many messages", spelled(messages=two, count=count))
         for body in b"\0", body_of(two)[:-1], body_of(two) + b"\0", body_of(two) + b"\0\1":
             self.assert_bad("cut short", spelled(body=body, count=2))
+        for body in b"", bytes(31), bytes(32) + body_of(two)[:-1]:
+            self.assert_bad("cut short", spelled(kind=3, body=body, count=2))
         empty = body_of(two[:1]) + LENGTH.pack(0)
         self.assert_bad("no message", spelled(body=empty, count=2))
         self.assert_bad("no message", spelled(body=LENGTH.pack(20) + two[0].data[:20], count=1))
@@ -148,7 +154,7 @@ class Wrong(unittest.TestCase):
             except Bad:
                 continue
             again = spelled(kind=found.kind, site=found.site, first=found.first, before=found.before,
-                            author=found.author, messages=found.messages)
+                            author=found.author, messages=found.messages, body=found.body)
             self.assertEqual(again, raw)
             self.assertTrue(all(is_spelled(one.data) for one in found.messages))
             self.assertEqual([(one.site, one.seq) for one in found.messages],

@@ -121,6 +121,10 @@ class History:
         """A message speaks of characters that aren't there, and perhaps come."""
         self._follow(self._leaf(), Fault(beyond=self._chance.choice([0, 0, 1, 3])))
 
+    def build_wrong(self) -> None:
+        """An entry says that it builds on something else than what it mentions."""
+        self._follow(self._leaf(), on=bytes(31) + self._chance.randbytes(1))
+
     def forge(self) -> None:
         """An entry names one before it that isn't of its place: of another author, another site, or with
         another seq."""
@@ -147,14 +151,15 @@ class History:
         self._top = max(self._top, end.stamp)
 
     def _follow(self, before: Entry | None, fault: Fault = Fault(), author: Author | None = None,
-                place: Entry | None = None, skipped: int = 0) -> None:
+                place: Entry | None = None, skipped: int = 0, on: bytes | None = None) -> None:
         """Makes an entry behind another one. Its messages may have a place behind a third one, and skip some;
-        a fault is in one of them."""
+        a fault is in one of them. Some entries don't say what they build on."""
         if before is None:
             return
         place = place or before
         author = author or Author(place.author, b"")
         end, seq, messages = self._ends[place.hash], place.last + skipped, []
+        self._seen: dict[naive.Name, bytes] = {}
         count = self._chance.choice([1, 1, 2, 3])
         wrong = self._chance.randrange(count)
         for number in range(count):
@@ -162,7 +167,9 @@ class History:
             message, end = self._said(place.site, seq, end, fault if number == wrong else Fault())
             messages.append(message)
         self._followed.add(before.hash)
-        self._add(FORM.entry(before._replace(site=place.site), messages, author), end)
+        if on is None:
+            on = naive.built_on(messages, self._seen) if self._chance.random() < 0.7 else b""
+        self._add(FORM.entry(before._replace(site=place.site), messages, author, on), end)
 
     def _said(self, site: int, seq: int, end: End, fault: Fault) -> tuple[Message, End]:
         """A message of a branch, and what this comes to."""
@@ -189,12 +196,24 @@ class History:
         other = self._any()
         if other is None or other.site == site or self._chance.random() < 0.3:
             return site, end.length, end.stamp
+        self._see(other)
         return other.site, *self._ends[other.hash]
+
+    def _see(self, branch: Entry) -> None:
+        """Has the entry that is being made see a branch: which entry inserted each of its characters, and those
+        that may come after it."""
+        known = {entry.hash: entry for entry in self.entries}
+        end, at = self._ends[branch.hash], branch
+        seen = {(branch.site, offset): branch.hash for offset in range(end.length + 10)}
+        while at.kind is not Kind.CLAIM:
+            seen |= {name: at.hash for message in at.messages for name in naive.reading(message.data).inserted()}
+            at = known[at.before]
+        self._seen = seen | self._seen
 
 
 # A step that does nothing stands first, so that what fails is told with few others.
 RIGHT = ["rest", "claim", "write", "write", "write", "write", "fork", "walk_up"]
-STEPS = RIGHT * 2 + ["leap", "put_wrong", "stamp_wrong", "mention_nobody", "forge"]
+STEPS = RIGHT * 2 + ["leap", "put_wrong", "stamp_wrong", "mention_nobody", "build_wrong", "forge"]
 SEEDS = st.integers(0, 2**16 - 1)
 
 
@@ -280,7 +299,7 @@ class Follower:
         for site in self.judge.claimed():
             entry = self.judge.last(site)
             found.add(entry.hash)
-            while entry.kind is Kind.MESSAGES:
+            while entry.kind is not Kind.CLAIM:
                 entry = known[entry.before]
                 found.add(entry.hash)
         return found
@@ -344,7 +363,7 @@ class Editor:
                 # The second of two may lie outside what the first left.
                 self.case.assertIn(answer[-1], [b"ok", b"refused 11"])
                 sent += [Message.read(bytes.fromhex(line.split()[2].decode())) for line in answer[:-1]]
-        self.last = FORM.entry(self.last, sent, self.author)
+        self.last = FORM.entry(self.last, sent, self.author, judge.built_on(sent))
         judge.add(self.last)
         self.follower.came.append(self.last)
         self.case.assertEqual(judge.count(), (sent, False))

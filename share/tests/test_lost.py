@@ -55,7 +55,7 @@ class InAFile(Case):
         with contextlib.closing(self.person("anna").log()) as log:
             raws = raws_of(log)
         self.assertEqual(len(raws), len(set(raws)))
-        self.assertEqual(self.opened(self.person("new"), link=self.person("anna").link()).text, text)
+        self.assert_comes_to(self.opened(self.person("new"), link=self.person("anna").link()), text)
 
     def files(self) -> list[pathlib.Path]:
         """The files of the log."""
@@ -114,7 +114,7 @@ class InAFile(Case):
         flip(self.path)
         link = self.person("anna").link()
         berta = self.opened(self.person("berta"), link=link)
-        self.assertEqual(bytes(berta.text), b"one ")
+        self.assert_comes_to(berta, b"one ")
         berta.take_in()
         self.assertRegex(berta.notice, "An entry of the log is damaged and was left out")
         written(berta, "behind ")
@@ -123,7 +123,7 @@ class InAFile(Case):
         wait_for(lambda: (berta.take_in(), anna.take_in(), anna.text == berta.text)[2], "both to be the same")
         self.assertEqual(sorted(anna.text.split()), sorted(b"one two three behind".split()))
         self.assert_meet(anna, berta)
-        self.assertEqual(bytes(self.opened(self.person("carla"), link=link).text), bytes(anna.text))
+        self.assert_comes_to(self.opened(self.person("carla"), link=link), bytes(anna.text))
 
     def test_a_bit_of_an_entry_while_the_author_is_on(self) -> None:
         anna = self.opened(self.person("anna"), url=str(self.path))

@@ -3,14 +3,18 @@ number."""
 import contextlib
 import os
 import shutil
+import threading
 import time
+from unittest import mock
 
+from share.disk import Client, Disk
 from share.entry import Form
 from share.judging import rank
 from share.log import Log
 from share.message import Message, naming
 from share.note import Note
 from share.program import Program
+from share.session import Session
 from share.tests.support import Case, Person, raws_of, type_at_the_end, wait_for, written
 
 
@@ -90,6 +94,35 @@ class Numbers(Case):
         self.assertEqual(self.assert_meet(first, second), b"one two three first second ")
         self.assertNotEqual(first.session.number, second.session.number)
 
+    def test_what_a_third_typed_after_a_copy_that_loses(self) -> None:
+        link = self.begun()
+        self.copied()
+        shutil.copytree(self.folder / "shared", self.folder / "older")
+        first, third = self.opened(self.anna), self.opened(self.person("third"), link=link)
+        written(first, "long-word ")
+        wait_for(lambda: (third.take_in(), third.text == first.text)[1], "the word to come")
+        third.moved_to(len(third.text))
+        third.type("third ")
+        written(third, "")
+        last = first.session.last()
+        first.session.close()
+        third.session.close()
+        # The other copy never met what was written under its number, and its entry of the same place holds.
+        for number in range(50):
+            for name, now in ("older", "shared"), ("copied", "other"):
+                shutil.rmtree(self.folder / now, ignore_errors=True)
+                shutil.copytree(self.folder / name, self.folder / now)
+            note = self.person("other").open()
+            written(note, f"another-word-{number} ")
+            note.session.close()
+            if note.session.last().hash < last.hash:
+                break
+        notes = [self.opened(person) for person in (self.person("other"), self.anna, self.person("third"))]
+        text = self.assert_meet(*notes).decode()
+        self.assertEqual(sorted(text.split()), sorted(f"one two three long-word third another-word-{number}".split()))
+        told = {note.notice.split(",")[0] for note in notes}
+        self.assertIn("You typed after something that doesn't count any more", told)
+
     def test_what_came_apart_is_made_anew(self) -> None:
         self.begun()
         copy = self.copied()
@@ -132,7 +165,7 @@ class Numbers(Case):
         shutil.rmtree(self.folder / "anna")
         again = self.opened(self.anna, link=link)
         written(again, "four ")
-        self.assertEqual(again.text, b"one two three four ")
+        self.assert_comes_to(again, b"one two three four ")
 
     def test_edits_made_anew_are_made_once_over_kills(self) -> None:
         self.begun()
@@ -157,6 +190,43 @@ class Numbers(Case):
         self.assertEqual(words.count("first"), 1)
         self.assertEqual(len(words), 4 + 500 * 80)
         self.assertEqual([words.count(f"{number:04}") for number in range(500)], [80] * 500)
+
+    def test_a_number_that_is_claimed_while_another_editor_is_opened(self) -> None:
+        self.begun()
+        first, ask, asked = self.opened(self.anna), Disk.clients, []
+
+        def clients(disk: Disk) -> list[Client]:
+            if threading.current_thread() is threading.main_thread():
+                asked.append(disk)
+                if len(asked) == 2:
+                    # Between the entries and the numbers that go with them.
+                    client = Client(next(site for site in range(1, 99) if site != self.site_of()), disk.form.new_author())
+                    with contextlib.closing(self.anna.disk()) as other:
+                        other.keep([disk.form.claim(client.site, client.author)], True, client=client)
+            return ask(disk)
+
+        with mock.patch.object(Disk, "clients", clients):
+            second = self.opened(self.anna)
+        written(second, "four ")
+        self.assertEqual(self.assert_meet(first, second), b"one two three four ")
+
+    def test_a_number_that_another_editor_just_wrote_under(self) -> None:
+        self.begun()
+        first, choose = self.opened(self.anna), Session._free_client
+
+        def chosen(session: Session) -> Client | None:
+            # The file was read, and nothing is locked yet.
+            written(first, "four ")
+            first.session.close()
+            return choose(session)
+
+        with mock.patch.object(Session, "_free_client", chosen):
+            second = self.opened(self.anna)
+        self.assertEqual(second.session.number, first.session.number)
+        self.assertEqual(second.text, b"one two three four ")
+        written(second, "five ")
+        self.assertEqual((second.text, second.notice), (b"one two three four five ", ""))
+        self.assertEqual(self.anna.text(), b"one two three four five ")
 
     def test_entries_under_my_number_while_i_am_off(self) -> None:
         self.begun()
@@ -215,7 +285,7 @@ class Numbers(Case):
             log.append(claims[begin:begin + 2_000])
         note = self.opened(self.person("new"), link=link)
         written(note, "four ")
-        self.assertEqual(note.text, b"one two three four ")
+        self.assert_comes_to(note, b"one two three four ")
 
     def test_the_greatest_stamp(self) -> None:
         link = self.begun()

@@ -200,7 +200,7 @@ class Renewed(Opening):
         carol = self.opened(self.person("carol"), link=ann.link())
         self.assertEqual(self.assert_meet(note, carol), b"one two ")
         bob.take_in()
-        self.assertEqual(bytes(bob.text), b"one ")
+        self.assert_comes_to(bob, b"one ")
         self.assertEqual(ann.text("note.old-1"), b"one ")
 
     def test_from_one_machine_to_a_server(self) -> None:
@@ -324,11 +324,12 @@ class Recovered(Opening):
             note.session.close()
         shutil.rmtree(self.folder / "shared")
         people = [self.person(name) for name in ("ann", "bob", "carol")]
-        places = chance.sample(range(1, 30), 15)
+        with contextlib.closing(people[0].disk()) as disk:
+            hashes = chance.sample(sorted(row.entry.hash for row in disk.rows()), 15)
         for number, person in enumerate(people):
-            # Each place is damaged in one file.
-            for place in places[number::3]:
-                change(person.path(), "UPDATE entry SET raw = CAST(raw || x'00' AS BLOB) WHERE place = ?", place)
+            # Each entry is damaged in one file.
+            for of in hashes[number::3]:
+                change(person.path(), "UPDATE entry SET raw = CAST(raw || x'00' AS BLOB) WHERE hash = ?", of)
             self.assertNotEqual(person.text(), text)
         people[2].path().rename(people[2].path().with_name("note.note.damaged-1"))
         dave = self.person("dave")

@@ -10,8 +10,10 @@ from share.disk import Anew, Disk, Overtaken, Unkept, make
 from share.judging import rank
 from share.note import Note
 from share.session import Session
+from share.site import MOST_BYTES, Edited, Site
 from share.tests import test_numbers
 from share.tests.support import TOP, Case, change, python, type_at_the_end, wait_for, written
+from share.words import Trouble
 
 # Types words under a name until a second is over; then prints how many.
 TYPES = """
@@ -248,6 +250,28 @@ class Damaged(Case):
         self.assertEqual(run.returncode, 0, run.stderr)
         self.assertRegex(run.stdout, r"note\.2: .* in .*note\.2\.note")
         self.assertNotIn("Traceback", run.stderr)
+
+
+class Failing(Case):
+    """An edit in the middle of which the program fails for good."""
+
+    def test_nothing_of_it_is_there_and_the_next_one_counts(self) -> None:
+        note, real = self.opened(self.person()), Site._edit
+        written(note, "one ")
+        calls = []
+
+        def edit(site: Site, *words: int | bytes) -> Edited:
+            calls.append(words)
+            if len(calls) == 3:
+                raise Trouble("The program ended, was started again and ended again.")
+            return real(site, *words)
+
+        with mock.patch.object(Site, "_edit", edit):
+            note.type("x" * 3 * MOST_BYTES)
+        self.assertIn("ended again", note.notice)
+        self.assertEqual((bytes(note.text), note.session.text()), (b"one ", b"one "))
+        written(note, "two ")
+        self.assertEqual(self.person().text(), b"one two ")
 
 
 class Names(Case):

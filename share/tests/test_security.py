@@ -137,7 +137,7 @@ class Shared(Case):
     def assert_others_go_on(self, shows: bytes = b"one two ") -> Note:
         """That who is on and who joins have all, and nothing else, and go on."""
         bob = self.opened(self.person("bob"), link=self.link)
-        self.assertEqual(bytes(bob.text), shows)
+        self.assert_comes_to(bob, shows)
         type_at_the_end(bob, "three ")
         type_at_the_end(self.note_of_ann, "four ")
         wait_for(lambda: (bob.take_in(), self.note_of_ann.take_in(), bob.text == self.note_of_ann.text
@@ -179,7 +179,7 @@ class Operators(Shared):
         self.server.cli("DEL", self.key)
         self.append(*changed, *others, right[:-1], right + b"\0")
         bob = self.opened(self.person("bob"), link=self.link)
-        self.assertEqual(bytes(bob.text), b"one ")
+        self.assert_comes_to(bob, b"one ")
         wait_for(lambda: (bob.take_in(), "left out" in bob.notice)[1], "it to be told")
         self.note_of_ann = self.opened(self.ann)
         wait_for(lambda: (bob.take_in(), bytes(bob.text) == b"one two ")[1], "the right entry from Ann's disk")

@@ -1,9 +1,11 @@
 """Two people at two terminals: real ones, of tmux, with bin/note in each."""
 import os
 import pathlib
+import re
 import signal
 import subprocess
 
+from share.tests.editors import Editor
 from share.tests.support import NOTE, Case, wait_for
 
 WIDTH, HEIGHT = 70, 12
@@ -60,6 +62,10 @@ class Terminal:
     def lines(self) -> list[str]:
         """What the screen shows, without blanks at the ends of lines."""
         return [line.rstrip() for line in self._tmux("capture-pane", "-p").split("\n")[:HEIGHT]]
+
+    def looks(self) -> str:
+        """What the screen shows, with its looks as sequences, but for colours."""
+        return re.sub("\x1b\\[[34][0-9]m", "", self._tmux("capture-pane", "-p", "-e"))
 
     def shows(self, *lines: str) -> None:
         """Waits until the screen begins with these lines and shows no more of the note."""
@@ -192,6 +198,104 @@ class Terminals(Case):
         one.press("C-q")
         one.sees("status 0")
         self.assertEqual(self.note("diary", "--print").stdout, saved.read_text())
+
+    def test_doing_again_replacing_and_lines(self) -> None:
+        one = Terminal(self, "data", "diary")
+        one.type("tea and tea")
+        one.press("Enter")
+        one.cursor_is(0, 1)
+        one.type("jam")
+        one.shows("tea and tea", "jam")
+        one.press("C-z")
+        one.shows("tea and tea")
+        one.press("C-y")
+        one.shows("tea and tea", "jam")
+        one.press("C-y")
+        one.sees("taken nothing back")
+        one.press("C-r")
+        one.type("tea")
+        one.press("Enter")
+        one.type("Kaffee ☕")
+        one.press("Enter")
+        one.shows("Kaffee ☕ and Kaffee ☕", "jam")
+        one.sees("Replaced 2 times.")
+        one.press("C-l")
+        one.type("1")
+        one.press("Enter")
+        one.cursor_is(0, 0)
+        one.press("C-l")
+        one.type("99")
+        one.press("Enter")
+        one.cursor_is(0, 1)
+        one.press("C-z")
+        one.shows("tea and tea", "jam")
+        one.press("C-q")
+        one.sees("status 0")
+        self.assertEqual(self.note("diary", "--print").stdout, "tea and tea\njam")
+
+    def test_what_is_selected(self) -> None:
+        one = Terminal(self, "data", "diary")
+        one.type("tea and jam")
+        one.press("Home", "C-Space", "C-Right")
+        wait_for(lambda: "\x1b[7mtea" in one.looks(), "a selection")
+        one.press("C-x")
+        one.shows(" and jam")
+        one.press("End")
+        one.type(" ")
+        one.press("C-v")
+        one.shows(" and jam tea")
+        one.press("Home", "C-Space", "C-Right", "M-w", "End", "C-v")
+        one.shows(" and jam tea and")
+        one.press("Home", "C-Space", "End")
+        one.type("x")
+        one.shows("x")
+        one.press("C-z")
+        one.shows(" and jam tea and")
+        one.press("Home", "C-Space", "Right", "Right", "BSpace")
+        one.shows("nd jam tea and")
+        one.press("C-Space", "Right", "Escape")
+        wait_for(lambda: "\x1b[7m" not in one.looks().split("\n")[0], "no selection")
+        one.type("D")
+        one.shows("nDd jam tea and")
+
+    def test_another_editor_of_the_note(self) -> None:
+        one, other = Terminal(self, "data", "diary"), Editor(self.folder / "data", name="diary")
+        self.addCleanup(other.close)
+        one.type("abc")
+        other.shows("abc")
+        other.edit((0, 0, "1\r\n"))
+        one.shows("1·", "abc")
+        one.press("End")
+        other.ask("cursor", version=other.mirror.version, at=4)
+        wait_for(lambda: "a\x1b[7mb" in one.looks(), "the other one's cursor")
+        other.wait_for(lambda: [cursor["at"] for cursor in other.mirror.cursors] == [6], "this one's cursor")
+        other.edit((0, 3, ""))
+        one.shows("abc")
+        one.press("C-q")
+        one.sees("status 0")
+        other.type("d")
+        other.settle()
+        other.close()
+        self.assertEqual(self.note("diary", "--print").stdout, "abcd")
+
+    def test_an_engine_that_ends(self) -> None:
+        one = Terminal(self, "data", "diary")
+        one.type("abc")
+        one.shows("abc")
+        for process in one.programs():
+            os.kill(process, signal.SIGKILL)
+        one.sees("engine has ended")
+        one.press("C-s")
+        one.sees("Save as: diary.txt")
+        one.press(*["BSpace"] * len("diary.txt"))
+        saved = self.folder / "saved.txt"
+        one.type(str(saved))
+        one.press("Enter")
+        one.sees("Saved as")
+        self.assertEqual(saved.read_text(), "abc")
+        one.press("C-q")
+        one.sees("status 2")
+        self.assertEqual(self.note("diary", "--print").stdout, "abc")
 
     def test_a_program_that_hangs(self) -> None:
         one, file = Terminal(self, "data", "diary"), self.folder / "saved.txt"

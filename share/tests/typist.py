@@ -32,11 +32,14 @@ def main(tag: str, link: str, seed: str) -> None:
             note.moved_to(len(note.text) - chance.choice((0, 0, 0, *range(min(40, len(note.text) + 1)))))
             while note.cursor < len(note.text) and note.text[note.cursor - 1:note.cursor] not in (b" ", b""):
                 note.moved_to(note.cursor + 1)
+            before, note.notice = len(note.text), ""
             note.type(f"{tag}.{number} ")
             if note.notice.startswith("The edit was"):
                 sys.exit(note.notice)
-            say("typed", number)
-            number += 1
+            # What couldn't be kept is typed again.
+            if len(note.text) > before:
+                say("typed", number)
+                number += 1
         if not status.offline and not status.unsent:
             say("sent", number - 2)
         time.sleep(chance.random() / 50)

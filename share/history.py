@@ -1,0 +1,159 @@
+"""A note as it was, and who wrote what, by replays: messages are handed to a run of the program, up to where that is
+asked for. It is done in a thread of its own, since a long history takes seconds."""
+from collections import OrderedDict
+from collections.abc import Iterable, Sequence
+from contextlib import suppress
+from typing import NamedTuple
+
+from share.measured import Measured
+from share.message import HEADER, INSERT, INSERTION, Message, Names, inserted, names_of
+from share.note_text import boundary
+from share.site import Site
+from share.units import Units
+from share.words import Trouble
+
+# So many texts as they were are kept.
+KEPT = 64
+# The number under which is replayed. Nothing is typed there.
+REPLAYING = 1
+
+
+class Step(NamedTuple):
+    """Messages of a site in a row that go on with one another, and how many bytes they typed and deleted."""
+
+    begin: int
+    end: int
+    site: int
+    typed: int
+    deleted: int
+
+
+class Wrote(NamedTuple):
+    """A stretch of a text, in bytes, and the site that wrote it."""
+
+    begin: int
+    end: int
+    site: int
+
+
+class Past(NamedTuple):
+    """A text as it was, and who wrote it."""
+
+    text: bytes
+    wrote: list[Wrote]
+
+
+class Replays:
+    """A note's history, as far as it was asked for. Used by one thread."""
+
+    def __init__(self) -> None:
+        self._kept: OrderedDict[int, Past] = OrderedDict()
+        self._history: list[bytes] = []
+        self._site: Site | None = None
+        self._at = 0
+
+    def past(self, history: list[bytes], at: int) -> Past:
+        """The text as it was after so many messages."""
+        if history[:len(self._history)] != self._history:
+            # All was taken in anew, in another order.
+            self.close()
+        self._history = history
+        if at not in self._kept:
+            self._kept[at] = self._replayed(at)
+        self._kept.move_to_end(at)
+        while len(self._kept) > KEPT:
+            self._kept.popitem(last=False)
+        return self._kept[at]
+
+    def close(self) -> None:
+        """Ends the run of the program."""
+        if self._site:
+            with suppress(Trouble):
+                self._site.close()
+        self._site, self._at, self._history = None, 0, []
+        self._kept.clear()
+
+    def _replayed(self, at: int) -> Past:
+        if self._site and at < self._at:
+            self._site.close()
+            self._site = None
+        if not self._site:
+            self._site, self._at = Site(REPLAYING), 0
+        self._site.take(map(Message.read, self._history[self._at:at]))
+        self._at = at
+        return Past(self._site.text(), wrote(self._site, _lengths(self._history[:at])))
+
+
+def steps(history: Sequence[bytes], begin: int, most: int) -> list[Step]:
+    """The steps of a history from a message on, so many at most."""
+    found: list[Step] = []
+    last: Message | None = None
+    for place in range(begin, len(history)):
+        message = Message.read(history[place])
+        size = sum(names.length for names in names_of(message))
+        typed, deleted = (size, 0) if message.kind == INSERT else (0, size)
+        if last and _goes_on(last, message):
+            step = found[-1]
+            found[-1] = Step(step.begin, place + 1, step.site, step.typed + typed, step.deleted + deleted)
+        elif len(found) == most:
+            break
+        else:
+            found.append(Step(place, place + 1, message.site, typed, deleted))
+        last = message
+    return found
+
+
+def _goes_on(last: Message, message: Message) -> bool:
+    """Whether a message is of the same step as the one before it: typing that goes on, or more of the same kind."""
+    if (last.site, last.kind) != (message.site, message.kind):
+        return False
+    before = inserted(last)
+    if not before:
+        return True
+    cause_site, cause, _, _ = INSERTION.unpack_from(message.data, HEADER.size)
+    return bool((cause_site, cause) == (before.site, before.at + before.length - 1))
+
+
+def typed(message: Message) -> bytes:
+    """What an insertion inserts."""
+    names = inserted(message)
+    return message.data[-names.length:] if names else b""
+
+
+def wrote(site: Site, lengths: dict[int, int]) -> list[Wrote]:
+    """Who wrote what of the text that a site shows; sites have inserted so many characters."""
+    names = [Names(one, 0, length) for one, length in lengths.items() if length]
+    found = site.where(names) if names else []
+    return joined(sorted(Wrote(one.position, one.position + len(one.data), names.site)
+                         for names, stretches in zip(names, found) for one in stretches))
+
+
+def joined(stretches: Iterable[Wrote]) -> list[Wrote]:
+    """The same, those that follow one another and are of one site in one."""
+    out: list[Wrote] = []
+    for one in stretches:
+        if out and out[-1].site == one.site and out[-1].end == one.begin:
+            out[-1] = out[-1]._replace(end=one.end)
+        else:
+            out.append(one)
+    return out
+
+
+def in_units(text: Measured, stretches: Iterable[Wrote], units: Units) -> list[Wrote]:
+    """Stretches of a note's bytes in units. A character that two have written is the one's that began it."""
+    data, out = text.as_note(), []
+    for one in stretches:
+        begin, end = (text.position(boundary(data, place), units) for place in (one.begin, one.end))
+        if begin < end:
+            out.append(Wrote(begin, end, one.site))
+    return out
+
+
+def _lengths(history: Iterable[bytes]) -> dict[int, int]:
+    """How many characters each site has inserted."""
+    found: dict[int, int] = {}
+    for names in filter(None, (inserted(Message.read(data)) for data in history)):
+        found[names.site] = names.at + names.length
+    return found
+
+

@@ -1,0 +1,180 @@
+"""Editors of tests: each has an engine started as an editor does, by the real command, and a mirror of the text."""
+import json
+import os
+import pathlib
+import re
+import select
+import subprocess
+import time
+
+from share.mirror import Line, Mirror
+from share.tests.support import NOTE, PATIENCE, Case, wait_for
+
+
+class Editor:
+    """An editor without a screen."""
+
+    def __init__(self, data: pathlib.Path, name: str = "note", units: str = "utf-16", link: str | None = None,
+                 opens: bool = True, **more: str):
+        words = [NOTE, "engine", name]
+        if "log" in more:
+            words += ["--log", more.pop("log")]
+        variables = {**os.environ, "VIALSHOAL_DATA": str(data)}
+        variables.pop("VIALSHOAL_LINK", None)
+        if link:
+            variables["VIALSHOAL_LINK"] = link
+        self.process = subprocess.Popen(words, env=variables, bufsize=0, stdin=subprocess.PIPE, stdout=subprocess.PIPE)
+        assert self.process.stdin and self.process.stdout
+        self._in, self._out = self.process.stdin.fileno(), self.process.stdout.fileno()
+        self._coming = b""
+        # Lines that came, oldest first, and those that nobody has looked at.
+        self.lines: list[Line] = []
+        self.mirror: Mirror | None = None
+        # Whether lines are handed to the mirror as they come.
+        self.listens = True
+        if opens:
+            answer = self.ask("open", protocol=1, units=[units], **more)
+            assert "error" not in answer, answer
+            self.mirror = Mirror(answer, self.send)
+
+    @property
+    def text(self) -> str:
+        """What it shows."""
+        assert self.mirror
+        return self.mirror.text
+
+    def send(self, line: Line) -> None:
+        """Sends a line."""
+        self.write(json.dumps(line).encode() + b"\n")
+
+    def write(self, data: bytes) -> None:
+        """Writes bytes, and reads meanwhile."""
+        left = memoryview(data)
+        while left:
+            read, write, _ = select.select([self._out], [self._in], [], PATIENCE)
+            if write:
+                left = left[os.write(self._in, left[:4_096]):]
+            if read:
+                self._receive()
+
+    def ask(self, what: str, **more: object) -> Line:
+        """What a request is answered."""
+        given = f"{what}-{time.monotonic()}"
+        self.send({"do": what, "id": given, **more})
+        return self.wait_for(lambda: next((line for line in self.lines if line.get("id") == given), None),
+                             f"an answer to {what}")
+
+    def edit(self, *changes, **more: object) -> None:
+        """Makes an edit: changes as (begin, end, text)."""
+        assert self.mirror
+        self.mirror.edit(changes, **more)
+
+    def type(self, text: str) -> None:
+        """Types at the end."""
+        assert self.mirror
+        end = self.mirror.units.count(self.mirror.units.encode(self.text))
+        self.edit((end, end, text))
+
+    def settle(self) -> Line:
+        """Waits until all edits are answered; the last answer."""
+        assert self.mirror
+        mirror = self.mirror
+        self.wait_for(lambda: mirror.answered == mirror.made, "all edits to be answered")
+        return next(line for line in reversed(self.lines) if line.get("answer") == "edit" or not mirror.made)
+
+    def wait_for(self, condition, what: str):
+        """The condition's value, as soon as it is a true one."""
+        end = time.monotonic() + PATIENCE
+        while not (value := condition()):
+            if time.monotonic() > end:
+                raise AssertionError(f"waited {PATIENCE} seconds for {what}; the last lines: {str(self.lines[-5:])[-2_000:]}")
+            self.read(0.02)
+        return value
+
+    def shows(self, text: str) -> None:
+        """Waits until it shows a text."""
+        try:
+            self.wait_for(lambda: self.text == text, "a text")
+        except AssertionError as why:
+            raise AssertionError(f"shows {self.text[:500]!r} and not {text[:500]!r}; {str(self.lines[-5:])[-2_000:]}") from why
+
+    def notices(self, kind: str) -> list[Line]:
+        """The notices of a kind that came."""
+        return [line for line in self.lines if line.get("notice") == kind]
+
+    def read(self, seconds: float = 0.0) -> int:
+        """Takes in what comes within some time; how many lines."""
+        before = len(self.lines)
+        while select.select([self._out], [], [], seconds)[0] and self._receive():
+            seconds = 0.0
+        return len(self.lines) - before
+
+    def _receive(self) -> bool:
+        data = os.read(self._out, 1 << 20)
+        *lines, self._coming = (self._coming + data).split(b"\n")
+        for line in map(json.loads, lines):
+            self.lines.append(line)
+            if self.mirror and self.listens:
+                self.mirror.take(line)
+        return bool(data)
+
+    def kill(self) -> None:
+        """Ends it without a word."""
+        self.process.kill()
+        self._end()
+
+    def close(self) -> None:
+        """Closes the note, and waits until the line has ended."""
+        if self.process.poll() is None and not self.process.stdin.closed:
+            self.process.stdin.close()
+            self.listens = False
+            while self._receive():
+                pass
+        self._end()
+
+    def _end(self) -> None:
+        self.process.wait(PATIENCE)
+        for pipe in self.process.stdin, self.process.stdout:
+            pipe.close()
+
+
+class Engines(Case):
+    """A test whose editors are closed at its end."""
+
+    def editor(self, data: str = "data", **more) -> Editor:
+        """An editor of the person of a data folder."""
+        editor = Editor(self.folder / data, **more)
+        self.addCleanup(editor.close)
+        return editor
+
+    def printed(self, data: str = "data") -> str:
+        """What the note's command prints."""
+        done = subprocess.run([NOTE, "note", "--print"], capture_output=True, check=True, timeout=60,
+                              env={**os.environ, "VIALSHOAL_DATA": str(self.folder / data)})
+        return done.stdout.decode()
+
+    def engine(self, data: str = "data") -> int:
+        """The process that has the note open."""
+        lock = os.stat(self.folder / data / "run" / "note.lock").st_ino
+        found = re.findall(rf"FLOCK +ADVISORY +WRITE +(\d+) [0-9a-f]+:[0-9a-f]+:{lock} ",
+                           pathlib.Path("/proc/locks").read_text(encoding="ascii"))
+        return int(found[0])
+
+    def others(self, *names: str, url: str | None = None) -> list[Editor]:
+        """Editors of several people, whose notes have one log."""
+        first = self.editor(names[0], log=url or self.file_log())
+        wait_for(lambda: (first.read(0.02), first.notices("state")[-1:] and first.notices("state")[-1]["types"])[1],
+                 "a number")
+        link = self.person(names[0]).link()
+        return [first, *(self.editor(name, link=link) for name in names[1:])]
+
+    def alike(self, *editors: Editor) -> str:
+        """Waits until editors show the same, with all answered; that."""
+        def are_alike() -> bool:
+            for editor in editors:
+                editor.read()
+                editor.mirror.answered == editor.mirror.made or editor.read(0.02)
+            return all(one.mirror.answered == one.mirror.made for one in editors) and len(
+                {one.text for one in editors}) == 1 and not any(one.read(0.05) for one in editors)
+        wait_for(are_alike, "editors to show the same")
+        return editors[0].text

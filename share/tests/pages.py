@@ -1,0 +1,136 @@
+"""What tests of the page stand on: its server, by the real command, and who talks to it."""
+import asyncio
+import json
+import os
+import pathlib
+import re
+import select
+import signal
+import socket
+import subprocess
+from collections.abc import AsyncIterator
+from contextlib import asynccontextmanager
+from typing import Any
+
+import aiohttp
+
+from share.tests.support import NOTE, PATIENCE
+
+Line = dict[str, Any]
+FOUND = re.compile(r'url=(http://127\.0\.0\.1:(\d+)/#([0-9a-f]+))"')
+
+
+class Server:
+    """The server of a note's page."""
+
+    def __init__(self, data: pathlib.Path, *words: str, name: str = "note", **environment: str):
+        variables = {**os.environ, "VIALSHOAL_DATA": str(data), **environment}
+        self.process = subprocess.Popen([NOTE, "web", name, *words], env=variables, stdin=subprocess.DEVNULL,
+                                        stdout=subprocess.PIPE, text=True)
+        assert self.process.stdout
+        assert select.select([self.process.stdout], [], [], PATIENCE)[0], "the server says nothing"
+        self.said = self.process.stdout.readline()
+        self.process.stdout.readline()
+        self.path = pathlib.Path(re.search(r"(/\S+\.html)", self.said)[1])
+        self.address, port, self.secret = FOUND.search(self.path.read_text(encoding="utf-8")).groups()
+        self.port = int(port)
+        self.host = f"127.0.0.1:{port}"
+
+    def close(self, number: int = signal.SIGTERM) -> int:
+        """Ends it; the status."""
+        if self.process.poll() is None:
+            self.process.send_signal(number)
+        self.process.stdout.close()
+        return self.process.wait(PATIENCE)
+
+    def get(self, path: str = "/", *headers: str, host: str | None = "") -> tuple[int, bytes, bytes]:
+        """What is answered to a request with these header lines: the status, the headers and the rest."""
+        lines = [f"GET {path} HTTP/1.1", *([] if host is None else [f"Host: {host or self.host}"]), *headers]
+        return self.raw("\r\n".join([*lines, "Connection: close", "", ""]).encode())
+
+    def raw(self, data: bytes, ends: bool = False) -> tuple[int, bytes, bytes]:
+        """What is answered to these bytes, perhaps the last ones; the status is 0 where that is nothing."""
+        with socket.create_connection(("127.0.0.1", self.port), PATIENCE) as line:
+            line.sendall(data)
+            if ends:
+                line.shutdown(socket.SHUT_WR)
+            answer = b""
+            while part := line.recv(1 << 16):
+                answer += part
+        head, _, body = answer.partition(b"\r\n\r\n")
+        return int(head.split()[1]) if head else 0, head, body
+
+
+class Talk:
+    """A WebSocket to a page's server, as lines."""
+
+    def __init__(self, socket_: aiohttp.ClientWebSocketResponse):
+        self.socket = socket_
+        self.lines: list[Line] = []
+        self._coming = b""
+        self._asked = 0
+
+    async def say(self, secret: str) -> None:
+        """Says the secret."""
+        await self.socket.send_bytes(secret.encode())
+
+    async def send(self, line: Line) -> None:
+        """Sends a line."""
+        await self.socket.send_bytes(json.dumps(line).encode() + b"\n")
+
+    async def receive(self) -> bool:
+        """Takes in a message; whether there was one."""
+        message = await asyncio.wait_for(self.socket.receive(), PATIENCE)
+        if message.type == aiohttp.WSMsgType.TEXT:
+            self.lines.append(message.json())
+        elif message.type == aiohttp.WSMsgType.BINARY:
+            *lines, self._coming = (self._coming + message.data).split(b"\n")
+            self.lines += map(json.loads, lines)
+        else:
+            return False
+        return True
+
+    async def ask(self, what: str, **more: object) -> Line:
+        """What a request is answered."""
+        self._asked += 1
+        await self.send({"do": what, "id": self._asked, **more})
+        return await self.line(id=self._asked)
+
+    async def line(self, **fields: object) -> Line:
+        """The first line that has these fields, once it is there."""
+        while True:
+            for line in self.lines:
+                if fields.items() <= line.items():
+                    return line
+            assert await self.receive(), f"the WebSocket has ended: {self.socket.close_code}; {self.lines}"
+
+    async def code(self) -> int | None:
+        """With which code it ends."""
+        while await self.receive():
+            pass
+        return self.socket.close_code
+
+
+@asynccontextmanager
+async def talking(server: Server, secret: str | None = None, opens: bool = False, **headers: str) -> AsyncIterator[Talk]:
+    """A WebSocket with a page's headers, or these, on which the secret is said, or another."""
+    told = {"Host": server.host, "Origin": f"http://{server.host}", **headers}
+    async with aiohttp.ClientSession() as session:
+        async with session.ws_connect(f"http://{server.host}/socket", headers=told, max_msg_size=0) as socket_:
+            talk = Talk(socket_)
+            if secret != "":
+                await talk.say(server.secret if secret is None else secret)
+            if opens:
+                assert "error" not in await talk.ask("open", protocol=1, units=["utf-16"])
+            yield talk
+
+
+def engine_of(data: pathlib.Path) -> int:
+    """The process that has a note open."""
+    lock = os.stat(data / "run" / "note.lock").st_ino
+    for line in pathlib.Path("/proc/locks").read_text(encoding="ascii").splitlines():
+        fields = line.split()
+        if fields[1] == "FLOCK" and fields[5].endswith(f":{lock}"):
+            assert b"\0engine\0note\0" in pathlib.Path(f"/proc/{fields[4]}/cmdline").read_bytes()
+            return int(fields[4])
+    raise AssertionError("no engine has the note")

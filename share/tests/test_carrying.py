@@ -1,0 +1,248 @@
+"""Edits and notices that cross, without a program: whatever the order in which they arrive, all show the same."""
+import itertools
+import random
+import unittest
+from collections import deque
+from unittest import mock
+
+from share import carrying, measured
+from share.carrying import Carrying
+from share.lines import Line, Wrong
+from share.measured import Measured, Outside, Split, shown, swapped
+from share.mirror import Mirror
+from share.named import Named
+from share.message import Names
+from share.note_text import Change, boundary
+from share.ops import carried_over, composed, growth, in_text, in_turn, moved, of_changes
+from share.undoing import united, without
+from share.units import UNITS, Units
+
+LETTERS = "ab\n\ré漢🎉\ufffd"
+
+
+def random_changes(text: str, chance: random.Random, units: Units) -> tuple[list, str]:
+    """Some replacements, each in the text that those before it leave, in units; the text then."""
+    found = []
+    for _ in range(chance.choice((1, 1, 1, 2, 4))):
+        begin = chance.randrange(len(text) + 1)
+        end = min(len(text), begin + chance.choice((0, 0, 1, 3)))
+        new = "".join(chance.choices(LETTERS, k=chance.choice((0, 1, 2))))
+        found.append((*(units.count(units.encode(text[:place])) for place in (begin, end)), new))
+        text = text[:begin] + new + text[end:]
+    return found, text
+
+
+def after(text: str, op: list, units: Units) -> str:
+    """A text after an op."""
+    data = bytearray(units.encode(text))
+    for begin, end, new in in_turn(op, units):
+        data[units.size * begin:units.size * end] = new
+    return data.decode(units.encoding)
+
+
+class Peer:
+    """An editor and the engine's end of it, with lines on their way both ways."""
+
+    def __init__(self, text: str, units: Units):
+        self.to_engine: deque[Line] = deque()
+        self.to_editor: deque[Line] = deque()
+        self.carrying = Carrying(units)
+        opened = {"text": text, "version": 0, "edits": 0, "units": units.name}
+        self.mirror = Mirror(opened, self.to_engine.append)
+
+
+class Crossing(unittest.TestCase):
+    """Editors of one text."""
+
+    def test_all_orders(self) -> None:
+        for seed, most in itertools.product(range(60), (2_000, 4)):
+            with self.subTest(seed=seed, most=most), mock.patch.object(carrying, "MOST_SENT", most):
+                self.cross(random.Random(seed))
+
+    def cross(self, chance: random.Random) -> None:
+        """Has lines arrive at random, then all of them."""
+        self.text = "".join(chance.choices(LETTERS, k=6))
+        peers = [Peer(self.text, chance.choice([*UNITS.values()])) for _ in range(3)]
+        for _ in range(150):
+            peer = chance.choice(peers)
+            what = chance.random()
+            if what < 0.35:
+                changes, _ = random_changes(peer.mirror.text, chance, peer.mirror.units)
+                peer.mirror.edit(changes)
+            elif what < 0.6 and peer.to_editor:
+                peer.mirror.take(peer.to_editor.popleft())
+            elif what < 0.9 and peer.to_engine:
+                self.take(peer, peers, peer.to_engine.popleft())
+            else:
+                self.send(peer)
+        while any(peer.to_engine or peer.to_editor or peer.carrying.has_news() or peer.carrying.is_void for peer in peers):
+            for peer in peers:
+                while peer.to_engine:
+                    self.take(peer, peers, peer.to_engine.popleft())
+                self.send(peer)
+                while peer.to_editor:
+                    peer.mirror.take(peer.to_editor.popleft())
+        self.assertEqual({peer.mirror.text for peer in peers}, {self.text})
+        self.assertEqual([peer.mirror.made for peer in peers], [peer.carrying.edits for peer in peers])
+
+    def take(self, peer: Peer, peers: list[Peer], line: Line) -> None:
+        """Does what an engine does with a line."""
+        units, carry = peer.carrying.units, peer.carrying
+        if line["do"] == "seen":
+            try:
+                carry.seen(line["version"])
+            except Wrong:
+                carry.void(carry.edits)
+            return
+        length = units.count(units.encode(self.text))
+        try:
+            own, left = carry.edit(line["version"], line["changes"], length)
+        except Wrong as why:
+            # An editor is right; only what was joined can be missing.
+            self.assertIn(why.code, ("version", "stale"))
+            self.assertEqual(carrying.MOST_SENT, 4)
+            carry.void(line["edits"])
+            peer.to_editor.append({"answer": "edit", "edits": line["edits"], "error": why.code, "words": ""})
+            return
+        self.assertEqual(line["edits"], carry.edits + 1)
+        carry.edited(left)
+        before, self.text = self.text, after(self.text, own, units)
+        for other in peers:
+            if other is not peer:
+                changes = self.in_units(before, in_text(own, units), units, other.carrying.units)
+                other.carrying.changed(of_changes(changes, other.carrying.units))
+        peer.to_editor.append({"answer": "edit", "edits": carry.edits})
+
+    @staticmethod
+    def in_units(text: str, changes: list, units: Units, others: Units) -> list:
+        """Replacements by a text before them all, in other units, each in the text that those before it leave."""
+        data, found, shift = units.encode(text), [], 0
+        for begin, end, new in changes:
+            first, last = (others.count(others.encode(units.decode(data[:units.size * place]))) for place in (begin, end))
+            put = others.encode(units.decode(new))
+            found.append((first + shift, last + shift, put))
+            shift += others.count(put) - (last - first)
+        return found
+
+    def send(self, peer: Peer) -> None:
+        """Sends what is new."""
+        carry = peer.carrying
+        if carry.is_void:
+            carry.send_text()
+            peer.to_editor.append({"notice": "text", "version": carry.version, "edits": carry.edits, "text": self.text})
+        elif carry.has_news():
+            changes = [[begin, end, carry.units.decode(data)] for begin, end, data in carry.send()]
+            peer.to_editor.append({"notice": "changes", "version": carry.version, "edits": carry.edits,
+                                   "changes": changes})
+
+    def test_ops(self) -> None:
+        chance = random.Random(3)
+        for _ in range(3_000):
+            units = chance.choice([*UNITS.values()])
+            text = "".join(chance.choices(LETTERS, k=chance.randrange(9)))
+            (some, one), (others, two) = (random_changes(text, chance, units) for _ in range(2))
+            first, second = (of_changes([(begin, end, units.encode(new)) for begin, end, new in changes], units)
+                             for changes in (some, others))
+            self.assertEqual((after(text, first, units), after(text, second, units)), (one, two))
+            self.assertEqual(growth(first, units), units.count(units.encode(one)) - units.count(units.encode(text)))
+            over, under = carried_over(first, second, units)
+            both = after(one, under, units)
+            self.assertEqual(both, after(two, over, units))
+            self.assertEqual(after(text, composed(first, under, units), units), both)
+            end = units.count(units.encode(text))
+            self.assertEqual(moved(end, second, units) - end,
+                             growth(second, units) - (units.count(second[-1]) if self.is_at_end(second, end) else 0))
+
+    @staticmethod
+    def is_at_end(op: list, end: int) -> bool:
+        """Whether the last part of an op comes in just at a text's end, with nothing deleted before it."""
+        at = sum(abs(part) for part in op if isinstance(part, int))
+        return bool(op) and isinstance(op[-1], bytes) and at == end
+
+
+class Parts(unittest.TestCase):
+    """A text in parts, and its names."""
+
+    def test_places_and_positions(self) -> None:
+        chance = random.Random(4)
+        rubbish = [b"\x80", b"\xc3", b"\xe6\xbc", b"\xf0\x9f", b"\xff"]
+        with mock.patch.object(measured, "PART", 8):
+            for seed in range(60):
+                text, data = Measured(b""), b""
+                for _ in range(40):
+                    data = self.changed(text, data, chance, rubbish if seed % 2 else [])
+                    self.places(text, swapped(data), chance)
+
+    def changed(self, text: Measured, data: bytes, chance: random.Random, rubbish: list[bytes]) -> bytes:
+        """A text's bytes after a change, which has been made."""
+        begin = chance.randrange(len(data) + 1)
+        end = min(len(data), begin + chance.choice((0, 0, 1, 3, 10)))
+        if not rubbish:
+            begin, end = boundary(data, begin), max(boundary(data, begin), boundary(data, end))
+        new = b"".join(chance.choice(rubbish) if rubbish and chance.random() < 0.4 else chance.choice(LETTERS).encode()
+                       for _ in range(chance.choice((0, 1, 3, 20))))
+        one = Change(begin, end, new)
+        whole = text.whole(one)
+        if not rubbish:
+            self.assertIs(whole, one)
+        if text.is_whole(one) and (not new or new[0] & 0xC0 != 0x80):
+            self.assertEqual(whole, one)
+        before = swapped(data)
+        data = data[:begin] + new + data[end:]
+        self.assertEqual(shown(before[:whole.begin]) + shown(swapped(whole.new)) + shown(before[whole.end:]),
+                         shown(swapped(data)))
+        text.replace(whole)
+        self.assertEqual((text.as_note(), text.size, text.text()), (data, len(data), shown(swapped(data))))
+        return data
+
+    def places(self, text: Measured, data: bytes, chance: random.Random) -> None:
+        """Looks at places of a text by each of the units."""
+        seen, kept = shown(data), data.decode("utf-8", "surrogateescape")
+        for units in UNITS.values():
+            ends = [units.count(units.encode(seen[:number])) for number in range(len(seen) + 1)]
+            number = chance.randrange(len(ends))
+            place = len(kept[:number].encode("utf-8", "surrogateescape"))
+            self.assertEqual((text.place(ends[number], units), text.position(place, units)), (place, ends[number]))
+            self.assertEqual(text.length(units), ends[-1])
+            position = chance.randrange(ends[-1] + 1)
+            if position not in ends:
+                with self.assertRaises(Split):
+                    text.place(position, units)
+            for position in -1, ends[-1] + 1:
+                with self.assertRaises(Outside):
+                    text.place(position, units)
+
+    def test_names(self) -> None:
+        chance = random.Random(5)
+        with mock.patch("share.named.PART", 4):
+            for _ in range(40):
+                named, flat = Named(), []
+                for _ in range(50):
+                    begin = chance.randrange(len(flat) + 1)
+                    end = min(len(flat), begin + chance.choice((0, 0, 1, 3, 10)))
+                    new = [Names(chance.randint(1, 3), chance.randrange(50), chance.randint(1, 4))
+                           for _ in range(chance.choice((0, 1, 2, 9)))]
+                    named.replace(begin, end, new)
+                    flat[begin:end] = self.one_by_one(new)
+                    self.assertEqual(self.one_by_one(named.stretches(0, len(flat))), flat)
+                    place = chance.randrange(len(flat) + 1)
+                    self.assertEqual(self.one_by_one(filter(None, [named.at(place)])), flat[place:place + 1])
+
+    @staticmethod
+    def one_by_one(names) -> list[tuple[int, int]]:
+        """Names without stretches."""
+        return [(one.site, one.at + number) for one in names for number in range(one.length)]
+
+    def test_sets_of_names(self) -> None:
+        chance = random.Random(6)
+        for _ in range(500):
+            some, others = ([Names(chance.randint(1, 2), chance.randrange(20), chance.randint(1, 6))
+                             for _ in range(chance.randrange(5))] for _ in range(2))
+            found = without(united(some), united(others))
+            self.assertEqual(self.one_by_one(found), sorted({*self.one_by_one(some)} - {*self.one_by_one(others)}))
+            for one, other in zip(united(some), united(some)[1:]):
+                self.assertTrue(one.site < other.site or one.at + one.length < other.at)
+
+
+if __name__ == "__main__":
+    unittest.main()

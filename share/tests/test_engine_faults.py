@@ -1,0 +1,234 @@
+"""What failed at the engine once: each test fails where what mended it is taken away."""
+import json
+import os
+import random
+import subprocess
+import time
+from unittest import mock
+
+from share import opening
+from share.carrying import Carrying
+from share.engine import Engine
+from share.history import in_units, Wrote
+from share.measured import Measured
+from share.mirror import Line, Mirror
+from share.note_text import Change
+from share.presence import Present, written
+from share.program import Ended
+from share.scripts import differences
+from share.session import Session
+from share.tests.editors import Engines
+from share.tests.support import NOTE, Case, type_at_the_end
+from share.units import UNITS
+
+
+class Here(Case):
+    """An engine in this process."""
+
+    def setUp(self) -> None:
+        super().setUp()
+        self.engine = Engine("note", lambda: Session(opening.opened("note", None, None)), lambda: None)
+        self.addCleanup(self.engine.close)
+        self.editors = [self.editor(units) for units in ("utf-16", "utf-8")]
+
+    def editor(self, units: str) -> tuple:
+        """One more editor: its end at the engine, its mirror, what it was sent, and what it sends."""
+        sent: list[bytes] = []
+        peer = self.engine.joined(sent.append, lambda: 0)
+        self.engine.take(peer, [json.dumps({"do": "open", "protocol": 1, "units": [units]}).encode()])
+        asked: list[bytes | None] = []
+        mirror = Mirror(json.loads(sent.pop(0)), lambda line: asked.append(json.dumps(line).encode()))
+        return peer, mirror, sent, asked
+
+    def meet(self) -> list[list[Line]]:
+        """Has all lines arrive; those that each editor got."""
+        got: list[list[Line]] = [[] for _ in self.editors]
+        for _ in range(6):
+            for peer, _, _, asked in self.editors:
+                while asked:
+                    self.engine.take(peer, asked)
+            self.engine.turn()
+            for number, (_, mirror, sent, _) in enumerate(self.editors):
+                for line in map(json.loads, [*sent]):
+                    got[number].append(line)
+                    mirror.take(line)
+                sent.clear()
+        return got
+
+    def shows(self, text: str) -> None:
+        """That all show a text, and the disk has it."""
+        self.meet()
+        self.assertEqual([mirror.text for _, mirror, _, _ in self.editors], [text] * len(self.editors))
+        self.assertEqual(self.engine.session.text().decode(), text.replace("\n", "\r"))
+        self.assertEqual(self.person().text().decode(), text.replace("\n", "\r"))
+
+    def test_a_program_that_ends_inside_a_long_edit(self) -> None:
+        (_, first, _, _), (_, second, _, _) = self.editors
+        first.edit([(0, 0, "base\n")])
+        self.meet()
+        site = self.engine.session.site
+        ask, calls = site._program.ask.__func__, []
+
+        def ends(program, events):
+            calls.append(b" type " in events[0])
+            if calls[-1] and sum(calls) > 3:
+                program.process.kill()
+                raise Ended
+            return ask(program, events)
+
+        with mock.patch("share.program.Program.ask", ends):
+            first.edit([(0, 0, "x" * 32_000)])
+            got = self.meet()
+        self.assertIn("failed", [line.get("error") for line in got[0]])
+        self.shows("base\n")
+        second.edit([(5, 5, "later")])
+        self.shows("base\nlater")
+
+    def test_numbers_that_no_language_has(self) -> None:
+        (peer, first, sent, asked), (_, second, _, _) = self.editors
+        first.edit([(0, 0, "good")])
+        asked.append(b'{"do":"edit","version":0,"changes":[],"edits":' + b"9" * 4_300 + b"}")
+        asked.append(b'{"do":"edit","version":0,"changes":[]}')
+        asked.append(b'{"do":"on","id":' + b"9" * 4_300 + b"}")
+        got = self.meet()
+        self.assertEqual([line.get("error") for line in got[0] if line.get("answer") == "edit"],
+                         [None, "field", "field"])
+        first.made = peer.carry.edits
+        asked.append(json.dumps({"do": "text", "edits": first.made}).encode())
+        self.meet()
+        second.edit([(4, 4, " and later")])
+        self.shows("good and later")
+
+    def test_an_edit_that_is_refused_before_it_begins_is_answered(self) -> None:
+        (_, first, _, _), _ = self.editors
+        with mock.patch.object(self.engine.session, "_is_stale", True), mock.patch.object(
+                self.engine.session, "arrived", lambda: []):
+            first.edit([(0, 0, "x")])
+            got = self.meet()
+        self.assertEqual([(line["error"], line["edits"]) for line in got[0] if line.get("answer") == "edit"],
+                         [("unkept", 1)])
+        first.edit([(0, 0, "y")])
+        self.shows("y")
+
+    def test_halves_of_pairs_end_nothing(self) -> None:
+        (_, first, _, asked), _ = self.editors
+        for line in ({"id": "\ud800", "do": "on"}, {"id": 1, "do": "save", "path": "/\udc80"},
+                     {"do": "\ud800", "id": "\udfff"}, {"id": {}, "do": "on"}):
+            asked.append(json.dumps(line).encode())
+            self.assertTrue(any("answer" in one for one in self.meet()[0]), line)
+        first.edit([(0, 0, "on")])
+        self.shows("on")
+
+    def test_many_changes_take_no_square_of_time(self) -> None:
+        (_, first, _, _), (_, second, _, _) = self.editors
+        first.edit([(0, 0, "word \n" * 3_000)])
+        self.meet()
+        begin = time.process_time()
+        first.edit([(6 * number, 6 * number + 4, "WORDS") for number in reversed(range(3_000))])
+        self.meet()
+        self.assertEqual(second.text, first.text)
+        self.assertLess(time.process_time() - begin, 20)
+        carrying, begin = Carrying(UNITS["utf-8"]), time.process_time()
+        for number in range(2_000):
+            carrying.changed([1 + number * 2, b"x"])
+            carrying.send()
+        carrying.edit(0, [(0, 0, "y")], 20_000)
+        self.assertLess(time.process_time() - begin, 5)
+
+    def test_doing_again_much_brings_back_what_was_taken_alone(self) -> None:
+        (peer, first, _, asked), (_, second, _, _) = self.editors
+        first.edit([(0, 0, "x" * 20_000)])
+        self.meet()
+        second.edit([(10, 15, "")])
+        self.meet()
+        for what, size in ("undo", 0), ("redo", 19_995), ("undo", 0), ("redo", 19_995):
+            asked.append(json.dumps({"do": what}).encode())
+            self.meet()
+            self.assertEqual(len(first.text), size)
+        self.shows("x" * 19_995)
+
+    def test_nobody_else_names_this_person(self) -> None:
+        (_, first, _, asked), _ = self.editors
+        first.edit([(0, 0, "mine")])
+        self.meet()
+        number = self.engine.session.number
+        said = [written(Present(bytes(16), bytes([site % 256] * 16), site, "#000000", None, None, "Mallory"))
+                for site in (number, number % 65_000 + 1)]
+        with mock.patch.object(self.engine.session, "show", lambda shows: said):
+            self.meet()
+        asked.append(json.dumps({"do": "who", "id": 1, "version": first.version, "begin": 0, "end": 4}).encode())
+        self.assertEqual([line["stretches"] for line in self.meet()[0] if line.get("answer") == "who"],
+                         [[{"begin": 0, "end": 4, "site": number, "own": True}]])
+
+    def test_bytes_in_a_row_that_are_no_text_stay_where_they_are(self) -> None:
+        text = Measured(b"ab" + b"\x80" * 50_000 + b"cd")
+        for change in Change(2, 2, b"x"), Change(30_000, 30_001, b""), Change(50_002, 50_002, b"\xe2\x82"):
+            whole = text.whole(change)
+            self.assertLess(whole.end - whole.begin, 10)
+            text.replace(whole)
+
+    def test_who_wrote_it_is_inside_the_text(self) -> None:
+        data = "a🎉b".encode() + b"\x80\xe2\x82"
+        for units in UNITS.values():
+            text = Measured(data)
+            stretches = [Wrote(place, place + 1, place) for place in range(len(data))]
+            found = in_units(text, stretches, units)
+            self.assertEqual(found[-1].end, text.length(units))
+            for one, other in zip(found, found[1:]):
+                self.assertEqual(one.end, other.begin)
+
+    def test_texts_that_differ_everywhere_are_compared_soon(self) -> None:
+        chance, begin = random.Random(1), time.process_time()
+        old = "".join(f"{chance.random()}\n\n" for _ in range(2_500))
+        new = old.replace("\n\n", " \n\n")
+        found = differences(old, new)
+        text = old
+        for first, last, part in found:
+            text = text[:first] + part + text[last:]
+        self.assertEqual(text, new)
+        self.assertLess(time.process_time() - begin, 5)
+
+
+class Apart(Engines):
+    """An engine by the real command."""
+
+    def run_note(self, *words: str, link: str = "", status: int) -> str:
+        """What a command says on standard error that ends with this status."""
+        done = subprocess.run([NOTE, *words], capture_output=True, timeout=60, check=False, env={
+            **os.environ, "VIALSHOAL_DATA": str(self.folder / "data"), "VIALSHOAL_LINK": link})
+        self.assertEqual(done.returncode, status, done.stderr)
+        return done.stderr.decode()
+
+    def test_what_is_for_another_note_is_not_typed_into_this_one(self) -> None:
+        other = self.opened(self.person("other"), "note", self.file_log())
+        type_at_the_end(other, "")
+        link = self.person("other").link()
+        editor = self.editor()
+        for words in (["append", "note", "secret"], ["engine", "note"], ["replace", "note", "a", "b"]):
+            self.assertIn("another one", self.run_note(*words, link=link, status=2))
+        self.assertIn("another log", self.run_note("append", "note", "x", "--log", str(self.folder / "l" / "x"), status=2))
+        editor.ask("on")
+        self.assertEqual(editor.text, "")
+
+    def test_words_that_are_no_text(self) -> None:
+        self.assertIn("no UTF-8", self.run_note("append", "note", os.fsdecode(b"\xff"), status=2))
+        self.run_note("append", "note", "x\u009b31m", status=0)
+        done = subprocess.run(f"{NOTE} cat note >&-", shell=True, capture_output=True, timeout=60, check=False,
+                              env={**os.environ, "VIALSHOAL_DATA": str(self.folder / "data")})
+        self.assertEqual((done.returncode, b"Traceback" in done.stderr), (2, False))
+        done = subprocess.run(["script", "-qc", f"{NOTE} cat note --json", "/dev/null"], capture_output=True, timeout=60,
+                              check=False, env={**os.environ, "VIALSHOAL_DATA": str(self.folder / "data")})
+        self.assertIn(b"x\\u009b31m", done.stdout)
+
+    def test_an_editor_that_goes_while_another_opens(self) -> None:
+        editors = [self.editor(opens=False) for _ in range(3)]
+        for editor in editors:
+            editor.send({"do": "open", "protocol": 1, "units": ["utf-8"]})
+        for editor in editors[:2]:
+            editor.kill()
+        editors[2].wait_for(lambda: any(line.get("answer") == "open" for line in editors[2].lines), "the note")
+
+
+if __name__ == "__main__":
+    import unittest
+    unittest.main()

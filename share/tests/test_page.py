@@ -1,0 +1,400 @@
+"""The page in Chromium: what is typed in one window is shown in the others, and is what the note's file has."""
+from __future__ import annotations
+
+import http.server
+import os
+import pathlib
+import random
+import shutil
+import signal
+import tempfile
+import threading
+import unittest
+
+from share.measured import swapped
+from share.tests.pages import Server, engine_of
+from share.tests.support import Case, Person, type_at_the_end, wait_for
+
+try:
+    from selenium.webdriver.common.keys import Keys
+
+    from share.tests.browser import CHROMIUM, DRIVER, MIRROR, Browser, Window
+    IS_HERE = bool(CHROMIUM and DRIVER)
+except ModuleNotFoundError:
+    IS_HERE = False
+
+EVIL = """<!DOCTYPE html><title>evil</title><iframe src="http://HOST/"></iframe><script>
+const got = [];
+const say = (what) => (value) => got.push(what);
+const tries = [
+  fetch("http://HOST/").then((one) => one.text()).then(say("a page")),
+  fetch("http://HOST/client.js").then((one) => one.text()).then(say("a script")),
+  fetch("http://HOST/", { mode: "no-cors" }).then((one) => { if (one.ok) got.push("an answer"); }),
+  import("http://HOST/client.js").then(say("a module")),
+  new Promise((yes, no) => { const it = document.createElement("script"); it.onload = yes; it.onerror = no;
+    it.src = "http://HOST/secret.js"; document.head.append(it); }).then(say("a classic script")),
+  new Promise((yes, no) => { const it = new WebSocket("ws://HOST/socket"); it.onopen = yes; it.onerror = no; })
+    .then(say("a socket")),
+  new Promise((yes) => setTimeout(yes, 500)).then(() => { if (frames[0].length || frames[0].document) got.push("a frame"); }),
+];
+Promise.allSettled(tries).then(() => { document.title = `got: ${got.join(", ")}`; });
+</script>"""
+
+# Presses keys when 0.6 seconds more have gone by, for the page: what it shows then, and which keys it has kept.
+KEPT_KEYS = """((keys) => {
+  const before = performance.now;
+  performance.now = () => before.call(performance) + 600;
+  const field = document.activeElement;
+  const kept = keys.map((key) => !field.dispatchEvent(new KeyboardEvent("keydown", {
+    key, keyCode: { Backspace: 8, Enter: 13 }[key] ?? 0, bubbles: true, cancelable: true })));
+  performance.now = before;
+  return [MIRROR.getValue(), kept];
+})(arguments[0])"""
+
+
+def setUpModule() -> None:  # pylint: disable=invalid-name
+    """Starts one Chromium for all."""
+    global BROWSER  # pylint: disable=global-statement
+    BROWSER = Browser()
+    unittest.addModuleCleanup(BROWSER.close)
+
+
+def is_fault(line: str) -> bool:
+    """Whether what the browser says of a page is a fault of the page's, and no end of a server or an engine."""
+    return "favicon" not in line and "WebSocket connection to" not in line
+
+
+def kept(data: pathlib.Path) -> str:
+    """What the note's file says."""
+    return swapped(Person(data).text()).decode()
+
+# Compares positions with those that CodeMirror counts from the front, while a text changes at random.
+PLACES = """const done = arguments[arguments.length - 1];
+import("/places.js").then(({ Places }) => {
+  const cm = CodeMirror(document.createElement("div"), { lineSeparator: "\\n" });
+  const places = new Places(cm);
+  const wrong = [];
+  let [lines, seed] = [0, 7];
+  const chance = (most) => {
+    seed = (seed * 1103515245 + 12345) % 2147483648;
+    return (seed >> 16) % most;
+  };
+  for (let turn = 0; turn < 2000; turn += 1) {
+    const [from, to] = [chance(60), chance(12)].map((step, at, steps) => cm.posFromIndex(at ? steps[0] + step : step));
+    if (chance(3)) cm.replaceRange("ab\\n\\r\\n漢\\ncd".slice(chance(5), chance(9)), from, to);
+    lines = Math.max(lines, cm.lineCount());
+    const place = cm.posFromIndex(chance(200));
+    const index = chance(200);
+    const { line, ch } = places.at(index);
+    const there = cm.posFromIndex(index);
+    if (places.of(place) !== cm.indexFromPos(place) || line !== there.line || ch !== there.ch) wrong.push([turn, index, line, ch]);
+  }
+  done([wrong, lines > 5]);
+}, (why) => done(String(why)));"""
+
+
+class Pages(Case):
+    """A test of pages."""
+
+    def assert_kept(self, data: pathlib.Path, *windows: Window) -> None:
+        """That windows show the same, which is what the note's file says."""
+        def texts() -> list[str]:
+            return [kept(data), *(window.text() for window in windows)]
+        try:
+            wait_for(lambda: len(set(texts())) == 1, "all to be the same")
+        except AssertionError as why:
+            raise AssertionError(f"{why}: {texts()}") from why
+
+    def assert_no_faults(self, *windows: Window) -> None:
+        """That nothing of these pages broke their own rules, or failed."""
+        self.assertEqual([line for window in windows for line in window.told() if is_fault(line)], [])
+
+
+class Writing(Pages):
+    """Two windows of one person, with one note for all tests."""
+
+    @classmethod
+    def setUpClass(cls) -> None:
+        super().setUpClass()
+        cls.data = pathlib.Path(tempfile.mkdtemp(prefix="share-"))
+        cls.addClassCleanup(shutil.rmtree, cls.data, ignore_errors=True)
+        cls.server = Server(cls.data, "--no-browser")
+        cls.addClassCleanup(cls.server.close)
+        cls.first, cls.second = BROWSER.open(cls.server.path), BROWSER.open(cls.server.path)
+        cls.addClassCleanup(cls.second.close)
+        cls.addClassCleanup(cls.first.close)
+
+    def setUp(self) -> None:
+        super().setUp()
+        self.first.run(f"{MIRROR}.setValue('')")
+        self.second.shows("")
+
+    def tearDown(self) -> None:
+        self.assert_kept(self.data, self.first, self.second)
+        self.assert_no_faults(self.first, self.second)
+
+    def test_two_windows_type_delete_and_take_back(self) -> None:
+        first, second = self.first, self.second
+        first.type("one two\nthree\n")
+        second.shows("one two\nthree\n")
+        second.type("zero ", Keys.END, Keys.BACKSPACE)
+        first.shows("zero one tw\nthree\n")
+        second.type(Keys.CONTROL, "z")
+        first.shows("zero one two\nthree\n")
+        first.press("undo")
+        second.shows("zero one two\n")
+        first.press("undo")
+        second.shows("zero ")
+        first.press("redo")
+        first.press("redo")
+        second.shows("zero one two\nthree\n")
+        first.type(Keys.CONTROL, Keys.HOME, Keys.NULL, Keys.DELETE, Keys.DELETE)
+        second.type(Keys.CONTROL, Keys.END, Keys.NULL, "four")
+        for window in first, second:
+            window.shows("ro one two\nthree\nfour")
+
+    def test_line_ends_and_long_characters_are_kept(self) -> None:
+        first, second = self.first, self.second
+        text = "one\r\ntwo\rthree\n\U0001f370\U0001f44d\U0001f3fd\r\n\t\u2028\0end"
+        second.paste(text)
+        first.shows(text)
+        first.to(len("one\r"))
+        first.type("x", Keys.ENTER)
+        text = text.replace("one\r\n", "one\rx\n\n")
+        second.shows(text)
+        second.to(text.index("\U0001f370") + len("\U0001f370".encode("utf-16-le")) // 2)
+        second.type(Keys.BACKSPACE, "\u6f22", Keys.END, Keys.BACKSPACE)
+        first.shows(text.replace("\U0001f370", "\u6f22").replace("\U0001f3fd\r", "\U0001f3fd"))
+
+    def test_what_others_are_called_and_type_is_text(self) -> None:
+        first, second = self.first, self.second
+        name, text = "<img src=x onerror=alert(1)>", "</textarea><script>document.title='bad'</script>"
+        second.rename(name)
+        second.type(text)
+        first.shows(text)
+        first.wait_for("document.querySelector('.caret b')?.textContent === words[0]", name)
+        first.wait_for("document.querySelectorAll('#people li').length === 2")
+        self.assertEqual(first.run("document.querySelectorAll('main img, main script, header img').length"), 0)
+        self.assertEqual(first.run("document.title"), "note")
+        second.type(Keys.HOME)
+        first.wait_for(f"{MIRROR}.getAllMarks()[0]?.find()?.ch === 0")
+        second.type(Keys.SHIFT, Keys.END, Keys.NULL)
+        first.wait_for(f"{MIRROR}.getAllMarks().length === 2")
+
+    def test_others_text_doesn_t_come_into_a_selection(self) -> None:
+        first, second = self.first, self.second
+        first.type("one")
+        second.shows("one")
+        first.run(f"{MIRROR}.execCommand('selectAll')")
+        second.type(Keys.HOME, "before ", Keys.END, " after")
+        first.shows("before one after")
+        self.assertEqual(first.run(f"{MIRROR}.getSelection()"), "one")
+        second.shows("before one after")
+        second.to(len("before one"))
+        first.to(len("before one"))
+        second.type("!")
+        first.shows("before one! after")
+        first.type("?")
+        second.shows("before one?! after")
+
+    def test_positions_are_those_of_codemirror(self) -> None:
+        self.assertEqual(self.first.driver.execute_async_script(PLACES), [[], True])
+
+    def test_very_much_is_replaced_at_once(self) -> None:
+        first, second = self.first, self.second
+        first.paste("".join(f"one {number} two\n" for number in range(200)))
+        first.run("((cm) => cm.operation(() => { for (const one = cm.getSearchCursor('two'); one.findNext();) "
+                  "one.replace('\U0001f370'); }))(%s)" % MIRROR)
+        second.shows("".join(f"one {number} \U0001f370\n" for number in range(200)))
+
+    def test_keys_are_kept_until_the_last_edit_is_answered(self) -> None:
+        first, second = self.first, self.second
+        engine = engine_of(self.data)
+        os.kill(engine, signal.SIGSTOP)
+        first.type("a")
+        # Half a second later the next keys wait, for 0.2 seconds at most.
+        self.assertEqual(first.run(KEPT_KEYS.replace("MIRROR", MIRROR), ["b", "Backspace", "\u6f22", "Enter"]), ["a", [True] * 4])
+        first.shows("a\u6f22\n")
+        self.assertEqual(first.run(KEPT_KEYS.replace("MIRROR", MIRROR), ["c"]), ["a\u6f22\n", [True]])
+        os.kill(engine, signal.SIGCONT)
+        first.shows("a\u6f22\nc")
+        second.shows("a\u6f22\nc")
+        second.type("others' ")
+        first.shows("others' a\u6f22\nc")
+
+    def test_typing_goes_on_while_the_engine_is_slow(self) -> None:
+        first, second = self.first, self.second
+        engine = engine_of(self.data)
+        os.kill(engine, signal.SIGSTOP)
+        timer = threading.Timer(1.2, os.kill, (engine, signal.SIGCONT))
+        timer.start()
+        for number in range(10, 50):
+            first.type(f"{number},")
+        first.type(Keys.BACKSPACE, Keys.ENTER, "end")
+        timer.join()
+        text = ",".join(map(str, range(10, 50))) + "\nend"
+        first.shows(text)
+        second.shows(text)
+
+    def test_two_windows_at_random(self) -> None:
+        chance = random.Random(7)
+        windows = [self.first, self.second]
+        for turn in range(24):
+            window = windows[turn % 2]
+            window.to(chance.randrange(1 + len(window.text())))
+            window.type(*chance.choice([["ab c"], ["x", Keys.ENTER, "y"], [Keys.BACKSPACE] * 3, [Keys.DELETE], [Keys.CONTROL, "z"],
+                                        [Keys.SHIFT, Keys.LEFT, Keys.LEFT, Keys.NULL, "\u6f22\U0001f389"]]))
+
+
+class Alone(Pages):
+    """One window, with a server of its own."""
+
+    def setUp(self) -> None:
+        super().setUp()
+        self.data = self.folder / "data"
+
+    def server(self, **more: str) -> Server:
+        """A server."""
+        server = Server(self.data, "--no-browser", **more)
+        self.addCleanup(server.close)
+        return server
+
+    def window(self, server: Server) -> Window:
+        """A window, which has no faults at its end."""
+        window = BROWSER.open(server.path)
+        self.addCleanup(window.close)
+        self.addCleanup(self.assert_no_faults, window)
+        self.addCleanup(window.run, "window.onbeforeunload = null")
+        return window
+
+    def test_the_address_has_no_secret_and_the_page_can_be_loaded_anew(self) -> None:
+        server = self.server()
+        window = self.window(server)
+        self.assertEqual(window.driver.current_url, f"http://{server.host}/")
+        self.assertNotIn(server.secret, window.run("document.documentElement.outerHTML + JSON.stringify(history.state)"))
+        window.type("kept")
+        window.state("kept here alone")
+        wait_for(lambda: kept(self.data) == "kept", "the text to be kept")
+        window.driver.refresh()
+        window.wait_for(f"typeof CodeMirror === 'function' && document.title === 'note' && !{MIRROR}.getOption('readOnly')")
+        window.shows("kept")
+
+    def test_the_address_alone_opens_no_note(self) -> None:
+        server = self.server()
+        BROWSER.driver.switch_to.new_window("window")
+        window = Window(BROWSER, BROWSER.driver.current_window_handle)
+        self.addCleanup(window.close)
+        for address in (f"http://{server.host}/", f"http://{server.host}/#{'0' * 32}"):
+            window.driver.get(address)
+            window.state("This page can't be opened so")
+            self.assertEqual([window.text(), window.run("document.title"), window.driver.current_url],
+                             ["", "Note", f"http://{server.host}/"])
+
+    def test_a_page_of_another_origin_gets_nothing(self) -> None:
+        server = self.server()
+        window = self.window(server)
+        page = EVIL.replace("HOST", server.host).encode()
+
+        class Evil(http.server.BaseHTTPRequestHandler):
+            """Another server of this machine."""
+
+            def do_GET(self) -> None:  # pylint: disable=invalid-name
+                """Answers all with the page."""
+                self.send_response(200)
+                self.send_header("Content-Type", "text/html")
+                self.end_headers()
+                self.wfile.write(page)
+
+            def log_message(self, *_: object) -> None:
+                """Says nothing."""
+
+        evil = http.server.ThreadingHTTPServer(("127.0.0.1", 0), Evil)
+        threading.Thread(target=evil.serve_forever, daemon=True).start()
+        self.addCleanup(evil.server_close)
+        self.addCleanup(evil.shutdown)
+        window.driver.get(f"http://127.0.0.1:{evil.server_address[1]}/")
+        window.wait_for("document.title.startsWith('got:')")
+        self.assertEqual(window.run("document.title"), "got:")
+        window.told()
+
+    def test_one_writes_on_while_the_log_is_away(self) -> None:
+        redis = self.redis()
+        other = self.opened(self.person("other"), url=redis.url)
+        type_at_the_end(other, "")
+        link = self.person("other").link()
+        window = self.window(self.server(VIALSHOAL_LINK=link))
+        window.state("all sent")
+        redis.kill()
+        type_at_the_end(other, "theirs\n")
+        window.type("mine")
+        window.state("offline, ")
+        self.assertEqual(window.text(), "mine")
+        redis.start()
+        wait_for(lambda: (other.take_in(), b"mine" in other.text and b"theirs" in other.text)[1], "both to meet")
+        window.shows(swapped(bytes(other.text)).decode())
+        window.state("all sent")
+
+    def test_an_engine_that_ended_is_started_again(self) -> None:
+        server = self.server()
+        window = self.window(server)
+        window.type("answered")
+        wait_for(lambda: kept(self.data) == "answered", "the text to be kept")
+        engine = engine_of(self.data)
+        os.kill(engine, signal.SIGSTOP)
+        window.type(" or not")
+        os.kill(engine, signal.SIGKILL)
+        window.state("kept here alone")
+        window.shows("answered")
+        window.element("#words p button").click()
+        self.assertEqual(window.run("document.querySelector('#past-text .CodeMirror').CodeMirror.getValue()"), "answered or not")
+        window.press("back")
+        window.type("again")
+        self.assert_kept(self.data, window)
+
+    def test_a_server_that_ended_is_not_looked_for_again(self) -> None:
+        server = self.server()
+        window = self.window(server)
+        window.type("kept")
+        wait_for(lambda: kept(self.data) == "kept", "the text to be kept")
+        server.close()
+        window.state("bin/note web has ended. What was answered is kept.")
+        window.type("not")
+        self.assertEqual(window.text(), "kept")
+
+    def test_the_past_has_colours_of_who_wrote_what(self) -> None:
+        other = self.opened(self.person("other"), url=self.file_log())
+        type_at_the_end(other, "theirs ")
+        window = self.window(self.server(VIALSHOAL_LINK=self.person("other").link()))
+        window.shows("theirs ")
+        window.type(Keys.END, "mine")
+        window.type(Keys.HOME, Keys.DELETE)
+        window.shows("heirs mine")
+        window.press("history")
+        window.wait_for("document.getElementById('at').max === '3'")
+        past = "document.querySelector('#past-text .CodeMirror').CodeMirror.getValue()"
+        window.wait_for(f"{past} === 'heirs mine'")
+        window.wait_for("document.querySelector('#past-text .of-1')?.textContent === 'mine'")
+        self.assertEqual(window.element("#past-text .of-0").text, "heirs ")
+        self.assertRegex(window.element("#step").text, "step 3 of 3: .*, 1 deleted")
+        window.press("earlier")
+        window.wait_for(f"{past} === 'theirs mine'")
+        window.element("#at").send_keys(Keys.ARROW_LEFT)
+        window.wait_for(f"{past} === 'theirs '")
+        self.assertEqual([one.text for one in window.driver.find_elements("css selector", "#authors li")][1:], [])
+        window.element("#at").send_keys(Keys.HOME)
+        window.wait_for(f"{past} === '' && document.getElementById('step').textContent === 'at the beginning, of 3 steps'")
+        window.press("back")
+        window.type("!")
+        self.assertEqual(window.text(), "!heirs mine")
+
+
+def load_tests(loader: unittest.TestLoader, tests: unittest.TestSuite, _: object) -> unittest.TestSuite:
+    """The tests, where there is a browser."""
+    if IS_HERE:
+        return tests
+    print("Chromium, its driver or python3-selenium isn't installed: the page's tests in a browser are skipped.", flush=True)
+    return loader.suiteClass()
+
+
+if __name__ == "__main__":
+    unittest.main()

@@ -1,0 +1,369 @@
+"""The page's server, without a browser: who is answered what, and what a page can and can't ask for."""
+import asyncio
+import functools
+import os
+import pathlib
+import shutil
+import signal
+import stat
+import subprocess
+import tempfile
+import unittest
+from unittest import mock
+
+import aiohttp
+
+from share.lines import MOST_LINE
+from share.tests.pages import Server, engine_of, talking
+from share.tests.support import TOP, Case, Person, wait_for
+from share.web import guard
+from share.web.bridge import MOST_MESSAGE, NO_FIELDS, Assembler, refusal
+from share.web.opening import redirect
+from share.web.server import files
+from share.words import Trouble
+
+VECTORS = TOP / "share" / "tests" / "vectors.mjs"
+UPGRADE = ["Connection: Upgrade", "Upgrade: websocket", "Sec-WebSocket-Version: 13",
+           "Sec-WebSocket-Key: AAAAAAAAAAAAAAAAAAAAAA=="]
+POLICY_VIOLATION, TOO_BIG = 1008, 1009
+
+
+class Vectors(unittest.TestCase):
+    """The page's client, in Node."""
+
+    def test_the_client_does_with_lines_what_the_vectors_say(self) -> None:
+        done = subprocess.run(["node", VECTORS], capture_output=True, text=True, check=False, timeout=60)
+        self.assertEqual(done.returncode, 0, done.stdout + done.stderr)
+        self.assertRegex(done.stdout, r"^[2-9][0-9] cases, 0 failed\n$")
+
+
+class Bridging(unittest.TestCase):
+    """What of a page's messages is handed on, without a server."""
+
+    def test_lines_are_made_of_messages_wherever_these_were_cut(self) -> None:
+        data = b'{"do":"on"}\n\n{"do":"undo"}\n{"do"'
+        for size in range(1, len(data) + 1):
+            assembler = Assembler()
+            found = [line for at in range(0, len(data), size) for line in assembler.lines(data[at:at + size])]
+            self.assertEqual(found, [b'{"do":"on"}', b"", b'{"do":"undo"}'], size)
+
+    def test_a_line_that_is_too_long_is_passed_over(self) -> None:
+        assembler = Assembler()
+        piece = b"x" * (MOST_LINE // 4)
+        for _ in range(4):
+            self.assertEqual(assembler.lines(piece), [])
+        self.assertEqual(assembler.lines(b"x"), [])
+        self.assertEqual(assembler.lines(b"x\nshort\n"), [None, b"short"])
+        for _ in range(4):
+            assembler.lines(piece)
+        self.assertEqual(assembler.lines(b"\n"), [4 * piece])
+
+    def test_no_request_names_a_file_or_a_link(self) -> None:
+        self.assertIsNone(refusal(b'{"do":"edit","version":0,"edits":1,"changes":[]}'))
+        for line in (b'{"do":"save","path":"/tmp/x"}', b'{"do":"edit","do":"save"}', b'{"do":"link"}', b'{"do":["save"]}', b"{}"):
+            self.assertEqual(refusal(line)["error"], "unknown", line)
+        for name in NO_FIELDS:
+            self.assertEqual(refusal(b'{"do":"on","id":3,"%s":1}' % name.encode())["id"], 3)
+        for line in (b"", b"[]", b"tea", b'{"do":"\xff"}', b"[" * 100_000):
+            self.assertEqual(refusal(line)["error"], "json", line[:9])
+        self.assertEqual(refusal(None)["error"], "long")
+
+
+class Missing(unittest.TestCase):
+    """A machine that hasn't all."""
+
+    def test_a_package_that_isn_t_here_is_named(self) -> None:
+        with mock.patch("share.web.server.CODEMIRROR", pathlib.Path("/none")):
+            with self.assertRaisesRegex(Trouble, "libjs-codemirror"):
+                files()
+
+
+class Served(Case, unittest.IsolatedAsyncioTestCase):
+    """A test with a server of its own."""
+
+    @functools.cached_property
+    def server(self) -> Server:
+        """The server."""
+        return self.serve()
+
+    async def asyncSetUp(self) -> None:
+        asyncio.get_running_loop().set_debug(False)
+
+    def serve(self, *words: str, **environment: str) -> Server:
+        """A server more."""
+        server = Server(self.folder / "data", *words, **environment)
+        self.addCleanup(server.close)
+        return server
+
+
+class Starting(Served):
+    """The secret, and how a browser gets it."""
+
+    def test_a_file_of_this_account_alone_has_the_secret(self) -> None:
+        path = self.server.path
+        self.assertEqual([stat.S_IMODE(os.stat(one).st_mode) for one in (path, path.parent)], [0o600, 0o700])
+        self.assertRegex(self.server.secret, "^[0-9a-f]{32}$")
+        self.assertNotEqual(self.server.secret, self.serve().secret)
+        self.assertNotIn(self.server.secret, self.server.said)
+        self.assertEqual(self.server.close(), 0)
+        self.assertFalse(path.exists())
+
+    def test_no_command_line_has_it(self) -> None:
+        browser = self.folder / "browser"
+        browser.write_text(f"#!/bin/sh\necho \"$@\" >>{self.folder}/seen\nexec sleep 3\n")
+        browser.chmod(0o700)
+        server = self.serve(BROWSER=str(browser))
+        self.assertIn("is open in the browser", server.said)
+        seen = wait_for(lambda: (self.folder / "seen").exists() and (self.folder / "seen").read_text(), "a browser")
+        self.assertEqual(seen.strip(), server.path.as_uri())
+
+        async def look() -> bytes:
+            async with talking(server, opens=True):
+                return b"".join(path.read_bytes() for path in pathlib.Path("/proc").glob("[0-9]*/cmdline") if path.exists())
+
+        lines = asyncio.run(look())
+        self.assertIn(b"engine\0note", lines)
+        self.assertNotIn(server.secret.encode(), lines)
+
+    def test_the_file_s_path_is_printed_where_no_browser_is_found(self) -> None:
+        server = self.serve(BROWSER="", DISPLAY="", WAYLAND_DISPLAY="")
+        self.assertEqual(server.said, f"Open this file in a browser: {server.path}\n")
+        self.assertEqual(server.close(signal.SIGINT), 0)
+
+    def test_what_can_t_be_a_note_or_a_log_is_refused_at_once(self) -> None:
+        self.assert_says(self.note("web", "a b", "--no-browser"), "can't be a note's name")
+        self.assert_says(self.note("web", "note", "--no-browser", "--log", "ftp://x"), "can't be a log")
+
+    async def test_the_user_has_a_name(self) -> None:
+        async with talking(self.serve(VIALSHOAL_NAME="Ada")) as talk:
+            self.assertEqual((await talk.line(notice="welcome"))["name"], "Ada")
+
+    def test_a_link_in_the_place_of_the_file_is_not_followed(self) -> None:
+        run, target = self.folder / "data" / "run", self.folder / "target"
+        run.mkdir(parents=True)
+        (run / "note.7.html").symlink_to(target)
+        with redirect("note", 7, "secret") as path:
+            self.assertFalse(path.is_symlink())
+            self.assertEqual([stat.S_IMODE(os.stat(one).st_mode) for one in (path, run)], [0o600, 0o700])
+        self.assertEqual([*run.iterdir(), target.exists()], [False])
+
+
+class OneServer(Case, unittest.IsolatedAsyncioTestCase):
+    """Tests that have a server in common."""
+
+    @classmethod
+    def setUpClass(cls) -> None:
+        super().setUpClass()
+        cls.data = pathlib.Path(tempfile.mkdtemp(prefix="share-"))
+        cls.addClassCleanup(shutil.rmtree, cls.data, ignore_errors=True)
+        cls.server = Server(cls.data)
+        cls.addClassCleanup(cls.server.close)
+
+    async def asyncSetUp(self) -> None:
+        asyncio.get_running_loop().set_debug(False)
+
+
+class Answers(OneServer):
+    """Requests over HTTP."""
+
+    def test_the_page_is_answered_at_its_address(self) -> None:
+        for path in ("/", "/page.js", "/client.js", "/page.css", "/codemirror/lib/codemirror.js"):
+            status, head, body = self.server.get(path)
+            self.assertEqual(status, 200, path)
+            self.assertNotIn(self.server.secret.encode(), head + body)
+        page = self.server.get()[2]
+        self.assertNotRegex(page, rb"(?i)<script>|\son\w+=|style=|https?:|//")
+
+    def test_no_script_makes_elements_of_text(self) -> None:
+        for path in (TOP / "share" / "web").glob("*.js"):
+            script = path.read_text(encoding="utf-8")
+            self.assertNotRegex(script, r"innerHTML|outerHTML|insertAdjacentHTML|document\.write|eval\(|Function\(|setAttribute",
+                                path)
+            self.assertNotRegex(script.replace("ws://${location.host}/socket", ""), r"\w+://", path)
+
+    def test_hosts_of_other_names_get_nothing(self) -> None:
+        port = self.server.port
+        for host in ("localhost:%d" % port, "127.0.0.1", "127.0.0.1:%d" % (port + 1), "127.0.0.1:0%d" % port, "evil.example",
+                     "127.0.0.1.:%d" % port, "evil.example:%d" % port, "[::1]:%d" % port, "127.1:%d" % port,
+                     "a@127.0.0.1:%d" % port, "127.0.0.1:%d, evil.example" % port):
+            self.nothing(self.server.get(host=host))
+            self.nothing(self.server.get("/socket", *UPGRADE, f"Origin: http://{host}", host=host))
+        self.nothing(self.server.get(host=None))
+        self.nothing(self.server.get("/", "Host: evil.example"))
+        self.nothing(self.server.raw(b"GET / HTTP/1.0\r\n\r\n"))
+        self.nothing(self.server.get("http://evil.example/", host="evil.example"))
+
+    def test_pages_of_other_origins_get_nothing(self) -> None:
+        own = f"http://{self.server.host}"
+        for origin in ("null", "http://evil.example", "https://" + self.server.host, "http://127.0.0.1", "file://", own + "/",
+                       own + ".evil.example", own.replace("127.0.0.1", "localhost"), own.upper(), ""):
+            self.nothing(self.server.get("/", f"Origin: {origin}"))
+            self.nothing(self.server.get("/client.js", f"Origin: {origin}"))
+            self.nothing(self.server.get("/socket", *UPGRADE, f"Origin: {origin}"))
+        self.nothing(self.server.get("/socket", *UPGRADE))
+        self.nothing(self.server.get("/socket", *UPGRADE, f"Origin: {own}", "Origin: http://evil.example"))
+        for site in ("cross-site", "same-site", "none"):
+            self.nothing(self.server.get("/page.js", f"Sec-Fetch-Site: {site}"))
+        for destination in ("iframe", "image", "script", "empty"):
+            self.nothing(self.server.get("/", "Sec-Fetch-Site: cross-site", f"Sec-Fetch-Dest: {destination}"))
+        self.assertEqual(self.server.get("/", "Sec-Fetch-Site: cross-site", "Sec-Fetch-Dest: document")[0], 200)
+
+    def nothing(self, answer: tuple[int, bytes, bytes]) -> None:
+        """That a request was refused, and nothing of the page or the note came."""
+        status, head, body = answer
+        self.assertIn(status, (400, 403), head)
+        self.assertNotIn(b"101 Switching", head)
+        self.assertLess(len(body), 200)
+
+    def test_no_path_leads_to_other_files(self) -> None:
+        for path in ("/../bridge.py", "/%2e%2e/bridge.py", "/codemirror/../../../../etc/passwd", "/codemirror/%2e%2e/x",
+                     "//etc/passwd", "/etc/passwd", "/bridge.py", "/package.json", "/page.html", "/socket/x", "/note",
+                     "/codemirror/mode/clike/clike.js", "/page.js%00", "/favicon.ico"):
+            self.assertIn(self.server.get(path)[0], (400, 404), path)
+        for method in (b"POST", b"PUT", b"DELETE", b"OPTIONS", b"HEAD", b"TRACE"):
+            request = b"%s / HTTP/1.1\r\nHost: %s\r\nConnection: close\r\n\r\n" % (method, self.server.host.encode())
+            self.assertEqual(self.server.raw(request)[0], 405, method)
+
+    def test_each_answer_has_the_browser_s_rules(self) -> None:
+        answers = [self.server.get(), self.server.get("/page.js"), self.server.get("/none"), self.server.get(host="evil")]
+        self.assertEqual([status for status, _, _ in answers], [200, 200, 404, 403])
+        for _, head, _ in answers:
+            for name, value in guard.rules(self.server.port).items():
+                self.assertIn(f"\r\n{name}: {value}".encode(), head)
+            self.assertNotIn(b"unsafe", head)
+            self.assertNotIn(b"Access-Control", head)
+            self.assertIn(b"default-src 'none'; script-src 'self'; style-src 'self'; connect-src ws://127.0.0.1:", head)
+
+    def test_rubbish_doesn_t_end_the_server(self) -> None:
+        for data in (b"\0\1\2\r\n\r\n", b"GET\r\n\r\n", b"GET / HTTP/9.9\r\n\r\n", b"GET / HTTP/1.1\r\nHost" + b"x" * 70_000):
+            self.assertIn(self.server.raw(data + b"\r\n\r\n", ends=True)[0], (0, 400), data[:20])
+        self.assertEqual(self.server.get()[0], 200)
+
+
+class Strangers(OneServer):
+    """WebSockets of those who aren't let in."""
+
+    async def test_nothing_comes_before_the_secret(self) -> None:
+        wrong = ["0" * 32, self.server.secret[:-1], self.server.secret + "0", self.server.secret + "\n", self.server.secret.upper(),
+                 '{"id":1,"do":"open","protocol":1,"units":["utf-16"]}\n', "#" + self.server.secret]
+        for secret in wrong:
+            async with talking(self.server, secret) as talk:
+                self.assertEqual(await talk.code(), POLICY_VIOLATION, secret)
+                self.assertEqual(talk.lines, [])
+        async with talking(self.server, "") as talk:
+            await talk.socket.send_str(self.server.secret)
+            self.assertEqual(await talk.code(), POLICY_VIOLATION)
+        async with talking(self.server, "") as talk:
+            await talk.socket.send_bytes(b"")
+            self.assertEqual(await talk.code(), POLICY_VIOLATION)
+        self.assertFalse((self.data / "notes").exists())
+
+    async def test_another_host_or_origin_gets_no_socket(self) -> None:
+        for headers in ({"Origin": "http://evil.example"}, {"Origin": "null"}, {"Host": "evil.example"},
+                        {"Host": f"localhost:{self.server.port}", "Origin": f"http://localhost:{self.server.port}"}):
+            with self.assertRaises(aiohttp.WSServerHandshakeError) as refused:
+                async with talking(self.server, **headers):
+                    pass
+            self.assertEqual(refused.exception.status, 403)
+
+    async def test_a_huge_message_ends_the_socket(self) -> None:
+        for secret in "", None:
+            async with talking(self.server, secret) as talk:
+                await talk.socket.send_bytes(b"x" * (MOST_MESSAGE + 1))
+                self.assertEqual(await talk.code(), TOO_BIG)
+        async with talking(self.server) as talk:
+            await talk.line(notice="welcome")
+
+    async def test_strangers_are_few(self) -> None:
+        held = []
+        try:
+            with self.assertRaises(aiohttp.WSServerHandshakeError) as refused:
+                for _ in range(100):
+                    held.append(talking(self.server, ""))
+                    await held[-1].__aenter__()
+            self.assertEqual(refused.exception.status, 503)
+            self.assertEqual(len(held), 17)
+        finally:
+            for one in held[:-1]:
+                await one.__aexit__(None, None, None)
+        async with talking(self.server) as talk:
+            await talk.line(notice="welcome")
+
+
+class Sockets(OneServer):
+    """WebSockets of those who have said the secret, with one note."""
+
+    async def test_each_socket_is_an_editor(self) -> None:
+        async with talking(self.server, opens=True) as first, talking(self.server, opens=True) as second:
+            answers = [await talk.line(answer="open") for talk in (first, second)]
+            self.assertNotEqual(answers[0]["you"], answers[1]["you"])
+            await first.send({"do": "edit", "version": 0, "edits": 1, "changes": [[0, 0, "one\r\n\U0001f370"]]})
+            self.assertEqual((await second.line(notice="changes"))["changes"], [[0, 0, "one\r\n\U0001f370"]])
+            self.assertEqual((await second.ask("undo"))["done"], False)
+            self.assertEqual((await first.ask("undo"))["done"], True)
+
+    async def test_what_a_page_can_t_ask_for_is_refused(self) -> None:
+        path = self.folder / "saved"
+        async with talking(self.server, opens=True) as talk:
+            await talk.send({"do": "edit", "version": 0, "edits": 1, "changes": [[0, 0, "kept"]]})
+            for request in ({"do": "save", "path": str(path)}, {"do": "save", "path": str(path), "replace": True},
+                            {"do": "history", "path": str(path)}, {"do": "link"}, {"do": "open", "log": str(path)}):
+                self.assertEqual((await talk.ask(request.pop("do"), **request))["error"], "unknown", request)
+            await talk.socket.send_bytes(b'tea\n{"do":"edit","id":77,"do":"save","path":"/"}\n')
+            self.assertEqual((await talk.line(error="json"))["answer"], "")
+            self.assertEqual((await talk.line(id=77))["error"], "unknown")
+            await talk.send({"do": "text", "edits": 1})
+            self.assertEqual((await talk.line(notice="text"))["text"][:4], "kept")
+        self.assertFalse(path.exists())
+
+    async def test_a_line_over_the_most_is_answered_and_the_session_goes_on(self) -> None:
+        async with talking(self.server, opens=True) as talk:
+            for _ in range(2 * MOST_LINE // MOST_MESSAGE + 1):
+                await talk.socket.send_bytes(b"x" * (MOST_MESSAGE // 2))
+            await talk.socket.send_bytes(b"\n")
+            self.assertEqual((await talk.line(error="long"))["answer"], "")
+            self.assertTrue((await talk.ask("on"))["people"])
+
+    async def test_a_text_message_after_the_secret_ends_the_socket(self) -> None:
+        async with talking(self.server, opens=True) as talk:
+            await talk.socket.send_str('{"do":"on","id":9}\n')
+            await talk.code()
+            self.assertNotIn(9, [line.get("id") for line in talk.lines])
+
+    async def test_what_was_sent_before_the_end_is_kept(self) -> None:
+        async with talking(self.server, opens=True) as talk:
+            for number in range(200):
+                await talk.send({"do": "edit", "version": 0, "edits": number + 1, "changes": [[number, number, "x"]]})
+        await asyncio.to_thread(wait_for, lambda: 200 * b"x" in Person(self.data).text(), "all letters")
+
+    async def test_the_engine_s_end_is_told_and_another_one_goes_on(self) -> None:
+        async with talking(self.server, opens=True) as talk:
+            await talk.send({"do": "edit", "version": 0, "edits": 1, "changes": [[0, 0, "answered"]]})
+            await talk.line(answer="edit")
+            os.kill(engine_of(self.data), signal.SIGKILL)
+            self.assertEqual(await talk.code(), aiohttp.WSCloseCode.INTERNAL_ERROR)
+        async with talking(self.server, opens=True) as talk:
+            self.assertEqual((await talk.line(answer="open"))["text"][:8], "answered")
+
+
+class Ends(Served):
+    """A server that ends, and one whose engine can't begin."""
+
+    async def test_the_server_s_end_ends_the_sockets(self) -> None:
+        async with talking(self.server, opens=True) as talk:
+            await talk.send({"do": "edit", "version": 0, "edits": 1, "changes": [[0, 0, "last"]]})
+            self.server.process.send_signal(signal.SIGINT)
+            self.assertEqual(await talk.code(), aiohttp.WSCloseCode.GOING_AWAY)
+        self.assertEqual(self.server.close(), 0)
+        self.assertEqual(Person(self.folder / "data").text(), b"last")
+
+    async def test_a_note_that_can_t_be_opened_says_why(self) -> None:
+        server = self.serve("--log", str(self.folder / "no" / "folder" / "log"), VIALSHOAL_DATA=str(self.folder / "other"),
+                            VIALSHOAL_PROGRAM="/none")
+        async with talking(server) as talk:
+            answer = await talk.ask("open", protocol=1, units=["utf-16"])
+            self.assertEqual(answer["error"], "failed")
+
+
+if __name__ == "__main__":
+    unittest.main()

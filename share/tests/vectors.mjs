@@ -1,0 +1,113 @@
+// Runs what share/engine_vectors/client.json says of an editor that counts in UTF-16 by the page's client.
+import assert from "node:assert/strict";
+import { readFileSync } from "node:fs";
+import { changed, Client, Lines, pieces } from "../web/client.js";
+
+const VECTORS = new URL("../engine_vectors/client.json", import.meta.url);
+
+/** What a page shows, as plain values. */
+class Shown {
+  cursor = null;
+  cursors = [];
+  words = "";
+  state = {};
+
+  constructor(text) {
+    this.text = text;
+  }
+}
+
+/** A view that has a client's doings shown. */
+function viewOf(shown) {
+  return {
+    change(changes, cursor) {
+      shown.text = changed(shown.text, changes);
+      shown.cursor = cursor ?? shown.cursor;
+    },
+    replace(text) { shown.text = text; },
+    cursors(list) { shown.cursors = list; },
+    state(line) { shown.state = line; },
+    say(words) { shown.words = words; },
+    answered() {},
+  };
+}
+
+/** Does what a step says. */
+function does(step, client, shown) {
+  if ("user" in step) {
+    shown.text = changed(shown.text, step.user);
+    client.edit(step.user);
+  } else if ("line" in step) {
+    client.take(step.line);
+  } else if ("key" in step) {
+    assert.equal(client.waits(), step.waits);
+  } else if ("patience" in step) {
+    client.gaveUp();
+  } else {
+    assert.fail("no such step");
+  }
+}
+
+function play(one) {
+  const shown = new Shown(one.open.text);
+  let sent = [];
+  let now = 0;
+  const client = new Client(one.open, (line) => sent.push(line), viewOf(shown), () => 1000 * now);
+  for (const step of one.steps) {
+    now = step.at ?? now;
+    does(step, client, shown);
+    if ("sends" in step) {
+      assert.deepEqual(sent, step.sends);
+      sent = [];
+    }
+    const has = { ...shown, types: shown.state.types, version: client.version, made: client.made };
+    for (const [name, value] of Object.entries(step.then ?? {})) assert.deepEqual(has[name], value, name);
+  }
+}
+
+/** That a line comes back whole, whatever the size of its pieces. */
+function cut() {
+  const line = { notice: "text", text: "a\u{1f370}\r\n\"\ud800\u2028" };
+  for (let size = 1; size < 40; size += 1) {
+    const lines = new Lines();
+    const came = [...pieces(line, size), ...pieces(line, size)].flatMap((piece) => [...lines.of(piece)]);
+    assert.deepEqual(came, [line, line]);
+  }
+}
+
+/** That one who only reads says now and then what it has. */
+function read() {
+  const sent = [];
+  const client = new Client({ version: 0, edits: 0 }, (line) => sent.push(line), viewOf(new Shown("")));
+  for (let version = 1; version <= 250; version += 1) client.take({ notice: "changes", version, edits: 0, changes: [] });
+  assert.deepEqual(sent, [{ do: "seen", version: 100 }, { do: "seen", version: 200 }]);
+}
+
+/** That an edit of very many changes is sent as several. */
+function replaceAll() {
+  const sent = [];
+  const client = new Client({ version: 3, edits: 0 }, (line) => sent.push(line), viewOf(new Shown("")));
+  const changes = Array.from({ length: 25_000 }, (_, at) => [at, at, "x"]);
+  client.edit(changes);
+  assert.deepEqual(sent.map((line) => [line.version, line.edits, line.changes.length, line.join]),
+    [[3, 1, 10_000, undefined], [3, 2, 10_000, true], [3, 3, 5_000, true]]);
+  assert.deepEqual(sent.flatMap((line) => line.changes), changes);
+}
+
+let failed = 0;
+function run(name, test) {
+  try {
+    test();
+  } catch (why) {
+    failed += 1;
+    console.log(`${name}: ${why.message}`);
+  }
+}
+
+const cases = JSON.parse(readFileSync(VECTORS, "utf8")).cases.filter((one) => ["any", "utf-16"].includes(one.units));
+for (const one of cases) run(one.name, () => play(one));
+run("lines in pieces", cut);
+run("a reader", read);
+run("very many changes", replaceAll);
+console.log(`${cases.length} cases, ${failed} failed`);
+process.exit(failed ? 1 : 0);

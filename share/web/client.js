@@ -1,0 +1,164 @@
+// What the protocol of docs/ENGINE.md asks of an editor, without a page: two numbers, and what is done with which lines.
+
+// Who has typed for so long without all being answered keeps keys until it is, for so long at most.
+const BUSY_MS = 500;
+export const PATIENCE_MS = 200;
+// While so many edits are unanswered, further changes become one.
+const UNANSWERED = 10;
+// An edit that has more changes is sent as several, which are taken back as one.
+const MOST_CHANGES = 10_000;
+// An editor that only reads says after so many notices which one it has.
+const NOTICES = 100;
+
+/** A text after changes, each of which counts in the text that those before it leave. */
+export function changed(text, changes) {
+  for (const [begin, end, put] of changes) text = text.slice(0, begin) + put + text.slice(end);
+  return text;
+}
+
+/** A line that is to be sent, in pieces of bytes. */
+export function* pieces(line, size) {
+  const bytes = new TextEncoder().encode(`${JSON.stringify(line)}\n`);
+  for (let at = 0; at < bytes.length; at += size) yield bytes.subarray(at, at + size);
+}
+
+/** Makes lines of pieces of bytes, wherever those were cut. */
+export class Lines {
+  #decoder = new TextDecoder();
+  #parts = [];
+
+  /** The lines that end in a piece. */
+  * of(bytes) {
+    const [first, ...others] = this.#decoder.decode(bytes, { stream: true }).split("\n");
+    this.#parts.push(first);
+    for (const part of others) {
+      yield JSON.parse(this.#parts.join(""));
+      this.#parts = [part];
+    }
+  }
+}
+
+/**
+ * An editor of a note. `view` shows what it is told: `change(changes, cursor)`, `replace(text)`, `cursors(list)`,
+ * `state(line)`, `say(words)` and `answered()`.
+ */
+export class Client {
+  #send;
+  #view;
+  #clock;
+  // Since when there has been an edit without an answer at every moment.
+  #since = 0;
+  #notices = 0;
+  #gathered = [];
+  #asked = new Map();
+  #ids = 1;
+
+  constructor(opened, send, view, clock = () => performance.now()) {
+    this.version = opened.version;
+    this.made = opened.edits;
+    this.answered = opened.edits;
+    this.#send = send;
+    this.#view = view;
+    this.#clock = clock;
+  }
+
+  /** Sends an edit that the user made, and that is shown already. */
+  edit(changes) {
+    this.#gathered = this.#gathered.concat(changes);
+    if (this.made < this.answered + UNANSWERED) this.#flush();
+  }
+
+  #flush() {
+    const changes = this.#gathered;
+    this.#gathered = [];
+    for (let at = 0; at < changes.length; at += MOST_CHANGES) {
+      this.#make(changes.slice(at, at + MOST_CHANGES), at ? { join: true } : {});
+    }
+  }
+
+  #make(changes, more) {
+    if (this.answered === this.made) this.#since = this.#clock();
+    this.made += 1;
+    this.#notices = 0;
+    this.#send({ do: "edit", version: this.version, edits: this.made, changes, ...more });
+  }
+
+  /** Whether the next key is to be kept until the last edit is answered. */
+  waits() {
+    return this.answered < this.made && this.#clock() > this.#since + BUSY_MS;
+  }
+
+  /** Says that this took too long. */
+  gaveUp() {
+    this.#since = this.#clock();
+  }
+
+  /** Sends a request, for its answer. */
+  ask(request) {
+    this.#flush();
+    this.#ids += 1;
+    const id = this.#ids;
+    this.#send({ ...request, id });
+    return new Promise((resolve) => { this.#asked.set(id, resolve); });
+  }
+
+  /** Says that nothing more comes; what was asked isn't answered. */
+  end() {
+    for (const resolve of this.#asked.values()) resolve({ error: "away" });
+    this.#asked.clear();
+  }
+
+  /** Says where the user's cursor is, and the other end of a selection. */
+  cursor(at, anchor) {
+    this.#flush();
+    this.#send({ do: "cursor", version: this.version, at, ...(anchor === undefined ? {} : { anchor }) });
+  }
+
+  /** Takes in a line. */
+  take(line) {
+    this.#flush();
+    if ("notice" in line) this.#notice(line);
+    else this.#answer(line);
+  }
+
+  #answer(line) {
+    if ("error" in line) {
+      this.#view.say(line.words);
+      if (!("edits" in line) && !("id" in line)) this.#send({ do: "text", edits: this.made });
+    }
+    if (line.answer === "edit" && "edits" in line) {
+      this.answered = line.edits;
+      this.#view.answered();
+    }
+    this.#asked.get(line.id)?.(line);
+    this.#asked.delete(line.id);
+  }
+
+  #notice(line) {
+    if (line.notice === "state") this.#view.state(line);
+    else if (line.notice === "says") this.#view.say(line.words);
+    else if (line.edits === this.made) this.#agreed(line);
+  }
+
+  /** Takes over a notice that counts all edits. */
+  #agreed(line) {
+    if (line.notice === "cursors") {
+      this.#view.cursors(line.cursors);
+    } else if (line.notice === "changes") {
+      this.version = line.version;
+      this.#view.change(line.changes, line.cursor);
+      this.#seen();
+    } else if (line.notice === "text") {
+      this.version = line.version;
+      this.#view.replace(line.text);
+      this.#seen();
+    }
+  }
+
+  #seen() {
+    this.#notices += 1;
+    if (this.#notices < NOTICES) return;
+    this.#notices = 0;
+    this.#send({ do: "seen", version: this.version });
+  }
+}

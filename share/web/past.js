@@ -1,0 +1,156 @@
+// The note's history: its text as it was, with colours of who wrote what.
+import { colourAt, pale, shownName } from "./people.js";
+import { OPTIONS } from "./editor.js";
+
+/* global CodeMirror */
+
+const element = (id) => document.getElementById(id);
+
+/** How one who wrote is called. */
+function nameOf({ name, own, site }) {
+  return shownName(name || (own ? "you" : `site ${site}`));
+}
+
+/** What a step did, in words. */
+function wordsOf(step, at, of) {
+  if (!step) return `at the beginning, of ${of} steps`;
+  const did = [step.typed && `${step.typed} typed`, step.deleted && `${step.deleted} deleted`].filter(Boolean);
+  return `step ${at} of ${of}: ${nameOf(step)}, ${did.join(" and ") || "nothing new"}`;
+}
+
+export class Past {
+  #ask;
+  #cm;
+  #steps = [];
+  #stretches = [];
+  #marks = [];
+  // The sites' numbers, by when they came.
+  #sites = new Map();
+  #colourOf;
+  #isAsking = false;
+
+  /**
+   * `ask` sends a request and gives its answer, `colourOf` has the colour of a site that is on, and `left` is called as the
+   * user goes back to the note.
+   */
+  constructor(ask, colourOf, left) {
+    this.#ask = ask;
+    this.#colourOf = colourOf;
+    this.#cm = CodeMirror(element("past-text"), { ...OPTIONS, readOnly: true });
+    this.#cm.on("viewportChange", () => this.#colour());
+    element("at").addEventListener("input", () => this.#look());
+    element("earlier").addEventListener("click", () => this.#go(-1));
+    element("later").addEventListener("click", () => this.#go(1));
+    element("slide").addEventListener("submit", (event) => event.preventDefault());
+    element("back").addEventListener("click", () => {
+      element("past").hidden = true;
+      element("text").hidden = false;
+      left();
+    });
+  }
+
+  /** Shows the history, from today on. */
+  async show() {
+    const steps = [];
+    let all;
+    do {
+      all = await this.#ask({ do: "history", from: steps.at(-1)?.end ?? 0 });
+      if (all.error) return;
+      steps.push(...all.steps);
+    } while (all.steps.length && steps.at(-1).end < all.length);
+    this.#steps = steps;
+    for (const { site } of steps) {
+      if (!this.#sites.has(site)) this.#sites.set(site, this.#sites.size);
+    }
+    this.#open(true);
+    element("at").max = String(steps.length);
+    element("at").value = String(steps.length);
+    await this.#look();
+  }
+
+  /** Shows a text that is kept beside the note. */
+  keep(text, words) {
+    this.#open(false);
+    element("authors").replaceChildren();
+    element("step").textContent = words;
+    this.#set(text, []);
+  }
+
+  #open(slides) {
+    element("past").hidden = false;
+    element("text").hidden = true;
+    for (const id of ["at", "earlier", "later"]) element(id).hidden = !slides;
+  }
+
+  #go(by) {
+    element("at").value = String(Number(element("at").value) + by);
+    this.#look();
+  }
+
+  /** Shows the text where the slider is; one is asked for at a time. */
+  async #look() {
+    const at = Number(element("at").value);
+    element("step").textContent = wordsOf(this.#steps[at - 1], at, this.#steps.length);
+    if (this.#isAsking) return;
+    this.#isAsking = true;
+    try {
+      const past = await this.#ask({ do: "past", at: this.#steps[at - 1]?.end ?? 0 });
+      if (!past.error) this.#shows(past);
+    } finally {
+      this.#isAsking = false;
+    }
+    if (Number(element("at").value) !== at) await this.#look();
+  }
+
+  #shows({ text, stretches }) {
+    const authors = new Map(stretches.map((one) => [one.site, one]));
+    element("authors").replaceChildren(...[...authors.values()].map((one) => {
+      const item = document.createElement("li");
+      item.textContent = nameOf(one);
+      item.style.backgroundColor = this.#pale(one.site);
+      return item;
+    }));
+    this.#set(text, stretches);
+  }
+
+  #pale(site) {
+    return pale(this.#colourOf(site) ?? colourAt(this.#sites.get(site) ?? 0));
+  }
+
+  #set(text, stretches) {
+    this.#stretches = stretches;
+    this.#marks = [];
+    this.#cm.setValue(text);
+    this.#cm.refresh();
+    this.#colour();
+  }
+
+  /** Colours what can be seen. */
+  #colour() {
+    const { from, to } = this.#cm.getViewport();
+    const [begin, end] = [from, to].map((line) => this.#cm.indexFromPos({ line, ch: 0 }));
+    this.#cm.operation(() => {
+      for (const mark of this.#marks) mark.clear();
+      this.#marks = this.#seen(begin, end).map((one) => this.#cm.markText(
+        this.#cm.posFromIndex(Math.max(one.begin, begin)), this.#cm.posFromIndex(Math.min(one.end, end)),
+        { className: `of-${this.#sites.get(one.site)}`, css: `background-color: ${this.#pale(one.site)}` },
+      ));
+    });
+  }
+
+  /** The stretches that have something of a part of the text. */
+  #seen(begin, end) {
+    let [low, high] = [0, this.#stretches.length];
+    while (low < high) {
+      const middle = (low + high) >> 1;
+      if (this.#stretches[middle].end <= begin) low = middle + 1;
+      else high = middle;
+    }
+    const found = [];
+    while (low < this.#stretches.length && this.#stretches[low].begin < end) {
+      found.push(this.#stretches[low]);
+      low += 1;
+    }
+    return found;
+  }
+}

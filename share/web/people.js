@@ -1,0 +1,33 @@
+// Others' names and colours, which are data: a name has an end, and what isn't spelled as a colour isn't one.
+const MOST_NAME = 40;
+const COLOUR = /^#[0-9a-f]{6}$/i;
+const GREY = "#555555";
+const PALETTE = ["#c0392b", "#2471a3", "#1e8449", "#7d3c98", "#b9770e", "#148f77", "#a04000", "#515a5a", "#ad1457", "#4a6fa5"];
+
+/** The colour of one who isn't on, by a number. */
+export function colourAt(number) {
+  return PALETTE[number % PALETTE.length];
+}
+
+/** A colour as it stands behind words. */
+export function pale(spelled) {
+  return `${colourOf(spelled)}30`;
+}
+
+/** The colour that is spelled so. */
+export function colourOf(spelled) {
+  return COLOUR.test(spelled) ? spelled : GREY;
+}
+
+/** A name as it is shown. */
+export function shownName(name) {
+  return [...(name || "?")].slice(0, MOST_NAME).join("");
+}
+
+/** Has an element be of a colour, with words on it that can be read. */
+export function paint(element, spelled) {
+  const colour = colourOf(spelled);
+  const [red, green, blue] = [1, 3, 5].map((at) => parseInt(colour.slice(at, at + 2), 16));
+  element.style.backgroundColor = colour;
+  element.style.color = 0.299 * red + 0.587 * green + 0.114 * blue > 150 ? "#000" : "#fff";
+}
