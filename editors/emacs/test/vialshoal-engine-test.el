@@ -1,0 +1,332 @@
+;;; vialshoal-engine-test.el --- With real engines  -*- lexical-binding: t; -*-
+
+;;; Commentary:
+
+;; Notes that engines have open, which run the proved program.
+
+;;; Code:
+
+(require 'vialshoal-support)
+
+(defconst vialshoal-engine--top
+  (expand-file-name "../../../" (file-name-directory
+                                 (or load-file-name buffer-file-name)))
+  "The folder that has the engine.")
+
+(defvar vialshoal-engine--folder nil
+  "The folder of the test's data.")
+
+(defmacro vialshoal-engine-with-folder (&rest body)
+  "Run BODY with a folder of its own, and no note open at its end."
+  (declare (indent 0) (debug t))
+  `(let* ((vialshoal-engine--folder (make-temp-file "vialshoal" t))
+          (vialshoal-command
+           (list (expand-file-name "bin/note" vialshoal-engine--top)))
+          (vialshoal-name "Ada")
+          (inhibit-message t))
+     (unwind-protect
+         (progn ,@body)
+       (dolist (buffer (buffer-list))
+         (when (buffer-local-value 'vialshoal--note buffer)
+           (kill-buffer buffer)))
+       (vialshoal--close-all)
+       (delete-directory vialshoal-engine--folder t))))
+
+(defun vialshoal-engine--wait (condition)
+  "Wait until CONDITION returns something, and return it."
+  (let ((end (+ (float-time) 20)) value)
+    (while (not (setq value (funcall condition)))
+      (when (> (float-time) end)
+        (error "It took too long"))
+      (accept-process-output nil 0.01))
+    value))
+
+(defun vialshoal-engine--open (person &optional log link)
+  "Open the note picnic as PERSON, with LOG and LINK, in a buffer."
+  (let* ((process-environment
+          (cons (format "VIALSHOAL_DATA=%s/%s" vialshoal-engine--folder person)
+                process-environment))
+         (vialshoal-name person)
+         (buffer (vialshoal-open "picnic" log link)))
+    (with-current-buffer buffer
+      ;; Another editor can be opened in this Emacs then.
+      (rename-buffer person t)
+      (vialshoal-engine--wait
+       (lambda () (and vialshoal--is-open
+                       (plist-get vialshoal--state :types)))))
+    buffer))
+
+(defun vialshoal-engine--link (person)
+  "Return the link of the note picnic of PERSON."
+  (let ((process-environment
+         (cons (format "VIALSHOAL_DATA=%s/%s" vialshoal-engine--folder person)
+               process-environment)))
+    (with-temp-buffer
+      (call-process (car vialshoal-command) nil t nil "link" "picnic")
+      (string-trim (buffer-string)))))
+
+(defun vialshoal-engine--two ()
+  "Return buffers of two people who share the note picnic by a log."
+  (let* ((log (expand-file-name "shared/note.log" vialshoal-engine--folder))
+         (ada (vialshoal-engine--open "Ada" log)))
+    (list ada (vialshoal-engine--open
+               "Bo" nil (vialshoal-engine--link "Ada")))))
+
+(defun vialshoal-engine--command (function &rest arguments)
+  "Call FUNCTION with ARGUMENTS as a command of the user's."
+  (vialshoal--pre-command)
+  (apply function arguments)
+  (vialshoal--post-command))
+
+(defun vialshoal-engine--type (buffer text)
+  "Type TEXT at point in BUFFER."
+  (with-current-buffer buffer
+    (seq-doseq (char text)
+      (vialshoal-engine--command #'insert char))))
+
+(defun vialshoal-engine--is-quiet (buffer)
+  "Say whether all that was typed in BUFFER is answered."
+  (with-current-buffer buffer
+    (and (null vialshoal--changes) (= vialshoal--made vialshoal--answered))))
+
+(defun vialshoal-engine--meet (buffers)
+  "Wait until all BUFFERS have the same text, and return it."
+  (vialshoal-engine--wait
+   (lambda ()
+     (and (cl-every #'vialshoal-engine--is-quiet buffers)
+          (let ((texts (mapcar #'vialshoal-support--text buffers)))
+            (cl-every (lambda (text) (equal text (car texts))) texts)))))
+  (dolist (buffer buffers)
+    (with-current-buffer buffer
+      (vialshoal-support--check-mirror)))
+  (vialshoal-support--text (car buffers)))
+
+(defun vialshoal-engine--shows (buffer text)
+  "Wait until BUFFER has TEXT."
+  (condition-case nil
+      (vialshoal-engine--wait
+       (lambda () (equal text (vialshoal-support--text buffer))))
+    (error (should (equal text (vialshoal-support--text buffer))))))
+
+(ert-deftest vialshoal-engine-two-people-write-one-text ()
+  (vialshoal-engine-with-folder
+    (pcase-let ((`(,ada ,bo) (vialshoal-engine--two)))
+      (vialshoal-engine--type ada "tea 🍰\r\nmilk")
+      (vialshoal-engine--shows bo "tea 🍰\r\nmilk")
+      (with-current-buffer bo
+        (goto-char 6))
+      (vialshoal-engine--type bo "漢!")
+      (vialshoal-engine--shows ada "tea 🍰漢!\r\nmilk")
+      (with-current-buffer ada
+        (vialshoal-engine--command #'goto-char 1)
+        (vialshoal-engine--command #'delete-char 4))
+      (vialshoal-engine--shows bo "🍰漢!\r\nmilk"))))
+
+(ert-deftest vialshoal-engine-undo-takes-back-ones-own-edit ()
+  (vialshoal-engine-with-folder
+    (pcase-let ((`(,ada ,bo) (vialshoal-engine--two)))
+      (vialshoal-engine--type ada "mine")
+      (vialshoal-engine--shows bo "mine")
+      (with-current-buffer bo
+        (goto-char 3))
+      (vialshoal-engine--type bo " yours ")
+      (vialshoal-engine--shows ada "mi yours ne")
+      (with-current-buffer ada
+        (should (eq (key-binding (kbd "C-/")) #'vialshoal-undo))
+        (should (eq (key-binding (kbd "C-_")) #'vialshoal-undo))
+        (should (eq (key-binding (kbd "C-M-_")) #'vialshoal-redo))
+        (should (eq buffer-undo-list t))
+        (vialshoal-undo))
+      (vialshoal-engine--shows ada " yours ")
+      (vialshoal-engine--shows bo " yours ")
+      (with-current-buffer ada
+        (vialshoal-redo))
+      (vialshoal-engine--shows ada "mi yours ne")
+      (vialshoal-engine--shows bo "mi yours ne"))))
+
+(ert-deftest vialshoal-engine-two-who-edit-at-random-meet ()
+  (vialshoal-engine-with-folder
+    (let* ((buffers (vialshoal-engine--two))
+           ;; Somebody else at the same engine.
+           (buffers (cons (vialshoal-engine--open "Ada") buffers))
+           (words 0))
+      (random "vialshoal")
+      (dotimes (turn 120)
+        (with-current-buffer (nth (random 3) buffers)
+          (goto-char (1+ (random (1+ (buffer-size)))))
+          (pcase (random 10)
+            ((or 0 1) (vialshoal-engine--command
+                       #'delete-region (point)
+                       (min (point-max) (+ (point) (random 6)))))
+            (2 (vialshoal-engine--command #'vialshoal-undo))
+            (3 (vialshoal-engine--command
+                #'upcase-region (point) (point-max)))
+            (4 (vialshoal-engine--command
+                (lambda () (goto-char (point-min))
+                  (while (search-forward "a" nil t)
+                    (replace-match "é🎉")))))
+            (_ (vialshoal-engine--type
+                (current-buffer) (format "w%d aß🍰\n" (cl-incf words))))))
+        (when (= 0 (random 3))
+          (accept-process-output nil 0.01)))
+      (should (> (length (vialshoal-engine--meet buffers)) 50)))))
+
+(ert-deftest vialshoal-engine-a-command-is-one-edit ()
+  (vialshoal-engine-with-folder
+    (let ((ada (vialshoal-engine--open "Ada")))
+      (vialshoal-engine--type ada "a b a b a b\n")
+      (with-current-buffer ada
+        (vialshoal-engine--wait (lambda () (vialshoal-engine--is-quiet ada)))
+        (let ((made vialshoal--made))
+          (vialshoal-engine--command #'replace-string-in-region "a" "long" 1)
+          (should (= vialshoal--made (1+ made))))
+        (vialshoal-undo))
+      (vialshoal-engine--shows ada "a b a b a b\n"))))
+
+(ert-deftest vialshoal-engine-an-engine-that-ends-is-started-again ()
+  (vialshoal-engine-with-folder
+    (let ((ada (vialshoal-engine--open "Ada")))
+      (vialshoal-engine--type ada "kept")
+      (with-current-buffer ada
+        (vialshoal-engine--wait (lambda () (vialshoal-engine--is-quiet ada)))
+        (setq vialshoal--begun 0)
+        (let ((process vialshoal--process))
+          (signal-process process 'SIGKILL)
+          (vialshoal-engine--wait
+           (lambda () (and (not (eq process vialshoal--process))
+                           vialshoal--is-open (not buffer-read-only)))))
+        (goto-char (point-max)))
+      (vialshoal-engine--type ada " and more")
+      (vialshoal-engine--wait (lambda () (vialshoal-engine--is-quiet ada)))
+      (kill-buffer ada)
+      (let ((again (vialshoal-engine--open "Ada")))
+        (should (equal (vialshoal-support--text again) "kept and more"))))))
+
+(ert-deftest vialshoal-engine-a-file-is-saved ()
+  (vialshoal-engine-with-folder
+    (let ((ada (vialshoal-engine--open "Ada"))
+          (path (expand-file-name "saved" vialshoal-engine--folder)))
+      (vialshoal-engine--type ada "tea 🍰\r\n")
+      (with-current-buffer ada
+        (vialshoal-save-as path)
+        (vialshoal-engine--wait (lambda () (file-exists-p path)))
+        (goto-char (point-max)))
+      (vialshoal-engine--type ada "milk")
+      (with-current-buffer ada
+        (cl-letf (((symbol-function 'y-or-n-p) #'ignore))
+          (should-error (vialshoal-save-as path) :type 'user-error))
+        (cl-letf (((symbol-function 'y-or-n-p) (lambda (_) t)))
+          (vialshoal-save-as path)))
+      (with-temp-buffer
+        (set-buffer-multibyte nil)
+        (vialshoal-engine--wait
+         (lambda ()
+           (erase-buffer)
+           (insert-file-contents-literally path)
+           (equal (buffer-string)
+                  (encode-coding-string "tea 🍰\r\nmilk" 'utf-8-unix))))))))
+
+(ert-deftest vialshoal-engine-others-cursors-are-shown ()
+  (vialshoal-engine-with-folder
+    (let ((ada (vialshoal-engine--open "Ada"))
+          (bo (vialshoal-engine--open "Ada")))
+      (with-current-buffer bo
+        (vialshoal-engine--type bo "some words")
+        (vialshoal-engine--command #'goto-char 3))
+      (with-current-buffer ada
+        (vialshoal-engine--wait
+         (lambda () (cl-some (lambda (cursor) (= (plist-get cursor :at) 2))
+                             vialshoal--cursors)))
+        (should (cl-some (lambda (overlay) (= (overlay-start overlay) 3))
+                         vialshoal--overlays))
+        (should (string-match-p "2 on" (vialshoal--lighter)))))))
+
+(ert-deftest vialshoal-engine-a-macro-lets-others-text-in ()
+  (vialshoal-engine-with-folder
+    (pcase-let ((`(,ada ,bo) (vialshoal-engine--two)))
+      (vialshoal-engine--type bo "\n")
+      (vialshoal-engine--shows ada "\n")
+      (vialshoal-engine--type bo "hello")
+      (set-window-buffer nil ada)
+      (with-current-buffer ada
+        (goto-char 1)
+        (let ((begun (float-time)) (came nil))
+          ;; A macro doesn't read lines by itself.
+          (execute-kbd-macro
+           (make-vector 50 ?x) 0
+           (lambda ()
+             (setq came (save-excursion (search-forward "hello" nil t)))
+             (and (not came) (< (- (float-time) begun) 10))))
+          (should came)
+          (should (< (- (float-time) begun) 3))))
+      (vialshoal-engine--meet (list ada bo)))))
+
+(ert-deftest vialshoal-engine-who-quits-at-once-loses-nothing ()
+  (vialshoal-engine-with-folder
+    (vialshoal-engine--type (vialshoal-engine--open "Ada") "before\n")
+    (kill-buffer "Ada")
+    (let ((process-environment
+           (cons (format "VIALSHOAL_DATA=%s/Ada" vialshoal-engine--folder)
+                 process-environment)))
+      (call-process
+       (expand-file-name invocation-name invocation-directory) nil nil nil
+       "-Q" "--batch" "-l" (locate-library "vialshoal") "--eval"
+       (format "%S" `(with-current-buffer
+                         (let ((vialshoal-command ',vialshoal-command))
+                           (vialshoal-open "picnic"))
+                       (while buffer-read-only
+                         (accept-process-output nil 0.01))
+                       (insert (make-string 300000 ?x) "all of it")
+                       (kill-emacs)))))
+    (with-current-buffer (vialshoal-engine--open "Ada")
+      (should (= (buffer-size) (+ 300000 9 7)))
+      (should (looking-at "x+all of itbefore\n")))))
+
+(ert-deftest vialshoal-engine-what-cannot-be-opened-says-why ()
+  (vialshoal-engine-with-folder
+    (let* ((process-environment
+            (append (list "VIALSHOAL_PROGRAM=/nowhere"
+                          (format "VIALSHOAL_DATA=%s" vialshoal-engine--folder))
+                    process-environment))
+           (buffer (vialshoal-open "picnic")))
+      (with-current-buffer buffer
+        (vialshoal-engine--wait
+         (lambda () (not (process-live-p vialshoal--process))))
+        (vialshoal-engine--wait (lambda () vialshoal--words))
+        (should buffer-read-only)
+        (should (string-match-p "nowhere" vialshoal--words))
+        (should (equal (vialshoal--lighter) " Note:closed"))))))
+
+(ert-deftest vialshoal-engine-who-wrote-this-and-what-was-before ()
+  (vialshoal-engine-with-folder
+    (pcase-let ((`(,ada ,bo) (vialshoal-engine--two)) (said nil))
+      (vialshoal-engine--type ada "one ")
+      (vialshoal-engine--shows bo "one ")
+      (with-current-buffer bo
+        (goto-char (point-max)))
+      (vialshoal-engine--type bo "two")
+      (vialshoal-engine--shows ada "one two")
+      (cl-letf (((symbol-function 'message)
+                 (lambda (format &rest rest)
+                   (setq said (and format (apply #'format format rest))))))
+        (with-current-buffer ada
+          (vialshoal-who-wrote-this 1 8))
+        (vialshoal-engine--wait
+         (lambda () (and said (string-match-p
+                               "\\`you: 4 characters; .+: 3 characters\\'"
+                               said)))))
+      (with-current-buffer ada
+        (vialshoal-history))
+      (with-current-buffer (vialshoal-engine--wait
+                            (lambda () (get-buffer "*history of picnic*")))
+        (vialshoal-engine--wait
+         (lambda () (equal (buffer-string) "one two")))
+        (should (string-match-p "typed 3, deleted 0" header-line-format))
+        (vialshoal-history-previous 1)
+        (vialshoal-engine--wait (lambda () (equal (buffer-string) "one ")))
+        (vialshoal-history-first)
+        (vialshoal-engine--wait (lambda () (equal (buffer-string) "")))
+        (kill-buffer)))))
+
+(provide 'vialshoal-engine-test)
+;;; vialshoal-engine-test.el ends here

@@ -1,0 +1,121 @@
+;;; vialshoal-vectors-test.el --- The vectors  -*- lexical-binding: t; -*-
+
+;;; Commentary:
+
+;; The cases that editors in all languages run.
+
+;;; Code:
+
+(require 'vialshoal-support)
+
+(defconst vialshoal-vectors--file
+  (expand-file-name "../../../share/engine_vectors/client.json"
+                    (file-name-directory (or load-file-name buffer-file-name)))
+  "The file that has the cases.")
+
+(defun vialshoal-vectors--cases ()
+  "Return the cases of the file that are of this editor's units."
+  (let ((coding-system-for-read 'utf-8-unix))
+    (with-temp-buffer
+      (insert-file-contents vialshoal-vectors--file)
+      (cl-remove-if-not
+       (lambda (case) (member (plist-get case :units) '("any" "utf-32")))
+       (plist-get (vialshoal-support--read (buffer-string)) :cases)))))
+
+(defun vialshoal-vectors--edit (changes)
+  "Make CHANGES as a user does who has no engine."
+  (pcase-dolist (`(,begin ,end ,text) changes)
+    (goto-char (1+ begin))
+    (delete-region (1+ begin) (1+ end))
+    (insert text)))
+
+(defun vialshoal-vectors--step (step)
+  "Do STEP."
+  (cond
+   ((plist-get step :user)
+    (vialshoal-vectors--edit (plist-get step :user))
+    (vialshoal--post-command))
+   ((plist-get step :line)
+    (vialshoal--take-line
+     (json-serialize (vialshoal-vectors--with-vectors (plist-get step :line)))))
+   ((plist-get step :key)
+    (should (eq (plist-get step :waits) (vialshoal--is-behind))))
+   ((plist-get step :patience) (vialshoal--caught-up))
+   (t (error "This is no step: %S" step))))
+
+(defun vialshoal-vectors--with-vectors (value)
+  "Return VALUE with its lists as vectors, so that it can be written."
+  (cond ((and (consp value) (keywordp (car value)))
+         (cl-loop for (key each) on value by #'cddr
+                  nconc (list key (if (memq key '(:types))
+                                      (or each :false)
+                                    (vialshoal-vectors--with-vectors each)))))
+        ((null value) [])
+        ((consp value)
+         (vconcat (mapcar #'vialshoal-vectors--with-vectors value)))
+        (t value)))
+
+(defun vialshoal-vectors--has (name)
+  "Return what this editor has by NAME."
+  (pcase name
+    (:text (vialshoal-support--text))
+    (:version vialshoal--version)
+    (:made vialshoal--made)
+    (:types (plist-get vialshoal--state :types))
+    (:words vialshoal--words)
+    (:cursors vialshoal--cursors)
+    (:cursor (1- (point)))))
+
+(defun vialshoal-vectors--joined (edits)
+  "Return the changes of EDITS one behind the other.
+A user's replacement is two changes here, of which the first deletes."
+  (let (found)
+    (pcase-dolist (`(,begin ,end ,text) edits)
+      (let ((last (car found)))
+        (if (and last (equal (nth 2 last) "") (= begin end (car last)))
+            (setcar found (list begin (cadr last) text))
+          (push (list begin end text) found))))
+    (nreverse found)))
+
+(defun vialshoal-vectors--line (line)
+  "Return LINE, in which the same changes are spelled the same."
+  (if-let ((changes (plist-get line :changes)))
+      (plist-put (copy-sequence line) :changes
+                 (vialshoal-vectors--joined changes))
+    line))
+
+(defun vialshoal-vectors--check (step)
+  "Check what STEP says of what was sent and of what is here then."
+  (when (plist-member step :sends)
+    (should (equal (mapcar #'vialshoal-vectors--line
+                           (plist-get step :sends))
+                   (mapcar #'vialshoal-vectors--line
+                           (vialshoal-support--sent)))))
+  (cl-loop for (name value) on (plist-get step :then) by #'cddr
+           do (should (equal (list name value)
+                             (list name (vialshoal-vectors--has name))))))
+
+(defun vialshoal-vectors--play (case)
+  "Play CASE."
+  (vialshoal-support-with-note (plist-get case :open)
+    (dolist (step (plist-get case :steps))
+      (setq vialshoal-support--now (or (plist-get step :at)
+                                       vialshoal-support--now))
+      (vialshoal-vectors--step step)
+      (vialshoal-vectors--check step)
+      (unless vialshoal--changes
+        (vialshoal-support--check-mirror)))))
+
+;; A test for each case, so that each has its name in what is told.
+(let ((cases (vialshoal-vectors--cases)))
+  (cl-assert (> (length cases) 20))
+  (dolist (case cases)
+    (let ((name (intern (format "vialshoal-vectors/%s (%s)"
+                                (plist-get case :name)
+                                (plist-get case :units)))))
+      (ert-set-test name (make-ert-test
+                          :name name
+                          :body (lambda () (vialshoal-vectors--play case)))))))
+
+(provide 'vialshoal-vectors-test)
+;;; vialshoal-vectors-test.el ends here

@@ -1,0 +1,1122 @@
+;;; vialshoal.el --- Write a note with others  -*- lexical-binding: t; -*-
+
+;; Version: 0.1
+;; Package-Requires: ((emacs "28.1"))
+;; Keywords: comm, convenience
+
+;;; Commentary:
+
+;; `M-x vialshoal-open' opens a note that several people edit at the same
+;; time, in whatever major mode you like.  You write as ever; what others
+;; write comes in beside it, with their cursors and names.
+;;
+;; `C-/' takes back your own last edit, whoever wrote since; `C-M-_' makes it
+;; again.  `C-x C-w' saves the text as a file.  `M-x vialshoal-history' goes
+;; through older texts, `M-x vialshoal-who-wrote-this' names the authors of
+;; the region or the line.
+;;
+;; All is kept as it is typed.  The mode line says whether others have it.
+;;
+;; An engine, the program `note', has the note open; docs/ENGINE.md has the
+;; lines that are said to it and by it.  Text and names come from other
+;; people: they are shown, and nothing in them is obeyed.
+
+;;; Code:
+
+(require 'cl-lib)
+(require 'subr-x)
+
+;;;; Options
+
+(defgroup vialshoal nil
+  "Write notes together with others."
+  :group 'applications
+  :prefix "vialshoal-")
+
+(defcustom vialshoal-command
+  (let ((beside (and load-file-name
+                     (expand-file-name "../../bin/note"
+                                       (file-name-directory load-file-name)))))
+    (list (if (and beside (file-executable-p beside)) beside "note")))
+  "The program that has notes open, and arguments to come first."
+  :type '(repeat string))
+
+(defcustom vialshoal-name (user-full-name)
+  "The name by which others see you."
+  :type 'string)
+
+(defcustom vialshoal-colour nil
+  "The colour of your cursor at others, as \"#3366cc\"; nil lets one be chosen."
+  :type '(choice (const :tag "Chosen for you" nil) string))
+
+(defcustom vialshoal-major-mode #'text-mode
+  "The major mode in which a note is opened.
+Any other can be had afterwards, as in all buffers."
+  :type 'function)
+
+(defface vialshoal-name
+  '((t :weight bold))
+  "Others' names, in colours of their own.")
+
+;;;; What a buffer has
+
+(defmacro vialshoal--defvar (name value doc)
+  "Define NAME as local to each note's buffer, with VALUE at first and DOC.
+Another major mode leaves it."
+  (declare (indent 2) (doc-string 3))
+  `(progn (defvar-local ,name ,value ,doc)
+          (put ',name 'permanent-local t)))
+
+(vialshoal--defvar vialshoal--note nil
+  "The note's name.")
+(vialshoal--defvar vialshoal--process nil
+  "The engine's process.")
+(vialshoal--defvar vialshoal--environment nil
+  "The environment in which the note was opened.
+An engine that is started again has to find the same note.")
+(vialshoal--defvar vialshoal--is-open nil
+  "Whether the engine has opened the note.")
+(vialshoal--defvar vialshoal--begun 0
+  "When the engine was started.")
+(vialshoal--defvar vialshoal--version 0
+  "The version of the last notice that was applied.")
+(vialshoal--defvar vialshoal--made 0
+  "How many edits were made here.")
+(vialshoal--defvar vialshoal--answered 0
+  "How many of them the engine has answered.")
+(vialshoal--defvar vialshoal--since nil
+  "Since when not all of them are answered.")
+(vialshoal--defvar vialshoal--mirror nil
+  "A hidden buffer with the text that the engine knows to be here.
+What it gathered is in there, too.  It tells what has really changed:
+hooks are also called for text that stays as it is, and some changes
+are made with no hook called.")
+(vialshoal--defvar vialshoal--changes nil
+  "The changes that were gathered and aren't sent, the last one first.")
+(vialshoal--defvar vialshoal--tick nil
+  "The buffer's tick after the last change that was seen.")
+(vialshoal--defvar vialshoal--is-lost nil
+  "Whether a change of the engine's failed, so that its text is asked for.")
+(vialshoal--defvar vialshoal--is-unclean nil
+  "Whether characters were typed that are none of Unicode.")
+(vialshoal--defvar vialshoal--state nil
+  "The last notice `state'.")
+(vialshoal--defvar vialshoal--words nil
+  "What the engine said last for the user.")
+(vialshoal--defvar vialshoal--asked 0
+  "How many requests had a number.")
+(vialshoal--defvar vialshoal--waiting nil
+  "What is to be done with the answers: an alist by the requests' numbers.")
+(vialshoal--defvar vialshoal--cursors nil
+  "Others' cursors.")
+(vialshoal--defvar vialshoal--overlays nil
+  "What shows them.")
+(vialshoal--defvar vialshoal--place nil
+  "Point and the other end of the region, as they were sent last.")
+(vialshoal--defvar vialshoal--place-sent 0
+  "When they were.")
+(vialshoal--defvar vialshoal--timer nil
+  "What sends later what no command sends.")
+(vialshoal--defvar vialshoal--unseen 0
+  "How many notices were applied since the engine was told of one.")
+(vialshoal--defvar vialshoal--piece nil
+  "The parts of a line that hasn't come to its end, the last one first.")
+(vialshoal--defvar vialshoal--lines nil
+  "The lines that came and weren't looked at.")
+(vialshoal--defvar vialshoal--is-taking nil
+  "Whether a line is being looked at.")
+
+(defvar vialshoal--applying nil
+  "The buffer that is being changed as the engine says.")
+
+(defconst vialshoal--most-unanswered 10
+  "With so many edits unanswered, changes are gathered.")
+
+(defconst vialshoal--most-text 1000000
+  "An edit has so many characters at most, so that its line isn't too long.")
+
+(defmacro vialshoal--by-engine (&rest body)
+  "Run BODY to alter the whole buffer's text for the engine.
+Other modes' hooks are called for it, since they have to know.  It is
+no edit of the user's: the region stays, and undo knows nothing of it."
+  (declare (indent 0) (debug t))
+  `(let ((vialshoal--applying (current-buffer))
+         (inhibit-modification-hooks nil)
+         (inhibit-read-only t)
+         (buffer-undo-list t)
+         (deactivate-mark nil)
+         (was-modified (buffer-modified-p)))
+     (save-restriction
+       (widen)
+       ,@body)
+     (restore-buffer-modified-p was-modified)))
+
+;;;; Text and names of others
+
+(defconst vialshoal--no-name
+  "[\0-\x1f\x7f-\x9f\u061c\u200e\u200f\u2028-\u202e\u2066-\u2069]"
+  "What no name has: controls, and what turns the direction of writing.")
+
+(defun vialshoal--shown-name (name &optional most)
+  "Return NAME as it may be shown, with 40 characters or MOST."
+  (let ((name (replace-regexp-in-string vialshoal--no-name "" (or name ""))))
+    (substring name 0 (min (or most 40) (length name)))))
+
+(defun vialshoal--in-mode-line (words)
+  "Return WORDS as a mode line or a header line can have them."
+  (string-replace "%" "%%" words))
+
+(defun vialshoal--in-help (words)
+  "Return WORDS as a `help-echo' can have them."
+  (string-replace "\\" "\\=\\" words))
+
+(defun vialshoal--say (words)
+  "Show WORDS in the echo area."
+  (setq vialshoal--words words)
+  (message "%s" words))
+
+(defun vialshoal--shown-colour (colour)
+  "Return COLOUR where it is one, and else that of text."
+  (if (and (stringp colour)
+           (string-match-p "\\`#[[:xdigit:]]\\{6\\}\\'" colour))
+      colour
+    'unspecified))
+
+;;;; Lines
+
+(defun vialshoal--send (&rest line)
+  "Send the engine LINE, a property list."
+  (when (process-live-p vialshoal--process)
+    ;; What can't be written is that of an engine that has ended, and that
+    ;; is dealt with where its end is told.
+    (ignore-errors
+      (process-send-string vialshoal--process
+                           (concat (json-serialize line) "\n")))))
+
+(defun vialshoal--ask (then &rest line)
+  "Send the engine LINE, and call THEN with its answer."
+  (unless vialshoal--is-open
+    (user-error "This note isn't open"))
+  (vialshoal--flush)
+  (cl-incf vialshoal--asked)
+  (push (cons vialshoal--asked then) vialshoal--waiting)
+  (apply #'vialshoal--send :id vialshoal--asked line))
+
+(defun vialshoal--read (line)
+  "Parse LINE into a property list."
+  (if (string-search "\\u0000" line)
+      (vialshoal--read-with-nul line)
+    (vialshoal--parse line)))
+
+(defun vialshoal--parse (line)
+  "Parse LINE, which has no escaped NUL, into a property list."
+  (json-parse-string line :object-type 'plist :array-type 'list
+                     :null-object nil :false-object nil))
+
+(defun vialshoal--read-with-nul (line)
+  "Parse LINE, although this Emacs takes no escaped NUL."
+  (let ((stand-in (cl-loop for char from #xf0000
+                           unless (string-search (string char) line)
+                           return (string char))))
+    ;; Escapes are met one by one, so `\\u0000' isn't taken for one.
+    (vialshoal--with-nul
+     stand-in
+     (vialshoal--parse
+      (replace-regexp-in-string
+       "\\\\\\(?:u0000\\|.\\)"
+       (lambda (escape) (if (equal escape "\\u0000") stand-in escape))
+       line t t)))))
+
+(defun vialshoal--with-nul (stand-in value)
+  "Return VALUE with NUL for STAND-IN in all strings that it has."
+  (cond ((stringp value) (string-replace stand-in "\0" value))
+        ((consp value)
+         (mapcar (lambda (each) (vialshoal--with-nul stand-in each)) value))
+        (t value)))
+
+(defun vialshoal--filter (process output)
+  "Take in the OUTPUT of PROCESS."
+  (let ((buffer (process-get process 'vialshoal-buffer)))
+    (when (buffer-live-p buffer)
+      (with-current-buffer buffer
+        (when (eq process vialshoal--process)
+          (vialshoal--cut output)
+          (vialshoal--take-lines))))))
+
+(defun vialshoal--cut (output)
+  "Keep the lines of OUTPUT, and what is left for the next output."
+  (let ((begin 0) end lines)
+    (while (setq end (string-search "\n" output begin))
+      (push (substring output begin end) vialshoal--piece)
+      (push (apply #'concat (nreverse vialshoal--piece)) lines)
+      (setq vialshoal--piece nil
+            begin (1+ end)))
+    (push (substring output begin) vialshoal--piece)
+    (setq vialshoal--lines (nconc vialshoal--lines (nreverse lines)))))
+
+(defun vialshoal--take-lines ()
+  "Look at the lines that came, in their order.
+While something is sent more of them can come: they wait."
+  (unless vialshoal--is-taking
+    (setq vialshoal--is-taking t)
+    (unwind-protect
+        (while vialshoal--lines
+          (vialshoal--take-line (pop vialshoal--lines)))
+      (setq vialshoal--is-taking nil))))
+
+(defun vialshoal--take-line (line)
+  "Obey LINE, as it came."
+  (condition-case why
+      (let ((line (vialshoal--read line)))
+        (vialshoal--flush)
+        (vialshoal--take line))
+    ;; A hook of another mode can fail in the middle of a change.
+    (error (message "Vialshoal: %s" (error-message-string why))
+           (setq vialshoal--is-lost t)
+           (vialshoal--send :do "text" :edits vialshoal--made))))
+
+(defun vialshoal--take (line)
+  "Obey LINE, a property list."
+  (cond ((plist-get line :notice) (vialshoal--take-notice line))
+        ((plist-get line :answer) (vialshoal--take-answer line))))
+
+(defun vialshoal--take-answer (line)
+  "Take in the answer LINE."
+  (let ((edits (and (equal (plist-get line :answer) "edit")
+                    (plist-get line :edits)))
+        (then (alist-get (plist-get line :id) vialshoal--waiting)))
+    (when (plist-get line :error)
+      (vialshoal--say (plist-get line :words))
+      (unless (or (plist-get line :edits) (plist-get line :id))
+        (vialshoal--send :do "text" :edits vialshoal--made)))
+    (when edits
+      (setq vialshoal--answered edits)
+      (when (= edits vialshoal--made)
+        (restore-buffer-modified-p nil)))
+    (when then
+      (setf (alist-get (plist-get line :id) vialshoal--waiting nil t) nil)
+      (funcall then line))))
+
+;;;; Edits
+
+(defun vialshoal--after-change (beg end length)
+  "Gather a change: LENGTH characters gave way to those from BEG to END."
+  (unless (or (eq vialshoal--applying (current-buffer))
+              (not vialshoal--is-open))
+    (vialshoal--gather beg end length)
+    (vialshoal--soon))
+  (setq vialshoal--tick (buffer-chars-modified-tick)))
+(put 'vialshoal--after-change 'permanent-local-hook t)
+
+(defun vialshoal--gather (beg end length)
+  "Gather what has changed where LENGTH characters gave way to BEG to END.
+Nothing is sent yet: that can have other buffers' text come in, in the
+middle of what a command does."
+  (if (> (+ beg length) (with-current-buffer vialshoal--mirror (point-max)))
+      ;; There was a change before of which nobody told.
+      (setq vialshoal--tick nil)
+    (pcase-let ((`(,beg ,end ,old-end)
+                 (vialshoal--differing beg end (+ beg length))))
+      (unless (= beg end old-end)
+        (vialshoal--gather-text
+         beg old-end
+         (vialshoal--clean (buffer-substring-no-properties beg end)))))))
+
+(defun vialshoal--differing (beg end old-end)
+  "Return what differs of BEG to END here, and of BEG to OLD-END in the mirror.
+It is a list of the beginning, the end here, and the end there."
+  (let* ((case-fold-search nil)
+         (compared (compare-buffer-substrings nil beg end
+                                              vialshoal--mirror beg old-end)))
+    (if (zerop compared)
+        (list beg beg beg)
+      (let* ((from (+ beg (abs compared) -1))
+             (tail (vialshoal--same-tail end old-end
+                                         (- (min end old-end) from))))
+        (list from (- end tail) (- old-end tail))))))
+
+(defun vialshoal--same-tail (end old-end most)
+  "Return how much before END here is as what is before OLD-END in the mirror.
+It is MOST characters at most."
+  (let ((case-fold-search nil) (same 0) (step 1))
+    (while (> step 0)
+      (if (and (<= (+ same step) most)
+               (zerop (compare-buffer-substrings
+                       nil (- end same step) (- end same) vialshoal--mirror
+                       (- old-end same step) (- old-end same))))
+          (setq same (+ same step)
+                step (* 2 step))
+        (setq step (/ step 2))))
+    same))
+
+(defconst vialshoal--no-character "[^\0-\ud7ff\ue000-\U0010ffff]"
+  "What Emacs can have in a buffer and is no character of Unicode.")
+
+(defun vialshoal--clean (text)
+  "Return TEXT with U+FFFD for what is no character of Unicode."
+  (if (not (string-match-p vialshoal--no-character text))
+      text
+    (setq vialshoal--is-unclean t)
+    (replace-regexp-in-string vialshoal--no-character "\ufffd" text)))
+
+(defun vialshoal--gather-text (beg end text)
+  "Gather that TEXT took the place of what was from BEG to END."
+  (with-current-buffer vialshoal--mirror
+    (vialshoal--replace beg end text))
+  (cl-loop for from from 0 by vialshoal--most-text
+           for to = (min (length text) (+ from vialshoal--most-text))
+           for at = (+ beg from)
+           do (push (vector (1- at) (1- (if (= from 0) end at))
+                            (substring text from to))
+                    vialshoal--changes)
+           while (< to (length text))))
+
+(defun vialshoal--replace (beg end text)
+  "Have TEXT in the place of what is from BEG to END.
+Point and the mark stay behind the characters that are before them, as
+others see them do."
+  (save-excursion
+    (goto-char end)
+    (if (= beg end)
+        (insert text)
+      (insert-before-markers text)
+      (delete-region beg end))))
+
+(defun vialshoal--find-changes ()
+  "Gather what was altered with no hook called."
+  (when vialshoal--is-unclean
+    (vialshoal--show-clean))
+  (unless (and (eql vialshoal--tick (buffer-chars-modified-tick))
+               (= (buffer-size) (buffer-size vialshoal--mirror)))
+    ;; A hook that fails has Emacs take all functions out of it.
+    (add-hook 'after-change-functions #'vialshoal--after-change nil t)
+    (save-restriction
+      (widen)
+      (vialshoal--gather (point-min) (point-max)
+                         (buffer-size vialshoal--mirror)))
+    (setq vialshoal--tick (buffer-chars-modified-tick))))
+
+(defun vialshoal--show-clean ()
+  "Show U+FFFD for what is no character of Unicode, as all others do."
+  (setq vialshoal--is-unclean nil)
+  (vialshoal--by-engine
+    (save-excursion
+      (goto-char (point-min))
+      (while (re-search-forward vialshoal--no-character nil t)
+        (replace-match "\ufffd" t t)))))
+
+(defun vialshoal--flush-command ()
+  "Send what a command has changed, unless many edits are unanswered.
+Then it is sent with what follows, before the next line is looked at."
+  (when (< (- vialshoal--made vialshoal--answered) vialshoal--most-unanswered)
+    (vialshoal--flush)))
+
+(defun vialshoal--flush ()
+  "Send what was gathered, as one edit; in parts where that is much."
+  (when (and vialshoal--is-open (not vialshoal--is-lost))
+    (vialshoal--find-changes)
+    (when vialshoal--changes
+      (let ((edits (vialshoal--in-edits (nreverse vialshoal--changes)))
+            (made vialshoal--made))
+        (when (= vialshoal--answered vialshoal--made)
+          (setq vialshoal--since (vialshoal--now)))
+        ;; All count before the first is sent: while it is, lines can come.
+        (setq vialshoal--changes nil
+              vialshoal--unseen 0
+              vialshoal--made (+ made (length edits)))
+        (dolist (edit edits)
+          (vialshoal--send-edit (cl-incf made) edit
+                                (not (eq edit (car edits)))))))))
+
+(defun vialshoal--in-edits (list)
+  "Split LIST into lists that are an edit each.
+Positions make lines long, too, where there are many changes."
+  (let (edits edit (size 0))
+    (dolist (change list)
+      (let ((more (+ 20 (length (aref change 2)))))
+        (when (and edit (> (+ size more) vialshoal--most-text))
+          (push (nreverse edit) edits)
+          (setq edit nil
+                size 0))
+        (push change edit)
+        (cl-incf size more)))
+    (nreverse (cons (nreverse edit) edits))))
+
+(defun vialshoal--send-edit (number edit joins)
+  "Send EDIT, a list, as that of this NUMBER.
+It is undone with the one before where JOINS."
+  (apply #'vialshoal--send :do "edit" :version vialshoal--version
+         :edits number :changes (vconcat edit)
+         (and joins '(:join t))))
+
+(defun vialshoal--soon ()
+  "Send soon what was gathered, where no command does it."
+  (unless vialshoal--timer
+    (setq vialshoal--timer
+          (run-at-time 0 nil #'vialshoal--in-time (current-buffer)))))
+
+(defun vialshoal--in-time (buffer)
+  "Send what BUFFER has to send."
+  (when (buffer-live-p buffer)
+    (with-current-buffer buffer
+      (setq vialshoal--timer nil)
+      (vialshoal--flush-command)
+      (vialshoal--tell-place))))
+
+;;;; Who types without a pause
+
+(defun vialshoal--now ()
+  "Return the time in seconds."
+  (float-time))
+
+(defun vialshoal--is-behind ()
+  "Say whether lines are to be read before a key is taken.
+Half a second without all edits answered is how a macro types."
+  (and (< vialshoal--answered vialshoal--made)
+       (> (vialshoal--now) (+ vialshoal--since 0.5))))
+
+(defun vialshoal--catch-up ()
+  "Read lines until all edits are answered, for 0.2 seconds at most."
+  (let ((end (+ (vialshoal--now) 0.2)))
+    (while (and (< vialshoal--answered vialshoal--made)
+                (< (vialshoal--now) end)
+                (process-live-p vialshoal--process))
+      (accept-process-output vialshoal--process
+                             (max 0 (- end (vialshoal--now))) nil t)))
+  (vialshoal--caught-up))
+
+(defun vialshoal--caught-up ()
+  "Have the half second begin anew."
+  (setq vialshoal--since (vialshoal--now)))
+
+(defun vialshoal--pre-command ()
+  "Let others' text in before a command, where it was held back too long."
+  (vialshoal--flush-command)
+  (when (vialshoal--is-behind)
+    (vialshoal--catch-up)))
+(put 'vialshoal--pre-command 'permanent-local-hook t)
+
+(defun vialshoal--post-command ()
+  "Send what a command has changed, and where point is."
+  (vialshoal--flush-command)
+  (vialshoal--tell-place))
+(put 'vialshoal--post-command 'permanent-local-hook t)
+
+;;;; Notices
+
+(defun vialshoal--take-notice (line)
+  "Obey the notice LINE."
+  (pcase (plist-get line :notice)
+    ("state" (vialshoal--take-state line))
+    ("says" (vialshoal--say (plist-get line :words)))
+    ("opening" (setq vialshoal--state line)
+     (force-mode-line-update))
+    ((and (or "changes" "text" "cursors") notice)
+     (when (= (plist-get line :edits) vialshoal--made)
+       (cond ((equal notice "cursors")
+              (vialshoal--show-cursors (plist-get line :cursors)))
+             ((or (equal notice "text") (not vialshoal--is-lost))
+              (vialshoal--take-text line)))))))
+
+(defun vialshoal--take-text (line)
+  "Show the text of the notice LINE."
+  (setq vialshoal--version (plist-get line :version))
+  (if (plist-member line :text)
+      (vialshoal--become (plist-get line :text))
+    (vialshoal--change (plist-get line :changes)))
+  (setq vialshoal--is-lost nil)
+  (when-let ((cursor (plist-get line :cursor)))
+    (vialshoal--go-to (1+ cursor)))
+  (cl-incf vialshoal--unseen)
+  (when (>= vialshoal--unseen 100)
+    (setq vialshoal--unseen 0)
+    (vialshoal--send :do "seen" :version vialshoal--version)))
+
+(defun vialshoal--change (list)
+  "Alter the text by LIST, of a beginning, an end and a text each."
+  (vialshoal--by-engine
+    (pcase-dolist (`(,begin ,end ,text) list)
+      (vialshoal--replace (1+ begin) (1+ end) text)
+      (with-current-buffer vialshoal--mirror
+        (vialshoal--replace (1+ begin) (1+ end) text)))))
+
+(defun vialshoal--become (text)
+  "Have TEXT, and keep what differed here in another buffer."
+  (let ((before (buffer-size)))
+    (with-current-buffer vialshoal--mirror
+      (erase-buffer)
+      (insert text))
+    (vialshoal--by-engine
+      (pcase-let ((`(,beg ,end ,new-end)
+                   (vialshoal--differing (point-min) (point-max)
+                                         (1+ (length text)))))
+        (when (and (< beg end) (> before 0) (not vialshoal--is-lost))
+          (vialshoal--keep-beside))
+        (vialshoal--replace beg end (substring text (1- beg) (1- new-end)))))))
+
+(defun vialshoal--keep-beside ()
+  "Keep the text of this buffer in another one."
+  (let ((text (buffer-substring-no-properties (point-min) (point-max)))
+        (beside (generate-new-buffer (format "*%s as it was here*"
+                                             vialshoal--note))))
+    (with-current-buffer beside
+      (insert text))
+    (vialshoal--say (format "The note has another text; that of before is in %s"
+                            (buffer-name beside)))))
+
+(defun vialshoal--go-to (place)
+  "Put point at PLACE, also where the buffer is shown."
+  (goto-char place)
+  (when-let ((window (get-buffer-window)))
+    (set-window-point window place)))
+
+(defun vialshoal--take-state (line)
+  "Show the state in the notice LINE."
+  ;; Only where that changes, so that the user can have it read-only, too.
+  (unless (eq (plist-get line :types) (plist-get vialshoal--state :types))
+    (setq buffer-read-only (not (plist-get line :types))))
+  (setq vialshoal--state line)
+  (force-mode-line-update))
+
+;;;; Cursors
+
+(defun vialshoal--tell-place ()
+  "Send where point is and the other end of the region, soon.
+Nothing is sent over 20 times a second."
+  (when (and vialshoal--is-open (not vialshoal--changes))
+    (let ((place (cons (1- (point)) (and mark-active (1- (mark t))))))
+      (cond ((equal place vialshoal--place))
+            ((> (+ vialshoal--place-sent 0.05) (vialshoal--now))
+             (unless vialshoal--timer
+               (setq vialshoal--timer
+                     (run-at-time 0.06 nil #'vialshoal--in-time
+                                  (current-buffer)))))
+            (t (vialshoal--send-place place))))))
+
+(defun vialshoal--send-place (place)
+  "Send PLACE, point and the other end of the region."
+  (setq vialshoal--place place
+        vialshoal--place-sent (vialshoal--now)
+        vialshoal--unseen 0)
+  (apply #'vialshoal--send :do "cursor" :version vialshoal--version
+         :at (car place)
+         (and (cdr place) (list :anchor (cdr place)))))
+
+(defun vialshoal--show-cursors (cursors)
+  "Show others' CURSORS, and no more those that were shown."
+  (mapc #'delete-overlay vialshoal--overlays)
+  (setq vialshoal--cursors cursors
+        vialshoal--overlays (mapcan #'vialshoal--cursor-overlays cursors)))
+
+(defun vialshoal--cursor-overlays (cursor)
+  "Return the overlays that show CURSOR."
+  (let* ((colour (vialshoal--shown-colour (plist-get cursor :colour)))
+         (line `(:underline ,(if (stringp colour) colour t)))
+         (name (vialshoal--shown-name (plist-get cursor :name)))
+         (at (1+ (plist-get cursor :at)))
+         (anchor (1+ (or (plist-get cursor :anchor) (1- at)))))
+    (list (vialshoal--caret-overlay at colour)
+          (vialshoal--name-overlay at colour name)
+          (vialshoal--overlay (min at anchor) (max at anchor) 'face line))))
+
+(defun vialshoal--overlay (beg end &rest properties)
+  "Return an overlay from BEG to END that has PROPERTIES."
+  (let ((overlay (make-overlay beg end)))
+    (overlay-put overlay 'vialshoal t)
+    (cl-loop for (name value) on properties by #'cddr
+             do (overlay-put overlay name value))
+    overlay))
+
+(defun vialshoal--caret-overlay (at colour)
+  "Return an overlay for a cursor at AT in COLOUR."
+  (let ((face `(:background ,colour :foreground "white"))
+        (is-end (memq (save-restriction (widen) (char-after at)) '(nil ?\n))))
+    (if is-end
+        ;; A line's end has no character that could have a colour.
+        (vialshoal--overlay at at 'before-string
+                            (propertize " " 'face face 'cursor t))
+      (vialshoal--overlay at (1+ at) 'face face))))
+
+(defun vialshoal--name-overlay (at colour name)
+  "Return an overlay that has NAME behind the line of AT in COLOUR."
+  (let ((end (save-excursion
+               (save-restriction
+                 (widen)
+                 (goto-char at)
+                 (line-end-position)))))
+    (vialshoal--overlay
+     end end 'after-string
+     (concat (propertize " " 'cursor t)
+             (propertize name 'face `((:foreground ,colour) vialshoal-name))))))
+
+;;;; The mode
+
+(defvar vialshoal-mode-map
+  (let ((map (make-sparse-keymap)))
+    (define-key map [remap undo] #'vialshoal-undo)
+    (define-key map [remap undo-only] #'vialshoal-undo)
+    (define-key map [remap undo-redo] #'vialshoal-redo)
+    (define-key map (kbd "C-/") #'vialshoal-undo)
+    (define-key map (kbd "C-M-_") #'vialshoal-redo)
+    (define-key map [remap save-buffer] #'vialshoal-save)
+    (define-key map [remap write-file] #'vialshoal-save-as)
+    map)
+  "The keys of `vialshoal-mode'.")
+
+(define-minor-mode vialshoal-mode
+  "What has a buffer be a note that others edit, too.
+`vialshoal-open' turns it on; turned off, it closes the note and leaves
+its text."
+  :lighter (:eval (vialshoal--lighter))
+  :keymap vialshoal-mode-map
+  (cond ((not vialshoal-mode) (vialshoal--close))
+        ((not vialshoal--note)
+         (setq vialshoal-mode nil)
+         (user-error "Open a note with `vialshoal-open'"))
+        (t (vialshoal--set-up))))
+(put 'vialshoal-mode 'permanent-local t)
+
+(defconst vialshoal--hooks
+  '((after-change-functions . vialshoal--after-change)
+    (pre-command-hook . vialshoal--pre-command)
+    (post-command-hook . vialshoal--post-command)
+    (after-change-major-mode-hook . vialshoal--guard)
+    (kill-buffer-hook . vialshoal--close))
+  "The hooks of a note's buffer.")
+
+(defun vialshoal--set-up ()
+  "Have this buffer be a note."
+  (add-hook 'kill-emacs-hook #'vialshoal--close-all)
+  (pcase-dolist (`(,hook . ,function) vialshoal--hooks)
+    (add-hook hook function nil t))
+  (vialshoal--guard))
+
+(defun vialshoal--guard ()
+  "Have this Emacs obey nothing in a note's text.
+No mode or variable is read from the text, whoever asks for it, and
+there is no undo that knows the places of before."
+  (setq-local local-enable-local-variables nil)
+  (setq-local inhibit-local-variables-regexps '(""))
+  (buffer-disable-undo))
+(put 'vialshoal--guard 'permanent-local-hook t)
+
+(defun vialshoal--lighter ()
+  "Return what the mode line has of the note."
+  (concat " Note:" (vialshoal--in-mode-line (vialshoal--state-words))))
+
+(defun vialshoal--state-words ()
+  "Return how the note is, in words."
+  (let ((of (plist-get vialshoal--state :of)))
+    (cond ((not (process-live-p vialshoal--process)) "closed")
+          (vialshoal--is-open (vialshoal--log-words))
+          (of (format "opening %s of %s" (plist-get vialshoal--state :done) of))
+          (t "opening"))))
+
+(defun vialshoal--log-words ()
+  "Return where what was typed is, who is on, and what is wrong."
+  (let ((state vialshoal--state))
+    (concat (pcase (plist-get state :log)
+              ("away" (format "offline, %s kept" (plist-get state :unsent)))
+              ("sending" "sending")
+              ("sent" "sent")
+              (_ "kept"))
+            (when (> (or (plist-get state :on) 1) 1)
+              (format ", %s on" (plist-get state :on)))
+            (unless (plist-get state :types)
+              ", can't type yet")
+            (when (plist-get state :trouble)
+              (concat ", trouble: "
+                      (vialshoal--shown-name (plist-get state :trouble) 60))))))
+
+;;;; Opening and closing
+
+;;;###autoload
+(defun vialshoal-open (name &optional log link)
+  "Open the note NAME, which several people may edit at the same time.
+With a prefix argument, ask for the LOG that carries it between them,
+or the LINK by which another's note is joined."
+  (interactive
+   (list (read-string "Note: " nil 'vialshoal--notes)
+         (and current-prefix-arg (read-string "Log, if it has one: "))
+         (and current-prefix-arg (read-passwd "Link, to join by: "))))
+  (unless (string-match-p "\\`[[:alnum:]][[:alnum:]._-]*\\'" name)
+    (user-error "Letters, digits, dots, hyphens and underscores make a name"))
+  (let ((buffer (get-buffer-create (format "*note %s*" name))))
+    (pop-to-buffer-same-window buffer)
+    (unless (process-live-p vialshoal--process)
+      (unless vialshoal--note
+        (funcall vialshoal-major-mode)
+        (setq vialshoal--note name))
+      (setq vialshoal--environment process-environment)
+      (vialshoal--start log link)
+      (vialshoal-mode))
+    buffer))
+
+(defvar vialshoal--notes nil
+  "The names of notes that were opened.")
+
+(defun vialshoal--start (&optional log link)
+  "Start the engine, with LOG and LINK if any, and have it open the note."
+  (vialshoal--forget)
+  (setq buffer-read-only t
+        vialshoal--begun (vialshoal--now)
+        vialshoal--process (vialshoal--make-process log link))
+  (apply #'vialshoal--send :id 0 :do "open" :protocol 1 :units ["utf-32"]
+         :name (vialshoal--shown-name vialshoal-name)
+         (and vialshoal-colour (list :colour vialshoal-colour)))
+  (setq vialshoal--waiting (list (cons 0 #'vialshoal--opened))))
+
+(defun vialshoal--forget ()
+  "Forget all that an engine said."
+  (setq vialshoal--is-open nil
+        vialshoal--version 0
+        vialshoal--made 0
+        vialshoal--answered 0
+        vialshoal--asked 0
+        vialshoal--waiting nil
+        vialshoal--state nil
+        vialshoal--place nil
+        vialshoal--piece nil
+        vialshoal--lines nil)
+  (vialshoal--show-cursors nil))
+
+(defun vialshoal--make-process (log link)
+  "Return the engine's process, with LOG and LINK if any."
+  (let* ((process-adaptive-read-buffering nil)
+         ;; The link has the note's key, and others see arguments.
+         (process-environment (vialshoal--with-link link))
+         (errors (generate-new-buffer (format " *note %s errors*"
+                                              vialshoal--note)))
+         (process (make-process
+                   :name (format "note %s" vialshoal--note)
+                   :command (append vialshoal-command
+                                    (list "engine" vialshoal--note)
+                                    (unless (string-empty-p (or log ""))
+                                      (list "--log" log)))
+                   :connection-type 'pipe
+                   :coding 'utf-8-unix
+                   :noquery t
+                   :stderr errors
+                   :filter #'vialshoal--filter
+                   :sentinel #'vialshoal--sentinel)))
+    (process-put process 'vialshoal-buffer (current-buffer))
+    (process-put process 'vialshoal-errors errors)
+    (when-let ((reader (get-buffer-process errors)))
+      (set-process-query-on-exit-flag reader nil)
+      (set-process-sentinel reader #'ignore))
+    process))
+
+(defun vialshoal--with-link (link)
+  "Return the environment of an engine that is to join by LINK, if any."
+  (if (string-empty-p (or link ""))
+      vialshoal--environment
+    (cons (concat "VIALSHOAL_LINK=" link) vialshoal--environment)))
+
+(defun vialshoal--opened (line)
+  "Take in LINE, the answer to `open'."
+  (if (plist-get line :error)
+      (vialshoal--part)
+    (unless (buffer-live-p vialshoal--mirror)
+      (setq vialshoal--mirror
+            (generate-new-buffer (format " *note %s*" vialshoal--note) t)))
+    (with-current-buffer vialshoal--mirror
+      (buffer-disable-undo))
+    (setq vialshoal--version (plist-get line :version)
+          vialshoal--made (plist-get line :edits)
+          vialshoal--answered vialshoal--made
+          vialshoal--is-lost nil
+          vialshoal--changes nil)
+    (vialshoal--become (plist-get line :text))
+    (restore-buffer-modified-p nil)
+    (setq vialshoal--tick (buffer-chars-modified-tick)
+          vialshoal--is-open t)
+    (force-mode-line-update)))
+
+(defun vialshoal--sentinel (process _event)
+  "Start the engine anew where PROCESS has ended unasked."
+  (let ((buffer (process-get process 'vialshoal-buffer)))
+    (when (and (buffer-live-p buffer) (not (process-live-p process)))
+      (with-current-buffer buffer
+        (when (eq process vialshoal--process)
+          (vialshoal--ended))))
+    (let ((errors (process-get process 'vialshoal-errors)))
+      (when (and (buffer-live-p errors) (not (process-live-p process)))
+        (kill-buffer errors)))))
+
+(defun vialshoal--ended ()
+  "Start the engine anew, unless it hadn't opened the note for long."
+  (let ((words (vialshoal--last-error)))
+    (setq buffer-read-only t)
+    (vialshoal--show-cursors nil)
+    (force-mode-line-update)
+    (if (not (and vialshoal--is-open
+                  (> (vialshoal--now) (+ vialshoal--begun 2))))
+        (vialshoal--say (format "The note isn't open any more.  %s"
+                                (or words "")))
+      (vialshoal--say (format "The engine has ended, and is started anew.  %s"
+                              (or words "")))
+      (vialshoal--start))))
+
+(defun vialshoal--last-error ()
+  "Return the last line that the engine wrote of its own trouble."
+  (let* ((errors (process-get vialshoal--process 'vialshoal-errors))
+         (reader (and (buffer-live-p errors) (get-buffer-process errors))))
+    (while (and reader (accept-process-output reader 0.05)))
+    (if (buffer-live-p errors)
+        (car (last (split-string (with-current-buffer errors (buffer-string))
+                                 "\n" t)))
+      "")))
+
+(defun vialshoal--part ()
+  "Have the engine end, which is nothing to this buffer any more."
+  (vialshoal--send :do "close")
+  (when (process-live-p vialshoal--process)
+    (ignore-errors (process-send-eof vialshoal--process)))
+  (setq vialshoal--process nil)
+  (force-mode-line-update))
+
+(defun vialshoal--close ()
+  "Close the note, with all sent that was typed."
+  (when vialshoal--note
+    (when vialshoal--is-open
+      (vialshoal--flush))
+    (vialshoal--part)
+    (vialshoal--forget)
+    (when vialshoal--timer
+      (cancel-timer vialshoal--timer))
+    (when (buffer-live-p vialshoal--mirror)
+      (kill-buffer vialshoal--mirror))
+    (pcase-dolist (`(,hook . ,function) vialshoal--hooks)
+      (remove-hook hook function t))
+    (setq vialshoal--timer nil
+          vialshoal--note nil
+          buffer-read-only nil)
+    (buffer-enable-undo)))
+(put 'vialshoal--close 'permanent-local-hook t)
+
+(defun vialshoal--close-all ()
+  "Close all notes, and wait a moment until their engines have read all."
+  (dolist (buffer (buffer-list))
+    ;; A note that was closed took its mirror along.
+    (when (and (buffer-live-p buffer)
+               (buffer-local-value 'vialshoal--note buffer))
+      (with-current-buffer buffer
+        (vialshoal--close))))
+  (let ((end (+ (vialshoal--now) 2)))
+    (dolist (process (process-list))
+      (while (and (process-get process 'vialshoal-buffer)
+                  (process-live-p process)
+                  (< (vialshoal--now) end))
+        (accept-process-output process 0.05)))))
+
+;;;; Commands
+
+(defun vialshoal-undo ()
+  "Take back your own last edit, whatever others wrote since."
+  (interactive)
+  (vialshoal--ask (vialshoal--unless-done "You have nothing to take back")
+                  :do "undo"))
+
+(defun vialshoal-redo ()
+  "Make again what `vialshoal-undo' took back."
+  (interactive)
+  (vialshoal--ask (vialshoal--unless-done "You have taken nothing back")
+                  :do "redo"))
+
+(defun vialshoal--unless-done (words)
+  "Return a function to tell WORDS if its answer has nothing done."
+  (lambda (line)
+    (unless (or (plist-get line :done) (plist-get line :error))
+      (message "%s" words))))
+
+(defun vialshoal-save ()
+  "Tell that nothing has to be saved."
+  (interactive)
+  (message "%s" (substitute-command-keys
+                 "All is kept; \\[vialshoal-save-as] saves it as a file")))
+
+(defun vialshoal-save-as (path)
+  "Save the text as the file PATH."
+  (interactive "FSave the text as: ")
+  (when (file-remote-p path)
+    (user-error "The engine writes on this machine only"))
+  (let ((is-there (file-exists-p path)))
+    (when (and is-there (not (y-or-n-p (format "Replace %s? " path))))
+      (user-error "Nothing was saved"))
+    (apply #'vialshoal--ask
+           (lambda (line)
+             (unless (plist-get line :error)
+               (message "Saved as %s" (plist-get line :path))))
+           :do "save" :path (expand-file-name path)
+           (and is-there '(:replace t)))))
+
+(defun vialshoal--author (stretch)
+  "Return who wrote STRETCH, a step or a part of a text."
+  (let ((name (vialshoal--shown-name (plist-get stretch :name))))
+    (cond ((plist-get stretch :own) "you")
+          ((string-empty-p name) (format "site %s" (plist-get stretch :site)))
+          (t name))))
+
+(defun vialshoal-who-wrote-this (beg end)
+  "Say who wrote what is from BEG to END, the region or the line of point."
+  (interactive
+   (if (use-region-p)
+       (list (region-beginning) (region-end))
+     (list (line-beginning-position) (line-end-position))))
+  (vialshoal--ask #'vialshoal--say-who :do "who" :version vialshoal--version
+                  :begin (1- beg) :end (1- end)))
+
+(defun vialshoal--say-who (line)
+  "Tell who wrote what, as LINE has it."
+  (unless (plist-get line :error)
+    (let (sizes)
+      (dolist (stretch (plist-get line :stretches))
+        (cl-incf (alist-get (vialshoal--author stretch) sizes 0 nil #'equal)
+                 (- (plist-get stretch :end) (plist-get stretch :begin))))
+      (message "%s"
+               (if sizes
+                   (mapconcat (lambda (size)
+                                (format "%s: %s characters"
+                                        (car size) (cdr size)))
+                              (nreverse sizes) "; ")
+                 "There is nothing that anybody wrote")))))
+
+;;;; History
+
+(defvar-local vialshoal-history--note nil
+  "The buffer of the note whose history this is.")
+(defvar-local vialshoal-history--steps nil
+  "The steps of the history, a vector.")
+(defvar-local vialshoal-history--at 0
+  "After how many of them the text is shown.")
+
+(defvar vialshoal-history-mode-map
+  (let ((map (make-sparse-keymap)))
+    (define-key map "n" #'vialshoal-history-next)
+    (define-key map "p" #'vialshoal-history-previous)
+    (define-key map "<" #'vialshoal-history-first)
+    (define-key map ">" #'vialshoal-history-last)
+    (define-key map "j" #'vialshoal-history-jump)
+    map)
+  "The keys of `vialshoal-history-mode'.")
+
+(define-derived-mode vialshoal-history-mode special-mode "Note-History"
+  "Shows a note as it was, step by step, with who wrote what in colours."
+  (setq-local local-enable-local-variables nil)
+  (setq-local inhibit-local-variables-regexps '(""))
+  (setq-local revert-buffer-function #'vialshoal-history--revert)
+  (buffer-disable-undo))
+
+(defun vialshoal-history ()
+  "Go through the older texts of this note."
+  (interactive)
+  (vialshoal--ask-history (current-buffer) nil 0))
+
+(defun vialshoal--ask-history (note known from)
+  "Ask for the history of NOTE behind what is KNOWN, from message FROM on."
+  (with-current-buffer note
+    (vialshoal--ask
+     (lambda (line)
+       (unless (plist-get line :error)
+         (let* ((more (plist-get line :steps))
+                (all (append known more))
+                (end (plist-get (car (last more)) :end)))
+           (if (and end (< end (plist-get line :length)))
+               (vialshoal--ask-history note all end)
+             (vialshoal--show-history note all)))))
+     :do "history" :from from)))
+
+(defun vialshoal--show-history (note history)
+  "Show the HISTORY of NOTE, a list."
+  (let ((name (buffer-local-value 'vialshoal--note note)))
+    (with-current-buffer (get-buffer-create (format "*history of %s*" name))
+      (vialshoal-history-mode)
+      (setq vialshoal-history--note note
+            vialshoal-history--steps (vconcat history))
+      (vialshoal-history-jump (length vialshoal-history--steps))
+      (pop-to-buffer (current-buffer)))))
+
+(defun vialshoal-history--revert (&rest _)
+  "Ask for the history anew."
+  (with-current-buffer vialshoal-history--note
+    (vialshoal-history)))
+
+(defun vialshoal-history-jump (at)
+  "Show the text of step AT."
+  (interactive "nAfter how many steps: ")
+  (let ((history (current-buffer))
+        (at (max 0 (min at (length vialshoal-history--steps)))))
+    (unless (buffer-live-p vialshoal-history--note)
+      (user-error "The note isn't open any more"))
+    (setq vialshoal-history--at at)
+    (let ((message (if (= at 0)
+                       0
+                     (plist-get (aref vialshoal-history--steps (1- at)) :end))))
+      (with-current-buffer vialshoal-history--note
+        (vialshoal--ask
+         (lambda (line)
+           (when (and (buffer-live-p history) (not (plist-get line :error)))
+             (with-current-buffer history
+               (vialshoal-history--show line at))))
+         :do "past" :at message)))))
+
+(defun vialshoal-history--show (line at)
+  "Show the text of LINE, that of step AT."
+  (let ((inhibit-read-only t)
+        (place (point)))
+    (erase-buffer)
+    (insert (plist-get line :text))
+    (dolist (stretch (plist-get line :stretches))
+      (vialshoal-history--colour stretch))
+    (goto-char (min place (point-max)))
+    (set-buffer-modified-p nil)
+    (setq header-line-format
+          (vialshoal--in-mode-line (vialshoal-history--header at)))))
+
+(defconst vialshoal-history--colours
+  '("#c0392b" "#2471a3" "#1e8449" "#7d3c98" "#b9770e" "#148f77")
+  "The colours of authors.")
+
+(defun vialshoal-history--colour (stretch)
+  "Show who wrote STRETCH."
+  (let ((colour (nth (mod (plist-get stretch :site)
+                          (length vialshoal-history--colours))
+                     vialshoal-history--colours)))
+    (add-text-properties (1+ (plist-get stretch :begin))
+                         (1+ (plist-get stretch :end))
+                         (list 'face (list :foreground colour)
+                               'help-echo (vialshoal--in-help
+                                           (vialshoal--author stretch))))))
+
+(defun vialshoal-history--header (at)
+  "Return what the header line has of the step before AT."
+  (let ((of (length vialshoal-history--steps)))
+    (if (= at 0)
+        (format "Before the first of %s steps" of)
+      (let ((step (aref vialshoal-history--steps (1- at))))
+        (format "Step %s of %s: %s typed %s, deleted %s" at of
+                (vialshoal--author step) (plist-get step :typed)
+                (plist-get step :deleted))))))
+
+(defun vialshoal-history-next (count)
+  "Show the text that came COUNT later in the history."
+  (interactive "p")
+  (vialshoal-history-jump (+ vialshoal-history--at count)))
+
+(defun vialshoal-history-previous (count)
+  "Show the text that came COUNT sooner in the history."
+  (interactive "p")
+  (vialshoal-history-jump (- vialshoal-history--at count)))
+
+(defun vialshoal-history-first ()
+  "Show the text with which the history begins."
+  (interactive)
+  (vialshoal-history-jump 0))
+
+(defun vialshoal-history-last ()
+  "Show the text with which the history ends."
+  (interactive)
+  (vialshoal-history-jump (length vialshoal-history--steps)))
+
+(provide 'vialshoal)
+;;; vialshoal.el ends here

@@ -1,0 +1,46 @@
+--- The engine's process: lines to it, and lines from it.
+local M = {}
+
+--- Starts an engine. `took` is called with each line that it says, `ended` with what it wrote of its own trouble.
+function M.start(command, environment, took, ended)
+  local piece, errors = {}, {}
+
+  -- Neovim hands over parts of lines: what a list begins with goes on with what the last one ended with.
+  local function read(_, data)
+    for number, part in ipairs(data) do
+      if number > 1 then
+        local line = table.concat(piece)
+        piece = {}
+        took(line)
+      end
+      piece[#piece + 1] = part
+    end
+  end
+
+  return vim.fn.jobstart(command, {
+    env = environment,
+    on_stdout = read,
+    on_stderr = function(_, data)
+      vim.list_extend(errors, data)
+    end,
+    on_exit = function()
+      ended(vim.trim(table.concat(errors, '\n')))
+    end,
+  })
+end
+
+--- Sends a line. An engine that has ended takes none, and its end is told elsewhere.
+function M.send(job, line)
+  pcall(vim.api.nvim_chan_send, job, vim.json.encode(line) .. '\n')
+end
+
+--- Says that no more lines come, and waits a moment until all are read, where that is asked for.
+function M.close(job, patience)
+  M.send(job, { ['do'] = 'close' })
+  pcall(vim.fn.chanclose, job, 'stdin')
+  if patience then
+    vim.fn.jobwait({ job }, patience)
+  end
+end
+
+return M

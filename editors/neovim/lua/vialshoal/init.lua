@@ -1,0 +1,404 @@
+--- Writes a note together with others. `:Vialshoal NAME` opens one.
+---
+--- An engine, the program `note`, has it open; docs/ENGINE.md has the lines that are said to it and by it. Text and
+--- names come from other people: they are shown, and nothing in them is obeyed.
+local api = vim.api
+local Note = require('vialshoal.note')
+local cursors = require('vialshoal.cursors')
+local engine = require('vialshoal.engine')
+local history = require('vialshoal.history')
+local text = require('vialshoal.text')
+
+local M = {}
+
+local PREFIX = 'vialshoal://'
+-- An engine that ends sooner isn't started again.
+local STEADY_SECONDS = 2
+
+-- The notes that are open, by their buffers.
+local notes = {}
+local groups = api.nvim_create_augroup('vialshoal', {})
+local keys = api.nvim_create_namespace('vialshoal_keys')
+
+--- The program beside this plug-in, or the one on the path.
+local function program()
+  local here = debug.getinfo(1, 'S').source:sub(2)
+  local beside = vim.fn.fnamemodify(here, ':p:h') .. '/../../../../bin/note'
+  return vim.fn.executable(beside) == 1 and beside or 'note'
+end
+
+M.options = { command = { program() }, name = vim.env.USER or '', colour = nil }
+
+--- Sets options: `command`, a list; `name`, by which others see you; `colour`, as "#3366cc".
+function M.setup(options)
+  M.options = vim.tbl_extend('force', M.options, options or {})
+end
+
+local function clock()
+  return vim.loop.hrtime() / 1e9
+end
+
+local function say(words)
+  api.nvim_echo({ { tostring(words) } }, true, {})
+end
+
+--- The note of a buffer, the current one if none is given.
+function M.note(buffer)
+  return notes[buffer or api.nvim_get_current_buf()]
+end
+
+--- Keeps a text that has to give way, in a buffer of its own.
+local function beside(words)
+  local buffer = api.nvim_create_buf(true, true)
+  vim.bo[buffer].modeline = false
+  api.nvim_buf_set_lines(buffer, 0, -1, false, vim.split(words, '\n', { plain = true }))
+  say(('The note has another text; that of before is in buffer %d.'):format(buffer))
+end
+
+-- A buffer of a note.
+
+--- Sets the options of a note's buffer: what keeps files can't keep a note, and undo is the engine's.
+local function set_options(buffer)
+  for name, value in pairs({ buftype = 'acwrite', bufhidden = 'hide', swapfile = false, undofile = false,
+    undolevels = -1, modeline = false, fixendofline = false, fileformat = 'unix', buflisted = true }) do
+    vim.bo[buffer][name] = value
+  end
+end
+
+local function set_keys(buffer)
+  vim.keymap.set('n', 'u', M.undo, { buffer = buffer, desc = 'Take back your own last edit' })
+  vim.keymap.set('n', '<C-r>', M.redo, { buffer = buffer, desc = 'Make it again' })
+  vim.keymap.set('n', 'U', '<Nop>', { buffer = buffer })
+end
+
+--- Closes a note whose buffer goes, unless it is only read anew, as `:edit` does.
+local function detached(note)
+  note:send_changes()
+  note.applies = true
+  vim.schedule(function()
+    if note.applies then
+      M.close(note.buffer)
+    end
+  end)
+end
+
+--- Has a note be told what happens to its buffer.
+local function attach(note)
+  return api.nvim_buf_attach(note.buffer, false, {
+    on_bytes = function(_, _, _, row, column)
+      note:hinted(row, column)
+    end,
+    on_lines = function(_, _, _, first, last, new_last)
+      note:changed(first, last, new_last)
+    end,
+    on_detach = function()
+      detached(note)
+    end,
+  })
+end
+
+local function set_events(note)
+  local function on(events, callback)
+    api.nvim_create_autocmd(events, { group = groups, buffer = note.buffer, callback = callback })
+  end
+  on({ 'CursorMoved', 'CursorMovedI', 'ModeChanged' }, function() note:tell_place() end)
+  on('BufWriteCmd', function(event) M.write(note, event.match) end)
+  on('BufReadCmd', function() M.read(note.buffer) end)
+end
+
+--- Saves a note as a file, which `:write` names.
+function M.write(note, path)
+  if path == api.nvim_buf_get_name(note.buffer) then
+    vim.bo[note.buffer].modified = false
+    return say('All is kept; :w FILE saves it as a file.')
+  end
+  note:ask({ ['do'] = 'save', path = path, replace = vim.v.cmdbang == 1 }, function(answer)
+    if answer.path then
+      say('Saved as ' .. answer.path)
+    end
+  end)
+end
+
+--- Shows the text again that a command such as `:edit` has taken out of the buffer.
+function M.read(buffer)
+  local note = notes[buffer]
+  if note then
+    set_options(buffer)
+    note:fill(text.join(note.lines, note.has_end))
+    attach(note)
+  end
+end
+
+--- Calls a function, and says why where that fails. CTRL-C ends what is called here, too; but the user's macro is
+--- to end, so it is handed on.
+local function guarded(call, ...)
+  local is_done, why = pcall(call, ...)
+  if is_done then
+    return true
+  elseif tostring(why):find('Keyboard interrupt', 1, true) then
+    api.nvim_input('<C-c>')
+  else
+    say('Vialshoal: ' .. tostring(why))
+  end
+  return false
+end
+
+--- Asks a key's note whether it lets others' text in first.
+local function before_key()
+  local note = notes[api.nvim_get_current_buf()]
+  if note and not note.takes_key then
+    note.takes_key = true
+    guarded(note.before_key, note)
+    note.takes_key = false
+  end
+end
+
+-- Opening and closing.
+
+local start
+
+--- Starts the engine again that has ended unasked, unless it ended at once.
+local function ended(note, words)
+  if notes[note.buffer] ~= note or note.is_closing then
+    return
+  end
+  local was_steady = note.is_open and clock() > note.begun + STEADY_SECONDS
+  note.is_open = false
+  vim.bo[note.buffer].modifiable = false
+  note.shows.cursors({})
+  if was_steady then
+    say('The engine has ended, and is started anew. ' .. words)
+    start(note)
+  else
+    note.job = nil
+    say("The note isn't open any more. " .. words)
+  end
+end
+
+--- Does what a line says, and asks for the whole text where that fails.
+local function take(note, line)
+  if line == '' or not api.nvim_buf_is_valid(note.buffer) then
+    return
+  end
+  local is_done = guarded(function()
+    note:take(vim.json.decode(line, { luanil = { object = true } }))
+  end)
+  if not is_done then
+    note:lost()
+  end
+end
+
+--- Starts a note's engine, and has it open the note.
+function start(note)
+  note.begun, note.types = clock(), false
+  local job
+  job = engine.start(note.command, note.environment, function(line)
+    if note.job == job then
+      take(note, line)
+    end
+  end, function(words)
+    if note.job == job then
+      ended(note, words)
+    end
+  end)
+  note.job = job
+  note.waiting = {
+    [0] = function(answer)
+      if answer.error then
+        engine.close(job)
+        note.job = nil
+        return
+      end
+      note:opened(answer)
+      vim.bo[note.buffer].modified = false
+    end,
+  }
+  note.send({ id = 0, ['do'] = 'open', protocol = 1, units = { 'utf-8' }, name = text.name(M.options.name),
+    colour = M.options.colour })
+end
+
+--- A note's buffer, which has no text yet.
+local function new_note(buffer, name, log, link)
+  local note
+  note = Note.new(buffer, function(line) engine.send(note.job, line) end, clock, {
+    words = say,
+    beside = beside,
+    cursors = function(shown) cursors.show(buffer, note.lines, shown) end,
+    state = function(state)
+      -- Only where that changes, so that the user can set it, too.
+      if state.types ~= nil and state.types ~= note.types then
+        note.types = state.types
+        vim.bo[buffer].modifiable = state.types
+      end
+      vim.cmd('redrawstatus!')
+    end,
+  })
+  note.name = name
+  note.command = vim.list_extend(vim.deepcopy(M.options.command), { 'engine', name })
+  if log and log ~= '' then
+    vim.list_extend(note.command, { '--log', log })
+  end
+  -- The link has the note's key, and others see arguments.
+  note.environment = link and link ~= '' and { VIALSHOAL_LINK = link } or nil
+  return note
+end
+
+--- Opens a note; `log` carries it between people, and by `link` another's is joined.
+function M.open(name, log, link)
+  if not name:find('^%w[%w._-]*$') then
+    return say('Letters, digits, dots, hyphens and underscores make a name.')
+  end
+  local buffer = vim.fn.bufadd(PREFIX .. name)
+  local note = notes[buffer]
+  if not note then
+    vim.fn.bufload(buffer)
+    set_options(buffer)
+    api.nvim_buf_set_lines(buffer, 0, -1, false, {})
+    note = new_note(buffer, name, log, link)
+    notes[buffer] = note
+    attach(note)
+    set_events(note)
+    set_keys(buffer)
+    vim.bo[buffer].modifiable = false
+  end
+  vim.on_key(before_key, keys)
+  if not note.job then
+    start(note)
+  end
+  api.nvim_set_current_buf(buffer)
+end
+
+--- Closes a buffer's note, with all sent that was typed.
+function M.close(buffer, patience)
+  local note = notes[buffer]
+  if not note then
+    return
+  end
+  notes[buffer] = nil
+  note.is_closing = true
+  if note.is_open and api.nvim_buf_is_loaded(buffer) then
+    pcall(note.flush, note)
+  end
+  if note.job then
+    engine.close(note.job, patience)
+  end
+  note.is_open = false
+  if api.nvim_buf_is_valid(buffer) then
+    api.nvim_clear_autocmds({ group = groups, buffer = buffer })
+  end
+end
+
+-- A buffer's own events have no OptionSet.
+api.nvim_create_autocmd('OptionSet', {
+  group = groups,
+  pattern = 'endofline',
+  callback = function()
+    local note = M.note()
+    if note and not note.applies then
+      note:end_changed(vim.bo[note.buffer].endofline)
+    end
+  end,
+})
+
+api.nvim_create_autocmd('VimLeavePre', {
+  group = groups,
+  callback = function()
+    for buffer in pairs(notes) do
+      M.close(buffer, 2000)
+    end
+  end,
+})
+
+-- Commands.
+
+--- Calls a function with the current buffer's note.
+local function with_note(call)
+  local note = M.note()
+  if note then
+    return call(note)
+  end
+  say('This buffer is no note.')
+end
+
+local function ask_to_undo(what, words)
+  with_note(function(note)
+    note:ask({ ['do'] = what }, function(answer)
+      if not answer.done and not answer.error then
+        say(words)
+      end
+    end)
+  end)
+end
+
+--- Takes back your own last edit, whatever others wrote since.
+function M.undo()
+  ask_to_undo('undo', 'You have nothing to take back.')
+end
+
+--- Makes again what was taken back.
+function M.redo()
+  ask_to_undo('redo', 'You have taken nothing back.')
+end
+
+--- Goes through the older texts.
+function M.history()
+  with_note(history.open)
+end
+
+--- Says who wrote some lines, which count from 1.
+function M.who(first, last)
+  with_note(function(note)
+    note:flush()
+    local begin = text.offset(note.lines, first - 1)
+    local size = text.offset(note.lines, math.min(last, #note.lines)) - 1
+    note:ask({ ['do'] = 'who', version = note.version, begin = begin, ['end'] = size }, function(answer)
+      if answer.error then
+        return
+      end
+      local sizes, order = {}, {}
+      for _, stretch in ipairs(answer.stretches) do
+        local who = history.author(stretch)
+        if not sizes[who] then
+          order[#order + 1] = who
+        end
+        sizes[who] = (sizes[who] or 0) + stretch['end'] - stretch.begin
+      end
+      say(#order == 0 and 'There is nothing that anybody wrote.' or table.concat(vim.tbl_map(function(who)
+        return ('%s: %d bytes'):format(who, sizes[who])
+      end, order), '; '))
+    end)
+  end)
+end
+
+--- How a note is, in words.
+local function state_words(note)
+  local state = note.state
+  if not note.job then
+    return 'closed'
+  elseif not note.is_open then
+    return state.of and ('opening %d of %d'):format(state.done, state.of) or 'opening'
+  end
+  local words = state.log == 'away' and ('offline, %d kept'):format(state.unsent or 0)
+    or state.log == 'sending' and 'sending' or state.log == 'sent' and 'sent' or 'kept'
+  if (state.on or 1) > 1 then
+    words = ('%s, %d on'):format(words, state.on)
+  end
+  if not state.types then
+    words = words .. ", can't type yet"
+  end
+  if state.trouble then
+    words = words .. ', trouble: ' .. text.name(state.trouble, 60)
+  end
+  return words
+end
+
+--- What a status line says of the note in its window, for `%{%v:lua.require'vialshoal'.statusline()%}`: what others
+--- wrote is no item of it.
+function M.statusline()
+  local window = vim.g.statusline_winid
+  local shown = window and api.nvim_win_is_valid(window) and api.nvim_win_get_buf(window) or nil
+  local note = M.note(shown)
+  return note and ('Note:' .. state_words(note)):gsub('%%', '%%%%') or ''
+end
+
+return M

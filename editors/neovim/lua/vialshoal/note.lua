@@ -1,0 +1,527 @@
+--- A note in a buffer: its text as the engine knows it, and what an editor does with which lines.
+---
+--- docs/ENGINE.md has the lines. Positions are bytes, as in Neovim's own API.
+---
+--- Vim shows no empty line behind a file's last line end. So a text that ends with one is shown without it, and
+--- `has_end` and the option 'endofline' say that it is there; with 'nofixendofline' none is added to a text that has
+--- none. One that is typed here is shown as an empty line, until others change the end.
+local api = vim.api
+local text = require('vialshoal.text')
+
+local Note = {}
+Note.__index = Note
+
+-- With so many edits unanswered, changes are gathered.
+local MOST_UNANSWERED = 10
+-- An edit has so many bytes of text at most, so that its line isn't too long.
+local MOST_TEXT = 1000000
+local BUSY_SECONDS, PATIENCE_SECONDS = 0.5, 0.2
+-- An editor that only reads says after so many notices what it has seen.
+local SEEN = 100
+local CURSOR_SECONDS, LOST_SECONDS = 0.05, 0.1
+
+--- A note that is not open yet. `send` sends a line, `clock` says the time in seconds, and `shows` has functions for
+--- what is to be shown: `words`, `cursors`, `state`, `beside` for a text that has to give way.
+function Note.new(buffer, send, clock, shows)
+  return setmetatable({
+    buffer = buffer, send = send, clock = clock, shows = shows,
+    is_open = false, version = 0, made = 0, answered = 0, since = 0, lines = { '' }, has_end = false,
+    changes = {}, state = {}, cursors = {}, waiting = {}, asked = 0, seen = 0, place_sent = 0,
+  }, Note)
+end
+
+--- Takes in the answer to `open`, and shows the text.
+function Note:opened(line)
+  self.version, self.made, self.answered = line.version, line.edits, line.edits
+  self.changes, self.waiting, self.place, self.is_lost = {}, {}, nil, false
+  if self:size() == 0 then
+    self:fill(line.text)
+  else
+    self:become(line.text)
+  end
+  self.is_open = true
+end
+
+-- Edits.
+
+--- Takes note of a change that the user, or a plug-in, made: lines `first` to `last` gave way to those up to
+--- `new_last`.
+function Note:changed(first, last, new_last)
+  if self.applies or self.is_lost or not self.is_open then
+    return
+  end
+  local count = api.nvim_buf_line_count(self.buffer)
+  if count == 1 and new_last == first then
+    -- Vim tells of no line where one empty line is left.
+    new_last = last + count - #self.lines
+  end
+  if self.is_unsure or new_last - last ~= count - #self.lines or new_last < first then
+    -- The buffer was changed further before this was told.
+    self.is_unsure = true
+    return self:soon()
+  end
+  self:gather(first, last, new_last)
+  self:soon()
+end
+
+--- Takes note of where a change is said to begin, before its lines are told. That is more exact than what lines
+--- show, but not always right; so it is a hint.
+function Note:hinted(row, column)
+  if self.applies or self.is_lost then
+    return
+  elseif self.hint == nil then
+    self.hint = { row, column }
+  elseif self.hint and self.hint[1] == row then
+    self.hint[2] = math.min(self.hint[2], column)
+  else
+    self.hint = false
+  end
+end
+
+--- Gathers what differs in lines.
+function Note:gather(first, last, new_last)
+  local is_last = not self.has_end and last == #self.lines
+  if is_last and first > 0 and new_last ~= last then
+    -- The line end before them has come or gone, too.
+    first = first - 1
+  end
+  local new = api.nvim_buf_get_lines(self.buffer, first, new_last, false)
+  local old = vim.list_slice(self.lines, first + 1, last)
+  local hint = self.hint and { self.hint[1] - first, self.hint[2] }
+  self.hint = nil
+  local found = text.changes(old, new, text.offset(self.lines, first), is_last, hint)
+  for _, change in ipairs(found) do
+    if text.clean(change[3]) ~= change[3] then
+      self.is_unsure = true
+      return
+    end
+  end
+  text.splice(self.lines, first, last, new)
+  for _, change in ipairs(found) do
+    self:add(change)
+  end
+end
+
+--- Adds a change to those that are gathered, in parts where its text is long.
+function Note:add(change)
+  local from, to, new = change[1], change[2], change[3]
+  local begin = 1
+  repeat
+    local last = math.min(begin + MOST_TEXT - 1, #new)
+    while last < #new and new:byte(last + 1) >= 0x80 and new:byte(last + 1) < 0xc0 do
+      last = last - 1
+    end
+    table.insert(self.changes, { from, to, new:sub(begin, last) })
+    from = from + last - begin + 1
+    to, begin = from, last + 1
+  until begin > #new
+end
+
+--- Gathers what has changed although nobody told, and shows U+FFFD for what is no character, as all others do.
+function Note:find_changes()
+  if not self.is_unsure and api.nvim_buf_line_count(self.buffer) == #self.lines then
+    return
+  end
+  self.is_unsure, self.hint = false, nil
+  local lines = api.nvim_buf_get_lines(self.buffer, 0, -1, false)
+  self:apply(function()
+    for number, line in ipairs(lines) do
+      local clean = text.clean(line)
+      if clean ~= line then
+        api.nvim_buf_set_lines(self.buffer, number - 1, number, false, { clean })
+      end
+    end
+  end)
+  self:gather(0, #self.lines, #lines)
+end
+
+--- Takes note that the hidden line end came or went, by the option 'endofline'.
+function Note:end_changed(has_end)
+  if self.is_open and has_end ~= self.has_end then
+    self:find_changes()
+    local size = self:size()
+    self.has_end = has_end
+    self:add(has_end and { size, size, '\n' } or { size, size + 1, '' })
+    self:soon()
+  end
+end
+
+--- Sends what a command has changed, unless many edits are unanswered: then it goes with what follows.
+function Note:flush_command()
+  if self.made - self.answered < MOST_UNANSWERED then
+    self:flush()
+  end
+end
+
+--- Sends what was gathered as one edit; in parts where that is much.
+function Note:flush()
+  if self.is_open and not self.is_lost then
+    self:find_changes()
+    self:send_changes()
+  end
+end
+
+--- Changes in lists that are an edit each. Positions make lines long, too, where there are many changes.
+local function in_edits(changes)
+  local edits, size = { {} }, 0
+  for _, change in ipairs(changes) do
+    local more = 20 + #change[3]
+    if size > 0 and size + more > MOST_TEXT then
+      table.insert(edits, {})
+      size = 0
+    end
+    table.insert(edits[#edits], change)
+    size = size + more
+  end
+  return edits
+end
+
+--- Sends what was gathered, whatever the buffer has by now.
+function Note:send_changes()
+  if #self.changes == 0 then
+    return
+  end
+  local edits = in_edits(self.changes)
+  if self.answered == self.made then
+    self.since = self.clock()
+  end
+  self.changes, self.seen = {}, 0
+  for number, edit in ipairs(edits) do
+    self.made = self.made + 1
+    self.send({ ['do'] = 'edit', version = self.version, edits = self.made, changes = edit,
+      join = number > 1 or nil })
+  end
+end
+
+--- Sends soon what was gathered, when what changes the text has ended.
+function Note:soon()
+  if not self.is_due then
+    self.is_due = true
+    vim.schedule(function()
+      self.is_due = false
+      if api.nvim_buf_is_valid(self.buffer) then
+        self:flush_command()
+      end
+    end)
+  end
+end
+
+-- Who types without a pause.
+
+--- Whether lines are to be read before a key is taken. Only a macro types for half a second without all answered.
+function Note:is_behind()
+  return self.answered < self.made and self.clock() > self.since + BUSY_SECONDS
+end
+
+--- Has the half second begin anew.
+function Note:caught_up()
+  self.since = self.clock()
+end
+
+--- Lets others' text in before a key, where it was held back too long.
+function Note:before_key()
+  if not self.is_open then
+    return
+  end
+  self:flush_command()
+  if self:is_behind() then
+    local _, why = vim.wait(PATIENCE_SECONDS * 1000, function() return self.answered == self.made end, 2)
+    self:caught_up()
+    if why == -2 then
+      error('Keyboard interrupt', 0)
+    end
+  end
+end
+
+-- Lines.
+
+--- Sends a request, and calls `answered` with its answer.
+function Note:ask(request, answered)
+  if not self.is_open then
+    return self.shows.words("This note isn't open.")
+  end
+  self:flush()
+  self.asked = self.asked + 1
+  self.waiting[self.asked] = answered
+  request.id = self.asked
+  self.send(request)
+end
+
+--- Takes note that it isn't sure what the buffer has, since a change was broken off, and asks for the whole text; not
+--- at once, as what broke it off may still be there.
+function Note:lost()
+  self.is_lost = true
+  vim.defer_fn(function()
+    self.send({ ['do'] = 'text', edits = self.made })
+  end, LOST_SECONDS * 1000)
+end
+
+--- Takes in a line of the engine's.
+function Note:take(line)
+  self:flush()
+  if line.notice then
+    self:noticed(line)
+  elseif line.answer then
+    self:answer(line)
+  end
+end
+
+function Note:answer(line)
+  if line.error then
+    self.shows.words(line.words)
+    if not line.edits and not line.id then
+      self.send({ ['do'] = 'text', edits = self.made })
+    end
+  end
+  if line.answer == 'edit' and line.edits then
+    self.answered = line.edits
+    if self.answered == self.made then
+      vim.bo[self.buffer].modified = false
+    end
+  end
+  local answered = line.id and self.waiting[line.id]
+  if answered then
+    self.waiting[line.id] = nil
+    answered(line)
+  end
+end
+
+function Note:noticed(line)
+  if line.notice == 'state' or line.notice == 'opening' then
+    self.state = line
+    self.shows.state(line)
+  elseif line.notice == 'says' then
+    self.shows.words(line.words)
+  elseif line.edits ~= self.made then
+    return
+  elseif line.notice == 'cursors' then
+    self.cursors = line.cursors
+    self.shows.cursors(line.cursors)
+  elseif line.notice == 'changes' or line.notice == 'text' then
+    self:take_text(line)
+  end
+end
+
+--- Shows the text that a notice says.
+function Note:take_text(line)
+  if self.is_lost and line.notice ~= 'text' then
+    return
+  end
+  self.version = line.version
+  if self.is_lost then
+    self.is_lost = false
+    self:fill(line.text)
+  elseif line.notice == 'text' then
+    self:become(line.text)
+  else
+    self:change(line.changes)
+  end
+  if line.cursor then
+    self:go_to(line.cursor)
+  end
+  self.seen = self.seen + 1
+  if self.seen >= SEEN then
+    self.seen = 0
+    self.send({ ['do'] = 'seen', version = self.version })
+  end
+end
+
+-- What the text becomes.
+
+--- Changes the buffer as the engine says: that is no edit.
+function Note:apply(body)
+  local options = vim.bo[self.buffer]
+  local modifiable, modified = options.modifiable, options.modified
+  self.applies, options.modifiable = true, true
+  local is_done, why = pcall(body)
+  self.applies = false
+  options.modifiable, options.modified = modifiable, modified
+  if not is_done then
+    error(why, 0)
+  end
+end
+
+--- Makes changes of the engine's. Cursors and what windows show stay with their characters.
+function Note:change(changes)
+  local kept = self:kept_places()
+  self:apply(function()
+    for _, change in ipairs(changes) do
+      self:replace(change[1], change[2], change[3])
+      for _, window in ipairs(kept) do
+        for name, place in pairs(window.places) do
+          window.places[name] = text.moved(place, change)
+        end
+      end
+    end
+    self:hide_end(kept)
+  end)
+  self:restore_places(kept)
+end
+
+--- Has a text be in the place of what is between two places.
+function Note:replace(from, to, new)
+  if self.has_end and to > self:size() then
+    self:show_end()
+  end
+  local row, column = text.position(self.lines, from)
+  local last_row, last_column = text.position(self.lines, to)
+  local lines = vim.split(new, '\n', { plain = true })
+  if row == last_row then
+    api.nvim_buf_set_text(self.buffer, row, column, row, last_column, lines)
+  end
+  lines[#lines] = lines[#lines] .. self.lines[last_row + 1]:sub(last_column + 1)
+  lines[1] = self.lines[row + 1]:sub(1, column) .. lines[1]
+  if row ~= last_row then
+    -- From a line that was just changed to another one, Neovim 0.7 reads memory that it has freed.
+    api.nvim_buf_set_lines(self.buffer, row, last_row + 1, false, lines)
+  end
+  text.splice(self.lines, row, last_row + 1, lines)
+end
+
+--- How many bytes the text has, without the line end that is hidden.
+function Note:size()
+  return text.offset(self.lines, #self.lines) - 1
+end
+
+--- Shows the line end behind the last line, as an empty line.
+function Note:show_end()
+  api.nvim_buf_set_lines(self.buffer, #self.lines, #self.lines, false, { '' })
+  table.insert(self.lines, '')
+  self:set_end(false)
+end
+
+--- Hides it, where no cursor is there.
+function Note:hide_end(kept)
+  local last = #self.lines
+  if last == 1 or self.lines[last] ~= '' or self.has_end then
+    return
+  end
+  local begin = text.offset(self.lines, last - 1)
+  for _, window in ipairs(kept) do
+    if window.places.cursor >= begin then
+      return
+    end
+  end
+  api.nvim_buf_set_lines(self.buffer, last - 1, last, false, {})
+  table.remove(self.lines)
+  self:set_end(true)
+end
+
+function Note:set_end(has_end)
+  self.has_end = has_end
+  vim.bo[self.buffer].endofline = has_end
+end
+
+--- Shows a whole text, and keeps what differed here beside.
+function Note:become(new)
+  local before = text.join(self.lines, self.has_end)
+  local found = text.change(before, new, 0)
+  if #found == 1 and found[1][2] > found[1][1] then
+    self.shows.beside(before)
+  end
+  self:change(found)
+end
+
+--- Fills an empty buffer with a text.
+function Note:fill(new)
+  local lines, has_end = text.split(new)
+  self:apply(function()
+    api.nvim_buf_set_lines(self.buffer, 0, -1, false, lines)
+    self.lines = lines
+    self:set_end(has_end)
+  end)
+end
+
+-- Places.
+
+--- The place in bytes of a cursor, as Neovim's API has it.
+function Note:place_of(cursor)
+  local row = math.min(cursor[1], #self.lines)
+  return text.offset(self.lines, row - 1) + math.min(cursor[2], #self.lines[row])
+end
+
+--- Where the other end of a selection is, if there is one in the current window.
+function Note:anchor()
+  if api.nvim_get_current_buf() == self.buffer and vim.fn.mode():find('^[vV\22]') then
+    local at = vim.fn.getpos('v')
+    return self:place_of({ at[2], at[3] - 1 })
+  end
+end
+
+--- What the windows that show the note have at which places.
+function Note:kept_places()
+  local kept = {}
+  for _, window in ipairs(vim.fn.win_findbuf(self.buffer)) do
+    local top = vim.fn.getwininfo(window)[1].topline
+    local places = { cursor = self:place_of(api.nvim_win_get_cursor(window)), top = self:place_of({ top, 0 }) }
+    if window == api.nvim_get_current_win() then
+      places.anchor = self:anchor()
+    end
+    table.insert(kept, { window = window, places = places })
+  end
+  return kept
+end
+
+--- Puts a window's cursor at a place.
+function Note:put_cursor(window, place)
+  local row, column = text.position(self.lines, place)
+  local now = api.nvim_win_get_cursor(window)
+  if now[1] ~= row + 1 or now[2] ~= column then
+    api.nvim_win_set_cursor(window, { row + 1, column })
+  end
+end
+
+function Note:restore_places(kept)
+  for _, each in ipairs(kept) do
+    if each.places.anchor and each.places.anchor ~= self:anchor() then
+      vim.cmd('normal! o')
+      self:put_cursor(each.window, each.places.anchor)
+      vim.cmd('normal! o')
+    end
+    self:put_cursor(each.window, each.places.cursor)
+    local top = text.position(self.lines, each.places.top) + 1
+    if vim.fn.getwininfo(each.window)[1].topline ~= top then
+      api.nvim_win_call(each.window, function() vim.fn.winrestview({ topline = top }) end)
+    end
+  end
+end
+
+--- Puts the user's cursor at a place.
+function Note:go_to(place)
+  if api.nvim_get_current_buf() == self.buffer then
+    self:put_cursor(api.nvim_get_current_win(), place)
+  end
+end
+
+--- Sends where the user is, 20 times a second at most.
+function Note:tell_place()
+  if not self.is_open or api.nvim_get_current_buf() ~= self.buffer then
+    return
+  end
+  local now = self.clock()
+  if now < self.place_sent + CURSOR_SECONDS then
+    if not self.place_due then
+      self.place_due = true
+      vim.defer_fn(function()
+        self.place_due = false
+        self:tell_place()
+      end, CURSOR_SECONDS * 1000 + 5)
+    end
+    return
+  end
+  self:flush_command()
+  if #self.changes == 0 and not self.is_unsure then
+    self:send_place(now)
+  end
+end
+
+function Note:send_place(now)
+  local at, anchor = self:place_of(api.nvim_win_get_cursor(0)), self:anchor()
+  if self.place and self.place[1] == at and self.place[2] == anchor then
+    return
+  end
+  self.place, self.place_sent, self.seen = { at, anchor }, now, 0
+  self.send({ ['do'] = 'cursor', version = self.version, at = at, anchor = anchor })
+end
+
+return Note

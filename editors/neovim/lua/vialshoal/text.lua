@@ -1,0 +1,200 @@
+--- Text as Neovim has it, in lines, and as the engine counts it, in bytes from the front.
+local M = {}
+
+--- Whether a byte goes on with a character that began before it.
+local function goes_on(byte)
+  return byte ~= nil and byte >= 0x80 and byte < 0xc0
+end
+
+--- How far something holds, `most` at most. `holds` says whether it does for so many more behind so many. Long steps
+--- are tried first, since a line can have a million bytes.
+local function reach(most, holds)
+  local far, step = 0, 1
+  while step > 0 do
+    if far + step <= most and holds(far, step) then
+      far, step = far + step, step * 2
+    else
+      step = math.floor(step / 2)
+    end
+  end
+  return far
+end
+
+--- How much the two begin with alike, in whole characters, `most` bytes at most.
+local function same_head(old, new, most)
+  local head = reach(most, function(far, step)
+    return old:sub(far + 1, far + step) == new:sub(far + 1, far + step)
+  end)
+  while head > 0 and (goes_on(old:byte(head + 1)) or goes_on(new:byte(head + 1))) do
+    head = head - 1
+  end
+  return head
+end
+
+--- How much the two end with alike, in whole characters, `most` bytes at most.
+local function same_tail(old, new, most)
+  local tail = reach(most, function(far, step)
+    return old:sub(#old - far - step + 1, #old - far) == new:sub(#new - far - step + 1, #new - far)
+  end)
+  while tail > 0 and goes_on(old:byte(#old - tail + 1)) do
+    tail = tail - 1
+  end
+  return tail
+end
+
+--- What has changed from one text to another, as a list of no or one change. The texts begin at `base`. The
+--- change isn't behind `hint`, where that is given: who types an `a` between others shows which is new.
+function M.change(old, new, base, hint)
+  if old == new then
+    return {}
+  end
+  local least = math.min(#old, #new)
+  local head = same_head(old, new, math.min(least, hint or least))
+  local tail = same_tail(old, new, least - head)
+  return { { base + head, base + #old - tail, new:sub(head + 1, #new - tail) } }
+end
+
+--- What has changed from some lines to others: where they are as many, line by line, so that what is between two
+--- changes stays what it was. A line end follows each of them, but not the last one where `is_last`. `hint` is the
+--- line, of these, and the column where a change is said to begin.
+function M.changes(old, new, base, is_last, hint)
+  local found = {}
+  hint = hint or { -1 }
+  if #old == #new then
+    for number, line in ipairs(old) do
+      vim.list_extend(found, M.change(line, new[number], base, hint[1] == number - 1 and hint[2] or nil))
+      base = base + #new[number] + 1
+    end
+    return found
+  end
+  local most = hint[1] >= 0 and M.offset(old, hint[1]) + hint[2] or nil
+  local ending = is_last and '' or '\n'
+  local function text(lines)
+    return #lines == 0 and '' or table.concat(lines, '\n') .. ending
+  end
+  return M.change(text(old), text(new), base, most)
+end
+
+--- The lines of a text, and whether its last line end is hidden, as Vim does with those of files.
+function M.split(text)
+  local lines = vim.split(text, '\n', { plain = true })
+  if #lines > 1 and lines[#lines] == '' then
+    table.remove(lines)
+    return lines, true
+  end
+  return lines, false
+end
+
+--- The text of lines, and of the line end that isn't shown.
+function M.join(lines, has_end)
+  return table.concat(lines, '\n') .. (has_end and '\n' or '')
+end
+
+--- The bytes before a line; the first has the number 0.
+function M.offset(lines, row)
+  local bytes = 0
+  for number = 1, math.min(row, #lines) do
+    bytes = bytes + #lines[number] + 1
+  end
+  return bytes
+end
+
+--- The line and the column of a place in bytes, which is none behind the last line's end.
+function M.position(lines, offset)
+  for number, line in ipairs(lines) do
+    if offset <= #line or number == #lines then
+      return number - 1, math.min(offset, #line)
+    end
+    offset = offset - #line - 1
+  end
+end
+
+--- Puts lines in the place of others, `first` to `last` as Neovim's API counts them.
+function M.splice(lines, first, last, new)
+  local grows, count = #new - (last - first), #lines
+  if grows > 0 then
+    for number = count, last + 1, -1 do
+      lines[number + grows] = lines[number]
+    end
+  elseif grows < 0 then
+    for number = last + 1, count - grows do
+      lines[number + grows] = lines[number]
+    end
+  end
+  for number, line in ipairs(new) do
+    lines[first + number] = line
+  end
+end
+
+--- Where a place is after a change: behind the same character, as others see it.
+function M.moved(place, change)
+  local from, to, text = change[1], change[2], change[3]
+  if place <= from then
+    return place
+  elseif place < to then
+    return from
+  end
+  return place + #text - (to - from)
+end
+
+-- The bytes that may follow a character's first one, by that; all others after them are 0x80 to 0xbf.
+local SECOND = { [0xe0] = { 0xa0, 0xbf }, [0xed] = { 0x80, 0x9f }, [0xf0] = { 0x90, 0xbf }, [0xf4] = { 0x80, 0x8f } }
+
+--- How many bytes the character has that begins at a place; nil where none does.
+local function length_at(text, at)
+  local first = text:byte(at)
+  local length = first < 0x80 and 1 or first < 0xc2 and 0 or first < 0xe0 and 2 or first < 0xf0 and 3
+    or first < 0xf5 and 4 or 0
+  local second = SECOND[first] or { 0x80, 0xbf }
+  for number = 1, length - 1 do
+    local byte = text:byte(at + number) or 0
+    local low, high = 0x80, 0xbf
+    if number == 1 then
+      low, high = second[1], second[2]
+    end
+    if byte < low or byte > high then
+      return nil
+    end
+  end
+  return length > 0 and length or nil
+end
+
+--- The text with U+FFFD for each byte that is of no character.
+function M.clean(text)
+  if not text:find('[\128-\255]') then
+    return text
+  end
+  local parts, at, begin = {}, 1, 1
+  while at <= #text do
+    local length = length_at(text, at)
+    if not length then
+      parts[#parts + 1] = text:sub(begin, at - 1) .. '\239\191\189'
+      begin = at + 1
+    end
+    at = at + (length or 1)
+  end
+  if begin == 1 then
+    return text
+  end
+  return table.concat(parts) .. text:sub(begin)
+end
+
+--- Whether a name has a character that none may have: controls, and what turns the direction of writing.
+local function is_no_name(char)
+  local code = vim.fn.char2nr(char)
+  return code < 0x20 or code >= 0x7f and code < 0xa0 or code == 0x61c or code == 0x200e or code == 0x200f
+    or code >= 0x2028 and code <= 0x202e or code >= 0x2066 and code <= 0x2069
+end
+
+--- A name as it may be shown, with 40 characters or `most`.
+function M.name(name, most)
+  local found = {}
+  for _, char in ipairs(vim.fn.split(M.clean(type(name) == 'string' and name or ''), '\\zs')) do
+    if not is_no_name(char) and #found < (most or 40) then
+      found[#found + 1] = char
+    end
+  end
+  return table.concat(found)
+end
+
+return M

@@ -1,0 +1,23 @@
+-- The commands; all else is loaded with the first of them.
+if vim.g.loaded_vialshoal then
+  return
+end
+vim.g.loaded_vialshoal = true
+
+local command = vim.api.nvim_create_user_command
+
+command('Vialshoal', function(given)
+  require('vialshoal').open(given.fargs[1], given.fargs[2])
+end, { nargs = '+', desc = 'Open a note: its name, and perhaps the log that carries it' })
+
+command('VialshoalJoin', function(given)
+  require('vialshoal').open(given.args, nil, vim.fn.inputsecret('Link: '))
+end, { nargs = 1, desc = "Join another's note, by a link that is asked for" })
+
+command('VialshoalHistory', function()
+  require('vialshoal').history()
+end, { desc = 'Go through the older texts of this note' })
+
+command('VialshoalWho', function(given)
+  require('vialshoal').who(given.line1, given.line2)
+end, { range = true, desc = 'Say who wrote the line, or those of the range' })

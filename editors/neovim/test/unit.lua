@@ -1,0 +1,196 @@
+--- What is done with no engine: what is sent of all that changes, and what others' text and names do.
+local fake = require('test.fake')
+local support = require('test.support')
+local text = require('vialshoal.text')
+local vialshoal = require('vialshoal')
+
+local test, same = support.test, support.same
+
+--- What a text becomes by changes.
+local function replayed(words, changes)
+  for _, change in ipairs(changes) do
+    words = words:sub(1, change[1]) .. change[3] .. words:sub(change[2] + 1)
+  end
+  return words
+end
+
+test('names are cut and have no controls', function()
+  same('A[31mda', text.name('A\27[31m\226\128\174da\n\194\133'))
+  same(40, vim.fn.strchars(text.name(('漢'):rep(99))))
+  same('', text.name(nil))
+  same('', text.name({}))
+end)
+
+test('what is no character shows as U+FFFD', function()
+  same('aé漢🎉', text.clean('aé漢🎉'))
+  local bad = '\239\191\189'
+  same('a' .. bad .. 'b', text.clean('a\255b'))
+  same(bad .. bad .. bad, text.clean('\237\160\128'))
+  same(bad, text.clean('\195'))
+  same(bad .. bad .. 'x', text.clean('\192\128x'))
+  same(bad .. bad .. bad .. bad, text.clean('\244\144\128\128'))
+  same('é' .. bad, text.clean('é\169'))
+end)
+
+test('a status line shows what others wrote as it is', function()
+  local note = fake.with('tea')
+  note.job, note.state = 1, { log = 'away', unsent = 12, on = 3, types = true, trouble = '%{system("x")} %#Error#' }
+  vialshoal.note = function() return note end
+  local words = vialshoal.statusline()
+  package.loaded['vialshoal'] = nil
+  vialshoal = require('vialshoal')
+  same('Note:offline, 12 kept, 3 on, trouble: %%{system("x")} %%#Error#', words)
+  same('Note:offline, 12 kept, 3 on, trouble: %{system("x")} %#Error#', vim.api.nvim_eval_statusline(words, {}).str)
+end)
+
+test('bytes that are of no character are replaced where they are typed', function()
+  local note = fake.with('ab\ncd')
+  vim.api.nvim_buf_set_text(note.buffer, 0, 1, 0, 1, { 'x\255y', 'z' })
+  vim.api.nvim_buf_set_text(note.buffer, 0, 0, 0, 0, { '> ' })
+  same('> ax\239\191\189y\nzb\ncd', replayed('ab\ncd', fake.changes(note)))
+  same('> ax\239\191\189y\nzb\ncd', support.text(note))
+  fake.check(note)
+end)
+
+test('NUL is a character as any other', function()
+  local note = fake.with('a\0b\n')
+  same('a\0b\n', support.text(note))
+  vim.api.nvim_buf_set_lines(note.buffer, 0, 0, false, { '\0' })
+  same({ { 0, 0, '\0\n' } }, fake.changes(note))
+end)
+
+test('a key goes where it was typed', function()
+  local note = fake.with('aaaa')
+  vim.cmd('normal! 02lia')
+  same({ { 2, 2, 'a' } }, fake.changes(note))
+  vim.cmd('normal! 0x')
+  same({ { 0, 1, '' } }, fake.changes(note))
+  fake.check(note)
+end)
+
+test('much is sent in parts that are undone together', function()
+  local note, words = fake.with('ab'), ('é'):rep(1000000) .. 'z'
+  vim.api.nvim_buf_set_text(note.buffer, 0, 1, 0, 1, { words })
+  note:flush()
+  local sent, changes = fake.sent(note), {}
+  for number, line in ipairs(sent) do
+    same(number, line.edits)
+    same(number > 1 or nil, line.join)
+    vim.list_extend(changes, line.changes)
+  end
+  same(3, #sent)
+  assert('a' .. words .. 'b' == replayed('ab', changes), 'the text is another one')
+end)
+
+test('many changes are sent in parts', function()
+  local note = fake.with('')
+  for _ = 1, 120000 do
+    note:add({ 0, 0, '' })
+  end
+  note:send_changes()
+  same({ 50000, 50000, 20000 }, vim.tbl_map(function(line) return #line.changes end, fake.sent(note)))
+end)
+
+test('all that changes at random is sent', function()
+  math.randomseed(56)
+  local random = math.random
+  local pieces = { 'aa', '🍰', 'é', '\t ', 'x', '', '漢字', 'a', '\r' }
+  local function line()
+    return pieces[random(#pieces)] .. pieces[random(#pieces)]
+  end
+  local commands = { 's/a/bb/', '%s/a/b\\r/', 'sort', 'g/x/d', 'move 0', 'copy $', '1,2join' }
+  for _, keys in ipairs({ 'x', 'dd', 'p', 'J', 'yyP', '>>', 'D', 'o', 'O', 'ia', 'A!', '~', 'dw', 'ggdG', 'yG', 'xp', 'gUU',
+    'r\13', 'ddP', 'dk', 'cc', 'yyGp', 'i\13', 'gJ', '\22jd', '3ia', 'i🍰' }) do
+    table.insert(commands, 'normal! ' .. keys)
+  end
+  local wanted = 'one 🍰\ntwo\n\nthree\n'
+  local note = fake.with(wanted)
+  for turn = 1, 1500 do
+    local row = random(vim.fn.line('$'))
+    vim.api.nvim_win_set_cursor(0, { row, random(0, 3) })
+    if random() < 0.2 then
+      local from = random(0, vim.fn.line('$'))
+      vim.api.nvim_buf_set_lines(note.buffer, from, math.min(from + random(0, 2), vim.fn.line('$')), false,
+        random() < 0.7 and { line(), line() } or {})
+    elseif random() < 0.2 then
+      -- Others' change, at the beginnings of lines.
+      wanted = replayed(wanted, fake.changes(note))
+      local from = text.offset(note.lines, random(0, #note.lines - 1))
+      local size = note:size() + (note.has_end and 1 or 0)
+      local to = random() < 0.5 and from or random() < 0.3 and size or text.offset(note.lines, random(0, #note.lines - 1))
+      from, to = math.min(from, to), math.max(from, to)
+      local change = { from, to, random() < 0.7 and line() .. '\n' or line() }
+      local another = { 0, 0, random() < 0.1 and '\n' or line() }
+      fake.others(note, change, another)
+      wanted = replayed(wanted, { change, another })
+    else
+      vim.cmd('silent! ' .. commands[random(#commands)])
+    end
+    if random() < 0.5 then
+      wanted = replayed(wanted, fake.changes(note))
+      fake.check(note)
+      same(wanted, support.text(note), 'text after turn ' .. turn)
+    end
+  end
+end)
+
+test('cursors stay behind their characters', function()
+  local note = fake.with('one two three\nfour')
+  vim.api.nvim_win_set_cursor(0, { 1, 4 })
+  fake.others(note, { 0, 0, '>>\n' }, { 3, 6, '1' })
+  same({ 2, 2 }, vim.api.nvim_win_get_cursor(0))
+  fake.others(note, { 5, 5, 'X' })
+  same({ 2, 2 }, vim.api.nvim_win_get_cursor(0))
+  fake.others(note, { 4, 9, 'new' })
+  same({ 2, 1 }, vim.api.nvim_win_get_cursor(0))
+end)
+
+test('what a window shows stays where it is', function()
+  local words = ('line\n'):rep(200)
+  local note = fake.with(words)
+  vim.api.nvim_win_set_cursor(0, { 100, 2 })
+  vim.cmd('normal! zt')
+  vim.cmd('redraw')
+  same(100, vim.fn.line('w0'))
+  fake.others(note, { 0, 0, 'a\nb\nc\n' })
+  same({ 103, 103 }, { vim.fn.line('.'), vim.fn.line('w0') })
+end)
+
+test('text that gives way is kept beside', function()
+  local note = fake.with('tea\n')
+  vim.api.nvim_buf_set_text(note.buffer, 0, 0, 0, 0, { 'own ' })
+  note:flush()
+  note:take({ notice = 'text', version = 3, edits = 1, text = 'theirs' })
+  same('theirs', support.text(note))
+  same('own tea\n', note.told.beside)
+  fake.check(note)
+end)
+
+test('a change that is broken off has the text asked for', function()
+  local note = fake.with('tea\n')
+  note:lost()
+  vim.api.nvim_buf_set_lines(note.buffer, 0, -1, false, { 'rubbish' })
+  fake.others(note, { 0, 0, 'x' })
+  support.wait(function() return #note.sent > 0 end)
+  same({ { ['do'] = 'text', edits = 0 } }, fake.sent(note))
+  note:take({ notice = 'text', version = 9, edits = 0, text = 'xtea\n' })
+  same('xtea\n', support.text(note))
+  vim.cmd('normal! A!')
+  same({ { 4, 4, '!' } }, fake.changes(note))
+end)
+
+test('who only reads says what was seen', function()
+  local note = fake.with('')
+  for _ = 1, 250 do
+    fake.others(note, { 0, 0, 'x' })
+  end
+  same({ { ['do'] = 'seen', version = 100 }, { ['do'] = 'seen', version = 200 } }, fake.sent(note))
+end)
+
+test('undo of Vim\'s own does nothing', function()
+  local note = fake.with('one\n')
+  vim.cmd('normal! Ax')
+  fake.others(note, { 0, 0, 'y' })
+  vim.cmd('silent! normal! u')
+  same('yonex\n', support.text(note))
+end)

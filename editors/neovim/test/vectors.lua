@@ -1,0 +1,68 @@
+--- What an editor does with which lines: the cases that editors in all languages run.
+local fake = require('test.fake')
+local support = require('test.support')
+local text = require('vialshoal.text')
+
+local function read(path)
+  local file = assert(io.open(path))
+  local data = file:read('*a')
+  file:close()
+  return vim.json.decode(data, { luanil = { object = true } })
+end
+
+--- Makes a user's change.
+local function change(note, from, to, new)
+  local lines = vim.api.nvim_buf_get_lines(note.buffer, 0, -1, false)
+  if note.has_end and from > note:size() then
+    -- Behind the last line end a user makes a new line.
+    return vim.api.nvim_buf_set_lines(note.buffer, -1, -1, false, (text.split(new)))
+  end
+  local row, column = text.position(lines, from)
+  local last_row, last_column = text.position(lines, to)
+  vim.api.nvim_buf_set_text(note.buffer, row, column, last_row, last_column, vim.split(new, '\n', { plain = true }))
+end
+
+local function play(case)
+  local note = fake.note(case.open)
+  for _, step in ipairs(case.steps) do
+    local of = case.name .. ': ' .. vim.inspect(step)
+    note.now = step.at or note.now
+    if step.user then
+      for _, each in ipairs(step.user) do
+        change(note, unpack(each))
+      end
+      note:flush_command()
+    elseif step.line then
+      note:take(step.line)
+    elseif step.key then
+      support.same(step.waits, note:is_behind(), of)
+    elseif step.patience then
+      note:caught_up()
+    else
+      error('This is no step: ' .. of)
+    end
+    if step.sends then
+      support.same(step.sends, fake.sent(note), of)
+    end
+    local has = { text = support.text(note), version = note.version, made = note.made, types = note.state.types,
+      words = note.told.words, cursors = note.cursors }
+    for name, value in pairs(step['then'] or {}) do
+      if name == 'cursor' then
+        support.same(value, note:place_of(vim.api.nvim_win_get_cursor(0)), of)
+      else
+        support.same(value, has[name], of)
+      end
+    end
+    fake.check(note)
+  end
+end
+
+-- Else a cursor can't be behind a line's last character, where one is typing.
+vim.o.virtualedit = 'onemore'
+local cases = read(support.top .. '/../../share/engine_vectors/client.json').cases
+assert(#cases > 20)
+for _, case in ipairs(cases) do
+  if case.units == 'any' or case.units == 'utf-8' then
+    support.test(('%s (%s)'):format(case.name, case.units), function() play(case) end)
+  end
+end
