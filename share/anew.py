@@ -3,7 +3,7 @@
 What the user saw is looked at in a process of its own, and what remained of these edits in that text is done
 again under the new number: what was typed goes behind the same characters, and what was deleted is deleted.
 """
-from bisect import bisect_left, bisect_right
+from bisect import bisect_left
 from collections.abc import Iterable, Sequence
 from contextlib import closing
 from typing import NamedTuple
@@ -11,13 +11,10 @@ from typing import NamedTuple
 from share.disk import Row
 from share.judging import Judge
 from share.message import DELETE, MOST_RANGES, RESTORE, Message, Names, inserted, mentioned
+from share.names import Name, has, united
 from share.site import Edited, Site
 from share.telling import Stretch
 from share.words import Trouble
-
-GREATEST_LENGTH = 2**24
-# The site and the offset of a character.
-Name = tuple[int, int]
 
 
 class Done(NamedTuple):
@@ -38,7 +35,7 @@ class _Differing(NamedTuple):
 
     def is_common(self, name: Name) -> bool:
         """Whether a name is that of one character in both texts."""
-        return not (_has(self.seen, name) or _has(self.counted, name))
+        return not (has(self.seen, name) or has(self.counted, name))
 
 
 def make_anew(rows: Sequence[Row], lost: Sequence[Message], judge: Judge, site: Site) -> list[Done]:
@@ -66,8 +63,8 @@ def _differing(seen: Sequence[Message], judge: Judge) -> _Differing:
     for message in seen:
         if counted.get((message.site, message.seq)) == message:
             del counted[message.site, message.seq]
-    seen_names, counted_names = (_united(filter(None, map(inserted, some))) for some in (only_seen, counted.values()))
-    return _Differing(seen_names, counted_names, _united(
+    seen_names, counted_names = (united(filter(None, map(inserted, some))) for some in (only_seen, counted.values()))
+    return _Differing(seen_names, counted_names, united(
         names for message in (*only_seen, *counted.values()) if message.kind in (DELETE, RESTORE)
         for names in mentioned(message)))
 
@@ -143,24 +140,6 @@ def _shown(site: Site, names: list[Names]) -> dict[Name, int]:
     return found
 
 
-def _united(names: Iterable[Names]) -> list[Names]:
-    """The same names in ranges that don't meet."""
-    out: list[Names] = []
-    for one in sorted(set(names)):
-        if out and out[-1].site == one.site and one.at <= out[-1].at + out[-1].length:
-            end = max(out[-1].at + out[-1].length, one.at + one.length)
-            out[-1] = out[-1]._replace(length=end - out[-1].at)
-        else:
-            out.append(one)
-    return out
-
-
-def _has(ranges: Sequence[Names], name: Name) -> bool:
-    """Whether a name is in ranges that rise."""
-    at = bisect_right(ranges, (*name, GREATEST_LENGTH)) - 1
-    return at >= 0 and ranges[at].site == name[0] and name[1] < ranges[at].at + ranges[at].length
-
-
 def _as_set(names: Iterable[Name]) -> list[Names]:
     """Characters' names as the ranges of a set."""
-    return _united(Names(site, at, 1) for site, at in names)
+    return united(Names(site, at, 1) for site, at in names)

@@ -18,10 +18,10 @@ from typing import TypeVar
 
 from share import saving
 from share.controls import PASTES_OFF, PASTES_ON, Event, Key, Keyboard, Pasted, shown
+from share.engine_note import EngineNote
 from share.layout import (Layout, Row, cluster_after, cluster_before, clusters, rows_of, word_after,
                           word_before)
-from share.engine_note import EngineNote
-from share.note import LINE_END, Note
+from share.note_text import LINE_END
 from share.session import Status
 from share.words import Refused, Trouble, counted
 
@@ -44,8 +44,7 @@ BAR = 30
 Result = TypeVar("Result")
 # How much is done of all.
 Bar = Callable[[int, int], None]
-AnyNote = Note | EngineNote
-OpenNote = Callable[[Bar, Callable[[], None]], AnyNote]
+OpenNote = Callable[[Bar, Callable[[], None]], EngineNote]
 
 
 class Left(Exception):
@@ -266,7 +265,7 @@ class Prompt:
 class Editor:
     """Keys change the note, and the screen shows it."""
 
-    def __init__(self, screen: Screen, name: str, note: AnyNote, status: Status, thread: Worker):
+    def __init__(self, screen: Screen, name: str, note: EngineNote, status: Status, thread: Worker):
         self.screen, self.name, self.note = screen, name, note
         # What ended the editing: the text can be moved in and saved then, and no more.
         self.failure: BaseException | None = None
@@ -683,10 +682,10 @@ class Editor:
         return rows
 
 
-def opened(screen: Screen, name: str, open_note: OpenNote, thread: Worker) -> tuple[AnyNote, Status]:
+def opened(screen: Screen, name: str, open_note: OpenNote, thread: Worker) -> tuple[EngineNote, Status]:
     """A note that is opened in a thread, with a bar. What is typed meanwhile is for the note."""
 
-    def work() -> tuple[AnyNote, Status]:
+    def work() -> tuple[EngineNote, Status]:
         note = open_note(screen.progressed, screen.wake)
         return note, note.session.status()
 
@@ -703,7 +702,7 @@ def opened(screen: Screen, name: str, open_note: OpenNote, thread: Worker) -> tu
     return opening.result()
 
 
-def edit(window: "curses.window", name: str, open_note: OpenNote) -> AnyNote:
+def edit(window: "curses.window", name: str, open_note: OpenNote) -> EngineNote:
     """Opens a note with a bar, and edits it on a window. All that the note does is done in one thread, which
     isn't this one. Raises Trouble at the end where the note ended the editing."""
     screen, thread = Screen(window), Worker()

@@ -14,8 +14,7 @@ from share import lines
 from share.lines import Line
 from share.measured import swapped
 from share.mirror import Mirror, Replacement
-from share.note import found
-from share.note_text import Change, boundary
+from share.note_text import Change, boundary, found
 from share.session import CLOSE_SECONDS, Bar, Status
 from share.units import UNITS
 from share.words import Trouble

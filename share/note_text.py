@@ -5,6 +5,8 @@ from dataclasses import dataclass, field
 
 from share.message import Names
 
+# The line end inside a text.
+LINE_END = b"\r"
 # Bytes are compared so many at a time, and one by one only where these differ.
 BLOCK = 4_096
 
@@ -78,3 +80,10 @@ def _common(equal: Callable[[int, int], bool], most: int) -> int:
         else:
             size = half if half < size else 0
     return done
+
+
+def found(text: bytearray, cursor: int, words: str) -> int:
+    """The next place of words behind a cursor, or from the front on; below 0 where there is none."""
+    wanted = words.encode("utf-8", "ignore")
+    place = text.find(wanted, cursor + 1)
+    return place if place >= 0 else text.find(wanted)

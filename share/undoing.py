@@ -1,8 +1,9 @@
 """What an editor can take back of its own, and do again, by the characters' names: nobody else's text is touched."""
-from collections.abc import Iterable, Sequence
+from collections.abc import Iterable
 from dataclasses import dataclass, field
 
 from share.message import DELETE, INSERT, MOST_RANGES, RESTORE, Message, Names, names_of
+from share.names import united, without
 from share.site import Edited, Site, Told
 
 
@@ -76,31 +77,3 @@ def _shown(site: Site, names: list[Names]) -> list[Names]:
     found = site.where(names) if names else []
     return united(Names(one.site, stretch.at, len(stretch.data)) for one, stretches in zip(names, found)
                   for stretch in stretches)
-
-
-def united(names: Iterable[Names]) -> list[Names]:
-    """The same names in ranges that don't meet."""
-    out: list[Names] = []
-    for one in sorted(names):
-        last = out[-1] if out else None
-        if last and last.site == one.site and one.at <= last.at + last.length:
-            end = max(last.at + last.length, one.at + one.length)
-            out[-1] = last._replace(length=end - last.at)
-        else:
-            out.append(one)
-    return out
-
-
-def without(names: Sequence[Names], others: Sequence[Names]) -> list[Names]:
-    """Those names that aren't among others. Both are united."""
-    out: list[Names] = []
-    for one in names:
-        at, end = one.at, one.at + one.length
-        for other in others:
-            if other.site == one.site and other.at < end and at < other.at + other.length:
-                if other.at > at:
-                    out.append(Names(one.site, at, other.at - at))
-                at = min(end, other.at + other.length)
-        if at < end:
-            out.append(Names(one.site, at, end - at))
-    return out

@@ -15,7 +15,7 @@ import termios
 import time
 
 from share import opening
-from share.note import Note
+from share.tests.note import Note
 from share.session import Session
 from share.tests.support import NOTE
 

@@ -19,7 +19,7 @@ from share.entry import Form, Plain, in_entries
 from share.judging import Judge
 from share.log import START, Log, open_log
 from share.message import Names
-from share.note import Note
+from share.tests.note import Note
 from share.program import Program
 from share.reading import found_in, shown
 from share.session import Session, Status

@@ -23,7 +23,7 @@ SOMEBODY = 65_534
 FILLS = """
 import json, resource
 from share import opening
-from share.note import Note
+from share.tests.note import Note
 from share.session import Session
 note = Note(Session(opening.opened("note", None, None)))
 resource.setrlimit(resource.RLIMIT_FSIZE, (200_000, 300_000))

@@ -10,7 +10,7 @@ from share import link as links
 from share.entry import Entry, Form
 from share.log import is_network, open_log
 from share.message import Message
-from share.note import Note
+from share.tests.note import Note
 from share.program import Program
 from share.session import Session
 from share.tests.support import Case, Person, wait_for

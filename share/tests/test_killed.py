@@ -12,6 +12,7 @@ import subprocess
 import threading
 import time
 
+from share.tests.note import Note
 from share.tests.support import TOP, Case, Person, RedisServer, are_alike, python, type_at_the_end, wait_for, written
 
 ROUNDS = int(os.environ.get("SHARE_ROUNDS", "6"))
@@ -96,13 +97,21 @@ class Killed(Case):
         try:
             for note in notes:
                 type_at_the_end(note, "")
-            wait_for(lambda: are_alike(notes), "all to show the same, with all sent")
+            try:
+                wait_for(lambda: are_alike(notes), "all to show the same, with all sent")
+            except AssertionError as why:
+                raise AssertionError("\n".join([str(why), *map(self.told_of, self.people, notes)])) from None
             text = bytes(notes[0].text)
         finally:
             for note in notes:
                 note.session.close()
         self.assert_whole(text)
         return text
+
+    @staticmethod
+    def told_of(person: Person, note: Note) -> str:
+        """How a note is that doesn't come to be as the others."""
+        return f"{person.data.name}: {note.session.status()}, {len(note.text)} bytes, hash {hash(bytes(note.text))}"
 
     def assert_whole(self, text: bytes) -> None:
         """That each word that was typed is there once, and no other."""

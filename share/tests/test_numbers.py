@@ -12,7 +12,7 @@ from share.entry import Form
 from share.judging import rank
 from share.log import Log
 from share.message import Message, naming
-from share.note import Note
+from share.tests.note import Note
 from share.program import Program
 from share.session import Session
 from share.tests.support import Case, Person, raws_of, type_at_the_end, wait_for, written

@@ -13,7 +13,7 @@ import unittest
 from share import opening
 from share.disk import Unkept
 from share.link import read
-from share.note import Note
+from share.tests.note import Note
 from share.session import Session
 from share.tests.servers import RedisServer
 from share.tests.support import NOTE, Case, Person, change, raws_of, type_at_the_end, wait_for, written

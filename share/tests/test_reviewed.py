@@ -8,7 +8,7 @@ from unittest import mock
 
 from share.disk import Anew, Disk, Overtaken, Unkept, make
 from share.judging import rank
-from share.note import Note
+from share.tests.note import Note
 from share.session import Session
 from share.site import MOST_BYTES, Edited, Site
 from share.tests import test_numbers
@@ -19,7 +19,7 @@ from share.words import Trouble
 TYPES = """
 import sys, time
 from share import opening
-from share.note import Note
+from share.tests.note import Note
 from share.session import Session
 note, number = Note(Session(opening.opened("note", None, None))), 0
 print("open", flush=True)

@@ -18,7 +18,7 @@ from share.disk import About
 from share.entry import MOST_BYTES, Author, Entry, Form
 from share.link import Link, read
 from share.message import DELETE, HEADER, INSERT, INSERTION, LENGTH, TAG, TEXT, Message, Names, naming
-from share.note import Note
+from share.tests.note import Note
 from share.tests.servers import Hostile
 from share.tests.servers import RedisServer as Server
 from share.tests.support import (NOTE, TOP, Case, Person, change, python, raws_of, type_at_the_end, wait_for,

@@ -4,7 +4,7 @@ import random
 import shlex
 from unittest import mock
 
-from share.note import Note
+from share.tests.note import Note
 from share.note_text import boundary
 from share.program import Program, command
 from share.site import MOST_BYTES, MOST_NAMES, Edited, Site

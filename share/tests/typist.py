@@ -9,7 +9,7 @@ import time
 
 from share import link as links
 from share import opening
-from share.note import Note
+from share.tests.note import Note
 from share.session import Session
 
 

@@ -1,16 +1,13 @@
-"""A note that is open: its text, the cursor, and what this site can take back."""
+"""A note that a test has opened: its text, a cursor, and what this site can take back."""
 import re
 from collections.abc import Callable
 from dataclasses import dataclass
 
 from share.message import DELETE, RESTORE, Message, Names, names_of
-from share.note_text import Change, boundary, change, make
+from share.note_text import LINE_END, Change, boundary, change, make
 from share.session import Session
 from share.site import Edited, Told
 from share.words import Refused, Trouble
-
-# The line end inside a text.
-LINE_END = b"\r"
 
 
 @dataclass
@@ -28,8 +25,6 @@ class Note:
         self.session = session
         self.text = bytearray(session.text())
         self.cursor = self.top = 0
-        # The other end of what is selected; nothing is here.
-        self.anchor: int | None = None
         self.notice = ""
         self._number = session.number
         self._done: list[Undo] = []
@@ -74,24 +69,6 @@ class Note:
         self._goes_on = False
         return True
 
-    def do_again(self) -> bool:
-        """Does nothing again: a site by itself keeps nothing for that."""
-        return False
-
-    def replace(self, old: str, new: str) -> int:
-        """Puts words in the place of others, wherever they stand; how often."""
-        wanted, place, many = old.encode("utf-8", "ignore"), len(self.text), 0
-        while wanted and (place := self.text.rfind(wanted, 0, place)) >= 0:
-            self.erase(place, place + len(wanted))
-            self.moved_to(place)
-            self.type(new)
-            many += 1
-        return many
-
-    def others(self) -> list[tuple[int, str]]:
-        """Where others' cursors are: they aren't known here."""
-        return []
-
     def take_in(self) -> bool:
         """Takes in what came from the others; whether the text changed."""
         changed = self._shows(self.session.arrived())
@@ -103,14 +80,6 @@ class Note:
     def moved_to(self, position: int) -> None:
         """Puts the cursor at a position. What is typed there is an edit of its own."""
         self.cursor, self._goes_on = position, False
-
-    def find(self, words: str) -> bool:
-        """Puts the cursor at the next place of words behind it, or from the front on. False where there is
-        none."""
-        place = found(self.text, self.cursor, words)
-        if place >= 0:
-            self.moved_to(place)
-        return place >= 0
 
     def as_file(self) -> bytes:
         """The text as a file of this system, with its line ends."""
@@ -164,10 +133,3 @@ class Note:
         # Under a new site number the names of what was typed before are another client's.
         if self.session.number != self._number:
             self._number, self._done, self._goes_on = self.session.number, [], False
-
-
-def found(text: bytearray, cursor: int, words: str) -> int:
-    """The next place of words behind a cursor, or from the front on; below 0 where there is none."""
-    wanted = words.encode("utf-8", "ignore")
-    place = text.find(wanted, cursor + 1)
-    return place if place >= 0 else text.find(wanted)
