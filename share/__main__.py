@@ -42,8 +42,8 @@ for scripts, each with --help:
   bin/note replace NAME OLD NEW   replaces what stands in it
   bin/note import NAME FILE       makes a file's text the note's
   bin/note export NAME FILE       writes its text as a file, or as HTML
-  bin/note history NAME [--at N]  its text as it was
-  bin/note log NAME               what was done, and by which site
+  bin/note log NAME               says what was done, and by whom
+  bin/note history NAME --at N    prints its text as it was after step N of that
   bin/note list                   the notes that are here
 
 keys:

@@ -1,13 +1,10 @@
 """A text with its looks as a page. What people wrote is text there, whatever it is."""
 import html
-from typing import NamedTuple
 
 from share.controls import CONTROL, DOT
+from share.looks import COLOURS, Run, told
 from share.measured import shown, swapped
 
-# The colours of a text, by their numbers.
-COLOURS = ("#000000", "#000000", "#cc2222", "#228822", "#2222cc", "#aa22aa", "#aa7700", "#227777",
-           "#555555", "#888888", "#dd6666", "#66aa66", "#6666dd", "#cc66cc", "#ccaa44", "#66aaaa")
 PAGE = """<!doctype html>
 <html lang="en">
 <head>
@@ -21,15 +18,6 @@ PAGE = """<!doctype html>
 </body>
 </html>
 """
-
-
-class Run(NamedTuple):
-    """A stretch of equal looks: its font, colour and offset, and how many bytes it has."""
-
-    font: str
-    colour: int
-    offset: int
-    length: int
 
 
 def page(title: str, text: bytes, runs: list[Run]) -> str:
@@ -50,17 +38,13 @@ def _escaped(data: bytes) -> str:
 
 
 def _style(run: Run) -> str:
-    """The looks of a run, as far as they differ from plain ones. A font says by letters after its size whether it is
-    bold or slanted."""
-    family = run.font.partition(".")[0]
-    ending = family.lstrip("ABCDEFGHIJKLMNOPQRSTUVWXYZabcdefghijklmnopqrstuvwxyz").lstrip("0123456789")
-    styles = []
-    if ending in ("b", "bi"):
-        styles.append("font-weight:bold")
-    if ending in ("i", "bi"):
+    """The looks of a run, as far as they differ from plain ones."""
+    looks = told(run.looks)
+    styles = ["font-weight:bold"] if "bold" in looks else []
+    if "italic" in looks:
         styles.append("font-style:italic")
-    if run.colour > 1:
-        styles.append(f"color:{COLOURS[run.colour % len(COLOURS)]}")
-    if run.offset:
+    if "colour" in looks:
+        styles.append(f"color:{COLOURS[run.colour]}")
+    if "offset" in looks:
         styles.append(f"vertical-align:{run.offset}px")
     return ";".join(styles)

@@ -46,11 +46,19 @@ class Carrying:
     def send(self) -> Sequence[tuple[int, int, bytes]]:
         """The changes that are to be sent, as a new version."""
         op, self._unsent = all_composed(self._unsent, self.units), []
+        self._send(op)
+        return in_turn(op, self.units)
+
+    def send_nothing(self) -> int:
+        """Says that something is sent that leaves the text as it is, as a new version, which this is."""
+        self._send(NOTHING)
+        return self.version
+
+    def _send(self, op: Op) -> None:
         self.version += 1
         self._sent.append((self.version, op))
         if len(self._sent) > MOST_SENT:
             self._join_sent()
-        return in_turn(op, self.units)
 
     def _join_sent(self) -> None:
         """Joins what was sent long ago. An editor that still has a version from within that is sent the text."""

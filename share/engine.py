@@ -15,8 +15,10 @@ from share import history, lines, people, presence, saving
 from share.company import SHOW_SECONDS, Company
 from share.history import Past, Replays, Wrote
 from share.disk import Damaged, Unkept
+from share.dress import Dress
 from share.lines import MOST_LINE, Line, Wrong
 from share.log import Unreachable
+from share.looks import COLOURS, Looked, setting
 from share.measured import Measured, Outside, Split, shown, swapped
 from share.message import MOST_RANGES, Message, Names, inserted
 from share.named import Named
@@ -26,7 +28,7 @@ from share.peer import Peer
 from share.presence import FRONT, Place, Present
 from share.session import Session, Status
 from share.site import SLICE, Edited, Site, Told
-from share.undoing import Step, do
+from share.undoing import Step, do, looks_of, united
 from share.units import Units
 from share.words import Refused, Trouble
 
@@ -51,6 +53,7 @@ class Engine:
         self.session: Session | None = None
         self._text = Measured(b"")
         self._named: Named | None = None
+        self._dress = Dress()
         self._number = 0
         self._status: Status | None = None
         # Whether the site may show something else, since it failed as something was made there.
@@ -69,8 +72,8 @@ class Engine:
         self._requests: dict[str, Callable[[Peer, Line], Line | None]] = {
             "open": self._open, "edit": self._not_open, "undo": lambda peer, _: self._undo(peer, redo=False),
             "redo": lambda peer, _: self._undo(peer, redo=True), "cursor": self._cursor, "seen": self._seen,
-            "text": self._send_text, "on": self._on, "who": self._who, "history": self._history, "past": self._past,
-            "save": self._save, "close": self._close}
+            "looks": self._look, "text": self._send_text, "on": self._on, "who": self._who, "history": self._history,
+            "past": self._past, "save": self._save, "close": self._close}
 
     def _new_who(self) -> int:
         self._whos += 1
@@ -117,6 +120,8 @@ class Engine:
             try:
                 self._arrived(self.session)
                 self._meet(self.session)
+                if self._sees_looks():
+                    self._dress.look(self.session.site)
                 self._trouble = None
             except Exception as fault:  # pylint: disable=broad-except
                 # What is here can be read and saved all the same, and it is tried again.
@@ -129,6 +134,7 @@ class Engine:
             try:
                 peer.flush(self._text)
                 peer.show_cursors(self._cursors_for(peer))
+                peer.show_looks(self._dress, self._text)
                 if self._status:
                     peer.show_state(self._state(self._status))
             except Exception as fault:  # pylint: disable=broad-except
@@ -138,7 +144,12 @@ class Engine:
 
     def is_restless(self) -> bool:
         """Whether something is to be said soon, though nothing comes."""
-        return self._has_to_say or any(peer.has_cursors_to_show for peer in self.peers)
+        return (self._has_to_say or self._dress.is_due and self._sees_looks()
+                or any(peer.has_cursors_to_show for peer in self.peers))
+
+    def _sees_looks(self) -> bool:
+        """Whether an editor shows looks."""
+        return any(peer.sees_looks for peer in self.peers)
 
     def progress(self, done: int, total: int) -> None:
         """Says how much of a long history is read."""
@@ -186,8 +197,9 @@ class Engine:
         peer.carrying = carrying
         if peer.name:
             self._are_called({session.number: peer.name})
-        return {"note": self.name, "units": carrying.units.name, "text": self._text.text(), "version": 0, "edits": 0,
+        line = {"note": self.name, "units": carrying.units.name, "text": self._text.text(), "version": 0, "edits": 0,
                 "you": peer.who, "site": session.number, "most": MOST_LINE}
+        return line | {"colours": COLOURS} if peer.sees_looks else line
 
     def _begin(self, session: Session) -> None:
         self.session, self._number = session, session.number
@@ -317,7 +329,7 @@ class Engine:
             carry.void(edits)
             return {"edits": edits, "error": why.code, "words": str(why)}, []
         carry.edited(left)
-        peer.show_cursors_again()
+        peer.show_again(version)
         if self._is_behind:
             raise Trouble(NOT_NOW)
         if site is None:
@@ -387,27 +399,52 @@ class Engine:
 
     def _undo(self, peer: Peer, redo: bool) -> Line:
         session = self._open_session()
+        self._sees_that_it_can_type(session)
+        peer.typed_end = None
+        while step := peer.undoing.next(redo):
+            changed = self._do(peer, session, step, redo)
+            peer.undoing.done(redo, changed)
+            if changed.does_something():
+                return {"done": True}
+        return {"done": False}
+
+    # Looks.
+
+    def _look(self, peer: Peer, request: Line) -> Line:
+        """Has stretches be bold, or of a colour, as far as they aren't; as one edit."""
+        peer.carry.seen(lines.number(request, "version"))
+        sets = setting(*lines.looks(request))
+        places = [(self._place(peer, begin), self._place(peer, end)) for begin, end in lines.ranges(request)]
+        session = self._open_session()
+        self._sees_that_it_can_type(session)
+        names = united(chain.from_iterable(self._names_of_all().stretches(*one) for one in places))
+        looked = [Looked(*one, sets(one[1])) for parts in looks_of(session.site, names) for one in parts]
+        peer.typed_end = None
+        changed = self._do(peer, session, Step(looked=looked), redo=True)
+        if changed.does_something():
+            peer.undoing.add(changed)
+        return {}
+
+    def _sees_that_it_can_type(self, session: Session) -> None:
         if not session.status().can_type:
             raise Wrong("number", NO_NUMBER)
         if self._is_behind:
             raise Wrong("failed", NOT_NOW)
-        peer.typed_end = None
-        while step := peer.undoing.next(redo):
-            told: list[Told] = []
-            changed = Step()
-            try:
-                edited = session.edit(partial(do, step=step, redo=redo, told=told, changed=changed))
-            except Trouble as why:
-                self._catch_up(session)
-                raise Wrong("unkept", str(why)) from why
-            for part in told:
-                self._shows(part, peer)
-            if edited.refused is not None:
-                raise Wrong("refused", str(Refused(edited.refused)), number=edited.refused)
-            peer.undoing.done(redo, changed)
-            if changed.came or changed.went:
-                return {"done": True}
-        return {"done": False}
+
+    def _do(self, peer: Peer, session: Session, step: Step, redo: bool) -> Step:
+        """Takes an edit back, or does it; what that changed."""
+        told: list[Told] = []
+        changed = Step()
+        try:
+            edited = session.edit(partial(do, step=step, redo=redo, told=told, changed=changed))
+        except Trouble as why:
+            self._catch_up(session)
+            raise Wrong("unkept", str(why)) from why
+        for part in told:
+            self._shows(part, peer)
+        if edited.refused is not None:
+            raise Wrong("refused", str(Refused(edited.refused)), number=edited.refused)
+        return changed
 
     # What the text becomes.
 
@@ -472,6 +509,7 @@ class Engine:
         elif self._named:
             self._named.replace(one.begin, one.end, names)
         self._company.moved(one, names)
+        self._dress.moved(one)
         for peer in self.peers:
             peer.moved(one)
 
@@ -544,9 +582,7 @@ class Engine:
 
         def work() -> Line:
             found = history.steps(messages, begin, min(most, MOST_STEPS))
-            return {"length": len(messages), "steps": [
-                {"begin": one.begin, "end": one.end, "site": one.site, "typed": one.typed, "deleted": one.deleted}
-                for one in found]}
+            return {"length": len(messages), "steps": [history.as_line(one) for one in found]}
 
         def with_names(line: Line) -> Line:
             line["steps"] = [one | self._author(one["site"]) for one in line["steps"]]

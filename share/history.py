@@ -3,10 +3,12 @@ asked for. It is done in a thread of its own, since a long history takes seconds
 from collections import OrderedDict
 from collections.abc import Iterable, Sequence
 from contextlib import suppress
-from typing import NamedTuple
+from typing import NamedTuple, TypeVar
 
+from share.looks import Dressed
 from share.measured import Measured
-from share.message import HEADER, INSERT, INSERTION, Message, Names, inserted, names_of
+from share.message import CHANGE_LOOKS, DELETE, HEADER, INSERT, INSERTION, RESTORE, Message, Names
+from share.message import inserted, mentioned, names_of
 from share.note_text import boundary
 from share.site import Site
 from share.units import Units
@@ -16,16 +18,17 @@ from share.words import Trouble
 KEPT = 64
 # The number under which is replayed. Nothing is typed there.
 REPLAYING = 1
+DID = {INSERT: "typed", DELETE: "deleted", RESTORE: "restored", CHANGE_LOOKS: "looked"}
 
 
 class Step(NamedTuple):
-    """Messages of a site in a row that go on with one another, and how many bytes they typed and deleted."""
+    """Messages of a site in a row that go on with one another, what they did, and to how many bytes."""
 
     begin: int
     end: int
     site: int
-    typed: int
-    deleted: int
+    did: str
+    size: int
 
 
 class Wrote(NamedTuple):
@@ -34,6 +37,10 @@ class Wrote(NamedTuple):
     begin: int
     end: int
     site: int
+
+
+# A stretch of a text, with who wrote it or with its looks.
+Of = TypeVar("Of", Wrote, Dressed)
 
 
 class Past(NamedTuple):
@@ -90,17 +97,20 @@ def steps(history: Sequence[bytes], begin: int, most: int) -> list[Step]:
     last: Message | None = None
     for place in range(begin, len(history)):
         message = Message.read(history[place])
-        size = sum(names.length for names in names_of(message))
-        typed, deleted = (size, 0) if message.kind == INSERT else (0, size)
+        size = sum(names.length for names in names_of(message) or mentioned(message))
         if last and _goes_on(last, message):
-            step = found[-1]
-            found[-1] = Step(step.begin, place + 1, step.site, step.typed + typed, step.deleted + deleted)
+            found[-1] = found[-1]._replace(end=place + 1, size=found[-1].size + size)
         elif len(found) == most:
             break
         else:
-            found.append(Step(place, place + 1, message.site, typed, deleted))
+            found.append(Step(place, place + 1, message.site, DID[message.kind], size))
         last = message
     return found
+
+
+def as_line(step: Step) -> dict[str, int]:
+    """A step as editors are told it: what wasn't done was done to 0 bytes."""
+    return {"begin": step.begin, "end": step.end, "site": step.site, **dict.fromkeys(DID.values(), 0), step.did: step.size}
 
 
 def _goes_on(last: Message, message: Message) -> bool:
@@ -139,13 +149,13 @@ def joined(stretches: Iterable[Wrote]) -> list[Wrote]:
     return out
 
 
-def in_units(text: Measured, stretches: Iterable[Wrote], units: Units) -> list[Wrote]:
+def in_units(text: Measured, stretches: Iterable[Of], units: Units) -> list[Of]:
     """Stretches of a note's bytes in units. A character that two have written is the one's that began it."""
     data, out = text.as_note(), []
     for one in stretches:
         begin, end = (text.position(boundary(data, place), units) for place in (one.begin, one.end))
         if begin < end:
-            out.append(Wrote(begin, end, one.site))
+            out.append(one._replace(begin=begin, end=end))
     return out
 
 

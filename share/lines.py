@@ -3,6 +3,8 @@ import json
 import re
 from typing import Any
 
+from share.message import MOST_COLOUR
+
 Line = dict[str, Any]
 
 # A line has so many bytes at most.
@@ -78,6 +80,29 @@ def replacements(request: Line) -> list[tuple[int, int, str]]:
     if len(found) > MOST_CHANGES:
         raise Wrong("long", f"An edit has {MOST_CHANGES:,} changes at most.")
     return [(begin, end, text) for begin, end, text in found]
+
+
+def ranges(request: Line) -> list[tuple[int, int]]:
+    """The stretches that are to have looks."""
+    found = request.get("ranges")
+    if not isinstance(found, list) or len(found) > MOST_CHANGES or not all(_is_range(one) for one in found):
+        raise Wrong("field", f"ranges has to be a list of [begin, end], of {MOST_CHANGES:,} at most.")
+    return [(begin, end) for begin, end in found]
+
+
+def _is_range(one: object) -> bool:
+    return (isinstance(one, list) and len(one) == 2 and all(type(place) is int for place in one)
+            and 0 <= one[0] <= one[1] <= MOST_NUMBER)
+
+
+def looks(request: Line) -> tuple[bool | None, int | None]:
+    """The looks that are to be set: whether they are bold, and a colour."""
+    bold, colour = request.get("bold"), request.get("colour")
+    if bold is None and colour is None:
+        raise Wrong("field", "bold or colour has to be given.")
+    if bold is not None and type(bold) is not bool or colour is not None and not (type(colour) is int and 0 <= colour <= MOST_COLOUR):
+        raise Wrong("field", f"bold has to be true or false, and colour a number up to {MOST_COLOUR}.")
+    return bold, colour
 
 
 def _is_replacement(one: object) -> bool:

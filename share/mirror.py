@@ -27,6 +27,7 @@ class Mirror:
         self.units = units or UNITS[opened["units"]]
         self.version, self.made, self.answered = opened["version"], opened["edits"], opened["edits"]
         self.cursors: list[Line] = []
+        self.looks: list[Line] = []
         self.state: Line = {}
         self.cursor: int | None = None
         self.words = ""
@@ -66,7 +67,8 @@ class Mirror:
 
     def waits(self) -> bool:
         """Whether lines are to be read before the next key is taken."""
-        return (self.answered < self.made or bool(self._gathered)) and self._since is not None and self._clock() > self._since + BUSY_SECONDS
+        is_busy = self.answered < self.made or bool(self._gathered)
+        return is_busy and self._since is not None and self._clock() > self._since + BUSY_SECONDS
 
     def gave_up(self) -> None:
         """Says that this took too long."""
@@ -92,14 +94,16 @@ class Mirror:
             self.state = line
         elif kind == "says":
             self.words = line["words"]
-        elif kind in ("changes", "text", "cursors") and line["edits"] == self.made:
+        elif kind in ("changes", "text", "looks", "cursors") and line["edits"] == self.made:
             self._agreed(kind, line)
 
     def _agreed(self, kind: str, line: Line) -> None:
         if kind == "cursors":
             self.cursors = line["cursors"]
             return
-        if kind == "text":
+        if kind == "looks":
+            self.looks = line["looks"]
+        elif kind == "text":
             self._data = bytearray(self.units.encode(line["text"]))
             self.follow_all()
         else:

@@ -5,7 +5,10 @@ from collections.abc import Callable
 
 from share import lines
 from share.carrying import Carrying
+from share.dress import Dress
+from share.history import in_units
 from share.lines import Line, Wrong
+from share.looks import told
 from share.measured import Measured
 from share.note_text import Change
 from share.undoing import Undoing
@@ -41,6 +44,9 @@ class Peer:
         self._state: Line = {}
         self._cursors: list[Line] = []
         self._cursors_due, self._sends_cursors = 0.0, False
+        # Whether it shows looks; which of them it was sent, with which version, and whether it has dropped these.
+        self.sees_looks = False
+        self._looks, self._looks_version, self._sends_looks = 0, 0, False
         # Whether cursors are to be sent as soon as they may be.
         self.has_cursors_to_show = False
 
@@ -65,6 +71,7 @@ class Peer:
         if not isinstance(name, str) or not isinstance(colour, str) or colour and not lines.COLOUR.fullmatch(colour):
             raise Wrong("field", "name has to be a string, and colour one as #3366cc.")
         self.name, self.colour = lines.clean_name(name) or self.name, colour or self.colour
+        self.sees_looks = request.get("looks") is True
         return Carrying(units)
 
     def moved(self, change: Change) -> None:
@@ -88,7 +95,7 @@ class Peer:
             if carrying.is_void:
                 carrying.send_text()
                 self.send({"notice": "text", "version": carrying.version, "edits": carrying.edits, "text": text.text()})
-                self._sends_cursors = True
+                self._sends_cursors = self._sends_looks = True
             elif carrying.has_news():
                 self._send_changes(carrying, text)
             self.jump = None
@@ -110,9 +117,10 @@ class Peer:
             self._state = state
             self.send({"notice": "state", **state})
 
-    def show_cursors_again(self) -> None:
-        """Has cursors be sent that it may have dropped."""
+    def show_again(self, version: int) -> None:
+        """Has cursors be sent that it may have dropped as it made an edit in a version, and looks that it has."""
         self._sends_cursors = True
+        self._sends_looks = self._sends_looks or version < self._looks_version
 
     def show_cursors(self, cursors: list[Line]) -> None:
         """Sends others' cursors, where they differ from those that it was sent, or it may have dropped these."""
@@ -126,3 +134,16 @@ class Peer:
                 self.send({"notice": "cursors", "edits": self.carrying.edits, "cursors": cursors})
             self._cursors, self._sends_cursors = cursors, False
             self._cursors_due = now + CURSOR_SECONDS
+
+    def show_looks(self, dress: Dress, text: Measured) -> None:
+        """Sends the looks of the text, where they are others than it has. They have a version, so that an edit tells
+        whether it has dropped them."""
+        carrying = self.carrying
+        if not carrying or not self.sees_looks or dress.is_due or carrying.is_void or carrying.has_news():
+            return
+        if self._waiting() > MOST_WAITING or dress.times == self._looks and not (self._sends_looks and dress.times):
+            return
+        self._looks, self._looks_version, self._sends_looks = dress.times, carrying.send_nothing(), False
+        found: list[Line] = [{"begin": one.begin, "end": one.end, **told(one.looks)}
+                             for one in in_units(text, dress.stretches, carrying.units)]
+        self.send({"notice": "looks", "version": carrying.version, "edits": carrying.edits, "looks": found})

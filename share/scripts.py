@@ -28,6 +28,8 @@ from share.words import Trouble, counted
 NOTHING_DONE, MISSING = 1, 3
 # So many lines are compared one by one, which takes the third power of their number; more are one change.
 MOST_COMPARED = 300
+# What was done, in words, where that isn't a word already.
+DONE = {"looked": "changed the looks of"}
 # So much of what was typed is shown in a line.
 MOST_TYPED = 60
 # Opens the note that the command line names, as an editor does.
@@ -56,7 +58,7 @@ class Scripts:
         opens = self._opener(given, given.name)
         return lambda wake: opens(lambda done, total: None, wake)
 
-    def _found(self, given: argparse.Namespace) -> tuple[list[Message], list[str], str]:
+    def _found(self, given: argparse.Namespace) -> tuple[list[Message], list[str]]:
         """The messages of a note, each behind its causes, and what is missing of it."""
         spelled = self._secret(given.link_file, "VIALSHOAL_LINK")
         found = printing.found(given.name, links.url_of(given.log) if given.log else None,
@@ -64,12 +66,12 @@ class Scripts:
                                self._secret(given.password_file, "VIALSHOAL_PASSWORD"))
         judge = Judge(found.entries)
         messages = judge.count().messages
-        return messages, reading.missing(judge, found.faults), found.about.url
+        return messages, reading.missing(judge, found.faults)
 
     # Reading.
 
     def _cat(self, given: argparse.Namespace) -> int:
-        messages, missing, _ = self._found(given)
+        messages, missing = self._found(given)
         text = as_text(swapped(_site_of(messages).text()))
         if given.json:
             return _json({"note": given.name, "text": text, "missing": missing}, missing)
@@ -77,12 +79,11 @@ class Scripts:
         return _told(missing)
 
     def _export(self, given: argparse.Namespace) -> int:
-        messages, missing, _ = self._found(given)
+        messages, missing = self._found(given)
         site = _site_of(messages)
         data = swapped(site.text())
         if given.format == "html":
-            runs = [as_html.Run(*one) for one in site.runs()]
-            data = as_html.page(given.name, site.text(), runs).encode()
+            data = as_html.page(given.name, site.text(), site.runs()).encode()
         site.close()
         if given.file == "-":
             _print_bytes(data)
@@ -93,10 +94,8 @@ class Scripts:
         return _told(missing)
 
     def _history(self, given: argparse.Namespace) -> int:
-        messages, missing, _ = self._found(given)
+        messages, missing = self._found(given)
         datas = [message.data for message in messages]
-        if given.at is None:
-            return self._steps(given, datas, missing)
         if not 0 <= given.at <= len(datas):
             raise Trouble(f"The note's history has {counted(len(datas), 'message')}.")
         replays = Replays()
@@ -110,21 +109,18 @@ class Scripts:
         return _told(missing)
 
     def _log(self, given: argparse.Namespace) -> int:
-        messages, missing, _ = self._found(given)
-        return self._steps(given, [message.data for message in messages], missing)
-
-    def _steps(self, given: argparse.Namespace, datas: list[bytes], missing: list[str]) -> int:
-        """What was done, step by step, and by whom."""
+        messages, missing = self._found(given)
+        datas = [message.data for message in messages]
         found = history.steps(datas, 0, len(datas))
         own, names = _own_sites(given.name), people.known(given.name)
         if given.json:
-            steps = [{"begin": one.begin, "end": one.end, "site": one.site, "own": one.site in own,
-                      "name": names.get(one.site, ""), "typed": one.typed, "deleted": one.deleted,
-                      "text": _typed(datas, one)} for one in found]
+            steps = [history.as_line(one) | {"own": one.site in own, "name": names.get(one.site, ""),
+                                             "text": _typed(datas, one)} for one in found]
             return _json({"note": given.name, "length": len(datas), "steps": steps}, missing)
         for one in found:
             who = names.get(one.site) or f"site {one.site}" + (" (you)" if one.site in own else "")
-            what = f"typed {_short(_typed(datas, one))}" if one.typed else f"deleted or restored {counted(one.deleted, 'byte')}"
+            what = (f"typed {_short(_typed(datas, one))}" if one.did == "typed" else
+                    f"{DONE.get(one.did, one.did)} {counted(one.size, 'byte')}")
             _print_text(f"{one.end:>9}  {who:<18}  {what}\n")
         return _told(missing)
 
@@ -211,9 +207,11 @@ def parser() -> argparse.ArgumentParser:
     export.add_argument("--format", choices=("text", "html"), default="text", help="html has the looks, too")
     export.add_argument("--replace", action="store_true", help="replace a file that is there")
     verb("list", "lists the notes of this data folder", of_a_note=False)
-    past = verb("history", "says how a note became what it is, or prints its text as it was")
-    past.add_argument("--at", type=int, metavar="N", help="print the text as it was after so many messages")
-    verb("log", "says what was done, and by which site")
+    past = verb("history", "prints a note's text as it was, with --json also who wrote what",
+                more="A note begins empty. bin/note log says what was done since, and which N is after that.\n")
+    past.add_argument("--at", type=int, metavar="N", required=True, help="after so many messages")
+    verb("log", "says what was done, step by step, and by whom",
+         more="Before each step is the N with which bin/note history prints the text as it was then.\n")
     return every
 
 

@@ -4,9 +4,11 @@ The messages that it takes in are those that count, in an order in which each is
 in each at once.
 """
 from collections.abc import Callable, Iterable, Iterator, Sequence
+from functools import partial
 from itertools import chain, islice
 from typing import NamedTuple
 
+from share.looks import Looks, Run, looking
 from share.message import GREATEST_STAMP, Message, Names, naming
 from share.note_text import Change, boundary
 from share.program import MOST_LINES, Ended, Program, escaped, shown
@@ -118,11 +120,20 @@ class Site:
 
         No event has names, so the message is made here, with the next seq and a stamp above all others, and
         handed in: the program judges it as any other."""
+        return self._by_names(partial(naming, kind), names)
+
+    def look(self, looks: Looks, names: list[Names]) -> Edited:
+        """Gives looks to characters by their names, wherever they are now."""
+        return self._by_names(partial(looking, looks), names)[0]
+
+    def _by_names(self, makes: Callable[[int, int, int, list[Names]], Message],
+                  names: list[Names]) -> tuple[Edited, Told]:
+        """Hands a message in that is made for these names."""
         if refused := self._full():
             return Edited([], refused), []
         if self._stamp >= GREATEST_STAMP:
             return Edited([], STAMPS_SPENT), []
-        message = naming(kind, self.number, self._front + 1, self._stamp + 1, names)
+        message = makes(self.number, self._front + 1, self._stamp + 1, names)
         changes = self._hand_in([message], looks=True)
         self._holds([message])
         return Edited([message]), self.text() if changes is None else changes
@@ -132,13 +143,13 @@ class Site:
         answers = self._ask([self._program.event("where", *one) for one in names])
         return [stretches(answer) for answer in answers]
 
-    def runs(self) -> list[tuple[str, int, int, int]]:
-        """The font, the colour and the offset of each longest stretch of equal looks, and its length."""
+    def runs(self) -> list[Run]:
+        """Each longest stretch of equal looks."""
         *found, end = self._ask([self._program.event("runs")])[0]
         if end != b"ok":
             raise Trouble(f"The program was asked for the looks and answered {end[:60]!r}.")
         words = [line.decode("ascii").split(" ") for line in found]
-        return [(font, int(colour), int(offset), int(length)) for _, font, colour, offset, length in words]
+        return [Run(font, int(colour), int(offset), int(length)) for _, font, colour, offset, length in words]
 
     def text(self) -> bytes:
         """What the program shows."""

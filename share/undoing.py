@@ -1,7 +1,10 @@
 """What an editor can take back of its own, and do again, by the characters' names: nobody else's text is touched."""
-from collections.abc import Iterable
+from bisect import bisect_right
+from collections.abc import Iterable, Iterator, Sequence
 from dataclasses import dataclass, field
+from itertools import accumulate
 
+from share.looks import Looked, Looks
 from share.message import DELETE, INSERT, MOST_RANGES, RESTORE, Message, Names, names_of
 from share.names import united, without
 from share.site import Edited, Site, Told
@@ -9,14 +12,19 @@ from share.site import Edited, Site, Told
 
 @dataclass
 class Step:
-    """The names that an edit brought, and those that it took away."""
+    """The names that an edit brought, those that it took away, and those whose looks it changed."""
 
     came: list[Names] = field(default_factory=list)
     went: list[Names] = field(default_factory=list)
+    looked: list[Looked] = field(default_factory=list)
+
+    def does_something(self) -> bool:
+        """Whether there is anything in it."""
+        return bool(self.came or self.went or self.looked)
 
     def and_then(self, other: "Step") -> "Step":
         """Both as one edit."""
-        return Step(united(self.came + other.came), united(self.went + other.went))
+        return Step(united(self.came + other.came), united(self.went + other.went), self.looked + other.looked)
 
 
 class Undoing:
@@ -34,6 +42,10 @@ class Undoing:
         step = Step(united(step.came), united(step.went))
         if joins and self._done:
             step = self._done.pop().and_then(step)
+        self.add(step)
+
+    def add(self, step: Step) -> None:
+        """Notes an edit."""
         self._done.append(step)
         self._undone = []
 
@@ -49,7 +61,7 @@ class Undoing:
     def done(self, redo: bool, changed: Step) -> None:
         """Says that this was done, and what that changed, as the edit which brings it about or is taken back so."""
         (self._undone if redo else self._done).pop()
-        if changed.came or changed.went:
+        if changed.does_something():
             (self._done if redo else self._undone).append(changed)
 
 
@@ -69,7 +81,53 @@ def do(site: Site, step: Step, redo: bool, told: list[Told], changed: Step) -> E
             told.append(became)
             if edited.refused:
                 return Edited(messages, edited.refused)
+    changed.looked = _to_look(site, step.looked, redo)
+    for looks, of_looks in _by_looks(changed.looked, redo).items():
+        for begin in range(0, len(of_looks), MOST_RANGES):
+            edited = site.look(looks, of_looks[begin:begin + MOST_RANGES])
+            messages += edited.messages
+            if edited.refused:
+                return Edited(messages, edited.refused)
     return Edited(messages)
+
+
+def looks_of(site: Site, names: list[Names]) -> Iterator[list[tuple[Names, Looks]]]:
+    """The looks of those characters of each of these names that are shown."""
+    if not names:
+        return
+    runs = site.runs()
+    ends = [*accumulate(run.length for run in runs)]
+    for one, stretches in zip(names, site.where(names)):
+        found = []
+        for stretch in stretches:
+            at, end = stretch.position, stretch.position + len(stretch.data)
+            while at < end:
+                number = bisect_right(ends, at)
+                size = min(end, ends[number]) - at
+                found.append((Names(one.site, stretch.at + at - stretch.position, size), runs[number].looks))
+                at += size
+        yield found
+
+
+def _to_look(site: Site, looked: list[Looked], redo: bool) -> list[Looked]:
+    """What is still to be done of an edit's looks, or taken back: what another has changed since stays."""
+    found = []
+    for one, parts in zip(looked, looks_of(site, [one.names for one in looked])):
+        of, to = (one.was, one.became) if redo else (one.became, one.was)
+        for names, now in parts:
+            then = Looks._make(wanted if wanted != was and is_now == was else is_now
+                               for was, wanted, is_now in zip(of, to, now))
+            if then != now:
+                found.append(Looked(names, now, then) if redo else Looked(names, then, now))
+    return found
+
+
+def _by_looks(looked: list[Looked], redo: bool) -> dict[Looks, list[Names]]:
+    """The names that are to be given looks, by these."""
+    found: dict[Looks, list[Names]] = {}
+    for names, was, became in looked:
+        found.setdefault(became.differing(was) if redo else was.differing(became), []).append(names)
+    return {looks: united(names) for looks, names in found.items()}
 
 
 def _shown(site: Site, names: list[Names]) -> list[Names]:

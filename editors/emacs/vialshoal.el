@@ -1088,15 +1088,25 @@ or the LINK by which another's note is joined."
                                'help-echo (vialshoal--in-help
                                            (vialshoal--author stretch))))))
 
+(defconst vialshoal-history--words
+  '((:typed . "typed") (:deleted . "deleted") (:restored . "restored")
+    (:looked . "changed the looks of"))
+  "What a step did, in words.")
+
 (defun vialshoal-history--header (at)
   "Return what the header line has of the step before AT."
   (let ((of (length vialshoal-history--steps)))
     (if (= at 0)
         (format "Before the first of %s steps" of)
       (let ((step (aref vialshoal-history--steps (1- at))))
-        (format "Step %s of %s: %s typed %s, deleted %s" at of
-                (vialshoal--author step) (plist-get step :typed)
-                (plist-get step :deleted))))))
+        (format "Step %s of %s: %s %s" at of (vialshoal--author step)
+                (mapconcat (pcase-lambda (`(,what . ,words))
+                             (format "%s %s" words (plist-get step what)))
+                           (cl-remove-if
+                            (lambda (each)
+                              (memq (plist-get step (car each)) '(nil 0)))
+                            vialshoal-history--words)
+                           ", "))))))
 
 (defun vialshoal-history-next (count)
   "Show the text that came COUNT later in the history."

@@ -36,6 +36,8 @@ class Editor:
             answer = self.ask("open", protocol=1, units=[units], **more)
             assert "error" not in answer, answer
             self.mirror = Mirror(answer, self.send)
+            for line in self.lines[self.lines.index(answer) + 1:]:
+                self.mirror.take(line)
 
     @property
     def text(self) -> str:

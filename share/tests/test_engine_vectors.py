@@ -42,7 +42,8 @@ class Vectors(unittest.TestCase):
                 self.assertEqual(sent, step["sends"], step)
                 sent.clear()
             has = {"text": mirror.text, "version": mirror.version, "made": mirror.made, "types": mirror.state.get("types"),
-                   "words": mirror.words, "cursor": mirror.cursor, "cursors": mirror.cursors}
+                   "words": mirror.words, "cursor": mirror.cursor, "cursors": mirror.cursors,
+                   "looks": mirror.looks}
             then = step.get("then", {})
             self.assertEqual({name: has[name] for name in then}, then, step)
 

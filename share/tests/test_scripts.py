@@ -53,7 +53,7 @@ class Verbs(Case):
         self.assertEqual(self.numbers(self.person()), 1)
 
     def test_what_is_not_there(self) -> None:
-        for words in (["cat", "note"], ["replace", "note", "a", "b"], ["log", "note"], ["history", "note"],
+        for words in (["cat", "note"], ["replace", "note", "a", "b"], ["log", "note"], ["history", "note", "--at", "0"],
                       ["export", "note", "-"], ["cat"], ["log"], ["cat", "../x"], ["import", "note", "/nowhere/x"],
                       ["export", "note", "-", "--format", "pdf"]):
             self.note(*words, status=2)
@@ -93,7 +93,8 @@ class Verbs(Case):
                          ["", "one\n", "one\ntwo\n", "\ntwo\n", "1\ntwo\n"])
         past = json.loads(self.note("history", "note", "--at", "2", "--json"))
         self.assertEqual([one["text"] for one in past["stretches"]], ["one\ntwo\n"])
-        self.note("history", "note", "--at", "5", status=2)
+        for words in ["--at", "5"], ["--at", "-1"], []:
+            self.note("history", "note", *words, status=2)
         self.assertIn("typed '1'", self.note("log", "note"))
 
     def test_a_log_that_is_away(self) -> None:

@@ -9,6 +9,7 @@ const VECTORS = new URL("../engine_vectors/client.json", import.meta.url);
 class Shown {
   cursor = null;
   cursors = [];
+  looks = [];
   words = "";
   state = {};
 
@@ -26,6 +27,7 @@ function viewOf(shown) {
     },
     replace(text) { shown.text = text; },
     cursors(list) { shown.cursors = list; },
+    looks(list) { shown.looks = list; },
     state(line) { shown.state = line; },
     say(words) { shown.words = words; },
     answered() {},

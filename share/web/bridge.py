@@ -12,7 +12,7 @@ from aiohttp import WSCloseCode, WSMsgType, web
 from share.lines import MOST_LINE, Line, Wrong, read, written
 
 # What a page may ask for. It names no file: who has the secret alone is to reach this note and nothing else.
-REQUESTS = {"open", "edit", "undo", "redo", "cursor", "seen", "text", "on", "who", "history", "past", "close"}
+REQUESTS = {"open", "edit", "undo", "redo", "looks", "cursor", "seen", "text", "on", "who", "history", "past", "close"}
 NO_FIELDS = {"path", "replace", "link", "log", "url"}
 # A page's messages have so many bytes at most, so that who hasn't said the secret can't fill the memory.
 MOST_MESSAGE = 1 << 18

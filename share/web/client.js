@@ -39,8 +39,8 @@ export class Lines {
 }
 
 /**
- * An editor of a note. `view` shows what it is told: `change(changes, cursor)`, `replace(text)`, `cursors(list)`,
- * `state(line)`, `say(words)` and `answered()`.
+ * An editor of a note. `view` shows what it is told: `change(changes, cursor)`, `replace(text)`, `looks(list)`,
+ * `cursors(list)`, `state(line)`, `say(words)` and `answered()`.
  */
 export class Client {
   #send;
@@ -108,6 +108,11 @@ export class Client {
     this.#asked.clear();
   }
 
+  /** Has stretches be bold, or of a colour. */
+  look(ranges, looks) {
+    return this.ask({ do: "looks", version: this.version, ranges, ...looks });
+  }
+
   /** Says where the user's cursor is, and the other end of a selection. */
   cursor(at, anchor) {
     this.#flush();
@@ -151,6 +156,10 @@ export class Client {
     } else if (line.notice === "text") {
       this.version = line.version;
       this.#view.replace(line.text);
+      this.#seen();
+    } else if (line.notice === "looks") {
+      this.version = line.version;
+      this.#view.looks(line.looks);
       this.#seen();
     }
   }

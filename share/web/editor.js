@@ -39,6 +39,9 @@ export class Editor {
   #places;
   // Others' cursors and selections, by who they are.
   #others = new Map();
+  // The marks of what has looks, and those of them that are bold.
+  #dressed = [];
+  #bold = new Set();
 
   /** `told` is told of `edit(changes)` and `moved()`. */
   constructor(place, told) {
@@ -71,6 +74,24 @@ export class Editor {
   place() {
     const [at, anchor] = ["head", "anchor"].map((end) => this.#places.of(this.cm.getCursor(end)));
     return at === anchor ? [at] : [at, anchor];
+  }
+
+  /** The stretches that are selected. */
+  selected() {
+    return this.cm.listSelections().filter((one) => !one.empty())
+      .map((one) => [this.#places.of(one.from()), this.#places.of(one.to())]);
+  }
+
+  /** Whether all that is selected is bold. */
+  isBold() {
+    return this.cm.listSelections().filter((one) => !one.empty()).every((one) => {
+      let left = one.from();
+      for (const mark of this.cm.findMarks(one.from(), one.to()).filter((found) => this.#bold.has(found))) {
+        const { from, to } = mark.find();
+        if (CodeMirror.cmpPos(from, left) <= 0 && CodeMirror.cmpPos(to, left) > 0) left = to;
+      }
+      return CodeMirror.cmpPos(left, one.to()) >= 0;
+    });
   }
 
   /** Says whether the user may type. */
@@ -114,6 +135,19 @@ export class Editor {
     }
   }
 
+  /** Shows these looks, and no others. */
+  looks(list, colours) {
+    this.cm.operation(() => {
+      for (const mark of this.#dressed) mark.clear();
+      this.#bold.clear();
+      this.#dressed = list.map((one) => {
+        const mark = this.cm.markText(this.#places.at(one.begin), this.#places.at(one.end), { css: styleOf(one, colours) });
+        if (one.bold) this.#bold.add(mark);
+        return mark;
+      });
+    });
+  }
+
   /** Shows these cursors of others, and no others. */
   cursors(list) {
     const before = this.#others;
@@ -144,6 +178,14 @@ export class Editor {
     }
     return { name, colour, anchor, marks };
   }
+}
+
+/** Looks as a style. */
+function styleOf({ bold, italic, colour, offset }, colours) {
+  const found = [bold && "font-weight: bold", italic && "font-style: italic"];
+  if (colour) found.push(`color: ${colourOf(colours[colour])}`);
+  if (Number.isInteger(offset)) found.push(`vertical-align: ${offset}px`);
+  return found.filter(Boolean).join("; ");
 }
 
 /** A cursor with a name. */

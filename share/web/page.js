@@ -1,6 +1,6 @@
 // The page of a note: a connection to the note's engine, and what is shown of it.
 import { Client, Lines, pieces } from "./client.js";
-import { paint, shownName } from "./people.js";
+import { colourOf, paint, shownName } from "./people.js";
 import { Editor, paste } from "./editor.js";
 import { Keys } from "./keys.js";
 import { Past } from "./past.js";
@@ -50,11 +50,19 @@ class Page {
     for (const command of ["undo", "redo"]) {
       CodeMirror.commands[command] = (cm) => { if (cm === this.editor.cm) this.#ask({ do: command }); };
     }
+    CodeMirror.commands.bold = () => this.#look({ bold: !this.editor.isBold() });
+    this.editor.cm.setOption("extraKeys", { "Ctrl-B": "bold", "Cmd-B": "bold" });
     // All is kept as it is typed.
     CodeMirror.commands.save = () => {};
-    for (const command of ["undo", "redo", "find", "replace"]) {
+    for (const command of ["undo", "redo", "bold", "find", "replace"]) {
       element(command).addEventListener("click", () => this.#does(command));
     }
+    element("colour").addEventListener("change", ({ target }) => {
+      this.keys.release();
+      this.#look({ colour: Number(target.value) });
+      target.selectedIndex = 0;
+      this.editor.cm.focus();
+    });
     element("history").addEventListener("click", () => this.past.show());
     element("name").addEventListener("change", () => this.#rename());
     window.addEventListener("beforeunload", (event) => { if (this.#isUnanswered()) event.preventDefault(); });
@@ -72,6 +80,13 @@ class Page {
     this.keys.release();
     this.editor.cm.focus();
     this.editor.cm.execCommand(command);
+  }
+
+  /** Has what is selected be bold, or of a colour. */
+  #look(looks) {
+    const ranges = this.editor.selected();
+    if (ranges.length) this.#client?.look(ranges, looks);
+    else this.#say("First select what is to look so. ");
   }
 
   async #ask(request) {
@@ -112,7 +127,7 @@ class Page {
 
   #open(account) {
     element("name").value = sessionStorage.getItem("name") ?? account;
-    this.#send({ do: "open", id: 0, protocol: 1, units: ["utf-16"], name: element("name").value });
+    this.#send({ do: "open", id: 0, protocol: 1, units: ["utf-16"], looks: true, name: element("name").value });
   }
 
   #opened(line) {
@@ -125,7 +140,9 @@ class Page {
     const before = this.editor.text;
     if (this.#isUnanswered() && before !== line.text) this.#keep(before);
     this.editor.replace(line.text);
-    this.#client = new Client(line, (request) => this.#send(request), this.#view());
+    this.editor.looks([]);
+    for (const option of element("colour").options) option.style.color = colourOf(line.colours[option.value]);
+    this.#client = new Client(line, (request) => this.#send(request), this.#view(line.colours));
     this.#last = this.#client;
     this.#known = {};
     this.#moved();
@@ -160,10 +177,11 @@ class Page {
 
   // What is shown.
 
-  #view() {
+  #view(colours) {
     return {
       change: (changes, cursor) => this.editor.change(changes, cursor),
       replace: (text) => this.editor.replace(text),
+      looks: (list) => this.editor.looks(list, colours),
       cursors: (list) => {
         this.editor.cursors(list);
         this.#askWhoIsOn({ cursors: list.map(({ who, name, colour }) => [who, name, colour]) });

@@ -4,6 +4,7 @@ import { OPTIONS } from "./editor.js";
 
 /* global CodeMirror */
 
+const DID = { typed: "typed", deleted: "deleted", restored: "restored", looked: "in other looks" };
 const element = (id) => document.getElementById(id);
 
 /** How one who wrote is called. */
@@ -14,7 +15,7 @@ function nameOf({ name, own, site }) {
 /** What a step did, in words. */
 function wordsOf(step, at, of) {
   if (!step) return `at the beginning, of ${of} steps`;
-  const did = [step.typed && `${step.typed} typed`, step.deleted && `${step.deleted} deleted`].filter(Boolean);
+  const did = Object.keys(DID).filter((one) => step[one]).map((one) => `${step[one]} ${DID[one]}`);
   return `step ${at} of ${of}: ${nameOf(step)}, ${did.join(" and ") || "nothing new"}`;
 }
 

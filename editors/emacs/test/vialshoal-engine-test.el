@@ -321,7 +321,7 @@
                             (lambda () (get-buffer "*history of picnic*")))
         (vialshoal-engine--wait
          (lambda () (equal (buffer-string) "one two")))
-        (should (string-match-p "typed 3, deleted 0" header-line-format))
+        (should (string-match-p " typed 3$" header-line-format))
         (vialshoal-history-previous 1)
         (vialshoal-engine--wait (lambda () (equal (buffer-string) "one ")))
         (vialshoal-history-first)

@@ -18,8 +18,13 @@ local function words(steps, at)
   if at == 0 then
     return ('Before the first of %d steps'):format(#steps)
   end
-  local step = steps[at]
-  return ('Step %d of %d: %s typed %d, deleted %d'):format(at, #steps, M.author(step), step.typed, step.deleted)
+  local step, did = steps[at], {}
+  for _, each in ipairs({ 'typed', 'deleted', 'restored', 'looked' }) do
+    if (step[each] or 0) > 0 then
+      table.insert(did, ('%s %d'):format(each == 'looked' and 'changed the looks of' or each, step[each]))
+    end
+  end
+  return ('Step %d of %d: %s %s'):format(at, #steps, M.author(step), table.concat(did, ', '))
 end
 
 --- Shows the text of an answer.
