@@ -113,6 +113,11 @@ class Window:
         """Moves the cursor, as a click does."""
         self.run(f"{MIRROR}.setCursor({MIRROR}.posFromIndex(arguments[0]))", index)
 
+    def select(self, begin: int, end: int) -> None:
+        """Selects a stretch, as the mouse does."""
+        places = ", ".join(f"{MIRROR}.posFromIndex(arguments[{number}])" for number in range(2))
+        self.run(f"{MIRROR}.setSelection({places})", begin, end)
+
     def state(self, part: str) -> None:
         """Waits until the line of the page's state has some words."""
         self.wait_for("document.getElementById('state').textContent.includes(words[0])", part)

@@ -7,13 +7,14 @@ import pathlib
 import random
 import shutil
 import signal
+import subprocess
 import tempfile
 import threading
 import unittest
 
 from share.measured import swapped
 from share.tests.pages import Server, engine_of
-from share.tests.support import Case, Person, type_at_the_end, wait_for
+from share.tests.support import NOTE, Case, Person, type_at_the_end, wait_for
 
 try:
     from selenium.webdriver.common.keys import Keys
@@ -68,6 +69,11 @@ def kept(data: pathlib.Path) -> str:
     """What the note's file says."""
     return swapped(Person(data).text()).decode()
 
+
+# Whether the page's text has these looks: the words of each stretch, whether they are bold, and their colour.
+LOOKS = """JSON.stringify([...document.querySelectorAll("main .CodeMirror-line span[style]")]
+  .filter((one) => one.style.fontWeight || one.style.color)
+  .map((one) => [one.textContent, one.style.fontWeight, one.style.color].join("|"))) === JSON.stringify(words[0])"""
 # Compares positions with those that CodeMirror counts from the front, while a text changes at random.
 PLACES = """const done = arguments[arguments.length - 1];
 import("/places.js").then(({ Places }) => {
@@ -180,6 +186,47 @@ class Writing(Pages):
         first.wait_for(f"{MIRROR}.getAllMarks()[0]?.find()?.ch === 0")
         second.type(Keys.SHIFT, Keys.END, Keys.NULL)
         first.wait_for(f"{MIRROR}.getAllMarks().length === 2")
+
+    def test_looks_are_set_and_others_see_them(self) -> None:
+        first, second = self.first, self.second
+        first.type("one two three")
+        second.shows("one two three")
+        first.select(0, 3)
+        first.type(Keys.CONTROL, "b")
+        second.wait_for(LOOKS, ["one|bold|"])
+        second.select(2, 7)
+        second.run("document.getElementById('colour').value = '2'")
+        second.run("document.getElementById('colour').dispatchEvent(new Event('change'))")
+        looks = ["on|bold|", "e|bold|rgb(204, 34, 34)", " two||rgb(204, 34, 34)"]
+        for window in first, second:
+            window.wait_for(LOOKS, looks)
+        done = subprocess.run([NOTE, "export", "note", "-", "--format", "html"], capture_output=True, check=True,
+                              env={**os.environ, "VIALSHOAL_DATA": str(self.data)})
+        self.assertIn('<span style="font-weight:bold">on</span><span style="font-weight:bold;color:#cc2222">e</span>',
+                      done.stdout.decode())
+        # A second time it isn't bold any more; and an undo is of one's own looks alone.
+        first.select(0, 3)
+        first.press("bold")
+        first.wait_for(LOOKS, ["e two||rgb(204, 34, 34)"])
+        first.type(Keys.CONTROL, "z")
+        second.wait_for(LOOKS, looks)
+        # What is selected is shown to others, and parts what looks alike.
+        second.to(0)
+        second.press("undo")
+        first.wait_for(LOOKS, ["one|bold|"])
+        first.press("undo")
+        second.wait_for(LOOKS, [])
+        # Who comes later sees what was set, and nothing is set where nothing is selected.
+        first.select(4, 7)
+        first.press("bold")
+        first.to(0)
+        first.press("bold")
+        first.wait_for("document.getElementById('words').textContent.includes('First select')")
+        first.run("document.querySelector('#words button').click()")
+        third = BROWSER.open(self.server.path)
+        self.addCleanup(third.close)
+        third.wait_for(LOOKS, ["two|bold|"])
+        self.assert_no_faults(third)
 
     def test_others_text_doesn_t_come_into_a_selection(self) -> None:
         first, second = self.first, self.second
