@@ -10,14 +10,15 @@ import signal
 import sys
 from collections.abc import Callable
 
+from share import installing, opening, printing, serving
 from share import link as links
-from share import opening, printing, serving
 from share.controls import shown
 from share.disk import Unkept
 from share.editor import edit
 from share.engine_note import EngineNote
 from share.link import Link
 from share.measured import swapped
+from share.program import TOP
 from share.scripts import VERBS as SCRIPTS
 from share.scripts import Scripts
 from share.session import Bar, Session
@@ -35,6 +36,7 @@ Opens a shared note in the terminal. Whoever has opened the same note edits it a
                                   can't read
   bin/note recover FOLDER ..      brings notes back from what is left of people's data folders
   bin/note open NAME              opens a note that has the name of one of these
+  bin/note install, uninstall     puts all this under a prefix, or takes it away; --help tells more
 
 for scripts, each with --help:
   bin/note cat NAME               prints its text
@@ -74,7 +76,7 @@ in what it printed, which standard error says. docs/SHARING.md says more.
 VERBS = ("open", "web", "engine", "link", "renew", "recover")
 INCOMPLETE = 3
 # By which a page's editors come to the note's engine.
-ENGINE = [str(pathlib.Path(__file__).resolve().parents[1] / "bin" / "note")]
+ENGINE = [str(TOP / "bin" / "note")]
 
 
 def words() -> argparse.Namespace:
@@ -99,7 +101,7 @@ def words() -> argparse.Namespace:
 def _verb(names: list[str]) -> tuple[str, list[str]]:
     if names[0] in VERBS and len(names) > 1:
         return names[0], names[1:]
-    if names[0] in VERBS + SCRIPTS:
+    if names[0] in VERBS + SCRIPTS + installing.VERBS:
         raise Trouble(f"{names[0]} needs the name of a note; a note of this name is opened by bin/note open "
                       f"{names[0]}.")
     return "open", names
@@ -271,6 +273,8 @@ def main() -> int:
             raise Trouble("Standard output is closed.")
         if len(sys.argv) > 2 and sys.argv[1] in SCRIPTS or sys.argv[1:] in (["list"], ["list", "--json"]):
             return Scripts(opener_by_link, secret).run(sys.argv[1:])
+        if sys.argv[1:2] and sys.argv[1] in installing.VERBS:
+            return installing.run(sys.argv[1:])
         return done(words())
     except (Trouble, Refused, Unkept) as why:
         print(f"note: {shown(str(why))}", file=sys.stderr)

@@ -219,7 +219,7 @@ class Engine:
         log = ("none" if not status.has_log else "away" if status.offline else "sending" if status.unsent else "sent")
         others = sum(1 for one in self.peers if one.carrying) - 1
         state: Line = {"log": log, "unsent": status.unsent, "on": status.on + max(0, others),
-                       "types": status.can_type, "waiting": status.waiting}
+                       "types": status.can_type, "waiting": status.waiting, "site": status.site}
         for name, words in ("why", status.offline), ("trouble", status.trouble or self._trouble):
             if words:
                 state[name] = words

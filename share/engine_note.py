@@ -46,14 +46,15 @@ class _Mirror(Mirror):
 class AtEngine:
     """What the editor asks of a session: how things are, and the end."""
 
-    def __init__(self, note: "EngineNote", site: int):
-        self._note, self.number = note, site
+    def __init__(self, note: "EngineNote"):
+        self._note = note
 
     def status(self) -> Status:
         """How things are."""
         state = self._note.mirror.state
-        return Status(self.number, state["on"], state["unsent"], state.get("why", "away") if state["log"] == "away" else None,
-                      state["waiting"], state.get("trouble"), state["types"], state["log"] != "none")
+        offline = state.get("why", "away") if state["log"] == "away" else None
+        return Status(state["site"], state["on"], state["unsent"], offline, state["waiting"], state.get("trouble"),
+                      state["types"], state["log"] != "none")
 
     def close(self) -> None:
         """Closes the note; what isn't sent stays in its file."""
@@ -81,7 +82,7 @@ class EngineNote:
         opened = self._opened()
         self.show_all(UTF_8.encode(opened["text"]))
         self.mirror = _Mirror(opened, self._send, self)
-        self.session, self._is_open = AtEngine(self, opened["site"]), True
+        self.session, self._is_open = AtEngine(self), True
         early, self._answers = self._answers, []
         for one in early:
             self._take(one)

@@ -100,7 +100,8 @@ def looks(request: Line) -> tuple[bool | None, int | None]:
     bold, colour = request.get("bold"), request.get("colour")
     if bold is None and colour is None:
         raise Wrong("field", "bold or colour has to be given.")
-    if bold is not None and type(bold) is not bool or colour is not None and not (type(colour) is int and 0 <= colour <= MOST_COLOUR):
+    is_colour = colour is None or type(colour) is int and 0 <= colour <= MOST_COLOUR
+    if bold not in (None, True, False) or type(bold) is int or not is_colour:
         raise Wrong("field", f"bold has to be true or false, and colour a number up to {MOST_COLOUR}.")
     return bold, colour
 

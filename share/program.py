@@ -9,7 +9,8 @@ import subprocess
 from share.message import TEXT
 from share.words import Trouble
 
-TOP = pathlib.Path(__file__).resolve().parent.parent
+# Not resolved: where it is installed a link leads to the version of the moment.
+TOP = pathlib.Path(__file__).absolute().parent.parent
 BUILT = TOP / "crates" / "site_cli" / "out" / "site_cli"
 # A run takes so many lines; then another run has to go on.
 MOST_LINES = 2**20

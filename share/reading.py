@@ -16,7 +16,8 @@ from share.site import Site
 from share.words import Trouble, entries
 
 Result = TypeVar("Result")
-RAWS = "SELECT place, CAST(raw AS BLOB) FROM entry WHERE place {} ? AND hash NOT IN (SELECT hash FROM withdrawn) ORDER BY place {}"
+RAWS = """SELECT place, CAST(raw AS BLOB) FROM entry
+          WHERE place {} ? AND hash NOT IN (SELECT hash FROM withdrawn) ORDER BY place {}"""
 GREATEST_PLACE = 2**63 - 1
 # So many faults of a kind are told one by one.
 MOST_TOLD = 3

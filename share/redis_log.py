@@ -17,8 +17,8 @@ MOST_READ = ROOM + 20 * (MOST_BYTES + BESIDE) + PAGE * BESIDE
 # What a watch lets through: a longer entry is known by its size alone.
 MOST_WATCHED = MOST_BYTES + 1_024
 MOST_ON = 1_000
-# An entry has one field alone, called e. The server hashes the bytes, so nobody can have another entry stand for one that isn't there. One that was
-# trimmed, or stands otherwise, is added anew.
+# An entry has one field alone, called e. The server hashes the bytes, so nobody can have another entry stand for one
+# that isn't there. One that was trimmed, or stands otherwise, is added anew.
 APPEND = """
     for _, raw in ipairs(ARGV) do
         local hash = redis.sha1hex(raw)

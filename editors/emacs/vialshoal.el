@@ -36,7 +36,8 @@
 (defcustom vialshoal-command
   (let ((beside (and load-file-name
                      (expand-file-name "../../bin/note"
-                                       (file-name-directory load-file-name)))))
+                                       (file-name-directory
+                                        (file-chase-links load-file-name))))))
     (list (if (and beside (file-executable-p beside)) beside "note")))
   "The program that has notes open, and arguments to come first."
   :type '(repeat string))

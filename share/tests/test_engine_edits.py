@@ -165,7 +165,8 @@ class Wrong(Engines):
                 (b'{"do":"who","version":0,"begin":0}', "field"), (b'{"do":"past","at":100}', "outside"),
                 (b'{"do":"history","from":"x"}', "field"), (b'{"do":"save"}', "field"), (b'{"do":"text"}', "field"),
                 (b'{"do":"save","path":"/a\\u0000b"}', "unsaved"), (b'{"do":"save","path":"a"}', "unsaved"),
-                (b'{"do":"save","path":"/a\\ud800b"}', "field"), (b'{"do":"\\ud800","id":"\\ud800"}', "unknown"), (b'{"do":"seen","version":' + b"9" * 9_000 + b"}", "json")):
+                (b'{"do":"save","path":"/a\\ud800b"}', "field"), (b'{"do":"\\ud800","id":"\\ud800"}', "unknown"),
+                (b'{"do":"seen","version":' + b"9" * 9_000 + b"}", "json")):
             before = len(editor.lines)
             editor.listens = False
             editor.write(line + b"\n")
@@ -188,8 +189,9 @@ class Wrong(Engines):
                 ({"changes": [[0, 0, "\ud83c"]]}, "split"), ({"changes": [[0, 0, "a\udf89b"]]}, "split"),
                 ({"changes": "all"}, "field"), ({"changes": [[0, 0]]}, "field"), ({"changes": [[0, 0, 7]]}, "field"),
                 ({"changes": [[False, 0, ""]]}, "field"), ({"changes": [[0.0, 0, ""]]}, "field"), ({}, "field"),
-                ({"changes": [], "version": 10**15}, "version"), ({"changes": [], "version": 10**30}, "field"), ({"changes": [], "version": "1"}, "field"),
-                ({"changes": [[0, 0, ""]] * 50_001}, "long"), ({"changes": [], "edits": 0}, "order"), ({"changes": [], "edits": 70}, "order"),
+                ({"changes": [], "version": 10**15}, "version"), ({"changes": [], "version": 10**30}, "field"),
+                ({"changes": [], "version": "1"}, "field"), ({"changes": [[0, 0, ""]] * 50_001}, "long"),
+                ({"changes": [], "edits": 0}, "order"), ({"changes": [], "edits": 70}, "order"),
                 ({"changes": [[10**12, 10**13, ""]]}, "outside"),
                 ({"changes": [[10**30, 10**31, ""]]}, "field")):
             made = editor.mirror.made + 1
@@ -229,8 +231,6 @@ class Wrong(Engines):
         editor.type("after")
         editor.settle()
         other.shows("before after")
-        used = resource.getrusage(resource.RUSAGE_SELF)
-        self.assertIsNotNone(used)
         with open(f"/proc/{self.engine()}/status", encoding="ascii") as status:
             peak = next(int(line.split()[1]) for line in status if line.startswith("VmHWM"))
         self.assertLess(peak, 300_000)

@@ -16,7 +16,7 @@ from share.web import guard
 from share.web.bridge import MOST_MESSAGE, bridged
 from share.words import Trouble
 
-HERE = pathlib.Path(__file__).resolve().parent
+HERE = pathlib.Path(__file__).absolute().parent
 CODEMIRROR = pathlib.Path("/usr/share/javascript/codemirror")
 OWN = ["secret.js", "page.js", "page.css", "client.js", "editor.js", "keys.js", "past.js", "people.js", "places.js"]
 LIBRARY = ["lib/codemirror.js", "lib/codemirror.css", "addon/dialog/dialog.js", "addon/dialog/dialog.css",
