@@ -22,13 +22,14 @@ from share.looks import COLOURS, Looked, setting
 from share.measured import Measured, Outside, Split, shown, swapped
 from share.message import MOST_RANGES, Message, Names, inserted
 from share.named import Named
+from share.names import united
 from share.note_text import Change, change
 from share.ops import Op, in_text, of_changes
 from share.peer import Peer
 from share.presence import FRONT, Place, Present
 from share.session import Session, Status
 from share.site import SLICE, Edited, Site, Told
-from share.undoing import Step, do, looks_of, united
+from share.undoing import Step, do, looks_of
 from share.units import Units
 from share.words import Refused, Trouble
 
