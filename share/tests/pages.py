@@ -23,9 +23,10 @@ FOUND = re.compile(r'url=(http://127\.0\.0\.1:(\d+)/#([0-9a-f]+))"')
 class Server:
     """The server of a note's page."""
 
-    def __init__(self, data: pathlib.Path, *words: str, name: str = "note", **environment: str):
+    def __init__(self, data: pathlib.Path, *words: str, name: str = "note", command: str = NOTE,
+                 **environment: str):
         variables = {**os.environ, "VIALSHOAL_DATA": str(data), **environment}
-        self.process = subprocess.Popen([NOTE, "web", name, *words], env=variables, stdin=subprocess.DEVNULL,
+        self.process = subprocess.Popen([command, "web", name, *words], env=variables, stdin=subprocess.DEVNULL,
                                         stdout=subprocess.PIPE, text=True)
         assert self.process.stdout
         assert select.select([self.process.stdout], [], [], PATIENCE)[0], "the server says nothing"

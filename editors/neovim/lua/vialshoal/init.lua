@@ -20,10 +20,11 @@ local notes = {}
 local groups = api.nvim_create_augroup('vialshoal', {})
 local keys = api.nvim_create_namespace('vialshoal_keys')
 
---- The program beside this plug-in, or the one on the path.
+--- The program that was installed with this plug-in, or is beside it, or the one on the path.
 local function program()
-  local here = debug.getinfo(1, 'S').source:sub(2)
-  local beside = vim.fn.fnamemodify(here, ':p:h') .. '/../../../../bin/note'
+  local here = vim.fn.fnamemodify(debug.getinfo(1, 'S').source:sub(2), ':p')
+  local top = here:match('^(.*)/share/nvim/site/') or vim.fn.fnamemodify(here, ':h:h:h:h:h')
+  local beside = top .. '/bin/note'
   return vim.fn.executable(beside) == 1 and beside or 'note'
 end
 

@@ -1,0 +1,225 @@
+"""What is installed works with nothing of the repository there, and is taken away as it came."""
+import errno
+import os
+import pathlib
+import shutil
+import signal
+import subprocess
+import sys
+import time
+from unittest import mock
+
+from share import installing
+from share.installing import LINKS, Place
+from share.program import command
+from share.tests.pages import Server
+from share.tests.support import TOP, Case, wait_for
+from share.tests.test_terminal import Terminal
+from share.words import Trouble
+
+EMACS = '(progn (add-to-list (quote load-path) \\"SITE\\") (require (quote vialshoal)) (vialshoal-open \\"note\\"))'
+KILLED = """
+import os, pathlib, signal, sys
+sys.path[0] = sys.argv[1]
+from share import installing
+left = int(sys.argv[3])
+def counting(does):
+    def called(*words, **more):
+        global left
+        left -= 1
+        if left < 0:
+            os.kill(os.getpid(), signal.SIGKILL)
+        return does(*words, **more)
+    return called
+for of, name in ((pathlib.Path, "write_bytes"), (pathlib.Path, "mkdir"), (pathlib.Path, "unlink"), (os, "symlink"), (os, "replace")):
+    setattr(of, name, counting(getattr(of, name)))
+installing.run([sys.argv[4], "--prefix", sys.argv[2]])
+"""
+
+
+def files(folder: pathlib.Path) -> dict[str, str]:
+    """All that is in a folder: links by where they lead, files by what they have."""
+    found = {}
+    for path in sorted(folder.rglob("*")):
+        what = os.readlink(path) if path.is_symlink() else "" if path.is_dir() else path.read_bytes().hex()
+        found[str(path.relative_to(folder))] = what
+    return found
+
+
+class Installed(Case):
+    """A copy of the repository with a program in it, which is installed from and goes away then."""
+
+    def setUp(self) -> None:
+        super().setUp()
+        self.copy, self.prefix = self.folder / "copy", self.folder / "prefix"
+        for name in "bin", "share", "editors", "docs":
+            shutil.copytree(TOP / name, self.copy / name, ignore=shutil.ignore_patterns("tests", "test", "__pycache__"))
+        self.program = self.copy / "crates" / "site_cli" / "out" / "site_cli"
+        self.program.parent.mkdir(parents=True)
+        named = command()[0]
+        shutil.copy(installing.BUILT if named == str(TOP / "bin" / "built") else named, self.program)
+
+    def run_note(self, *words: str, top: pathlib.Path | None = None, status: int = 0, **more: str) -> str:
+        """What the installed command prints, or another's, which ends with this status."""
+        environment = {key: value for key, value in os.environ.items() if key != "VIALSHOAL_PROGRAM"}
+        done = subprocess.run([str((top or self.prefix) / "bin" / "note"), *words], capture_output=True, timeout=120,
+                              check=False, text=True, env={**environment, **more})
+        self.assertEqual(done.returncode, status, (words, done.stdout, done.stderr))
+        self.said = done.stderr
+        return done.stdout
+
+    said = ""
+
+    def install(self, **more: str) -> None:
+        """Installs from the copy."""
+        self.run_note("install", "--prefix", str(self.prefix), top=self.copy, **more)
+
+    def test_it_works_with_the_repository_gone(self) -> None:
+        self.install()
+        shutil.rmtree(self.copy)
+        with mock.patch.dict(os.environ):
+            os.environ.pop("VIALSHOAL_PROGRAM", None)
+            note = str(self.prefix / "bin" / "note")
+            self.run_note("append", "note", "one")
+            terminal = Terminal(self, "data", "note", command=note)
+            terminal.press("End", "Enter")
+            terminal.type("two")
+            terminal.sees("two")
+            emacs = Terminal(self, "data", "-nw", "-Q", "--eval",
+                             f'"{EMACS.replace("SITE", str(self.prefix / "share/emacs/site-lisp"))}"', command="emacs", begins="two")
+            emacs.press("Escape", ">")
+            emacs.type("from Emacs ")
+            terminal.sees("from Emacs")
+            with mock.patch.dict(os.environ, {"XDG_DATA_DIRS": str(self.prefix / "share"), "XDG_CONFIG_HOME": str(self.folder)}):
+                nvim = Terminal(self, "data", "-i", "NONE", "-n", "'+Vialshoal note'", command="nvim", begins="from Emacs")
+            nvim.type("Gofrom Neovim")
+            nvim.press("Escape")
+            terminal.sees("from Neovim")
+            nvim.type(":help vialshoal")
+            nvim.press("Enter")
+            nvim.sees("[Help]")
+            server = Server(self.folder / "data", "--no-browser", command=note)
+            self.addCleanup(server.close)
+            self.assertEqual(server.get()[0], 200)
+            self.assertIn(b"class Client", server.get("/client.js")[2])
+        self.assertEqual(sorted(self.run_note("cat", "note").split()), sorted("one two from Emacs from Neovim".split()))
+        self.assertIn("text 0", self.site_cli("1 text 1\n"))
+        for page in "note", "site_cli":
+            self.assertIn(page.upper(), (self.prefix / f"share/man/man1/{page}.1").read_text("utf-8"))
+        # A link to the command leads there, too.
+        (self.folder / "bin").mkdir()
+        (self.folder / "bin" / "note").symlink_to(self.prefix / "bin" / "note")
+        self.assertIn("one", self.run_note("cat", "note", top=self.folder))
+
+    def site_cli(self, script: str) -> str:
+        """What the installed program answers."""
+        return subprocess.run([str(self.prefix / "bin" / "site_cli")], input=script, capture_output=True, text=True,
+                              check=True, timeout=60).stdout
+
+    def test_what_is_taken_away(self) -> None:
+        others = {"bin/other": "x", "share/man/man1/other.1": "y", "share/emacs/site-lisp/vialshoal.elc": "z"}
+        for path, text in others.items():
+            (self.prefix / path).parent.mkdir(parents=True, exist_ok=True)
+            (self.prefix / path).write_text(text, encoding="utf-8")
+        before = files(self.prefix)
+        self.install()
+        first = os.readlink(self.prefix / "lib/vialshoal")
+        self.assertEqual({path: text for path, text in files(self.prefix).items() if path in before}, before)
+        # Another version takes the place of this one.
+        (self.copy / "share" / "new.py").write_bytes(b"")
+        self.install()
+        self.assertNotEqual(os.readlink(self.prefix / "lib/vialshoal"), first)
+        self.assertFalse((self.prefix / "lib" / first).exists())
+        self.assertTrue((self.prefix / "lib/vialshoal/share/new.py").exists())
+        # The installed one takes itself away.
+        self.run_note("uninstall")
+        self.assertEqual(files(self.prefix), before)
+        self.run_note("uninstall", "--prefix", str(self.prefix), top=self.copy, status=2)
+        self.assertIn("Nothing is installed", self.said)
+        shutil.rmtree(self.prefix)
+        self.install()
+        self.run_note("uninstall")
+        self.assertFalse(self.prefix.exists())
+
+    def test_what_others_have_put_there_stays(self) -> None:
+        for path in (*LINKS, "lib/vialshoal"):
+            (self.prefix / path).parent.mkdir(parents=True, exist_ok=True)
+            for puts in (lambda one: one.write_bytes(b"mine"), lambda one: one.symlink_to("/nowhere"), pathlib.Path.mkdir):
+                puts(self.prefix / path)
+                before = files(self.prefix)
+                self.run_note("install", "--prefix", str(self.prefix), top=self.copy, status=2)
+                self.assertIn(f"{self.prefix / path} is there", self.said)
+                self.assertEqual(files(self.prefix), before)
+                if (self.prefix / path).is_dir() and not (self.prefix / path).is_symlink():
+                    (self.prefix / path).rmdir()
+                else:
+                    (self.prefix / path).unlink()
+        self.install()
+        (self.prefix / "bin/note").unlink()
+        (self.prefix / "bin/note").write_bytes(b"mine")
+        (self.prefix / "lib/vialshoal/share/mine.py").write_bytes(b"mine")
+        self.run_note("uninstall", "--prefix", str(self.prefix), top=self.copy)
+        self.assertIn("bin/note stays", self.said)
+        left = {path: text for path, text in files(self.prefix).items() if text}
+        self.assertEqual({pathlib.Path(path).name for path in left}, {"note", "mine.py"})
+
+    def test_where_nothing_is_built(self) -> None:
+        self.program.unlink()
+        self.run_note("install", "--prefix", str(self.prefix), top=self.copy, status=2)
+        self.assertIn("Nothing is built", self.said)
+        self.assertFalse(self.prefix.exists())
+        for words in ["--prefix", "here"], ["there"]:
+            self.run_note("install", *words, top=self.copy, status=2)
+
+    def test_below_a_packagers_folder(self) -> None:
+        self.run_note("install", "--prefix", "/usr", top=self.copy, DESTDIR=str(self.folder / "package"))
+        self.prefix = self.folder / "package" / "usr"
+        shutil.copytree(self.folder / "package", self.folder / "unpacked", symlinks=True)
+        for top in self.folder / "package", self.folder / "unpacked":
+            self.assertEqual(self.run_note("cat", "note", top=top / "usr", status=2), "")
+        self.assertFalse([path for path, text in files(self.prefix).items() if str(self.folder).encode().hex() in text])
+        for path in LINKS:
+            self.assertTrue((self.folder / "unpacked" / "usr" / path).exists(), path)
+        self.assertEqual((self.prefix / "lib/vialshoal/bin/note").stat().st_mode & 0o777, 0o755)
+        self.run_note("uninstall", "--prefix", "/usr", top=self.copy, DESTDIR=str(self.folder / "package"))
+        self.assertEqual(files(self.prefix), {})
+
+    def test_a_full_disk_and_kills(self) -> None:
+        self.install()
+        before = files(self.prefix)
+        for number in 0, 1, 7, 40:
+            calls = iter([None] * number)
+            real = pathlib.Path.write_bytes
+            with mock.patch.object(pathlib.Path, "write_bytes", lambda path, data: (
+                    real(path, data) if next(calls, 1) is None else self.full(path, data, real))):
+                self.assertRaises(Trouble, installing.run, ["install", "--prefix", str(self.prefix)])
+            self.assertEqual(files(self.prefix), before)
+        shutil.rmtree(self.prefix)
+        for verb in "install", "uninstall":
+            for number in (0, 1, 2, 3, 5, 8, 30, 110, 125, 140, 150, 155, 160, 170):
+                self.killed(number, verb)
+
+    @staticmethod
+    def full(path: pathlib.Path, data: bytes, real) -> None:
+        """Writes a part of a file, as on a full disk."""
+        real(path, data[:len(data) // 2])
+        raise OSError(errno.ENOSPC, "No space left on device")
+
+    def killed(self, number: int, verb: str) -> None:
+        """Has a command be killed at some call: what was there before works, or what is new; the next one mends it."""
+        if verb == "uninstall":
+            self.install()
+        done = subprocess.run([sys.executable, "-B", "-c", KILLED, str(self.copy), str(self.prefix), str(number), verb],
+                              check=False, timeout=60, stdout=subprocess.DEVNULL,
+                              env={key: value for key, value in os.environ.items() if key != "VIALSHOAL_PROGRAM"})
+        self.assertIn(done.returncode, (0, -signal.SIGKILL))
+        if (self.prefix / "bin/note").exists():
+            self.assertIn("usage", self.run_note("cat", "--help"))
+        if verb == "install":
+            self.install()
+            self.assertIn("usage", self.run_note("cat", "--help"))
+            self.assertEqual(len([*(self.prefix / "lib").glob("vialshoal-*")]), 1)
+        if (self.prefix / "lib").exists():
+            self.run_note("uninstall", "--prefix", str(self.prefix), top=self.copy)
+        # Folders that were made before the list of them stay.
+        self.assertIn(files(self.prefix) if self.prefix.exists() else {}, ({}, {"lib": ""}) if number < 5 else ({},))
