@@ -222,4 +222,6 @@ class Installed(Case):
         if (self.prefix / "lib").exists():
             self.run_note("uninstall", "--prefix", str(self.prefix), top=self.copy)
         # Folders that were made before the list of them stay.
-        self.assertIn(files(self.prefix) if self.prefix.exists() else {}, ({}, {"lib": ""}) if number < 5 else ({},))
+        self.assertIn(files(self.prefix) if self.prefix.exists() else {}, ({}, {"lib": ""}) if number < 6 else ({},),
+                      (number, verb))
+        shutil.rmtree(self.prefix, ignore_errors=True)
