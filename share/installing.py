@@ -22,8 +22,8 @@ PREFIX = "/usr/local"
 LIB, CURRENT, RECORD, NEW = "lib", "vialshoal", "installed", "new"
 TREE = re.compile(r"vialshoal-[0-9a-f]{8}")
 PARTS = ("bin/note", "bin/built", "share/*.py", "share/web/*.*", "editors/emacs/vialshoal.el", "editors/neovim/plugin/*.lua",
-         "editors/neovim/lua/vialshoal/*.lua", "editors/neovim/doc/*.txt", "docs/SHARING.md", "docs/ENGINE.md", "docs/man/*.1")
-PROGRAM, TAGS = str(BUILT.relative_to(TOP)), "editors/neovim/doc/tags"
+         "editors/neovim/lua/vialshoal/*.lua", "editors/neovim/doc/*", "docs/SHARING.md", "docs/ENGINE.md", "docs/man/*.1")
+PROGRAM = str(BUILT.relative_to(TOP))
 # What is looked for elsewhere, and where it is in the folder.
 LINKS = {
     "bin/note": "bin/note",
@@ -35,7 +35,6 @@ LINKS = {
     "share/nvim/site/pack/vialshoal/start/vialshoal": "editors/neovim",
 }
 RUN = ("bin/note", "bin/built", PROGRAM)
-TAG = re.compile(r"\*([^\s*|]+)\*")
 FILE_MODE, RUN_MODE = 0o644, 0o755
 Record = dict[str, list[str]]
 VERBS = ("install", "uninstall")
@@ -70,7 +69,6 @@ class Place:
                 _fill(tree, files, sorted(folders))
                 for path in LINKS:
                     self._link(path, undo)
-                os.sync()
                 self._lead_to(tree)
                 undo.pop_all()
                 for one in before:
@@ -157,12 +155,10 @@ def _fill(tree: pathlib.Path, files: dict[str, pathlib.Path], folders: list[str]
     """Has a folder have all files. First comes the list of them, so that what was begun can be taken away."""
     tree.mkdir()
     os.chmod(tree, RUN_MODE)
-    record = {"files": [*files, TAGS, NEW], "folders": folders}
+    record = {"files": [*files, NEW], "folders": folders}
     _write(tree, RECORD, json.dumps(record, indent=1).encode())
     for path, source in files.items():
         _write(tree, path, source.read_bytes())
-    tags = {tag: path.name for path in files.values() if path.suffix == ".txt" for tag in TAG.findall(path.read_text("utf-8"))}
-    _write(tree, TAGS, "".join(f"{tag}\t{name}\t/*{tag}*\n" for tag, name in sorted(tags.items())).encode())
 
 
 def _write(tree: pathlib.Path, path: str, data: bytes) -> None:
