@@ -69,13 +69,23 @@ def connected(name: str) -> socket.socket | None:
 
 
 def agree(name: str, url: str | None, link: Link | None) -> None:
-    """Sees that a link and a log are those of the note that an engine has open, where one does."""
+    """Sees that a link and a log are those of the note that an engine has open, where one does. An engine that has just
+    been started makes the note as its first editor opens that."""
     if line := connected(name):
-        line.close()
-        about = reading.about(opening.path_of(name))
+        with line:
+            path, end = opening.path_of(name), time.monotonic() + START_SECONDS
+            while not path.exists():
+                if time.monotonic() > end:
+                    raise _silent(name)
+                time.sleep(AGAIN_SECONDS)
+        about = reading.about(path)
         opening.agree(about, name, url, link)
         if url and url != about.url:
             raise Trouble(f"The note {name} is open with another log. Quit its editors first.")
+
+
+def _silent(name: str) -> Trouble:
+    return Trouble(f"The engine of {name} doesn't answer. Look for a process that hangs.")
 
 
 def connected_or_started(name: str, opens: Opens) -> socket.socket:
@@ -89,7 +99,7 @@ def connected_or_started(name: str, opens: Opens) -> socket.socket:
         if not child or os.waitpid(child, os.WNOHANG)[0]:
             child = _started(name, opens)
         if time.monotonic() > end:
-            raise Trouble(f"The engine of {name} doesn't answer. Look for a process that hangs.")
+            raise _silent(name)
         time.sleep(AGAIN_SECONDS)
     return line
 

@@ -4,9 +4,12 @@ import os
 import random
 import subprocess
 import time
+from concurrent.futures import ThreadPoolExecutor
+from concurrent.futures import TimeoutError as FutureTimeout
 from unittest import mock
 
-from share import opening
+from share import link as links
+from share import opening, serving
 from share.carrying import Carrying
 from share.engine import Engine
 from share.history import in_units, Wrote
@@ -18,7 +21,7 @@ from share.program import Ended
 from share.scripts import differences
 from share.session import Session
 from share.tests.editors import Engines
-from share.tests.support import NOTE, Case, type_at_the_end
+from share.tests.support import NOTE, PATIENCE, Case, type_at_the_end, wait_for
 from share.units import UNITS
 
 
@@ -198,6 +201,20 @@ class Apart(Engines):
             **os.environ, "VIALSHOAL_DATA": str(self.folder / "data"), "VIALSHOAL_LINK": link})
         self.assertEqual(done.returncode, status, done.stderr)
         return done.stderr.decode()
+
+    def test_who_joins_while_another_editor_of_theirs_does(self) -> None:
+        (ada,) = self.others("ada")
+        ada.type("tea")
+        link = self.person("ada").link()
+        first = self.editor("bo", link=link, opens=False)
+        wait_for((self.folder / "bo" / "run" / "note.sock").exists, "an engine")
+        with self.person("bo").here(), ThreadPoolExecutor(1) as threads:
+            agrees = threads.submit(serving.agree, "note", None, links.read(link))
+            with self.assertRaises(FutureTimeout):
+                # The other one isn't refused, though the note isn't here yet.
+                agrees.result(0.5)
+            self.assertNotIn("error", first.ask("open", protocol=1, units=["utf-16"]))
+            agrees.result(PATIENCE)
 
     def test_what_is_for_another_note_is_not_typed_into_this_one(self) -> None:
         other = self.opened(self.person("other"), "note", self.file_log())
