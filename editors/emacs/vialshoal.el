@@ -861,8 +861,11 @@ or the LINK by which another's note is joined."
 (defun vialshoal--last-error ()
   "Return the last line that the engine wrote of its own trouble."
   (let* ((errors (process-get vialshoal--process 'vialshoal-errors))
-         (reader (and (buffer-live-p errors) (get-buffer-process errors))))
-    (while (and reader (accept-process-output reader 0.05)))
+         (reader (and (buffer-live-p errors) (get-buffer-process errors)))
+         (end (+ (vialshoal--now) 0.5)))
+    ;; An Emacs whose terminal is gone is told of a pipe's end again and again.
+    (while (and reader (< (vialshoal--now) end)
+                (accept-process-output reader 0.05)))
     (if (buffer-live-p errors)
         (car (last (split-string (with-current-buffer errors (buffer-string))
                                  "\n" t)))
