@@ -1,20 +1,27 @@
 """Makes edits anew that don't count any more: their number was another's too, or what they build on was left out.
 
 What the user saw is looked at in a process of its own, and what remained of these edits in that text is done
-again under the new number: what was typed goes behind the same characters, and what was deleted is deleted.
+again under the new number: what was typed goes behind the same characters, what was deleted is deleted, and looks are
+set.
 """
 from bisect import bisect_left
 from collections.abc import Iterable, Sequence
 from contextlib import closing
+from itertools import chain
 from typing import NamedTuple
 
 from share.disk import Row
 from share.judging import Judge
-from share.message import DELETE, MOST_RANGES, RESTORE, Message, Names, inserted, mentioned
+from share.looks import DEFAULT, Dressed, dressed
+from share.message import CHANGE_LOOKS, DELETE, MOST_RANGES, RESTORE, Message, Names, inserted, mentioned
 from share.names import Name, has, united
 from share.site import Edited, Site
 from share.telling import Stretch
+from share.undoing import looks_of
 from share.words import Trouble
+
+# So many stretches in looks are looked at.
+MOST_DRESSED = 20_000
 
 
 class Done(NamedTuple):
@@ -51,6 +58,7 @@ def make_anew(rows: Sequence[Row], lost: Sequence[Message], judge: Judge, site: 
     with closing(Site(lost[0].site, seen)) as old:
         done = [*_deleted_and_restored(here, differing, old, site)]
         done += _typed(here, differing, old, site)
+        done += _looked(here, differing, old, site)
         done += _at_the_end(gone, site)
     made = {(one.old.site, one.old.seq) for one in done}
     return done + [Done(message, None) for message in lost if (message.site, message.seq) not in made]
@@ -94,11 +102,44 @@ def _typed(lost: Sequence[Message], differing: _Differing, old: Site, site: Site
     found = old.where([one for _, one in typing]) if typing else []
     stretches = sorted((stretch.position, stretch.data, message)
                        for (message, _), shown in zip(typing, found) for stretch in shown)
-    done, more = [], 0
+    done, more, looks = [], 0, dressed(old.runs(), MOST_DRESSED) if stretches else []
     for position, data, message in stretches:
         place = _place(position - bisect_left(gone, position), come) + more
-        done += _all_of(message, site.insert(place, data))
+        made = _all_of(message, site.insert(place, data))
+        done += made + _in_looks(made, position, looks, site)
         more += len(data)
+    return done
+
+
+def _in_looks(made: Sequence[Done], position: int, looks: Sequence[Dressed], site: Site) -> list[Done]:
+    """Gives what was typed again the looks that it had in the old text, where it began at a position."""
+    done: list[Done] = []
+    for old, new in made:
+        names = inserted(new) if new else None
+        if not names:
+            continue
+        for one in looks:
+            begin, end = max(one.begin, position), min(one.end, position + names.length)
+            if begin < end:
+                part = Names(names.site, names.at + begin - position, end - begin)
+                done += _all_of(old, site.look(one.looks.differing(DEFAULT), [part]))
+        position += names.length
+    return done
+
+
+def _looked(lost: Sequence[Message], differing: _Differing, old: Site, site: Site) -> list[Done]:
+    """Gives characters again the looks that they have in the old text and not in the new one."""
+    done = []
+    for message in lost:
+        if message.kind != CHANGE_LOOKS:
+            continue
+        names = _as_set((one.site, at) for one in mentioned(message) for at in range(one.at, one.at + one.length)
+                        if differing.is_common((one.site, at)))
+        for parts in looks_of(old, names):
+            for part, was in parts:
+                for there, now in chain.from_iterable(looks_of(site, [part])):
+                    if was != now:
+                        done += _all_of(message, site.look(was.differing(now), [there]))
     return done
 
 

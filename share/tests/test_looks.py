@@ -2,6 +2,7 @@
 import json
 import os
 import random
+import shutil
 import subprocess
 
 from share.looks import DEFAULT, Looks, is_bold, is_slanted, looking, may_dress, setting, with_weight
@@ -162,6 +163,33 @@ class Shown(Engines):
                 fresh.wait_for(lambda: (editor.read(0.02), editor.mirror.looks == fresh.mirror.looks)[1], "looks to be alike")
         # All is ASCII, so positions are the same in all units.
         self.assertFalse([line for one in editors for line in one.lines if "error" in line])
+
+    def test_looks_are_made_anew_with_the_rest(self) -> None:
+        first = self.editor("ada", log=self.file_log(), looks=True)
+        first.edit((0, 0, "one two three"))
+        first.settle()
+        wait_for(lambda: (first.read(0.02), first.notices("state")[-1]["log"] == "sent")[1], "all to be sent")
+        first.close()
+        shutil.copytree(self.folder / "ada", self.folder / "copied", ignore=shutil.ignore_patterns("run"))
+        os.rename(self.folder / "shared", self.folder / "away")
+        (self.folder / "shared").write_bytes(b"")
+        # Both go on under one number, each with looks for old and new words.
+        editors = [self.editor(data, looks=True) for data in ("ada", "copied")]
+        for number, (editor, looks) in enumerate(zip(editors, (BOLD_RED, {"bold": True, "colour": 4}))):
+            editor.edit((13, 13, f" new{number}"))
+            editor.settle()
+            self.set(editor, [4 * number, 4 * number + 3], [14, 17], **looks)
+            editor.settle()
+        (self.folder / "shared").unlink()
+        os.rename(self.folder / "away", self.folder / "shared")
+        text = self.alike(*editors)
+        self.assertEqual(sorted(text.split()), sorted("one two three new0 new1".split()))
+        words = {one: text.index(one) for one in ("new0", "new1")}
+        wanted = sorted([{"begin": begin, "end": begin + 3, **looks} for begin, looks in (
+            (0, BOLD_RED), (4, {"bold": True, "colour": 4}), (words["new0"], BOLD_RED),
+            (words["new1"], {"bold": True, "colour": 4}))], key=lambda one: one["begin"])
+        for editor in editors:
+            self.looks(editor, *wanted)
 
     def test_what_no_editor_should_send(self) -> None:
         editor = self.editor(looks=True)
