@@ -38,9 +38,11 @@ RUN = ("bin/note", "bin/built", PROGRAM)
 FILE_MODE, RUN_MODE = 0o644, 0o755
 Record = dict[str, list[str]]
 VERBS = ("install", "uninstall")
-ABOUT = {"install": "Installs note and site_cli, the Emacs package, the Neovim plug-in and the manual's pages, in place of what was "
-                    "installed before. What is there of others is refused.",
-         "uninstall": "Takes away what install has put there, and nothing else."}
+ABOUT = {
+    "install": "Installs note and site_cli, the Emacs package, the Neovim plug-in and the manual's pages, in place of what "
+               "was installed before. What is there of others is refused.",
+    "uninstall": "Takes away what install has put there, and nothing else.",
+}
 END = "A packager sets DESTDIR, the folder below which the files are to be. Ends with 2 and a sentence where it can't be done."
 
 
@@ -71,8 +73,10 @@ class Place:
                     self._link(path, undo)
                 self._lead_to(tree)
                 undo.pop_all()
-                for one in before:
-                    _take_away(one)
+                # What can't be taken away now is at the next time.
+                with contextlib.suppress(OSError):
+                    for one in before:
+                        _take_away(one)
 
     def uninstall(self) -> list[str]:
         """Takes away what was installed; what stands where something of it should be, and is another's."""
@@ -84,7 +88,8 @@ class Place:
             for path in filter(self._is_own, LINKS):
                 (self.root / path).unlink()
             folders = {folder for tree in trees for folder in _record(tree).get("folders", [])}
-            self._current.unlink(missing_ok=True)
+            if self._leads_to_a_tree():
+                self._current.unlink()
             for tree in trees:
                 _take_away(tree)
         _remove_empty(self.root / folder for folder in sorted(folders, reverse=True))
@@ -92,7 +97,7 @@ class Place:
 
     def _refuse_what_is_in_the_way(self) -> None:
         paths = [self.root / path for path in LINKS if not self._is_own(path)]
-        if not (self._current.is_symlink() and TREE.fullmatch(os.readlink(self._current))):
+        if not self._leads_to_a_tree():
             paths.append(self._current)
         for path in filter(os.path.lexists, paths):
             raise Trouble(f"{path} is there, and isn't of an earlier installation. Nothing was installed.")
@@ -100,6 +105,9 @@ class Place:
     def _trees(self) -> list[pathlib.Path]:
         """The folders of what is installed, and of installations that were killed."""
         return [one for one in self._lib.iterdir() if TREE.fullmatch(one.name) and one.is_dir() and not one.is_symlink()]
+
+    def _leads_to_a_tree(self) -> bool:
+        return self._current.is_symlink() and bool(TREE.fullmatch(os.readlink(self._current)))
 
     def _target(self, path: str) -> str:
         """Where a link leads, from its folder."""
@@ -183,8 +191,8 @@ def _take_away(tree: pathlib.Path) -> None:
     files = _record(tree).get("files", [])
     for path in files:
         (tree / path).unlink(missing_ok=True)
-    _remove_empty(tree / one for one in sorted({folder for path in files for folder in map(str, pathlib.PurePath(path).parents)},
-                                               reverse=True) if one != ".")
+    folders = {str(one) for path in files for one in pathlib.PurePath(path).parents} - {"."}
+    _remove_empty(tree / one for one in sorted(folders, reverse=True))
     (tree / RECORD).unlink(missing_ok=True)
     _remove_empty([tree])
 

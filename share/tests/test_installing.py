@@ -31,8 +31,10 @@ def counting(does):
             os.kill(os.getpid(), signal.SIGKILL)
         return does(*words, **more)
     return called
-for of, name in ((pathlib.Path, "write_bytes"), (pathlib.Path, "mkdir"), (pathlib.Path, "unlink"), (os, "symlink"), (os, "replace")):
-    setattr(of, name, counting(getattr(of, name)))
+for name in "write_bytes", "mkdir", "unlink":
+    setattr(pathlib.Path, name, counting(getattr(pathlib.Path, name)))
+for name in "symlink", "replace":
+    setattr(os, name, counting(getattr(os, name)))
 installing.run([sys.argv[4], "--prefix", sys.argv[2]])
 """
 
@@ -85,8 +87,8 @@ class Installed(Case):
             terminal.press("End", "Enter")
             terminal.type("two")
             terminal.sees("two")
-            emacs = Terminal(self, "data", "-nw", "-Q", "--eval",
-                             f'"{EMACS.replace("SITE", str(self.prefix / "share/emacs/site-lisp"))}"', command="emacs", begins="two")
+            opens = EMACS.replace("SITE", str(self.prefix / "share/emacs/site-lisp"))
+            emacs = Terminal(self, "data", "-nw", "-Q", "--eval", f'"{opens}"', command="emacs", begins="two")
             emacs.press("Escape", ">")
             emacs.type("from Emacs ")
             terminal.sees("from Emacs")
