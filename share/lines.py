@@ -101,7 +101,7 @@ def looks(request: Line) -> tuple[bool | None, int | None]:
     if bold is None and colour is None:
         raise Wrong("field", "bold or colour has to be given.")
     is_colour = colour is None or type(colour) is int and 0 <= colour <= MOST_COLOUR
-    if bold not in (None, True, False) or type(bold) is int or not is_colour:
+    if not (bold is None or type(bold) is bool) or not is_colour:
         raise Wrong("field", f"bold has to be true or false, and colour a number up to {MOST_COLOUR}.")
     return bold, colour
 

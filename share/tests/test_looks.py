@@ -196,7 +196,7 @@ class Shown(Engines):
         editor.edit((0, 0, "🎉x"))
         editor.settle()
         for more, code in (({"bold": 1}, "field"), ({"colour": 16}, "field"), ({"colour": True}, "field"), ({}, "field"),
-                           ({"colour": -1}, "field"), ({"bold": "yes"}, "field")):
+                           ({"colour": -1}, "field"), ({"bold": "yes"}, "field"), ({"bold": 1.0}, "field"), ({"colour": [2]}, "field")):
             self.set(editor, [0, 3], error=code, **more)
         for ranges, code in (([[0, 4]], "outside"), ([[1, 3]], "split"), ([[3, 2]], "field"), ([[0]], "field"), ("all", "field"),
                              ([["a", "b"]], "field"), ([[0, 10**30]], "field"), ([[-1, 2]], "field")):
