@@ -68,6 +68,17 @@ test('a key goes where it was typed', function()
   fake.check(note)
 end)
 
+test('a key goes where it was typed, though Vim tells late where a line end came', function()
+  local note = fake.with('b\nn1\nn2\n')
+  vim.cmd('normal! 1G0ix\13')
+  note:flush_command()
+  fake.changes(note)
+  vim.cmd('normal! 4G0in')
+  same({ { 7, 7, 'n' } }, fake.changes(note))
+  same({ { 2, 2, 'x' } }, text.change('abc', 'abxc', 0, 1))
+  same({ { 1, 1, 'b' } }, text.change('abc', 'abbc', 0, 1))
+end)
+
 test('much is sent in parts that are undone together', function()
   local note, words = fake.with('ab'), ('é'):rep(1000000) .. 'z'
   vim.api.nvim_buf_set_text(note.buffer, 0, 1, 0, 1, { words })

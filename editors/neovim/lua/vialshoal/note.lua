@@ -148,6 +148,8 @@ end
 
 --- Sends what a command has changed, unless many edits are unanswered: then it goes with what follows.
 function Note:flush_command()
+  -- Of some changes Vim tells where they begin after their lines.
+  self.hint = nil
   if self.made - self.answered < MOST_UNANSWERED then
     self:flush()
   end

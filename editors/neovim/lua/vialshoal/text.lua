@@ -42,6 +42,12 @@ local function same_tail(old, new, most)
   return tail
 end
 
+--- How much two texts begin with alike, `most` bytes at most, and how much the rest of them ends with alike.
+local function same_ends(old, new, most)
+  local head = same_head(old, new, most)
+  return head, same_tail(old, new, math.min(#old, #new) - head)
+end
+
 --- What has changed from one text to another, as a list of no or one change. The texts begin at `base`. The
 --- change isn't behind `hint`, where that is given: who types an `a` between others shows which is new.
 function M.change(old, new, base, hint)
@@ -49,8 +55,14 @@ function M.change(old, new, base, hint)
     return {}
   end
   local least = math.min(#old, #new)
-  local head = same_head(old, new, math.min(least, hint or least))
-  local tail = same_tail(old, new, least - head)
+  local head, tail = same_ends(old, new, math.min(least, hint or least))
+  if head + tail < least then
+    -- With a hint that is wrong, what stays as it is would be typed anew.
+    local further, rest = same_ends(old, new, least)
+    if further + rest > head + tail then
+      head, tail = further, rest
+    end
+  end
   return { { base + head, base + #old - tail, new:sub(head + 1, #new - tail) } }
 end
 
