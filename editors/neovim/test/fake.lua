@@ -22,7 +22,7 @@ function M.note(opened)
   })
   note.sent, note.told, note.now = {}, {}, 0
   vim.api.nvim_buf_attach(buffer, false, {
-    on_bytes = function(_, _, _, row, column) note:hinted(row, column) end,
+    on_bytes = function(_, _, _, row, column, _, _, _, gone, _, _, came) note:hinted(row, column, gone, came) end,
     on_lines = function(_, _, _, first, last, new_last) note:changed(first, last, new_last) end,
   })
   note:opened(opened)

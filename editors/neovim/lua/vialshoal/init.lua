@@ -86,8 +86,8 @@ end
 --- Has a note be told what happens to its buffer.
 local function attach(note)
   return api.nvim_buf_attach(note.buffer, false, {
-    on_bytes = function(_, _, _, row, column)
-      note:hinted(row, column)
+    on_bytes = function(_, _, _, row, column, _, _, _, gone, _, _, came)
+      note:hinted(row, column, gone, came)
     end,
     on_lines = function(_, _, _, first, last, new_last)
       note:changed(first, last, new_last)

@@ -64,11 +64,17 @@ function Note:changed(first, last, new_last)
   self:soon()
 end
 
---- Takes note of where a change is said to begin, before its lines are told. That is more exact than what lines
---- show, but not always right; so it is a hint.
-function Note:hinted(row, column)
+--- Takes note of where a change is said to begin, and how many bytes it took away and brought. That is more exact than
+--- what lines show, but not always right; so it is a hint. Mostly it comes before the lines do.
+function Note:hinted(row, column, gone, came)
+  local late = self.late
+  self.late = nil
   if self.applies or self.is_lost then
     return
+  elseif late and late == self.changes[#self.changes] and gone == 0 and came == #late[3] then
+    local place = text.offset(self.lines, row) + column
+    late[1], late[3] = text.moved_up(self.lines, row, column, late[1] - place, late[3], late[1])
+    late[2] = late[1]
   elseif self.hint == nil then
     self.hint = { row, column }
   elseif self.hint and self.hint[1] == row then
@@ -87,8 +93,8 @@ function Note:gather(first, last, new_last)
   end
   local new = api.nvim_buf_get_lines(self.buffer, first, new_last, false)
   local old = vim.list_slice(self.lines, first + 1, last)
-  local hint = self.hint and { self.hint[1] - first, self.hint[2] }
-  self.hint = nil
+  local hint, is_told = self.hint and { self.hint[1] - first, self.hint[2] }, self.hint ~= nil
+  self.hint, self.late = nil, nil
   local found = text.changes(old, new, text.offset(self.lines, first), is_last, hint)
   for _, change in ipairs(found) do
     if text.clean(change[3]) ~= change[3] then
@@ -99,6 +105,10 @@ function Note:gather(first, last, new_last)
   text.splice(self.lines, first, last, new)
   for _, change in ipairs(found) do
     self:add(change)
+  end
+  if not is_told and #found == 1 and found[1][1] == found[1][2] and #found[1][3] <= MOST_TEXT then
+    -- Where a line end came in is told behind its lines.
+    self.late = self.changes[#self.changes]
   end
 end
 
@@ -148,8 +158,8 @@ end
 
 --- Sends what a command has changed, unless many edits are unanswered: then it goes with what follows.
 function Note:flush_command()
-  -- Of some changes Vim tells where they begin after their lines.
-  self.hint = nil
+  -- What was told behind its lines is no hint for the next ones.
+  self.hint, self.late = nil, nil
   if self.made - self.answered < MOST_UNANSWERED then
     self:flush()
   end

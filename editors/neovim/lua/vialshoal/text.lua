@@ -87,6 +87,28 @@ function M.changes(old, new, base, is_last, hint)
   return M.change(text(old), text(new), base, most)
 end
 
+--- Some bytes of lines, from a row and a column on. A line end that isn't shown is one of them.
+local function slice(lines, row, column, size)
+  local found, number = lines[row + 1]:sub(column + 1), row + 2
+  while #found < size do
+    found, number = found .. '\n' .. (lines[number] or ''), number + 1
+  end
+  return found:sub(1, size)
+end
+
+--- Where a text came into lines that has come to `at`, so far behind a row and a column, if it can as well have come in
+--- there; and the text that has then.
+function M.moved_up(lines, row, column, behind, new, at)
+  if behind <= 0 then
+    return at, new
+  end
+  local found = slice(lines, row, column, behind + #new)
+  if found:sub(1, behind) ~= found:sub(#new + 1) then
+    return at, new
+  end
+  return at - behind, found:sub(1, #new)
+end
+
 --- The lines of a text, and whether its last line end is hidden, as Vim does with those of files.
 function M.split(text)
   local lines = vim.split(text, '\n', { plain = true })
