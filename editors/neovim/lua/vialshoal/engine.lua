@@ -1,6 +1,9 @@
 --- The engine's process: lines to it, and lines from it.
 local M = {}
 
+-- The engines that were told to end, and run still.
+local ending = {}
+
 --- Starts an engine. `took` is called with each line that it says, `ended` with what it wrote of its own trouble.
 function M.start(command, environment, took, ended)
   local piece, errors = {}, {}
@@ -23,7 +26,8 @@ function M.start(command, environment, took, ended)
     on_stderr = function(_, data)
       vim.list_extend(errors, data)
     end,
-    on_exit = function()
+    on_exit = function(job)
+      ending[job] = nil
       ended(vim.trim(table.concat(errors, '\n')))
     end,
   })
@@ -34,11 +38,17 @@ function M.send(job, line)
   pcall(vim.api.nvim_chan_send, job, vim.json.encode(line) .. '\n')
 end
 
---- Says that no more lines come, and waits a moment until all are read, where that is asked for.
-function M.close(job, patience)
+--- Says that no more lines come.
+function M.close(job)
+  ending[job] = true
   M.send(job, { ['do'] = 'close' })
   pcall(vim.fn.chanclose, job, 'stdin')
-  if patience then
+end
+
+--- Waits a moment until all that were told to end have read all: Neovim's own end would kill them.
+function M.wait(patience)
+  -- While Neovim ends, jobwait() doesn't wait for several.
+  for _, job in ipairs(vim.tbl_keys(ending)) do
     vim.fn.jobwait({ job }, patience)
   end
 end

@@ -270,7 +270,7 @@ function M.open(name, log, link)
 end
 
 --- Closes a buffer's note, with all sent that was typed.
-function M.close(buffer, patience)
+function M.close(buffer)
   local note = notes[buffer]
   if not note then
     return
@@ -281,7 +281,7 @@ function M.close(buffer, patience)
     pcall(note.flush, note)
   end
   if note.job then
-    engine.close(note.job, patience)
+    engine.close(note.job)
   end
   note.is_open = false
   if api.nvim_buf_is_valid(buffer) then
@@ -305,8 +305,9 @@ api.nvim_create_autocmd('VimLeavePre', {
   group = groups,
   callback = function()
     for buffer in pairs(notes) do
-      M.close(buffer, 2000)
+      M.close(buffer)
     end
+    engine.wait(2000)
   end,
 })
 
