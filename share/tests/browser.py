@@ -31,10 +31,10 @@ MIRROR = "document.querySelector('#text .CodeMirror').CodeMirror"
 class Browser:
     """A Chromium without a screen."""
 
-    def __init__(self, width: int = 640, height: int = 400):
+    def __init__(self, width: int = 640, height: int = 400, profile: pathlib.Path | None = None):
         options = webdriver.ChromeOptions()
         options.binary_location = CHROMIUM
-        for word in [*WORDS, f"--window-size={width},{height}"]:
+        for word in [*WORDS, f"--window-size={width},{height}", *([f"--user-data-dir={profile}"] if profile else [])]:
             options.add_argument(word)
         options.set_capability("goog:loggingPrefs", {"browser": "ALL"})
         self.driver = webdriver.Chrome(service=Service(DRIVER), options=options)

@@ -2,13 +2,12 @@
 import json
 import os
 import pathlib
-import re
 import select
 import subprocess
 import time
 
 from share.mirror import Line, Mirror
-from share.tests.support import NOTE, PATIENCE, Case, wait_for
+from share.tests.support import NOTE, PATIENCE, Case, engine_of, wait_for
 
 
 class Editor:
@@ -157,10 +156,7 @@ class Engines(Case):
 
     def engine(self, data: str = "data") -> int:
         """The process that has the note open."""
-        lock = os.stat(self.folder / data / "run" / "note.lock").st_ino
-        found = re.findall(rf"FLOCK +ADVISORY +WRITE +(\d+) [0-9a-f]+:[0-9a-f]+:{lock} ",
-                           pathlib.Path("/proc/locks").read_text(encoding="ascii"))
-        return int(found[0])
+        return engine_of(self.folder / data)
 
     def others(self, *names: str, url: str | None = None) -> list[Editor]:
         """Editors of several people, whose notes have one log."""

@@ -124,14 +124,3 @@ async def talking(server: Server, secret: str | None = None, opens: bool = False
             if opens:
                 assert "error" not in await talk.ask("open", protocol=1, units=["utf-16"])
             yield talk
-
-
-def engine_of(data: pathlib.Path) -> int:
-    """The process that has a note open."""
-    lock = os.stat(data / "run" / "note.lock").st_ino
-    for line in pathlib.Path("/proc/locks").read_text(encoding="ascii").splitlines():
-        fields = line.split()
-        if fields[1] == "FLOCK" and fields[5].endswith(f":{lock}"):
-            assert b"\0engine\0note\0" in pathlib.Path(f"/proc/{fields[4]}/cmdline").read_bytes()
-            return int(fields[4])
-    raise AssertionError("no engine has the note")

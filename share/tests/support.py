@@ -3,6 +3,7 @@ import contextlib
 import os
 import pathlib
 import random
+import re
 import shutil
 import socket
 import sqlite3
@@ -31,12 +32,12 @@ PATIENCE = 30
 ALPHABET = "abcdefgh  \r\t\\é߀ñ漢字🎉👍"
 
 
-def wait_for(condition, what: str):
+def wait_for(condition, what: str, patience: float = PATIENCE):
     """The condition's value, as soon as it is a true one."""
-    end = time.monotonic() + PATIENCE
+    end = time.monotonic() + patience
     while not (value := condition()):
         if time.monotonic() > end:
-            raise AssertionError(f"waited {PATIENCE} seconds for {what}")
+            raise AssertionError(f"waited {patience} seconds for {what}")
         time.sleep(0.02)
     return value
 
@@ -335,6 +336,14 @@ def plain_text(messages) -> bytes:
         return program.text()
     finally:
         program.close()
+
+
+def engine_of(data: pathlib.Path) -> int:
+    """The process that has a person's note open, which is called `note`."""
+    lock = os.stat(data / "run" / "note.lock").st_ino
+    found = re.findall(rf"FLOCK +ADVISORY +WRITE +(\d+) [0-9a-f]+:[0-9a-f]+:{lock} ",
+                       pathlib.Path("/proc/locks").read_text(encoding="ascii"))
+    return int(found[0])
 
 
 def python() -> str:

@@ -22,7 +22,7 @@ from share.controls import (ESCAPE_SECONDS, LONGEST_PASTE, PASTE_LOST_SECONDS, P
 from share.editor import Bar, edit
 from share.session import Status
 from share.tests.support import TOP, Case, python, wait_for
-from share.tests.test_terminal import Terminal
+from share.tests.terminals import Terminal
 from share.words import Refused, Trouble
 
 BEGIN, END = b"\x1b[200~", b"\x1b[201~"

@@ -13,8 +13,8 @@ import threading
 import unittest
 
 from share.measured import swapped
-from share.tests.pages import Server, engine_of
-from share.tests.support import NOTE, Case, Person, type_at_the_end, wait_for
+from share.tests.pages import Server
+from share.tests.support import NOTE, Case, Person, engine_of, type_at_the_end, wait_for
 
 try:
     from selenium.webdriver.common.keys import Keys

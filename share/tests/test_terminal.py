@@ -1,97 +1,10 @@
 """Two people at two terminals: real ones, of tmux, with bin/note in each."""
 import os
-import pathlib
-import re
 import signal
-import subprocess
 
 from share.tests.editors import Editor
-from share.tests.support import NOTE, Case, wait_for
-
-WIDTH, HEIGHT = 70, 12
-
-
-class Terminal:
-    """A terminal with a note in it, or with another command."""
-
-    def __init__(self, case: Case, data: str, *words: str, command: str = NOTE, begins: str = "site ",
-                 link: str = ""):
-        self.socket = str(case.folder / f"tmux-{len([*case.folder.glob('tmux-*')])}")
-        environment = {**os.environ, "VIALSHOAL_DATA": str(case.folder / data), "LC_ALL": "C.UTF-8",
-                       "VIALSHOAL_LINK": link}
-        line = " ".join([command, *words]) + "; echo status $?; cat"
-        subprocess.run(["tmux", "-S", self.socket, "-f", "/dev/null", "new-session", "-d", "-x", str(WIDTH),
-                        "-y", str(HEIGHT), line], check=True, env=environment)
-        case.addCleanup(self._tmux, "kill-server")
-        wait_for(lambda: any(words in "\n".join(self.lines()) for words in (begins, "Link:")), begins)
-        if "Link:" in "\n".join(self.lines()):
-            # A note that isn't here yet is made.
-            self.press("Enter")
-        self.sees(begins)
-
-    def _tmux(self, *words: str, given: bytes = b"") -> str:
-        run = subprocess.run(["tmux", "-S", self.socket, *words], input=given, capture_output=True, check=False)
-        return run.stdout.decode()
-
-    def type(self, words: str) -> None:
-        """Types characters."""
-        self._tmux("send-keys", "-l", "--", words)
-
-    def press(self, *keys: str) -> None:
-        """Presses keys by their names."""
-        self._tmux("send-keys", *keys)
-
-    def send(self, sequence: bytes) -> None:
-        """Has the terminal send bytes, as it does for keys."""
-        self._tmux("send-keys", "-H", *(f"{byte:02x}" for byte in sequence))
-
-    def paste(self, text: bytes) -> None:
-        """Pastes bytes as they are, in brackets where they are asked for."""
-        self._tmux("load-buffer", "-", given=text)
-        self._tmux("paste-buffer", "-p", "-r")
-
-    def resize(self, width: int, height: int) -> None:
-        """Gives the terminal another size."""
-        self._tmux("resize-window", "-x", str(width), "-y", str(height))
-
-    def programs(self) -> list[int]:
-        """The processes that were started by what runs here."""
-        shell = int(self._tmux("display", "-p", "#{pane_pid}"))
-        return [child for command in children(shell) for child in children(command)]
-
-    def lines(self) -> list[str]:
-        """What the screen shows, without blanks at the ends of lines."""
-        return [line.rstrip() for line in self._tmux("capture-pane", "-p").split("\n")[:HEIGHT]]
-
-    def looks(self) -> str:
-        """What the screen shows, with its looks as sequences, but for colours."""
-        return re.sub("\x1b\\[[34][0-9]m", "", self._tmux("capture-pane", "-p", "-e"))
-
-    def shows(self, *lines: str) -> None:
-        """Waits until the screen begins with these lines and shows no more of the note."""
-        wanted = [*lines] + [""] * (HEIGHT - 1 - len(lines))
-        try:
-            wait_for(lambda: self.lines()[:-1] == wanted, "")
-        except AssertionError:
-            raise AssertionError(f"waited for {lines}, and saw {self.lines()}") from None
-
-    def sees(self, words: str) -> None:
-        """Waits until the screen has words somewhere."""
-        try:
-            wait_for(lambda: words in "\n".join(self.lines()), "")
-        except AssertionError:
-            raise AssertionError(f"waited for {words!r}, and saw {self.lines()}") from None
-
-    def cursor_is(self, column: int, line: int) -> None:
-        """Waits until the cursor is there."""
-        wait_for(lambda: self._tmux("display", "-p", "#{cursor_x} #{cursor_y}") == f"{column} {line}\n",
-                 f"the cursor at {column}, {line}")
-
-
-def children(process: int) -> list[int]:
-    """The processes that the threads of a process started."""
-    lists = pathlib.Path(f"/proc/{process}/task").glob("*/children")
-    return [int(child) for threads in lists for child in threads.read_text().split()]
+from share.tests.support import Case, wait_for
+from share.tests.terminals import Terminal
 
 
 class Terminals(Case):

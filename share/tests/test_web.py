@@ -14,8 +14,8 @@ from unittest import mock
 import aiohttp
 
 from share.lines import MOST_LINE
-from share.tests.pages import Server, engine_of, talking
-from share.tests.support import TOP, Case, Person, wait_for
+from share.tests.pages import Server, talking
+from share.tests.support import TOP, Case, Person, engine_of, wait_for
 from share.web import guard
 from share.web.bridge import MOST_MESSAGE, NO_FIELDS, Assembler, refusal
 from share.web.opening import redirect

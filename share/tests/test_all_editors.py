@@ -1,0 +1,302 @@
+"""A terminal, Emacs, Neovim and a page of Chromium are at one note. In each somebody types, deletes and takes back at
+random, while the log is stopped and started, and editors and engines are killed: each word that nobody deleted stands
+once in one text, which all have.
+
+    SHARE_SECONDS=300 SHARE_SEED=7 share/tests/run test_all_editors
+"""
+import os
+import random
+import re
+import shutil
+import subprocess
+import threading
+import time
+from collections.abc import Callable
+from concurrent.futures import ThreadPoolExecutor
+from dataclasses import dataclass
+from functools import partial
+
+from share.tests.support import NOTE, Case, RedisServer, wait_for, written
+from share.tests.writers import PATIENCE, Cut, Emacs, Neovim, OwnEditor, PageInChromium, Writer, kill_editor, kill_engine
+
+SECONDS = float(os.environ.get("SHARE_SECONDS", "0"))
+SEED = int(os.environ.get("SHARE_SEED", "1"))
+# How long all write before they meet.
+ROUND_SECONDS = (2.0, 8.0) if SECONDS else (1.0, 1.5)
+EDITORS: list[type[Writer]] = [OwnEditor, Emacs, Neovim, PageInChromium]
+WORD = re.compile(r"[tenp]\d{4}[abc]*\.|begin\.")
+
+
+@dataclass
+class Word:
+    """A word of the text, and what is known of it."""
+
+    text: str
+    # Who alone may delete it, or take it back, as long as not all have met.
+    holder: "Author"
+    # None where somebody was killed meanwhile: then the text says it when all have met.
+    is_there: bool | None = None
+    # Whether nothing has happened to it since all have met, but that it was typed.
+    is_fresh: bool = True
+
+
+@dataclass
+class Step:
+    """An edit that can be taken back: a word that was typed, or one that was deleted."""
+
+    word: Word
+    typed: bool
+
+
+class Author:
+    """Who writes in an editor. What an author does with a word is known before it is done, so that what is to come of
+    all is known, too."""
+
+    def __init__(self, writer: Writer, words: list[Word], deciding: threading.Lock, chance: random.Random):
+        self.writer, self.words, self._deciding, self._chance = writer, words, deciding, chance
+        # What can be taken back, the last edit last.
+        self.steps: list[Step] = []
+        self._typed = 0
+        self.did = {"typed": 0, "deleted": 0, "taken back": 0, "killed": 0}
+
+    def write(self, end: float) -> None:
+        """Writes until it is so late."""
+        while time.monotonic() < end:
+            try:
+                self._act()
+            except Cut:
+                self.recover()
+            time.sleep(self._chance.random() * 0.1)
+
+    def recover(self) -> None:
+        """Opens the note again. Nothing can be taken back then that was done before."""
+        self.did["killed"] += 1
+        self.steps.clear()
+        self.writer.recover()
+
+    def _act(self) -> None:
+        what = self._chance.random()
+        if what < 0.15 and self.steps:
+            self.undo()
+        elif what < 0.35:
+            self._delete_some()
+        else:
+            self.type()
+
+    def type(self) -> None:
+        """Types a word at the begin of some line, which is a place where no word is cut in two."""
+        self._typed += 1
+        tail = "".join(self._chance.choices("abc", k=self._chance.randrange(4)))
+        word = Word(f"{self.writer.tag}{self._typed:04}{tail}.", self)
+        with self._deciding:
+            self.words.append(word)
+        lines = self.writer.seen().text.count("\n") + 1
+        self.writer.go_to(self._chance.randint(1, lines))
+        rest = f"{word.text}\n"
+        while rest:
+            many = self._chance.choice((1, 1, 2, len(rest)))
+            self.writer.type(rest[:many])
+            rest = rest[many:]
+            time.sleep(self._chance.random() * 0.03)
+        self._waits_for(word, True, "typed")
+        self.steps.append(Step(word, True))
+
+    def _delete_some(self) -> None:
+        """Deletes an own word, or one of somebody else's."""
+        shown = self.writer.seen().text
+        with self._deciding:
+            may = [word for word in self.words if word.is_there and word.text in shown
+                   and (word.holder is self or word.is_fresh)]
+            own = [word for word in may if word.holder is self]
+            found = self._chance.choice(own if own and self._chance.random() < 0.6 else may) if may else None
+            if found:
+                found.holder, found.is_fresh = self, False
+        if found:
+            self.delete(found)
+
+    def delete(self, word: Word) -> None:
+        """Deletes a word."""
+        with self._deciding:
+            word.holder, word.is_fresh, word.is_there = self, False, None
+        self.writer.delete(word.text)
+        self._waits_for(word, False, "deleted")
+        self.steps.append(Step(word, False))
+
+    def undo(self) -> None:
+        """Takes back the last edit, unless that is another one's to change."""
+        with self._deciding:
+            word, typed = self.steps[-1].word, self.steps[-1].typed
+            if word.holder is not self or word.is_there is not typed:
+                return
+            word.is_fresh, word.is_there = False, None
+        self.steps.pop()
+        self.writer.undo()
+        self._waits_for(word, not typed, "taken back")
+
+    def undo_what_is_gone(self) -> None:
+        """Takes back the typing of a word that another one has deleted, while nobody else writes: its line end goes."""
+        lines = self.writer.seen().text.count("\n")
+        self.steps.pop()
+        self.writer.undo()
+        self.writer.wait_for(lambda state: state.text.count("\n") == lines - 1, "a line end less")
+
+    def _waits_for(self, word: Word, is_there: bool, what: str) -> None:
+        """Waits until the editor shows what it is told to, and all is answered."""
+        self.writer.wait_for(lambda state: (word.text in state.text) is is_there and state.quiet, f"{what} {word.text}")
+        word.is_there = is_there
+        self.did[what] += 1
+
+
+class FileLog:
+    """A log in a file, whose folder goes away and comes back."""
+
+    def __init__(self, case: Case):
+        self.url = case.file_log()
+        self._shared, self._away = case.folder / "shared", case.folder / "away"
+
+    def kill(self) -> None:
+        """Has nobody reach the log."""
+        os.rename(self._shared, self._away)
+        self._shared.write_text("no folder")
+
+    def start(self) -> None:
+        """Has all reach it again."""
+        self._shared.unlink()
+        os.rename(self._away, self._shared)
+
+
+class AllEditors(Case):
+    """Two people, each with two editors."""
+
+    def setUp(self) -> None:
+        super().setUp()
+        self.chance = random.Random(SEED)
+        self.log: RedisServer | FileLog = self.redis() if SEED % 3 else FileLog(self)
+        first = self.person("ada").open(url=self.log.url)
+        written(first, "begin.\r")
+        first.session.close()
+        link = self.person("ada").link()
+        self.words: list[Word] = []
+        # The words that were being typed as something was killed: parts of them may be there.
+        self.broken: set[str] = set()
+        deciding = threading.Lock()
+        people = ["ada", "ada", "bo", "bo"]
+        self.chance.shuffle(people)
+
+        def opened(kind: type[Writer], person: str) -> Writer:
+            return kind(self, person, link)
+
+        with ThreadPoolExecutor() as threads:
+            writers = [*threads.map(opened, EDITORS, people)]
+        self.authors = [Author(writer, self.words, deciding, random.Random(self.chance.random())) for writer in writers]
+
+    def test_what_nobody_deleted_stands_once(self) -> None:
+        began, rounds = time.monotonic(), 0
+        kinds: list[object] = []
+        while rounds <= len(EDITORS) or time.monotonic() < began + SECONDS:
+            if not kinds:
+                kinds = [*self.authors, None]
+                self.chance.shuffle(kinds)
+            self.round(kinds.pop())
+            rounds += 1
+            self.meet()
+            self.take_back_what_another_deleted()
+            text = self.meet()
+        for author in self.authors:
+            print(author.writer.tag, author.writer.person, author.did)
+        print(f"{rounds} rounds in {time.monotonic() - began:.0f} s, {len(self.words)} words, {len(text)} bytes")
+        for author in self.authors:
+            author.writer.close()
+        for person in "ada", "bo":
+            self.assertEqual(self.cat(person), text)
+
+    def round(self, killed: object) -> None:
+        """Has all write, while an author's editor is killed, or somebody's engine; and the log is away, perhaps."""
+        seconds = self.chance.uniform(*ROUND_SECONDS)
+        end = time.monotonic() + seconds
+        first, last, when = (self.chance.random() * seconds for _ in range(3))
+        works: list[Callable[[], None]] = [*(partial(author.write, end) for author in self.authors),
+                                           partial(self.kill, killed, when)]
+        if self.chance.random() < 0.6:
+            works.append(partial(self.away, min(first, last), max(first, last)))
+        with ThreadPoolExecutor(len(works)) as threads:
+            for done in [threads.submit(work) for work in works]:
+                done.result()
+        for author in self.authors:
+            if author.writer.is_cut:
+                author.recover()
+
+    def kill(self, killed: object, seconds: float) -> None:
+        """Kills an author's editor, or somebody's engine, in so long."""
+        time.sleep(seconds)
+        if isinstance(killed, Author):
+            kill_editor(killed.writer)
+        else:
+            person = self.chance.choice(["ada", "bo"])
+            kill_engine([author.writer for author in self.authors if author.writer.person == person])
+
+    def away(self, begin: float, end: float) -> None:
+        """Has the log be away from a moment of a round to another one, and a while longer."""
+        time.sleep(begin)
+        self.log.kill()
+        time.sleep(end - begin + 0.5)
+        self.log.start()
+
+    def take_back_what_another_deleted(self) -> None:
+        """One deletes a word of another's, who takes its typing back: it stays gone. It comes back where the deletion is
+        taken back."""
+        author, other = self.chance.sample(self.authors, 2)
+        if not author.steps or not author.steps[-1].typed or not author.steps[-1].word.is_there:
+            return
+        other.delete(author.steps[-1].word)
+        self.meet()
+        author.undo_what_is_gone()
+        self.meet()
+        if self.chance.random() < 0.5:
+            other.undo()
+
+    def meet(self) -> str:
+        """Waits until all show the same; that, which has what it has to have."""
+        def are_alike() -> bool:
+            states = [author.writer.seen() for author in self.authors]
+            return all(state.quiet for state in states) and len({state.text for state in states}) == 1
+        try:
+            wait_for(are_alike, "all to show the same", PATIENCE)
+        except AssertionError as why:
+            raise AssertionError(f"{why}: {[author.writer.looks() for author in self.authors]}") from why
+        text = self.authors[0].writer.seen().text
+        self.check(text)
+        self.assertEqual(self.cat(self.chance.choice(["ada", "bo"])), text)
+        return text
+
+    def check(self, text: str) -> None:
+        """That a text has each word once that nobody deleted, and what was broken off; and that each editor may change
+        again what is its."""
+        found = WORD.findall(text)
+        self.assertEqual(len(found), len(set(found)), f"some words stand twice: {text}")
+        for word in self.words:
+            if word.is_there is None:
+                self.broken.add(word.text)
+                word.is_there = word.text in found
+        lacks = [word.text for word in self.words if word.is_there and word.text not in found]
+        again = [word.text for word in self.words if not word.is_there and word.text in found]
+        self.assertEqual(([], []), (lacks, again), f"words that are missing, and that were deleted, of {text}")
+        for part in WORD.sub(" ", text).split():
+            self.assertTrue(self.is_broken(part), f"{part!r} in {text}")
+        for word in self.words:
+            author = next(one for one in self.authors if one.writer.tag == word.text[0])
+            if word.is_there and not any(step.word is word for step in word.holder.steps):
+                word.holder = author
+            word.is_fresh = True
+
+    def is_broken(self, part: str) -> bool:
+        """Whether something is the begin of words that were being typed as something was killed."""
+        return not part or any(part.startswith(word[:size]) and self.is_broken(part[size:])
+                               for word in self.broken for size in range(1, len(word)))
+
+    def cat(self, person: str) -> str:
+        """What bin/note cat says."""
+        done = subprocess.run([NOTE, "cat", "note"], capture_output=True, timeout=PATIENCE, check=False,
+                              env={**os.environ, "VIALSHOAL_DATA": str(self.folder / person)})
+        self.assertEqual((done.returncode, done.stderr), (0, b""))
+        return done.stdout.decode()

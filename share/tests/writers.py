@@ -1,0 +1,447 @@
+"""Editors that somebody writes in, each with the note open that is called `note`: a terminal's, Emacs, Neovim, and a page
+in Chromium. All are driven by keys, and can be killed at any moment."""
+import contextlib
+import json
+import os
+import pathlib
+import shlex
+import shutil
+import signal
+import subprocess
+import threading
+import time
+from abc import ABC, abstractmethod
+from collections.abc import Callable, Iterable, Iterator
+from typing import Any, NamedTuple
+
+from selenium.common.exceptions import WebDriverException
+from selenium.webdriver.common.keys import Keys
+from urllib3.exceptions import HTTPError
+
+from share.tests.browser import MIRROR, Browser, Window
+from share.tests.pages import Server
+from share.tests.support import NOTE, TOP, Case, engine_of, wait_for
+from share.tests.terminals import Terminal, children
+
+EDITORS = TOP / "editors"
+PATIENCE = 120
+# An editor starts its engine anew if that ended no sooner.
+STEADY_SECONDS = 2.5
+CALL_SECONDS = 60
+# What an Emacs tells of a note in its buffer, and how a person starts it.
+EMACS = """(progn
+  (setq server-socket-dir "%s" vialshoal-command (list "%s"))
+  (server-start)
+  (defun state () (with-current-buffer "*note note*" (save-restriction (widen)
+    (json-serialize (list
+      :text (buffer-substring-no-properties (point-min) (point-max))
+      :quiet (if (and (null vialshoal--changes) (= vialshoal--made vialshoal--answered)) t :false)
+      :types (if (and vialshoal--is-open (not buffer-read-only)) t :false)
+      :session (format "%%s" (process-id vialshoal--process)))))))
+  (vialshoal-open "note"))"""
+NEOVIM = """
+  vim.opt.runtimepath:prepend('%s')
+  vim.o.cmdheight, vim.o.laststatus = 3, 2
+  vim.cmd('runtime plugin/vialshoal.lua | Vialshoal note')
+  function state()
+    local note = require('vialshoal').note()
+    local lines = vim.api.nvim_buf_get_lines(note.buffer, 0, -1, false)
+    return vim.json.encode({
+      text = require('vialshoal.text').join(lines, note.has_end),
+      quiet = #note.changes == 0 and not note.is_unsure and note.made == note.answered,
+      types = note.is_open and vim.bo[note.buffer].modifiable, session = tostring(note.job and vim.fn.jobpid(note.job)) })
+  end"""
+# Has Neovim take commands. Esc with a key right behind it would be Alt with that key.
+NORMAL = "C-\\", "C-n"
+# The page asks whoever leaves it where an edit is unanswered.
+PAGE = """{ text: MIRROR.getValue(), types: !MIRROR.getOption("readOnly"), session: document.title,
+  quiet: window.dispatchEvent(new Event("beforeunload", { cancelable: true })) }""".replace("MIRROR", MIRROR)
+DELETING = """((word) => {
+  const at = MIRROR.getValue().indexOf(word);
+  MIRROR.setSelection(MIRROR.posFromIndex(at), MIRROR.posFromIndex(at + word.length));
+  MIRROR.execCommand("delCharAfter");
+})(arguments[0])""".replace("MIRROR", MIRROR)
+
+
+class Cut(Exception):
+    """The editor, or its engine, was killed."""
+
+
+class Silent(Exception):
+    """The editor doesn't say what it has."""
+
+
+class State(NamedTuple):
+    """What an editor has: its text; whether all that was typed is answered, and whether one can type; and what tells this
+    opening of the note from others."""
+
+    text: str
+    quiet: bool
+    types: bool
+    session: str
+
+
+class Writer(ABC):
+    """An editor, at the data folder of a person, who joins by a link."""
+
+    tag = ""
+
+    def __init__(self, case: Case, data: str, link: str):
+        self.case, self.data, self.link = case, case.folder / data, link
+        self.person = data
+        # Who holds this lets no key through.
+        self.keys = threading.Lock()
+        # Whether it, or its engine, was killed, and nobody has looked after it yet.
+        self.is_cut = False
+        self._session, self.opened_at = "", 0.0
+        self.start()
+        self._wait_until_it_types()
+
+    @abstractmethod
+    def start(self) -> None:
+        """Opens the note."""
+
+    @abstractmethod
+    def state(self) -> State:
+        """What it has."""
+
+    @abstractmethod
+    def go_to(self, line: int) -> None:
+        """Goes to the begin of a line, which count from 1."""
+
+    @abstractmethod
+    def type(self, words: str) -> None:
+        """Types characters, and line ends."""
+
+    @abstractmethod
+    def delete(self, word: str) -> None:
+        """Deletes a word, which stands once in the text."""
+
+    @abstractmethod
+    def undo(self) -> None:
+        """Takes back the last edit that was made here."""
+
+    @abstractmethod
+    def processes(self) -> list[int]:
+        """What is to be killed of it."""
+
+    @abstractmethod
+    def goes_on(self) -> bool:
+        """Whether it runs still, and opens a note anew whose engine has ended. Puts away what was begun."""
+
+    def marked(self, session: str) -> str:
+        """Has this opening be told from others; by what."""
+        return session
+
+    def close(self) -> None:
+        """Ends what is left of it."""
+
+    @contextlib.contextmanager
+    def pressing(self) -> Iterator[None]:
+        """Presses keys, as long as the editor and its engine live."""
+        with self.keys:
+            if self.is_cut:
+                raise Cut
+            yield
+
+    def wait_for(self, condition: Callable[[State], bool], what: str) -> State:
+        """Waits until its state is so. Cut where it is killed meanwhile."""
+        def is_so() -> State | None:
+            if self.is_cut:
+                raise Cut
+            with contextlib.suppress(Silent):
+                state = self.state()
+                return state if condition(state) else None
+            return None
+        return self._waits(is_so, what)
+
+    def seen(self) -> State:
+        """What it has, as soon as it says so."""
+        return self.wait_for(lambda state: True, "a state")
+
+    def _waits(self, is_so: Callable[[], State | None], what: str) -> State:
+        try:
+            found: State = wait_for(is_so, f"{self.tag} to have {what}", PATIENCE)
+            return found
+        except AssertionError as why:
+            raise AssertionError(f"{why}: {self.looks()}") from why
+
+    def looks(self) -> str:
+        """What is to be told where something is wrong."""
+        try:
+            return str(self.state())
+        except (Cut, Silent) as why:
+            return repr(why)
+
+    def recover(self) -> None:
+        """Has the note open again, after this or its engine was killed."""
+        goes_on = self.goes_on()
+        # From now on keys are pressed again.
+        self.is_cut = False
+        if not goes_on:
+            self.close()
+            self.start()
+        self._wait_until_it_types()
+
+    def _wait_until_it_types(self) -> None:
+        """Waits until the note is open anew."""
+        def types() -> State | None:
+            with contextlib.suppress(Cut, Silent):
+                state = self.state()
+                return state if state.types and state.session != self._session else None
+            return None
+        self._session = self.marked(self._waits(types, "the note open").session)
+        self.opened_at = time.monotonic()
+
+    def called(self, *words: str) -> str:
+        """What a command says that talks to this editor."""
+        done = subprocess.run(words, stdin=subprocess.DEVNULL, stdout=subprocess.PIPE, stderr=subprocess.STDOUT, text=True,
+                              timeout=CALL_SECONDS, check=False)
+        if done.returncode:
+            raise Silent(f"{words}: {done.stdout}")
+        return done.stdout
+
+
+def kill(writers: Iterable[Writer], processes: Callable[[], Iterable[int]]) -> None:
+    """Kills processes, by which these editors are cut. No key is pressed meanwhile, and none until they have recovered.
+    """
+    with contextlib.ExitStack() as stack:
+        for writer in writers:
+            stack.enter_context(writer.keys)
+            writer.is_cut = True
+        for process in processes():
+            with contextlib.suppress(ProcessLookupError):
+                os.kill(process, signal.SIGKILL)
+            wait_for(lambda one=process: not runs(one), "a process to end", PATIENCE)
+
+
+def runs(process: int) -> bool:
+    """Whether a process hasn't ended."""
+    try:
+        return pathlib.Path(f"/proc/{process}/stat").read_text(encoding="utf-8").rpartition(") ")[2][0] != "Z"
+    except (FileNotFoundError, ProcessLookupError):
+        return False
+
+
+def kill_editor(writer: Writer) -> None:
+    """Kills an editor; its engine lives on, or ends as after the last one."""
+    kill([writer], writer.processes)
+
+
+def kill_engine(writers: list[Writer]) -> None:
+    """Kills the engine that these editors share."""
+    time.sleep(max(0.0, max(one.opened_at for one in writers) + STEADY_SECONDS - time.monotonic()))
+    kill(writers, lambda: [engine_of(writers[0].data)])
+
+
+class InTerminal(Writer):
+    """An editor at a terminal of its own."""
+
+    terminal: Terminal
+    command, begins = NOTE, ""
+    words: tuple[str, ...] = ()
+
+    def start(self) -> None:
+        self.terminal = Terminal(self.case, self.person, *self.words, command=self.command, begins=self.begins,
+                                 link=self.link)
+        self._process = self.terminal.commands()[0]
+
+    def press(self, *keys: str) -> None:
+        """Presses keys by their names."""
+        with self.pressing():
+            self.terminal.press(*keys)
+
+    def type(self, words: str) -> None:
+        for part in words.splitlines(keepends=True):
+            with self.pressing():
+                if part.strip("\n"):
+                    self.terminal.type(part.strip("\n"))
+                if part.endswith("\n"):
+                    self.terminal.press("Enter")
+
+    def processes(self) -> list[int]:
+        return [self._process]
+
+    def looks(self) -> str:
+        return f"{self.terminal.lines()}, {super().looks()}"
+
+    def close(self) -> None:
+        self.terminal.close()
+
+
+class OwnEditor(InTerminal):
+    """The editor that bin/note has itself. It says what it has by saving it."""
+
+    tag, begins, words = "t", "site ", ("note",)
+    _saved = 0
+
+    def state(self) -> State:
+        self._saved += 1
+        path = self.case.folder / f"{self.tag}{self._saved}"
+        self.press("C-s", *["BSpace"] * len("note.txt"))
+        self.type(f"{path}\n")
+        end = time.monotonic() + CALL_SECONDS
+        while not path.exists():
+            if self.is_cut:
+                raise Cut
+            if time.monotonic() > end:
+                raise Silent(f"{path} isn't saved")
+            time.sleep(0.01)
+        try:
+            return State(path.read_text(encoding="utf-8"), True, True, str(self._process))
+        finally:
+            path.unlink()
+
+    def go_to(self, line: int) -> None:
+        self.press("C-l")
+        self.type(f"{line}\n")
+
+    def delete(self, word: str) -> None:
+        self.press("C-r")
+        self.type(f"{word}\n\n")
+
+    def undo(self) -> None:
+        self.press("C-z")
+
+    def goes_on(self) -> bool:
+        # Where the engine has ended it says so, and is to be left.
+        return False
+
+
+class Emacs(InTerminal):
+    """Emacs with its package."""
+
+    tag, begins = "e", "*note note*"
+
+    def start(self) -> None:
+        # A name in a folder of its own, since a socket's path may not be long.
+        self._socket = pathlib.Path(self.case.folder) / f"{self.tag}-{self.person}"
+        shutil.rmtree(self._socket, ignore_errors=True)
+        self._socket.mkdir(mode=0o700)
+        self.command = shlex.join(["emacs", "-nw", "-Q", "-L", str(EDITORS / "emacs"), "-l", "vialshoal", "-l", "server",
+                                   "--eval", EMACS % (self._socket, NOTE)])
+        super().start()
+        wait_for((self._socket / "server").exists, "Emacs to listen", PATIENCE)
+
+    def state(self) -> State:
+        # A string of Lisp is one of JSON where it has no line end.
+        return State(**json.loads(json.loads(self.called("emacsclient", "-s", str(self._socket / "server"), "--eval", "(state)"))))
+
+    def go_to(self, line: int) -> None:
+        self.press("M-g", "g")
+        self.type(f"{line}\n")
+
+    def delete(self, word: str) -> None:
+        self.press("M-<", "M-x")
+        self.type(f"replace-string\n{word}\n\n")
+
+    def undo(self) -> None:
+        self.press("C-_")
+
+    def goes_on(self) -> bool:
+        self.terminal.press("Escape", "Escape", "Escape")
+        return runs(self._process)
+
+
+class Neovim(InTerminal):
+    """Neovim with its plug-in."""
+
+    tag, begins = "n", "vialshoal://note"
+
+    def start(self) -> None:
+        self._socket = pathlib.Path(self.case.folder) / f"{self.tag}-{self.person}"
+        self._socket.unlink(missing_ok=True)
+        script = self._socket.with_suffix(".lua")
+        script.write_text(NEOVIM % (EDITORS / "neovim"), encoding="utf-8")
+        self.command = shlex.join(["nvim", "-u", "NONE", "-i", "NONE", "-n", "--listen", str(self._socket), "-c",
+                                   f"luafile {script}"])
+        super().start()
+
+    def state(self) -> State:
+        return State(**json.loads(self.called("nvim", "--server", str(self._socket), "--remote-expr", "luaeval('state()')")))
+
+    def go_to(self, line: int) -> None:
+        self.press(*NORMAL)
+        self.type(f"{line}G0i")
+
+    def delete(self, word: str) -> None:
+        self.press(*NORMAL)
+        self.type(f":%s/\\V{word}//\n")
+
+    def undo(self) -> None:
+        self.press(*NORMAL)
+        self.type("u")
+
+    def goes_on(self) -> bool:
+        self.terminal.press(*NORMAL)
+        return runs(self._process)
+
+
+class PageInChromium(Writer):
+    """The page in a Chromium of its own."""
+
+    tag = "p"
+    _profiles = 0
+    _server: Server | None = None
+    _browser: Browser | None = None
+    _window: Window
+
+    def start(self) -> None:
+        if self._server is None:
+            self._server = Server(self.data, "--no-browser", VIALSHOAL_LINK=self.link)
+            self.case.addCleanup(self._server.close)
+        if self._browser is None:
+            self._profiles += 1
+            self._browser = Browser(profile=self.case.folder / f"profile-{self._profiles}")
+            self.case.addCleanup(self.close)
+        self._window = self._browser.open(self._server.path)
+
+    def state(self) -> State:
+        return State(**self._run(PAGE))
+
+    def go_to(self, line: int) -> None:
+        self._run(f"{MIRROR}.setCursor(arguments[0], 0)", line - 1)
+
+    def type(self, words: str) -> None:
+        with self.pressing(), self._driven():
+            self._window.type(words)
+
+    def marked(self, session: str) -> str:
+        # The page has the note's name again when that is opened anew.
+        return str(self._run("(document.title = arguments[0])", f"{session} known"))
+
+    def delete(self, word: str) -> None:
+        with self.pressing():
+            self._run(DELETING, word)
+
+    def undo(self) -> None:
+        with self.pressing(), self._driven():
+            self._window.type(Keys.CONTROL, "z")
+
+    def processes(self) -> list[int]:
+        assert self._browser
+        driver = self._browser.driver.service.process.pid
+        return [*children(driver), driver]
+
+    def goes_on(self) -> bool:
+        assert self._browser
+        return runs(self._browser.driver.service.process.pid)
+
+    def close(self) -> None:
+        if browser := self._browser:
+            self._browser = None
+            with contextlib.suppress(WebDriverException, HTTPError, OSError):
+                browser.close()
+
+    def _run(self, script: str, *words: object) -> Any:
+        with self._driven():
+            return self._window.run(script, *words)
+
+    @contextlib.contextmanager
+    def _driven(self) -> Iterator[None]:
+        try:
+            yield
+        except (WebDriverException, HTTPError, OSError) as why:
+            if self.is_cut:
+                raise Cut from why
+            raise Silent(str(why)) from why
