@@ -175,9 +175,9 @@ class Writer(ABC):
 
     def recover(self) -> None:
         """Has the note open again, after this or its engine was killed."""
-        goes_on = self.goes_on()
-        # From now on keys are pressed again.
-        self.is_cut = False
+        with self.keys:
+            # What is to be killed has been. From now on keys are pressed again.
+            goes_on, self.is_cut = self.goes_on(), False
         if not goes_on:
             self.close()
             self.start()
