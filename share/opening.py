@@ -8,7 +8,6 @@ from collections.abc import Callable, Iterable, Mapping, Sequence
 from itertools import count
 from typing import NamedTuple
 
-from share import link as links
 from share import old, reading
 from share.disk import About, Client, Damaged, Disk, Row, make
 from share.entry import GREATEST_SITE, NOTE_BYTES, Entry, Form, in_entries

@@ -1,6 +1,6 @@
 """What an editor can take back of its own, and do again, by the characters' names: nobody else's text is touched."""
 from bisect import bisect_right
-from collections.abc import Iterable, Iterator, Sequence
+from collections.abc import Iterable, Iterator
 from dataclasses import dataclass, field
 from itertools import accumulate
 

@@ -7,7 +7,6 @@ once in one text, which all have.
 import os
 import random
 import re
-import shutil
 import subprocess
 import threading
 import time

@@ -7,14 +7,13 @@ import shutil
 import signal
 import subprocess
 import sys
-import time
 from unittest import mock
 
 from share import installing
-from share.installing import LINKS, Place
+from share.installing import LINKS
 from share.program import command
 from share.tests.pages import Server
-from share.tests.support import TOP, Case, wait_for
+from share.tests.support import TOP, Case
 from share.tests.test_terminal import Terminal
 from share.words import Trouble
 

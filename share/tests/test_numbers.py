@@ -15,7 +15,7 @@ from share.message import Message, naming
 from share.tests.note import Note
 from share.program import Program
 from share.session import Session
-from share.tests.support import Case, Person, raws_of, type_at_the_end, wait_for, written
+from share.tests.support import Case, Person, type_at_the_end, wait_for, written
 
 
 class Numbers(Case):

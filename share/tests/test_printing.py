@@ -7,7 +7,6 @@ import subprocess
 import unittest
 from contextlib import closing
 
-from share.entry import Plain
 from share.message import DELETE, Names, naming
 from share.tests.support import NOTE, Case, Person, change, type_at_the_end, written
 

@@ -21,7 +21,7 @@ from share.message import DELETE, HEADER, INSERT, INSERTION, LENGTH, TAG, TEXT, 
 from share.tests.note import Note
 from share.tests.servers import Hostile
 from share.tests.servers import RedisServer as Server
-from share.tests.support import (NOTE, TOP, Case, Person, change, python, raws_of, type_at_the_end, wait_for,
+from share.tests.support import (NOTE, TOP, Case, Person, python, raws_of, type_at_the_end, wait_for,
                                  written)
 
 HUGE = 100_000_000
