@@ -4,35 +4,28 @@ use Rattle.std.specs.Fmt.{decimal}
 use Rattle.command_words.specs.declared.command.Command.{Command}
 use Rattle.command_words.specs.declared.command.Command.TheVariants as command
 
--- the word of each command
+-- the table of commands, a row each: the word, and whether it asks for a parameter
+abbrev pub row_of : Command → List ℕ × Bool
+row_of command.SystemOpen = (codes "System.Open", true)
+row_of command.SystemClose = (codes "System.Close", false)
+row_of command.EditOpen = (codes "Edit.Open", true)
+row_of command.EditLoad = (codes "Edit.Load", true)
+row_of command.EditStore = (codes "Edit.Store", true)
+row_of command.EditRecall = (codes "Edit.Recall", false)
+row_of command.EditRestore = (codes "Edit.Restore", false)
+row_of command.EditChangeFont = (codes "Edit.ChangeFont", true)
+row_of command.EditChangeColor = (codes "Edit.ChangeColor", true)
+row_of command.EditChangeOffset = (codes "Edit.ChangeOffset", true)
+row_of command.EditSearch = (codes "Edit.Search", true)
+row_of command.ShareForget = (codes "Share.Forget", false)
+
+-- the word of a command
 abbrev pub name_of : Command → List ℕ
-name_of command.SystemOpen = codes "System.Open"
-name_of command.SystemClose = codes "System.Close"
-name_of command.EditOpen = codes "Edit.Open"
-name_of command.EditLoad = codes "Edit.Load"
-name_of command.EditStore = codes "Edit.Store"
-name_of command.EditRecall = codes "Edit.Recall"
-name_of command.EditRestore = codes "Edit.Restore"
-name_of command.EditChangeFont = codes "Edit.ChangeFont"
-name_of command.EditChangeColor = codes "Edit.ChangeColor"
-name_of command.EditChangeOffset = codes "Edit.ChangeOffset"
-name_of command.EditSearch = codes "Edit.Search"
-name_of command.ShareForget = codes "Share.Forget"
+name_of c = (row_of c).0
 
 -- whether a command asks for a parameter
 abbrev pub has_parameter : Command → Bool
-has_parameter command.SystemOpen = true
-has_parameter command.SystemClose = false
-has_parameter command.EditOpen = true
-has_parameter command.EditLoad = true
-has_parameter command.EditStore = true
-has_parameter command.EditRecall = false
-has_parameter command.EditRestore = false
-has_parameter command.EditChangeFont = true
-has_parameter command.EditChangeColor = true
-has_parameter command.EditChangeOffset = true
-has_parameter command.EditSearch = true
-has_parameter command.ShareForget = false
+has_parameter c = (row_of c).1
 
 -- the text of the menu of a viewer on a text
 abbrev pub menu_of : (viewer text : ℕ) → List ℕ

@@ -1,5 +1,5 @@
 ghost use Rattle.std.specs.Prelude.{◌≡◌, ◌≢◌, None, IfSome, length, ◌<◌};
-ghost use Rattle.command_words.specs.Commands.{has_parameter, name_of};
+ghost use Rattle.command_words.specs.Commands.{has_parameter, name_of, row_of};
 
 /// A command that a text can call by its word. The forms are those of Project Oberon, chapter 4; the table is
 /// this project's own.
@@ -48,24 +48,31 @@ const COMMANDS: [Command; 12] = [
 ];
 
 impl Command {
+    // Its row of the table: its word, and whether it asks for a parameter.
+    fn row(self) -> (&'static [u8], bool)
+        ensures { (result.0.now, result.1) ≡ row_of self }
+    {
+        match self {
+            Command::SystemOpen => (b"System.Open", true),
+            Command::SystemClose => (b"System.Close", false),
+            Command::EditOpen => (b"Edit.Open", true),
+            Command::EditLoad => (b"Edit.Load", true),
+            Command::EditStore => (b"Edit.Store", true),
+            Command::EditRecall => (b"Edit.Recall", false),
+            Command::EditRestore => (b"Edit.Restore", false),
+            Command::EditChangeFont => (b"Edit.ChangeFont", true),
+            Command::EditChangeColor => (b"Edit.ChangeColor", true),
+            Command::EditChangeOffset => (b"Edit.ChangeOffset", true),
+            Command::EditSearch => (b"Edit.Search", true),
+            Command::ShareForget => (b"Share.Forget", false),
+        }
+    }
+
     /// Its word.
     pub fn name(self) -> &'static [u8]
         ensures { result.now ≡ name_of self }
     {
-        match self {
-            Command::SystemOpen => b"System.Open",
-            Command::SystemClose => b"System.Close",
-            Command::EditOpen => b"Edit.Open",
-            Command::EditLoad => b"Edit.Load",
-            Command::EditStore => b"Edit.Store",
-            Command::EditRecall => b"Edit.Recall",
-            Command::EditRestore => b"Edit.Restore",
-            Command::EditChangeFont => b"Edit.ChangeFont",
-            Command::EditChangeColor => b"Edit.ChangeColor",
-            Command::EditChangeOffset => b"Edit.ChangeOffset",
-            Command::EditSearch => b"Edit.Search",
-            Command::ShareForget => b"Share.Forget",
-        }
+        self.row().0
     }
 
     /// The command of this word, if there is one.
@@ -85,19 +92,6 @@ impl Command {
     pub fn has_parameter(self) -> bool
         ensures { result ≡ has_parameter self }
     {
-        match self {
-            Command::SystemClose
-            | Command::EditRecall
-            | Command::EditRestore
-            | Command::ShareForget => false,
-            Command::SystemOpen
-            | Command::EditOpen
-            | Command::EditLoad
-            | Command::EditStore
-            | Command::EditChangeFont
-            | Command::EditChangeColor
-            | Command::EditChangeOffset
-            | Command::EditSearch => true,
-        }
+        self.row().1
     }
 }
