@@ -167,6 +167,14 @@ impl PieceList {
         }
     }
 
+    // A law: so many characters are shown that they can be counted. A proof gets it by calling this, at no cost.
+    fn lemma_shown_is_countable(&self)
+        ensures { length (shown_chars (spelled self.now.items)) ≤ 2 ^ 40 }
+    {
+        let pieces = &self.pieces;
+        let _ = &pieces.ring;
+    }
+
     /// Puts a run, as one piece, directly behind its cause and the longest stretch of characters of greater
     /// key that follows the cause. Where the cause isn't the last of its piece, the piece is cut behind it.
     ///
@@ -186,21 +194,8 @@ impl PieceList {
         ensures err { OnErr result
             (self.new ≡ record { items = self.old.items; steps = compared cause }) }
     {
-        let found = self.locate_cause(cause);
-        self.pieces.reserve(2)?;
-        self.pieces.reserve_names(run.site, run.off + run.len)?;
-        let end = self.pieces.end_at(found);
-        let last = self.pieces.skip(&mut self.steps, end, run.key);
-        self.pieces.put(last, Piece::of_run(run));
-        Ok(())
-    }
-
-    // A law: so many characters are shown that they can be counted. A proof gets it by calling this, at no cost.
-    fn lemma_shown_is_countable(&self)
-        ensures { length (shown_chars (spelled self.now.items)) ≤ 2 ^ 40 }
-    {
-        let pieces = &self.pieces;
-        let _ = &pieces.ring;
+        let mut unread = Vec::new(self.alloc);
+        self.place_noting(run, cause, &mut unread)
     }
 
     /// `place`, which notes what comes: one insert.
@@ -220,14 +215,19 @@ impl PieceList {
         ensures steps { OnOk result
             (IsPutInGap cause (piece_of run) self.old.items self.new.items self.new.steps) }
         ensures errors { RefusedForMemoryAlone result }
-        ensures err { OnErr result
-            ((self.new.items ≡ self.old.items) × (note.new.items ≡ note.old.items)) }
+        ensures err { OnErr result ((self.new ≡ record { items = self.old.items; steps = compared cause })
+            × (note.new.items ≡ note.old.items)) }
         ensures noted { OnOk result (Notes (IsOfKind Insert)
             note.old.items note.new.items (appearances self.old.items) (appearances self.new.items)) }
     {
         let (site, off, len) = (run.site, run.off, run.len);
+        let found = self.locate_cause(cause);
         note.reserve(1)?;
-        self.place(run, cause)?;
+        self.pieces.reserve(2)?;
+        self.pieces.reserve_names(site, off + len)?;
+        let end = self.pieces.end_at(found);
+        let last = self.pieces.skip(&mut self.steps, end, run.key);
+        self.pieces.put(last, Piece::of_run(run));
         self.lemma_shown_is_countable();
         match Name::new(site, off) {
             Some(first) => note_run(note, self.shown_to(first), len),
