@@ -1,7 +1,8 @@
 -- What an own operation leaves, and what a Delete keeps.
-use Rattle.std.proofs.Common.{◌≡◌, ℕ, List, [], ◌∷◌, ◌++◌, map, refl}
-use Rattle.std.specs.Prelude.{slice_range}
+use Rattle.std.proofs.Common.{◌≡◌, ℕ, List, [], ◌∷◌, ◌++◌, map, refl, subst}
+use Rattle.std.specs.Prelude.{slice_range, All}
 use Rattle.std.proofs.lemmas.List.{drop-map, take-map}
+use Rattle.std.proofs.lemmas.List.Elements.{All-push}
 use Rattle.char_files.specs.Stretch.{Item}
 use Rattle.char_files.specs.declared.character.Char.{Char}
 use Rattle.operations.specs.NameSet.{Range}
@@ -10,7 +11,7 @@ use Rattle.texts.specs.Edit.{with_operation}
 use Rattle.texts.specs.Order.{order_after}
 use Rattle.texts.specs.Taking.{HasTaken}
 use Rattle.texts.specs.Text.{AreCharNames, IsText}
-use Rattle.texts.specs.TextState.{TextState}
+use Rattle.texts.specs.TextState.{TextState, state_of}
 use Rattle.texts.proofs.OwnStep.{char_stays}
 use Rattle.texts.proofs.Taking.{taken_is_one}
 
@@ -24,6 +25,27 @@ items_between chars beg end = simp (take-map, drop-map)
 pub kept_grows : (ops : List Operation) (op : Operation) (names : List Range) → AreCharNames ops names
     → AreCharNames (ops ++ op ∷ []) names
 kept_grows ops op names kept c among = char_stays ops op c (kept c among)
+
+-- all are of this text, and the names are characters' still, with an operation of the text more
+pub kept_with : (text : ℕ) (ops room : List Operation) (names : List Range) (op : Operation) → op.text ≡ text
+    → All (λ o. o.text ≡ text) ops × All (λ o. o.text ≡ text) room × AreCharNames ops names
+    → All (λ o. o.text ≡ text) (ops ++ op ∷ []) × All (λ o. o.text ≡ text) room × AreCharNames (ops ++ op ∷ []) names
+kept_with text ops room names op own (taken, waiting, kept) =
+    (All-push (λ (o : Operation). o.text ≡ text) ops op taken own, waiting, kept_grows ops op names kept)
+
+-- what a replica is seen as has taken an operation in, where its operations are that many more
+pub grown_by_one : (text site : ℕ) (ops ops' : List Operation) (chars chars' : List Char) (room : List Operation)
+    (stretch : List Item) (names : List Range) (asked asked' : ℕ) (op : Operation) (t : TextState)
+    → state_of text site ops chars room stretch names asked ≡ t → ops' ≡ ops ++ op ∷ [] → asked' ≡ asked
+    → IsText (state_of text site ops' chars' room stretch names asked')
+    → HasTaken t op (state_of text site ops' chars' room stretch names asked')
+grown_by_one text site ops ops' chars chars' room stretch names asked asked' op t seen more same is =
+    let new : TextState = state_of text site ops' chars' room stretch names asked' in
+    record {
+      is = is;
+      grown = subst (λ (u : TextState). new ≡ record u { operations = u.operations ++ op ∷ []; order = chars' }) seen
+          (λ k. record new { operations = more k; asked = same k });
+    }
 
 -- taking an own operation in leaves its characters as they are defined
 pub taken_is_own : (t : TextState) (op : Operation) → IsText t → op.text ≡ t.text

@@ -1,12 +1,9 @@
 ghost use Rattle.std.specs.Prelude.{◌≡◌, ◌<◌, ◌≤◌, ◌++◌, ◌↔◌, length, slice_get, slice_range, Some, IfSome, IfOk};
 ghost use Rattle.std.specs.Prelude.{◌≢◌, AllPairs, IsSome};
-ghost use Rattle.std.specs.Prelude.{OnOk, OnErr};
 ghost use Rattle.looks.specs.Refusal.{RefusedForMemoryAlone};
 ghost use Rattle.set_laws.specs.Fronts.{AreSites, front_of};
-ghost use Rattle.set_laws.specs.Verdict.{ready};
 ghost use Rattle.tree_order.specs.Shown.{IsPlace};
 ghost use Rattle.texts.specs.Edit.{anchor_before};
-ghost use Rattle.texts.specs.Taking.{HasTaken, IsJudged};
 ghost use Rattle.texts.specs.Text.{IsAnchor, IsText};
 ghost use Rattle.texts.specs.TextState.{all_told, empty_text, shown_of};
 ghost use Rattle.taken_text.specs.Noted.{AreChangesSince};
@@ -209,17 +206,5 @@ impl Replica {
         ensures asked { self.new ≡ all_told self.old }
     {
         self.taken.changes()
-    }
-
-    // Takes in an operation that is ready. An `Err` changes nothing.
-    fn add(&mut self, op: Op) -> Result<(), Refusal>
-        requires { IsJudged self.old op ready }
-        ensures ok { OnOk result (HasTaken self.old op self.new) }
-        ensures errors { RefusedForMemoryAlone result }
-        ensures err { OnErr result (self.new ≡ self.old) }
-    {
-        self.taken.add(op)?;
-        self.is_text();
-        Ok(())
     }
 }

@@ -4,7 +4,7 @@ ghost use Rattle.std.specs.Prelude.{◌≡◌, ◌-◌, ◌<◌, ◌≤◌, ◌�
 ghost use Rattle.std.specs.Prelude.{IsErrOf};
 ghost use Rattle.looks.specs.Refusal.{RefusedForMemoryAlone};
 ghost use Rattle.char_files.specs.declared.TheConstants.{MAX_FILE};
-ghost use Rattle.texts.specs.Edit.{deletion, insertion, looks_change, restoration};
+ghost use Rattle.texts.specs.Edit.{deletion, looks_change, restoration};
 ghost use Rattle.texts.specs.Outcome.{EditsSending};
 ghost use Rattle.texts.specs.TextState.{shown_items, shown_of};
 
@@ -16,33 +16,6 @@ use char_files::Buffer;
 use looks::{Looks, Refusal, Sel};
 
 impl Replica {
-    /// Puts a stretch behind the first `pos` characters shown: an Insert for each stretch of equal looks, and for
-    /// each 4,096 bytes of it, each later one behind the one before it.
-    ///
-    /// Answers how many messages it added to the Outbox. Each Insert is refused, in this order, `Behind` where an
-    /// operation that waits shows that the site has gone further elsewhere, `SeqSpent` after the site's last seq,
-    /// `StampsSpent` after the greatest stamp, `FileSpent` where the site's file would pass 2^24 bytes, and
-    /// `OutOfMemory`. An empty stretch sends nothing and is never refused.
-    pub fn insert(
-        &mut self,
-        pos: u64,
-        buffer: &Buffer,
-        outbox: &mut Outbox,
-    ) -> Result<u32, EditRefusal>
-        requires in_text { pos ≤ length (shown_of self.old) }
-        ensures { EditsSending self.old (insertion pos buffer.now) result self.new outbox.old outbox.new }
-    {
-        self.insert_pieces(pos, buffer, outbox)
-    }
-
-    /// Puts a stretch at the end of the text, as `insert` does.
-    pub fn append(&mut self, buffer: &Buffer, outbox: &mut Outbox) -> Result<u32, EditRefusal>
-        ensures { EditsSending self.old (insertion (length (shown_of self.old)) buffer.now) result
-            self.new outbox.old outbox.new }
-    {
-        self.insert_pieces(self.shown_len(), buffer, outbox)
-    }
-
     /// Takes the characters shown from `beg` to `end` out of what is shown, by one Delete. The stretch is kept
     /// for `recall`, and its names for `restore`; a refused one leaves those kept before.
     ///

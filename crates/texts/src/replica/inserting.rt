@@ -86,9 +86,14 @@ impl Replica {
         self.make(kind, outbox)
     }
 
-    // Puts the pieces of a stretch behind the first `pos` characters shown, each later one behind the one
-    // before it.
-    pub(crate) fn insert_pieces(
+    /// Puts a stretch behind the first `pos` characters shown: an Insert for each stretch of equal looks, and for
+    /// each 4,096 bytes of it, each later one behind the one before it.
+    ///
+    /// Answers how many messages it added to the Outbox. Each Insert is refused, in this order, `Behind` where an
+    /// operation that waits shows that the site has gone further elsewhere, `SeqSpent` after the site's last seq,
+    /// `StampsSpent` after the greatest stamp, `FileSpent` where the site's file would pass 2^24 bytes, and
+    /// `OutOfMemory`. An empty stretch sends nothing and is never refused.
+    pub fn insert(
         &mut self,
         pos: u64,
         buffer: &Buffer,
@@ -111,5 +116,13 @@ impl Replica {
             done += 1;
         }
         Ok(done)
+    }
+
+    /// Puts a stretch at the end of the text, as `insert` does.
+    pub fn append(&mut self, buffer: &Buffer, outbox: &mut Outbox) -> Result<u32, EditRefusal>
+        ensures { EditsSending self.old (insertion (length (shown_of self.old)) buffer.now) result
+            self.new outbox.old outbox.new }
+    {
+        self.insert(self.shown_len(), buffer, outbox)
     }
 }

@@ -43,7 +43,10 @@ impl Replica {
         ensures errors { RefusedForMemoryAlone result }
         ensures err { OnErr result (self.new ≡ self.old) }
     {
-        self.add(op.copy()?)
+        let op = op.copy()?;
+        self.taken.add(op)?;
+        self.is_text();
+        Ok(())
     }
 
     // Takes in those of another replica's operations that aren't held here.

@@ -114,10 +114,11 @@ impl Replica {
         let mut message = Vec::with_capacity(self.alloc, SHORT)?;
         encode(&op, &mut message)?;
         outbox.push(message)?;
-        if let Err(why) = self.add(op) {
+        if let Err(why) = self.taken.add(op) {
             outbox.take_back();
             return Err(why);
         }
+        self.is_text();
         Ok(())
     }
 }

@@ -75,7 +75,8 @@ impl Replica {
             ⊎ (TakesIn self.old op true result self.new
             ⊎ Stays self.old (Err Refusal.OutOfMemory) result self.new) }
     {
-        self.add(op)?;
+        self.taken.add(op)?;
+        self.is_text();
         let Settled {
             drained,
             dropped,

@@ -45,7 +45,8 @@ impl Replica {
         }
         // It stays where memory is refused.
         let op = self.room.get(index).copy()?;
-        self.add(op)?;
+        self.taken.add(op)?;
+        self.is_text();
         let _ = self.room.remove(index);
         self.is_text();
         Ok(true)

@@ -7,7 +7,7 @@ use Rattle.texts.specs.TextState.{TextState, shown_of}
 use Rattle.texts.specs.declared.edit_refusal.EditRefusal.{EditRefusal}
 use Rattle.texts.proofs.Made.{never_scattered}
 use Rattle.texts.proofs.Sending.{IsUnderWay, ended, goes_on, in_position, refused}
-use Rattle.texts.proofs.replica.Replica.insert_pieces.Goals as goal
+use Rattle.texts.proofs.replica.Replica.insert.Goals as goal
 
 pub returns-in-Err : goal.returns-in-Err
 returns-in-Err c =

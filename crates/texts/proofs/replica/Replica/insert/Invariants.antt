@@ -3,7 +3,7 @@ use Rattle.char_files.specs.declared.TheConstants.{MAX_FILE}
 use Rattle.texts.specs.Edit.{insertion, inserts, plan}
 use Rattle.texts.specs.TextState.{shown_of}
 use Rattle.texts.proofs.Sending.{IsUnderWay}
-use Rattle.texts.proofs.replica.Replica.insert_pieces.Given as goal
+use Rattle.texts.proofs.replica.Replica.insert.Given as goal
 
 abbrev pub invariant-loop-piece : goal.invariant-loop-piece
 invariant-loop-piece l =
