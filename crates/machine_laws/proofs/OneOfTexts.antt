@@ -16,7 +16,7 @@ use Rattle.texts.specs.Merge.{MergesShort}
 use Rattle.texts.specs.Outcome.{EditsShort}
 use Rattle.texts.specs.Take.{TakesShort}
 use Rattle.texts.specs.Text.{IsText}
-use Rattle.texts.specs.TextState.{TextState, all_told, shown_items}
+use Rattle.texts.specs.TextState.{TextState, all_told}
 use Rattle.texts.specs.declared.edit_refusal.EditRefusal.{EditRefusal}
 use Rattle.texts.specs.declared.edit_refusal.EditRefusal.TheVariants.{Whole, Partial}
 use Rattle.texts.specs.declared.merge_refusal.MergeRefusal.{MergeRefusal}
@@ -29,14 +29,11 @@ use Rattle.machine.specs.Events.{query, refuses, settle, settles, stops, take as
 use Rattle.machine.specs.Machine.{Does, Short, message_in}
 use Rattle.machine.specs.OnTexts.{CopiesText, CopiesTextShort, EditsText, EditsTextShort, MergesText, MergesTextShort, Prints}
 use Rattle.machine.specs.OnTexts.{SettlesText, TakesText, TakesTextShort, copied, is_copy_in}
-use Rattle.machine.specs.Printing.{front_lines, run_lines}
 use Rattle.machine.specs.State.{AtText, IsTextAt, Refuses, State, Tells}
 use Rattle.machine.specs.Tasks.{EditsAt, EditsShortAt}
 use Rattle.machine.specs.declared.asked.Query.{Query}
-use Rattle.machine.specs.declared.asked.Query.TheVariants.{Front, Places, Runs, Text}
 use Rattle.machine_laws.specs.Laws.{AreTexts, HaveOneShape}
-use Rattle.machine_laws.proofs.ShownLines.{one_runs}
-use Rattle.machine_laws.proofs.RisingSites.{one_sites}
+use Rattle.machine_laws.proofs.ShownLines.{one_print}
 
 -- an index has one element
 pub one_element : {A : Type 0} (o : Option A) (x y : A) → o ≡ Some x → o ≡ Some y → x ≡ y
@@ -127,15 +124,6 @@ taken one s i text None r r' new new' are left left' = (left.0 ∙ sym left'.0, 
 taken one s i text (Some message) r r' new new' are does does' =
     at_text (TakesText message r) (TakesText message r') (r ≡ r') s new new' i text [] [] are (λ same. refl)
     (takes_text one message r r') does does'
-
--- a query prints one thing of a text
-one_print : NoOtherRuns → (q : Query) (t : TextState) (a b : List ℕ) → Prints q t a → Prints q t b → a ≡ b
-one_print only Text t a b prints_a prints_b = prints_a ∙ sym prints_b
-one_print only Front t a b (sites, are, prints_a) (sites', are', prints_b) =
-    prints_a ∙ ap (front_lines t) (one_sites t.operations sites sites' are are') ∙ sym prints_b
-one_print only Runs t a b (runs, are, prints_a) (runs', are', prints_b) =
-    prints_a ∙ ap run_lines (one_runs only (shown_items t) (shown_items t) runs runs' are are' refl) ∙ sym prints_b
-one_print only (Places names) t a b prints_a prints_b = prints_a ∙ sym prints_b
 
 -- an edit of a text
 pub one_edit : EditsOneWay → (s : State) (i text : ℕ) (e : Edit) → AreTexts s → (r r' : Reply) (new new' : State)

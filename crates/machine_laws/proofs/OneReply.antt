@@ -430,42 +430,32 @@ module _ (edits_so : EditsOneWay) (takes_so : TakesOneWay) (drains_so : DrainsOn
 abbrev IsRefusal : Reply → Type 0
 IsRefusal told = (why : Refusal) × (told ≡ refuses why)
 
-refusal_first : (r : Reply) (why : Refusal) → HaveOneShape r (refuses why) → IsRefusal r
-refusal_first (refuses why) other shape = (why, refl)
-refusal_first (sends a) other shape = absurd shape
-refusal_first (takes (Taken a b c)) other shape = absurd shape
-refusal_first (takes Waits) other shape = absurd shape
-refusal_first (takes Repeat) other shape = absurd shape
-refusal_first (settles a b c) other shape = absurd shape
-refusal_first (merges a) other shape = absurd shape
-refusal_first (prints a) other shape = absurd shape
-refusal_first (opens a) other shape = absurd shape
-refusal_first (found a) other shape = absurd shape
-refusal_first not_found other shape = absurd shape
-refusal_first (forgot a) other shape = absurd shape
-refusal_first done other shape = absurd shape
-refusal_first (stops a b c) other shape = absurd shape
+neither : {A : Type 0} → ⊥ ⊎ ⊥ → A
+neither (inl one) = absurd one
+neither (inr other) = absurd other
 
-refusal_second : (r : Reply) (why : Refusal) → HaveOneShape (refuses why) r → IsRefusal r
-refusal_second (refuses why) other shape = (why, refl)
-refusal_second (sends a) other shape = absurd shape
-refusal_second (takes a) other shape = absurd shape
-refusal_second (settles a b c) other shape = absurd shape
-refusal_second (merges a) other shape = absurd shape
-refusal_second (prints a) other shape = absurd shape
-refusal_second (opens a) other shape = absurd shape
-refusal_second (found a) other shape = absurd shape
-refusal_second not_found other shape = absurd shape
-refusal_second (forgot a) other shape = absurd shape
-refusal_second done other shape = absurd shape
-refusal_second (stops a b c) other shape = absurd shape
+refusal : (r : Reply) (why : Refusal) → HaveOneShape r (refuses why) ⊎ HaveOneShape (refuses why) r → IsRefusal r
+refusal (refuses why) other shape = (why, refl)
+refusal (sends a) other shape = neither shape
+refusal (takes (Taken a b c)) other shape = neither shape
+refusal (takes Waits) other shape = neither shape
+refusal (takes Repeat) other shape = neither shape
+refusal (settles a b c) other shape = neither shape
+refusal (merges a) other shape = neither shape
+refusal (prints a) other shape = neither shape
+refusal (opens a) other shape = neither shape
+refusal (found a) other shape = neither shape
+refusal not_found other shape = neither shape
+refusal (forgot a) other shape = neither shape
+refusal done other shape = neither shape
+refusal (stops a b c) other shape = neither shape
 
 -- a reply that has one shape with a refusal refuses
 refused_first : (r r' : Reply) (why : Refusal) → r' ≡ refuses why → HaveOneShape r r' → IsRefusal r
-refused_first r r' why is shape = refusal_first r why (subst (λ (x : Reply). HaveOneShape r x) is shape)
+refused_first r r' why is shape = refusal r why (inl (subst (λ (x : Reply). HaveOneShape r x) is shape))
 
 refused_second : (r r' : Reply) (why : Refusal) → r ≡ refuses why → HaveOneShape r r' → IsRefusal r'
-refused_second r r' why is shape = refusal_second r' why (subst (λ (x : Reply). HaveOneShape x r') is shape)
+refused_second r r' why is shape = refusal r' why (inr (subst (λ (x : Reply). HaveOneShape x r') is shape))
 
 -- an edit that memory refused wholly left the texts as they were, where they had told their changes
 stays : (s : State) → HaveTold s → (i text : ℕ) (e : Edit) (r : Reply) (mid : State) → IsRefusal r

@@ -1,14 +1,19 @@
--- What is shown tells what is printed of it.
-use Rattle.std.proofs.Common.{◌≡◌, List, refl, sym, ap, ◌∙◌}
+-- What a query prints of a text is one thing, and what is shown tells it.
+use Rattle.std.proofs.Common.{◌≡◌, ℕ, List, refl, sym, ap, subst, ◌∙◌, inl, inr}
+use Rattle.std.specs.Prelude.{◌⊎◌}
 use Rattle.char_files.specs.Runs.{NoOtherRuns, maximal_runs}
 use Rattle.char_files.specs.Stretch.{Item, Stretch}
 use Rattle.char_files.specs.declared.character.Char.{Char}
 use Rattle.operations.specs.NameSet.{names_of}
+use Rattle.set_laws.specs.Fronts.{AreSites}
 use Rattle.texts.specs.TextState.{TextState, shown_items, shown_of}
-use Rattle.machine_laws.specs.Laws.{PrintTheSame}
+use Rattle.machine_laws.specs.Laws.{IsOfWhatIsShown, PrintTheSame}
+use Rattle.machine.specs.declared.asked.Query.{Query}
 use Rattle.machine.specs.declared.asked.Query.TheVariants.{Front, Places, Runs, Text}
+use Rattle.machine.specs.OnTexts.{Prints}
 use Rattle.machine.specs.Places.{place_lines}
-use Rattle.machine.specs.Printing.{AreRunsOf, run_lines, text_lines}
+use Rattle.machine.specs.Printing.{AreRunsOf, front_lines, run_lines, text_lines}
+use Rattle.machine_laws.proofs.RisingSites.{one_sites}
 
 -- the same characters have the same runs
 pub one_runs : NoOtherRuns → (items items' : List Item) (runs runs' : List Stretch) → AreRunsOf items runs
@@ -23,12 +28,37 @@ text_lines-shown t u same = rw same refl
 items-shown : (t u : TextState) → shown_of t ≡ shown_of u → shown_items t ≡ shown_items u
 items-shown t u same = rw same refl
 
+-- two texts are one, or the query is of what is shown, and they show the same
+abbrev PrintAlike : Query → TextState → TextState → Type 0
+PrintAlike q t u = (t ≡ u) ⊎ (IsOfWhatIsShown q × (shown_of t ≡ shown_of u))
+
+alike-shown : (q : Query) (t u : TextState) → PrintAlike q t u → shown_of t ≡ shown_of u
+alike-shown q t u (inl same) = ap shown_of same
+alike-shown q t u (inr (is, same)) = same
+
+-- such texts print one thing: a case for each query
+prints_one : NoOtherRuns → (q : Query) (t u : TextState) (a b : List ℕ) → PrintAlike q t u → Prints q t a
+    → Prints q u b → a ≡ b
+prints_one only Text t u a b alike prints_a prints_b =
+    prints_a ∙ text_lines-shown t u (alike-shown Text t u alike) ∙ sym prints_b
+prints_one only Front t u a b (inl same) (sites, are, prints_a) (sites', are', prints_b) =
+    let here : AreSites t.operations sites' =
+    subst (λ (x : TextState). AreSites x.operations sites') (sym same) are' in
+    prints_a ∙ ap (front_lines t) (one_sites t.operations sites sites' are here)
+    ∙ ap (λ (x : TextState). front_lines x sites') same ∙ sym prints_b
+prints_one only Front t u a b (inr (is, same)) prints_a prints_b = absurd is
+prints_one only Runs t u a b alike (runs, are, prints_a) (runs', are', prints_b) =
+    let same = items-shown t u (alike-shown Runs t u alike) in
+    prints_a ∙ ap run_lines (one_runs only (shown_items t) (shown_items u) runs runs' are are' same) ∙ sym prints_b
+prints_one only (Places names) t u a b alike prints_a prints_b =
+    prints_a
+    ∙ ap (λ (chars : List Char). place_lines chars (names_of names)) (alike-shown (Places names) t u alike)
+    ∙ sym prints_b
+
+-- a query prints one thing of a text
+pub one_print : NoOtherRuns → (q : Query) (t : TextState) (a b : List ℕ) → Prints q t a → Prints q t b → a ≡ b
+one_print only q t a b = prints_one only q t t a b (inl refl)
+
 -- texts that show the same print the same of it
 pub prints-shown : NoOtherRuns → (t u : TextState) → shown_of t ≡ shown_of u → PrintTheSame t u
-prints-shown only t u same Text a b is prints_a prints_b = prints_a ∙ text_lines-shown t u same ∙ sym prints_b
-prints-shown only t u same Front a b is prints_a prints_b = absurd is
-prints-shown only t u same Runs a b is (runs, are, prints_a) (runs', are', prints_b) =
-    prints_a ∙ ap run_lines (one_runs only (shown_items t) (shown_items u) runs runs' are are' (items-shown t u same))
-    ∙ sym prints_b
-prints-shown only t u same (Places names) a b is prints_a prints_b =
-    prints_a ∙ ap (λ (chars : List Char). place_lines chars (names_of names)) same ∙ sym prints_b
+prints-shown only t u same q a b is = prints_one only q t u a b (inr (is, same))

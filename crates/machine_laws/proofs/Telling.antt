@@ -1,7 +1,7 @@
 -- What is put into its place in a list, and texts that have told their changes.
 use Rattle.std.proofs.Common.{◌≡◌, ℕ, zero, suc, ◌-◌, List, [], ◌∷◌, length, Some, refl, sym, ap, subst, ◌∙◌}
 use Rattle.std.specs.Prelude.{slice_get, slice_set}
-use Rattle.std.proofs.lemmas.List.{set-get_or}
+use Rattle.std.proofs.lemmas.List.{set-get_or, set-set}
 use Rattle.std.proofs.lemmas.Option.{get_or_from_slice_get, none-some, same_Some}
 use Rattle.texts.specs.TextState.{TextState, all_told}
 use Rattle.machine.specs.DeskState.{DeskState, InText, IsTextOf, with_text}
@@ -18,12 +18,6 @@ put_there [] i x y at = absurd (none-some x at)
 put_there (z ∷ xs) zero x y at = refl
 put_there (z ∷ xs) (suc i) x y at = put_there xs i x y at
 
--- and stands there no more when another is
-put_twice : {X : Type 0} (xs : List X) (i : ℕ) (x y : X) → slice_set (slice_set xs i x) i y ≡ slice_set xs i y
-put_twice [] i x y = refl
-put_twice (z ∷ xs) zero x y = refl
-put_twice (z ∷ xs) (suc i) x y = ap (λ (l : List _). z ∷ l) (put_twice xs i x y)
-
 -- where a text has told its changes, telling them does nothing
 pub told_same : (t : TextState) → t.asked ≡ length t.operations → all_told t ≡ t
 told_same t told = λ k. record t { asked = sym told k }
@@ -38,5 +32,5 @@ tells_in Goes d d' new text (t, t', at, goes, is) (u, v, at_u, is_v, is_new) =
     let told : v ≡ all_told t' = is_v ∙ ap all_told same in
     let desk : new ≡ with_text d text v =
     is_new ∙ ap (λ (x : DeskState). with_text x text v) is
-    ∙ (λ k. record d { texts = put_twice d.texts (text - 1) t' v k }) in
+    ∙ (λ k. record d { texts = set-set d.texts (text - 1) t' v k }) in
     (t, v, at, (t', goes, told), desk)

@@ -25,7 +25,7 @@ use Rattle.machine.specs.State.{IsDeskAt, IsTextAt, State, new_state}
 use Rattle.machine.specs.Tasks.{has_begun, lines_of_view}
 use Rattle.machine.specs.Windows.{Caret, Screened, Selected, Window, window_of}
 use Rattle.machine.specs.declared.asked.Query.{Query}
-use Rattle.machine.specs.declared.asked.Query.TheVariants.{Front, Places, Runs, Text}
+use Rattle.machine.specs.declared.asked.Query.TheVariants.{Front}
 use Rattle.machine.specs.declared.asked.View.{View}
 use Rattle.machine.specs.Printing.{waiting_line}
 use Rattle.machine.specs.declared.TheConstants.{MAX_TEXT}
@@ -45,12 +45,10 @@ AreTexts s = (i text : ℕ) (t : TextState) → IsTextAt s i text t → IsText t
 abbrev pub HaveTold : State → Type 0
 HaveTold s = (i text : ℕ) (t : TextState) → IsTextAt s i text t → t.asked ≡ length t.operations
 
--- a query of what is shown: the characters, their looks, or where names stand
+-- a query of what is shown, as the characters or their looks: all but that of the fronts
 abbrev pub IsOfWhatIsShown : Query → Type 0
-IsOfWhatIsShown Text = Unit {0}
 IsOfWhatIsShown Front = ⊥
-IsOfWhatIsShown Runs = Unit {0}
-IsOfWhatIsShown (Places names) = Unit {0}
+IsOfWhatIsShown q = Unit {0}
 
 -- a query of what is shown prints the same lines of two texts, of one run or of two
 abbrev pub PrintTheSame : TextState → TextState → Type 0
