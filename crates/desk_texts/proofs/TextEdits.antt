@@ -7,7 +7,7 @@ use Rattle.std.proofs.lemmas.Bool.{and_from, and_parts, false_from_ne_true, le-l
 use Rattle.std.proofs.lemmas.Bool.{ltb-true}
 use Rattle.std.proofs.lemmas.List.{length-map, take_all}
 use Rattle.looks.specs.declared.refusal.Refusal.{Refusal}
-use Rattle.looks.specs.declared.refusal.Refusal.TheVariants.{FileSpent, OutOfMemory}
+use Rattle.looks.specs.declared.refusal.Refusal.TheVariants.{FileSpent, OutOfMemory, OutOfRange}
 use Rattle.char_files.specs.Stretch.{Item}
 use Rattle.char_files.specs.declared.TheConstants.{MAX_FILE}
 use Rattle.operations.specs.Operation.{Operation}
@@ -82,6 +82,10 @@ module _ (t : TextState) (e : Edit) (sent : List (List ℕ)) where
       (messages, tt, sent_is, inl (edits_in_text t e (Err (Partial done why)) new messages in_text does shows))
   text_edited in_text (Err (Partial done why)) new sent' (messages, sent_is, shows, inr short) =
       (messages, tt, sent_is, inr (short_in_text t e (Err (Partial done why)) new messages in_text short shows))
+
+  -- positions outside the text are refused, and nothing is done
+  pub text_outside : is_in_text t e ≡ false → EditsTextSending t e (Err (Whole OutOfRange)) t sent sent
+  text_outside out = ([], tt, sym (append-nil sent), inl (rw out (refl, refl)))
 
   -- memory was refused to the stretch, ahead of the replica's edit
   pub text_short : is_in_text t e ≡ true → (why : Refusal) → why ≡ OutOfMemory → stretch_of t e ≢ []

@@ -11,9 +11,7 @@ ghost use Rattle.machine.specs.DeskState.{InText, IsTextOf, new_desk, with_text}
 ghost use Rattle.machine.specs.OnTexts.{CopiesDesk, EditsDesk, MergesDesk, QueriesDesk, SettlesDesk, TakesDesk};
 ghost use Rattle.desk_texts.specs.contracts.desk.Texts.{the_row};
 
-use crate::editing::{
-    change_looks_in, copy_out_of, cut_out_of, insert_into, recall_into, type_into,
-};
+use crate::editing::{copy_out_of, has_position, has_range, plain_buffer};
 use crate::places::place_lines;
 use crate::printing::{front_lines, text_lines};
 use crate::runs::run_lines;
@@ -77,7 +75,13 @@ impl Texts {
     {
         let alloc = *self.texts.allocator();
         let replica = self.replica_mut(text);
-        type_into(alloc, replica, pos, bytes, outbox)
+        if !has_position(replica, pos) {
+            return Err(EditRefusal::Whole(Refusal::OutOfRange));
+        }
+        match plain_buffer(alloc, bytes) {
+            Ok(buffer) => replica.insert(pos, &buffer, outbox),
+            Err(why) => Err(EditRefusal::Whole(why)),
+        }
     }
 
     /// Puts a stretch in at a position of a text.
@@ -93,7 +97,10 @@ impl Texts {
             self.new outbox.old outbox.new }
     {
         let replica = self.replica_mut(text);
-        insert_into(replica, pos, items, outbox)
+        if !has_position(replica, pos) {
+            return Err(EditRefusal::Whole(Refusal::OutOfRange));
+        }
+        replica.insert(pos, items, outbox)
     }
 
     /// Takes the characters from `beg` to `end` out of a text; they are kept for `recall` and `restore`.
@@ -108,7 +115,10 @@ impl Texts {
         ensures { EditsDesk self.old text (deletion beg end) result self.new outbox.old outbox.new }
     {
         let replica = self.replica_mut(text);
-        cut_out_of(replica, beg, end, outbox)
+        if !has_range(replica, beg, end) {
+            return Err(EditRefusal::Whole(Refusal::OutOfRange));
+        }
+        replica.delete(beg, end, outbox)
     }
 
     /// Gives the characters from `beg` to `end` of a text the looks that are selected.
@@ -126,7 +136,10 @@ impl Texts {
             self.new outbox.old outbox.new }
     {
         let replica = self.replica_mut(text);
-        change_looks_in(replica, beg, end, sel, looks, outbox)
+        if !has_range(replica, beg, end) {
+            return Err(EditRefusal::Whole(Refusal::OutOfRange));
+        }
+        replica.change_looks(beg, end, sel, looks, outbox)
     }
 
     /// Puts a copy of what was cut last out of a text into it, at a position.
@@ -140,7 +153,13 @@ impl Texts {
         ensures { EditsDesk self.old text (recalling pos) result self.new outbox.old outbox.new }
     {
         let replica = self.replica_mut(text);
-        recall_into(replica, pos, outbox)
+        if !has_position(replica, pos) {
+            return Err(EditRefusal::Whole(Refusal::OutOfRange));
+        }
+        match replica.recall() {
+            Ok(stretch) => replica.insert(pos, &stretch, outbox),
+            Err(why) => Err(EditRefusal::Whole(why)),
+        }
     }
 
     /// Shows again what was cut last out of a text.
@@ -237,8 +256,7 @@ impl Texts {
         ensures ok { IfOk result (λ lines. QueriesDesk self.now text asked lines.items) }
         ensures errors { RefusedForMemoryAlone result }
     {
-        let alloc = *self.texts.allocator();
-        let replica = self.replica(text);
+        let (alloc, replica) = (*self.texts.allocator(), self.replica(text));
         match asked {
             Query::Text => text_lines(alloc, replica),
             Query::Front => front_lines(alloc, replica),
