@@ -203,14 +203,6 @@ filing_in rest = do
   name ← file_in cut.1
   Some (text, name)
 
--- `keep`: a text, and the file
-abbrev pub keep_event : (desk : ℕ) → List ℕ → Option Event
-keep_event desk rest = option_map (λ filing. ask desk (keep filing.0 filing.1)) (filing_in rest)
-
--- `reopen`: the same
-abbrev pub reopen_event : (desk : ℕ) → List ℕ → Option Event
-reopen_event desk rest = option_map (λ filing. ask desk (reopen filing.0 filing.1)) (filing_in rest)
-
 -- what a verb asks of a text that ends the line: a row for each verb
 abbrev pub short_event : ShortVerb → (desk text : ℕ) → Event
 short_event Restore desk text = edit desk text restoration
@@ -241,8 +233,8 @@ arrangement_in Selects rest = select_arrangement rest
 
 -- what else a verb asks of a desk with what stands behind it: a row for each verb
 abbrev pub desk_event : DeskVerb → (desk : ℕ) → List ℕ → Option Event
-desk_event Keep desk rest = keep_event desk rest
-desk_event Reopen desk rest = reopen_event desk rest
+desk_event Keep desk rest = option_map (λ filing. ask desk (keep filing.0 filing.1)) (filing_in rest)
+desk_event Reopen desk rest = option_map (λ filing. ask desk (reopen filing.0 filing.1)) (filing_in rest)
 desk_event Key desk rest = option_map (λ bytes. ask desk (put (plain_items bytes))) (bytes_in rest)
 desk_event Click desk rest = option_map (λ cell. click desk cell.col cell.row) (cell_in rest)
 

@@ -1,8 +1,8 @@
 ghost use Rattle.std.specs.Prelude.{◌≡◌, ℕ, ◌<◌, ◌≤◌, length, option_map, IfSome};
 ghost use Rattle.script_events.specs.EventView.{delivery_of, edit_of, event_of, event_or_unknown, IsInRun, IsOfLine, IsWithin};
 ghost use Rattle.script_events.specs.EventView.{OpensDeskText, TypesAtMost};
-ghost use Rattle.script_events.specs.Script.{arrangement_in, delivery_in, desk_event, edit_in, event_in, keep_event, long_event, merge_event, names_in};
-ghost use Rattle.script_events.specs.Script.{places_event, reopen_event, save_event, short_event, verb_event};
+ghost use Rattle.script_events.specs.Script.{arrangement_in, delivery_in, desk_event, edit_in, event_in, long_event, merge_event};
+ghost use Rattle.script_events.specs.Script.{names_in, places_event, save_event, short_event, verb_event};
 
 mod arrangements;
 mod edits;
@@ -218,30 +218,6 @@ fn merge_event(run: RunSites, desk: usize, text: TextNo, rest: &[u8]) -> Option<
     Some(Event::Merges { desk, text, other })
 }
 
-// `keep`: a text, and the file.
-fn keep_event(desk: usize, rest: &[u8]) -> Option<Event<'_>>
-    ensures event { option_map event_of result ≡ keep_event desk rest.now }
-    ensures in_run { IfSome result (λ event. (count : ℕ) → desk < count → IsInRun count event) }
-    ensures within { IfSome result (λ event. (len : ℕ) → IsOfLine len event) }
-{
-    let Some((text, name)) = filing_in(rest) else {
-        return None;
-    };
-    Some(Event::Keeps { desk, text, name })
-}
-
-// `reopen`: the same.
-fn reopen_event(desk: usize, rest: &[u8]) -> Option<Event<'_>>
-    ensures event { option_map event_of result ≡ reopen_event desk rest.now }
-    ensures in_run { IfSome result (λ event. (count : ℕ) → desk < count → IsInRun count event) }
-    ensures within { IfSome result (λ event. (len : ℕ) → IsOfLine len event) }
-{
-    let Some((text, name)) = filing_in(rest) else {
-        return None;
-    };
-    Some(Event::Reopens { desk, text, name })
-}
-
 // What a verb asks of a text that ends the line: a row for each verb.
 fn short_event(verb: ShortVerb, desk: usize, text: TextNo) -> Event<'static>
     requires { text ≤ MAX_TEXT }
@@ -321,8 +297,18 @@ fn desk_event<'a>(verb: DeskVerb, desk: usize, rest: &'a [u8]) -> Option<Event<'
     ensures within { IfSome result (λ event. (len : ℕ) → length rest.now ≤ len → IsOfLine len event) }
 {
     match verb {
-        DeskVerb::Keep => keep_event(desk, rest),
-        DeskVerb::Reopen => reopen_event(desk, rest),
+        DeskVerb::Keep => {
+            let Some((text, name)) = filing_in(rest) else {
+                return None;
+            };
+            Some(Event::Keeps { desk, text, name })
+        }
+        DeskVerb::Reopen => {
+            let Some((text, name)) = filing_in(rest) else {
+                return None;
+            };
+            Some(Event::Reopens { desk, text, name })
+        }
         DeskVerb::Key => {
             let bytes = Escaped::new(rest)?;
             Some(Event::Keys { desk, bytes })
