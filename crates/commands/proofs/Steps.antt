@@ -1,7 +1,7 @@
 -- One call of a desk is one step of every run in which the desk stands.
 use Rattle.std.proofs.Common.{◌≡◌, ℕ, List, [], ◌++◌, Option, Result, Ok, Err, Some, IfOk, ap, sym, subst, refl, ◌∙◌, inl, inr}
 use Rattle.std.proofs.Common.{append-nil, true, false}
-use Rattle.std.specs.Prelude.{Bool, MatchResult, slice_set}
+use Rattle.std.specs.Prelude.{◌⊎◌, Bool, MatchResult, length, slice_set}
 use Rattle.std.specs.Option.{option_map_or}
 use Rattle.looks.specs.declared.refusal.Refusal.{Refusal}
 use Rattle.looks.specs.Refusal.{RefusedForMemoryAlone}
@@ -17,7 +17,7 @@ use Rattle.machine.specs.Events.{Reply, arrange, ask, copy, done, edit, edit_rep
 use Rattle.machine.specs.Events.{opens, print, prints, query, refuses, settle, settles, take_reply}
 use Rattle.machine.specs.OnTexts.{CopiesDesk, CopiesText, CopiesTextShort, EditsDesk, EditsText, EditsTextShort, MergesDesk}
 use Rattle.machine.specs.OnTexts.{MergesText, MergesTextShort, QueriesDesk, SettlesDesk, SettlesText, TakesDesk, TakesText}
-use Rattle.machine.specs.OnTexts.{TakesTextShort}
+use Rattle.machine.specs.OnTexts.{Sending, TakesTextShort}
 use Rattle.machine.specs.State.{AtText, Refuses, State, with_screen_at}
 use Rattle.machine.specs.Tasks.{lines_of_view}
 use Rattle.machine.specs.Windows.{Arranged, Screened, arranged}
@@ -84,63 +84,60 @@ module _ (seen : DeskSeen) (d d' new : DeskState) (w w' : Screened) (is : record
   abbrev Then : DeskSeen
   Then = record { texts = new; screen = w' }
 
+  -- one of its texts goes so or so and tells its changes, in each run that the desk is part of
+  at_text_sending : (Goes Short : Reply → TextState → TextState → Type 0) (text : ℕ) (result : Result ℕ EditRefusal)
+      (before after : List (List ℕ)) → InText (λ t u. Sending Goes Short t result u before after) d text d'
+      → Asked d' text new
+      → (messages : List (List ℕ)) × IfOk result (λ count. count ≡ length messages)
+      × ((s : State) (i : ℕ) → StandsIn s i (record { texts = d; screen = w }) → s.sent ≡ before
+      → AtText (Goes (edit_reply result messages)) s i text (messages_of (edit_reply result messages)) (with_desk s i Then after)
+      ⊎ AtText (Short (edit_reply result messages)) s i text (messages_of (edit_reply result messages))
+      (with_desk s i Then after))
+  at_text_sending Goes Short text result before after (t, u, at, (messages, count, sent_is, did), is_d') told = (
+    messages,
+    count,
+    λ s i stands sent.
+        let r : Reply = edit_reply result messages in
+        let more = behind s before after (messages_of r) sent sent_is in
+        elim did [
+          | inl does ↦ inl (at_text s i d w stands (Goes r) text d' new w' (messages_of r) after
+              (t, u, at, does, is_d') told same more)
+          | inr short ↦ inr (at_text s i d w stands (Short r) text d' new w' (messages_of r) after
+              (t, u, at, short, is_d') told same more)
+        ],
+  )
+
   -- an edit is a step
   pub edit_step : (text : ℕ) (e : Edit) (result : Result ℕ EditRefusal) (before after : List (List ℕ))
       → EditsDesk d text e result d' before after → Asked d' text new
       → IsEditStep seen (λ i. edit i text e) result Then before after
-  edit_step text e result before after (t, u, at, (messages, count, sent_is, did), is_d') told =
+  edit_step text e result before after edits told =
+      let (messages, count, goes) =
+      at_text_sending (EditsText e) (EditsTextShort e) text result before after edits told in
       subst (λ (x : DeskSeen). IsEditStep x (λ i. edit i text e) result Then before after) is (
         messages,
         count,
-        λ s i stands sent.
-            let r : Reply = edit_reply result messages in
-            let more = behind s before after (messages_of r) sent sent_is in
-            elim did [
-              | inl does ↦ inl (
-                refl,
-                at_text s i d w stands (EditsText e r) text d' new w' (messages_of r) after
-                    (t, u, at, does, is_d') told same more,
-              )
-              | inr short ↦ inr (
-                refl,
-                at_text s i d w stands (EditsTextShort e r) text d' new w' (messages_of r) after
-                    (t, u, at, short, is_d') told same more,
-              )
-            ],
+        λ s i stands sent. elim (goes s i stands sent) [
+          | inl does ↦ inl (refl, does)
+          | inr short ↦ inr (refl, short)
+        ],
       )
 
   -- so is a copy
   pub copy_step : (text beg end other pos : ℕ) (result : Result ℕ EditRefusal) (before after : List (List ℕ))
       → CopiesDesk d text beg end other pos result d' before after → Asked d' other new
       → IsEditStep seen (λ i. copy i text beg end other pos) result Then before after
-  copy_step text beg end other pos result before after (from, at_from, (t, u, at, (messages, count, sent_is, did), is_d')) told =
+  copy_step text beg end other pos result before after (from, at_from, copies) told =
+      let (messages, count, goes) =
+      at_text_sending (CopiesText from beg end pos) (CopiesTextShort from beg end pos) other result before after copies
+      told in
       subst (λ (x : DeskSeen). IsEditStep x (λ i. copy i text beg end other pos) result Then before after) is (
         messages,
         count,
-        λ s i stands sent.
-            let r : Reply = edit_reply result messages in
-            let more = behind s before after (messages_of r) sent sent_is in
-            elim did [
-              | inl does ↦ inl (
-                refl,
-                (
-                  from,
-                  (d, stands.texts, at_from),
-                  at_text s i d w stands
-                      (CopiesText from beg end pos r) other d' new w' (messages_of r) after (t, u, at, does, is_d') told same more,
-                ),
-              )
-              | inr short ↦ inr (
-                refl,
-                (
-                  from,
-                  (d, stands.texts, at_from),
-                  at_text s i d w stands
-                      (CopiesTextShort from beg end pos r) other d' new w' (messages_of r) after (t, u, at, short, is_d') told same
-                      more,
-                ),
-              )
-            ],
+        λ s i stands sent. elim (goes s i stands sent) [
+          | inl does ↦ inl (refl, (from, (d, stands.texts, at_from), does))
+          | inr short ↦ inr (refl, (from, (d, stands.texts, at_from), short))
+        ],
       )
 
   -- a settling
