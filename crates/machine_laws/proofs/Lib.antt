@@ -1,4 +1,5 @@
 pub mod Answered
+pub mod AnyFiles
 pub mod Arranging
 pub mod Following
 pub mod FrontLines

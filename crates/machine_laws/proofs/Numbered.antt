@@ -45,6 +45,7 @@ use Rattle.machine_laws.proofs.Going.{replies_go, settles_so, takes, takes_short
 use Rattle.machine_laws.proofs.Reaching.{set_cases}
 use Rattle.machine_laws.proofs.Reopening.{Begins}
 use Rattle.machine_laws.specs.Laws.{AreNumbered, Reached, WhatIsReachedIsNumbered, begins, goes_on}
+use Rattle.machine_laws.specs.Laws.{others_write}
 
 -- an operation whose site and seq fit
 abbrev IsNumbered : Operation → Type 0
@@ -357,6 +358,8 @@ reached_so first count width height files s few begins = new_so first count widt
 reached_so first count width height files s few (goes_on {s = before} e part r new reached replies) =
     goes_so before new (replies_go before e part r new replies).0
     (reached_so first count width height files before few reached)
+reached_so first count width height files s few (others_write {s = before} now reached) =
+    reached_so first count width height files before few reached
 
 pub reached-numbered : WhatIsReachedIsNumbered
 reached-numbered first count width height files s i text t few reached there =

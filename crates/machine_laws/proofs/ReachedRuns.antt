@@ -26,7 +26,7 @@ use Rattle.machine_laws.proofs.OneOfTexts.{one_element}
 use Rattle.machine_laws.proofs.OneReply.{shown_parts}
 use Rattle.machine_laws.proofs.Reaching.{new_are_texts, new_desks, new_texts, set_old}
 use Rattle.machine_laws.specs.Laws.{HaveTold, IsSound, ShowsTextOf, StandsByChars, WhatARunReachesIsSound, begins}
-use Rattle.machine_laws.specs.Laws.{goes_on}
+use Rattle.machine_laws.specs.Laws.{goes_on, others_write}
 
 -- screens of texts that follow
 
@@ -170,6 +170,15 @@ new_told first count width height files i text t there =
     let (number, site, is) = new_texts first count width height files i text t there in
     subst (λ (x : TextState). x.asked ≡ length x.operations) is refl
 
+-- what is sound doesn't hang on the files
+over_other_files : (s : State) (now : Files) → IsSound s → IsSound (record s { files = now })
+over_other_files s now sound = record {
+  desks = sound.desks;
+  texts = sound.texts;
+  told = sound.told;
+  screens = λ i d w at. sound.screens i d w (record { texts = at.texts; screen = at.screen });
+}
+
 module _ (plain : OwnEditsArePlain) (good : Good []) (none : AreIdentified []) (order : OneWriterGoesBehindCauses) where
   new_sound : (first count width height : ℕ) (files : Files) → IsSound (new_state first count width height files)
   new_sound first count width height files = record {
@@ -186,3 +195,5 @@ module _ (plain : OwnEditsArePlain) (good : Good []) (none : AreIdentified []) (
       let sound = reached_sound first count width height files before reached in
       let (texts, screens, sends) = replies_go before e part r new replies in
       screens_go before new sound (texts_go plain none before new texts) screens
+  reached_sound first count width height files s (others_write {s = before} now reached) =
+      over_other_files before now (reached_sound first count width height files before reached)

@@ -30,12 +30,14 @@ use Rattle.machine.specs.declared.asked.View.{View}
 use Rattle.machine.specs.Printing.{waiting_line}
 use Rattle.machine.specs.declared.TheConstants.{MAX_TEXT}
 
--- the states that a run can come to, over these files, with screens of this size
+-- the states that a run can come to that began over these files, with screens of this size, where others may write files, too
 pub data Reached (first count width height : ℕ) (files : Files) : State → Type 0 where
   begins : Reached first count width height files (new_state first count width height files)
   goes_on : {s : State} (e : Event) (part : Part) (r : Reply) (new : State)
       → Reached first count width height files s → Replies s e part r new
       → Reached first count width height files new
+  others_write : {s : State} (now : Files) → Reached first count width height files s
+      → Reached first count width height files (record s { files = now })
 
 -- each text of each desk is what its operations define
 abbrev pub AreTexts : State → Type 0
@@ -115,6 +117,20 @@ pub record HasOneReply (s : State) (e : Event) (part : Part) : Type 0 where
 -- so it is with each event and each part, in each state whose texts are what their operations define
 abbrev pub EachEventHasOneReply : Type 0
 EachEventHasOneReply = (s : State) (e : Event) (part : Part) → AreTexts s → HasOneReply s e part
+
+-- an event that asks for no file, whatever texts and screens there are; a click may ask for one
+abbrev pub AsksForNoFile : Event → Type 0
+AsksForNoFile (ask i (load name)) = ⊥
+AsksForNoFile (ask i (store text name)) = ⊥
+AsksForNoFile (ask i (keep text name)) = ⊥
+AsksForNoFile (ask i (reopen text name)) = ⊥
+AsksForNoFile (click i col row) = ⊥
+AsksForNoFile e = Unit {0}
+
+-- where no file was asked for, an event is answered the same over any files, and leaves them as they are
+abbrev pub TheSameOverAnyFiles : Type 0
+TheSameOverAnyFiles = (s : State) (e : Event) (r : Reply) (new : State) (files : Files)
+    → Replies s e untouched r new → Replies (record s { files = files }) e untouched r (record new { files = files })
 
 -- the text whose number a task names is there
 abbrev pub HasText : State → (i : ℕ) → Task → Type 0

@@ -5,7 +5,7 @@
 ghost use Rattle.machine_laws.specs.Laws.{OperationsTellWhatIsPrinted, WhatIsReachedIsNumbered};
 ghost use Rattle.machine_laws.specs.Laws.{EachEventHasOneReply, FrontLinesTellFronts};
 ghost use Rattle.machine_laws.specs.Laws.{EachTaskIsAnswered, FrontsTellWhatIsPrinted, TextsTellTheScreen};
-ghost use Rattle.machine_laws.specs.Laws.{WhatARunReachesIsSound};
+ghost use Rattle.machine_laws.specs.Laws.{TheSameOverAnyFiles, WhatARunReachesIsSound};
 
 use char_files::runs_are_maximal;
 use convergence::outcomes::{
@@ -61,6 +61,11 @@ pub fn each_event_has_one_reply()
     one_text();
     one_site();
 }
+
+/// A law: an event that asks for no file is answered the same over any files, and leaves them as they are.
+pub fn any_files_will_do()
+    ensures { TheSameOverAnyFiles }
+{}
 
 /// A law: no task and no click lacks a rule. Where the texts that it names are there, and the caret's viewer shows a
 /// text, it is answered for each part that the files may have in it, and there is such a part.

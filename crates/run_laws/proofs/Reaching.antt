@@ -13,7 +13,7 @@ use Rattle.machine.specs.Windows.{Screened}
 use Rattle.machine.specs.declared.asked.Query.{Query}
 use Rattle.machine.specs.declared.asked.View.{View}
 use Rattle.machine_laws.proofs.OneOfTexts.{one_element, one_text}
-use Rattle.machine_laws.specs.Laws.{HoldTheSame, IsSound, PrintTheSame, Reached, WhatARunReachesIsSound, begins, goes_on}
+use Rattle.machine_laws.specs.Laws.{HoldTheSame, IsSound, PrintTheSame, Reached, WhatARunReachesIsSound, begins, goes_on, others_write}
 use Rattle.script_io.specs.Lines.{without_return}
 use Rattle.script_runs.specs.Trace.{Step, Trace, is_silent}
 use Rattle.script_runs.specs.Trace.{begins as starts, goes_on as follows}
@@ -29,12 +29,13 @@ module _ (first count width height : ℕ) (files : Files) where
       subst (Reached first count width height files) (sym answered.1) reached
   line_reached s false e answer new reached (part, r, is, replies) = goes_on e part r new reached replies
 
-  pub trace_reached : (n : ℕ) (script answers : List ℕ) (s : State)
-      → Trace (new_state first count width height files) n script answers s → Reached first count width height files s
-  trace_reached n script answers s starts = begins
-  trace_reached n script answers s
-      (follows {n = before} {script = front} {answers = said} {s = old} raw answer new trace is_raw answered) =
-      line_reached old (is_silent (without_return raw)) _ answer new (trace_reached before front said old trace) answered
+  pub trace_reached : (told : Bool) (n : ℕ) (script answers : List ℕ) (s : State)
+      → Trace told (new_state first count width height files) n script answers s → Reached first count width height files s
+  trace_reached told n script answers s starts = begins
+  trace_reached told n script answers s
+      (follows {n = before} {script = front} {answers = said} {s = old} raw answer new trace is_raw (now, meanwhile, answered)) =
+      line_reached (record old { files = now }) (is_silent (without_return raw)) _ answer new
+      (others_write now (trace_reached told before front said old trace)) answered
 
 -- so behind any lines all is sound
 pub behind_sound : EachTraceIsReached → WhatARunReachesIsSound → (start : Start) (s : State) → IsBehindLines start s

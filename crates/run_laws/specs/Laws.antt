@@ -1,5 +1,5 @@
 -- Laws of whole scripts: what runs come to, and when they answer the same.
-use Rattle.std.specs.Prelude.{◌≡◌, ℕ, ◌+◌, ◌≤◌, ◌^◌, List, ◌++◌, length}
+use Rattle.std.specs.Prelude.{◌≡◌, ℕ, Bool, true, false, ◌+◌, ◌≤◌, ◌^◌, List, ◌++◌, length}
 use Rattle.shelf.specs.Files.{Files}
 use Rattle.tree_order.specs.Laws.{AreSameSet}
 use Rattle.set_laws.specs.Sets.{AreIdentified}
@@ -13,8 +13,10 @@ use Rattle.machine.specs.declared.asked.Query.{Query}
 use Rattle.machine.specs.declared.asked.Query.TheVariants.{Front}
 use Rattle.machine.specs.declared.asked.View.{View}
 use Rattle.machine.specs.Printing.{waiting_line}
-use Rattle.machine_laws.specs.Laws.{IsOfWhatIsShown, Reached}
-use Rattle.script_runs.specs.Trace.{Trace}
+use Rattle.machine_laws.specs.Laws.{AsksForNoFile, IsOfWhatIsShown, Reached}
+use Rattle.script_io.specs.Lines.{without_return}
+use Rattle.script_events.specs.Script.{event_in}
+use Rattle.script_runs.specs.Trace.{Trace, begins, goes_on}
 
 -- how a run begins: the number of its first site, how many sites there are, the size of their screens, and the files
 pub record Start : Type 0 where
@@ -24,12 +26,13 @@ pub record Start : Type 0 where
   pub height : ℕ
   pub files : Files
 
--- a state behind some lines of a script, in a run that began so
+-- a state behind some lines of a script, in a run that began so, over a shelf that tells its files or over one that doesn't
 pub record IsBehindLines (start : Start) (s : State) : Type 0 where
+  pub told : Bool
   pub lines : ℕ
   pub script : List ℕ
   pub answers : List ℕ
-  pub trace : Trace (new_state start.first start.count start.width start.height start.files) lines script answers s
+  pub trace : Trace told (new_state start.first start.count start.width start.height start.files) lines script answers s
 
 -- the state behind any lines of a script is one that a run can come to
 abbrev pub EachTraceIsReached : Type 0
@@ -95,3 +98,16 @@ TheSameViewsAreAnswered =
     (start start' : Start) (i j : ℕ) (s s' : State) (d e : DeskState) (w : Screened)
     → IsTracedDesk start s i d w → IsTracedDesk start' s' j e w → HaveTakenTheSame d e
     → (v : View) (a b : List ℕ) → AnswersView s i v a → AnswersView s' j v b → a ≡ b
+
+-- no line of a run so far asked for a file
+abbrev pub AskedForNoFile : {told : Bool} {start : State} {n : ℕ} {script answers : List ℕ} {s : State}
+    → Trace told start n script answers s → Type 0
+AskedForNoFile begins = Unit {0}
+AskedForNoFile (goes_on {s = s} raw answer new trace is_raw answered) =
+    AskedForNoFile trace × AsksForNoFile (event_in s.first (length s.desks) (without_return raw))
+
+-- Over a shelf that doesn't tell its files, lines that ask for none are answered as over one that does, and all else comes to the
+-- same: so nothing that they print hangs on more than the script.
+abbrev pub WithoutFilesAllIsTold : Type 0
+WithoutFilesAllIsTold = (start : State) (n : ℕ) (script answers : List ℕ) (s : State) (trace : Trace false start n script answers s)
+    → AskedForNoFile trace → Trace true start n script answers (record s { files = start.files })

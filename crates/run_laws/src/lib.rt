@@ -1,11 +1,15 @@
-//! Laws of whole scripts, over the definitions alone.
+//! Laws of whole scripts, over the definitions; and of the call that runs them over a folder.
 #![tactic(auto)]
 
+mod folder;
+
 ghost use Rattle.run_laws.specs.Laws.{EachTraceIsReached, TheSameFrontsAreAnswered, TheSameIsAnswered};
-ghost use Rattle.run_laws.specs.Laws.{TheSameViewsAreAnswered};
+ghost use Rattle.run_laws.specs.Laws.{TheSameViewsAreAnswered, WithoutFilesAllIsTold};
+
+pub use folder::run_over_a_folder;
 
 use machine_laws::{
-    front_lines_tell_the_fronts, the_same_fronts_print_the_same,
+    any_files_will_do, front_lines_tell_the_fronts, the_same_fronts_print_the_same,
     the_same_operations_print_the_same, the_same_texts_show_the_same_screen,
     what_a_run_reaches_is_sound, what_is_reached_is_numbered,
 };
@@ -48,4 +52,12 @@ pub fn the_same_texts_answer_the_same_views()
     each_trace_is_reached();
     what_a_run_reaches_is_sound();
     the_same_texts_show_the_same_screen();
+}
+
+/// A law: over a shelf that doesn't tell its files, as the folder's, lines that ask for none are answered as over one that tells
+/// them. So what they print hangs on the script alone, and on memory.
+pub fn without_files_all_is_told()
+    ensures { WithoutFilesAllIsTold }
+{
+    any_files_will_do();
 }

@@ -14,7 +14,7 @@ use Rattle.texts.specs.declared.merge_refusal.MergeRefusal.{MergeRefusal}
 use Rattle.texts.specs.declared.took.Took.{Took}
 use Rattle.shelf.specs.Files.{Files}
 use Rattle.machine.specs.DeskState.{DeskState, IsTextOf, new_desk}
-use Rattle.machine.specs.Events.{Delivery, Event, Reply, arrange, ask, edit_reply, merge, merge_reply, merges, refuses, sent}
+use Rattle.machine.specs.Events.{Delivery, Event, Part, Reply, arrange, ask, edit_reply, merge, merge_reply, merges, refuses, sent}
 use Rattle.machine.specs.Events.{take, take_reply, untouched}
 use Rattle.machine.specs.Machine.{Replies, message_in}
 use Rattle.machine.specs.State.{State, new_state}
@@ -71,17 +71,27 @@ module _ (s : SitesSeen) (i : ℕ) (d : DeskSeen) (at : slice_get s.desks i ≡ 
       → Stepped s (ask i (arrange a)) (reply_lines (length s.sent) r) (with_seen s i new s.sent)
   arranged_step a r new step = other_step s (with_seen s i new s.sent) (ask i (arrange a)) r (replied (λ i. ask i (arrange a)) r new step)
 
-  -- a step over the files that the shelf tells, printed
+  -- a step over these files, printed
+  step_over : (was now : Files) (event : ℕ → Event) (part : Part) (result : Result Answer EditRefusal) (messages : List (List ℕ)) (new : DeskSeen) (after : List (List ℕ))
+      → Replies (run_of s was) (event i) part (answer_reply result messages) (record (with_desk (run_of s was) i new after) { files = now })
+      → Step (run_of s was) (event i) (reply_lines (length s.sent) (answer_reply result (drop (length s.sent) after))) (run_of (with_seen s i new after) now)
+  step_over was now event part result messages new after replies =
+      let there : State = run_of (with_seen s i new after) now in
+      let same : record (with_desk (run_of s was) i new after) { files = now } ≡ there = λ k. record (put_in s was i new after k) { files = now } in
+      answer_step (run_of s was) there (event i) part result messages
+      (subst (Replies (run_of s was) (event i) part (answer_reply result messages)) same replies)
+
+  -- and over those that the shelf tells
   pub filed_step : (event : ℕ → Event) (result : Result Answer EditRefusal) (new : DeskSeen) (after : List (List ℕ)) (told told' : Option Files)
       → IsShelfStep d event result new s.sent after told told'
       → OverFiles told told' (λ was now. Step (run_of s was) (event i) (reply_lines (length s.sent) (answer_reply result (drop (length s.sent) after))) (run_of (with_seen s i new after) now))
-  filed_step event result new after None told' step = tt
+  filed_step event result new after None None (messages, part, files, files', counts, of_files, goes) =
+      (files, files', step_over files files' event part result messages new after (goes (run_of s files) i (stands s files i d at) refl refl))
+  filed_step event result new after None (Some now) (messages, part, files, files', counts, of_files, goes) = absurd of_files
   filed_step event result new after (Some was) None (messages, part, files, files', counts, of_files, goes) = absurd of_files
   filed_step event result new after (Some was) (Some now) (messages, part, files, files', counts, (is_was, is_now), goes) =
-      let there : State = run_of (with_seen s i new after) now in
-      let same : record (with_desk (run_of s was) i new after) { files = files' } ≡ there = λ k. record (put_in s was i new after k) { files = is_now k } in
-      answer_step (run_of s was) there (event i) part result messages
-      (subst (Replies (run_of s was) (event i) part (answer_reply result messages)) same (goes (run_of s was) i (stands s was i d at) refl (sym is_was)))
+      step_over was now event part result messages new after (subst (λ (f : Files). Replies (run_of s was) (event i) part (answer_reply result messages) (record (with_desk (run_of s was) i new after) { files = f })) is_now
+      (goes (run_of s was) i (stands s was i d at) refl (sym is_was)))
 
   -- one that leaves the desk as it was leaves the sites so
   pub filed_same : (event : ℕ → Event) (result : Result Answer EditRefusal) (told told' : Option Files)

@@ -1,5 +1,5 @@
 -- What the desks of a run's sites hold, and what they do in a run over files.
-use Rattle.std.specs.Prelude.{ℕ, List, map, Option, Some, None, ⊤}
+use Rattle.std.specs.Prelude.{ℕ, List, map, Option, Some, None}
 use Rattle.shelf.specs.Files.{Files}
 use Rattle.machine.specs.Events.{Event, Reply, untouched}
 use Rattle.machine.specs.Machine.{Replies}
@@ -31,8 +31,10 @@ Replied s e r new = (files : Files) → Replies (run_of s files) e untouched r (
 abbrev pub Stepped : SitesSeen → Event → List ℕ → SitesSeen → Type 0
 Stepped s e answer new = (files : Files) → Step (run_of s files) e answer (run_of new files)
 
--- so it is of the files that a shelf told before, and of those that it tells now; of a shelf that tells none nothing is said
+-- So it is of the files that a shelf told before, and of those that it tells now; of some files, where it tells none. A shelf that
+-- tells its files goes on to do so, and no other begins to.
 abbrev pub OverFiles : (told told' : Option Files) → (Files → Files → Type 0) → Type 0
-OverFiles None told' Holds = ⊤
+OverFiles None None Holds = (was now : Files) × Holds was now
+OverFiles None (Some now) Holds = ⊥
 OverFiles (Some was) None Holds = ⊥
 OverFiles (Some was) (Some now) Holds = Holds was now

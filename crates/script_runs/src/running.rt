@@ -1,5 +1,5 @@
 ghost use Rattle.std.specs.Prelude.{◌≡◌, ◌≤◌, ◌⊎◌, ℕ, List, Contains, IsTrue, OnErr, OnOk, length, vec_capacity, is_ok};
-ghost use Rattle.std.specs.Prelude.{if◌then◌else◌, Err, IfSome, IfErr};
+ghost use Rattle.std.specs.Prelude.{if◌then◌else◌, Err, IfSome, IfErr, is_some};
 ghost use Rattle.std.specs.Io.KnownBytes.{Keeps};
 ghost use Rattle.machine.specs.State.{new_state};
 ghost use Rattle.script_runs.specs.Ends.{Ends, IsEnd};
@@ -76,7 +76,7 @@ fn run_lines<R: Read + Drop, W: Write, S: Shelf>(
 ) -> Result<(), Refusal>
     requires { MAX_LINE ≤ vec_capacity line.old }
     ensures answers { OverFiles (S.files shelf.old) (S.files shelf.new) (λ was now. IfSome input.old.left (λ script.
-        Ends (run_of sites.old was) script result input.new.failed
+        Ends (is_some (S.files shelf.old)) (run_of sites.old was) script result input.new.failed
         input.new.left output.old.contents output.new.contents now)) }
     ensures errors { IfErr result IsEnd }
     ensures write_fault { result ≡ Err Refusal.WriteFault → IsTrue output.new.failed }
@@ -113,7 +113,7 @@ pub fn run<R: Read + Drop, W: Write, S: Shelf>(
     settings: Settings,
 ) -> Result<(), Refusal>
     ensures answers { OverFiles (S.files shelf.old) (S.files shelf.new) (λ was now. IfSome input.old.left (λ script.
-        Ends (new_state settings.first settings.count settings.width settings.height was) script result input.new.failed
+        Ends (is_some (S.files shelf.old)) (new_state settings.first settings.count settings.width settings.height was) script result input.new.failed
         input.new.left output.old.contents output.new.contents now)) }
     ensures errors { IfErr result IsEnd }
     ensures write_fault { result ≡ Err Refusal.WriteFault → IsTrue output.new.failed }

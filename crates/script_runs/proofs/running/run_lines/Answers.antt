@@ -1,4 +1,5 @@
 use Rattle.std.proofs.Common.{◌≢◌, ◌+◌, Ok, arith, rules}
+use Rattle.std.specs.Prelude.{is_some}
 use Rattle.script_runs.specs.Ends.{Ends}
 use Rattle.script_runs.specs.Seen.{run_of}
 use Rattle.script_runs.proofs.Filing.{over_same, over_then, over_weaker}
@@ -11,8 +12,8 @@ use Rattle.script_runs.proofs.running.run_lines.Goals.{in_default-via-in-Ok+in_d
 pub loop-init : goal.loop-init
 loop-init g c = record {
   so_far = over_same (g.S.Shelf.files c.args.shelf.now)
-      (SoFarOver c.args.sites.now c.args.input.now.left c.args.input.now.left c.args.output.now.contents c.args.output.now.contents 0 c.args.sites.now)
-      (λ files. begins_known (run_of c.args.sites.now files) c.args.input.now.left c.args.output.now.contents);
+      (SoFarOver (is_some (g.S.Shelf.files c.args.shelf.now)) c.args.sites.now c.args.input.now.left c.args.input.now.left c.args.output.now.contents c.args.output.now.contents 0 c.args.sites.now)
+      (λ files. begins_known (is_some (g.S.Shelf.files c.args.shelf.now)) (run_of c.args.sites.now files) c.args.input.now.left c.args.output.now.contents);
   room = c.requires;
 }
 
@@ -20,10 +21,10 @@ pub returns-in-Ok-Last-clause-answers : goal.returns-in-Ok-Last-clause-answers
 returns-in-Ok-Last-clause-answers g c =
     let written = rw c.deref-in-Ok-Last.ensures.value at c.answer_last.ensures.answers in
     over_then (g.S.Shelf.files c.args.shelf.now) (g.S.Shelf.files c.loop.shelf) (g.S.Shelf.files c.answer_last.new.shelf)
-    (SoFarOver c.args.sites.now c.args.input.now.left c.loop.input.left c.args.output.now.contents c.loop.output.contents c.loop.counter c.loop.sites)
+    (SoFarOver (is_some (g.S.Shelf.files c.args.shelf.now)) c.args.sites.now c.args.input.now.left c.loop.input.left c.args.output.now.contents c.loop.output.contents c.loop.counter c.loop.sites)
     (AnsweredOver c.loop.sites c.take_line.new.line.items written.0 c.answer_last.new.sites)
-    (EndsOver c.args.sites.now c.args.input.now.left c.answer_last.result c.take_line.new.input.failed c.take_line.new.input.left c.args.output.now.contents c.answer_last.new.output.contents)
-    (λ was mid_files now so_far step.
+    (EndsOver (is_some (g.S.Shelf.files c.args.shelf.now)) c.args.sites.now c.args.input.now.left c.answer_last.result c.take_line.new.input.failed c.take_line.new.input.left c.args.output.now.contents c.answer_last.new.output.contents)
+    (λ was mid_files then now meanwhile so_far step.
     let start = run_of c.args.sites.now was in
     let failed = c.take_line.new.input.failed in
     let cut = c.answer_last.new.output.failed in
@@ -36,14 +37,14 @@ returns-in-Ok-Last-clause-answers g c =
     let s' = run_of c.answer_last.new.sites now in
     let r = c.answer_last.result in
     let taken = rw c.in-Ok-Last.field-0-is at c.in-Ok-Last.ensures.taken in
-    IfSome-weaker c.args.input.now.left (λ script. IsSoFar start script left old mid c.loop.counter s) (λ script. Ends start script r failed left' old new now)
-    (λ script f. ends_by_last start script failed cut left left' old mid new c.loop.counter s s' f r c.take_line.new.line.items (omega arith) taken (written.0, written.1, step)) (so_far_out start c.args.input.now.left left old c.loop.output.contents mid c.loop.counter s so_far c.put_out.ensures.kept)) c.loop.invariant.so_far written.2
+    IfSome-weaker c.args.input.now.left (λ script. IsSoFar (is_some (g.S.Shelf.files c.args.shelf.now)) start script left old mid c.loop.counter s) (λ script. Ends (is_some (g.S.Shelf.files c.args.shelf.now)) start script r failed left' old new now)
+    (λ script f. ends_by_last (is_some (g.S.Shelf.files c.args.shelf.now)) start script failed cut left left' old mid new c.loop.counter s s' f r c.take_line.new.line.items (omega arith) taken (written.0, written.1, (then, meanwhile, step))) (so_far_out (is_some (g.S.Shelf.files c.args.shelf.now)) start c.args.input.now.left left old c.loop.output.contents mid c.loop.counter s so_far c.put_out.ensures.kept)) c.loop.invariant.so_far written.2
 
 pub returns-in-Ok-End-clause-answers : goal.returns-in-Ok-End-clause-answers
 returns-in-Ok-End-clause-answers g c =
     over_weaker (g.S.Shelf.files c.args.shelf.now) (g.S.Shelf.files c.loop.shelf)
-    (SoFarOver c.args.sites.now c.args.input.now.left c.loop.input.left c.args.output.now.contents c.loop.output.contents c.loop.counter c.loop.sites)
-    (EndsOver c.args.sites.now c.args.input.now.left c.flush.result c.take_line.new.input.failed c.take_line.new.input.left c.args.output.now.contents c.flush.new.self.contents)
+    (SoFarOver (is_some (g.S.Shelf.files c.args.shelf.now)) c.args.sites.now c.args.input.now.left c.loop.input.left c.args.output.now.contents c.loop.output.contents c.loop.counter c.loop.sites)
+    (EndsOver (is_some (g.S.Shelf.files c.args.shelf.now)) c.args.sites.now c.args.input.now.left c.flush.result c.take_line.new.input.failed c.take_line.new.input.left c.args.output.now.contents c.flush.new.self.contents)
     (λ was now so_far.
     let start = run_of c.args.sites.now was in
     let failed = c.take_line.new.input.failed in
@@ -56,14 +57,14 @@ returns-in-Ok-End-clause-answers g c =
     let s = run_of c.loop.sites now in
     let r = c.flush.result in
     let taken = rw c.in-Ok-End.field-0-is at c.in-Ok-End.ensures.taken in
-    IfSome-weaker c.args.input.now.left (λ script. IsSoFar start script left old mid c.loop.counter s) (λ script. Ends start script r failed left' old new now)
-    (λ script f. ends_by_end start script failed cut left left' old mid new c.loop.counter s s f r c.take_line.new.line.items (omega arith) taken c.flush.ensures.kept c.flush.ensures.errors (failed_at_err r c.put_out.new.output.failed cut c.flush.ensures.failed)) (so_far_out start c.args.input.now.left left old c.loop.output.contents mid c.loop.counter s so_far c.put_out.ensures.kept)) c.loop.invariant.so_far
+    IfSome-weaker c.args.input.now.left (λ script. IsSoFar (is_some (g.S.Shelf.files c.args.shelf.now)) start script left old mid c.loop.counter s) (λ script. Ends (is_some (g.S.Shelf.files c.args.shelf.now)) start script r failed left' old new now)
+    (λ script f. ends_by_end (is_some (g.S.Shelf.files c.args.shelf.now)) start script failed cut left left' old mid new c.loop.counter s s f r c.take_line.new.line.items (omega arith) taken c.flush.ensures.kept c.flush.ensures.errors (failed_at_err r c.put_out.new.output.failed cut c.flush.ensures.failed)) (so_far_out (is_some (g.S.Shelf.files c.args.shelf.now)) start c.args.input.now.left left old c.loop.output.contents mid c.loop.counter s so_far c.put_out.ensures.kept)) c.loop.invariant.so_far
 
 pub returns-in-Err-clause-answers : goal.returns-in-Err-clause-answers
 returns-in-Err-clause-answers g c =
     over_weaker (g.S.Shelf.files c.args.shelf.now) (g.S.Shelf.files c.loop.shelf)
-    (SoFarOver c.args.sites.now c.args.input.now.left c.loop.input.left c.args.output.now.contents c.loop.output.contents c.loop.counter c.loop.sites)
-    (EndsOver c.args.sites.now c.args.input.now.left c.break_off.result c.take_line.new.input.failed c.take_line.new.input.left c.args.output.now.contents c.break_off.new.output.contents)
+    (SoFarOver (is_some (g.S.Shelf.files c.args.shelf.now)) c.args.sites.now c.args.input.now.left c.loop.input.left c.args.output.now.contents c.loop.output.contents c.loop.counter c.loop.sites)
+    (EndsOver (is_some (g.S.Shelf.files c.args.shelf.now)) c.args.sites.now c.args.input.now.left c.break_off.result c.take_line.new.input.failed c.take_line.new.input.left c.args.output.now.contents c.break_off.new.output.contents)
     (λ was now so_far.
     let start = run_of c.args.sites.now was in
     let failed = c.take_line.new.input.failed in
@@ -75,14 +76,14 @@ returns-in-Err-clause-answers g c =
     let new = c.break_off.new.output.contents in
     let s = run_of c.loop.sites now in
     let r = c.break_off.result in
-    IfSome-weaker c.args.input.now.left (λ script. IsSoFar start script left old mid c.loop.counter s) (λ script. Ends start script r failed left' old new now)
-    (λ script f. ends_by_fault start script failed cut left left' old mid new c.loop.counter s s f r c.take_line.new.line.items c.in-Err.field-0 (omega arith) c.in-Err.ensures.taken c.break_off.ensures.ends) (so_far_out start c.args.input.now.left left old c.loop.output.contents mid c.loop.counter s so_far c.put_out.ensures.kept)) c.loop.invariant.so_far
+    IfSome-weaker c.args.input.now.left (λ script. IsSoFar (is_some (g.S.Shelf.files c.args.shelf.now)) start script left old mid c.loop.counter s) (λ script. Ends (is_some (g.S.Shelf.files c.args.shelf.now)) start script r failed left' old new now)
+    (λ script f. ends_by_fault (is_some (g.S.Shelf.files c.args.shelf.now)) start script failed cut left left' old mid new c.loop.counter s s f r c.take_line.new.line.items c.in-Err.field-0 (omega arith) c.in-Err.ensures.taken c.break_off.ensures.ends) (so_far_out (is_some (g.S.Shelf.files c.args.shelf.now)) start c.args.input.now.left left old c.loop.output.contents mid c.loop.counter s so_far c.put_out.ensures.kept)) c.loop.invariant.so_far
 
 pub returns-in_err-put_out-clause-answers : goal.returns-in_err-put_out-clause-answers
 returns-in_err-put_out-clause-answers g c =
     over_weaker (g.S.Shelf.files c.args.shelf.now) (g.S.Shelf.files c.loop.shelf)
-    (SoFarOver c.args.sites.now c.args.input.now.left c.loop.input.left c.args.output.now.contents c.loop.output.contents c.loop.counter c.loop.sites)
-    (EndsOver c.args.sites.now c.args.input.now.left c.from_residual.result c.loop.input.failed c.loop.input.left c.args.output.now.contents c.put_out.new.output.contents)
+    (SoFarOver (is_some (g.S.Shelf.files c.args.shelf.now)) c.args.sites.now c.args.input.now.left c.loop.input.left c.args.output.now.contents c.loop.output.contents c.loop.counter c.loop.sites)
+    (EndsOver (is_some (g.S.Shelf.files c.args.shelf.now)) c.args.sites.now c.args.input.now.left c.from_residual.result c.loop.input.failed c.loop.input.left c.args.output.now.contents c.put_out.new.output.contents)
     (λ was now so_far.
     let start = run_of c.args.sites.now was in
     let left = c.loop.input.left in
@@ -91,17 +92,17 @@ returns-in_err-put_out-clause-answers g c =
     let new = c.put_out.new.output.contents in
     let s = run_of c.loop.sites now in
     let r = c.from_residual.result in
-    IfSome-weaker c.args.input.now.left (λ script. IsSoFar start script left old mid c.loop.counter s) (λ script. Ends start script r c.loop.input.failed left old new now)
-    (λ script f. ends_by_put_out start script c.loop.input.failed left old mid new c.loop.counter s r c.in_err-put_out.field-0.0 f (omega arith) c.from_residual.ensures.1 c.in_err-put_out.ensures.errors c.put_out.ensures.kept) so_far) c.loop.invariant.so_far
+    IfSome-weaker c.args.input.now.left (λ script. IsSoFar (is_some (g.S.Shelf.files c.args.shelf.now)) start script left old mid c.loop.counter s) (λ script. Ends (is_some (g.S.Shelf.files c.args.shelf.now)) start script r c.loop.input.failed left old new now)
+    (λ script f. ends_by_put_out (is_some (g.S.Shelf.files c.args.shelf.now)) start script c.loop.input.failed left old mid new c.loop.counter s r c.in_err-put_out.field-0.0 f (omega arith) c.from_residual.ensures.1 c.in_err-put_out.ensures.errors c.put_out.ensures.kept) so_far) c.loop.invariant.so_far
 
 pub returns-in_err-answer-in-Ok-Line-clause-answers : goal.returns-in_err-answer-in-Ok-Line-clause-answers
 returns-in_err-answer-in-Ok-Line-clause-answers g c =
     let written = rw c.deref.ensures.value at c.in_err-answer-in-Ok-Line.ensures in
     over_then (g.S.Shelf.files c.args.shelf.now) (g.S.Shelf.files c.loop.shelf) (g.S.Shelf.files c.answer.new.shelf)
-    (SoFarOver c.args.sites.now c.args.input.now.left c.loop.input.left c.args.output.now.contents c.loop.output.contents c.loop.counter c.loop.sites)
+    (SoFarOver (is_some (g.S.Shelf.files c.args.shelf.now)) c.args.sites.now c.args.input.now.left c.loop.input.left c.args.output.now.contents c.loop.output.contents c.loop.counter c.loop.sites)
     (AnsweredOver c.loop.sites c.take_line.new.line.items written.0 c.answer.new.self)
-    (EndsOver c.args.sites.now c.args.input.now.left c.from_residual-in_err-answer-in-Ok-Line.result c.take_line.new.input.failed c.take_line.new.input.left c.args.output.now.contents c.answer.new.output.contents)
-    (λ was mid_files now so_far step.
+    (EndsOver (is_some (g.S.Shelf.files c.args.shelf.now)) c.args.sites.now c.args.input.now.left c.from_residual-in_err-answer-in-Ok-Line.result c.take_line.new.input.failed c.take_line.new.input.left c.args.output.now.contents c.answer.new.output.contents)
+    (λ was mid_files then now meanwhile so_far step.
     let start = run_of c.args.sites.now was in
     let failed = c.take_line.new.input.failed in
     let cut = c.answer.new.output.failed in
@@ -114,8 +115,8 @@ returns-in_err-answer-in-Ok-Line-clause-answers g c =
     let s' = run_of c.answer.new.self now in
     let r = c.from_residual-in_err-answer-in-Ok-Line.result in
     let taken = rw c.in-Ok-Line.field-0-is at c.in-Ok-Line.ensures.taken in
-    IfSome-weaker c.args.input.now.left (λ script. IsSoFar start script left old mid c.loop.counter s) (λ script. Ends start script r failed left' old new now)
-    (λ script f. ends_by_line start script failed cut left left' old mid new c.loop.counter s s' f r c.in_err-answer-in-Ok-Line.field-0.0 c.take_line.new.line.items (omega arith) taken c.from_residual-in_err-answer-in-Ok-Line.ensures.1 (written.0, written.1, step)) (so_far_out start c.args.input.now.left left old c.loop.output.contents mid c.loop.counter s so_far c.put_out.ensures.kept)) c.loop.invariant.so_far written.2
+    IfSome-weaker c.args.input.now.left (λ script. IsSoFar (is_some (g.S.Shelf.files c.args.shelf.now)) start script left old mid c.loop.counter s) (λ script. Ends (is_some (g.S.Shelf.files c.args.shelf.now)) start script r failed left' old new now)
+    (λ script f. ends_by_line (is_some (g.S.Shelf.files c.args.shelf.now)) start script failed cut left left' old mid new c.loop.counter s s' f r c.in_err-answer-in-Ok-Line.field-0.0 c.take_line.new.line.items (omega arith) taken c.from_residual-in_err-answer-in-Ok-Line.ensures.1 (written.0, written.1, (then, meanwhile, step))) (so_far_out (is_some (g.S.Shelf.files c.args.shelf.now)) start c.args.input.now.left left old c.loop.output.contents mid c.loop.counter s so_far c.put_out.ensures.kept)) c.loop.invariant.so_far written.2
 
 pub loop-preserved : goal.loop-preserved
 loop-preserved g c =
@@ -131,23 +132,23 @@ loop-preserved g c =
     let written = rw c.deref.ensures.value at c.in_ok-answer-in-Ok-Line.ensures in
     record {
       so_far = over_then (g.S.Shelf.files c.args.shelf.now) (g.S.Shelf.files c.loop.shelf) (g.S.Shelf.files c.answer.new.shelf)
-          (SoFarOver c.args.sites.now c.args.input.now.left c.loop.input.left c.args.output.now.contents c.loop.output.contents c.loop.counter c.loop.sites)
+          (SoFarOver (is_some (g.S.Shelf.files c.args.shelf.now)) c.args.sites.now c.args.input.now.left c.loop.input.left c.args.output.now.contents c.loop.output.contents c.loop.counter c.loop.sites)
           (AnsweredOver c.loop.sites c.take_line.new.line.items written.0 c.answer.new.self)
-          (SoFarOver c.args.sites.now c.args.input.now.left c.take_line.new.input.left c.args.output.now.contents c.answer.new.output.contents (c.loop.counter + 1) c.answer.new.self)
-          (λ was mid_files now so_far step.
+          (SoFarOver (is_some (g.S.Shelf.files c.args.shelf.now)) c.args.sites.now c.args.input.now.left c.take_line.new.input.left c.args.output.now.contents c.answer.new.output.contents (c.loop.counter + 1) c.answer.new.self)
+          (λ was mid_files then now meanwhile so_far step.
           let start = run_of c.args.sites.now was in
           let s = run_of c.loop.sites mid_files in
           let s' = run_of c.answer.new.self now in
-          IfSome-weaker c.args.input.now.left (λ script. IsSoFar start script left old mid n s) (λ script. IsSoFar start script left' old new (n + 1) s')
-          (λ script f. goes_on_by start script failed cut left left' old mid new n s s' f c.take_line.new.line.items taken (written.0, written.1, step)) (so_far_out start c.args.input.now.left left old c.loop.output.contents mid n s so_far c.put_out.ensures.kept)) c.loop.invariant.so_far written.2;
+          IfSome-weaker c.args.input.now.left (λ script. IsSoFar (is_some (g.S.Shelf.files c.args.shelf.now)) start script left old mid n s) (λ script. IsSoFar (is_some (g.S.Shelf.files c.args.shelf.now)) start script left' old new (n + 1) s')
+          (λ script f. goes_on_by (is_some (g.S.Shelf.files c.args.shelf.now)) start script failed cut left left' old mid new n s s' f c.take_line.new.line.items taken (written.0, written.1, (then, meanwhile, step))) (so_far_out (is_some (g.S.Shelf.files c.args.shelf.now)) start c.args.input.now.left left old c.loop.output.contents mid n s so_far c.put_out.ensures.kept)) c.loop.invariant.so_far written.2;
       room = c.take_line.ensures.room;
     }
 
 pub returns-in_err-put_out-2-clause-answers : goal.returns-in_err-put_out-2-clause-answers
 returns-in_err-put_out-2-clause-answers g c =
     over_weaker (g.S.Shelf.files c.args.shelf.now) (g.S.Shelf.files c.loop.shelf)
-    (SoFarOver c.args.sites.now c.args.input.now.left c.loop.input.left c.args.output.now.contents c.loop.output.contents c.loop.counter c.loop.sites)
-    (EndsOver c.args.sites.now c.args.input.now.left c.from_residual-in_err-put_out-2.result c.loop.input.failed c.loop.input.left c.args.output.now.contents c.put_out-2.new.output.contents)
+    (SoFarOver (is_some (g.S.Shelf.files c.args.shelf.now)) c.args.sites.now c.args.input.now.left c.loop.input.left c.args.output.now.contents c.loop.output.contents c.loop.counter c.loop.sites)
+    (EndsOver (is_some (g.S.Shelf.files c.args.shelf.now)) c.args.sites.now c.args.input.now.left c.from_residual-in_err-put_out-2.result c.loop.input.failed c.loop.input.left c.args.output.now.contents c.put_out-2.new.output.contents)
     (λ was now so_far.
     let start = run_of c.args.sites.now was in
     let left = c.loop.input.left in
@@ -156,14 +157,14 @@ returns-in_err-put_out-2-clause-answers g c =
     let new = c.put_out-2.new.output.contents in
     let s = run_of c.loop.sites now in
     let r = c.from_residual-in_err-put_out-2.result in
-    IfSome-weaker c.args.input.now.left (λ script. IsSoFar start script left old mid c.loop.counter s) (λ script. Ends start script r c.loop.input.failed left old new now)
-    (λ script f. ends_by_put_out start script c.loop.input.failed left old mid new c.loop.counter s r c.in_err-put_out-2.field-0.0 f (omega arith) c.from_residual-in_err-put_out-2.ensures.1 c.in_err-put_out-2.ensures.errors c.put_out-2.ensures.kept) so_far) c.loop.invariant.so_far
+    IfSome-weaker c.args.input.now.left (λ script. IsSoFar (is_some (g.S.Shelf.files c.args.shelf.now)) start script left old mid c.loop.counter s) (λ script. Ends (is_some (g.S.Shelf.files c.args.shelf.now)) start script r c.loop.input.failed left old new now)
+    (λ script f. ends_by_put_out (is_some (g.S.Shelf.files c.args.shelf.now)) start script c.loop.input.failed left old mid new c.loop.counter s r c.in_err-put_out-2.field-0.0 f (omega arith) c.from_residual-in_err-put_out-2.ensures.1 c.in_err-put_out-2.ensures.errors c.put_out-2.ensures.kept) so_far) c.loop.invariant.so_far
 
 pub returns-in-Ok-End-take_line-clause-answers : goal.returns-in-Ok-End-take_line-clause-answers
 returns-in-Ok-End-take_line-clause-answers g c =
     over_weaker (g.S.Shelf.files c.args.shelf.now) (g.S.Shelf.files c.loop.shelf)
-    (SoFarOver c.args.sites.now c.args.input.now.left c.loop.input.left c.args.output.now.contents c.loop.output.contents c.loop.counter c.loop.sites)
-    (EndsOver c.args.sites.now c.args.input.now.left c.flush-in-Ok-End-take_line.result c.take_line-2.new.input.failed c.take_line-2.new.input.left c.args.output.now.contents c.flush-in-Ok-End-take_line.new.self.contents)
+    (SoFarOver (is_some (g.S.Shelf.files c.args.shelf.now)) c.args.sites.now c.args.input.now.left c.loop.input.left c.args.output.now.contents c.loop.output.contents c.loop.counter c.loop.sites)
+    (EndsOver (is_some (g.S.Shelf.files c.args.shelf.now)) c.args.sites.now c.args.input.now.left c.flush-in-Ok-End-take_line.result c.take_line-2.new.input.failed c.take_line-2.new.input.left c.args.output.now.contents c.flush-in-Ok-End-take_line.new.self.contents)
     (λ was now so_far.
     let start = run_of c.args.sites.now was in
     let failed = c.take_line-2.new.input.failed in
@@ -176,14 +177,14 @@ returns-in-Ok-End-take_line-clause-answers g c =
     let s = run_of c.loop.sites now in
     let r = c.flush-in-Ok-End-take_line.result in
     let taken = rw c.in-Ok-End-take_line.field-0-is at c.in-Ok-End-take_line.ensures.taken in
-    IfSome-weaker c.args.input.now.left (λ script. IsSoFar start script left old mid c.loop.counter s) (λ script. Ends start script r failed left' old new now)
-    (λ script f. ends_by_end start script failed cut left left' old mid new c.loop.counter s s f r c.take_line-2.new.line.items (omega arith) taken c.flush-in-Ok-End-take_line.ensures.kept c.flush-in-Ok-End-take_line.ensures.errors (failed_at_err r c.put_out-2.new.output.failed cut c.flush-in-Ok-End-take_line.ensures.failed)) (so_far_out start c.args.input.now.left left old c.loop.output.contents mid c.loop.counter s so_far c.put_out-2.ensures.kept)) c.loop.invariant.so_far
+    IfSome-weaker c.args.input.now.left (λ script. IsSoFar (is_some (g.S.Shelf.files c.args.shelf.now)) start script left old mid c.loop.counter s) (λ script. Ends (is_some (g.S.Shelf.files c.args.shelf.now)) start script r failed left' old new now)
+    (λ script f. ends_by_end (is_some (g.S.Shelf.files c.args.shelf.now)) start script failed cut left left' old mid new c.loop.counter s s f r c.take_line-2.new.line.items (omega arith) taken c.flush-in-Ok-End-take_line.ensures.kept c.flush-in-Ok-End-take_line.ensures.errors (failed_at_err r c.put_out-2.new.output.failed cut c.flush-in-Ok-End-take_line.ensures.failed)) (so_far_out (is_some (g.S.Shelf.files c.args.shelf.now)) start c.args.input.now.left left old c.loop.output.contents mid c.loop.counter s so_far c.put_out-2.ensures.kept)) c.loop.invariant.so_far
 
 pub returns-in_default-clause-answers : goal.returns-in_default-clause-answers
 returns-in_default-clause-answers g c =
     over_weaker (g.S.Shelf.files c.args.shelf.now) (g.S.Shelf.files c.loop.shelf)
-    (SoFarOver c.args.sites.now c.args.input.now.left c.loop.input.left c.args.output.now.contents c.loop.output.contents c.loop.counter c.loop.sites)
-    (EndsOver c.args.sites.now c.args.input.now.left c.break_off-in_default.result c.take_line-2.new.input.failed c.take_line-2.new.input.left c.args.output.now.contents c.break_off-in_default.new.output.contents)
+    (SoFarOver (is_some (g.S.Shelf.files c.args.shelf.now)) c.args.sites.now c.args.input.now.left c.loop.input.left c.args.output.now.contents c.loop.output.contents c.loop.counter c.loop.sites)
+    (EndsOver (is_some (g.S.Shelf.files c.args.shelf.now)) c.args.sites.now c.args.input.now.left c.break_off-in_default.result c.take_line-2.new.input.failed c.take_line-2.new.input.left c.args.output.now.contents c.break_off-in_default.new.output.contents)
     (λ was now so_far.
     let start = run_of c.args.sites.now was in
     let failed = c.take_line-2.new.input.failed in
@@ -196,5 +197,5 @@ returns-in_default-clause-answers g c =
     let s = run_of c.loop.sites now in
     let r = c.break_off-in_default.result in
     let some : c.take_line-2.result ≢ Ok End = elim c.in_default.branch [ in_default-via-in-Ok+in_default w ↦ (search rules) | in_default-via-in_default w ↦ (search rules) ] in
-    IfSome-weaker c.args.input.now.left (λ script. IsSoFar start script left old mid c.loop.counter s) (λ script. Ends start script r failed left' old new now)
-    (λ script f. ends_by_limit start script failed cut left left' old mid new c.loop.counter s s f r c.take_line-2.result c.take_line-2.new.line.items (omega arith) some c.take_line-2.ensures.taken c.break_off-in_default.ensures.ends) (so_far_out start c.args.input.now.left left old c.loop.output.contents mid c.loop.counter s so_far c.put_out-2.ensures.kept)) c.loop.invariant.so_far
+    IfSome-weaker c.args.input.now.left (λ script. IsSoFar (is_some (g.S.Shelf.files c.args.shelf.now)) start script left old mid c.loop.counter s) (λ script. Ends (is_some (g.S.Shelf.files c.args.shelf.now)) start script r failed left' old new now)
+    (λ script f. ends_by_limit (is_some (g.S.Shelf.files c.args.shelf.now)) start script failed cut left left' old mid new c.loop.counter s s f r c.take_line-2.result c.take_line-2.new.line.items (omega arith) some c.take_line-2.ensures.taken c.break_off-in_default.ensures.ends) (so_far_out (is_some (g.S.Shelf.files c.args.shelf.now)) start c.args.input.now.left left old c.loop.output.contents mid c.loop.counter s so_far c.put_out-2.ensures.kept)) c.loop.invariant.so_far

@@ -1,5 +1,5 @@
 use Rattle.std.proofs.Common.{◌≤◌}
-use Rattle.std.specs.Prelude.{IfSome, vec_capacity}
+use Rattle.std.specs.Prelude.{IfSome, is_some, vec_capacity}
 use Rattle.script_io.specs.declared.lines.TheConstants.{MAX_LINE}
 use Rattle.script_runs.specs.Seen.{OverFiles, run_of}
 use Rattle.script_runs.proofs.Traces.{IsSoFar}
@@ -8,6 +8,6 @@ use Rattle.script_runs.proofs.running.run_lines.Given as goal
 abbrev pub invariant-loop : goal.invariant-loop
 invariant-loop g l = record {
   so_far : OverFiles (g.S.Shelf.files l.fn.shelf) (g.S.Shelf.files l.shelf) (λ was now. IfSome l.fn.input.left (λ script.
-      IsSoFar (run_of l.fn.sites was) script l.input.left l.fn.output.contents l.output.contents l.counter (run_of l.sites now)));
+      IsSoFar (is_some (g.S.Shelf.files l.fn.shelf)) (run_of l.fn.sites was) script l.input.left l.fn.output.contents l.output.contents l.counter (run_of l.sites now)));
   room : MAX_LINE ≤ vec_capacity l.line;
 }

@@ -1,4 +1,5 @@
-use Rattle.std.proofs.Common.{◌≡◌, false, length, sym, ap, ◌∙◌, arith}
+use Rattle.std.proofs.Common.{◌≡◌, [], false, length, sym, ap, ◌∙◌, arith}
+use Rattle.std.proofs.KnownBytes.{Appends-nil}
 use Rattle.looks.specs.declared.refusal.Refusal.TheVariants.{BadEvent}
 use Rattle.machine.specs.Events.{unknown}
 use Rattle.script_events.specs.EventView.{event_of}
@@ -6,7 +7,7 @@ use Rattle.script_events.specs.Script.{event_in}
 use Rattle.script_runs.specs.Answers.{refused_line}
 use Rattle.script_runs.specs.Seen.{SitesSeen}
 use Rattle.script_runs.specs.Trace.{is_silent}
-use Rattle.script_runs.proofs.Replying.{line_over, stepped_over, unknown_step}
+use Rattle.script_runs.proofs.Replying.{line_over, silent_over, stepped_over, unknown_step}
 use Rattle.script_runs.proofs.sites.Sites.answer.Goals as goal
 
 pub returns-in-Some : goal.returns-in-Some
@@ -33,3 +34,8 @@ returns-in-None g c =
     let asked : unknown ≡ event_in s.first (length s.desks) line = rw (first, count) at c.in-None.ensures.event in
     let told = (g.S.Shelf.files c.args.shelf.now) in
     (refused_line BadEvent, c.put_refused.ensures, line_over told told s s line (refused_line BadEvent) (unknown) heard asked (stepped_over told s s (unknown) (refused_line BadEvent) (unknown_step s)))
+
+pub returns-then-is_silent : goal.returns-then-is_silent
+returns-then-is_silent g c =
+    let silent = sym c.is_silent.ensures ∙ c.if-is_silent.true in
+    ([], Appends-nil c.args.output.now.contents, silent_over (g.S.Shelf.files c.args.shelf.now) c.args.self.now c.args.line.now silent)
