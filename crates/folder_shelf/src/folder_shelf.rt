@@ -3,6 +3,7 @@ ghost use Rattle.shelf.specs.Files.{Counts};
 ghost use Rattle.shelf.specs.Names.{is_file_name};
 ghost use Rattle.folder_shelf.specs.declared.whole_files.TheConstants.{MAX_FILE_LEN};
 
+use crate::host_folder::HostFolder;
 use crate::whole_files::{MAX_FILE_LEN, read_whole, replace};
 use looks::Refusal;
 use shelf::{Shelf, is_file_name};
@@ -14,7 +15,7 @@ use std::fs::Files;
 /// Others may write to the folder, so the shelf tells no files: what it reads is believed of the file system.
 #[derive(Drop)]
 pub struct FolderShelf<R> {
-    host: R,
+    folder: HostFolder<R>,
     // Of which the names of files that aren't whole yet take their memory.
     alloc: Global,
     /// How many calls failed.
@@ -27,7 +28,7 @@ impl<R: Files + Drop> FolderShelf<R> {
         ensures failures { result.failures ≡ 0 }
     {
         FolderShelf {
-            host,
+            folder: HostFolder { host },
             alloc,
             failures: 0,
         }
@@ -58,7 +59,7 @@ impl<R: Files + Drop> Shelf for FolderShelf<R> {
         ensures limit { IfOk result (λ bytes. length bytes.items ≤ MAX_FILE_LEN) }
     {
         if is_file_name(name.as_bytes()) {
-            match read_whole(&self.host, alloc, name) {
+            match read_whole(&mut self.folder, alloc, name) {
                 Err(Refusal::ReadFault) => {}
                 answer => return answer,
             }
@@ -79,7 +80,7 @@ impl<R: Files + Drop> Shelf for FolderShelf<R> {
     {
         if is_file_name(name.as_bytes())
             && bytes.len() <= MAX_FILE_LEN
-            && replace(&self.host, self.alloc, name, bytes).is_ok()
+            && replace(&mut self.folder, self.alloc, name, bytes).is_ok()
         {
             return Ok(());
         }

@@ -1,0 +1,5 @@
+mod Beside
+mod Leading
+mod Reading
+mod Replaced
+mod Replacing

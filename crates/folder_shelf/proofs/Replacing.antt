@@ -1,0 +1,352 @@
+-- What may be found at the moments of a replacing.
+use Rattle.std.proofs.Common.{◌≡◌, ◌≢◌, ◌⊎◌, inl, inr, ℕ, true, List, [], ◌∷◌, refl, sym, ◌∙◌, ap, subst}
+use Rattle.std.specs.Prelude.{Option, Some, None}
+use Rattle.std.specs.Option.{option_map}
+use Rattle.std.specs.declared.io.Error.{Error}
+use Rattle.folder_shelf.specs.Calls.{Appends, Fails, Makes, Moves, NoFault, Perhaps, Removes, Same, Syncs, SyncsFolder, Touches, Well}
+use Rattle.folder_shelf.specs.Moments.{Among, Content, CrashLeaves, File, Goes, History, MayFind, Moment, Names, Plain, Since, Survives, lasting, seen}
+use Rattle.folder_shelf.specs.Whole.{BeforeOrAfter, IsBeside, IsWhole, MakesBeside, Placed, Placing}
+use Rattle.folder_shelf.proofs.Leading.{since_call, since_since}
+use Rattle.folder_shelf.proofs.Reading.{fails_after}
+
+-- the content of a name's file
+content_at : (ℕ → File) → Option ℕ → Option Content
+content_at files file = option_map (λ k. (files k).content) file
+
+pub seen_same : (old now : Moment) (n : List ℕ) → Same old now → seen now n ≡ seen old n
+seen_same old now n same =
+    ap (λ (names : Names). option_map (λ k. (now.files k).content) (names n)) same.names
+    ∙ ap (λ (files : ℕ → File). option_map (λ k. (files k).content) (old.names n)) same.files
+
+pub lasting_same : (old now : Moment) → now.names ≡ old.names → now.kept ≡ old.kept → (n : List ℕ) (left : Option ℕ)
+    → Among (lasting now) n left → Among (lasting old) n left
+lasting_same old now names kept n left among =
+    subst (λ (l : List Names). Among (old.names ∷ l) n left) kept (subst (λ (m : Names). Among (m ∷ now.kept) n left) names among)
+
+pub finds_same : (old now : Moment) → Same old now → (n : List ℕ) (found : Option Content) → MayFind now n found → MayFind old n found
+finds_same old now same n found (inl is) = inl (is ∙ seen_same old now n same)
+finds_same old now same n found (inr left) = inr (
+  left.0,
+  lasting_same old now same.names same.kept n left.0 left.1,
+  subst (λ (files : ℕ → File). Survives files left.0 found) same.files left.2,
+)
+
+-- where one file alone may differ, another is as it was
+pub survives_other : (old now : ℕ → File) (left : Option ℕ) (found : Option Content)
+    → ((k : ℕ) → left ≡ Some k → now k ≡ old k) → Survives now left found → Survives old left found
+survives_other old now None found same s = s
+survives_other old now (Some k) found same s =
+    (s.0, s.1, λ synced. subst (λ (f : File). f.synced ≡ true → s.0 ≡ f.content) (same k refl) s.2 synced)
+
+pub content_other : (old now : ℕ → File) (left : Option ℕ)
+    → ((k : ℕ) → left ≡ Some k → now k ≡ old k) → option_map (λ k. (now k).content) left ≡ option_map (λ k. (old k).content) left
+content_other old now None same = refl
+content_other old now (Some k) same = ap (λ (f : File). Some f.content) (same k refl)
+
+-- Between the making of a file and the end, beside the moment before.
+pub record Under (beside : List ℕ) (file : ℕ) (name bytes : List ℕ) (old now : Moment) : Type 0 where
+  pub names : (n : List ℕ) → (now.names n ≡ old.names n) ⊎ (n ≡ beside)
+      ⊎ ((n ≡ name) × (now.names n ≡ Some file) × ((now.files file).content ≡ Plain bytes))
+  pub kept : (n : List ℕ) (left : Option ℕ) → Among (lasting now) n left → Among (lasting old) n left ⊎ (n ≡ beside)
+      ⊎ ((n ≡ name) × (left ≡ Some file) × ((now.files file).content ≡ Plain bytes) × ((now.files file).synced ≡ true))
+  pub files : (k : ℕ) → k ≢ file → now.files k ≡ old.files k
+  pub absent : old.names beside ≡ None
+  pub fresh : (n : List ℕ) → ¬ Among (lasting old) n (Some file)
+
+module _ (beside : List ℕ) (file : ℕ) (name bytes : List ℕ) (old now : Moment) (under : Under beside file name bytes old now) where
+  -- the files that a name may have had before are as they were
+  same_at : (n : List ℕ) (left : Option ℕ) → Among (lasting old) n left → (k : ℕ) → left ≡ Some k → now.files k ≡ old.files k
+  same_at n left among k is =
+      under.files k (λ e. under.fresh n (subst (λ (l : Option ℕ). Among (lasting old) n l) (is ∙ ap (λ (j : ℕ). Some j) e) among))
+
+  -- what a name with its old file shows
+  shows_old : (n : List ℕ) → now.names n ≡ old.names n → seen now n ≡ seen old n
+  shows_old n e =
+      ap (λ (left : Option ℕ). option_map (λ k. (now.files k).content) left) e
+      ∙ content_other old.files now.files (old.names n) (same_at n (old.names n) (inl refl))
+
+  seen_under : (n : List ℕ) (found : Option Content) → found ≡ seen now n
+      → MayFind old n found ⊎ (n ≡ beside) ⊎ ((n ≡ name) × (found ≡ Some (Plain bytes)))
+  seen_under n found is = elim (under.names n) [
+    | inl e ↦ inl (inl (is ∙ shows_old n e))
+    | inr (inl e) ↦ inr (inl e)
+    | inr (inr w) ↦ inr (inr (w.0, is ∙ (ap (λ (left : Option ℕ). option_map (λ k. (now.files k).content) left) w.1 ∙ ap (λ (c : Content). Some c) w.2)))
+  ]
+
+  left_under : (n : List ℕ) (found : Option Content) → CrashLeaves now n found
+      → MayFind old n found ⊎ (n ≡ beside) ⊎ ((n ≡ name) × (found ≡ Some (Plain bytes)))
+  left_under n found left = elim (under.kept n left.0 left.1) [
+    | inl among ↦ inl (inr (left.0, among, survives_other old.files now.files left.0 found (same_at n left.0 among) left.2))
+    | inr (inl e) ↦ inr (inl e)
+    | inr (inr w) ↦
+        let s = subst (λ (l : Option ℕ). Survives now.files l found) w.1 left.2 in
+        inr (inr (w.0, s.1 ∙ ap (λ (c : Content). Some c) (s.2 w.3 ∙ w.2)))
+  ]
+
+  finds_under : (n : List ℕ) (found : Option Content) → MayFind now n found
+      → MayFind old n found ⊎ (n ≡ beside) ⊎ ((n ≡ name) × (found ≡ Some (Plain bytes)))
+  finds_under n found (inl is) = seen_under n found is
+  finds_under n found (inr left) = left_under n found left
+
+  pub under_before_or_after : IsBeside beside → (¬ IsBeside name) → BeforeOrAfter name bytes old now
+  under_before_or_after is_beside not_beside = record {
+    here = λ found finds. elim (finds_under name found finds) [
+      | inl before ↦ inl before
+      | inr (inl e) ↦ absurd (not_beside (subst (λ (n : List ℕ). IsBeside n) (sym e) is_beside))
+      | inr (inr w) ↦ inr w.1
+    ];
+    others = λ other differs found finds. elim (finds_under other found finds) [
+      | inl before ↦ inl before
+      | inr (inl e) ↦ inr (subst (λ (n : List ℕ). IsBeside n) (sym e) is_beside, ap old.names e ∙ under.absent)
+      | inr (inr w) ↦ absurd (differs w.0)
+    ];
+  }
+
+-- a file that was made, and the writing to it and the naming since
+pub under_made : (beside : List ℕ) (file : ℕ) (name bytes : List ℕ) (old mid now : Moment)
+    → Makes beside file old mid → Placing file beside name bytes mid now → Under beside file name bytes old now
+under_made beside file name bytes old mid now makes placing = record {
+  names = λ n. elim (placing.names n) [
+    | inl e ↦ elim (makes.others n) [
+      | inl b ↦ inr (inl b)
+      | inr same ↦ inl (e ∙ same)
+    ]
+    | inr (inl b) ↦ inr (inl b)
+    | inr (inr w) ↦ inr (inr (w.0, w.1 ∙ makes.here, w.2.content makes.content))
+  ];
+  kept = λ n left among. elim (placing.kept n left among) [
+    | inl before ↦ made_kept n left before
+    | inr (inl b) ↦ inr (inl b)
+    | inr (inr w) ↦ inr (inr (w.0, w.1 ∙ makes.here, w.2.content makes.content, w.2.synced))
+  ];
+  files = λ k differs. placing.files k differs ∙ makes.files k differs;
+  absent = makes.absent;
+  fresh = makes.fresh;
+}
+  where
+    made_kept : (n : List ℕ) (left : Option ℕ) → Among (lasting mid) n left → Among (lasting old) n left ⊎ (n ≡ beside)
+        ⊎ ((n ≡ name) × (left ≡ Some file) × ((now.files file).content ≡ Plain bytes) × ((now.files file).synced ≡ true))
+    made_kept n left (inl is) = elim (makes.others n) [
+      | inl b ↦ inr (inl b)
+      | inr same ↦ inl (inl (is ∙ same))
+    ]
+    made_kept n left (inr among) = inl (subst (λ (l : List Names). Among l n left) makes.kept among)
+
+-- nothing was written or named yet
+placing_start : (file : ℕ) (beside name bytes : List ℕ) (m : Moment) → Placing file beside name bytes m m
+placing_start file beside name bytes m = record { names = λ n. inl refl; kept = λ n left among. inl among; files = λ k differs. refl }
+
+pub before_or_after_made : (name bytes : List ℕ) (old now : Moment) → (¬ IsBeside name) → MakesBeside old now → BeforeOrAfter name bytes old now
+before_or_after_made name bytes old now not_beside (inl same) = record {
+  here = λ found finds. inl (finds_same old now same name found finds);
+  others = λ other differs found finds. inl (finds_same old now same other found finds);
+}
+before_or_after_made name bytes old now not_beside (inr m) =
+    under_before_or_after m.0 m.1 name bytes old now (under_made m.0 m.1 name bytes old now now m.3 (placing_start m.1 m.0 name bytes now)) m.2 not_beside
+
+pub before_or_after_placing : (beside : List ℕ) (file : ℕ) (name bytes : List ℕ) (old mid now : Moment) → IsBeside beside → (¬ IsBeside name)
+    → Makes beside file old mid → Placing file beside name bytes mid now → BeforeOrAfter name bytes old now
+before_or_after_placing beside file name bytes old mid now is_beside not_beside makes placing =
+    under_before_or_after beside file name bytes old now (under_made beside file name bytes old mid now makes placing) is_beside not_beside
+
+-- One call more, while a file is placed.
+module _ (file : ℕ) (beside name bytes : List ℕ) (old mid now : Moment) (placing : Placing file beside name bytes old mid) where
+  whole_then : now.files ≡ mid.files → IsWhole file bytes old mid → IsWhole file bytes old now
+  whole_then files w = record {
+    content = λ empty. ap (λ (fs : ℕ → File). (fs file).content) files ∙ w.content empty;
+    synced = ap (λ (fs : ℕ → File). (fs file).synced) files ∙ w.synced;
+  }
+
+  -- a name that is as it was in between
+  names_then : now.files ≡ mid.files → (n : List ℕ) → now.names n ≡ mid.names n
+      → (now.names n ≡ old.names n) ⊎ (n ≡ beside) ⊎ ((n ≡ name) × (now.names n ≡ old.names beside) × IsWhole file bytes old now)
+  names_then files n e = elim (placing.names n) [
+    | inl same ↦ inl (e ∙ same)
+    | inr (inl b) ↦ inr (inl b)
+    | inr (inr w) ↦ inr (inr (w.0, e ∙ w.1, whole_then files w.2))
+  ]
+
+  kept_then : now.files ≡ mid.files → (n : List ℕ) (left : Option ℕ) → Among (lasting mid) n left
+      → Among (lasting old) n left ⊎ (n ≡ beside) ⊎ ((n ≡ name) × (left ≡ old.names beside) × IsWhole file bytes old now)
+  kept_then files n left among = elim (placing.kept n left among) [
+    | inl before ↦ inl before
+    | inr (inl b) ↦ inr (inl b)
+    | inr (inr w) ↦ inr (inr (w.0, w.1, whole_then files w.2))
+  ]
+
+  pub placing_same : Same mid now → Placing file beside name bytes old now
+  placing_same same = record {
+    names = λ n. names_then same.files n (ap (λ (names : Names). names n) same.names);
+    kept = λ n left among. kept_then same.files n left (lasting_same mid now same.names same.kept n left among);
+    files = λ k differs. ap (λ (fs : ℕ → File). fs k) same.files ∙ placing.files k differs;
+  }
+
+  removes_kept : Removes beside mid now → (n : List ℕ) (left : Option ℕ) → Among (lasting now) n left
+      → Among (lasting old) n left ⊎ (n ≡ beside) ⊎ ((n ≡ name) × (left ≡ old.names beside) × IsWhole file bytes old now)
+  removes_kept removes n left (inl is) = elim (removes.others n) [
+    | inl b ↦ inr (inl b)
+    | inr same ↦ kept_then removes.files n left (inl (is ∙ same))
+  ]
+  removes_kept removes n left (inr among) =
+      kept_then removes.files n left (subst (λ (l : List Names). Among l n left) removes.kept among)
+
+  pub placing_removes : Removes beside mid now → Placing file beside name bytes old now
+  placing_removes removes = record {
+    names = λ n. elim (removes.others n) [
+      | inl b ↦ inr (inl b)
+      | inr same ↦ names_then removes.files n same
+    ];
+    kept = removes_kept removes;
+    files = λ k differs. ap (λ (fs : ℕ → File). fs k) removes.files ∙ placing.files k differs;
+  }
+
+  pub placing_synced : SyncsFolder mid now → Placing file beside name bytes old now
+  placing_synced syncs = record {
+    names = λ n. names_then syncs.files n (ap (λ (names : Names). names n) syncs.names);
+    kept = λ n left among. elim among [
+      | inl is ↦ kept_then syncs.files n left (inl (is ∙ ap (λ (names : Names). names n) syncs.names))
+      | inr among ↦ absurd (subst (λ (l : List Names). Among l n left) syncs.kept among)
+    ];
+    files = λ k differs. ap (λ (fs : ℕ → File). fs k) syncs.files ∙ placing.files k differs;
+  }
+
+-- The writing to a new file and its naming, call by call.
+module _ (file : ℕ) (beside name bytes : List ℕ) where
+  abbrev IsPlaced : Moment → Moment → Type 0
+  IsPlaced = Placing file beside name bytes
+
+  -- it was given up
+  abbrev pub PlacingFails : Error → Moment → Moment → Type 0
+  PlacingFails error old now = Placing file beside name bytes old now × Fails error old now
+
+  -- the bytes are on the disk
+  pub record Written (old now : Moment) : Type 0 where
+    pub touches : Touches file old now
+    pub whole : IsWhole file bytes old now
+    pub no_fault : NoFault old now
+
+  touches_same : (old now : Moment) → Same old now → Touches file old now
+  touches_same old now same = record { names = same.names; kept = same.kept; files = λ k differs. ap (λ (fs : ℕ → File). fs k) same.files }
+
+  touches_touches : (old mid now : Moment) → Touches file old mid → Touches file mid now → Touches file old now
+  touches_touches old mid now a b = record {
+    names = b.names ∙ a.names;
+    kept = b.kept ∙ a.kept;
+    files = λ k differs. b.files k differs ∙ a.files k differs;
+  }
+
+  placing_touches : (old now : Moment) → Touches file old now → Placing file beside name bytes old now
+  placing_touches old now touches = record {
+    names = λ n. inl (ap (λ (names : Names). names n) touches.names);
+    kept = λ n left among. inl (lasting_same old now touches.names touches.kept n left among);
+    files = touches.files;
+  }
+
+  touches_perhaps : (old now : Moment) → Same old now ⊎ Touches file old now → Touches file old now
+  touches_perhaps old now (inl same) = touches_same old now same
+  touches_perhaps old now (inr touches) = touches
+
+  whole_moved : (old mid now : Moment) → now.files ≡ mid.files → IsWhole file bytes old mid → IsWhole file bytes old now
+  whole_moved old mid now files w = record {
+    content = λ empty. ap (λ (fs : ℕ → File). (fs file).content) files ∙ w.content empty;
+    synced = ap (λ (fs : ℕ → File). (fs file).synced) files ∙ w.synced;
+  }
+
+  moved_kept : (old mid now : Moment) → Touches file old mid → IsWhole file bytes old now → Moves beside name mid now
+      → (n : List ℕ) (left : Option ℕ) → Among (lasting now) n left
+      → Among (lasting old) n left ⊎ (n ≡ beside) ⊎ ((n ≡ name) × (left ≡ old.names beside) × IsWhole file bytes old now)
+  moved_kept old mid now touches whole moves n left (inl is) = elim (moves.others n) [
+    | inl b ↦ inr (inl b)
+    | inr (inl e) ↦ inr (inr (e, is ∙ (ap now.names e ∙ (moves.here ∙ ap (λ (names : Names). names beside) touches.names)), whole))
+    | inr (inr same) ↦ inl (inl (is ∙ (same ∙ ap (λ (names : Names). names n) touches.names)))
+  ]
+  moved_kept old mid now touches whole moves n left (inr among) =
+      inl (lasting_same old mid touches.names touches.kept n left (subst (λ (l : List Names). Among l n left) moves.kept among))
+
+  placing_moves : (old mid now : Moment) → Written old mid → Moves beside name mid now → Placing file beside name bytes old now
+  placing_moves old mid now written moves =
+      let whole : IsWhole file bytes old now = whole_moved old mid now moves.files written.whole in
+      record {
+        names = λ n. elim (moves.others n) [
+          | inl b ↦ inr (inl b)
+          | inr (inl e) ↦ inr (inr (e, ap now.names e ∙ (moves.here ∙ ap (λ (names : Names). names beside) written.touches.names), whole))
+          | inr (inr same) ↦ inl (same ∙ ap (λ (names : Names). names n) written.touches.names)
+        ];
+        kept = moved_kept old mid now written.touches whole moves;
+        files = λ k differs. ap (λ (fs : ℕ → File). fs k) moves.files ∙ written.touches.files k differs;
+      }
+
+  placed_moves : (old mid now : Moment) → Written old mid → Moves beside name mid now → NoFault mid now → Placed file beside name bytes old now
+  placed_moves old mid now written moves none = record {
+    placing = placing_moves old mid now written moves;
+    gone = moves.gone;
+    here = moves.here ∙ ap (λ (names : Names). names beside) written.touches.names;
+    others = λ n. elim (moves.others n) [
+      | inl b ↦ inl b
+      | inr (inl e) ↦ inr (inl e)
+      | inr (inr same) ↦ inr (inr (same ∙ ap (λ (names : Names). names n) written.touches.names))
+    ];
+    whole = whole_moved old mid now moves.files written.whole;
+    no_fault = none ∙ written.no_fault;
+  }
+
+  pub put_append_fails : (error : Error) (h0 h1 : Option History) → Goes (Perhaps error (Touches file)) h0 h1 → Since IsPlaced (PlacingFails error) h0 h1
+  put_append_fails error = since_call (Perhaps error (Touches file)) IsPlaced (PlacingFails error)
+      (λ m n step. placing_touches m n (touches_perhaps m n step.0))
+      (λ m n step. (placing_touches m n (touches_perhaps m n step.0), step.1))
+
+  appended : (h0 h1 : Option History) → Goes (Well (Appends file bytes)) h0 h1 → Since IsPlaced (Well (Appends file bytes)) h0 h1
+  appended = since_call (Well (Appends file bytes)) IsPlaced (Well (Appends file bytes)) (λ m n step. placing_touches m n step.0.touches) (λ m n step. step)
+
+  pub put_sync_fails : (error : Error) (k : ℕ) → k ≡ file → (h0 h1 h2 : Option History) → Goes (Well (Appends file bytes)) h0 h1
+      → Goes (Perhaps error (Touches k)) h1 h2 → Since IsPlaced (PlacingFails error) h0 h2
+  put_sync_fails error k is h0 h1 h2 a b =
+      let step : Goes (Perhaps error (Touches file)) h1 h2 = subst (λ (j : ℕ). Goes (Perhaps error (Touches j)) h1 h2) is b in
+      since_since IsPlaced (Well (Appends file bytes)) (Touches file) (Perhaps error (Touches file)) IsPlaced (PlacingFails error)
+      (λ m n p. p)
+      (λ l m n x y. placing_touches l n (touches_touches l m n x.0.touches y))
+      (λ l m n x y. (placing_touches l n (touches_touches l m n x.0.touches (touches_perhaps m n y.0)), fails_after error l m n x.1 y.1))
+      h0 h1 h2 (appended h0 h1 a)
+      (since_call (Perhaps error (Touches file)) (Touches file) (Perhaps error (Touches file)) (λ m n s. touches_perhaps m n s.0) (λ m n s. s) h1 h2 step)
+
+  written : (k : ℕ) → k ≡ file → (h0 h1 h2 : Option History) → Goes (Well (Appends file bytes)) h0 h1
+      → Goes (Well (Syncs k)) h1 h2 → Since IsPlaced Written h0 h2
+  written k is h0 h1 h2 a b =
+      let step : Goes (Well (Syncs file)) h1 h2 = subst (λ (j : ℕ). Goes (Well (Syncs j)) h1 h2) is b in
+      since_since IsPlaced (Well (Appends file bytes)) (Touches file) (Well (Syncs file)) IsPlaced Written
+      (λ m n p. p)
+      (λ l m n x y. placing_touches l n (touches_touches l m n x.0.touches y))
+      (λ l m n x y. record {
+        touches = touches_touches l m n x.0.touches y.0.touches;
+        whole = record { content = λ empty. y.0.content ∙ x.0.content [] empty; synced = y.0.synced };
+        no_fault = y.1 ∙ x.1;
+      })
+      h0 h1 h2 (appended h0 h1 a)
+      (since_call (Well (Syncs file)) (Touches file) (Well (Syncs file)) (λ m n s. s.0.touches) (λ m n s. s) h1 h2 step)
+
+  abbrev IsMoved : Moment → Moment → Type 0
+  IsMoved mid now = Same mid now ⊎ Moves beside name mid now
+
+  placing_moved : (old mid now : Moment) → Written old mid → IsMoved mid now → Placing file beside name bytes old now
+  placing_moved old mid now w (inl same) = placing_touches old now (touches_touches old mid now w.touches (touches_same mid now same))
+  placing_moved old mid now w (inr moves) = placing_moves old mid now w moves
+
+  pub put_placed : (k : ℕ) → k ≡ file → (h0 h1 h2 h3 : Option History) → Goes (Well (Appends file bytes)) h0 h1
+      → Goes (Well (Syncs k)) h1 h2 → Goes (Well (Moves beside name)) h2 h3 → Since IsPlaced (Placed file beside name bytes) h0 h3
+  put_placed k is h0 h1 h2 h3 a b d =
+      since_since IsPlaced Written IsMoved (Well (Moves beside name)) IsPlaced (Placed file beside name bytes)
+      (λ m n p. p)
+      placing_moved
+      (λ l m n x y. placed_moves l m n x y.0 y.1)
+      h0 h2 h3 (written k is h0 h1 h2 a b)
+      (since_call (Well (Moves beside name)) IsMoved (Well (Moves beside name)) (λ m n s. inr s.0) (λ m n s. s) h2 h3 d)
+
+  pub put_move_fails : (error : Error) (k : ℕ) → k ≡ file → (h0 h1 h2 h3 : Option History) → Goes (Well (Appends file bytes)) h0 h1
+      → Goes (Well (Syncs k)) h1 h2 → Goes (Perhaps error (Moves beside name)) h2 h3 → Since IsPlaced (PlacingFails error) h0 h3
+  put_move_fails error k is h0 h1 h2 h3 a b d =
+      since_since IsPlaced Written IsMoved (Perhaps error (Moves beside name)) IsPlaced (PlacingFails error)
+      (λ m n p. p)
+      placing_moved
+      (λ l m n x y. (placing_moved l m n x y.0, fails_after error l m n x.no_fault y.1))
+      h0 h2 h3 (written k is h0 h1 h2 a b)
+      (since_call (Perhaps error (Moves beside name)) IsMoved (Perhaps error (Moves beside name)) (λ m n s. s.0) (λ m n s. s) h2 h3 d)

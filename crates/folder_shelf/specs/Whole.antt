@@ -1,0 +1,92 @@
+-- A file read whole, and one put in the place of another, at any moment.
+use Rattle.std.specs.Prelude.{◌≡◌, ◌≢◌, ◌⊎◌, ◌<◌, ℕ, true, List, [], ◌++◌, Option, Some, None, length}
+use Rattle.std.specs.IoError.{error_kind}
+use Rattle.std.specs.declared.io.Error.{Error}
+use Rattle.std.specs.declared.io.ErrorKind.TheVariants.{AlreadyExists, OutOfMemory}
+use Rattle.folder_shelf.specs.Calls.{IsFault, Makes, NoFault, Same}
+use Rattle.folder_shelf.specs.Moments.{Among, Content, MayFind, Moment, Plain, lasting, seen}
+use Rattle.folder_shelf.specs.declared.whole_files.TheConstants.{BESIDE, MAX_FILE_LEN}
+
+-- the name of a file that isn't whole yet
+abbrev pub IsBeside : List ℕ → Type 0
+IsBeside name = (number : List ℕ) × (name ≡ BESIDE.now ++ number)
+
+-- At a moment of the replacing of a file: under its name the program's end and a crash leave what they could before, or
+-- the new bytes, whole; and under another name what they could before, but for a new file beside.
+pub record BeforeOrAfter (name bytes : List ℕ) (old now : Moment) : Type 0 where
+  pub here : (found : Option Content) → MayFind now name found → MayFind old name found ⊎ (found ≡ Some (Plain bytes))
+  pub others : (other : List ℕ) → other ≢ name → (found : Option Content) → MayFind now other found
+      → MayFind old other found ⊎ (IsBeside other × (old.names other ≡ None))
+
+-- The file is replaced: under its name a crash leaves the new bytes, whole, and no other name has changed.
+pub record Replaced (name bytes : List ℕ) (old now : Moment) : Type 0 where
+  pub here : (found : Option Content) → MayFind now name found → found ≡ Some (Plain bytes)
+  pub others : (other : List ℕ) → other ≢ name → (found : Option Content) → MayFind now other found → MayFind old other found
+  pub same : (other : List ℕ) → other ≢ name → seen now other ≡ seen old other
+  pub no_fault : NoFault old now
+
+-- why a replacing was given up: a call failed, memory was refused, or there is a file of some name beside
+abbrev pub GivenUp : Error → (old now : Moment) → Type 0
+GivenUp error old now =
+    IsFault old now ⊎ (error_kind error ≡ OutOfMemory)
+    ⊎ ((error_kind error ≡ AlreadyExists) × (other : List ℕ) × IsBeside other × (old.names other ≢ None))
+
+-- nothing has changed, or a new file was made beside
+abbrev pub MakesBeside : (old now : Moment) → Type 0
+MakesBeside old now = Same old now ⊎ ((beside : List ℕ) × (file : ℕ) × IsBeside beside × Makes beside file old now)
+
+-- a file that was new, and so empty, has these bytes, and they are on the disk
+pub record IsWhole (file : ℕ) (bytes : List ℕ) (old now : Moment) : Type 0 where
+  pub content : (old.files file).content ≡ Plain [] → (now.files file).content ≡ Plain bytes
+  pub synced : (now.files file).synced ≡ true
+
+-- While bytes are written to a new file beside, which then takes a name: no other name and no other file changes, and the
+-- name has another file, or may have it after a crash, only when that file is whole.
+pub record Placing (file : ℕ) (beside name bytes : List ℕ) (old now : Moment) : Type 0 where
+  pub names : (other : List ℕ) → (now.names other ≡ old.names other) ⊎ (other ≡ beside)
+      ⊎ ((other ≡ name) × (now.names other ≡ old.names beside) × IsWhole file bytes old now)
+  pub kept : (other : List ℕ) (left : Option ℕ) → Among (lasting now) other left → Among (lasting old) other left ⊎ (other ≡ beside)
+      ⊎ ((other ≡ name) × (left ≡ old.names beside) × IsWhole file bytes old now)
+  pub files : (other : ℕ) → other ≢ file → now.files other ≡ old.files other
+
+-- the name has the file, which is whole
+pub record Placed (file : ℕ) (beside name bytes : List ℕ) (old now : Moment) : Type 0 where
+  pub placing : Placing file beside name bytes old now
+  pub gone : beside ≢ name → now.names beside ≡ None
+  pub here : now.names name ≡ old.names beside
+  pub others : (other : List ℕ) → (other ≡ beside) ⊎ (other ≡ name) ⊎ (now.names other ≡ old.names other)
+  pub whole : IsWhole file bytes old now
+  pub no_fault : NoFault old now
+
+-- a name has no plain file, or one that is too long
+abbrev pub HasNoPlain : Moment → (name : List ℕ) → Type 0
+HasNoPlain moment name = (bytes : List ℕ) → seen moment name ≡ Some (Plain bytes) → MAX_FILE_LEN < length bytes
+
+-- the plain file of a name is open, and nothing of it was read
+pub record Opened (name : List ℕ) (file place : ℕ) (old now : Moment) : Type 0 where
+  pub same : Same old now
+  pub no_fault : NoFault old now
+  pub start : place ≡ 0
+  pub bytes : List ℕ
+  pub seen_bytes : seen old name ≡ Some (Plain bytes)
+  pub content : (old.files file).content ≡ Plain bytes
+
+-- all bytes were read of a file of which nothing was read before
+pub record ReadAll (file place : ℕ) (bytes : List ℕ) (old now : Moment) : Type 0 where
+  pub same : Same old now
+  pub no_fault : NoFault old now
+  pub read : place ≡ 0 → (all : List ℕ) → (old.files file).content ≡ Plain all → bytes ≡ all
+
+-- such a file is too long
+abbrev pub IsTooLong : (file place : ℕ) → Moment → Type 0
+IsTooLong file place old = place ≡ 0 → (all : List ℕ) → (old.files file).content ≡ Plain all → MAX_FILE_LEN < length all
+
+-- the plain file of a name has these bytes, and no call failed
+pub record IsRead (name bytes : List ℕ) (old now : Moment) : Type 0 where
+  pub content : seen old name ≡ Some (Plain bytes)
+  pub no_fault : NoFault old now
+
+-- an error that says that memory was refused, and no call failed; or another, and one did, or there is this reason
+abbrev pub Refuses : Error → (reason : Type 0) → (old now : Moment) → Type 0
+Refuses error reason old now =
+    ((error_kind error ≡ OutOfMemory) × NoFault old now) ⊎ ((error_kind error ≢ OutOfMemory) × (IsFault old now ⊎ reason))

@@ -1,0 +1,64 @@
+ghost use Rattle.std.specs.Prelude.{None};
+
+use crate::folder::{Folder, MAX_PIECE};
+use std::fs::{File, Files, OpenFile};
+use std::io::{Read, Write};
+use std::{fs, io};
+
+/// The program's current folder. That each call does what `Folder` says is believed of the system: so no history is told.
+#[derive(Drop)]
+pub struct HostFolder<R> {
+    pub host: R,
+}
+
+impl<R: Files + Drop> Folder for HostFolder<R> {
+    type File = R::File;
+
+    ghost history = { λ folder. None };
+
+    ghost number = { λ file. 0 };
+
+    ghost place = { λ file. 0 };
+
+    fn make_new(&mut self, name: &str) -> io::Result<R::File> {
+        File::create_new(&self.host, name)
+    }
+
+    fn append(&mut self, file: &mut R::File, bytes: &[u8]) -> io::Result<()> {
+        file.write_all(bytes)
+    }
+
+    fn sync(&mut self, file: &R::File) -> io::Result<()> {
+        file.sync_all()
+    }
+
+    fn rename(&mut self, from: &str, to: &str) -> io::Result<()> {
+        fs::rename(&self.host, from, to)
+    }
+
+    fn remove(&mut self, name: &str) -> io::Result<()> {
+        fs::remove_file(&self.host, name)
+    }
+
+    fn sync_folder(&mut self) -> io::Result<()> {
+        File::open(&self.host, ".")?.sync_all()
+    }
+
+    // A link isn't followed, and a pipe isn't opened, since that may wait for its writer.
+    fn look(&mut self, name: &str) -> io::Result<Option<u64>> {
+        let told = fs::symlink_metadata(&self.host, name)?;
+        Ok(if told.is_file() {
+            Some(told.len())
+        } else {
+            None
+        })
+    }
+
+    fn open(&mut self, name: &str) -> io::Result<R::File> {
+        File::open(&self.host, name)
+    }
+
+    fn read(&mut self, file: &mut R::File, bytes: &mut Vec<u8>) -> io::Result<usize> {
+        Read::by_ref(file).take(MAX_PIECE as u64).read_to_end(bytes)
+    }
+}
