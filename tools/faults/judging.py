@@ -50,6 +50,10 @@ def parted(files: Files) -> tuple[Files, Files]:
     return {name: content for name, content in files.items() if name not in beside}, beside
 
 
+def is_rename(call: Call) -> bool:
+    return call.name.startswith(("rename", "link"))
+
+
 class Judge:
     """Judges runs of one script, given in one mode."""
 
@@ -79,6 +83,8 @@ class Judge:
             return self.same(ended)
         if fault.count is not None:
             raise Difference(difference("the output", ended.wrote, self.plain.wrote)[0])
+        if self.has_its_name(number):
+            return self.refused_though_done(line, ended)
         found = Difference("no answer is right")
         for answer in self.refusals(line, fault):
             try:
@@ -88,9 +94,21 @@ class Judge:
                 found = why
         raise found
 
+    def has_its_name(self, number: int) -> bool:
+        """Whether the file that this call's event writes has its name already."""
+        earlier = zip(self.plain.calls[:number], self.plain.lines)
+        return any(is_rename(call) for call, line in earlier if line == self.plain.lines[number])
+
+    def refused_though_done(self, line: int, ended: Ended) -> Outcome:
+        """The new file is there, but the disk needn't have its name."""
+        answers = self.plain.answers
+        wrote = b"".join([*answers[:line], b"refused 22\n", *answers[line + 1 :]])
+        hold(ended, 0, wrote, [self.plain.states[-1]])
+        return Outcome.REFUSED
+
     def refusals(self, line: int, fault: Fault) -> list[str]:
         """What the event of a line may be answered."""
-        if any(call.name.startswith(("rename", "link")) for call in self.plain.calls_of(line)):
+        if any(map(is_rename, self.plain.calls_of(line))):
             return ["refused 22"]
         return ["refused 21", *["refused 7"] * (fault is NO_MEMORY)]
 

@@ -4,7 +4,7 @@ use Rattle.std.specs.Prelude.{Option, Some, Result, Ok, Err, OnErr, OnOk}
 use Rattle.std.specs.Option.{option_map}
 use Rattle.std.specs.declared.io.Error.{Error}
 use Rattle.folder_shelf.specs.Calls.{Fails, Makes, NoFault, Perhaps, Removes, Same, SyncsFolder, Well}
-use Rattle.folder_shelf.specs.Moments.{Among, Anything, Content, CrashLeaves, File, Goes, History, MayFind, Moment, Names, Plain, Since, Survives, lasting, seen}
+use Rattle.folder_shelf.specs.Moments.{Among, Anything, Content, CrashLeaves, File, Goes, History, Moment, Names, Plain, Since, Survives, lasting, seen}
 use Rattle.folder_shelf.specs.Whole.{BeforeOrAfter, GivenUp, IsBeside, MakesBeside, Placed, Placing, Replaced}
 use Rattle.folder_shelf.proofs.Leading.{since_call, since_since, since_weaker}
 use Rattle.folder_shelf.proofs.Reading.{fails_after}
@@ -31,10 +31,8 @@ module _ (beside : List ℕ) (file : ℕ) (name bytes : List ℕ) (is_beside : I
         s.1 ∙ ap (λ (c : Content). Some c) (s.2 whole_synced ∙ whole)
     here_left found (left, inr among, survives) = absurd (subst (λ (l : List Names). Among l name left) syncs.kept among)
 
-    here : (found : Option Content) → MayFind n name found → found ≡ Some (Plain bytes)
-    here found (inl is) =
-        is ∙ (ap (λ (left : Option ℕ). option_map (λ k. (n.files k).content) left) name_file ∙ ap (λ (c : Content). Some c) whole)
-    here found (inr left) = here_left found left
+    shows : seen n name ≡ Some (Plain bytes)
+    shows = ap (λ (left : Option ℕ). option_map (λ k. (n.files k).content) left) name_file ∙ ap (λ (c : Content). Some c) whole
 
     gone : (other : List ℕ) → other ≡ beside → n.names other ≡ a.names other
     gone other e =
@@ -63,18 +61,17 @@ module _ (beside : List ℕ) (file : ℕ) (name bytes : List ℕ) (is_beside : I
         ap (λ (left : Option ℕ). option_map (λ k. (n.files k).content) left) (other_names other d)
         ∙ content_other a.files n.files (a.names other) (other_files other (a.names other) (inl refl))
 
-    others : (other : List ℕ) → other ≢ name → (found : Option Content) → MayFind n other found → MayFind a other found
-    others other d found (inl is) = inl (is ∙ same_seen other d)
-    others other d found (inr (left, inl e, survives)) = inr (
+    others_leave : (other : List ℕ) → other ≢ name → (found : Option Content) → CrashLeaves n other found → CrashLeaves a other found
+    others_leave other d found (left, inl e, survives) = (
       a.names other,
       inl refl,
       survives_other a.files n.files (a.names other) found (other_files other (a.names other) (inl refl))
           (subst (λ (l : Option ℕ). Survives n.files l found) (e ∙ other_names other d) survives),
     )
-    others other d found (inr (left, inr among, survives)) = absurd (subst (λ (l : List Names). Among l other left) syncs.kept among)
+    others_leave other d found (left, inr among, survives) = absurd (subst (λ (l : List Names). Among l other left) syncs.kept among)
 
     is_replaced : NoFault a m → NoFault z n → Replaced name bytes a n
-    is_replaced first last = record { here = here; others = others; same = same_seen; no_fault = last ∙ (placed.no_fault ∙ first) }
+    is_replaced first last = record { shows = shows; leaves = here_left; others_show = same_seen; others_leave = others_leave; no_fault = last ∙ (placed.no_fault ∙ first) }
 
   -- a file was made, and then this was so
   pub record AfterMaking (Last : Moment → Moment → Type 0) (a z : Moment) : Type 0 where

@@ -4,7 +4,7 @@ use Rattle.std.specs.Prelude.{Option, Some, None}
 use Rattle.std.specs.Option.{option_map}
 use Rattle.std.specs.declared.io.Error.{Error}
 use Rattle.folder_shelf.specs.Calls.{Appends, Fails, Makes, Moves, NoFault, Perhaps, Removes, Same, Syncs, SyncsFolder, Touches, Well}
-use Rattle.folder_shelf.specs.Moments.{Among, Content, CrashLeaves, File, Goes, History, MayFind, Moment, Names, Plain, Since, Survives, lasting, seen}
+use Rattle.folder_shelf.specs.Moments.{Among, Content, CrashLeaves, File, Goes, History, Moment, Names, Plain, Since, Survives, lasting, seen}
 use Rattle.folder_shelf.specs.Whole.{BeforeOrAfter, IsBeside, IsWhole, MakesBeside, Placed, Placing}
 use Rattle.folder_shelf.proofs.Leading.{since_call, since_since}
 use Rattle.folder_shelf.proofs.Reading.{fails_after}
@@ -23,9 +23,8 @@ pub lasting_same : (old now : Moment) → now.names ≡ old.names → now.kept �
 lasting_same old now names kept n left among =
     subst (λ (l : List Names). Among (old.names ∷ l) n left) kept (subst (λ (m : Names). Among (m ∷ now.kept) n left) names among)
 
-pub finds_same : (old now : Moment) → Same old now → (n : List ℕ) (found : Option Content) → MayFind now n found → MayFind old n found
-finds_same old now same n found (inl is) = inl (is ∙ seen_same old now n same)
-finds_same old now same n found (inr left) = inr (
+leaves_same : (old now : Moment) → Same old now → (n : List ℕ) (found : Option Content) → CrashLeaves now n found → CrashLeaves old n found
+leaves_same old now same n found left = (
   left.0,
   lasting_same old now same.names same.kept n left.0 left.1,
   subst (λ (files : ℕ → File). Survives files left.0 found) same.files left.2,
@@ -65,42 +64,53 @@ module _ (beside : List ℕ) (file : ℕ) (name bytes : List ℕ) (old now : Mom
       ap (λ (left : Option ℕ). option_map (λ k. (now.files k).content) left) e
       ∙ content_other old.files now.files (old.names n) (same_at n (old.names n) (inl refl))
 
-  seen_under : (n : List ℕ) (found : Option Content) → found ≡ seen now n
-      → MayFind old n found ⊎ (n ≡ beside) ⊎ ((n ≡ name) × (found ≡ Some (Plain bytes)))
-  seen_under n found is = elim (under.names n) [
-    | inl e ↦ inl (inl (is ∙ shows_old n e))
+  seen_under : (n : List ℕ) → (seen now n ≡ seen old n) ⊎ (n ≡ beside) ⊎ ((n ≡ name) × (seen now n ≡ Some (Plain bytes)))
+  seen_under n = elim (under.names n) [
+    | inl e ↦ inl (shows_old n e)
     | inr (inl e) ↦ inr (inl e)
-    | inr (inr w) ↦ inr (inr (w.0, is ∙ (ap (λ (left : Option ℕ). option_map (λ k. (now.files k).content) left) w.1 ∙ ap (λ (c : Content). Some c) w.2)))
+    | inr (inr w) ↦ inr (inr (w.0, ap (λ (left : Option ℕ). option_map (λ k. (now.files k).content) left) w.1 ∙ ap (λ (c : Content). Some c) w.2))
   ]
 
   left_under : (n : List ℕ) (found : Option Content) → CrashLeaves now n found
-      → MayFind old n found ⊎ (n ≡ beside) ⊎ ((n ≡ name) × (found ≡ Some (Plain bytes)))
+      → CrashLeaves old n found ⊎ (n ≡ beside) ⊎ ((n ≡ name) × (found ≡ Some (Plain bytes)))
   left_under n found left = elim (under.kept n left.0 left.1) [
-    | inl among ↦ inl (inr (left.0, among, survives_other old.files now.files left.0 found (same_at n left.0 among) left.2))
+    | inl among ↦ inl (left.0, among, survives_other old.files now.files left.0 found (same_at n left.0 among) left.2)
     | inr (inl e) ↦ inr (inl e)
     | inr (inr w) ↦
         let s = subst (λ (l : Option ℕ). Survives now.files l found) w.1 left.2 in
         inr (inr (w.0, s.1 ∙ ap (λ (c : Content). Some c) (s.2 w.3 ∙ w.2)))
   ]
 
-  finds_under : (n : List ℕ) (found : Option Content) → MayFind now n found
-      → MayFind old n found ⊎ (n ≡ beside) ⊎ ((n ≡ name) × (found ≡ Some (Plain bytes)))
-  finds_under n found (inl is) = seen_under n found is
-  finds_under n found (inr left) = left_under n found left
+  module _ (is_beside : IsBeside beside) (not_beside : ¬ IsBeside name) where
+    not_named : name ≡ beside → ⊥
+    not_named e = not_beside (subst (λ (n : List ℕ). IsBeside n) (sym e) is_beside)
 
-  pub under_before_or_after : IsBeside beside → (¬ IsBeside name) → BeforeOrAfter name bytes old now
-  under_before_or_after is_beside not_beside = record {
-    here = λ found finds. elim (finds_under name found finds) [
-      | inl before ↦ inl before
-      | inr (inl e) ↦ absurd (not_beside (subst (λ (n : List ℕ). IsBeside n) (sym e) is_beside))
-      | inr (inr w) ↦ inr w.1
-    ];
-    others = λ other differs found finds. elim (finds_under other found finds) [
-      | inl before ↦ inl before
-      | inr (inl e) ↦ inr (subst (λ (n : List ℕ). IsBeside n) (sym e) is_beside, ap old.names e ∙ under.absent)
-      | inr (inr w) ↦ absurd (differs w.0)
-    ];
-  }
+    is_new : (other : List ℕ) → other ≡ beside → IsBeside other × (old.names other ≡ None)
+    is_new other e = (subst (λ (n : List ℕ). IsBeside n) (sym e) is_beside, ap old.names e ∙ under.absent)
+
+    pub under_before_or_after : BeforeOrAfter name bytes old now
+    under_before_or_after = record {
+      shows = elim (seen_under name) [
+        | inl before ↦ inl before
+        | inr (inl e) ↦ absurd (not_named e)
+        | inr (inr w) ↦ inr w.1
+      ];
+      leaves = λ found left. elim (left_under name found left) [
+        | inl before ↦ inl before
+        | inr (inl e) ↦ absurd (not_named e)
+        | inr (inr w) ↦ inr w.1
+      ];
+      others_show = λ other differs. elim (seen_under other) [
+        | inl before ↦ inl before
+        | inr (inl e) ↦ inr (is_new other e)
+        | inr (inr w) ↦ absurd (differs w.0)
+      ];
+      others_leave = λ other differs found left. elim (left_under other found left) [
+        | inl before ↦ inl before
+        | inr (inl e) ↦ inr (is_new other e)
+        | inr (inr w) ↦ absurd (differs w.0)
+      ];
+    }
 
 -- a file that was made, and the writing to it and the naming since
 pub under_made : (beside : List ℕ) (file : ℕ) (name bytes : List ℕ) (old mid now : Moment)
@@ -138,8 +148,10 @@ placing_start file beside name bytes m = record { names = λ n. inl refl; kept =
 
 pub before_or_after_made : (name bytes : List ℕ) (old now : Moment) → (¬ IsBeside name) → MakesBeside old now → BeforeOrAfter name bytes old now
 before_or_after_made name bytes old now not_beside (inl same) = record {
-  here = λ found finds. inl (finds_same old now same name found finds);
-  others = λ other differs found finds. inl (finds_same old now same other found finds);
+  shows = inl (seen_same old now name same);
+  leaves = λ found left. inl (leaves_same old now same name found left);
+  others_show = λ other differs. inl (seen_same old now other same);
+  others_leave = λ other differs found left. inl (leaves_same old now same other found left);
 }
 before_or_after_made name bytes old now not_beside (inr m) =
     under_before_or_after m.0 m.1 name bytes old now (under_made m.0 m.1 name bytes old now now m.3 (placing_start m.1 m.0 name bytes now)) m.2 not_beside

@@ -53,10 +53,6 @@ lasting moment = moment.names ∷ moment.kept
 abbrev pub CrashLeaves : Moment → (name : List ℕ) → Option Content → Type 0
 CrashLeaves moment name found = (file : Option ℕ) × Among (lasting moment) name file × Survives moment.files file found
 
--- this may be found under a name once the program ended at this moment, by itself or by a crash of the system
-abbrev pub MayFind : Moment → (name : List ℕ) → Option Content → Type 0
-MayFind moment name found = (found ≡ seen moment name) ⊎ CrashLeaves moment name found
-
 -- all moments, the newest first
 abbrev pub moments : History → List Moment
 moments history = history.now ∷ history.past

@@ -4,25 +4,28 @@ use Rattle.std.specs.IoError.{error_kind}
 use Rattle.std.specs.declared.io.Error.{Error}
 use Rattle.std.specs.declared.io.ErrorKind.TheVariants.{AlreadyExists, OutOfMemory}
 use Rattle.folder_shelf.specs.Calls.{IsFault, Makes, NoFault, Same}
-use Rattle.folder_shelf.specs.Moments.{Among, Content, MayFind, Moment, Plain, lasting, seen}
+use Rattle.folder_shelf.specs.Moments.{Among, Content, CrashLeaves, Moment, Plain, lasting, seen}
 use Rattle.folder_shelf.specs.declared.whole_files.TheConstants.{BESIDE, MAX_FILE_LEN}
 
 -- the name of a file that isn't whole yet
 abbrev pub IsBeside : List ℕ → Type 0
 IsBeside name = (number : List ℕ) × (name ≡ BESIDE.now ++ number)
 
--- At a moment of the replacing of a file: under its name the program's end and a crash leave what they could before, or
--- the new bytes, whole; and under another name what they could before, but for a new file beside.
+-- At a moment of the replacing of a file: the name shows what it did before, or the new bytes, whole, and a crash leaves
+-- under it what it could before, or the new bytes, whole; so does another name, but for a new file beside.
 pub record BeforeOrAfter (name bytes : List ℕ) (old now : Moment) : Type 0 where
-  pub here : (found : Option Content) → MayFind now name found → MayFind old name found ⊎ (found ≡ Some (Plain bytes))
-  pub others : (other : List ℕ) → other ≢ name → (found : Option Content) → MayFind now other found
-      → MayFind old other found ⊎ (IsBeside other × (old.names other ≡ None))
+  pub shows : (seen now name ≡ seen old name) ⊎ (seen now name ≡ Some (Plain bytes))
+  pub leaves : (found : Option Content) → CrashLeaves now name found → CrashLeaves old name found ⊎ (found ≡ Some (Plain bytes))
+  pub others_show : (other : List ℕ) → other ≢ name → (seen now other ≡ seen old other) ⊎ (IsBeside other × (old.names other ≡ None))
+  pub others_leave : (other : List ℕ) → other ≢ name → (found : Option Content) → CrashLeaves now other found
+      → CrashLeaves old other found ⊎ (IsBeside other × (old.names other ≡ None))
 
--- The file is replaced: under its name a crash leaves the new bytes, whole, and no other name has changed.
+-- The file is replaced: the name shows the new bytes, whole, a crash leaves them, and no other name has changed.
 pub record Replaced (name bytes : List ℕ) (old now : Moment) : Type 0 where
-  pub here : (found : Option Content) → MayFind now name found → found ≡ Some (Plain bytes)
-  pub others : (other : List ℕ) → other ≢ name → (found : Option Content) → MayFind now other found → MayFind old other found
-  pub same : (other : List ℕ) → other ≢ name → seen now other ≡ seen old other
+  pub shows : seen now name ≡ Some (Plain bytes)
+  pub leaves : (found : Option Content) → CrashLeaves now name found → found ≡ Some (Plain bytes)
+  pub others_show : (other : List ℕ) → other ≢ name → seen now other ≡ seen old other
+  pub others_leave : (other : List ℕ) → other ≢ name → (found : Option Content) → CrashLeaves now other found → CrashLeaves old other found
   pub no_fault : NoFault old now
 
 -- why a replacing was given up: a call failed, memory was refused, or there is a file of some name beside
