@@ -100,13 +100,13 @@ def of_streams_and_ends(call: Call) -> Iterator[Faults]:
 
 
 def unsynced(plain: Plain) -> list[str]:
-    """The lines in whose course a file takes its name before the disk has its bytes, or that are answered before it has the name."""
+    """The lines in whose course a file takes its name before the disk has its bytes, or that end before it has the name."""
     found = []
     for number, line in enumerate(plain.script.lines):
-        names = "".join(f"{call.name} " for call in plain.calls_of(number))
+        names = "".join(f"{call.name} " for call in plain.calls_of(number) if 0 <= call.result)
         before, renames, after = names.partition("rename ")
         if renames and "fsync " not in before.rpartition("write ")[2]:
             found.append(f"`{line[:60]}` gives a file its name before the disk has its bytes")
         if renames and "fsync " not in after:
-            found.append(f"`{line[:60]}` is answered before the disk has the file's name")
+            found.append(f"`{line[:60]}` ends before the disk has the file's name")
     return found
