@@ -63,10 +63,10 @@ class Script:
         self.taken += 1
 
 
-def done_to(text, moves, rng, ahead=0):
+def done_to(text, moves, rng, earlier=0):
     """The edits that make these moves in a text, which they change. So many characters more come before it."""
     for done, pos in moves:
-        place = ahead + pos
+        place = earlier + pos
         if done == TYPE:
             letter = rng.choice(LETTERS)
             text.insert(pos, letter)
@@ -85,7 +85,7 @@ def merged(name, edits, seed):
     halves = [], []
     for site, half in enumerate(halves, 1):
         moves = itertools.islice(TRACES[name](rng, 0), edits)
-        for edit in done_to(half, moves, rng, ahead=site - 1):
+        for edit in done_to(half, moves, rng, earlier=site - 1):
             script.send(edit, site)
     script.lines += ["1 merge 1 2", "2 merge 1 1"]
     script.text = [*halves[0], BAR, *halves[1]]

@@ -1,7 +1,7 @@
 """Makes edits anew that don't count any more: their number was another's too, or what they build on was left out.
 
 What the user saw is looked at in a process of its own, and what remained of these edits in that text is done
-again under the new number: what was typed goes behind the same characters, what was deleted is deleted, and looks are
+again under the new number: what was typed goes after the same characters, what was deleted is deleted, and looks are
 set.
 """
 from bisect import bisect_left
@@ -155,7 +155,7 @@ def _place(common: int, come: Sequence[int]) -> int:
 
 
 def _at_the_end(lost: Sequence[Message], site: Site) -> list[Done]:
-    """Types at the end what was typed behind something that isn't known any more."""
+    """Types at the end what was typed after something that isn't known any more."""
     typed = [(message, message.data[-names.length:]) for message in lost if (names := inserted(message))]
     done, end = [], len(site.text()) if typed else 0
     for message, data in typed:

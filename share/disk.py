@@ -34,7 +34,7 @@ SCHEMA = """
                        by_site INTEGER NOT NULL, by_seq INTEGER NOT NULL, PRIMARY KEY (author, site, seq));
 """
 ADD = "INSERT INTO entry (hash, raw, body, sum, made, offered) VALUES (?, ?, ?, ?, ?, ?) ON CONFLICT (hash) DO NOTHING"
-BEHIND = "SELECT place, hash, raw, body, sum, made FROM entry WHERE place > ? ORDER BY place LIMIT ?"
+AFTER = "SELECT place, hash, raw, body, sum, made FROM entry WHERE place > ? ORDER BY place LIMIT ?"
 PLACES = f"""SELECT place, hash, substr(raw, 1, {HEAD.size + MOST_AUTHOR_BYTES}), made, offered FROM entry
              WHERE place > ? AND hash NOT IN (SELECT hash FROM withdrawn) ORDER BY place"""
 FOUND = ("DELETE FROM entry WHERE hash IN (SELECT hash FROM withdrawn WHERE hash = ?)",
@@ -183,12 +183,12 @@ class Disk:
         self.about = replace(self.about, url=url)
 
     def rows(self, after: int = 0) -> list[Row]:
-        """The entries behind a place, also those that were withdrawn. What the disk damaged is taken out: whoever
+        """The entries after a place, also those that were withdrawn. What the disk damaged is taken out: whoever
         has it brings it back."""
         rows: list[Row] = []
         with self._words():
             while True:
-                found = self._file.execute(BEHIND, (after, PAGE)).fetchall()
+                found = self._file.execute(AFTER, (after, PAGE)).fetchall()
                 rows += [row for one in found if (row := self._row(*one))]
                 if len(found) < PAGE:
                     break
@@ -208,7 +208,7 @@ class Disk:
         return None
 
     def places(self, after: int = 0) -> list[Place]:
-        """The places of the entries behind one, without those that were withdrawn."""
+        """The places of the entries after one, without those that were withdrawn."""
         with self._words():
             found = self._file.execute(PLACES, (after,)).fetchall()
         return [Place(place, of, self.form.kind(head), self.form.author(head), bool(made), bool(offered))
@@ -220,7 +220,7 @@ class Disk:
             return self._one("SELECT count(*) FROM entry")
 
     def withdrawn(self, after: int = 0) -> list[tuple[int, bytes]]:
-        """The hashes of the entries that were withdrawn, behind a number, with their own."""
+        """The hashes of the entries that were withdrawn, after a number, with their own."""
         with self._words():
             return self._file.execute("SELECT number, hash FROM withdrawn WHERE number > ?", (after,)).fetchall()
 

@@ -35,7 +35,7 @@ from share.words import Refused, Trouble
 
 # So many steps of a history are given at once.
 MOST_STEPS = 10_000
-# Edits that wait behind one another are made so long before they are kept together.
+# Edits that wait after one another are made so long before they are kept together.
 TOGETHER_SECONDS = 0.03
 NOT_OPEN = "The note isn't open: open comes first."
 NOT_NOW = "The program doesn't answer. It is tried again; what was typed before is kept."
@@ -280,7 +280,7 @@ class Engine:
     # Edits.
 
     def _edits(self, peer: Peer, first: Line, waiting: list[bytes | None]) -> None:
-        """Makes an edit, and those that wait behind it, and answers all when they are on the disk."""
+        """Makes an edit, and those that wait after it, and answers all when they are on the disk."""
         session, answers = self._open_session(), list[tuple[Line, Line]]()
         can_type = session.status().can_type
 

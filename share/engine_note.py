@@ -148,7 +148,7 @@ class EngineNote:
         self.cursor, self._goes_on = position, False
 
     def find(self, words: str) -> bool:
-        """Puts the cursor at the next place of words behind it, or from the front on. False where there is none."""
+        """Puts the cursor at the next place of words after it, or from the front on. False where there is none."""
         place = found(self.text, self.cursor, words)
         if place >= 0:
             self.moved_to(place)

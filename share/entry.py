@@ -12,7 +12,7 @@ All numbers are big-endian. An entry has this head:
     before    32     the hash of this site's entry before it; zeros in a claim
     author    16/32  who claims or writes: 128 random bits where plain, an Ed25519 public key where sealed
 
-Then, in kind 3, 32 bytes that say what the messages build on, and the messages, each behind its length in two
+Then, in kind 3, 32 bytes that say what the messages build on, and the messages, each after its length in two
 bytes: as they are, where the form is plain, with a digest of all before it; else sealed, with the head as what is
 authenticated beside them, and signed.
 The hash of an entry is that of all its bytes. So the entries of a site make a chain that begins with its claim.
@@ -118,7 +118,7 @@ class Form(ABC):
         """What an editor said of itself; None where nobody of this note can have said it."""
 
     def body(self, raw: bytes) -> bytes:
-        """What is behind the head of an entry that was opened before, unsealed."""
+        """What is after the head of an entry that was opened before, unsealed."""
         return self._checked(raw)
 
     @abstractmethod
@@ -227,7 +227,7 @@ class Plain(Form):
 
 
 def body_of(messages: Sequence[Message]) -> bytes:
-    """Messages one behind the other, each behind its length."""
+    """Messages one after the other, each after its length."""
     return b"".join(LENGTH.pack(len(message.data)) + message.data for message in messages)
 
 

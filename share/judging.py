@@ -1,7 +1,7 @@
 """Which messages count: one function of the set of entries that came, in whatever order they did.
 
 It has no input or output, no clock and no chance in it. Everybody who has the same entries lets the same
-messages through, in an order in which each is behind its causes:
+messages through, in an order in which each is after its causes:
 
 - **Claims.** A site is held by the claim with the smallest hash of author and number. Entries of other authors
   under that number are left out. An author may have made two claims of a number, as signatures differ; of these
@@ -193,7 +193,7 @@ class Judge:
         return [message for chain in self._chains.values() for message in chain.messages[:chain.front]]
 
     def let_through_in_order(self) -> list[Message]:
-        """The same, each behind its causes."""
+        """The same, each after its causes."""
         return sorted(self.let_through(), key=lambda message: (message.stamp, message.site))
 
     def clipped(self, names: Names) -> Names:
@@ -292,7 +292,7 @@ class Judge:
         self._extend(chain, entry)
 
     def _extend(self, chain: _Chain, entry: Entry) -> None:
-        """Lengthens a chain by an entry, and by what holds behind it."""
+        """Lengthens a chain by an entry, and by what holds after it."""
         holding = [entry]
         while holding:
             last = min(holding, key=self._prefers)
@@ -349,7 +349,7 @@ class Judge:
 
     def _end_wrong(self) -> None:
         """Ends the chains whose next message is wrong, by all that was let through. One that was passed over
-        may be so by what was let through behind it."""
+        may be so by what was let through after it."""
         for chain in self._chains.values():
             if message := chain.next():
                 chain.ended = self._state(chain, message, inserted(message)) is State.WRONG

@@ -47,11 +47,11 @@ class Log(ABC):
 
     @abstractmethod
     def read(self, after: str) -> list[Carried]:
-        """What stands behind a place, PAGE at most. Nothing that is longer than an entry may be is read."""
+        """What stands after a place, PAGE at most. Nothing that is longer than an entry may be is read."""
 
     @abstractmethod
     def watch(self, after: str, seconds: float) -> None:
-        """Returns when something stands behind a place, and after so many seconds at the latest."""
+        """Returns when something stands after a place, and after so many seconds at the latest."""
 
     @abstractmethod
     def size(self) -> int:

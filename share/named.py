@@ -17,7 +17,7 @@ class Named:
         self._sizes = [_size(part) for part in self._parts]
 
     def at(self, place: int) -> Names | None:
-        """The name of the byte behind so many; None behind the last."""
+        """The name of the byte after so many; None after the last."""
         return next(iter(self.stretches(place, place + 1)), None)
 
     def stretches(self, begin: int, end: int) -> list[Names]:

@@ -22,7 +22,7 @@ class Change:
     names: Names | None = field(default=None, compare=False)
 
     def moved(self, position: int) -> int:
-        """Where a position is then: behind the same character, or where that was."""
+        """Where a position is then: after the same character, or where that was."""
         if position <= self.begin:
             return position
         if position < self.end:
@@ -32,7 +32,7 @@ class Change:
 
 def make(text: bytearray, changes: list[Change]) -> None:
     """Makes changes, each of the text that those before it leave. Those that rise are made in one go, since
-    each by itself moves all that is behind it."""
+    each by itself moves all that is after it."""
     begin = at = 0
     new = bytearray()
     for one in changes:
@@ -83,7 +83,7 @@ def _common(equal: Callable[[int, int], bool], most: int) -> int:
 
 
 def found(text: bytearray, cursor: int, words: str) -> int:
-    """The next place of words behind a cursor, or from the front on; below 0 where there is none."""
+    """The next place of words after a cursor, or from the front on; below 0 where there is none."""
     wanted = words.encode("utf-8", "ignore")
     place = text.find(wanted, cursor + 1)
     return place if place >= 0 else text.find(wanted)

@@ -239,7 +239,7 @@ def _read_stream(wire: Wire, key: str) -> _Gathered | None:
 
 
 def _records(path: pathlib.Path, site: int) -> tuple[list[Message], bool]:
-    """The messages of a journal, and whether something that is none is behind them: what a crash cut short, which was
+    """The messages of a journal, and whether something that is none is after them: what a crash cut short, which was
     never sent or shown, or damage."""
     data = path.read_bytes()
     if not data.startswith(JOURNAL_BEGIN):

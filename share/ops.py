@@ -70,7 +70,7 @@ class _Reader:
         return self._place < len(self._op)
 
     def next(self) -> Part:
-        """What is next; all that is behind the last part is kept."""
+        """What is next; all that is after the last part is kept."""
         return self._op[self._place] if self.has_more() else ENDLESS
 
     def left(self) -> int:
@@ -138,7 +138,7 @@ def carried_over(first: Op, second: Op, units: Units) -> tuple[Op, Op]:
 
 
 def moved(position: int, op: Op, units: Units) -> int:
-    """Where a position is after an op: what comes in just there comes in behind it."""
+    """Where a position is after an op: what comes in just there comes in after it."""
     left, shift = position, 0
     for part in op:
         if isinstance(part, bytes):
@@ -199,7 +199,7 @@ def _of_run(run: list[Replacement], falls: bool, units: Units) -> Op:
         made.keep(begin - at)
         made.insert(data)
         made.delete(end - begin)
-        # Where they rise those before have moved those behind.
+        # Where they rise those before have moved those after.
         at = end if falls else begin + units.count(data)
     return made.done()
 

@@ -85,11 +85,11 @@ class Peer:
         self._write(lines.written(line))
 
     def answer_later(self, line: Line) -> None:
-        """Answers behind the notices that are due."""
+        """Answers after the notices that are due."""
         self._answers.append(line)
 
     def flush(self, text: Measured) -> None:
-        """Sends what has changed for it, and the answers behind that."""
+        """Sends what has changed for it, and the answers after that."""
         carrying = self.carrying
         if carrying and self._waiting() <= MOST_WAITING:
             if carrying.is_void:

@@ -91,7 +91,7 @@ class Stream:
         self._wire, self._key, self._field, self._most = wire, key, field, most
 
     def read(self, after: str) -> list[Carried]:
-        """The entries behind a place, PAGE at most."""
+        """The entries after a place, PAGE at most."""
         last, count = _place(after)
         answer = self._wire.run(READ, (self._key,), (last, self._field, PAGE, self._most, ROOM), MOST_READ)
         if answer == 0:
@@ -103,7 +103,7 @@ class Stream:
         return page
 
     def watch(self, after: str, seconds: float) -> None:
-        """Returns when there is an entry behind a place, and after so many seconds at the latest."""
+        """Returns when there is an entry after a place, and after so many seconds at the latest."""
         last, _ = _place(after)
         milliseconds = max(1, int(seconds * 1000))
         try:

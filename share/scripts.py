@@ -59,7 +59,7 @@ class Scripts:
         return lambda wake: opens(lambda done, total: None, wake)
 
     def _found(self, given: argparse.Namespace) -> tuple[list[Message], list[str]]:
-        """The messages of a note, each behind its causes, and what is missing of it."""
+        """The messages of a note, each after its causes, and what is missing of it."""
         spelled = self._secret(given.link_file, "VIALSHOAL_LINK")
         found = printing.found(given.name, links.url_of(given.log) if given.log else None,
                                links.read(spelled) if spelled else None,

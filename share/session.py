@@ -91,7 +91,7 @@ class Session:
         return self.site.text()
 
     def insert(self, position: int, data: bytes) -> Edited:
-        """Types bytes behind the first so many of the text."""
+        """Types bytes after the first so many of the text."""
         return self._edited(lambda: self.site.insert(position, data))
 
     def cut(self, begin: int, end: int) -> Edited:
@@ -119,7 +119,7 @@ class Session:
         return {site: judge.length(site) for site in judge.claimed()}
 
     def messages(self) -> list[Message]:
-        """All messages that count, each behind its causes."""
+        """All messages that count, each after its causes."""
         return self._holdings.judge.let_through_in_order()
 
     def is_own(self, site: int) -> bool:

@@ -1,6 +1,6 @@
 """A site: a process of the program, and the messages that it was handed.
 
-The messages that it takes in are those that count, in an order in which each is behind its causes, so it takes
+The messages that it takes in are those that count, in an order in which each is after its causes, so it takes
 in each at once.
 """
 from collections.abc import Callable, Iterable, Iterator, Sequence
@@ -68,7 +68,7 @@ class Site:
         return self.text() if changes is None else changes
 
     def insert(self, position: int, data: bytes) -> Edited:
-        """Types bytes behind the first so many of the text. Each message has whole characters alone."""
+        """Types bytes after the first so many of the text. Each message has whole characters alone."""
         messages: list[Message] = []
         for part in split(data):
             edited = self._edit("type", position, escaped(part))
@@ -92,7 +92,7 @@ class Site:
 
     def replace(self, changes: Sequence[tuple[int, int, bytes]]) -> list[Edited]:
         """Makes changes, each in the text that those before it leave, and asks the program for all of them at once. It
-        may do those behind one that it refuses. No stretch that goes is too scattered for a message."""
+        may do those after one that it refuses. No stretch that goes is too scattered for a message."""
         if refused := self._full():
             return [Edited([], refused)]
         asked = [[*self._replacing(*one)] for one in changes]

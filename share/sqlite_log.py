@@ -40,7 +40,7 @@ OF_OTHERS = ("SELECT EXISTS (SELECT 1 FROM entry WHERE typeof(raw) = 'blob' AND 
 HELD = "SELECT place, raw = ? FROM entry WHERE hash = ?"
 ADD = "INSERT INTO entry (hash, raw) VALUES (?, ?)"
 STANDS = "SELECT EXISTS (SELECT 1 FROM entry WHERE place = ? AND coalesce(CAST(mark AS INTEGER), 0) = ?)"
-BEHIND = ("SELECT place, coalesce(CAST(mark AS INTEGER), 0), CASE WHEN typeof(raw) = 'blob' AND length(raw) <= ? "
+AFTER = ("SELECT place, coalesce(CAST(mark AS INTEGER), 0), CASE WHEN typeof(raw) = 'blob' AND length(raw) <= ? "
           "THEN raw END FROM entry WHERE place > ? ORDER BY place LIMIT ?")
 ON = "SELECT said FROM presence WHERE typeof(said) = 'blob' AND length(said) <= ? ORDER BY seen DESC LIMIT ?"
 # What SQLite says where a table isn't as a log has it. 3.10's sqlite3 has no numbers for that.
@@ -79,7 +79,7 @@ class SqliteLog(Log):
     def read(self, after: str) -> list[Carried]:
         with self._at_file():
             place = self._stands(after)
-            rows = self._file.execute(BEHIND, (MOST_BYTES, place, PAGE)).fetchall()
+            rows = self._file.execute(AFTER, (MOST_BYTES, place, PAGE)).fetchall()
         if rows and rows[-1][0] > GREATEST_PLACE:
             raise self._set_aside("has a place that can't be")
         return [Carried(f"{place}.{mark}", raw) for place, mark, raw in rows]

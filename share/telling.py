@@ -1,5 +1,5 @@
 """Tells what a message changes in the text: the program is asked where the characters that it names are
-shown, ahead of it and behind it."""
+shown, before it and after it."""
 import re
 from collections.abc import Iterator
 from typing import NamedTuple
@@ -11,7 +11,7 @@ from share.words import Trouble
 
 
 class Stretch(NamedTuple):
-    """Names that are shown one behind the other: the first one's offset and its position, and their bytes."""
+    """Names that are shown one after the other: the first one's offset and its position, and their bytes."""
 
     at: int
     position: int
@@ -26,9 +26,9 @@ def count(messages: list[Message]) -> int:
 def asking(program: Program, message: Message, tells: bool) -> list[bytes]:
     """The events that hand a message in, and ask what it changes where this is to be told."""
     where = [program.event("where", *names) for names in names_of(message)] if tells else []
-    # What is inserted is shown nowhere ahead of that.
-    ahead = [] if message.kind == INSERT else where
-    return [*ahead, program.taking(message.data), *where]
+    # What is inserted is shown nowhere before that.
+    earlier = [] if message.kind == INSERT else where
+    return [*earlier, program.taking(message.data), *where]
 
 
 def answered(message: Message, answers: list[list[bytes]]) -> tuple[bytes, list[Change] | None]:
@@ -40,9 +40,9 @@ def answered(message: Message, answers: list[list[bytes]]) -> tuple[bytes, list[
         return answer, []
     if not answer.startswith(b"taken 0 "):
         return answer, None
-    ahead = [stretches(found) for found in answers[:middle]] or [[]]
-    behind = [stretches(found) for found in answers[middle + 1:]]
-    return answer, told(names_of(message), ahead, behind)
+    earlier = [stretches(found) for found in answers[:middle]] or [[]]
+    later = [stretches(found) for found in answers[middle + 1:]]
+    return answer, told(names_of(message), earlier, later)
 
 
 def stretches(answer: list[bytes]) -> list[Stretch]:
@@ -59,12 +59,12 @@ def stretches(answer: list[bytes]) -> list[Stretch]:
             for _, at, position, length, printed in words]
 
 
-def told(names: list[Names], ahead: list[list[Stretch]], behind: list[list[Stretch]]) -> list[Change]:
+def told(names: list[Names], earlier: list[list[Stretch]], later: list[list[Stretch]]) -> list[Change]:
     """What went from a text and what came to it, each as a change of the text that those before it leave."""
-    both = [*zip(names, ahead, behind)]
+    both = [*zip(names, earlier, later)]
     went = sorted(part for one, was, now in both for part in _only(one, was, now))
     came = sorted(part for one, was, now in both for part in _only(one, now, was))
-    # What goes was shown behind all that goes ahead of it; what comes finds all that in place.
+    # What goes was shown after all that goes before it; what comes finds all that in place.
     changes, gone = [], 0
     for begin, data, of in went:
         changes.append(Change(begin - gone, begin - gone + len(data), b"", of))

@@ -29,7 +29,7 @@ DOWN, UP, UNDO, ERASE = b"\x1b[6~", b"\x1b[5~", b"\x1a", b"\x7f"
 
 
 def answered(terminal: int, wait: float = 30, quiet: float = 0.05) -> float:
-    """When an answer began to come, which is drawn as one; what comes behind it, as that all is sent, is read
+    """When an answer began to come, which is drawn as one; what comes after it, as that all is sent, is read
     away."""
     first = None
     while select.select([terminal], [], [], quiet if first else wait)[0]:

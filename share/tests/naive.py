@@ -227,7 +227,7 @@ def chain_of(known: Iterable[Entry], site: int, prefers: Rank) -> list[Entry]:
 
 
 def follows(entry: Entry, before: Entry) -> bool:
-    """Whether an entry has the place behind another one: of its site and author, with the seq that is next."""
+    """Whether an entry has the place after another one: of its site and author, with the seq that is next."""
     return (entry.kind is not Kind.CLAIM and entry.before == before.hash and entry.site == before.site
             and entry.author == before.author
             and entry.first == (before.messages[-1].seq if before.messages else 0) + 1)
@@ -301,7 +301,7 @@ def head(kind: int, site: int, seq: int, stamp: int) -> bytes:
 
 
 def inserting(site: int, seq: int, stamp: int, cause: Name | None, at: int, data: bytes) -> Message:
-    """An Insert of these bytes in the default looks, behind a character or, without one, at the beginning."""
+    """An Insert of these bytes in the default looks, after a character or, without one, at the beginning."""
     cause_site, offset = cause or (0, 0)
     parts = [head(INSERT, site, seq, stamp), cause_site.to_bytes(2, "big"), offset.to_bytes(4, "big"),
              at.to_bytes(4, "big"), LOOKS, len(data).to_bytes(2, "big"), data]

@@ -62,7 +62,7 @@ class Note:
         for done, names in enumerate(undo.names):
             told: list[Told] = []
             if self._edited(lambda: self._named(undo.kind, names, told)) is None:
-                # What was refused, and what comes behind it, can be taken back later.
+                # What was refused, and what comes after it, can be taken back later.
                 self._done.append(Undo(undo.kind, undo.names[done:]))
                 return True
             self._shows(told[0], follow=True)

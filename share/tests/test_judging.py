@@ -63,7 +63,7 @@ class Fault(NamedTuple):
     under: bool = False
     # How far from the end of its site's characters its own ones begin.
     at: int = 0
-    # How far behind the end of a site's characters those are that it mentions.
+    # How far after the end of a site's characters those are that it mentions.
     beyond: int | None = None
 
 
@@ -152,7 +152,7 @@ class History:
 
     def _follow(self, before: Entry | None, fault: Fault = Fault(), author: Author | None = None,
                 place: Entry | None = None, skipped: int = 0, on: bytes | None = None) -> None:
-        """Makes an entry behind another one. Its messages may have a place behind a third one, and skip some;
+        """Makes an entry after another one. Its messages may have a place after a third one, and skip some;
         a fault is in one of them. Some entries don't say what they build on."""
         if before is None:
             return

@@ -35,7 +35,7 @@ def raw(number: int, note: bytes = NOTE) -> bytes:
 
 
 def raws(log: Log, after: str = START) -> list[bytes | None]:
-    """All that a log has behind a place."""
+    """All that a log has after a place."""
     found = []
     while page := log.read(after):
         found += [one.raw for one in page]

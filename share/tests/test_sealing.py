@@ -67,7 +67,7 @@ class Opened(unittest.TestCase):
         self.assertNotEqual(other.raw[begin:begin + 24], self.made[1].raw[begin:begin + 24])
 
     def test_nothing_of_the_messages_can_be_seen(self) -> None:
-        """The same message under two keys has nothing in common behind the head, and its bytes aren't there."""
+        """The same message under two keys has nothing in common after the head, and its bytes aren't there."""
         other = chain(Sealed(new_key()), self.author)[1].raw
         raw, data = self.made[1].raw, self.made[1].messages[0].data
         self.assertNotIn(data, raw)

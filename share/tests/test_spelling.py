@@ -48,7 +48,7 @@ class Maker:
         return self.chance.choice(wrong if self.chance.random() < self.often else right)
 
     def insertion(self, site: int) -> bytes:
-        """What an Insert has behind its head."""
+        """What an Insert has after its head."""
         long = self.chance.random() < 0.01
         length = self.pick([4_096] if long else [1, 1, 2], [4_097] if long else [0])
         at = self.pick([0, 0, 1, 7, FILE - length], [FILE - length + 1, FILE, 2**32 - 1])

@@ -130,10 +130,10 @@ class Told(Pair):
             for note, (cursor, was) in zip(self.notes, before):
                 self.assertEqual(bytes(note.text), note.session.text())
                 now = self.named(note)
-                ahead = next((name for name, position in was.items() if position == cursor - 1), None)
-                if ahead in now:
-                    self.assertEqual(note.cursor, now[ahead] + 1)
-                elif ahead is None:
+                earlier = next((name for name, position in was.items() if position == cursor - 1), None)
+                if earlier in now:
+                    self.assertEqual(note.cursor, now[earlier] + 1)
+                elif earlier is None:
                     self.assertEqual(note.cursor, 0)
         self.assertGreater(len(self.notes[0].text), 500)
 

@@ -1,6 +1,6 @@
 """Types numbered words into a note until it is killed, and says which were typed, and up to which all were sent.
 
-Its words are `<tag>.<number>` with a blank behind each.
+Its words are `<tag>.<number>` with a blank after each.
 """
 import os
 import random

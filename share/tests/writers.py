@@ -51,7 +51,7 @@ NEOVIM = """
       quiet = #note.changes == 0 and not note.is_unsure and note.made == note.answered,
       types = note.is_open and vim.bo[note.buffer].modifiable, session = tostring(note.job and vim.fn.jobpid(note.job)) })
   end"""
-# Has Neovim take commands. Esc with a key right behind it would be Alt with that key.
+# Has Neovim take commands. Esc with a key right after it would be Alt with that key.
 NORMAL = "C-\\", "C-n"
 # The page asks whoever leaves it where an edit is unanswered.
 PAGE = """{ text: MIRROR.getValue(), types: !MIRROR.getOption("readOnly"), session: document.title,

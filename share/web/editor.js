@@ -107,7 +107,7 @@ export class Editor {
     });
   }
 
-  /** Has a text stand in the place of another. What comes in just behind a cursor or a selection doesn't move that. */
+  /** Has a text stand in the place of another. What comes in just after a cursor or a selection doesn't move that. */
   #put(text, from, to) {
     const before = this.cm.listSelections();
     const stays = (range, place) => [place, range.to()].every((one) => CodeMirror.cmpPos(one, from) === 0);

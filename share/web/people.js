@@ -9,7 +9,7 @@ export function colourAt(number) {
   return PALETTE[number % PALETTE.length];
 }
 
-/** A colour as it stands behind words. */
+/** A colour as it stands after words. */
 export function pale(spelled) {
   return `${colourOf(spelled)}30`;
 }

@@ -1,5 +1,5 @@
 -- The fields that messages and files are made of: how a number is spelled, what is read from the left, and what is
--- appended. Each function that reads gives the value that the front of the bytes spells, and the bytes behind it.
+-- appended. Each function that reads gives the value that the front of the bytes spells, and the bytes after it.
 use Rattle.std.specs.Prelude.{◌≡◌, ℕ, nat_lt, ◌==◌, if◌then◌else◌, List, [], ◌∷◌, ◌++◌, length, take, drop}
 use Rattle.std.specs.Prelude.{Option, Some, None, Result, Ok, Err}
 use Rattle.std.specs.Int.{Width, byte_len, from_be_bytes, to_be_bytes}

@@ -1,5 +1,5 @@
 //! The fields that messages and files are made of: numbers, the highest byte first. Each is appended at the end of bytes,
-//! or read at their front with the bytes behind it.
+//! or read at their front with the bytes after it.
 #![tactic(auto)]
 
 mod reading;

@@ -18,7 +18,7 @@ pub use buffer::Buffer;
 pub use char_file::CharFile;
 pub use char_files::CharFiles;
 pub use character::Char;
-pub use laws::runs_are_maximal;
+pub use laws::lemma_runs_are_maximal;
 pub use limits::the_limits;
 pub use looks_run::LooksRun;
 pub use name::{Anchor, Name};

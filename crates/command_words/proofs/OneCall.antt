@@ -5,7 +5,7 @@ use Rattle.std.proofs.lemmas.Bool.{cases_lt}
 use Rattle.std.specs.Cmp.Lexicographic.{pointwise}
 use Rattle.reader_scanner.specs.Tokens.{IsTokenAt}
 use Rattle.reader_scanner.specs.declared.token.Token.{Token}
-use Rattle.reader_scanner.proofs.OneToken.{one_token}
+use Rattle.reader_scanner.proofs.OneToken.{lemma_one_token}
 use Rattle.command_words.specs.declared.calls.Call.{Call}
 use Rattle.command_words.specs.declared.command.Command.{Command}
 use Rattle.command_words.specs.declared.command.Command.TheVariants as command
@@ -37,7 +37,7 @@ one_command a b same =
     let some : Some a ≡ Some b = sym (of_word-name a) ∙ ap of_word same ∙ of_word-name b in
     ap (λ o. unwrap_or o a) some
 
--- no word begins ahead of another one at a position
+-- no word begins before another one at a position
 begins_with : (bytes : List ℕ) (pos b e c f : ℕ) → IsWordAt bytes pos b e → IsWordAt bytes pos c f → c ≤ b
 begins_with bytes pos b e c f one other =
     let from : c ≤ pos = other.from in
@@ -49,7 +49,7 @@ begins_with bytes pos b e c f one other =
       | inr le ↦ le
     ]
 
--- nor ends behind it
+-- nor ends after it
 ends_with : (bytes : List ℕ) (pos b e c f : ℕ) → IsWordAt bytes pos b e → IsWordAt bytes pos c f → e ≤ f
 ends_with bytes pos b e c f one other =
     let from : b ≤ pos = one.from in
@@ -58,7 +58,7 @@ ends_with bytes pos b e c f one other =
     elim (cases_lt f e) [
       | inl lt ↦ absurd (both (get_or bytes f 0)
           (one.each f (omega (arith, from, to)) lt)
-          (other.behind (omega (arith, lt, within))))
+          (other.after (omega (arith, lt, within))))
       | inr le ↦ le
     ]
 
@@ -87,4 +87,4 @@ one_call bytes pos a b one other =
     let token : IsTokenAt bytes other.end a.token =
     subst (λ (e : ℕ). IsTokenAt bytes e a.token) same.1 one.token in
     same_call a b (one_command a.command b.command (sym word ∙ other.named))
-    (one_token bytes other.end a.token b.token token other.token)
+    (lemma_one_token bytes other.end a.token b.token token other.token)

@@ -17,7 +17,7 @@ use Rattle.command_words.specs.Commands.{name_of}
 use Rattle.command_words.proofs.OneCall.{of_word, of_word-name, one_word}
 use Rattle.command_words.proofs.Words.{both}
 
--- where the word begins whose bytes stand directly ahead of a position
+-- where the word begins whose bytes stand directly before a position
 record Begun (bytes : List ℕ) (pos : ℕ) : Type 0 where
   beg : ℕ
   from : beg ≤ pos
@@ -38,7 +38,7 @@ begun bytes (suc pos) = elim (cases_Bool (is_name_byte (slice_index bytes pos)))
         beg = b.beg;
         from = omega (arith, b.from);
         each = λ k from lt. elim (cases_lt k pos) [
-          | inl ahead ↦ b.each k from ahead
+          | inl earlier ↦ b.each k from earlier
           | inr le ↦ let same : pos ≡ k = omega (arith, lt, le) in
               subst (λ (x : ℕ). is_name_byte (slice_index bytes x) ≡ true) same here
         ];
@@ -54,13 +54,13 @@ begun bytes (suc pos) = elim (cases_Bool (is_name_byte (slice_index bytes pos)))
   }
 ]
 
--- where the word ends whose bytes stand directly behind a position
+-- where the word ends whose bytes stand directly after a position
 record Ended (bytes : List ℕ) (pos : ℕ) : Type 0 where
   end : ℕ
   to : pos ≤ end
   within : end ≤ length bytes
   each : (k : ℕ) → pos ≤ k → k < end → is_name_byte (slice_index bytes k) ≡ true
-  behind : end < length bytes → is_name_byte (slice_index bytes end) ≡ false
+  after : end < length bytes → is_name_byte (slice_index bytes end) ≡ false
 
 ended : (bytes : List ℕ) (n pos : ℕ) → pos + n ≡ length bytes → Ended bytes pos
 ended bytes zero pos all = record {
@@ -68,7 +68,7 @@ ended bytes zero pos all = record {
   to = omega arith;
   within = omega (arith, all);
   each = λ k from lt. absurd (omega (arith, from, lt));
-  behind = λ inside. absurd (omega (arith, all, inside));
+  after = λ inside. absurd (omega (arith, all, inside));
 }
 ended bytes (suc n) pos all = elim (cases_Bool (is_name_byte (slice_index bytes pos))) [
   | inl here ↦
@@ -82,14 +82,14 @@ ended bytes (suc n) pos all = elim (cases_Bool (is_name_byte (slice_index bytes 
           | inr le ↦ let same : pos ≡ k = omega (arith, from, le) in
               subst (λ (x : ℕ). is_name_byte (slice_index bytes x) ≡ true) same here
         ];
-        behind = e.behind;
+        after = e.after;
       }
   | inr not_here ↦ record {
     end = pos;
     to = omega arith;
     within = omega (arith, all);
     each = λ k from lt. absurd (omega (arith, from, lt));
-    behind = λ inside. not_here;
+    after = λ inside. not_here;
   }
 ]
 
@@ -109,7 +109,7 @@ word_or_none bytes pos = elim (cases_lt pos (length bytes)) [
             to = omega (arith, e.to);
             within = e.within;
             each = λ k from lt. elim (cases_lt k pos) [
-              | inl ahead ↦ b.each k from ahead
+              | inl earlier ↦ b.each k from earlier
               | inr le ↦ elim (cases_lt pos k) [
                 | inl past ↦ e.each k (omega (arith, past)) lt
                 | inr ge ↦ let same : pos ≡ k = omega (arith, le, ge) in
@@ -117,7 +117,7 @@ word_or_none bytes pos = elim (cases_lt pos (length bytes)) [
               ]
             ];
             before = b.before;
-            behind = e.behind;
+            after = e.after;
           },
         )
     | inr not_here ↦ inl (λ b e word. both (slice_index bytes pos) (word.each pos word.from word.to) not_here)

@@ -4,7 +4,7 @@ use Rattle.std.proofs.Common.{sym}
 use Rattle.std.proofs.lemmas.Bool.{cases_lt}
 use Rattle.std.proofs.lemmas.List.{length-map, length-take, length-drop}
 use Rattle.char_files.specs.Stretch.{Item}
-use Rattle.reader_scanner.specs.Place.{bytes_of}
+use Rattle.reader_scanner.specs.ReaderState.{bytes_of}
 use Rattle.reader_scanner.specs.Tokens.{is_name_byte}
 use Rattle.command_words.specs.declared.calls.Call.{Call}
 use Rattle.command_words.specs.declared.command.Command.{Command}
@@ -12,7 +12,7 @@ use Rattle.command_words.specs.declared.command.Command.TheVariants as command
 use Rattle.command_words.specs.Calls.{IsCallAt, IsWordAt}
 use Rattle.command_words.specs.Commands.{name_of}
 
--- what is found within 32 bytes ahead of a position, and from what was found there on
+-- what is found within 32 bytes before a position, and from what was found there on
 pub record IsNear (bytes : List ℕ) (pos beg end : ℕ) : Type 0 where
   pub from : beg ≤ pos
   pub to : pos ≤ end
@@ -20,7 +20,7 @@ pub record IsNear (bytes : List ℕ) (pos beg end : ℕ) : Type 0 where
   pub left : (k : ℕ) → beg ≤ k → k < pos → is_name_byte (get_or bytes k 0) ≡ true
   pub right : (k : ℕ) → pos ≤ k → k < end → is_name_byte (get_or bytes k 0) ≡ true
   pub before : 0 < beg → pos - beg < 32 → is_name_byte (get_or bytes (beg - 1) 0) ≡ false
-  pub behind : end < length bytes → end - beg < 32 → is_name_byte (get_or bytes end 0) ≡ false
+  pub after : end < length bytes → end - beg < 32 → is_name_byte (get_or bytes end 0) ≡ false
 
 -- what is found in a source is so of its bytes
 pub is_near : (items : List Item) (pos beg end : ℕ) → beg ≤ pos → pos ≤ end → end ≤ length items
@@ -29,7 +29,7 @@ pub is_near : (items : List Item) (pos beg end : ℕ) → beg ≤ pos → pos �
     → (0 < beg → pos - beg < 32 → is_name_byte (get_or (bytes_of items) (beg - 1) 0) ≡ false)
     → (end < length items → end - beg < 32 → is_name_byte (get_or (bytes_of items) end 0) ≡ false)
     → IsNear (bytes_of items) pos beg end
-is_near items pos beg end from to within left right before behind =
+is_near items pos beg end from to within left right before after =
     let same : length (bytes_of items) ≡ length items = length-map items (λ (i : Item). i.0) in
     record {
       from = from;
@@ -38,7 +38,7 @@ is_near items pos beg end from to within left right before behind =
       left = left;
       right = right;
       before = before;
-      behind = λ inside. behind (omega (arith, inside, same));
+      after = λ inside. after (omega (arith, inside, same));
     }
 
 -- a byte can't be both
@@ -59,7 +59,7 @@ word_is bytes pos beg end near some short =
         | inr le ↦ near.right k le b
       ];
       before = λ positive. near.before positive (omega (arith, from, some, short));
-      behind = λ inside. near.behind inside short;
+      after = λ inside. near.after inside short;
     }
 
 -- a short word begins where it was found to begin
@@ -94,11 +94,11 @@ same_end bytes pos beg end b e near word short =
     elim (cases_lt end e) [
       | inl lt ↦ absurd (both (get_or bytes end 0)
           (word.each end (omega (arith, h1, h2)) lt)
-          (near.behind (omega (arith, lt, h4)) (omega (arith, lt, same, short))))
+          (near.after (omega (arith, lt, h4)) (omega (arith, lt, same, short))))
       | inr le ↦ elim (cases_lt e end) [
         | inl lt ↦ absurd (both (get_or bytes e 0)
             (near.right e (omega (arith, h3)) lt)
-            (word.behind (omega (arith, lt, h5))))
+            (word.after (omega (arith, lt, h5))))
         | inr ge ↦ omega (arith, le, ge)
       ]
     ]
@@ -126,10 +126,10 @@ named_short bytes beg end c within named =
     subst (λ (w : List ℕ). length w < 32) (sym named) (name_short c) in
     omega (arith, long, within, length-take (end - beg) (drop beg bytes), length-drop beg bytes)
 
--- the word of each call there ends behind the position
-pub ends_behind : (bytes : List ℕ) (pos beg end : ℕ) → IsNear bytes pos beg end → (call : Call)
+-- the word of each call there ends after the position
+pub ends_after : (bytes : List ℕ) (pos beg end : ℕ) → IsNear bytes pos beg end → (call : Call)
     → IsCallAt bytes pos call → pos < end
-ends_behind bytes pos beg end near call is =
+ends_after bytes pos beg end near call is =
     let to : pos < is.end = is.word.to in
     let short : is.end - is.beg < 32 =
     named_short bytes is.beg is.end call.command is.word.within is.named in

@@ -12,9 +12,9 @@ pub record IsWordAt (bytes : List ℕ) (pos beg end : ℕ) : Type 0 where
   pub within : end ≤ length bytes
   pub each : (k : ℕ) → beg ≤ k → k < end → is_name_byte (slice_index bytes k) ≡ true
   pub before : 0 < beg → is_name_byte (slice_index bytes (beg - 1)) ≡ false
-  pub behind : end < length bytes → is_name_byte (slice_index bytes end) ≡ false
+  pub after : end < length bytes → is_name_byte (slice_index bytes end) ≡ false
 
--- the word at a position is the command's, and its token is the first one behind the word
+-- the word at a position is the command's, and its token is the first one after the word
 pub record IsCallAt (bytes : List ℕ) (pos : ℕ) (call : Call) : Type 0 where
   pub beg : ℕ
   pub end : ℕ

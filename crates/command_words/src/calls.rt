@@ -1,5 +1,5 @@
 ghost use Rattle.std.specs.Prelude.{◌≡◌, ◌-◌, ◌<◌, ◌≤◌, ℕ, true, false, length, slice_index, None, IfSome};
-ghost use Rattle.reader_scanner.specs.Place.{bytes_of, bytes_between};
+ghost use Rattle.reader_scanner.specs.ReaderState.{bytes_of, bytes_between};
 ghost use Rattle.reader_scanner.specs.Tokens.{is_name_byte};
 ghost use Rattle.command_words.specs.Calls.{IsCallAt, NoCallAt};
 
@@ -8,11 +8,11 @@ use arrayvec::ArrayVec;
 use char_files::Source;
 use reader_scanner::{Scanner, Token, byte_at};
 
-// How many bytes are looked at, ahead of a position and from a word's begin on: more than any command's word
+// How many bytes are looked at, before a position and from a word's begin on: more than any command's word
 // has, so that a long word costs no more than one of so many bytes.
 const NEAR: usize = 32;
 
-/// A command's word in a text, with the token that stands first behind it. This project's own.
+/// A command's word in a text, with the token that stands first after it. This project's own.
 #[derive(Debug, Drop, PartialEq, Eq)]
 pub struct Call {
     pub command: Command,
@@ -57,7 +57,7 @@ fn word_end<S: Source>(source: &S, beg: u64, pos: u64) -> u64
     ensures near { result - beg ≤ NEAR }
     ensures each { (k : ℕ) → pos ≤ k → k < result
         → is_name_byte (slice_index (bytes_of (S.items source.now)) k) ≡ true }
-    ensures behind { result < length (S.items source.now) → result - beg < NEAR
+    ensures after { result < length (S.items source.now) → result - beg < NEAR
         → is_name_byte (slice_index (bytes_of (S.items source.now)) result) ≡ false }
 {
     let most = source.len().min(beg.saturating_add(NEAR as u64));

@@ -88,7 +88,7 @@ impl Command {
         None
     }
 
-    /// Whether it asks for a parameter, which is the token behind its word.
+    /// Whether it asks for a parameter, which is the token after its word.
     pub fn has_parameter(self) -> bool
         ensures { result ≡ has_parameter self }
     {

@@ -1,4 +1,4 @@
--- What is put in at the caret: one step of the run, behind which the caret stands behind the last character that came in.
+-- What is put in at the caret: one step of the run, after which the caret stands after the last character that came in.
 use Rattle.std.proofs.Common.{◌≡◌, ◌⊎◌, ℕ, ◌+◌, ◌-◌, ◌≤◌, ◌<◌, true, false, Bool, List, [], ◌++◌, length, take, drop, Option, Some}
 use Rattle.std.proofs.Common.{None, Result, Ok, Err, refl, sym, ap, subst, ◌∙◌, inl, inr, arith, length-append}
 use Rattle.std.specs.Prelude.{◌==◌, if◌then◌else◌, option_map, slice_get, slice_set}
@@ -16,10 +16,10 @@ use Rattle.texts.specs.Text.{IsAnchor, IsText}
 use Rattle.texts.specs.TextState.{TextState, all_told, shown_of}
 use Rattle.texts.specs.declared.edit_refusal.EditRefusal.{EditRefusal}
 use Rattle.texts.specs.declared.edit_refusal.EditRefusal.TheVariants.{Whole, Partial}
-use Rattle.machine.specs.DeskState.{DeskState, InText, IsTextOf}
+use Rattle.machine.specs.SiteTexts.{SiteTexts, InText, IsTextOf}
 use Rattle.machine.specs.Events.{Reply, ask, edit_reply, messages_of, refuses, untouched}
 use Rattle.machine.specs.Machine.{Replies}
-use Rattle.machine.specs.OnTexts.{EditsDesk, EditsText, EditsTextShort}
+use Rattle.machine.specs.OnTexts.{EditsSite, EditsText, EditsTextShort}
 use Rattle.machine.specs.State.{IsTextAt, Refuses, State, with_screen_at}
 use Rattle.machine.specs.Tasks.{AtCaret, DoesTask, EditsAt, EditsShortAt, ShortTask, caret_after}
 use Rattle.machine.specs.Windows.{Caret, Screened, Window, place_in, shown_by, window_of}
@@ -41,7 +41,7 @@ use Rattle.commands.specs.Steps.{DeskSeen, IsEditStep, StandsIn, with_desk}
 put_not_shorter : (xs : List Char) (n : ℕ) (run : List Char) → length xs ≤ length (put xs n run)
 put_not_shorter xs n run =
     let all = length-append (take n xs ++ run) (drop n xs) in
-    let ahead = length-append (take n xs) run in
+    let before = length-append (take n xs) run in
     let parts = length-append (take n xs) (drop n xs) in
     let whole : length (take n xs ++ drop n xs) ≡ length xs = ap (length {A = Char}) (take-append-drop n xs) in
     omega arith
@@ -87,7 +87,7 @@ unequal_is a b other = by (a == b) refl
     by true is = absurd (other ((Decides-eqb a b).0 is))
     by false is = is
 
--- the caret behind an edit: it stays where nothing came in, else it stands behind what did
+-- the caret after an edit: it stays where nothing came in, else it stands after what did
 caret_stays : (t u : TextState) (was : ℕ) (old : Anchor) → length (shown_of u) ≡ length (shown_of t)
     → caret_after t u was old ≡ old
 caret_stays t u was old same =
@@ -101,7 +101,7 @@ caret_moves t u was old more =
     (unequal_is (length (shown_of u)) (length (shown_of t)) (λ same. omega arith))
 
 -- what is put in at the caret is the task's
-module _ (s : State) (i : ℕ) (d : DeskState) (w : Screened) (c : Caret) (shown : Window × TextState) where
+module _ (s : State) (i : ℕ) (d : SiteTexts) (w : Screened) (c : Caret) (shown : Window × TextState) where
   put_does : (what : Option (List Item)) (r : Reply) (new : State) → w.caret ≡ Some c
       → window_of d w c.viewer ≡ Some shown → AtCaret EditsAt s i w c shown.0 shown.1 (edit_of what) r new
       → DoesTask s i d w (task_of_put what) untouched r new
@@ -115,14 +115,14 @@ module _ (s : State) (i : ℕ) (d : DeskState) (w : Screened) (c : Caret) (shown
   put_short None r new caret at short = (refl, (c, shown, caret, at, short))
 
 -- without a caret it is refused
-put_without_caret : (s : State) (i : ℕ) (d : DeskState) (w : Screened) (what : Option (List Item)) (r : Reply)
+put_without_caret : (s : State) (i : ℕ) (d : SiteTexts) (w : Screened) (what : Option (List Item)) (r : Reply)
     (new : State) → w.caret ≡ None → Refuses s NoCaret r new → DoesTask s i d w (task_of_put what) untouched r new
 put_without_caret s i d w (Some items) r new none refused = inl (none, refl, refused)
 put_without_caret s i d w None r new none refused = inl (none, refl, refused)
 
 -- The caret stands in a viewer of a text of the desk, at a position of that, where characters were put in; and the windows
 -- were told.
-pub record IsPutIn (d d' new : DeskState) (old mid : WindowsSeen) (place : ℕ × ℕ) (what : Option (List Item))
+pub record IsPutIn (d d' new : SiteTexts) (old mid : WindowsSeen) (place : ℕ × ℕ) (what : Option (List Item))
     (result : Result ℕ EditRefusal) (before after : List (List ℕ)) : Type 0 where
   pub c : Caret
   pub window : Window
@@ -133,12 +133,12 @@ pub record IsPutIn (d d' new : DeskState) (old mid : WindowsSeen) (place : ℕ �
   pub anchor : IsAnchor t.operations c.anchor
   pub on : place.0 ≡ window.text
   pub at : place.1 ≡ place_in t c.anchor
-  pub edited : EditsDesk d window.text (edit_of what (place_in t c.anchor)) result d' before after
+  pub edited : EditsSite d window.text (edit_of what (place_in t c.anchor)) result d' before after
   pub told : Asked d' window.text new
   pub same : screened mid ≡ screened old
 
 -- a caret's character is one of the text that its viewer shows
-pub anchored : (d : DeskState) (w : WindowsSeen) (c : Caret) (shown : Window × TextState) → AreOf d w → w.caret ≡ Some c
+pub anchored : (d : SiteTexts) (w : WindowsSeen) (c : Caret) (shown : Window × TextState) → AreOf d w → w.caret ≡ Some c
     → window_of d (screened w) c.viewer ≡ Some shown → IsAnchor shown.1.operations c.anchor
 anchored d w c shown are is_caret shows =
     let (x, t, there, at, anchor) = are.caret c is_caret in
@@ -152,9 +152,9 @@ anchored d w c shown are is_caret shows =
     subst (λ (y : TextState). IsAnchor y.operations c.anchor) one anchor
 
 -- what is put in at the caret's place is put in so
-pub put_at : (d d' new : DeskState) (old mid : WindowsSeen) (place : ℕ × ℕ) (what : Option (List Item)) (result : Result ℕ EditRefusal)
+pub put_at : (d d' new : SiteTexts) (old mid : WindowsSeen) (place : ℕ × ℕ) (what : Option (List Item)) (result : Result ℕ EditRefusal)
     (before after : List (List ℕ)) → AreOf d old → IsCaretPlace d old (Some place) → HasText d place.0
-    → EditsDesk d place.0 (edit_of what place.1) result d' before after → Asked d' place.0 new
+    → EditsSite d place.0 (edit_of what place.1) result d' before after → Asked d' place.0 new
     → screened mid ≡ screened old → IsPutIn d d' new old mid place what result before after
 put_at d d' new old mid place what result before after are (c, shown, caret, shows, text, pos) (t, at, is) edited told same =
     let one : t ≡ shown.1 = one_element (slice_get d.texts (shown.0.text - 1)) t shown.1
@@ -169,13 +169,13 @@ put_at d d' new old mid place what result before after are (c, shown, caret, sho
       anchor = anchored d old c shown are caret shows;
       on = text;
       at = pos;
-      edited = subst (λ (n : ℕ). EditsDesk d n (edit_of what (place_in shown.1 c.anchor)) result d' before after) text
-          (subst (λ (n : ℕ). EditsDesk d place.0 (edit_of what n) result d' before after) pos edited);
+      edited = subst (λ (n : ℕ). EditsSite d n (edit_of what (place_in shown.1 c.anchor)) result d' before after) text
+          (subst (λ (n : ℕ). EditsSite d place.0 (edit_of what n) result d' before after) pos edited);
       told = subst (λ (n : ℕ). Asked d' n new) text told;
       same = same;
     }
 
-module _ {d d' new : DeskState} {old mid : WindowsSeen} {place : ℕ × ℕ} {what : Option (List Item)}
+module _ {d d' new : SiteTexts} {old mid : WindowsSeen} {place : ℕ × ℕ} {what : Option (List Item)}
     {result : Result ℕ EditRefusal} {before after : List (List ℕ)}
     (k : IsPutIn d d' new old mid place what result before after) where
   open k use {c, window, t, caret, shown, edited, told, same}
@@ -196,13 +196,13 @@ module _ {d d' new : DeskState} {old mid : WindowsSeen} {place : ℕ × ℕ} {wh
   there_then : IsTextOf d' window.text text_then
   unfolding text_then
   there_then =
-      ap (λ (x : DeskState). slice_get x.texts (window.text - 1)) put_so.4
+      ap (λ (x : SiteTexts). slice_get x.texts (window.text - 1)) put_so.4
       ∙ put_there d.texts (window.text - 1) put_so.0 put_so.1 put_so.2
 
   in_new : IsTextOf new window.text (all_told text_then)
   in_new =
       let one : told.0 ≡ text_then = one_element (slice_get d'.texts (window.text - 1)) told.0 text_then told.2 there_then in
-      ap (λ (x : DeskState). slice_get x.texts (window.text - 1)) told.4
+      ap (λ (x : SiteTexts). slice_get x.texts (window.text - 1)) told.4
       ∙ put_there d'.texts (window.text - 1) told.0 told.1 told.2 ∙ ap Some (told.3 ∙ ap all_told one)
 
   no_less : length (shown_of t) ≤ length (shown_of text_then)
@@ -228,7 +228,7 @@ module _ {d d' new : DeskState} {old mid : WindowsSeen} {place : ℕ × ℕ} {wh
       one_element (window_of new (screened mid) c.viewer) seen (window, all_told text_then)
       (ap (λ (x : Caret). window_of new (screened mid) x.viewer) (sym one) ∙ shows) shows_then
 
-  -- there is room for the caret behind what came in
+  -- there is room for the caret after what came in
   place_then : place_in t c.anchor + (length (shown_of text_then) - length (shown_of t)) ≤ length (shown_of text_then)
   place_then =
       let within : place_in t c.anchor ≤ length (shown_of t) = place_within t k.is c.anchor k.anchor in
@@ -325,7 +325,7 @@ module _ {d d' new : DeskState} {old mid : WindowsSeen} {place : ℕ × ℕ} {wh
             )
           ]
 
-  -- its lengths ahead of it and behind it, as the desk tells them
+  -- its lengths before it and after it, as the desk tells them
   pub was_long : (x : TextState) (n : ℕ) → IsTextOf d place.0 x → n ≡ length (shown_of x) → n ≡ length (shown_of t)
   was_long x n at is =
       is ∙ ap (λ (y : TextState). length (shown_of y)) (one_element (slice_get d.texts (window.text - 1)) x t
@@ -341,7 +341,7 @@ module _ {d d' new : DeskState} {old mid : WindowsSeen} {place : ℕ × ℕ} {wh
     goes : place.1 + (m - n) ≡ place_in t c.anchor + (length (shown_of text_then) - length (shown_of t))
     goes = λ j. k.at j + (now j - was j)
 
-    -- there is room for the caret behind what came in
+    -- there is room for the caret after what came in
     pub room_then : place.1 + (m - n) ≤ m
     room_then =
         let room : place_in t c.anchor + (length (shown_of text_then) - length (shown_of t)) ≤ length (shown_of text_then) =
@@ -370,7 +370,7 @@ module _ {d d' new : DeskState} {old mid : WindowsSeen} {place : ℕ × ℕ} {wh
     stayed_step seen is no_more = put_step seen (screened mid) is (set_by_none (omega arith))
 
 -- without a caret nothing is put in
-pub no_caret_step : (seen : DeskSeen) (d : DeskState) (w : Screened) → record { texts = d; screen = w } ≡ seen
+pub no_caret_step : (seen : DeskSeen) (d : SiteTexts) (w : Screened) → record { texts = d; screen = w } ≡ seen
     → w.caret ≡ None → (what : Option (List Item)) (sent : List (List ℕ))
     → IsEditStep seen (λ i. ask i (task_of_put what)) (Err (Whole NoCaret)) seen sent sent
 no_caret_step seen d w is none what sent =

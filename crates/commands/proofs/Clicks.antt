@@ -7,7 +7,7 @@ use Rattle.looks.specs.declared.refusal.Refusal.{Refusal}
 use Rattle.looks.specs.declared.refusal.Refusal.TheVariants.{NoSelection, NoViewer, UnknownCommand}
 use Rattle.char_files.specs.Plain.{plain_items}
 use Rattle.char_files.specs.declared.character.Char.{Char}
-use Rattle.reader_scanner.specs.Place.{bytes_of}
+use Rattle.reader_scanner.specs.ReaderState.{bytes_of}
 use Rattle.reader_scanner.specs.Tokens.{IsTokenAt}
 use Rattle.reader_scanner.specs.declared.token.Token.{Token}
 use Rattle.reader_scanner.specs.declared.token.TokenValue.{TokenValue}
@@ -15,7 +15,7 @@ use Rattle.command_words.specs.Calls.{IsCallAt, NoCallAt}
 use Rattle.command_words.specs.Commands.{has_parameter, menu_of}
 use Rattle.command_words.specs.declared.calls.Call.{Call}
 use Rattle.texts.specs.TextState.{TextState, shown_items, shown_of}
-use Rattle.machine.specs.DeskState.{DeskState, IsTextOf}
+use Rattle.machine.specs.SiteTexts.{SiteTexts, IsTextOf}
 use Rattle.viewers.specs.Screen.{area_of}
 use Rattle.viewers.specs.declared.screen.Area.{Area}
 use Rattle.machine.specs.Commands.{Clicked as ClickedSeen, IsTaskAt, IsTaskOfCall, clicked, clicked_in, is_caret_sign}
@@ -26,7 +26,7 @@ use Rattle.machine_laws.proofs.OneOfTexts.{one_element}
 use Rattle.desk_windows.specs.Pointing.{IsClick, IsPlaceOf}
 use Rattle.desk_windows.specs.Windows.{IsTextShown, WindowsSeen, screened}
 use Rattle.desk_windows.specs.declared.pointing.Clicked.{Clicked}
-use Rattle.desk_windows.specs.declared.pointing.Place.TheVariants.{Menu, Text}
+use Rattle.desk_windows.specs.declared.pointing.CellTarget.TheVariants.{Menu, Text}
 use Rattle.commands.specs.Steps.{task_told}
 
 -- the bytes of plain characters, and those of a text
@@ -42,7 +42,7 @@ pub shown_are : (t : TextState) → bytes_of (shown_items t) ≡ bytes_shown t
 shown_are t = chars_are (shown_of t)
 
 -- what is clicked stands in these bytes, at this position
-module _ (d : DeskState) (seen : ClickedSeen) (c : Clicked) (is : IsClick d seen c) (pos : ℕ) where
+module _ (d : SiteTexts) (seen : ClickedSeen) (c : Clicked) (is : IsClick d seen c) (pos : ℕ) where
   pub in_menu : (bytes : List ℕ) → c.place ≡ Menu pos → bytes ≡ menu_of c.viewer c.text
       → (bytes_of (plain_items bytes) ≡ seen.bytes) × (pos ≡ seen.pos)
   in_menu bytes menu are =
@@ -74,7 +74,7 @@ calls_none bytes bytes' pos pos' (are, at) none =
     subst (λ (l : List ℕ). NoCallAt l pos') are (subst (λ (n : ℕ). NoCallAt bytes n) at none)
 
 -- the task of a call, by its parameter
-module _ (d : DeskState) (w : Screened) (call : Call) (viewer text : ℕ) where
+module _ (d : SiteTexts) (w : Screened) (call : Call) (viewer text : ℕ) where
   abbrev TaskOf : Result TokenValue Refusal → Type 0
   TaskOf told = IsTaskOfCall d w call viewer text (task_told d w call.command told viewer text)
 
@@ -92,18 +92,18 @@ module _ (d : DeskState) (w : Screened) (call : Call) (viewer text : ℕ) where
       → TaskOf told
   followed told asks sign is = rw asks (told, rw sign is, tells told)
 
-  -- or it is the token behind the word
-  behind_word : (asks sign : Bool) → has_parameter call.command ≡ asks → is_caret_sign call.token.value ≡ sign
+  -- or it is the token after the word
+  after_word : (asks sign : Bool) → has_parameter call.command ≡ asks → is_caret_sign call.token.value ≡ sign
       → (asks && sign) ≡ false → TaskOf (Ok call.token.value)
-  behind_word false sign asks_is sign_is not = rw asks_is refl
-  behind_word true false asks_is sign_is not = rw asks_is (Ok call.token.value, rw sign_is refl, refl)
-  behind_word true true asks_is sign_is not = absurd cc
+  after_word false sign asks_is sign_is not = rw asks_is refl
+  after_word true false asks_is sign_is not = rw asks_is (Ok call.token.value, rw sign_is refl, refl)
+  after_word true true asks_is sign_is not = absurd cc
 
   pub not_followed : (has_parameter call.command && is_caret_sign call.token.value) ≡ false → TaskOf (Ok call.token.value)
-  not_followed not = behind_word (has_parameter call.command) (is_caret_sign call.token.value) refl refl not
+  not_followed not = after_word (has_parameter call.command) (is_caret_sign call.token.value) refl refl not
 
 -- the token at the selection's begin
-pub marked_told : (d : DeskState) (w : Screened) (at : Marked) (t : TextState) (beg : ℕ) (token : Token) → marked d w ≡ Some at
+pub marked_told : (d : SiteTexts) (w : Screened) (at : Marked) (t : TextState) (beg : ℕ) (token : Token) → marked d w ≡ Some at
     → t ≡ at.text → beg ≡ at.beg → IsTokenAt (bytes_of (shown_items t)) beg token
     → MatchOption (marked d w) (◌≡◌ {A = Result TokenValue Refusal} (Ok token.value) (Err NoSelection))
     (λ m. (there : Token) × IsTokenAt (bytes_shown m.text) m.beg there
@@ -119,7 +119,7 @@ marked_told d w at t beg token is text_is beg_is there =
     )
 
 -- the task of a click
-module _ (d : DeskState) (w : Screened) (col row : ℕ) where
+module _ (d : SiteTexts) (w : Screened) (col row : ℕ) where
   pub nothing_there : clicked d w col row ≡ None → IsTaskAt d w col row (refuse NoViewer)
   nothing_there none = rw none refl
 
@@ -143,11 +143,11 @@ either : (b : Bool) (x y : ClickedSeen) (v text : ℕ) → (x.viewer ≡ v) × (
 either true x y v text first second = first
 either false x y v text first second = second
 
-abbrev ShowsClicked : DeskState → Screened → ClickedSeen → Type 0
+abbrev ShowsClicked : SiteTexts → Screened → ClickedSeen → Type 0
 ShowsClicked d w seen =
     (shown : Window × TextState) × (window_of d w seen.viewer ≡ Some shown) × (seen.text ≡ shown.0.text)
 
-pub clicked_shows : (d : DeskState) (w : Screened) (col row : ℕ) (seen : ClickedSeen) → clicked d w col row ≡ Some seen
+pub clicked_shows : (d : SiteTexts) (w : Screened) (col row : ℕ) (seen : ClickedSeen) → clicked d w col row ≡ Some seen
     → ShowsClicked d w seen
 clicked_shows d w col row seen is = of_viewer (viewer_with w col row) is
   where
@@ -173,14 +173,14 @@ clicked_shows d w col row seen is = of_viewer (viewer_with w col row) is
     of_viewer (Some v) is = of_area v (area_of w.tracks v) is
 
 -- the text that a viewer shows is told where the viewer is on the screen
-pub text_there : (d : DeskState) (w : WindowsSeen) (v : ℕ) (told : Option ℕ) → IsSome (window_of d (screened w) v)
+pub text_there : (d : SiteTexts) (w : WindowsSeen) (v : ℕ) (told : Option ℕ) → IsSome (window_of d (screened w) v)
     → IsTextShown d w v told → IsSome told
 text_there d w v None some is =
     let lost = subst IsSome is some in
     absurd cc
 text_there d w v (Some text) some is = refl
 
-pub text_shown : (d : DeskState) (w : WindowsSeen) (v text : ℕ) (told : Option ℕ) (shown : Window × TextState)
+pub text_shown : (d : SiteTexts) (w : WindowsSeen) (v text : ℕ) (told : Option ℕ) (shown : Window × TextState)
     → told ≡ Some text → IsTextShown d w v told → window_of d (screened w) v ≡ Some shown → text ≡ shown.0.text
 text_shown d w v text told shown is shows at =
     let (other, there, same) = subst (IsTextShown d w v) is shows in

@@ -12,7 +12,7 @@ use Rattle.texts.specs.TextState.{TextState}
 use Rattle.texts.specs.declared.edit_refusal.EditRefusal.{EditRefusal}
 use Rattle.texts.specs.declared.edit_refusal.EditRefusal.TheVariants.{Whole, Partial}
 use Rattle.viewers.specs.declared.screen.Track.{Track}
-use Rattle.machine.specs.DeskState.{DeskState}
+use Rattle.machine.specs.SiteTexts.{SiteTexts}
 use Rattle.machine.specs.Commands.{Change, dress_marked, with_told}
 use Rattle.machine.specs.Events.{Reply, Task, arrange, ask, change, done, edit_reply, forget, keep, load, opens, print}
 use Rattle.machine.specs.Events.{put, put_recalled, refuse, refuses, reopen, search, store, untouched}
@@ -160,7 +160,7 @@ IsSoundTask (print v) = ⊤
 IsSoundTask (keep text name) = ⊥
 IsSoundTask (reopen text name) = ⊥
 
-module _ (s : State) (i : ℕ) (d : DeskState) (w : Screened) where
+module _ (s : State) (i : ℕ) (d : SiteTexts) (w : Screened) where
   does_sound : (task : Task) (r : Reply) (new : State) → IsSoundTask task → DoesTask s i d w task untouched r new
       → IsSoundReply r
   does_sound (refuse why) r new sound (part, (is, same)) = subst IsSoundReply (sym is) sound
@@ -266,7 +266,7 @@ pub told_sound : {X : Type 0} (told : Option X) (task : X → Task) → ((x : X)
 told_sound None task sound = refl
 told_sound (Some x) task sound = sound x
 
-pub dressed_sound : (d : DeskState) (w : Screened) (to : Change) → IsSoundTask (dress_marked d w to)
+pub dressed_sound : (d : SiteTexts) (w : Screened) (to : Change) → IsSoundTask (dress_marked d w to)
 dressed_sound d w to = by (marked d w)
   where
     by : (o : Option Marked)

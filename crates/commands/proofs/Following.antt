@@ -20,7 +20,7 @@ use Rattle.taken_text.specs.Noted.{AreChangesSince, SameChar}
 use Rattle.texts.proofs.Chars.{grown_keeps_the_order, shows_the_definition}
 use Rattle.texts.specs.Text.{IsAnchor}
 use Rattle.texts.specs.TextState.{TextState, all_told, shown_of}
-use Rattle.machine.specs.DeskState.{DeskState, InText, IsTextOf, new_desk, with_text}
+use Rattle.machine.specs.SiteTexts.{SiteTexts, InText, IsTextOf, fresh_texts, with_text}
 use Rattle.machine_laws.proofs.Reaching.{new_texts, set_cases}
 use Rattle.machine_laws.proofs.Telling.{put_there}
 use Rattle.machine_laws.specs.Growing.{Grows}
@@ -60,7 +60,7 @@ text_follows t u changes told grows since =
     }
 
 -- a desk of which one text has grown
-module _ (d mid new : DeskState) (text : ℕ) (told : AreTold d) (grown : InText Grows d text mid)
+module _ (d mid new : SiteTexts) (text : ℕ) (told : AreTold d) (grown : InText Grows d text mid)
     (asked : InText (λ t u. u ≡ all_told t) mid text new) where
   abbrev grown_text : TextState
   grown_text = grown.1
@@ -70,7 +70,7 @@ module _ (d mid new : DeskState) (text : ℕ) (told : AreTold d) (grown : InText
 
   there : (u : TextState) → IsTextOf mid text u → u ≡ grown_text
   there u at =
-      same_Some u grown_text (sym at ∙ ap (λ (x : DeskState). slice_get x.texts (text - 1)) is_mid
+      same_Some u grown_text (sym at ∙ ap (λ (x : SiteTexts). slice_get x.texts (text - 1)) is_mid
       ∙ put_there d.texts (text - 1) grown.0 grown_text grown.2)
 
   pub is_new : new ≡ with_text d text (all_told grown_text)
@@ -80,9 +80,9 @@ module _ (d mid new : DeskState) (text : ℕ) (told : AreTold d) (grown : InText
       ∙ (λ k. with_text d text (all_told (there asked.0 asked.2 k)))
 
   -- follows by the changes that this tells
-  pub desk_follows : (changes : List Change) → (u : TextState) × IsTextOf mid text u × AreChangesSince u.asked u.operations changes (shown_of u)
+  pub site_follows : (changes : List Change) → (u : TextState) × IsTextOf mid text u × AreChangesSince u.asked u.operations changes (shown_of u)
       → InText (Follows changes) d text new
-  desk_follows changes (u, at, since) = (
+  site_follows changes (u, at, since) = (
     grown.0,
     all_told grown_text,
     grown.2,
@@ -95,13 +95,13 @@ module _ (d mid new : DeskState) (text : ℕ) (told : AreTold d) (grown : InText
   pub desk_is_told : AreTold new
   desk_is_told n u at =
       elim (set_cases d.texts (text - 1) (n - 1) (all_told grown_text) u
-      (sym (ap (λ (x : DeskState). slice_get x.texts (n - 1)) is_new) ∙ at)) [
+      (sym (ap (λ (x : SiteTexts). slice_get x.texts (n - 1)) is_new) ∙ at)) [
         | inl set ↦ subst (λ (x : TextState). x.asked ≡ length x.operations) (sym set) refl
         | inr old ↦ told n u old
       ]
 
 -- a desk that begins has told all: there is nothing to tell
-pub new_is_told : (site : ℕ) → AreTold (new_desk site)
+pub new_is_told : (site : ℕ) → AreTold (fresh_texts site)
 new_is_told site text t at =
-    let (number, its_site, is) = new_texts site 1 0 0 (λ name. None) 0 text t (new_desk site, refl, at) in
+    let (number, its_site, is) = new_texts site 1 0 0 (λ name. None) 0 text t (fresh_texts site, refl, at) in
     subst (λ (x : TextState). x.asked ≡ length x.operations) is refl

@@ -10,41 +10,41 @@ use Rattle.texts.specs.TextState.{TextState}
 use Rattle.texts.specs.declared.took.Took.{Took}
 use Rattle.texts.specs.declared.edit_refusal.EditRefusal.{EditRefusal}
 use Rattle.texts.specs.declared.merge_refusal.MergeRefusal.{MergeRefusal}
-use Rattle.machine.specs.DeskState.{DeskState, InText, IsTextOf}
+use Rattle.machine.specs.SiteTexts.{SiteTexts, InText, IsTextOf}
 use Rattle.machine.specs.Events.{edit_reply, settles, take_reply}
-use Rattle.machine.specs.OnTexts.{CopiesDesk, EditsDesk, EditsText, EditsTextShort, MergesDesk, SettlesDesk, TakesDesk}
+use Rattle.machine.specs.OnTexts.{CopiesSite, EditsSite, EditsText, EditsTextShort, MergesSite, SettlesSite, TakesSite}
 use Rattle.machine_laws.proofs.Growing.{copies_grow, copies_short_grow, edits_grow, edits_short_grow, merges_grow}
 use Rattle.machine_laws.proofs.Growing.{merges_short_grow, settles_grow, takes_grow, takes_short_grow}
 use Rattle.machine_laws.specs.Growing.{Grows}
 
 -- what an edit did to the text that it is for, with the messages that it sent
-pub edited_in : (d d' : DeskState) (text : ℕ) (e : Edit) (result : Result ℕ EditRefusal) (before after : List (List ℕ))
-    → EditsDesk d text e result d' before after → (messages : List (List ℕ))
+pub edited_in : (d d' : SiteTexts) (text : ℕ) (e : Edit) (result : Result ℕ EditRefusal) (before after : List (List ℕ))
+    → EditsSite d text e result d' before after → (messages : List (List ℕ))
     × InText (λ t u. EditsText e (edit_reply result messages) t u ⊎ EditsTextShort e (edit_reply result messages) t u) d text d'
 edited_in d d' text e result before after (t, u, at, (messages, count, sent, did), is) = (messages, (t, u, at, did, is))
 
 -- a text of a desk is what its operations define
-abbrev pub HasText : DeskState → ℕ → Type 0
+abbrev pub HasText : SiteTexts → ℕ → Type 0
 HasText d text = (t : TextState) × IsTextOf d text t × IsText t
 
 -- where a text's doing lets it grow, the desk's text grows by it
-grows_in : (d d' : DeskState) (text : ℕ) (Does' : TextState → TextState → Type 0) → HasText d text
+grows_in : (d d' : SiteTexts) (text : ℕ) (Does' : TextState → TextState → Type 0) → HasText d text
     → ((t new : TextState) → Does' t new → IsText t → Grows t new) → InText Does' d text d' → InText Grows d text d'
 grows_in d d' text Does' (t, at, is) grow (old, new, there, does, same) =
     (old, new, there, grow old new does (subst IsText (same_Some t old (sym at ∙ there)) is), same)
 
--- behind an edit
-pub edit_grows : (d d' : DeskState) (text : ℕ) (e : Edit) (result : Result ℕ EditRefusal) (before after : List (List ℕ))
-    → HasText d text → EditsDesk d text e result d' before after → InText Grows d text d'
+-- after an edit
+pub edit_grows : (d d' : SiteTexts) (text : ℕ) (e : Edit) (result : Result ℕ EditRefusal) (before after : List (List ℕ))
+    → HasText d text → EditsSite d text e result d' before after → InText Grows d text d'
 edit_grows d d' text e result before after has edited = grows_in d d' text _ has
     (λ t new (messages, count, sent, did) is. elim did [
       | inl does ↦ edits_grow edits_are_plain e (edit_reply result messages) t new does is
       | inr short ↦ edits_short_grow edits_are_plain e (edit_reply result messages) t new short is
     ]) edited
 
--- behind a copy
-pub copy_grows : (d d' : DeskState) (text beg end other pos : ℕ) (result : Result ℕ EditRefusal)
-    (before after : List (List ℕ)) → HasText d other → CopiesDesk d text beg end other pos result d' before after
+-- after a copy
+pub copy_grows : (d d' : SiteTexts) (text beg end other pos : ℕ) (result : Result ℕ EditRefusal)
+    (before after : List (List ℕ)) → HasText d other → CopiesSite d text beg end other pos result d' before after
     → InText Grows d other d'
 copy_grows d d' text beg end other pos result before after has (from, at, copied) = grows_in d d' other _ has
     (λ t new (messages, count, sent, did) is. elim did [
@@ -52,24 +52,24 @@ copy_grows d d' text beg end other pos result before after has (from, at, copied
       | inr short ↦ copies_short_grow edits_are_plain from beg end pos (edit_reply result messages) t new short is
     ]) copied
 
--- behind a settling
-pub settle_grows : (d d' : DeskState) (text drained dropped : ℕ) (stopped : Bool) → HasText d text
-    → SettlesDesk d text drained dropped stopped d' → InText Grows d text d'
+-- after a settling
+pub settle_grows : (d d' : SiteTexts) (text drained dropped : ℕ) (stopped : Bool) → HasText d text
+    → SettlesSite d text drained dropped stopped d' → InText Grows d text d'
 settle_grows d d' text drained dropped stopped has settled = grows_in d d' text _ has
     (λ t new drains is. settles_grow stopped (settles drained dropped stopped) t new (drained, dropped, drains, refl) is) settled
 
--- behind a message
-pub take_grows : (d d' : DeskState) (text : ℕ) (message : List ℕ) (result : Result Took Refusal) → HasText d text
-    → TakesDesk d text message result d' → InText Grows d text d'
+-- after a message
+pub take_grows : (d d' : SiteTexts) (text : ℕ) (message : List ℕ) (result : Result Took Refusal) → HasText d text
+    → TakesSite d text message result d' → InText Grows d text d'
 take_grows d d' text message result has taken = grows_in d d' text _ has
     (λ t new did is. elim did [
       | inl does ↦ takes_grow message (take_reply result) t new (result, does, refl) is
       | inr short ↦ takes_short_grow message (take_reply result) t new (result, short, refl) is
     ]) taken
 
--- and behind a merge
-pub merge_grows : (d d' other : DeskState) (text : ℕ) (result : Result ℕ MergeRefusal) → HasText d text
-    → MergesDesk d text other result d' → InText Grows d text d'
+-- and after a merge
+pub merge_grows : (d d' other : SiteTexts) (text : ℕ) (result : Result ℕ MergeRefusal) → HasText d text
+    → MergesSite d text other result d' → InText Grows d text d'
 merge_grows d d' other text result has (u, is_u, does) =
     grows_in d d' text _ has
     (λ t new merges. elim merges [

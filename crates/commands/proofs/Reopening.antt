@@ -12,7 +12,7 @@ use Rattle.texts.specs.Text.{IsText}
 use Rattle.texts.specs.TextState.{TextState, all_told, empty_text}
 use Rattle.texts.specs.declared.edit_refusal.EditRefusal.{EditRefusal}
 use Rattle.texts.specs.declared.edit_refusal.EditRefusal.TheVariants.{Whole}
-use Rattle.machine.specs.DeskState.{DeskState, InText, IsTextOf, with_text}
+use Rattle.machine.specs.SiteTexts.{SiteTexts, InText, IsTextOf, with_text}
 use Rattle.machine.specs.Events.{Part, Reply, ask, done, failed, refuses, reopen, untouched, went_well}
 use Rattle.machine.specs.State.{IsDeskAt, State}
 use Rattle.machine.specs.Tasks.{BeginsWith, DoesTask, Reopens, has_begun}
@@ -46,7 +46,7 @@ kept_grows t kept is fresh told taken =
     }
 
 -- so does a desk's text in the place of which it is put
-pub replaced_grows : (d d' : DeskState) (text : ℕ) (kept : TextState) → HasText d text → AreTold d
+pub replaced_grows : (d d' : SiteTexts) (text : ℕ) (kept : TextState) → HasText d text → AreTold d
     → ((t : TextState) → IsTextOf d text t → has_begun t ≡ false)
     → HasTakenAll (empty_text kept.text kept.site) kept.operations kept → InText (λ _ u. u ≡ kept) d text d'
     → InText Grows d text d'
@@ -60,7 +60,7 @@ replaced_grows d d' text kept (t, at, is) told fresh taken (u, v, there, put, ch
     )
 
 -- and has it then, with its changes told
-pub replaced_now : (d d' new : DeskState) (text : ℕ) (kept : TextState) → HasText d text → AreTold d
+pub replaced_now : (d d' new : SiteTexts) (text : ℕ) (kept : TextState) → HasText d text → AreTold d
     → ((t : TextState) → IsTextOf d text t → has_begun t ≡ false)
     → HasTakenAll (empty_text kept.text kept.site) kept.operations kept → InText (λ _ u. u ≡ kept) d text d'
     → InText (λ t u. u ≡ all_told t) d' text new → new ≡ with_text d text (all_told kept)
@@ -76,14 +76,14 @@ pub begins_apart : (seen : DeskSeen) (text : ℕ) (t kept : TextState) (told : B
 begins_apart seen text t kept false there is apart = (t, there, rw (sym is) (refl, refl))
 begins_apart seen text t kept true there is apart = absurd cc
 
-pub begins_its_own : (d new : DeskState) (w w' : Screened) (text : ℕ) (t kept : TextState) (told : Bool) → IsTextOf d text t
+pub begins_its_own : (d new : SiteTexts) (w w' : Screened) (text : ℕ) (t kept : TextState) (told : Bool) → IsTextOf d text t
     → told ≡ (kept.text == t.text && kept.site == t.site) → told ≡ true → new ≡ with_text d text (all_told kept) → w' ≡ w
     → BeginsSo (record { texts = d; screen = w }) text kept (Ok Done) (record { texts = new; screen = w' })
 begins_its_own d new w w' text t kept true there is own now same =
     (t, there, rw (sym is) (refl, λ k. record { texts = now k; screen = same k }))
 begins_its_own d new w w' text t kept false there is own now same = absurd cc
 
-module _ (d : DeskState) (w : Screened) (text : ℕ) (t : TextState) (there : IsTextOf d text t) (name : List ℕ) where
+module _ (d : SiteTexts) (w : Screened) (text : ℕ) (t : TextState) (there : IsTextOf d text t) (name : List ℕ) where
   abbrev pub seen : DeskSeen
   seen = record { texts = d; screen = w }
 

@@ -14,7 +14,7 @@ use Rattle.texts.specs.TextState.{TextState, shown_items}
 use Rattle.texts.specs.declared.TheConstants.{MAX_KEPT}
 use Rattle.texts.specs.declared.edit_refusal.EditRefusal.{EditRefusal}
 use Rattle.texts.specs.declared.edit_refusal.EditRefusal.TheVariants.{Whole}
-use Rattle.machine.specs.DeskState.{DeskState, IsTextOf}
+use Rattle.machine.specs.SiteTexts.{SiteTexts, IsTextOf}
 use Rattle.machine.specs.Commands.{IsTaskAt, task_of}
 use Rattle.machine.specs.Events.{Part, Reply, Task, ask, click, done, edit_reply, failed, keep, load, put, refuses, store}
 use Rattle.machine.specs.Events.{untouched, went_well}
@@ -132,7 +132,7 @@ files_failed (Some was) None name stay = absurd stay
 files_failed (Some was) (Some now) name stay = (was, now, (refl, refl), stay)
 
 -- a task of a desk that is refused, over the files that the shelf tells
-module _ (d : DeskState) (w : Screened) (task : Task) (told told' : Option Files) where
+module _ (d : SiteTexts) (w : Screened) (task : Task) (told told' : Option Files) where
   abbrev its_desk : DeskSeen
   its_desk = record { texts = d; screen = w }
 
@@ -164,7 +164,7 @@ module _ (d : DeskState) (w : Screened) (task : Task) (told told' : Option Files
   )
 
 -- a load at the caret
-module _ (d : DeskState) (w : Screened) (name : List ℕ) (told told' : Option Files) (same : SameFiles told told') where
+module _ (d : SiteTexts) (w : Screened) (name : List ℕ) (told told' : Option Files) (same : SameFiles told told') where
   abbrev LoadsSo : Result Answer EditRefusal → DeskSeen → (before after : List (List ℕ)) → Type 0
   LoadsSo result new before after =
       IsShelfStep (record { texts = d; screen = w }) (λ i. ask i (load name)) result new before after told told'
@@ -237,7 +237,7 @@ module _ (d : DeskState) (w : Screened) (name : List ℕ) (told told' : Option F
           )
 
 -- without a caret nothing is read
-pub load_without_caret : (d : DeskState) (w : Screened) (name : List ℕ) (told : Option Files) (sent : List (List ℕ))
+pub load_without_caret : (d : SiteTexts) (w : Screened) (name : List ℕ) (told : Option Files) (sent : List (List ℕ))
     → w.caret ≡ None
     → IsShelfStep (record { texts = d; screen = w }) (λ i. ask i (load name)) (Err (Whole NoCaret))
     (record { texts = d; screen = w }) sent sent told told
@@ -246,7 +246,7 @@ load_without_caret d w name told sent none =
     (λ s i new stands is refused. inl (inl (none, refl, refused)))
 
 -- a task that writes a file, if there isn't too much for one
-module _ (d : DeskState) (w : Screened) (task : Task) (much most : ℕ) (name file : List ℕ) (told told' : Option Files)
+module _ (d : SiteTexts) (w : Screened) (task : Task) (much most : ℕ) (name file : List ℕ) (told told' : Option Files)
     (sent : List (List ℕ))
     (does : (s : State) (i : ℕ) (part : Part) (r : Reply) (new : State) → IsDeskAt s i d w
     → Writes s much most name file part r new → DoesTask s i d w task part r new)
@@ -326,7 +326,7 @@ module _ (d : DeskState) (w : Screened) (task : Task) (much most : ℕ) (name fi
   writes_step (Err why) not = writes_not why not
 
 -- a store of what a text shows, and a keeping of all that it has taken in
-module _ (d : DeskState) (w : Screened) (text : ℕ) (t : TextState) (there : IsTextOf d text t) (name : List ℕ)
+module _ (d : SiteTexts) (w : Screened) (text : ℕ) (t : TextState) (there : IsTextOf d text t) (name : List ℕ)
     (told told' : Option Files) (sent : List (List ℕ)) (result : Result (Unit {0}) Refusal) where
   pub store_step : WritesText t name told told' result
       → IsShelfStep (record { texts = d; screen = w }) (λ i. ask i (store text name)) (written_answer result)
@@ -345,13 +345,13 @@ module _ (d : DeskState) (w : Screened) (text : ℕ) (t : TextState) (there : Is
       (λ s i r new stands few refused. (refl, (t, (d, stands.texts, there), few), refused)) result writes
 
 -- the task that stands in a cell of the desk stands there in the run
-task_at_it : (seen : DeskSeen) (s : State) (i col row : ℕ) (task : Task) (d : DeskState) (w : Screened) → StandsIn s i seen
+task_at_it : (seen : DeskSeen) (s : State) (i col row : ℕ) (task : Task) (d : SiteTexts) (w : Screened) → StandsIn s i seen
     → IsDeskAt s i d w → IsTaskAt seen.texts seen.screen col row task → IsTaskAt d w col row task
 task_at_it seen s i col row task d w stands there is =
     let desk : seen.texts ≡ d = one_element (slice_get s.desks i) seen.texts d stands.texts there.texts in
     let screen : seen.screen ≡ w = one_element (slice_get s.screens i) seen.screen w stands.screen there.screen in
     subst (λ (x : Screened). IsTaskAt d x col row task) screen
-    (subst (λ (x : DeskState). IsTaskAt x seen.screen col row task) desk is)
+    (subst (λ (x : SiteTexts). IsTaskAt x seen.screen col row task) desk is)
 
 -- a click does the task that stands in its cell
 click_does : (seen : DeskSeen) (s : State) (i col row : ℕ) (task : Task) (part : Part) (r : Reply) (new : State)
@@ -363,7 +363,7 @@ click_does seen s i col row task part r new stands is (inr (d, w, there, short))
     inr (d, w, task, there, task_at_it seen s i col row task d w stands there is, short)
 
 -- a command's task, by which one it is
-pub commanded : (Goes : Task → Type 0) (d : DeskState) (w : Screened) (c c' : Command) (told : TokenValue) (v text : ℕ) → c ≡ c'
+pub commanded : (Goes : Task → Type 0) (d : SiteTexts) (w : Screened) (c c' : Command) (told : TokenValue) (v text : ℕ) → c ≡ c'
     → Goes (task_of d w c' told v text) → Goes (task_of d w c told v text)
 commanded Goes d w c c' told v text is goes = subst (λ (x : Command). Goes (task_of d w x told v text)) (sym is) goes
 

@@ -48,13 +48,13 @@ stands_by_each bytes text q within each =
 pub none_further : (bytes text : List ℕ) (from pos : ℕ)
     → ((q : ℕ) → from ≤ q → q < pos → StandsAt bytes text q → ⊥) → (StandsAt bytes text pos → ⊥)
     → (q : ℕ) → from ≤ q → q < pos + 1 → StandsAt bytes text q → ⊥
-none_further bytes text from pos before here q behind ahead stands =
+none_further bytes text from pos before here q later earlier stands =
     ⊎_elim (λ (same : q ≡ pos). here (subst (λ (n : ℕ). StandsAt bytes text n) same stands))
-    (λ (less : q < pos). before q behind less stands) (eq-or-lt_of_le (omega (arith, ahead)))
+    (λ (less : q < pos). before q later less stands) (eq-or-lt_of_le (omega (arith, earlier)))
 
 -- where they stand nowhere up to the last position that has room for them, they stand nowhere
 pub none_past : (bytes text : List ℕ) (from pos : ℕ)
     → ((q : ℕ) → from ≤ q → q < pos → StandsAt bytes text q → ⊥) → length text < pos + length bytes
     → (q : ℕ) → from ≤ q → StandsAt bytes text q → ⊥
-none_past bytes text from pos before past q behind stands =
-    before q behind (omega (arith, past, stands_within bytes text q stands)) stands
+none_past bytes text from pos before past q later stands =
+    before q later (omega (arith, past, stands_within bytes text q stands)) stands

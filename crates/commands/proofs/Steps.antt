@@ -12,11 +12,11 @@ use Rattle.texts.specs.TextState.{TextState, all_told}
 use Rattle.texts.specs.declared.took.Took.{Took}
 use Rattle.texts.specs.declared.edit_refusal.EditRefusal.{EditRefusal}
 use Rattle.texts.specs.declared.merge_refusal.MergeRefusal.{MergeRefusal}
-use Rattle.machine.specs.DeskState.{DeskState, InText}
+use Rattle.machine.specs.SiteTexts.{SiteTexts, InText}
 use Rattle.machine.specs.Events.{Reply, arrange, ask, copy, done, edit, edit_reply, merge_reply, messages_of}
 use Rattle.machine.specs.Events.{opens, print, prints, query, refuses, settle, settles, take_reply}
-use Rattle.machine.specs.OnTexts.{CopiesDesk, CopiesText, CopiesTextShort, EditsDesk, EditsText, EditsTextShort, MergesDesk}
-use Rattle.machine.specs.OnTexts.{MergesText, MergesTextShort, QueriesDesk, SettlesDesk, SettlesText, TakesDesk, TakesText}
+use Rattle.machine.specs.OnTexts.{CopiesSite, CopiesText, CopiesTextShort, EditsSite, EditsText, EditsTextShort, MergesSite}
+use Rattle.machine.specs.OnTexts.{MergesText, MergesTextShort, QueriesSite, SettlesSite, SettlesText, TakesSite, TakesText}
 use Rattle.machine.specs.OnTexts.{Sending, TakesTextShort}
 use Rattle.machine.specs.State.{AtText, Refuses, State, with_screen_at}
 use Rattle.machine.specs.Tasks.{lines_of_view}
@@ -31,13 +31,13 @@ use Rattle.commands.specs.Steps.{DeskSeen, IsEditStep, IsMergeStep, IsStep, IsTa
 use Rattle.commands.specs.Steps.{with_desk}
 
 -- what a text told of a desk
-abbrev pub Asked : DeskState → ℕ → DeskState → Type 0
+abbrev pub Asked : SiteTexts → ℕ → SiteTexts → Type 0
 Asked d text new = InText (λ t u. u ≡ all_told t) d text new
 
 -- a desk stands in a run
-module _ (s : State) (i : ℕ) (d : DeskState) (w : Screened) (stands : StandsIn s i (record { texts = d; screen = w })) where
+module _ (s : State) (i : ℕ) (d : SiteTexts) (w : Screened) (stands : StandsIn s i (record { texts = d; screen = w })) where
   -- one of its texts does something and tells its changes
-  pub at_text : (F : TextState → TextState → Type 0) (text : ℕ) (d' new : DeskState) (w' : Screened)
+  pub at_text : (F : TextState → TextState → Type 0) (text : ℕ) (d' new : SiteTexts) (w' : Screened)
       (messages after : List (List ℕ)) → InText F d text d' → Asked d' text new → w' ≡ w → after ≡ s.sent ++ messages
       → AtText F s i text messages (with_desk s i (record { texts = new; screen = w' }) after)
   at_text F text d' new w' messages after does told same sent = (
@@ -53,7 +53,7 @@ module _ (s : State) (i : ℕ) (d : DeskState) (w : Screened) (stands : StandsIn
   )
 
   -- the same of what sends nothing
-  pub at_text_silent : (F : TextState → TextState → Type 0) (text : ℕ) (d' new : DeskState) (w' : Screened)
+  pub at_text_silent : (F : TextState → TextState → Type 0) (text : ℕ) (d' new : SiteTexts) (w' : Screened)
       → InText F d text d' → Asked d' text new → w' ≡ w
       → AtText F s i text [] (with_desk s i (record { texts = new; screen = w' }) s.sent)
   at_text_silent F text d' new w' does told same =
@@ -73,13 +73,13 @@ module _ (s : State) (i : ℕ) (d : DeskState) (w : Screened) (stands : StandsIn
     screens = slice_set s.screens i w';
   }
 
--- the messages of an edit come behind those that the run sent
-behind : (s : State) (before after messages : List (List ℕ)) → s.sent ≡ before → after ≡ before ++ messages
+-- the messages of an edit come after those that the run sent
+sent_after : (s : State) (before after messages : List (List ℕ)) → s.sent ≡ before → after ≡ before ++ messages
     → after ≡ s.sent ++ messages
-behind s before after messages sent is = is ∙ ap (λ (all : List (List ℕ)). all ++ messages) (sym sent)
+sent_after s before after messages sent is = is ∙ ap (λ (all : List (List ℕ)). all ++ messages) (sym sent)
 
 -- whatever the desk is seen as: its texts, and its screen
-module _ (seen : DeskSeen) (d d' new : DeskState) (w w' : Screened) (is : record { texts = d; screen = w } ≡ seen)
+module _ (seen : DeskSeen) (d d' new : SiteTexts) (w w' : Screened) (is : record { texts = d; screen = w } ≡ seen)
     (same : w' ≡ w) where
   abbrev Then : DeskSeen
   Then = record { texts = new; screen = w' }
@@ -98,7 +98,7 @@ module _ (seen : DeskSeen) (d d' new : DeskState) (w w' : Screened) (is : record
     count,
     λ s i stands sent.
         let r : Reply = edit_reply result messages in
-        let more = behind s before after (messages_of r) sent sent_is in
+        let more = sent_after s before after (messages_of r) sent sent_is in
         elim did [
           | inl does ↦ inl (at_text s i d w stands (Goes r) text d' new w' (messages_of r) after
               (t, u, at, does, is_d') told same more)
@@ -109,7 +109,7 @@ module _ (seen : DeskSeen) (d d' new : DeskState) (w w' : Screened) (is : record
 
   -- an edit is a step
   pub edit_step : (text : ℕ) (e : Edit) (result : Result ℕ EditRefusal) (before after : List (List ℕ))
-      → EditsDesk d text e result d' before after → Asked d' text new
+      → EditsSite d text e result d' before after → Asked d' text new
       → IsEditStep seen (λ i. edit i text e) result Then before after
   edit_step text e result before after edits told =
       let (messages, count, goes) =
@@ -125,7 +125,7 @@ module _ (seen : DeskSeen) (d d' new : DeskState) (w w' : Screened) (is : record
 
   -- so is a copy
   pub copy_step : (text beg end other pos : ℕ) (result : Result ℕ EditRefusal) (before after : List (List ℕ))
-      → CopiesDesk d text beg end other pos result d' before after → Asked d' other new
+      → CopiesSite d text beg end other pos result d' before after → Asked d' other new
       → IsEditStep seen (λ i. copy i text beg end other pos) result Then before after
   copy_step text beg end other pos result before after (from, at_from, copies) told =
       let (messages, count, goes) =
@@ -141,7 +141,7 @@ module _ (seen : DeskSeen) (d d' new : DeskState) (w w' : Screened) (is : record
       )
 
   -- a settling
-  pub settle_step : (text drained dropped : ℕ) (stopped : Bool) → SettlesDesk d text drained dropped stopped d'
+  pub settle_step : (text drained dropped : ℕ) (stopped : Bool) → SettlesSite d text drained dropped stopped d'
       → Asked d' text new → IsStep seen (λ i. settle i text) (settles drained dropped stopped) Then
   settle_step text drained dropped stopped (t, u, at, drains, is_d') told =
       subst (λ (x : DeskSeen). IsStep x (λ i. settle i text) (settles drained dropped stopped) Then) is (by stopped drains)
@@ -157,7 +157,7 @@ module _ (seen : DeskSeen) (d d' new : DeskState) (w w' : Screened) (is : record
       by true drains = λ s i stands. inr (refl, goes true drains s i stands)
 
   -- a message
-  pub take_step : (text : ℕ) (message : List ℕ) (result : Result Took Refusal) → TakesDesk d text message result d'
+  pub take_step : (text : ℕ) (message : List ℕ) (result : Result Took Refusal) → TakesSite d text message result d'
       → Asked d' text new → IsTakeStep seen text message result Then
   take_step text message result (t, u, at, did, is_d') told =
       subst (λ (x : DeskSeen). IsTakeStep x text message result Then) is (λ s i delivery stands has.
@@ -180,7 +180,7 @@ module _ (seen : DeskSeen) (d d' new : DeskState) (w w' : Screened) (is : record
       ])
 
   -- and a merge
-  pub merge_step : (other : DeskSeen) (text : ℕ) (result : Result ℕ MergeRefusal) → MergesDesk d text other.texts result d'
+  pub merge_step : (other : DeskSeen) (text : ℕ) (result : Result ℕ MergeRefusal) → MergesSite d text other.texts result d'
       → Asked d' text new → IsMergeStep seen text other result Then
   merge_step other text result (x, at_x, (t, u, at, did, is_d')) told =
       subst (λ (y : DeskSeen). IsMergeStep y text other result Then) is (λ s i j stands there.
@@ -207,11 +207,11 @@ module _ (seen : DeskSeen) (d d' new : DeskState) (w w' : Screened) (is : record
       ])
 
 -- an answer with bytes, or refused for memory alone
-module _ {X : Type 0} (seen : DeskSeen) (d : DeskState) (w : Screened) (is : record { texts = d; screen = w } ≡ seen)
+module _ {X : Type 0} (seen : DeskSeen) (d : SiteTexts) (w : Screened) (is : record { texts = d; screen = w } ≡ seen)
     (bytes_of : X → List ℕ) where
   -- to a query, which changes nothing
   queried : (text : ℕ) (q : Query) (result : Result X Refusal)
-      → IfOk result (λ x. QueriesDesk d text q (bytes_of x)) → RefusedForMemoryAlone result
+      → IfOk result (λ x. QueriesSite d text q (bytes_of x)) → RefusedForMemoryAlone result
       → IsStep (record { texts = d; screen = w }) (λ i. query i text q) (print_reply result bytes_of)
       (record { texts = d; screen = w })
   queried text q (Ok x) (t, at, prints_so) short = λ s i stands.
@@ -219,7 +219,7 @@ module _ {X : Type 0} (seen : DeskSeen) (d : DeskState) (w : Screened) (is : rec
   queried text q (Err why) ok short = λ s i stands. inr (refl, (ap refuses short, sym (run_stays s i d w stands)))
 
   pub query_step : (text : ℕ) (q : Query) (result : Result X Refusal)
-      → IfOk result (λ x. QueriesDesk d text q (bytes_of x)) → RefusedForMemoryAlone result
+      → IfOk result (λ x. QueriesSite d text q (bytes_of x)) → RefusedForMemoryAlone result
       → IsStep seen (λ i. query i text q) (print_reply result bytes_of) seen
   query_step text q result ok short =
       subst (λ (x : DeskSeen). IsStep x (λ i. query i text q) (print_reply result bytes_of) x) is (queried text q result ok short)
@@ -240,7 +240,7 @@ module _ {X : Type 0} (seen : DeskSeen) (d : DeskState) (w : Screened) (is : rec
       subst (λ (x : DeskSeen). IsStep x (λ i. ask i (print v)) (print_reply result bytes_of) x) is (viewed v result ok short)
 
 -- An arrangement comes to what the machine says of it: that is a step.
-module _ {R : Type 0} (seen : DeskSeen) (d : DeskState) (old new : WindowsSeen)
+module _ {R : Type 0} (seen : DeskSeen) (d : SiteTexts) (old new : WindowsSeen)
     (is : record { texts = d; screen = screened old } ≡ seen) (a : Arrangement) (told : R → Option ℕ)
     (reply : Result R Refusal → Reply) (done_so : (r : R) → reply (Ok r) ≡ option_map_or (λ v. opens v) (told r) done)
     (refused_so : (why : Refusal) → reply (Err why) ≡ (refuses why)) where
@@ -269,7 +269,7 @@ module _ {R : Type 0} (seen : DeskSeen) (d : DeskState) (old new : WindowsSeen)
       (λ s i stands. inl (d, screened old, stands, (refl, arranges result s i stands (arranged d (screened old) a) comes)))
 
 -- an opening may besides want for memory, and does nothing then
-pub open_step : (seen : DeskSeen) (d : DeskState) (old new : WindowsSeen) → record { texts = d; screen = screened old } ≡ seen
+pub open_step : (seen : DeskSeen) (d : SiteTexts) (old new : WindowsSeen) → record { texts = d; screen = screened old } ≡ seen
     → (track : Track) (text : ℕ) (row : Option ℕ) (result : Result ℕ Refusal)
     → ComesToOrShort (arranged d (screened old) (Open track text row)) old (λ v. Some v) result new
     → IsStep seen (λ i. ask i (arrange (Open track text row))) (open_reply result)

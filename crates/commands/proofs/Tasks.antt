@@ -14,7 +14,7 @@ use Rattle.texts.specs.Text.{IsAnchor, IsText}
 use Rattle.texts.specs.TextState.{TextState, shown_of, with_room}
 use Rattle.texts.specs.declared.edit_refusal.EditRefusal.{EditRefusal}
 use Rattle.texts.specs.declared.edit_refusal.EditRefusal.TheVariants.{Whole}
-use Rattle.machine.specs.DeskState.{DeskState, InText, IsTextOf}
+use Rattle.machine.specs.SiteTexts.{SiteTexts, InText, IsTextOf}
 use Rattle.machine.specs.Commands.{Change, dress_marked, with_told}
 use Rattle.machine.specs.Events.{Reply, Task, ask, change, edit, edit_reply, forget, forgot, refuse, refuses, search}
 use Rattle.machine.specs.Events.{untouched}
@@ -78,13 +78,13 @@ change_step seen new text e result before after (messages, count, steps) = (
 )
 
 -- where something is marked its looks are changed, else that is refused
-pub dresses_none : (d : DeskState) (w : Screened) (dressed : Change) → marked d w ≡ None
+pub dresses_none : (d : SiteTexts) (w : Screened) (dressed : Change) → marked d w ≡ None
     → dress_marked d w dressed ≡ refuse NoSelection
 dresses_none d w dressed none =
     ap (λ (o : Option Marked). option_map_or (λ m. change m.window.text (looks_change m.beg m.end dressed.0 dressed.1)) o
     (refuse NoSelection)) none
 
-pub dresses : (d : DeskState) (w : Screened) (dressed : Change) (at : Marked) → marked d w ≡ Some at
+pub dresses : (d : SiteTexts) (w : Screened) (dressed : Change) (at : Marked) → marked d w ≡ Some at
     → dress_marked d w dressed ≡ change at.window.text (looks_change at.beg at.end dressed.0 dressed.1)
 dresses d w dressed at is =
     ap (λ (o : Option Marked). option_map_or (λ m. change m.window.text (looks_change m.beg m.end dressed.0 dressed.1)) o
@@ -102,7 +102,7 @@ dressed_step seen new dressed at text beg end result before after is text_is beg
     (change_step seen new text (looks_change beg end dressed.0 dressed.1) result before after step)
 
 -- a search, from the caret's place on
-module _ (seen : DeskSeen) (d : DeskState) (old : WindowsSeen) (is : record { texts = d; screen = screened old } ≡ seen) where
+module _ (seen : DeskSeen) (d : SiteTexts) (old : WindowsSeen) (is : record { texts = d; screen = screened old } ≡ seen) where
   seen_so : (task : Task) (result : Result Answer EditRefusal) (new : DeskSeen)
       → IsTaskStep (record { texts = d; screen = screened old }) task result new → IsTaskStep seen task result new
   seen_so task result new step = subst (λ (x : DeskSeen). IsTaskStep x task result new) is step
@@ -215,7 +215,7 @@ room_grows t is = record {
   asked = refl;
 }
 
-pub forgets_grow : (d d' : DeskState) (text count : ℕ) → HasText d text
+pub forgets_grow : (d d' : SiteTexts) (text count : ℕ) → HasText d text
     → InText (λ t new. (count ≡ length t.waiting_room) × (new ≡ with_room t [])) d text d' → InText Grows d text d'
 forgets_grow d d' text count (t, at, is) (u, new, at', (counted, emptied), changed) =
     let same : t ≡ u = one_element (slice_get d.texts (text - 1)) t u at at' in (
@@ -227,7 +227,7 @@ forgets_grow d d' text count (t, at, is) (u, new, at', (counted, emptied), chang
     )
 
 -- so what waited for a text is forgotten
-pub forget_task : (seen : DeskSeen) (d d' new : DeskState) (w w' : Screened) (text count : ℕ)
+pub forget_task : (seen : DeskSeen) (d d' new : SiteTexts) (w w' : Screened) (text count : ℕ)
     → record { texts = d; screen = w } ≡ seen
     → InText (λ t u. (count ≡ length t.waiting_room) × (u ≡ with_room t [])) d text d' → Asked d' text new → w' ≡ w
     → IsTaskStep seen (forget text) (Ok (Forgot count)) (record { texts = new; screen = w' })

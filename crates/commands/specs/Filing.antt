@@ -12,7 +12,7 @@ use Rattle.texts.specs.TextState.{TextState, all_told, empty_text, shown_items}
 use Rattle.texts.specs.declared.TheConstants.{MAX_KEPT}
 use Rattle.texts.specs.declared.edit_refusal.EditRefusal.{EditRefusal}
 use Rattle.texts.specs.declared.edit_refusal.EditRefusal.TheVariants.{Whole}
-use Rattle.machine.specs.DeskState.{IsTextOf, with_text}
+use Rattle.machine.specs.SiteTexts.{IsTextOf, with_text}
 use Rattle.commands.specs.Steps.{DeskSeen}
 use Rattle.commands.specs.declared.answer.Answer.{Answer}
 use Rattle.commands.specs.declared.answer.Answer.TheVariants.{Done}

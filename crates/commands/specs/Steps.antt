@@ -10,7 +10,7 @@ use Rattle.texts.specs.declared.edit_refusal.EditRefusal.{EditRefusal}
 use Rattle.texts.specs.declared.edit_refusal.EditRefusal.TheVariants.{Whole}
 use Rattle.texts.specs.declared.merge_refusal.MergeRefusal.{MergeRefusal}
 use Rattle.texts.specs.declared.took.Took.{Took}
-use Rattle.machine.specs.DeskState.{DeskState, IsTextOf}
+use Rattle.machine.specs.SiteTexts.{SiteTexts, IsTextOf}
 use Rattle.machine.specs.Commands.{task_of}
 use Rattle.machine.specs.Events.{Delivery, Event, Part, Reply, Task, ask, done, edit_reply, forgot, found, merge}
 use Rattle.machine.specs.Events.{merge_reply, not_found, opens, prints, refuse, refuses, sends, take, take_reply, untouched}
@@ -22,11 +22,11 @@ use Rattle.commands.specs.declared.answer.Answer.TheVariants.{Sent, Viewer, Foun
 
 -- a site's desk: its texts, and its screen
 pub record DeskSeen : Type 0 where
-  pub texts : DeskState
+  pub texts : SiteTexts
   pub screen : Screened
 
 -- each text of the desk has told its changes
-abbrev pub AreTold : DeskState → Type 0
+abbrev pub AreTold : SiteTexts → Type 0
 AreTold d = (text : ℕ) (t : TextState) → IsTextOf d text t → t.asked ≡ length t.operations
 
 -- the desk stands in the run at this index
@@ -47,7 +47,7 @@ abbrev pub IsStep : DeskSeen → (ℕ → Event) → Reply → DeskSeen → Type
 IsStep d event r new = (s : State) (i : ℕ) → StandsIn s i d
     → Replies s (event i) untouched r (with_desk s i new s.sent)
 
--- the same of an edit, which answers how many messages it put behind those that were sent
+-- the same of an edit, which answers how many messages it put after those that were sent
 abbrev pub IsEditStep : DeskSeen → (ℕ → Event) → Result ℕ EditRefusal → DeskSeen
     → (before after : List (List ℕ)) → Type 0
 IsEditStep d event result new before after = (messages : List (List ℕ)) × IfOk result (λ count. count ≡ length messages)
@@ -65,7 +65,7 @@ abbrev pub IsMergeStep : DeskSeen → (text : ℕ) → (other : DeskSeen) → Re
 IsMergeStep d text other result new = (s : State) (i j : ℕ) → StandsIn s i d → StandsIn s j other
     → Replies s (merge i text j) untouched (merge_reply result) (with_desk s i new s.sent)
 
--- The files that a shelf tells ahead of a call and behind it: these; any, where it tells none.
+-- The files that a shelf tells before a call and after it: these; any, where it tells none.
 abbrev pub AreFilesOf : (told told' : Option Files) → (files files' : Files) → Type 0
 AreFilesOf None None files files' = ⊤
 AreFilesOf None (Some now) files files' = ⊥
@@ -98,7 +98,7 @@ CountsSent (Ok (Sent count)) messages = count ≡ length messages
 CountsSent other messages = ⊤
 
 -- Wherever the desk stands in a run, over the files that the shelf tells, this event is replied to so, with some part of the
--- files in it, and goes on to the run with the new desk, over the files that the shelf tells behind. Of a shelf that tells
+-- files in it, and goes on to the run with the new desk, over the files that the shelf tells after. Of a shelf that tells
 -- none this holds over some files.
 abbrev pub IsShelfStep : DeskSeen → (ℕ → Event) → Result Answer EditRefusal → DeskSeen
     → (before after : List (List ℕ)) → (told told' : Option Files) → Type 0
@@ -113,7 +113,7 @@ abbrev pub IsTaskStep : DeskSeen → Task → Result Answer EditRefusal → Desk
 IsTaskStep d task result new = CountsSent result [] × IsStep d (λ i. ask i task) (answer_reply result []) new
 
 -- the task of a command in a viewer on a text, whose parameter was told so
-abbrev pub task_told : DeskState → Screened → Command → Result TokenValue Refusal → (viewer text : ℕ) → Task
+abbrev pub task_told : SiteTexts → Screened → Command → Result TokenValue Refusal → (viewer text : ℕ) → Task
 task_told d w command (Ok value) viewer text = task_of d w command value viewer text
 task_told d w command (Err why) viewer text = refuse why
 

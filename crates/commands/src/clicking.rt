@@ -19,12 +19,12 @@ use crate::answer::Answer;
 use crate::desk::Desk;
 use crate::executing::sent;
 use crate::parameters::{
-    bytes_told, colour_told, file_told, font_told, is_caret_sign, offset_told, text_told,
+    bytes_parameter, colour_parameter, file_parameter, font_parameter, is_caret_sign, offset_parameter, text_parameter,
 };
 use crate::putting::Insertion;
 use char_files::{Plain, TextNo};
 use command_words::{Call, Command, command_at, menu_text};
-use desk_windows::{Clicked, Place};
+use desk_windows::{Clicked, CellTarget};
 use looks::Refusal;
 use reader_scanner::{Scanner, TokenValue};
 use shelf::Shelf;
@@ -48,11 +48,11 @@ impl Desk {
             → result ≡ Nothing → NoCallAt seen.bytes seen.pos }
     {
         match at.place {
-            Place::Menu(pos) => {
+            CellTarget::Menu(pos) => {
                 let menu = menu_text(at.viewer, at.text.get());
                 command_at(&Plain(menu.as_slice()), pos)
             }
-            Place::Text(pos) => command_at(self.texts.replica(at.text), pos),
+            CellTarget::Text(pos) => command_at(self.texts.replica(at.text), pos),
         }
     }
 
@@ -98,17 +98,17 @@ impl Desk {
         ensures fault { IsFault result → Counts (S.faults shelf.old) (S.faults shelf.new) }
     {
         match command {
-            Command::SystemOpen => self.open_told(Track::System, text_told(value)),
+            Command::SystemOpen => self.open_told(Track::System, text_parameter(value)),
             Command::SystemClose => self.close_clicked(viewer),
-            Command::EditOpen => self.open_told(Track::User, text_told(value)),
-            Command::EditLoad => self.load(file_told(value), shelf, outbox),
-            Command::EditStore => self.store(text, file_told(value), shelf),
+            Command::EditOpen => self.open_told(Track::User, text_parameter(value)),
+            Command::EditLoad => self.load(file_parameter(value), shelf, outbox),
+            Command::EditStore => self.store(text, file_parameter(value), shelf),
             Command::EditRecall => sent(self.put(Insertion::Recalled, outbox)),
             Command::EditRestore => sent(self.restore(text, outbox)),
-            Command::EditChangeFont => sent(self.dress(font_told(value), outbox)),
-            Command::EditChangeColor => sent(self.dress(colour_told(value), outbox)),
-            Command::EditChangeOffset => sent(self.dress(offset_told(value), outbox)),
-            Command::EditSearch => self.search(bytes_told(value)),
+            Command::EditChangeFont => sent(self.dress(font_parameter(value), outbox)),
+            Command::EditChangeColor => sent(self.dress(colour_parameter(value), outbox)),
+            Command::EditChangeOffset => sent(self.dress(offset_parameter(value), outbox)),
+            Command::EditSearch => self.search(bytes_parameter(value)),
             Command::ShareForget => self.forget(text),
         }
     }

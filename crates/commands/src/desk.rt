@@ -6,7 +6,7 @@ ghost use Rattle.texts.specs.Edit.{deletion, insertion, looks_change, recalling,
 ghost use Rattle.texts.specs.Text.{IsText};
 ghost use Rattle.texts.specs.TextState.{TextState, shown_of};
 ghost use Rattle.texts.specs.declared.edit_refusal.EditRefusal.TheVariants.{Whole};
-ghost use Rattle.machine.specs.DeskState.{IsTextOf, new_desk};
+ghost use Rattle.machine.specs.SiteTexts.{IsTextOf, fresh_texts};
 ghost use Rattle.machine.specs.Events.{arrange, ask, copy, edit, print, put, query, settle, settles};
 ghost use Rattle.machine.specs.Windows.{blank_screen};
 ghost use Rattle.machine.specs.declared.asked.Arrangement.TheVariants.{Close, Move, Open, Point, Scroll, Select};
@@ -52,7 +52,7 @@ impl Desk {
         requires narrow { width ≤ MAX_WIDTH }
         requires high { MIN_HEIGHT ≤ height }
         requires low { height ≤ MAX_HEIGHT }
-        ensures ok { IfOk result (λ d. d ≡ record { texts = new_desk site; screen = blank_screen width height }) }
+        ensures ok { IfOk result (λ d. d ≡ record { texts = fresh_texts site; screen = blank_screen width height }) }
         ensures errors { RefusedForMemoryAlone result }
     {
         Ok(Desk {
@@ -79,7 +79,7 @@ impl Desk {
     ///
     /// This and the other edits answer how many messages they added to the Outbox. They are refused `OutOfRange` where a
     /// position lies outside the text, else as the replica refuses them; an empty edit is refused for its positions
-    /// alone. Want of memory may come ahead of the replica's other refusals. More than 2^24 bytes are refused at once,
+    /// alone. Want of memory may come before the replica's other refusals. More than 2^24 bytes are refused at once,
     /// with nothing done: no file has room for them, nor is there a buffer that holds them.
     pub fn type_in(
         &mut self,
@@ -99,7 +99,7 @@ impl Desk {
         if MAX_FILE < bytes.len() as u64 {
             return Err(EditRefusal::Whole(self.too_long(text, pos)));
         }
-        self.texts.has_text(text);
+        self.texts.lemma_has_text(text);
         let outcome = self.texts.type_in(text, pos, bytes, outbox);
         tell(&mut self.texts, &mut self.windows, text);
         outcome
@@ -117,7 +117,7 @@ impl Desk {
         ensures { IsEditStep self.old (λ i. edit i text (deletion beg end)) result self.new
             outbox.old outbox.new }
     {
-        self.texts.has_text(text);
+        self.texts.lemma_has_text(text);
         let outcome = self.texts.cut(text, beg, end, outbox);
         tell(&mut self.texts, &mut self.windows, text);
         outcome
@@ -137,7 +137,7 @@ impl Desk {
         ensures { IsEditStep self.old (λ i. edit i text (looks_change beg end sel looks.now)) result self.new
             outbox.old outbox.new }
     {
-        self.texts.has_text(text);
+        self.texts.lemma_has_text(text);
         let outcome = self.texts.change_looks(text, beg, end, sel, looks, outbox);
         tell(&mut self.texts, &mut self.windows, text);
         outcome
@@ -154,7 +154,7 @@ impl Desk {
         ensures { IsEditStep self.old (λ i. edit i text (recalling pos)) result self.new
             outbox.old outbox.new }
     {
-        self.texts.has_text(text);
+        self.texts.lemma_has_text(text);
         let outcome = self.texts.recall(text, pos, outbox);
         tell(&mut self.texts, &mut self.windows, text);
         outcome
@@ -165,14 +165,14 @@ impl Desk {
         requires on_desk { text ≤ MAX_TEXT }
         ensures { IsEditStep self.old (λ i. edit i text restoration) result self.new outbox.old outbox.new }
     {
-        self.texts.has_text(text);
+        self.texts.lemma_has_text(text);
         let outcome = self.texts.restore(text, outbox);
         tell(&mut self.texts, &mut self.windows, text);
         outcome
     }
 
     /// Puts a copy of the characters from `beg` to `end` of a text into another one, or into itself, at a position.
-    /// Refused `FileSpent`, behind `OutOfRange`, where there are more than 2^24.
+    /// Refused `FileSpent`, after `OutOfRange`, where there are more than 2^24.
     pub fn save(
         &mut self,
         text: TextNo,
@@ -187,7 +187,7 @@ impl Desk {
         ensures { IsEditStep self.old (λ i. copy i text beg end other pos) result self.new
             outbox.old outbox.new }
     {
-        self.texts.has_text(other);
+        self.texts.lemma_has_text(other);
         let outcome = self.texts.save(text, beg, end, other, pos, outbox);
         tell(&mut self.texts, &mut self.windows, other);
         outcome
@@ -198,7 +198,7 @@ impl Desk {
         requires on_desk { text ≤ MAX_TEXT }
         ensures { IsTakeStep self.old text message.now result self.new }
     {
-        self.texts.has_text(text);
+        self.texts.lemma_has_text(text);
         let outcome = self.texts.take(text, message);
         tell(&mut self.texts, &mut self.windows, text);
         outcome
@@ -210,7 +210,7 @@ impl Desk {
         ensures { IsStep self.old (λ i. settle i text)
             (settles result.drained result.dropped result.stopped) self.new }
     {
-        self.texts.has_text(text);
+        self.texts.lemma_has_text(text);
         let outcome = self.texts.settle(text);
         tell(&mut self.texts, &mut self.windows, text);
         outcome
@@ -221,7 +221,7 @@ impl Desk {
         requires on_desk { text ≤ MAX_TEXT }
         ensures { IsMergeStep self.old text other.now result self.new }
     {
-        self.texts.has_text(text);
+        self.texts.lemma_has_text(text);
         let outcome = self.texts.merge(text, &other.texts);
         tell(&mut self.texts, &mut self.windows, text);
         outcome
@@ -229,11 +229,11 @@ impl Desk {
 
     /// A law: the desk has a text of this number, it is what its operations define, and it has told its changes. A proof
     /// gets it by calling this, at no cost.
-    pub fn has_text(&self, text: TextNo)
+    pub fn lemma_has_text(&self, text: TextNo)
         requires { text ≤ MAX_TEXT }
         ensures { (t : TextState) × IsTextOf self.now.texts text t × IsText t × (t.asked ≡ length t.operations) }
     {
-        self.texts.has_text(text);
+        self.texts.lemma_has_text(text);
     }
 
     /// The lines that a query prints of a text. Refused `OutOfMemory` alone.
@@ -357,7 +357,7 @@ impl Desk {
         self.view(View::Show)
     }
 
-    /// Types bytes of default looks at the caret, which stands behind the last that came in then.
+    /// Types bytes of default looks at the caret, which stands after the last that came in then.
     ///
     /// Refused `NoCaret` where there is none, else as `type_in` is. More than 2^24 bytes are refused alike.
     pub fn key(&mut self, bytes: &[u8], outbox: &mut Outbox) -> Result<u32, EditRefusal>

@@ -86,7 +86,7 @@ impl Desk {
         self.looks(marked.text, marked.beg, marked.end, sel, &looks, outbox)
     }
 
-    // Looks from the caret on for the bytes that were told. The caret stands behind them then.
+    // Looks from the caret on for the bytes that were told. The caret stands after them then.
     pub(crate) fn search(&mut self, bytes: Option<&[u8]>) -> Result<Answer, EditRefusal>
         ensures { IsTaskStep self.old (with_told (option_copied bytes.entry) search) result self.new }
     {
@@ -99,14 +99,14 @@ impl Desk {
         let (text, from) = place;
         let replica = self.texts.replica(text);
         // Positions are in range.
-        replica.is_text();
+        replica.lemma_is_text();
         let _len = replica.shown_len();
         let Some(at) = find(replica, bytes, from) else {
             return Ok(Answer::NotFound);
         };
-        let behind = at + bytes.len() as u64;
-        self.windows.move_caret(&self.texts, behind);
-        Ok(Answer::Found(behind))
+        let after = at + bytes.len() as u64;
+        self.windows.move_caret(&self.texts, after);
+        Ok(Answer::Found(after))
     }
 
     // Throws away what waits for a text.
@@ -114,7 +114,7 @@ impl Desk {
         requires { text ≤ MAX_TEXT }
         ensures { IsTaskStep self.old (forget text) result self.new }
     {
-        self.texts.has_text(text);
+        self.texts.lemma_has_text(text);
         let count = self.texts.forget(text);
         tell(&mut self.texts, &mut self.windows, text);
         Ok(Answer::Forgot(count))

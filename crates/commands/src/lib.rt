@@ -6,7 +6,7 @@ mod clicking;
 mod desk;
 mod executing;
 mod filing;
-mod keeping;
+mod site_files;
 mod parameters;
 mod putting;
 mod searching;

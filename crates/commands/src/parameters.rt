@@ -1,7 +1,7 @@
 ghost use Rattle.std.specs.Prelude.{◌≡◌, ◌≤◌, IfSome, Some, None, if◌then◌else◌};
 ghost use Rattle.std.specs.Option.{option_copied};
-ghost use Rattle.machine.specs.Commands.{bytes_told, colour_told, file_told, font_told, is_caret_sign, offset_told};
-ghost use Rattle.machine.specs.Commands.{text_told};
+ghost use Rattle.machine.specs.Commands.{bytes_parameter, colour_parameter, file_parameter, font_parameter, is_caret_sign, offset_parameter};
+ghost use Rattle.machine.specs.Commands.{text_parameter};
 ghost use Rattle.operations.specs.Reading.{is_font_name};
 
 use char_files::TextNo;
@@ -12,8 +12,8 @@ use shelf::file_name;
 use std::slice;
 
 // The text that a value tells.
-pub(crate) fn text_told(value: &TokenValue) -> Option<TextNo>
-    ensures told { result ≡ text_told value.now }
+pub(crate) fn text_parameter(value: &TokenValue) -> Option<TextNo>
+    ensures told { result ≡ text_parameter value.now }
     ensures on_desk { IfSome result (λ text. text ≤ MAX_TEXT) }
 {
     let TokenValue::Int(number) = value else {
@@ -28,8 +28,8 @@ pub(crate) fn text_told(value: &TokenValue) -> Option<TextNo>
 }
 
 // The file that a value tells.
-pub(crate) fn file_told(value: &TokenValue) -> Option<&str>
-    ensures { option_copied result ≡ file_told value.now }
+pub(crate) fn file_parameter(value: &TokenValue) -> Option<&str>
+    ensures { option_copied result ≡ file_parameter value.now }
 {
     match value {
         TokenValue::Name(name) | TokenValue::String(name) => file_name(name.as_bytes()),
@@ -38,8 +38,8 @@ pub(crate) fn file_told(value: &TokenValue) -> Option<&str>
 }
 
 // The bytes to search for that a value tells.
-pub(crate) fn bytes_told(value: &TokenValue) -> Option<&[u8]>
-    ensures { option_copied result ≡ bytes_told value.now }
+pub(crate) fn bytes_parameter(value: &TokenValue) -> Option<&[u8]>
+    ensures { option_copied result ≡ bytes_parameter value.now }
 {
     match value {
         TokenValue::Name(text) | TokenValue::String(text) if !text.as_bytes().is_empty() => {
@@ -58,8 +58,8 @@ fn font_named(name: &[u8]) -> Option<FontName>
 }
 
 // The font that a value tells, as a change of looks.
-pub(crate) fn font_told(value: &TokenValue) -> Option<(Sel, Looks)>
-    ensures { result ≡ font_told value.now }
+pub(crate) fn font_parameter(value: &TokenValue) -> Option<(Sel, Looks)>
+    ensures { result ≡ font_parameter value.now }
 {
     let TokenValue::Name(name) = value else {
         return None;
@@ -73,8 +73,8 @@ pub(crate) fn font_told(value: &TokenValue) -> Option<(Sel, Looks)>
 }
 
 // The colour that a value tells, alike.
-pub(crate) fn colour_told(value: &TokenValue) -> Option<(Sel, Looks)>
-    ensures { result ≡ colour_told value.now }
+pub(crate) fn colour_parameter(value: &TokenValue) -> Option<(Sel, Looks)>
+    ensures { result ≡ colour_parameter value.now }
 {
     let TokenValue::Int(number) = value else {
         return None;
@@ -88,8 +88,8 @@ pub(crate) fn colour_told(value: &TokenValue) -> Option<(Sel, Looks)>
 }
 
 // The offset that a value tells, alike.
-pub(crate) fn offset_told(value: &TokenValue) -> Option<(Sel, Looks)>
-    ensures { result ≡ offset_told value.now }
+pub(crate) fn offset_parameter(value: &TokenValue) -> Option<(Sel, Looks)>
+    ensures { result ≡ offset_parameter value.now }
 {
     let TokenValue::Int(number) = value else {
         return None;

@@ -1,8 +1,8 @@
-//! What is put in at the caret, which stands behind it then.
+//! What is put in at the caret, which stands after it then.
 
 ghost use Rattle.std.specs.Prelude.{◌≡◌, ◌≤◌};
 ghost use Rattle.machine.specs.Events.{ask, edit};
-ghost use Rattle.machine.specs.OnTexts.{EditsDesk};
+ghost use Rattle.machine.specs.OnTexts.{EditsSite};
 ghost use Rattle.machine.specs.declared.TheConstants.{MAX_TEXT};
 ghost use Rattle.commands.specs.Putting.{FitsFile, edit_of, items_in, task_of_put};
 ghost use Rattle.commands.specs.Steps.{IsEditStep};
@@ -32,7 +32,7 @@ fn put_into(
 ) -> Result<u32, EditRefusal>
     requires on_desk { text ≤ MAX_TEXT }
     requires short { FitsFile what }
-    ensures { EditsDesk texts.old text (edit_of (items_in what.entry) pos) result texts.new outbox.old outbox.new }
+    ensures { EditsSite texts.old text (edit_of (items_in what.entry) pos) result texts.new outbox.old outbox.new }
 {
     match what {
         Insertion::Bytes(bytes) => texts.type_in(text, pos, bytes, outbox),
@@ -42,7 +42,7 @@ fn put_into(
 }
 
 impl Desk {
-    // Puts it in at the caret, which stands behind the last character that came in then. Refused `NoCaret` where there is none.
+    // Puts it in at the caret, which stands after the last character that came in then. Refused `NoCaret` where there is none.
     pub(crate) fn put(
         &mut self,
         what: Insertion<'_>,
@@ -55,7 +55,7 @@ impl Desk {
             return Err(EditRefusal::Whole(Refusal::NoCaret));
         };
         let (text, pos) = place;
-        self.texts.has_text(text);
+        self.texts.lemma_has_text(text);
         let before = self.texts.replica(text).shown_len();
         let outcome = put_into(&mut self.texts, text, pos, what, outbox);
         tell(&mut self.texts, &mut self.windows, text);

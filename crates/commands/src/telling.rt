@@ -1,7 +1,7 @@
-//! How windows follow the texts: behind each change of a text they are told of it, in this one place.
+//! How windows follow the texts: after each change of a text they are told of it, in this one place.
 
 ghost use Rattle.std.specs.Prelude.{◌≡◌, ◌≤◌};
-ghost use Rattle.machine.specs.DeskState.{DeskState, InText};
+ghost use Rattle.machine.specs.SiteTexts.{SiteTexts, InText};
 ghost use Rattle.machine.specs.declared.TheConstants.{MAX_TEXT};
 ghost use Rattle.texts.specs.TextState.{all_told};
 ghost use Rattle.desk_windows.specs.Windows.{AreOf, screened};
@@ -17,7 +17,7 @@ pub(crate) fn tell(texts: &mut Texts, windows: &mut Windows, text: TextNo)
     requires on_desk { text ≤ MAX_TEXT }
     ensures told { InText (λ t new. new ≡ all_told t) texts.old text texts.new }
     ensures screen { screened windows.new ≡ screened windows.old }
-    ensures shown { (d : DeskState) → AreOf d windows.old → AreTold d → InText Grows d text texts.old
+    ensures shown { (d : SiteTexts) → AreOf d windows.old → AreTold d → InText Grows d text texts.old
         → AreOf texts.new windows.new × AreTold texts.new }
 {
     let changes = texts.changes(text);

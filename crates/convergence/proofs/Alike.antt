@@ -16,7 +16,7 @@ use Rattle.texts.specs.declared.fate.Fate.TheVariants.{Misfit, LowStamp, Ready}
 use Rattle.texts.specs.declared.took.Took.{Took}
 use Rattle.texts.specs.declared.took.Took.TheVariants.{Taken, Waits}
 use Rattle.convergence.specs.Headline.{KeptTextsAreAlike, MergesAreAlike, ShowsNothingNew, WhatWaitsShowsNothing}
-use Rattle.convergence.specs.Keeping.{WhatIsKeptIsClosed}
+use Rattle.convergence.specs.HandedIn.{WhatIsKeptIsClosed}
 
 -- both have taken in the one closure
 pub kept_alike : WhatIsKeptIsClosed → ((all : List Operation) → AreIdentified all → HasOneClosure all)

@@ -52,7 +52,7 @@ at_its_rank Ready = refl
 one_rank : (f g : Fate) → rank f ≡ rank g → f ≡ g
 one_rank f g same = sym (at_its_rank f) ∙ ap fate_at same ∙ at_its_rank g
 
--- the verdict behind the last four
+-- the verdict after the last four
 abbrev verdict_of : Fate → Verdict
 verdict_of Wait = wait
 verdict_of Misfit = misfit
@@ -94,7 +94,7 @@ module _ (t : TextState) (op : Operation) where
   own_text LowStamp lt has = has.1.0
   own_text Ready lt has = has.1.0
 
-  -- those behind the third are new
+  -- those after the third are new
   is_free : (f : Fate) → 2 < rank f → HasFate t op f → IsNew t.operations op
   is_free OtherText lt has = absurd (omega arith)
   is_free Known lt has = absurd (omega arith)
@@ -105,7 +105,7 @@ module _ (t : TextState) (op : Operation) where
   is_free LowStamp lt has = has.1.1
   is_free Ready lt has = has.1.1
 
-  -- none waits under the identity of those behind the fourth, and there is the verdict
+  -- none waits under the identity of those after the fourth, and there is the verdict
   is_unmet : (f : Fate) → 3 < rank f → HasFate t op f → ¬ IsHeld t.waiting_room op.site op.seq
   is_unmet OtherText lt has = absurd (omega arith)
   is_unmet Known lt has = absurd (omega arith)

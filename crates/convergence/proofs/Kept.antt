@@ -15,7 +15,7 @@ use Rattle.texts.specs.Draining.Drains.{ends, stops, takes_in, throws_away}
 use Rattle.texts.specs.Taking.{HasTaken, HasTakenAll}
 use Rattle.texts.specs.Text.{AreWaitingFor, IsText}
 use Rattle.texts.specs.TextState.{TextState, with_room}
-use Rattle.convergence.specs.Keeping.{Keeps}
+use Rattle.convergence.specs.HandedIn.{AccountsFor}
 use Rattle.set_laws.proofs.Closing.{kept_on}
 use Rattle.set_laws.proofs.Lengths.{part_identified}
 
@@ -90,51 +90,51 @@ kept_as_it_is taken waiting all op is kept =
     ])
     (kept_waiting_more taken waiting all (op ∷ []) kept)
 
-module _ (ahead behind : List Operation) (op : Operation) where
+module _ (before after : List Operation) (op : Operation) where
   -- all but one are a part
-  pub others_within : IsPartOf (ahead ++ behind) (ahead ++ op ∷ behind)
-  others_within = both_parts ahead ahead behind (op ∷ behind) (λ x held. held)
-      (Contains-append_right (op ∷ []) behind)
+  pub others_within : IsPartOf (before ++ after) (before ++ op ∷ after)
+  others_within = both_parts before before after (op ∷ after) (λ x held. held)
+      (Contains-append_right (op ∷ []) after)
 
   -- the one is there
-  pub one_within : Contains (ahead ++ op ∷ behind) op
-  one_within = Contains-append_right ahead (op ∷ behind) op
-      (Contains-append_left (op ∷ []) behind op (0, omega arith, refl))
+  pub one_within : Contains (before ++ op ∷ after) op
+  one_within = Contains-append_right before (op ∷ after) op
+      (Contains-append_left (op ∷ []) after op (0, omega arith, refl))
 
   -- each is the one, or of the others
-  pub one_or_others : (x : Operation) → Contains (ahead ++ op ∷ behind) x
-      → Contains (ahead ++ behind) x ⊎ (op ≡ x)
-  one_or_others x held = elim (Contains-append_cases ahead (op ∷ behind) x held) [
-    | inl here ↦ inl (Contains-append_left ahead behind x here)
-    | inr there ↦ elim (Contains-append_cases (op ∷ []) behind x there) [
+  pub one_or_others : (x : Operation) → Contains (before ++ op ∷ after) x
+      → Contains (before ++ after) x ⊎ (op ≡ x)
+  one_or_others x held = elim (Contains-append_cases before (op ∷ after) x held) [
+    | inl here ↦ inl (Contains-append_left before after x here)
+    | inr there ↦ elim (Contains-append_cases (op ∷ []) after x there) [
       | inl one ↦ elim (Contains-push_cases [] op x one) [
-        | inl none ↦ inl (Contains-append_left ahead behind x (Contains-append_left [] ahead x none))
+        | inl none ↦ inl (Contains-append_left before after x (Contains-append_left [] before x none))
         | inr same ↦ inr same
       ]
-      | inr here ↦ inl (Contains-append_right ahead behind x here)
+      | inr here ↦ inl (Contains-append_right before after x here)
     ]
   ]
 
   -- the others are a room's
-  others_waiting : (text : ℕ) → AreWaitingFor text (ahead ++ op ∷ behind) → AreWaitingFor text (ahead ++ behind)
+  others_waiting : (text : ℕ) → AreWaitingFor text (before ++ op ∷ after) → AreWaitingFor text (before ++ after)
   others_waiting text waiting = record {
-    of_text = All-weaker (Contains (ahead ++ behind)) (λ o. o.text ≡ text)
-        (λ x held. All-contains (λ o. o.text ≡ text) (ahead ++ op ∷ behind) x waiting.of_text
+    of_text = All-weaker (Contains (before ++ after)) (λ o. o.text ≡ text)
+        (λ x held. All-contains (λ o. o.text ≡ text) (before ++ op ∷ after) x waiting.of_text
         (others_within x held))
-        (ahead ++ behind) (All-contains_itself (ahead ++ behind));
-    identified = part_identified (ahead ++ behind) (ahead ++ op ∷ behind) others_within waiting.identified;
+        (before ++ after) (All-contains_itself (before ++ after));
+    identified = part_identified (before ++ after) (before ++ op ∷ after) others_within waiting.identified;
     few =
-        let len = length-append ahead (op ∷ behind) in
-        let len' = length-append ahead behind in
+        let len = length-append before (op ∷ after) in
+        let len' = length-append before after in
         let most = waiting.few in
         omega (arith, len, len', most);
   }
 
   -- one that is settled leaves the room
-  kept_leaving : (taken all : List Operation) → IsSettled taken op → IsKept taken (ahead ++ op ∷ behind) all
-      → IsKept taken (ahead ++ behind) all
+  kept_leaving : (taken all : List Operation) → IsSettled taken op → IsKept taken (before ++ op ∷ after) all
+      → IsKept taken (before ++ after) all
   kept_leaving taken all settled kept =
-      kept_without taken (ahead ++ op ∷ behind) (ahead ++ behind) all others_within
+      kept_without taken (before ++ op ∷ after) (before ++ after) all others_within
       (λ x held. elim (one_or_others x held) [
         | inl stays ↦ inl stays
         | inr same ↦ inr (subst (IsSettled taken) same settled)
@@ -156,15 +156,15 @@ text_with_room t room text waiting = record {
 
 -- a text keeps what its operations and its room keep
 pub keeps_by : (t : TextState) (taken waiting all : List Operation) → t.operations ≡ taken → t.waiting_room ≡ waiting
-    → AreIdentified all → IsKept taken waiting all → Keeps t all
+    → AreIdentified all → IsKept taken waiting all → AccountsFor t all
 keeps_by t taken waiting all operations room known kept = record {
   identified = known;
   kept = rw operations (rw room kept);
 }
 
 -- where operations are handed in and taken in, all is kept
-pub kept_with_all : (t new : TextState) (more all : List Operation) → IsText t → Keeps t all
-    → HasTakenAll t more new → AreIdentified (all ++ more) → Keeps new (all ++ more)
+pub kept_with_all : (t new : TextState) (more all : List Operation) → IsText t → AccountsFor t all
+    → HasTakenAll t more new → AreIdentified (all ++ more) → AccountsFor new (all ++ more)
 kept_with_all t new more all text keeps has known =
     let operations : new.operations ≡ t.operations ++ more = ap (λ (u : TextState). u.operations) has.grown in
     keeps_by new (t.operations ++ more) t.waiting_room (all ++ more) operations
@@ -173,24 +173,24 @@ kept_with_all t new more all text keeps has known =
     (subst Good operations has.is.good) keeps.kept)
 
 -- where one that waits is taken in, all is kept
-kept_with_one_out : (t with_op : TextState) (ahead behind : List Operation) (op : Operation)
-    (all : List Operation) → t.waiting_room ≡ ahead ++ op ∷ behind → IsText t → Keeps t all
-    → HasTaken (with_room t (ahead ++ behind)) op with_op → Keeps with_op all
-kept_with_one_out t with_op ahead behind op all room text keeps has =
+kept_with_one_out : (t with_op : TextState) (before after : List Operation) (op : Operation)
+    (all : List Operation) → t.waiting_room ≡ before ++ op ∷ after → IsText t → AccountsFor t all
+    → HasTaken (with_room t (before ++ after)) op with_op → AccountsFor with_op all
+kept_with_one_out t with_op before after op all room text keeps has =
     let operations : with_op.operations ≡ t.operations ++ op ∷ [] =
     ap (λ (u : TextState). u.operations) has.grown in
-    let kept : IsKept t.operations (ahead ++ op ∷ behind) all =
+    let kept : IsKept t.operations (before ++ op ∷ after) all =
     subst (λ (r : List Operation). IsKept t.operations r all) room keeps.kept in
     let within : IsPartOf (t.operations ++ op ∷ []) all = λ x held.
     elim (Contains-push_cases t.operations op x held) [
       | inl old ↦ kept.taken_in x old
-      | inr same ↦ subst (Contains all) same (kept.kept_waiting op (one_within ahead behind op))
+      | inr same ↦ subst (Contains all) same (kept.kept_waiting op (one_within before after op))
     ] in
-    keeps_by with_op (t.operations ++ op ∷ []) (ahead ++ behind) all operations
+    keeps_by with_op (t.operations ++ op ∷ []) (before ++ after) all operations
     (ap (λ (u : TextState). u.waiting_room) has.grown) keeps.identified
-    (kept_leaving ahead behind op (t.operations ++ op ∷ []) all
+    (kept_leaving before after op (t.operations ++ op ∷ []) all
     (inl (Contains-append_right t.operations (op ∷ []) op (0, omega arith, refl)))
-    (kept_on t.operations (t.operations ++ op ∷ []) (ahead ++ op ∷ behind) all keeps.identified text.good
+    (kept_on t.operations (t.operations ++ op ∷ []) (before ++ op ∷ after) all keeps.identified text.good
     (subst Good operations has.is.good) (Contains-append_left t.operations (op ∷ [])) within kept))
 
 -- what is thrown away is settled
@@ -202,30 +202,30 @@ settled_if_thrown t op all known within held (inr (inl (of_text, new, verdict)))
 settled_if_thrown t op all known within held (inr (inr (of_text, new, verdict))) = inr (inr verdict)
 
 -- where one that waits is thrown away, all is kept
-kept_with_one_thrown : (t : TextState) (ahead behind : List Operation) (op : Operation) (all : List Operation)
-    → t.waiting_room ≡ ahead ++ op ∷ behind → Keeps t all → IsThrownAway t op
-    → Keeps (with_room t (ahead ++ behind)) all
-kept_with_one_thrown t ahead behind op all room keeps thrown =
-    let kept : IsKept t.operations (ahead ++ op ∷ behind) all =
+kept_with_one_thrown : (t : TextState) (before after : List Operation) (op : Operation) (all : List Operation)
+    → t.waiting_room ≡ before ++ op ∷ after → AccountsFor t all → IsThrownAway t op
+    → AccountsFor (with_room t (before ++ after)) all
+kept_with_one_thrown t before after op all room keeps thrown =
+    let kept : IsKept t.operations (before ++ op ∷ after) all =
     subst (λ (r : List Operation). IsKept t.operations r all) room keeps.kept in
     record {
       identified = keeps.identified;
-      kept = kept_leaving ahead behind op t.operations all
+      kept = kept_leaving before after op t.operations all
           (settled_if_thrown t op all keeps.identified kept.taken_in
-          (kept.kept_waiting op (one_within ahead behind op)) thrown)
+          (kept.kept_waiting op (one_within before after op)) thrown)
           kept;
     }
 
 -- draining leaves all kept
 pub kept_draining : {t new : TextState} {drained dropped : ℕ} {stopped : Bool}
-    (all : List Operation) → IsText t → Keeps t all → Drains t drained dropped stopped new → Keeps new all
+    (all : List Operation) → IsText t → AccountsFor t all → Drains t drained dropped stopped new → AccountsFor new all
 kept_draining all text keeps (ends stay) = keeps
-kept_draining all text keeps (stops ahead behind op next ready) = keeps
-kept_draining {t = t} all text keeps (takes_in {with_op = with_op} ahead behind op next ready has more) =
+kept_draining all text keeps (stops before after op next ready) = keeps
+kept_draining {t = t} all text keeps (takes_in {with_op = with_op} before after op next ready has more) =
     kept_draining all has.is
-    (kept_with_one_out t with_op ahead behind op all next.room text keeps has) more
-kept_draining {t = t} all text keeps (throws_away ahead behind op next thrown more) =
+    (kept_with_one_out t with_op before after op all next.room text keeps has) more
+kept_draining {t = t} all text keeps (throws_away before after op next thrown more) =
     kept_draining all
-    (text_with_room t (ahead ++ behind) text
-    (others_waiting ahead behind op t.text (subst (AreWaitingFor t.text) next.room text.waiting)))
-    (kept_with_one_thrown t ahead behind op all next.room keeps thrown) more
+    (text_with_room t (before ++ after) text
+    (others_waiting before after op t.text (subst (AreWaitingFor t.text) next.room text.waiting)))
+    (kept_with_one_thrown t before after op all next.room keeps thrown) more

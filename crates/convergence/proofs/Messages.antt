@@ -9,7 +9,7 @@ use Rattle.looks.specs.declared.refusal.Refusal.TheVariants.{RoomFull}
 use Rattle.char_files.specs.CharName.{CharName}
 use Rattle.operations.specs.Operation.{Operation}
 use Rattle.tree_order.specs.Good.{Good}
-use Rattle.tree_order.specs.Order.{IsAheadIn}
+use Rattle.tree_order.specs.Order.{IsBeforeIn}
 use Rattle.tree_order.specs.Tree.{IsPath}
 use Rattle.set_laws.specs.Sets.{AreIdentified, IsPartOf}
 use Rattle.waiting_room.specs.declared.room.TheConstants.{MAX_WAITING}
@@ -24,7 +24,7 @@ use Rattle.texts.specs.declared.took.Took.{Took}
 use Rattle.texts.specs.declared.took.Took.TheVariants.{Waits}
 use Rattle.convergence.specs.Headline.{AreSameMessages, HasTakenMessages, begins, goes_on, IsTold, KeptTextsAreAlike}
 use Rattle.convergence.specs.Headline.{SameMessagesEndAlike, TellNoConflict}
-use Rattle.convergence.specs.Keeping.{Keeps, KeptByTaking, NothingIsKept, StayWaiting, is_handed_in}
+use Rattle.convergence.specs.HandedIn.{AccountsFor, KeptByTaking, NothingIsKept, StayWaiting, is_handed_in}
 use Rattle.convergence.proofs.Fates.{one_told, own_text}
 use Rattle.convergence.proofs.OneWay.{identified_part, text_with_room, text_without}
 
@@ -37,8 +37,8 @@ no_path : (c : CharName) (path : List CharName) → ¬ IsPath [] c path
 no_path c [] is = absurd (cc)
 no_path c (d ∷ path) is = none_held is.0.0 is.0.1.held
 
-none_ahead : (c d : CharName) → ¬ IsAheadIn [] c d
-none_ahead c d (i, j, lt, at, at') = absurd (cc)
+none_before : (c d : CharName) → ¬ IsBeforeIn [] c d
+none_before c d (i, j, lt, at, at') = absurd (cc)
 
 goods : Good [] → (n : ℕ) → Good (take n [])
 goods good zero = good
@@ -54,7 +54,7 @@ empty_is_text text site good known = record {
     order = record {
       each = λ c. (λ held. absurd (none_held c held), λ is. absurd (none_held is.0 is.1.held));
       once = λ i j d lt short. absurd (omega arith);
-      ahead = λ c d. (λ is. absurd (none_ahead c d is), λ is. absurd (no_path c is.0 is.2));
+      before = λ c d. (λ is. absurd (none_before c d is), λ is. absurd (no_path c is.0 is.2));
     };
     bytes = All-nil _;
     looks = All-nil _;
@@ -74,12 +74,12 @@ IsTextOf text t = IsText t × (t.text ≡ text)
 -- a text that was drained is one
 drained_text : {t new : TextState} {n m : ℕ} {b : Bool} → Drains t n m b new → IsText t → IsTextOf t.text new
 drained_text (ends all) is = (is, refl)
-drained_text (stops ahead behind op next good) is = (is, refl)
-drained_text (takes_in ahead behind op next good taken rest) is =
+drained_text (stops before after op next good) is = (is, refl)
+drained_text (takes_in before after op next good taken rest) is =
     let end = drained_text rest taken.is in
     (end.0, end.1 ∙ ap (λ (u : TextState). u.text) taken.grown)
-drained_text (throws_away {t = t} ahead behind op next bad rest) is =
-    drained_text rest (text_without t ahead behind op is next)
+drained_text (throws_away {t = t} before after op next bad rest) is =
+    drained_text rest (text_without t before after op is next)
 
 stayed_text : (text : ℕ) (t new : TextState) → IsTextOf text t → new ≡ t → IsTextOf text new
 stayed_text text t new is stays = subst (IsTextOf text) (sym stays) is
@@ -170,7 +170,7 @@ record Reached (text : ℕ) (messages : List (List ℕ)) (t : TextState) : Type 
   is : IsText t
   own : t.text ≡ text
   stay : AllStay t
-  keeps : Keeps t all
+  keeps : AccountsFor t all
   told : (op : Operation) → Contains all op ↔ IsToldOf text messages op
 
 module _ (taking : KeptByTaking) (waiting : StayWaiting) (text : ℕ) where
@@ -240,8 +240,8 @@ module _ (taking : KeptByTaking) (waiting : StayWaiting) (text : ℕ) where
         (with_it t.waiting_room r.keeps.kept.kept_waiting) known_with in
         let end = next_text t new op result r.is here room_known f becomes in
         let kept = subst (λ (b : Bool). MatchBool b
-        ((x : Operation) → Tells message x → AreIdentified (r.all ++ x ∷ []) → Keeps new (r.all ++ x ∷ []))
-        (Keeps new r.all)) counts (taking t new message result r.all r.is r.keeps (inl takes)) in
+        ((x : Operation) → Tells message x → AreIdentified (r.all ++ x ∷ []) → AccountsFor new (r.all ++ x ∷ []))
+        (AccountsFor new r.all)) counts (taking t new message result r.all r.is r.keeps (inl takes)) in
         record {
           all = r.all ++ op ∷ [];
           is = end.0;
@@ -299,7 +299,7 @@ module _ (taking : KeptByTaking) (waiting : StayWaiting) (text : ℕ) where
 
 -- what keeps all of one list keeps all of another that has the same
 kept_same : (t : TextState) (all other : List Operation) → AreIdentified other
-    → ((op : Operation) → Contains all op ↔ Contains other op) → Keeps t all → Keeps t other
+    → ((op : Operation) → Contains all op ↔ Contains other op) → AccountsFor t all → AccountsFor t other
 kept_same t all other known same keeps = record {
   identified = known;
   kept = record {

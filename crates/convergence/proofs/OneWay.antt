@@ -17,20 +17,20 @@ use Rattle.set_laws.proofs.Verdicts.{same_verdict}
 use Rattle.texts.proofs.Chars.{one_text_with}
 
 module _ {X : Type 0} (P : X → Type 0) where
-  -- a list is split in one way behind the first ones that have P, where the next one doesn't
-  pub one_split : (ahead ahead' behind behind' : List X) (x x' : X) → ahead ++ x ∷ behind ≡ ahead' ++ x' ∷ behind'
-      → All P ahead → ¬ P x → All P ahead' → ¬ P x' → (ahead ≡ ahead') × (x ≡ x') × (behind ≡ behind')
-  one_split [] [] behind behind' x x' e all not all' not' =
-      let same : x ≡ x' = cc in let rest : behind ≡ behind' = cc in (refl, same, rest)
-  one_split [] (y ∷ ahead') behind behind' x x' e all not all' not' =
-      let same : y ≡ x = cc in absurd (not (subst P same (All-head P y ahead' all')))
-  one_split (y ∷ ahead) [] behind behind' x x' e all not all' not' =
-      let same : y ≡ x' = cc in absurd (not' (subst P same (All-head P y ahead all)))
-  one_split (y ∷ ahead) (y' ∷ ahead') behind behind' x x' e all not all' not' =
+  -- a list is split in one way after the first ones that have P, where the next one doesn't
+  pub one_split : (before before' after after' : List X) (x x' : X) → before ++ x ∷ after ≡ before' ++ x' ∷ after'
+      → All P before → ¬ P x → All P before' → ¬ P x' → (before ≡ before') × (x ≡ x') × (after ≡ after')
+  one_split [] [] after after' x x' e all not all' not' =
+      let same : x ≡ x' = cc in let rest : after ≡ after' = cc in (refl, same, rest)
+  one_split [] (y ∷ before') after after' x x' e all not all' not' =
+      let same : y ≡ x = cc in absurd (not (subst P same (All-head P y before' all')))
+  one_split (y ∷ before) [] after after' x x' e all not all' not' =
+      let same : y ≡ x' = cc in absurd (not' (subst P same (All-head P y before all)))
+  one_split (y ∷ before) (y' ∷ before') after after' x x' e all not all' not' =
       let first : y ≡ y' = cc in
-      let rest : ahead ++ x ∷ behind ≡ ahead' ++ x' ∷ behind' = cc in
-      let found = one_split ahead ahead' behind behind' x x' rest (All-tail P y ahead all) not
-      (All-tail P y' ahead' all') not' in
+      let rest : before ++ x ∷ after ≡ before' ++ x' ∷ after' = cc in
+      let found = one_split before before' after after' x x' rest (All-tail P y before all) not
+      (All-tail P y' before' all') not' in
       let same = found.0 in
       (cc, found.1, found.2)
 
@@ -40,12 +40,12 @@ module _ {X : Type 0} (P : X → Type 0) where
       All-contains P whole _ all (within _ (Contains-get_or part k d lt))
 
 -- what is left where one goes is part of what was
-pub without_one : (ahead behind : List Operation) (op : Operation) → IsPartOf (ahead ++ behind) (ahead ++ op ∷ behind)
-without_one ahead behind op x held =
-    elim (Contains-append_cases ahead behind x held) [
-      | inl there ↦ Contains-append_left ahead (op ∷ behind) x there
+pub without_one : (before after : List Operation) (op : Operation) → IsPartOf (before ++ after) (before ++ op ∷ after)
+without_one before after op x held =
+    elim (Contains-append_cases before after x held) [
+      | inl there ↦ Contains-append_left before (op ∷ after) x there
       | inr there ↦
-          Contains-append_right ahead (op ∷ behind) x (Contains-append_right (op ∷ []) behind x there)
+          Contains-append_right before (op ∷ after) x (Contains-append_right (op ∷ []) after x there)
     ]
 
 pub identified_part : (part whole : List Operation) → IsPartOf part whole → AreIdentified whole → AreIdentified part
@@ -55,16 +55,16 @@ identified_part part whole within known = record {
 }
 
 -- a room that one has left is a room
-pub room_without : (text : ℕ) (ahead behind : List Operation) (op : Operation)
-    → AreWaitingFor text (ahead ++ op ∷ behind) → AreWaitingFor text (ahead ++ behind)
-room_without text ahead behind op are =
-    let within = without_one ahead behind op in
+pub room_without : (text : ℕ) (before after : List Operation) (op : Operation)
+    → AreWaitingFor text (before ++ op ∷ after) → AreWaitingFor text (before ++ after)
+room_without text before after op are =
+    let within = without_one before after op in
     let few = are.few in
-    let long = length-append ahead (op ∷ behind) in
-    let short = length-append ahead behind in
+    let long = length-append before (op ∷ after) in
+    let short = length-append before after in
     record {
-      of_text = all_of_part (λ o. o.text ≡ text) (ahead ++ behind) (ahead ++ op ∷ behind) within are.of_text;
-      identified = identified_part (ahead ++ behind) (ahead ++ op ∷ behind) within are.identified;
+      of_text = all_of_part (λ o. o.text ≡ text) (before ++ after) (before ++ op ∷ after) within are.of_text;
+      identified = identified_part (before ++ after) (before ++ op ∷ after) within are.identified;
       few = omega arith;
     }
 
@@ -82,10 +82,10 @@ text_with_room t room is are = record {
 }
 
 -- and so with all but the next one out
-pub text_without : (t : TextState) (ahead behind : List Operation) (op : Operation) → IsText t
-    → IsNextOut t ahead op behind → IsText (with_room t (ahead ++ behind))
-text_without t ahead behind op is next =
-    text_with_room t (ahead ++ behind) is (room_without t.text ahead behind op
+pub text_without : (t : TextState) (before after : List Operation) (op : Operation) → IsText t
+    → IsNextOut t before op after → IsText (with_room t (before ++ after))
+text_without t before after op is next =
+    text_with_room t (before ++ after) is (room_without t.text before after op
     (subst (AreWaitingFor t.text) next.room is.waiting))
 
 -- one operation more leaves one text
@@ -118,40 +118,40 @@ thrown_goes t op (inr (inr bad)) stays =
     let same = same_verdict t.operations op low_stamp wait bad.2 stays.1 in cc
 
 -- where all stay none goes
-none_goes : (t : TextState) (ahead behind : List Operation) (op : Operation) → AllStay t
-    → IsNextOut t ahead op behind → ¬ (¬ StaysWaiting t.operations op)
-none_goes t ahead behind op all next goes =
-    goes (All-contains (StaysWaiting t.operations) (ahead ++ op ∷ behind) op
+none_goes : (t : TextState) (before after : List Operation) (op : Operation) → AllStay t
+    → IsNextOut t before op after → ¬ (¬ StaysWaiting t.operations op)
+none_goes t before after op all next goes =
+    goes (All-contains (StaysWaiting t.operations) (before ++ op ∷ after) op
     (subst (All (StaysWaiting t.operations)) next.room all)
-    (Contains-append_right ahead (op ∷ behind) op (Contains-append_left (op ∷ []) behind op (0, omega arith, refl))))
+    (Contains-append_right before (op ∷ after) op (Contains-append_left (op ∷ []) after op (0, omega arith, refl))))
 
 -- the next one out is one
-one_next : (t : TextState) (ahead ahead' behind behind' : List Operation) (op op' : Operation)
-    → IsNextOut t ahead op behind → IsNextOut t ahead' op' behind' → ¬ StaysWaiting t.operations op
-    → ¬ StaysWaiting t.operations op' → (ahead ≡ ahead') × (op ≡ op') × (behind ≡ behind')
-one_next t ahead ahead' behind behind' op op' next next' goes goes' =
-    one_split (StaysWaiting t.operations) ahead ahead' behind behind' op op' (sym next.room ∙ next'.room) next.stay
+one_next : (t : TextState) (before before' after after' : List Operation) (op op' : Operation)
+    → IsNextOut t before op after → IsNextOut t before' op' after' → ¬ StaysWaiting t.operations op
+    → ¬ StaysWaiting t.operations op' → (before ≡ before') × (op ≡ op') × (after ≡ after')
+one_next t before before' after after' op op' next next' goes goes' =
+    one_split (StaysWaiting t.operations) before before' after after' op op' (sym next.room ∙ next'.room) next.stay
     goes next'.stay goes'
 
 -- how a draining begins
 data Begins (t : TextState) (n m : ℕ) (b : Bool) (new : TextState) : Type 0 where
   ended : AllStay t → n ≡ 0 → m ≡ 0 → b ≡ false → new ≡ t → Begins t n m b new
-  stopped : (ahead behind : List Operation) (op : Operation) → IsNextOut t ahead op behind → IsJudged t op ready
+  stopped : (before after : List Operation) (op : Operation) → IsNextOut t before op after → IsJudged t op ready
       → n ≡ 0 → m ≡ 0 → b ≡ true → new ≡ t → Begins t n m b new
-  took_in : (ahead behind : List Operation) (op : Operation) (with_op : TextState) (less : ℕ)
-      → IsNextOut t ahead op behind → IsJudged t op ready → HasTaken (with_room t (ahead ++ behind)) op with_op
+  took_in : (before after : List Operation) (op : Operation) (with_op : TextState) (less : ℕ)
+      → IsNextOut t before op after → IsJudged t op ready → HasTaken (with_room t (before ++ after)) op with_op
       → Drains with_op less m b new → n ≡ less + 1 → Begins t n m b new
-  threw_away : (ahead behind : List Operation) (op : Operation) (less : ℕ) → IsNextOut t ahead op behind
-      → IsThrownAway t op → Drains (with_room t (ahead ++ behind)) n less b new → m ≡ less + 1
+  threw_away : (before after : List Operation) (op : Operation) (less : ℕ) → IsNextOut t before op after
+      → IsThrownAway t op → Drains (with_room t (before ++ after)) n less b new → m ≡ less + 1
       → Begins t n m b new
 
 begun : {t new : TextState} {n m : ℕ} {b : Bool} → Drains t n m b new → Begins t n m b new
 begun (ends all) = ended all refl refl refl refl
-begun (stops ahead behind op next good) = stopped ahead behind op next good refl refl refl refl
-begun (takes_in {with_op = with_op} {drained = less} ahead behind op next good taken rest) =
-    took_in ahead behind op with_op less next good taken rest refl
-begun (throws_away {dropped = less} ahead behind op next bad rest) =
-    threw_away ahead behind op less next bad rest refl
+begun (stops before after op next good) = stopped before after op next good refl refl refl refl
+begun (takes_in {with_op = with_op} {drained = less} before after op next good taken rest) =
+    took_in before after op with_op less next good taken rest refl
+begun (throws_away {dropped = less} before after op next bad rest) =
+    threw_away before after op less next bad rest refl
 
 -- the whole room was drained, or the counts are told
 abbrev AreTold : Bool → (n n' m m' : ℕ) → Type 0
@@ -171,12 +171,12 @@ told_fewer b n n' m m' (inr same) = let last = same.1 in inr (same.0, omega arit
 from_ended : (t new' : TextState) (n' m' : ℕ) (b : Bool) → AllStay t → b ≡ false → Begins t n' m' b new'
     → IsOne 0 n' 0 m' t new'
 from_ended t new' n' m' b all whole (ended all' none none' not same) = (sym none, sym none', sym same)
-from_ended t new' n' m' b all whole (stopped ahead behind op next good none none' is same) =
-    absurd (none_goes t ahead behind op all next (ready_goes t op good))
-from_ended t new' n' m' b all whole (took_in ahead behind op with_op less next good taken rest more) =
-    absurd (none_goes t ahead behind op all next (ready_goes t op good))
-from_ended t new' n' m' b all whole (threw_away ahead behind op less next bad rest more) =
-    absurd (none_goes t ahead behind op all next (thrown_goes t op bad))
+from_ended t new' n' m' b all whole (stopped before after op next good none none' is same) =
+    absurd (none_goes t before after op all next (ready_goes t op good))
+from_ended t new' n' m' b all whole (took_in before after op with_op less next good taken rest more) =
+    absurd (none_goes t before after op all next (ready_goes t op good))
+from_ended t new' n' m' b all whole (threw_away before after op less next bad rest more) =
+    absurd (none_goes t before after op all next (thrown_goes t op bad))
 
 -- one that was stopped at once took in none and threw none away, where the counts are told
 taken_none : (n' m' less : ℕ) → AreTold true 0 n' 0 m' → ¬ (n' ≡ less + 1)
@@ -187,18 +187,18 @@ thrown_none : (n' m' less : ℕ) → AreTold true 0 n' 0 m' → ¬ (m' ≡ less 
 thrown_none n' m' less (inl not) more = absurd (cc)
 thrown_none n' m' less (inr same) more = let last = same.1 in omega arith
 
-from_stopped : (t new' : TextState) (n' m' : ℕ) (ahead behind : List Operation) (op : Operation)
-    → IsNextOut t ahead op behind → IsJudged t op ready → AreTold true 0 n' 0 m' → Begins t n' m' true new'
+from_stopped : (t new' : TextState) (n' m' : ℕ) (before after : List Operation) (op : Operation)
+    → IsNextOut t before op after → IsJudged t op ready → AreTold true 0 n' 0 m' → Begins t n' m' true new'
     → IsOne 0 n' 0 m' t new'
-from_stopped t new' n' m' ahead behind op next good told (ended all none none' not same) =
-    absurd (none_goes t ahead behind op all next (ready_goes t op good))
-from_stopped t new' n' m' ahead behind op next good told (stopped ahead' behind' op' next' good' none none' is same) =
+from_stopped t new' n' m' before after op next good told (ended all none none' not same) =
+    absurd (none_goes t before after op all next (ready_goes t op good))
+from_stopped t new' n' m' before after op next good told (stopped before' after' op' next' good' none none' is same) =
     (sym none, sym none', sym same)
-from_stopped t new' n' m' ahead behind op next good told
-    (took_in ahead' behind' op' with_op less next' good' taken rest more) =
+from_stopped t new' n' m' before after op next good told
+    (took_in before' after' op' with_op less next' good' taken rest more) =
     absurd (taken_none n' m' less told more)
-from_stopped t new' n' m' ahead behind op next good told
-    (threw_away ahead' behind' op' less next' bad rest more) =
+from_stopped t new' n' m' before after op next good told
+    (threw_away before' after' op' less next' bad rest more) =
     absurd (thrown_none n' m' less told more)
 
 -- all that follows is one
@@ -214,60 +214,60 @@ none_thrown : (b : Bool) (n n' m m' : ℕ) → b ≡ true → m' ≡ 0 → ¬ Ar
 none_thrown b n n' m m' is none (inl not) = absurd (cc)
 none_thrown b n n' m m' is none (inr same) = let last = same.1 in omega arith
 
-from_taken : (t new new' with_op : TextState) (n n' m m' : ℕ) (b : Bool) (ahead behind : List Operation)
-    (op : Operation) → IsText t → IsNextOut t ahead op behind → IsJudged t op ready
-    → HasTaken (with_room t (ahead ++ behind)) op with_op → GoesOn with_op new n m b
+from_taken : (t new new' with_op : TextState) (n n' m m' : ℕ) (b : Bool) (before after : List Operation)
+    (op : Operation) → IsText t → IsNextOut t before op after → IsJudged t op ready
+    → HasTaken (with_room t (before ++ after)) op with_op → GoesOn with_op new n m b
     → AreTold b (n + 1) n' m m' → Begins t n' m' b new' → IsOne (n + 1) n' m m' new new'
-from_taken t new new' with_op n n' m m' b ahead behind op is next good taken on told
+from_taken t new new' with_op n n' m m' b before after op is next good taken on told
     (ended all none none' not same) =
-    absurd (none_goes t ahead behind op all next (ready_goes t op good))
-from_taken t new new' with_op n n' m m' b ahead behind op is next good taken on told
-    (stopped ahead' behind' op' next' good' none none' stop same) =
+    absurd (none_goes t before after op all next (ready_goes t op good))
+from_taken t new new' with_op n n' m m' b before after op is next good taken on told
+    (stopped before' after' op' next' good' none none' stop same) =
     absurd (none_taken b n n' m m' stop none told)
-from_taken t new new' with_op n n' m m' b ahead behind op is next good taken on told
-    (took_in ahead' behind' op' with_op' less next' good' taken' rest more) =
-    let found = one_next t ahead ahead' behind behind' op op' next next' (ready_goes t op good)
+from_taken t new new' with_op n n' m m' b before after op is next good taken on told
+    (took_in before' after' op' with_op' less next' good' taken' rest more) =
+    let found = one_next t before before' after after' op op' next next' (ready_goes t op good)
     (ready_goes t op' good') in
-    let same_ahead = found.0 in
-    let same_behind = found.2 in
-    let room : ahead' ++ behind' ≡ ahead ++ behind = cc in
-    let left : HasTaken (with_room t (ahead ++ behind)) op' with_op' =
+    let same_order = found.0 in
+    let same_after = found.2 in
+    let room : before' ++ after' ≡ before ++ after = cc in
+    let left : HasTaken (with_room t (before ++ after)) op' with_op' =
     subst (λ (room : List Operation). HasTaken (with_room t room) op' with_op') room taken' in
-    let moved : HasTaken (with_room t (ahead ++ behind)) op with_op' =
-    subst (λ (o : Operation). HasTaken (with_room t (ahead ++ behind)) o with_op') (sym found.1) left in
-    let same : with_op' ≡ with_op = one_taken (with_room t (ahead ++ behind)) op with_op' with_op
-    (text_without t ahead behind op is next) good.0 moved taken in
+    let moved : HasTaken (with_room t (before ++ after)) op with_op' =
+    subst (λ (o : Operation). HasTaken (with_room t (before ++ after)) o with_op') (sym found.1) left in
+    let same : with_op' ≡ with_op = one_taken (with_room t (before ++ after)) op with_op' with_op
+    (text_without t before after op is next) good.0 moved taken in
     let end = on less m' new' (subst (λ (u : TextState). Drains u less m' b new') same rest)
     (told_less b n less m m' (subst (λ (k : ℕ). AreTold b (n + 1) k m m') more told)) in
     let first = end.0 in
     (omega arith, end.1, end.2)
-from_taken t new new' with_op n n' m m' b ahead behind op is next good taken on told
-    (threw_away ahead' behind' op' less next' bad rest more) =
-    let found = one_next t ahead ahead' behind behind' op op' next next' (ready_goes t op good)
+from_taken t new new' with_op n n' m m' b before after op is next good taken on told
+    (threw_away before' after' op' less next' bad rest more) =
+    let found = one_next t before before' after after' op op' next next' (ready_goes t op good)
     (thrown_goes t op' bad) in
     absurd (not_both t op good (subst (IsThrownAway t) (sym found.1) bad))
 
-from_thrown : (t new new' : TextState) (n n' m m' : ℕ) (b : Bool) (ahead behind : List Operation)
-    (op : Operation) → IsNextOut t ahead op behind → IsThrownAway t op
-    → GoesOn (with_room t (ahead ++ behind)) new n m b → AreTold b n n' (m + 1) m' → Begins t n' m' b new'
+from_thrown : (t new new' : TextState) (n n' m m' : ℕ) (b : Bool) (before after : List Operation)
+    (op : Operation) → IsNextOut t before op after → IsThrownAway t op
+    → GoesOn (with_room t (before ++ after)) new n m b → AreTold b n n' (m + 1) m' → Begins t n' m' b new'
     → IsOne n n' (m + 1) m' new new'
-from_thrown t new new' n n' m m' b ahead behind op next bad on told (ended all none none' not same) =
-    absurd (none_goes t ahead behind op all next (thrown_goes t op bad))
-from_thrown t new new' n n' m m' b ahead behind op next bad on told
-    (stopped ahead' behind' op' next' good' none none' stop same) =
+from_thrown t new new' n n' m m' b before after op next bad on told (ended all none none' not same) =
+    absurd (none_goes t before after op all next (thrown_goes t op bad))
+from_thrown t new new' n n' m m' b before after op next bad on told
+    (stopped before' after' op' next' good' none none' stop same) =
     absurd (none_thrown b n n' m m' stop none' told)
-from_thrown t new new' n n' m m' b ahead behind op next bad on told
-    (took_in ahead' behind' op' with_op' less next' good' taken' rest more) =
-    let found = one_next t ahead ahead' behind behind' op op' next next' (thrown_goes t op bad)
+from_thrown t new new' n n' m m' b before after op next bad on told
+    (took_in before' after' op' with_op' less next' good' taken' rest more) =
+    let found = one_next t before before' after after' op op' next next' (thrown_goes t op bad)
     (ready_goes t op' good') in
     absurd (not_both t op' good' (subst (IsThrownAway t) found.1 bad))
-from_thrown t new new' n n' m m' b ahead behind op next bad on told
-    (threw_away ahead' behind' op' less next' bad' rest more) =
-    let found = one_next t ahead ahead' behind behind' op op' next next' (thrown_goes t op bad)
+from_thrown t new new' n n' m m' b before after op next bad on told
+    (threw_away before' after' op' less next' bad' rest more) =
+    let found = one_next t before before' after after' op op' next next' (thrown_goes t op bad)
     (thrown_goes t op' bad') in
-    let same_ahead = found.0 in
-    let same_behind = found.2 in
-    let room : ahead' ++ behind' ≡ ahead ++ behind = cc in
+    let same_order = found.0 in
+    let same_after = found.2 in
+    let room : before' ++ after' ≡ before ++ after = cc in
     let end = on n' less new' (subst (λ (room : List Operation). Drains (with_room t room) n' less b new') room rest)
     (told_fewer b n n' m less (subst (λ (k : ℕ). AreTold b n n' (m + 1) k) more told)) in
     let last = end.1 in
@@ -277,19 +277,19 @@ from_thrown t new new' n n' m m' b ahead behind op next bad on told
 one_draining : {t new : TextState} {n m : ℕ} {b : Bool} → Drains t n m b new → IsText t → GoesOn t new n m b
 one_draining (ends {t = t} all) is n' m' new' other told =
     from_ended t new' n' m' false all refl (begun other)
-one_draining (stops {t = t} ahead behind op next good) is n' m' new' other told =
-    from_stopped t new' n' m' ahead behind op next good told (begun other)
+one_draining (stops {t = t} before after op next good) is n' m' new' other told =
+    from_stopped t new' n' m' before after op next good told (begun other)
 one_draining
-    (takes_in {t = t} {with_op = with_op} {new = new} {drained = n} {dropped = m} {stopped = b} ahead behind op next
+    (takes_in {t = t} {with_op = with_op} {new = new} {drained = n} {dropped = m} {stopped = b} before after op next
     good taken rest)
     is n' m' new' other told =
-    from_taken t new new' with_op n n' m m' b ahead behind op is next good taken (one_draining rest taken.is) told
+    from_taken t new new' with_op n n' m m' b before after op is next good taken (one_draining rest taken.is) told
     (begun other)
 one_draining
-    (throws_away {t = t} {new = new} {drained = n} {dropped = m} {stopped = b} ahead behind op next bad rest)
+    (throws_away {t = t} {new = new} {drained = n} {dropped = m} {stopped = b} before after op next bad rest)
     is n' m' new' other told =
-    from_thrown t new new' n n' m m' b ahead behind op next bad
-    (one_draining rest (text_without t ahead behind op is next)) told (begun other)
+    from_thrown t new new' n n' m m' b before after op next bad
+    (one_draining rest (text_without t before after op is next)) told (begun other)
 
 pub drain_one_way : DrainsOneWay
 drain_one_way = record {

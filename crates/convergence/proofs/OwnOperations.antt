@@ -18,7 +18,7 @@ use Rattle.texts.specs.TextState.{TextState}
 abbrev pub IsBy : ℕ → Operation → Type 0
 IsBy site op = op.site ≡ site
 
--- the operations stand behind those that were taken in
+-- the operations stand after those that were taken in
 pub after_operations : (t : TextState) (ops : List Operation) → (after t ops).operations ≡ t.operations ++ ops
 after_operations t [] = sym (append-nil t.operations)
 after_operations t (op ∷ ops) =
@@ -54,7 +54,7 @@ own_plan t (looks_change beg end sel looks) = own_or_none (nat_lt beg end) t.sit
 own_plan t restoration = none_or_own (is_restored t) t.site (own_op t (restore t.last_set)) refl
 own_plan t (recalling pos) = own_inserts t pos (pieces_of t.last_stretch)
 
--- no more stand, where no more stand behind the first
+-- no more stand, where no more stand after the first
 count_by : (first : Option Refusal) (later : Option (ℕ × Refusal)) (n : ℕ)
     → option_map_or (λ stop. stop.0) later n ≤ n
     → option_map_or (λ stop. stop.0) (refusal_or first later) (suc n) ≤ suc n
@@ -75,15 +75,15 @@ unrefused : (first : Option Refusal) (later : Option (ℕ × Refusal)) (n : ℕ)
 unrefused (Some why) later n some = absurd (omega arith)
 unrefused None later n some = refl
 
--- and not for being behind
+-- and not for being after
 not_behind_by : (b : Bool) (rest : Option Refusal) → cond b (Some Behind) rest ≡ None → b ≡ false
 not_behind_by true rest e = cc
 not_behind_by false rest e = refl
 
 -- where one stands, no waiting operation holds the site back
-pub not_behind : (t : TextState) (ops : List Operation) → 0 < length ops → 0 < count_standing t ops
+pub not_after : (t : TextState) (ops : List Operation) → 0 < length ops → 0 < count_standing t ops
     → is_behind t.operations t.waiting_room t.site ≡ false
-not_behind t [] some stands = absurd (omega arith)
-not_behind t (op ∷ ops) some stands =
+not_after t [] some stands = absurd (omega arith)
+not_after t (op ∷ ops) some stands =
     not_behind_by (is_behind t.operations t.waiting_room t.site) _
     (unrefused (refusal_for t op.kind) (first_refusal (with_operation t op) ops) (suc (length ops)) stands)

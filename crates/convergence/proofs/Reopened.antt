@@ -3,7 +3,7 @@ use Rattle.std.proofs.Common.{◌≡◌, List, [], Contains, ap, inl, subst, sym
 use Rattle.operations.specs.Operation.{Operation}
 use Rattle.set_laws.specs.Sets.{AreIdentified}
 use Rattle.texts.specs.TextState.{TextState}
-use Rattle.convergence.specs.Keeping.{KeptByReopening}
+use Rattle.convergence.specs.HandedIn.{KeptByReopening}
 
 none_there : (op : Operation) → Contains [] op → ⊥
 none_there op held = absurd (omega arith)

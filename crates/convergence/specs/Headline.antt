@@ -11,11 +11,11 @@ use Rattle.texts.specs.Text.{IsText}
 use Rattle.texts.specs.TextState.{TextState, empty_text, shown_of}
 use Rattle.texts.specs.declared.took.Took.{Took}
 use Rattle.texts.specs.declared.took.Took.TheVariants.{Repeat, Waits}
-use Rattle.convergence.specs.Keeping.{Keeps}
+use Rattle.convergence.specs.HandedIn.{AccountsFor}
 
 -- two texts that keep the same operations, and in which all that waits waits for a cause, are alike
 abbrev pub KeptTextsAreAlike : Type 0
-KeptTextsAreAlike = (t u : TextState) (all : List Operation) → IsText t → IsText u → Keeps t all → Keeps u all
+KeptTextsAreAlike = (t u : TextState) (all : List Operation) → IsText t → IsText u → AccountsFor t all → AccountsFor u all
     → AllStay t → AllStay u → AreAlike t u
 
 -- the text comes of the first by these messages, one after the other; memory was there, and a place for each that had

@@ -1,3 +1,3 @@
 pub mod Headline
-pub mod Keeping
+pub mod HandedIn
 pub mod Outcomes

@@ -3,5 +3,5 @@
 #![tactic(auto)]
 
 pub mod headline;
-pub mod keeping;
+pub mod handed_in;
 pub mod outcomes;

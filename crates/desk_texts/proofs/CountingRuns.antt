@@ -27,7 +27,7 @@ longer-items before looks b bytes byte =
     one' ∙ ap (λ (is : List Item). items_of before ++ is) more ∙ sym (append_assoc (items_of before) (items_of_run r) ((byte, looks) ∷ []))
     ∙ ap (λ (is : List Item). is ++ (byte, looks) ∷ []) (sym one)
 
--- a run of other looks behind the last
+-- a run of other looks after the last
 another : (before : List Stretch) (r : Stretch) (looks : Looks) (byte : ℕ) → AreRuns (before ++ r ∷ []) → r.looks ≢ looks
     → AreRuns ((before ++ r ∷ []) ++ run_of looks (byte ∷ []))
 another [] r looks byte h apart = (h, apart, λ e. cc)

@@ -5,25 +5,25 @@ use Rattle.std.proofs.lemmas.List.{set-get_or}
 use Rattle.std.proofs.lemmas.Option.{get_or_from_slice_get, same_Some}
 use Rattle.texts.specs.TextState.{TextState}
 use Rattle.texts.specs.declared.edit_refusal.EditRefusal.{EditRefusal}
-use Rattle.machine.specs.DeskState.{DeskState, IsTextOf, with_text}
-use Rattle.machine.specs.OnTexts.{CopiesDesk}
+use Rattle.machine.specs.SiteTexts.{SiteTexts, IsTextOf, with_text}
+use Rattle.machine.specs.OnTexts.{CopiesSite}
 
 -- what was read is put back
-same_texts : (d : DeskState) (text : ℕ) (t t' : TextState) → IsTextOf d text t → t' ≡ t
+same_texts : (d : SiteTexts) (text : ℕ) (t t' : TextState) → IsTextOf d text t → t' ≡ t
     → slice_set d.texts (text - 1) t' ≡ d.texts
 same_texts d text t t' at same =
     let read = get_or_from_slice_get d.texts (text - 1) t t at in
     ap (slice_set d.texts (text - 1)) (same ∙ sym read) ∙ set-get_or d.texts (text - 1) t
 
 -- a number has one text
-pub same_text : (d : DeskState) (text : ℕ) (t u : TextState) → IsTextOf d text t → IsTextOf d text u → t ≡ u
+pub same_text : (d : SiteTexts) (text : ℕ) (t u : TextState) → IsTextOf d text t → IsTextOf d text u → t ≡ u
 same_text d text t u at at' = same_Some t u (sym at ∙ at')
 
 -- a copy that leaves its text leaves the desk as it was
-pub desk_left : (d : DeskState) (other : ℕ) (u : TextState) (text beg end pos : ℕ) (result : Result ℕ EditRefusal)
+pub desk_left : (d : SiteTexts) (other : ℕ) (u : TextState) (text beg end pos : ℕ) (result : Result ℕ EditRefusal)
     (before after : List (List ℕ)) → IsTextOf d other u
-    → CopiesDesk d text beg end other pos result (with_text d other u) before after
-    → CopiesDesk d text beg end other pos result d before after
+    → CopiesSite d text beg end other pos result (with_text d other u) before after
+    → CopiesSite d text beg end other pos result d before after
 desk_left d other u text beg end pos result before after at copies =
     let same : with_text d other u ≡ d = rw (same_texts d other u u at refl) refl in
-    subst (λ (new : DeskState). CopiesDesk d text beg end other pos result new before after) same copies
+    subst (λ (new : SiteTexts). CopiesSite d text beg end other pos result new before after) same copies

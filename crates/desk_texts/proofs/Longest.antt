@@ -1,4 +1,4 @@
--- A stretch of names that are shown one behind the other, as long as it goes.
+-- A stretch of names that are shown one after the other, as long as it goes.
 use Rattle.std.proofs.Common.{◌≡◌, ℕ, zero, suc, ◌+◌, ◌-◌, ◌<◌, ◌≤◌, List, [], ◌∷◌, length, take, drop, slice_get, Some, inl, inr, sym, ap, subst, ◌∙◌, arith}
 use Rattle.std.proofs.lemmas.Bool.{cases_lt}
 use Rattle.std.proofs.lemmas.Option.{same_Some, slice_get_within}
@@ -8,7 +8,7 @@ use Rattle.char_files.specs.declared.character.Char.{Char}
 use Rattle.operations.specs.NameSet.{Range, names_of}
 use Rattle.texts.specs.Text.{IsText}
 use Rattle.texts.specs.TextState.{TextState, shown_of}
-use Rattle.machine.specs.Places.{shown_at, stands}
+use Rattle.machine.specs.WhereShown.{shown_at, shown_ranges}
 use Rattle.desk_texts.proofs.Standing.{StandsAt, found, told}
 use Rattle.desk_texts.proofs.Stands.{Apart, apart, one_stretch}
 
@@ -16,7 +16,7 @@ use Rattle.desk_texts.proofs.Stands.{Apart, apart, one_stretch}
 abbrev names_from : (site at len : ℕ) → List CharName
 names_from site at len = names_of (record { site = site; at = at; len = len })
 
--- the first so many of a range's names are shown one behind the other
+-- the first so many of a range's names are shown one after the other
 abbrev pub AreShown : List Char → Range → (pos len : ℕ) → Type 0
 AreShown shown names pos len =
     (k : ℕ) → k < len → StandsAt shown (record { site = names.site; off = names.at + k }) (pos + k)
@@ -33,17 +33,17 @@ shown_within shown names pos (suc len) first are =
     let last : StandsAt shown (record { site = names.site; off = names.at + len }) (pos + len) = are len (omega arith) in
     omega (arith, slice_get_within shown (pos + len) last.char last.at)
 
--- with none that goes on behind them they are one stretch
+-- with none that goes on after them they are one stretch
 pub longest : (t : TextState) → IsText t → (names : Range) (pos len : ℕ) → AreShown (shown_of t) names pos len → 0 < len
     → len ≤ names.len
     → (len < names.len
     → StandsAt (shown_of t) (record { site = names.site; off = names.at + len }) (pos + len) → ⊥)
-    → stands (shown_of t) (names_of names) ≡ record { at = names.at; pos = pos; len = len } ∷ stands (shown_of t)
+    → shown_ranges (shown_of t) (names_of names) ≡ record { at = names.at; pos = pos; len = len } ∷ shown_ranges (shown_of t)
     (names_of (record { site = names.site; at = names.at + len; len = names.len - len }))
 longest t is names pos zero are some few ends = absurd (omega (arith, some))
 longest t is names pos (suc len) are some few ends =
     let whole : names.len ≡ suc len + (names.len - suc len) = omega (arith, few) in
-    ap (λ (n : ℕ). stands (shown_of t) (names_from names.site names.at n)) whole
+    ap (λ (n : ℕ). shown_ranges (shown_of t) (names_from names.site names.at n)) whole
     ∙ one_stretch (shown_of t) names.site len names.at pos (names.len - suc len)
     (λ k lt. told t is (record { site = names.site; off = names.at + k }) (pos + k) (are k lt))
     (parted (names.len - suc len) (λ more. ends (omega (arith, more))))
@@ -51,7 +51,7 @@ longest t is names pos (suc len) are some few ends =
     parted : (n : ℕ)
         → (0 < n → StandsAt (shown_of t) (record { site = names.site; off = names.at + suc len }) (pos + suc len) → ⊥)
         → Apart (names.at + suc len) (pos + suc len)
-        (stands (shown_of t) (names_from names.site (names.at + suc len) n))
+        (shown_ranges (shown_of t) (names_from names.site (names.at + suc len) n))
     parted zero last = tt
     parted (suc n) last =
         apart (shown_of t) names.site (names.at + suc len) (suc n) (pos + suc len)
@@ -92,8 +92,8 @@ goes_on (suc n) (suc k) (x ∷ xs) lt within none = goes_on n k xs (omega (arith
 
 -- of a walk over so many characters from a position on, which has passed the first ones
 module _ (shown : List Char) (names : Range) (pos most len : ℕ) where
-  abbrev name_behind : CharName
-  name_behind = record { site = names.site; off = names.at + len }
+  abbrev name_after : CharName
+  name_after = record { site = names.site; off = names.at + len }
 
   walk_at : (c : Char) (rest : List Char) → drop len (take most (drop pos shown)) ≡ c ∷ rest
       → slice_get shown (pos + len) ≡ Some c
@@ -132,7 +132,7 @@ module _ (shown : List Char) (names : Range) (pos most len : ℕ) where
     | inr none ↦
         let off : names.at ≡ names.at + len = omega (arith, none) in
         let there : pos ≡ pos + len = omega (arith, none) in
-        absurd (ends (omega (arith, none, some_name)) (subst (λ (q : ℕ). StandsAt shown name_behind q) there
+        absurd (ends (omega (arith, none, some_name)) (subst (λ (q : ℕ). StandsAt shown name_after q) there
         (subst (λ (o : ℕ). StandsAt shown (record { site = names.site; off = o }) pos) off
         (found shown (record { site = names.site; off = names.at }) pos first))))
   ]
@@ -150,6 +150,6 @@ module _ (shown : List Char) (names : Range) (pos most len : ℕ) where
   ]
 
   -- what is left then
-  pub left_behind : (c : Char) (rest : List Char) → drop len (take most (drop pos shown)) ≡ c ∷ rest
+  pub left_after : (c : Char) (rest : List Char) → drop len (take most (drop pos shown)) ≡ c ∷ rest
       → rest ≡ drop (len + 1) (take most (drop pos shown))
-  left_behind c rest at = sym (next_at len (take most (drop pos shown)) rest c at).1
+  left_after c rest at = sym (next_at len (take most (drop pos shown)) rest c at).1

@@ -1,4 +1,4 @@
--- Where a name is shown: at one position, directly ahead of its place.
+-- Where a name is shown: at one position, directly before its place.
 use Rattle.std.proofs.Common.{◌≡◌, ℕ, zero, suc, ◌+◌, ◌-◌, ◌≤◌, ◌==◌, ◌&&◌, List, [], ◌∷◌, length, map, Option, Some, None}
 use Rattle.std.proofs.Common.{Bool, true, false, cond, if◌then◌else◌, ne_eqb, slice_get, inl, inr, refl, sym, ap, subst, ◌∙◌, arith}
 use Rattle.std.specs.List.{filter, position_or_len}
@@ -18,13 +18,13 @@ use Rattle.operations.proofs.WithName.{same_name}
 use Rattle.tree_order.specs.Shown.{IsPlace, IsShown, is_visible, place, up_to}
 use Rattle.tree_order.specs.Tree.{IsChar}
 use Rattle.tree_order.proofs.OneText.{one_order}
-use Rattle.tree_order.proofs.PlaceOfShown.{place_is_behind}
+use Rattle.tree_order.proofs.PlaceOfShown.{place_is_after}
 use Rattle.op_log.proofs.Lists.{Contains-slice_get, slice_get-some}
 use Rattle.texts.specs.Edit.{anchor_before}
 use Rattle.texts.specs.Text.{IsText}
 use Rattle.texts.specs.TextState.{TextState, shown_of}
 use Rattle.texts.proofs.Chars.{shown_are_chars, shows_the_definition}
-use Rattle.machine.specs.Places.{shown_at}
+use Rattle.machine.specs.WhereShown.{shown_at}
 
 -- the character of this name is shown here
 pub record StandsAt (chars : List Char) (name : CharName) (q : ℕ) : Type 0 where
@@ -91,10 +91,10 @@ few passes name (d ∷ order) = go (passes d) (d.site == name.site && d.off == n
     go false true rest = omega arith
     go false false rest = rest
 
--- what stands ahead of a position of what is shown
-behind : (shown : List Char) (q : ℕ)
+-- what stands before a position of what is shown
+after : (shown : List Char) (q : ℕ)
     → anchor_before shown (suc q) ≡ option_map_or (λ c. At c.name) (slice_get shown q) Root
-behind shown q =
+after shown q =
     let some : (suc q == 0) ≡ false = ne_eqb (suc q) 0 (λ e. absurd (omega (arith, e))) in
     let one : suc q - 1 ≡ q = omega arith in
     ap (λ (b : Bool). if b then Root else option_map_or (λ c. At c.name) (slice_get shown (suc q - 1)) Root) some
@@ -105,19 +105,19 @@ abbrev pub name_or : CharName → Anchor → CharName
 name_or other Root = other
 name_or other (At name) = name
 
-stands_ahead : (shown : List Char) (name : CharName) (q : ℕ) → anchor_before shown (suc q) ≡ At name
+stands_before : (shown : List Char) (name : CharName) (q : ℕ) → anchor_before shown (suc q) ≡ At name
     → StandsAt shown name q
-stands_ahead shown name q is = go (slice_get shown q) refl (sym (behind shown q) ∙ is)
+stands_before shown name q is = go (slice_get shown q) refl (sym (after shown q) ∙ is)
   where
     go : (o : Option Char) → slice_get shown q ≡ o → option_map_or (λ c. At c.name) o Root ≡ At name
         → StandsAt shown name q
     go None at e = absurd cc
     go (Some c) at e = record { char = c; at = at; named = ap (name_or name) e }
 
-is_ahead : (shown : List Char) (name : CharName) (q : ℕ) → StandsAt shown name q
+comes_before : (shown : List Char) (name : CharName) (q : ℕ) → StandsAt shown name q
     → anchor_before shown (suc q) ≡ At name
-is_ahead shown name q here =
-    behind shown q ∙ ap (λ (o : Option Char). option_map_or (λ c. At c.name) o Root) here.at
+comes_before shown name q here =
+    after shown q ∙ ap (λ (o : Option Char). option_map_or (λ c. At c.name) o Root) here.at
     ∙ ap (λ (c : CharName). At c) here.named
 
 -- of a text
@@ -135,10 +135,10 @@ module _ (t : TextState) (is : IsText t) (name : CharName) where
       (one_order t.operations is.good order order' in_order in_order')
       ∙ sym at'
 
-  -- a name that is shown stands directly ahead of its place
-  ahead_of_place : (n q : ℕ) → IsPlace t.operations (At name) n → StandsAt shown name q → n ≡ q + 1
-  ahead_of_place n q at here =
-      one_place n (q + 1) at (place_is_behind t.operations (At name) shown (q + 1) is.good defined (
+  -- a name that is shown stands directly before its place
+  before_place : (n q : ℕ) → IsPlace t.operations (At name) n → StandsAt shown name q → n ≡ q + 1
+  before_place n q at here =
+      one_place n (q + 1) at (place_is_after t.operations (At name) shown (q + 1) is.good defined (
         q,
         slice_get-map (λ (s : Char). s.name) shown q ∙ ap (option_map (λ (s : Char). s.name)) here.at
             ∙ ap (λ (c : CharName). Some c) here.named,
@@ -176,28 +176,28 @@ module _ (t : TextState) (is : IsText t) (name : CharName) where
   pub not_here : (IsChar t.operations name → ⊥) → None ≡ shown_at (shown_of t) name
   not_here none = nowhere (λ q here. none (is_char q here))
 
-  -- nor is one that doesn't stand ahead of its place
+  -- nor is one that doesn't stand before its place
   pub hidden : (n : ℕ) → IsPlace t.operations (At name) n → (anchor_before (shown_of t) n ≡ At name → ⊥)
       → None ≡ shown_at (shown_of t) name
   hidden n at none =
       nowhere (λ q here.
-      let next : n ≡ suc q = omega (arith, ahead_of_place n q at here) in
-      none (ap (anchor_before shown) next ∙ is_ahead shown name q here))
+      let next : n ≡ suc q = omega (arith, before_place n q at here) in
+      none (ap (anchor_before shown) next ∙ comes_before shown name q here))
 
   -- it is shown once
   pub once : (p q : ℕ) → StandsAt (shown_of t) name p → StandsAt (shown_of t) name q → p ≡ q
   once p q one other =
       let at : IsPlace t.operations (At name) (place t.operations defined.order (At name)) =
       (defined.order, defined.in_order, refl) in
-      omega (arith, ahead_of_place _ p at one, ahead_of_place _ q at other)
+      omega (arith, before_place _ p at one, before_place _ q at other)
 
   pub told : (q : ℕ) → StandsAt (shown_of t) name q → shown_at (shown_of t) name ≡ Some q
   told = told_once shown name once
 
-  -- one that stands ahead of its place is shown there
-  pub ahead : (n : ℕ) → IsPlace t.operations (At name) n → anchor_before (shown_of t) n ≡ At name
+  -- one that stands before its place is shown there
+  pub before : (n : ℕ) → IsPlace t.operations (At name) n → anchor_before (shown_of t) n ≡ At name
       → Some (n - 1) ≡ shown_at (shown_of t) name
-  ahead zero at none = absurd cc
-  ahead (suc q) at here =
+  before zero at none = absurd cc
+  before (suc q) at here =
       let one : suc q - 1 ≡ q = omega arith in
-      ap (λ (k : ℕ). Some k) one ∙ sym (told q (stands_ahead shown name q here))
+      ap (λ (k : ℕ). Some k) one ∙ sym (told q (stands_before shown name q here))

@@ -87,7 +87,7 @@ module _ (t : TextState) (e : Edit) (sent : List (List ℕ)) where
   pub text_outside : is_in_text t e ≡ false → EditsTextSending t e (Err (Whole OutOfRange)) t sent sent
   text_outside out = ([], tt, sym (append-nil sent), inl (rw out (refl, refl)))
 
-  -- memory was refused to the stretch, ahead of the replica's edit
+  -- memory was refused to the stretch, before the replica's edit
   pub text_short : is_in_text t e ≡ true → (why : Refusal) → why ≡ OutOfMemory → stretch_of t e ≢ []
       → EditsTextSending t e (Err (Whole why)) t sent sent
   text_short in_text why is some = ([], tt, sym (append-nil sent), inr (in_text, inr (some, ap refuses is, refl)))

@@ -50,7 +50,7 @@ pub(crate) fn copy_out_of(
 ) -> Result<Buffer, Refusal>
     ensures { CopiesOut replica.now beg end pos other.now result }
 {
-    // Positions come first: a long stretch is refused behind them.
+    // Positions come first: a long stretch is refused after them.
     if !has_range(replica, beg, end) || !has_position(other, pos) {
         return Err(Refusal::OutOfRange);
     }

@@ -1,10 +1,10 @@
 //! One site's texts, with a call for each event that a script may ask of them.
 #![tactic(auto)]
 
-mod desk;
+mod site_texts;
 mod editing;
-mod places;
+mod where_shown;
 mod printing;
 mod runs;
 
-pub use desk::Texts;
+pub use site_texts::Texts;

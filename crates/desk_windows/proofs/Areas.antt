@@ -5,7 +5,7 @@ use Rattle.std.proofs.lemmas.Option.{same_Some}
 use Rattle.viewers.specs.declared.screen.Area.{Area}
 use Rattle.viewers.specs.declared.seats.Seat.{Seat}
 use Rattle.viewers.specs.Screen.{IsScreen, ScreenSeen, area_in, area_of, has, user_width}
-use Rattle.viewers.specs.Tracks.{Covers, height_at, place, seat_at}
+use Rattle.viewers.specs.Tracks.{Covers, height_at, seat_index, seat_at}
 use Rattle.viewers.specs.Viewers.{ViewersSeen}
 use Rattle.viewers.proofs.Covering.{few_rows, tall_at}
 use Rattle.viewers.proofs.Rows.{height_bound}
@@ -13,11 +13,11 @@ use Rattle.viewers.proofs.Seating.{number_there}
 use Rattle.desk_windows.specs.Windows.{HasRows, WindowSeen}
 
 seat_fits : (height : ℕ) (seats : List Seat) (v : ℕ) → Covers height seats → height ≤ 100 → has seats v ≡ true
-    → (2 ≤ height_at seats (place seats v)) × (height_at seats (place seats v) ≤ 100)
+    → (2 ≤ height_at seats (seat_index seats v)) × (height_at seats (seat_index seats v) ≤ 100)
 seat_fits height seats v covers low is =
-    let tall = tall_at seats (place seats v) covers.tall (ltb-true (place seats v) (length seats) is) in
+    let tall = tall_at seats (seat_index seats v) covers.tall (ltb-true (seat_index seats v) (length seats) is) in
     let few = few_rows height seats covers in
-    let bound = height_bound seats (place seats v) in (tall, omega (arith, few, bound, low))
+    let bound = height_bound seats (seat_index seats v) in (tall, omega (arith, few, bound, low))
 
 -- a viewer has 2 to 100 rows
 pub area_fits : (t : ScreenSeen) (v : ℕ) (a : Area) → IsScreen t → area_of t v ≡ Some a → (2 ≤ a.height) × (a.height ≤ 100)
@@ -46,8 +46,8 @@ all_rows t s same user system v w area shown is =
     by_seat : (seats : List Seat) → ((i : ℕ) → i < length seats → HasRows s (seat_at seats i).number) → has seats v ≡ true
         → suc (length w.frame.rows) ≡ area.height
     by_seat seats rows at =
-        let lt = ltb-true (place seats v) (length seats) at in
-        subst (λ (n : ℕ). HasRows s n) (number_there seats v lt) (rows (place seats v) lt) w area shown is
+        let lt = ltb-true (seat_index seats v) (length seats) at in
+        subst (λ (n : ℕ). HasRows s n) (number_there seats v lt) (rows (seat_index seats v) lt) w area shown is
 
     by_tests : (b d : Bool) → has t.user v ≡ b → has t.system v ≡ d
         → cond b (Some (area_in t.user v 0 (user_width t.width))) (cond d (Some (area_in t.system v (user_width t.width) (t.width - user_width t.width))) None) ≡ Some area

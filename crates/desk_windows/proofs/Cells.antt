@@ -9,7 +9,7 @@ use Rattle.viewers.specs.declared.screen.Area.{Area}
 use Rattle.viewers.specs.declared.screen.Track.TheVariants.{User, System}
 use Rattle.viewers.specs.declared.seats.Seat.{Seat}
 use Rattle.viewers.specs.Screen.{IsScreen, ScreenSeen, area_in, area_of, has, user_width, viewer_at}
-use Rattle.viewers.specs.Tracks.{Covers, bottom, holder, place, rows, seat_at, top, viewer_in}
+use Rattle.viewers.specs.Tracks.{Covers, bottom, holder, seat_index, rows, seat_at, top, viewer_in}
 use Rattle.viewers.specs.Viewers.{AreRising, AreViewers, ViewersSeen, numbers, seated, times}
 use Rattle.viewers.proofs.Covering.{row_there}
 use Rattle.viewers.proofs.Numbers.{none_lower}
@@ -42,16 +42,16 @@ seat_times (s ∷ rest) (suc i) lt =
 
 -- a seat is found by its number, where that stands once
 place_there : (seats : List Seat) (i : ℕ) → i < length seats → times (seat_at seats i).number (seated seats) ≤ 1
-    → place seats (seat_at seats i).number ≡ i
+    → seat_index seats (seat_at seats i).number ≡ i
 place_there [] i lt once = absurd (omega (arith, lt))
 place_there (s ∷ rest) zero lt once =
-    ap (λ (b : Bool). cond b 0 (suc (place rest s.number))) (eq-eqb s.number s.number refl)
+    ap (λ (b : Bool). cond b 0 (suc (seat_index rest s.number))) (eq-eqb s.number s.number refl)
 place_there (s ∷ rest) (suc i) lt once =
     by_test (place_there rest i (omega (arith, lt))) (eqb s.number (seat_at rest i).number) once
   where
-    by_test : (times (seat_at rest i).number (seated rest) ≤ 1 → place rest (seat_at rest i).number ≡ i)
+    by_test : (times (seat_at rest i).number (seated rest) ≤ 1 → seat_index rest (seat_at rest i).number ≡ i)
         → (b : Bool) → cond b 1 0 + times (seat_at rest i).number (seated rest) ≤ 1
-        → cond b 0 (suc (place rest (seat_at rest i).number)) ≡ suc i
+        → cond b 0 (suc (seat_index rest (seat_at rest i).number)) ≡ suc i
     by_test more true once = let some = seat_times rest i (omega (arith, lt)) in absurd (omega (arith, once, some))
     by_test more false once = ap suc (more (omega (arith, once)))
 
@@ -75,7 +75,7 @@ held (s ∷ rest) row lt = by_test (held rest (row - s.height)) (nat_lt row s.he
 -- the viewer that has a row of a track has it among its own
 pub row_in_seat : (height : ℕ) (seats : List Seat) (row v : ℕ) → Covers height seats → row < height → times v (seated seats) ≤ 1
     → viewer_in seats row ≡ Some v
-    → (has seats v ≡ true) × (top seats (place seats v) ≤ row) × (row < bottom seats (place seats v))
+    → (has seats v ≡ true) × (top seats (seat_index seats v) ≤ row) × (row < bottom seats (seat_index seats v))
 row_in_seat height [] row v covers lt once is = cc
 row_in_seat height (s ∷ rest) row v covers lt once is = elim (row_there height row (s ∷ rest) covers lt) [
   | inl none ↦ (let n = ap length none in absurd (omega (arith, n)))
@@ -83,12 +83,12 @@ row_in_seat height (s ∷ rest) row v covers lt once is = elim (row_there height
       let i = holder (s ∷ rest) row in
       let number : (seat_at (s ∷ rest) (holder (s ∷ rest) row)).number ≡ v = same_Some (seat_at (s ∷ rest) (holder (s ∷ rest) row)).number v is in
       let in_list = holder_there (s ∷ rest) row there in
-      let at : place (s ∷ rest) v ≡ holder (s ∷ rest) row =
-      subst (λ (n : ℕ). place (s ∷ rest) n ≡ holder (s ∷ rest) row) number
+      let at : seat_index (s ∷ rest) v ≡ holder (s ∷ rest) row =
+      subst (λ (n : ℕ). seat_index (s ∷ rest) n ≡ holder (s ∷ rest) row) number
       (place_there (s ∷ rest) (holder (s ∷ rest) row) in_list
       (subst (λ (n : ℕ). times n (seated (s ∷ rest)) ≤ 1) (sym number) once)) in
       let in_it = held (s ∷ rest) row there in (
-        lt-ltb (place (s ∷ rest) v) (length (s ∷ rest)) (omega (arith, at, in_list)),
+        lt-ltb (seat_index (s ∷ rest) v) (length (s ∷ rest)) (omega (arith, at, in_list)),
         subst (λ (n : ℕ). top (s ∷ rest) n ≤ row) (sym at) in_it.0,
         subst (λ (n : ℕ). row < bottom (s ∷ rest) n) (sym at) in_it.1,
       ))

@@ -10,7 +10,7 @@ use Rattle.list_changes.specs.declared.change.Change.{Change}
 use Rattle.viewers.specs.Screen.{ScreenSeen}
 use Rattle.viewers.specs.Viewers.{ViewersSeen, content_of, numbers, with_contents}
 use Rattle.texts.specs.TextState.{TextState}
-use Rattle.machine.specs.DeskState.{DeskState, InText, IsTextOf, with_text}
+use Rattle.machine.specs.SiteTexts.{SiteTexts, InText, IsTextOf, with_text}
 use Rattle.text_frames.specs.Frames.{IsDrawn}
 use Rattle.desk_windows.specs.Windows.{AreLeft, Follows, ShowTexts, ShowsText, Told, WindowSeen, windows_of}
 
@@ -69,12 +69,12 @@ module _ (number : ℕ) (changes : List Change) (now : TextState) where
   )
 
   -- a text that this one was told of its changes from
-  module _ (d d' : DeskState) (at' : IsTextOf d' number now) where
+  module _ (d d' : SiteTexts) (at' : IsTextOf d' number now) where
     follows_now : (t t' : TextState) → IsTextOf d number t → Follows changes t t' → d' ≡ with_text d number t'
         → Follows changes t now
     follows_now t t' at follows new =
         let there : slice_get d'.texts (number - 1) ≡ Some t' =
-        ap (λ (e : DeskState). slice_get e.texts (number - 1)) new
+        ap (λ (e : SiteTexts). slice_get e.texts (number - 1)) new
         ∙ get-set_same d.texts (number - 1) t' (slice_get_within d.texts (number - 1) t at) in
         subst (λ (y : TextState). Follows changes t y) (same_Some t' now (sym there ∙ at')) follows
 
@@ -100,7 +100,7 @@ module _ (number : ℕ) (changes : List Change) (now : TextState) where
             let apart : w.text ≡ number → ⊥ = λ e. true≢false (sym (eq-eqb w.text number e) ∙ is) in
             let other = told.other apart in
             let stays : slice_get d'.texts (w.text - 1) ≡ Some old.text =
-            ap (λ (e : DeskState). slice_get e.texts (w.text - 1)) in_text.4
+            ap (λ (e : SiteTexts). slice_get e.texts (w.text - 1)) in_text.4
             ∙ (get-set_other d.texts (number - 1) (w.text - 1) in_text.1 other.1 ∙ old.at) in
             subst (λ (y : WindowSeen). ShowsText d' tracks u y) (sym other.0) (record {
               on_desk = old.on_desk;
@@ -139,7 +139,7 @@ module _ (number : ℕ) (changes : List Change) (now : TextState) where
         let f = found u x e in
         (f.0, f.1, record { other = λ apart. (f.2.other apart).0; quiet = f.2.quiet })
 
-    pub all_told : (d d' : DeskState) → IsTextOf d' number now → ShowTexts d s → InText (Follows changes) d number d'
+    pub all_told : (d d' : SiteTexts) → IsTextOf d' number now → ShowTexts d s → InText (Follows changes) d number d'
         → ShowTexts d' (with_contents s ws)
     all_told d d' at' shows in_text = record {
       texts = λ u x e.

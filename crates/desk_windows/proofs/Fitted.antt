@@ -6,7 +6,7 @@ use Rattle.viewers.specs.Screen.{area_of}
 use Rattle.viewers.specs.Viewers.{AreViewers, ViewersSeen, content_of, with_content}
 use Rattle.texts.specs.Text.{IsAnchor}
 use Rattle.texts.specs.TextState.{TextState}
-use Rattle.machine.specs.DeskState.{DeskState, IsTextOf}
+use Rattle.machine.specs.SiteTexts.{SiteTexts, IsTextOf}
 use Rattle.text_frames.specs.Frames.{IsDrawn}
 use Rattle.desk_windows.specs.Windows.{AllShow, AreSameWindows, HasRows, ShowsText, WindowSeen, window_of}
 use Rattle.desk_windows.proofs.Entries.{content_with, windows_with}
@@ -22,7 +22,7 @@ module _ (s : ViewersSeen WindowSeen) (v : ℕ) (w c : WindowSeen) where
         windows = windows_with 1 s.next v s.contents w c viewers.rising is same;
       }
 
-  pub set_shown : (d : DeskState) → AllShow d s → ShowsText d s.tracks v c → AllShow d (with_content s v c)
+  pub set_shown : (d : SiteTexts) → AllShow d s → ShowsText d s.tracks v c → AllShow d (with_content s v c)
   set_shown d all shows u x e =
       elim (content_with s.contents v u c x e) [
         | inl there ↦ subst (λ (n : ℕ). ShowsText d s.tracks n x) (sym there.0)
@@ -30,7 +30,7 @@ module _ (s : ViewersSeen WindowSeen) (v : ℕ) (w c : WindowSeen) where
         | inr kept ↦ all u x kept.1
       ]
 
-  pub fit_shown : (d : DeskState) → AllShow d s → content_of s.contents v ≡ Some w → c.text ≡ w.text
+  pub fit_shown : (d : SiteTexts) → AllShow d s → content_of s.contents v ≡ Some w → c.text ≡ w.text
       → c.frame.width ≡ w.frame.width
       → ((t : TextState) → IsTextOf d w.text t → IsAnchor t.operations w.frame.anchor → IsDrawn c.frame t)
       → AllShow d (with_content s v c)

@@ -11,7 +11,7 @@ use Rattle.viewers.specs.declared.screen.Track.{Track}
 use Rattle.viewers.specs.Viewers.{ViewersSeen, after_opening, content_of, has_room, with_entry, with_top, with_viewer, without, without_viewer}
 use Rattle.texts.specs.Text.{IsAnchor}
 use Rattle.texts.specs.TextState.{TextState}
-use Rattle.machine.specs.DeskState.{DeskState, InText, IsTextOf, with_text}
+use Rattle.machine.specs.SiteTexts.{SiteTexts, InText, IsTextOf, with_text}
 use Rattle.machine.specs.Windows.{Caret, Selected, Window, shown_by}
 use Rattle.desk_windows.specs.Windows.{AreOf, AreSameWindows, Follows, ShowTexts, WindowSeen, WindowsSeen, window_of, windows_of}
 use Rattle.desk_windows.proofs.Entries.{apart_at}
@@ -19,13 +19,13 @@ use Rattle.desk_windows.proofs.Said.{closed_windows}
 use Rattle.desk_windows.proofs.Scrolling.{shown_is}
 
 -- what these viewers show is shown by those too: the same text, which has all characters that it had
-abbrev pub GoesOn : (d d' : DeskState) → (old new : List (ℕ × WindowSeen)) → ℕ → Type 0
+abbrev pub GoesOn : (d d' : SiteTexts) → (old new : List (ℕ × WindowSeen)) → ℕ → Type 0
 GoesOn d d' old new u = (w : WindowSeen) (t : TextState) → content_of old u ≡ Some w → IsTextOf d w.text t
     → (x : WindowSeen) × (t' : TextState) × (content_of new u ≡ Some x) × IsTextOf d' x.text t'
     × ((anchor : Anchor) → IsAnchor t.operations anchor → IsAnchor t'.operations anchor)
 
 -- caret and selection are those that were, or gone, and what their viewers show goes on
-pub still_of : (d d' : DeskState) (old new : WindowsSeen) → AreOf d old → ShowTexts d' new.viewers
+pub still_of : (d d' : SiteTexts) (old new : WindowsSeen) → AreOf d old → ShowTexts d' new.viewers
     → ((c : Caret) → new.caret ≡ Some c
     → (old.caret ≡ Some c) × GoesOn d d' old.viewers.contents new.viewers.contents c.viewer)
     → ((s : Selected) → new.selected ≡ Some s
@@ -44,13 +44,13 @@ still_of d d' old new are shown caret selected = record {
 }
 
 -- all goes on where caret and selection stay
-pub all_of : (d d' : DeskState) (old new : WindowsSeen) → AreOf d old → ShowTexts d' new.viewers → new.caret ≡ old.caret
+pub all_of : (d d' : SiteTexts) (old new : WindowsSeen) → AreOf d old → ShowTexts d' new.viewers → new.caret ≡ old.caret
     → new.selected ≡ old.selected → ((u : ℕ) → GoesOn d d' old.viewers.contents new.viewers.contents u) → AreOf d' new
 all_of d d' old new are shown caret selected goes =
     still_of d d' old new are shown (λ c is. (sym caret ∙ is, goes c.viewer)) (λ s is. (sym selected ∙ is, goes s.viewer))
 
 -- from one to the next
-pub goes_through : (d d' : DeskState) (a b c : List (ℕ × WindowSeen)) (u : ℕ) → GoesOn d d a b u → GoesOn d d' b c u
+pub goes_through : (d d' : SiteTexts) (a b c : List (ℕ × WindowSeen)) (u : ℕ) → GoesOn d d a b u → GoesOn d d' b c u
     → GoesOn d d' a c u
 goes_through d d' a b c u first next w t is at =
     let f = first w t is at in let n = next f.0 f.1 f.2 f.3 in
@@ -69,16 +69,16 @@ same_window a b u w same is =
     (sym (shown_is b u) ∙ (ap (shown_by u) same ∙ (shown_is a u ∙ ap (option_map window_of) is)))
 
 -- windows that are the same go on
-pub goes_same : (d : DeskState) (a b : List (ℕ × WindowSeen)) → windows_of b ≡ windows_of a → (u : ℕ) → GoesOn d d a b u
+pub goes_same : (d : SiteTexts) (a b : List (ℕ × WindowSeen)) → windows_of b ≡ windows_of a → (u : ℕ) → GoesOn d d a b u
 goes_same d a b same u w t is at =
     let x = same_window a b u w same is in
     (x.0, t, x.1, subst (λ (n : ℕ). IsTextOf d n t) (sym (ap (λ (y : Window). y.text) x.2)) at, λ anchor char. char)
 
 -- another viewer opens, or finds no room
-content_ahead : (contents : List (ℕ × WindowSeen)) (n u : ℕ) (c w : WindowSeen) → content_of contents u ≡ Some w
+content_before : (contents : List (ℕ × WindowSeen)) (n u : ℕ) (c w : WindowSeen) → content_of contents u ≡ Some w
     → content_of (contents ++ (n, c) ∷ []) u ≡ Some w
-content_ahead [] n u c w is = cc
-content_ahead (entry ∷ rest) n u c w is = by_test (content_ahead rest n u c w) (eqb entry.0 u) is
+content_before [] n u c w is = cc
+content_before (entry ∷ rest) n u c w is = by_test (content_before rest n u c w) (eqb entry.0 u) is
   where
     by_test : (content_of rest u ≡ Some w → content_of (rest ++ (n, c) ∷ []) u ≡ Some w) → (b : Bool)
         → cond b (Some entry.1) (content_of rest u) ≡ Some w
@@ -86,14 +86,14 @@ content_ahead (entry ∷ rest) n u c w is = by_test (content_ahead rest n u c w)
     by_test more true is = is
     by_test more false is = more is
 
-pub goes_opened : (d : DeskState) (s : ViewersSeen WindowSeen) (track : Track) (row : Option ℕ) (c : WindowSeen) (u : ℕ)
+pub goes_opened : (d : SiteTexts) (s : ViewersSeen WindowSeen) (track : Track) (row : Option ℕ) (c : WindowSeen) (u : ℕ)
     → GoesOn d d s.contents (after_opening s track row c).contents u
 goes_opened d s track row c u w t is at = by_test (has_room s track row)
   where
     by_test : (b : Bool) → (x : WindowSeen) × (t' : TextState)
         × (content_of (cond b (with_viewer s track row c) s).contents u ≡ Some x) × IsTextOf d x.text t'
         × ((anchor : Anchor) → IsAnchor t.operations anchor → IsAnchor t'.operations anchor)
-    by_test true = (w, t, content_ahead s.contents s.next u c w is, at, λ anchor char. char)
+    by_test true = (w, t, content_before s.contents s.next u c w is, at, λ anchor char. char)
     by_test false = (w, t, is, at, λ anchor char. char)
 
 -- another viewer closes
@@ -112,7 +112,7 @@ content_left (entry ∷ rest) v u w apart is =
     by_tests more false true first third is = rw third is
     by_tests more false false first third is = rw third (more is)
 
-pub goes_closed : (d : DeskState) (contents : List (ℕ × WindowSeen)) (v u : ℕ) → (u ≡ v → ⊥)
+pub goes_closed : (d : SiteTexts) (contents : List (ℕ × WindowSeen)) (v u : ℕ) → (u ≡ v → ⊥)
     → GoesOn d d contents (without contents v) u
 goes_closed d contents v u apart w t is at = (w, t, content_left contents v u w apart is, at, λ anchor char. char)
 
@@ -169,7 +169,7 @@ content_there (entry ∷ rest) v x c is = by_test (content_there rest v x c) (eq
     by_test more true first is = rw (eq-eqb v v refl) refl
     by_test more false first is = rw first (more is)
 
-pub goes_set : (d : DeskState) (contents : List (ℕ × WindowSeen)) (v : ℕ) (x c : WindowSeen) → content_of contents v ≡ Some x
+pub goes_set : (d : SiteTexts) (contents : List (ℕ × WindowSeen)) (v : ℕ) (x c : WindowSeen) → content_of contents v ≡ Some x
     → c.text ≡ x.text → (u : ℕ) → GoesOn d d contents (with_entry contents v c) u
 goes_set d contents v x c there text u w t is at = by_test (eqb u v) refl
   where
@@ -188,7 +188,7 @@ goes_set d contents v x c there text u w t is at = by_test (eqb u v) refl
     by_test false apart = (w, t, content_apart contents v u c (apart_at u v apart) ∙ is, at, λ anchor char. char)
 
 -- a text changes, and its characters stay
-pub goes_changed : (d d' : DeskState) (number : ℕ) (changes : List Change) (contents : List (ℕ × WindowSeen))
+pub goes_changed : (d d' : SiteTexts) (number : ℕ) (changes : List Change) (contents : List (ℕ × WindowSeen))
     → InText (Follows changes) d number d' → (u : ℕ) → GoesOn d d' contents contents u
 goes_changed d d' number changes contents in_text u w t is at = by_index (eqb (w.text - 1) (number - 1)) refl
   where
@@ -202,7 +202,7 @@ goes_changed d d' number changes contents in_text u w t is at = by_index (eqb (w
           w,
           in_text.1,
           is,
-          ap (λ (e : DeskState). slice_get e.texts (w.text - 1)) in_text.4
+          ap (λ (e : SiteTexts). slice_get e.texts (w.text - 1)) in_text.4
               ∙ (ap (slice_get (with_text d number in_text.1).texts) index
               ∙ get-set_same d.texts (number - 1) in_text.1 (slice_get_within d.texts (number - 1) in_text.0 in_text.2)),
           λ anchor char. in_text.3.kept anchor (subst (λ (y : TextState). IsAnchor y.operations anchor) was char),
@@ -211,19 +211,19 @@ goes_changed d d' number changes contents in_text u w t is at = by_index (eqb (w
       w,
       t,
       is,
-      ap (λ (e : DeskState). slice_get e.texts (w.text - 1)) in_text.4
+      ap (λ (e : SiteTexts). slice_get e.texts (w.text - 1)) in_text.4
           ∙ (get-set_other d.texts (number - 1) (w.text - 1) in_text.1 (apart_at (w.text - 1) (number - 1) apart) ∙ at),
       λ anchor char. char,
     )
 
 -- windows that are those of the desk stay so as a viewer closes, opens, or its top moves, and all get their rows
-goes_landed : (d : DeskState) (old : List (ℕ × WindowSeen)) (x a b : ViewersSeen WindowSeen) (u : ℕ) → GoesOn d d old x.contents u
+goes_landed : (d : SiteTexts) (old : List (ℕ × WindowSeen)) (x a b : ViewersSeen WindowSeen) (u : ℕ) → GoesOn d d old x.contents u
     → a ≡ x → AreSameWindows a b → GoesOn d d old b.contents u
 goes_landed d old x a b u goes is same =
     goes_through d d old x.contents b.contents u goes
     (goes_same d x.contents b.contents (same.windows ∙ ap (λ (s : ViewersSeen WindowSeen). windows_of s.contents) is) u)
 
-pub closed_are : (d : DeskState) (old : WindowsSeen) (v : ℕ) (a : ViewersSeen WindowSeen) (new : WindowsSeen) → AreOf d old
+pub closed_are : (d : SiteTexts) (old : WindowsSeen) (v : ℕ) (a : ViewersSeen WindowSeen) (new : WindowsSeen) → AreOf d old
     → a ≡ without_viewer old.viewers v → AreSameWindows a new.viewers → ShowTexts d new.viewers
     → new.caret ≡ (closed_windows old v).caret → new.selected ≡ (closed_windows old v).selected → AreOf d new
 closed_are d old v a new are is same shown caret selected =
@@ -240,7 +240,7 @@ closed_are d old v a new are is same shown caret selected =
         goes_landed d old.viewers.contents (without_viewer old.viewers v) a new.viewers u
         (goes_closed d old.viewers.contents v u apart) is same
 
-pub opened_are : (d : DeskState) (old : WindowsSeen) (track : Track) (row : Option ℕ) (c : WindowSeen) (a : ViewersSeen WindowSeen)
+pub opened_are : (d : SiteTexts) (old : WindowsSeen) (track : Track) (row : Option ℕ) (c : WindowSeen) (a : ViewersSeen WindowSeen)
     (new : WindowsSeen) → AreOf d old → a ≡ after_opening old.viewers track row c → AreSameWindows a new.viewers
     → ShowTexts d new.viewers → new.caret ≡ old.caret → new.selected ≡ old.selected → AreOf d new
 opened_are d old track row c a new are is same shown caret selected =
@@ -248,7 +248,7 @@ opened_are d old track row c a new are is same shown caret selected =
     (λ u. goes_landed d old.viewers.contents (after_opening old.viewers track row c) a new.viewers u
     (goes_opened d old.viewers track row c u) is same)
 
-pub moved_are : (d : DeskState) (old : WindowsSeen) (v row : ℕ) (a : ViewersSeen WindowSeen) (new : WindowsSeen) → AreOf d old
+pub moved_are : (d : SiteTexts) (old : WindowsSeen) (v row : ℕ) (a : ViewersSeen WindowSeen) (new : WindowsSeen) → AreOf d old
     → a ≡ with_top old.viewers v row → AreSameWindows a new.viewers → ShowTexts d new.viewers
     → new.caret ≡ old.caret → new.selected ≡ old.selected → AreOf d new
 moved_are d old v row a new are is same shown caret selected =
@@ -256,7 +256,7 @@ moved_are d old v row a new are is same shown caret selected =
     (λ u. goes_landed d old.viewers.contents (with_top old.viewers v row) a new.viewers u
     (λ w t here at. (w, t, here, at, λ anchor char. char)) is same)
 
-pub told_are : (d d' : DeskState) (number : ℕ) (changes : List Change) (old new : WindowsSeen) → AreOf d old
+pub told_are : (d d' : SiteTexts) (number : ℕ) (changes : List Change) (old new : WindowsSeen) → AreOf d old
     → InText (Follows changes) d number d' → ShowTexts d' new.viewers
     → windows_of new.viewers.contents ≡ windows_of old.viewers.contents → new.caret ≡ old.caret
     → new.selected ≡ old.selected → AreOf d' new

@@ -15,7 +15,7 @@ use Rattle.viewers.specs.Viewers.{AreViewers, content_of}
 use Rattle.texts.specs.Edit.{anchor_before}
 use Rattle.texts.specs.Text.{IsAnchor, IsText}
 use Rattle.texts.specs.TextState.{TextState, shown_of}
-use Rattle.machine.specs.DeskState.{DeskState, IsTextOf}
+use Rattle.machine.specs.SiteTexts.{SiteTexts, IsTextOf}
 use Rattle.command_words.specs.Commands.{menu_of}
 use Rattle.machine.specs.Commands.{Clicked as ClickedSeen, clicked, clicked_in}
 use Rattle.machine.specs.Windows.{Caret, Marked, Pointed, Selected, Window, bytes_shown, marked, marked_as, place_in}
@@ -23,24 +23,24 @@ use Rattle.machine.specs.Windows.{pointed, pointed_in, position_in, selected_bet
 use Rattle.machine.specs.Windows.{window_of as shown_window}
 use Rattle.text_frames.specs.Frames.{IsDrawn}
 use Rattle.text_frames.specs.Marks.{range_in}
-use Rattle.text_frames.proofs.Ahead.{ahead_is_anchor}
-use Rattle.desk_windows.specs.Pointing.{IsCaretSpot, IsClicked, IsInWindow, IsMarked, IsPlaceIn, IsPointed, IsSpot, ShowsThis, spot_at}
-use Rattle.desk_windows.specs.declared.pointing.Place.{Place}
-use Rattle.desk_windows.specs.declared.pointing.Place.TheVariants.{Menu, Text}
+use Rattle.text_frames.proofs.Preceding.{before_is_anchor}
+use Rattle.desk_windows.specs.Pointing.{IsCaretSpot, IsClicked, IsInWindow, IsMarked, IsTargetIn, IsPointed, IsSpot, ShowsThis, spot_at}
+use Rattle.desk_windows.specs.declared.pointing.CellTarget.{CellTarget}
+use Rattle.desk_windows.specs.declared.pointing.CellTarget.TheVariants.{Menu, Text}
 use Rattle.desk_windows.specs.declared.pointing.Spot.{Spot}
 use Rattle.desk_windows.specs.Windows.{AreOf, ShowTexts, ShowsSo, ShowsText, WindowSeen, WindowsSeen, screened, window_of}
 use Rattle.desk_windows.proofs.Cells.{HasCell, cell_of, position_within}
 use Rattle.desk_windows.proofs.Scrolling.{shown_nothing, shown_text}
 
 -- a viewer's window is as wide as its cells
-pub cell_width : (d : DeskState) (w : WindowsSeen) (col row v : ℕ) (a : Area) (x : WindowSeen) → HasCell w.viewers.tracks v col row a
+pub cell_width : (d : SiteTexts) (w : WindowsSeen) (col row v : ℕ) (a : Area) (x : WindowSeen) → HasCell w.viewers.tracks v col row a
     → ShowsText d w.viewers.tracks v x → x.frame.width ≡ a.width
 cell_width d w col row v a x cell shows = elim cell.track [
   | inl user ↦ shows.in_user user.0 ∙ sym user.1
   | inr system ↦ shows.in_system system.0 ∙ sym system.1
 ]
 
-module _ (d : DeskState) (w : WindowsSeen) (col row v : ℕ) (a : Area) (viewers : AreViewers w.viewers) (lt : row < w.viewers.tracks.height)
+module _ (d : SiteTexts) (w : WindowsSeen) (col row v : ℕ) (a : Area) (viewers : AreViewers w.viewers) (lt : row < w.viewers.tracks.height)
     (at : viewer_at w.viewers.tracks col row ≡ Some v) (is : area_of w.viewers.tracks v ≡ Some a) where
   pub in_window : (x : WindowSeen) → ShowTexts d w.viewers → content_of w.viewers.contents v ≡ Some x → IsInWindow a x col row
   in_window x shows shown =
@@ -134,7 +134,7 @@ module _ (d : DeskState) (w : WindowsSeen) (col row v : ℕ) (a : Area) (viewers
         ∙ ap (λ (b : Bool). Some (seen_in b)) is_menu
 
     -- is what a click there meets
-    pub clicks_there : (place : Place) → IsPlaceIn a x col row place
+    pub clicks_there : (place : CellTarget) → IsTargetIn a x col row place
         → IsClicked d w col row (Some (record { viewer = v; text = x.text; place = place }))
     clicks_there (Menu pos) (first, is_pos) = (
       seen_in true,
@@ -162,7 +162,7 @@ module _ (d : DeskState) (w : WindowsSeen) (col row v : ℕ) (a : Area) (viewers
         )
 
     -- and below the menu is what the cell points at
-    pub points_so : (place : Place) → IsPlaceIn a x col row place → IsPointed d w col row (spot_at v x.text place)
+    pub points_so : (place : CellTarget) → IsTargetIn a x col row place → IsPointed d w col row (spot_at v x.text place)
     points_so (Menu pos) (first, is_pos) =
         cell_points
         ∙ ap (λ (b : Bool). cond b None (option_map (pointed_in v a col row) (shown_window d (screened w) v)))
@@ -170,11 +170,11 @@ module _ (d : DeskState) (w : WindowsSeen) (col row v : ℕ) (a : Area) (viewers
     points_so (Text pos) (apart, placed) = points_there x pos are shown apart placed
 
 -- the text is the one that is shown
-pub same_text : (d : DeskState) (number : ℕ) (t u : TextState) → IsTextOf d number t → IsTextOf d number u → t ≡ u
+pub same_text : (d : SiteTexts) (number : ℕ) (t u : TextState) → IsTextOf d number t → IsTextOf d number u → t ≡ u
 same_text d number t u at other = same_Some t u (sym at ∙ other)
 
--- windows stay the desk's with the caret behind a character of what a viewer shows
-pub caret_set : (d : DeskState) (w : WindowsSeen) (v number : ℕ) (t : TextState) (anchor : Anchor) → AreOf d w
+-- windows stay the desk's with the caret after a character of what a viewer shows
+pub caret_set : (d : SiteTexts) (w : WindowsSeen) (v number : ℕ) (t : TextState) (anchor : Anchor) → AreOf d w
     → ShowsThis d w v number t → IsAnchor t.operations anchor
     → AreOf d (record { viewers = w.viewers; caret = Some (record { viewer = v; anchor = anchor }); selected = w.selected })
 caret_set d w v number t anchor are shows char = record {
@@ -187,7 +187,7 @@ caret_set d w v number t anchor are shows char = record {
 }
 
 -- and with a selection between characters
-pub selection_set : (d : DeskState) (w : WindowsSeen) (v number : ℕ) (t : TextState) (s : Selected) → AreOf d w
+pub selection_set : (d : SiteTexts) (w : WindowsSeen) (v number : ℕ) (t : TextState) (s : Selected) → AreOf d w
     → ShowsThis d w v number t → s.viewer ≡ v → IsChar t.operations s.first → IsChar t.operations s.last
     → AreOf d (record { viewers = w.viewers; caret = w.caret; selected = Some s })
 selection_set d w v number t s are shows at first last = record {
@@ -209,11 +209,11 @@ shown_char : (t : TextState) (k : ℕ) (c : Char) → IsText t → slice_get (sh
 shown_char t k c is here =
     let some : (suc k == 0) ≡ false = ne_eqb (suc k) 0 (λ e. absurd (omega (arith, e))) in
     let one : suc k - 1 ≡ k = omega arith in
-    let behind : anchor_before (shown_of t) (suc k) ≡ At c.name =
+    let after : anchor_before (shown_of t) (suc k) ≡ At c.name =
     ap (λ (b : Bool). if b then Root else option_map_or (λ c. At c.name) (slice_get (shown_of t) (suc k - 1)) Root) some
     ∙ (ap (λ (n : ℕ). option_map_or (λ c. At c.name) (slice_get (shown_of t) n) Root) one
     ∙ ap (λ (o : Option Char). option_map_or (λ c. At c.name) o Root) here) in
-    subst (IsAnchor t.operations) behind (ahead_is_anchor t is (suc k))
+    subst (IsAnchor t.operations) after (before_is_anchor t is (suc k))
 
 pub selected_chars : (v : ℕ) (t : TextState) (beg end : ℕ) (s : Selected) → IsText t → selected_from v t beg end ≡ Some s
     → (s.viewer ≡ v) × IsChar t.operations s.first × IsChar t.operations s.last
@@ -231,7 +231,7 @@ selected_chars v t beg end s is selected =
         (refl, shown_char t beg c is first, shown_char t (end - 1) b is last)
 
 -- a selecting, by two cells of one viewer
-pub selecting : (d : DeskState) (w : WindowsSeen) (col row col' row' : ℕ) (p q : Pointed) (s : Selected)
+pub selecting : (d : SiteTexts) (w : WindowsSeen) (col row col' row' : ℕ) (p q : Pointed) (s : Selected)
     → pointed d (screened w) col row ≡ Some p → pointed d (screened w) col' row' ≡ Some q → p.viewer ≡ q.viewer
     → selected_from p.viewer p.text (min p.pos q.pos) (min (max p.pos q.pos + 1) (length (shown_of p.text))) ≡ Some s
     → selected_by d (screened w) col row col' row'
@@ -246,7 +246,7 @@ selecting d w col row col' row' p q s first second same selected =
     ∙ ap (λ (o : Option Selected). option_map_or (λ s. Ok (record (screened w) { selected = Some s }, None)) o (Err OutOfRange)) selected))
 
 -- the same, by spots of cells, with the text as it is read
-module _ (d : DeskState) (w : WindowsSeen) (from : Spot) (p : Pointed) (spot : IsSpot d w p from) (u : TextState)
+module _ (d : SiteTexts) (w : WindowsSeen) (from : Spot) (p : Pointed) (spot : IsSpot d w p from) (u : TextState)
     (at : IsTextOf d from.text u) where
   text_is : p.text ≡ u
   text_is = same_text d from.text p.text u spot.shows.text at
@@ -272,7 +272,7 @@ module _ (d : DeskState) (w : WindowsSeen) (from : Spot) (p : Pointed) (spot : I
       selection_set d w from.viewer from.text u s are shows_it chars.0 chars.1 chars.2
 
 -- where the caret stands
-pub caret_stands : (d : DeskState) (w : WindowsSeen) (c : Caret) (x : WindowSeen) (t : TextState) (pos : ℕ) → AreOf d w
+pub caret_stands : (d : SiteTexts) (w : WindowsSeen) (c : Caret) (x : WindowSeen) (t : TextState) (pos : ℕ) → AreOf d w
     → w.caret ≡ Some c → content_of w.viewers.contents c.viewer ≡ Some x → IsTextOf d x.text t → pos ≡ place_in t c.anchor
     → IsCaretSpot d w (Some (record { viewer = c.viewer; text = x.text; pos = pos }))
 caret_stands d w c x t pos are is shown at place = (
@@ -293,7 +293,7 @@ caret_stands d w c x t pos are is shown at place = (
 )
 
 -- what is marked
-module _ (d : DeskState) (w : WindowsSeen) (s : Selected) (x : WindowSeen) (t : TextState) (is : w.selected ≡ Some s)
+module _ (d : SiteTexts) (w : WindowsSeen) (s : Selected) (x : WindowSeen) (t : TextState) (is : w.selected ≡ Some s)
     (shown : content_of w.viewers.contents s.viewer ≡ Some x) (at : IsTextOf d x.text t) where
   marked_is : marked d (screened w) ≡ marked_as s (window_of x, t)
   marked_is =

@@ -15,13 +15,13 @@ use Rattle.viewers.specs.declared.screen.Track.{Track}
 use Rattle.viewers.specs.declared.screen.Track.TheVariants.{User, System}
 use Rattle.viewers.specs.declared.seats.Seat.{Seat}
 use Rattle.viewers.specs.Screen.{IsScreen, ScreenSeen, area_in, area_of, has, seats_of, user_width, viewer_at}
-use Rattle.viewers.specs.Tracks.{Covers, bottom, height_at, place, rows, top, viewer_in}
+use Rattle.viewers.specs.Tracks.{Covers, bottom, height_at, seat_index, rows, top, viewer_in}
 use Rattle.viewers.specs.Viewers.{AreViewers, ViewersSeen, content_of, numbers, seated, times}
 use Rattle.viewers.proofs.Covering.{few_rows}
 use Rattle.viewers.proofs.Rows.{next_bound, next_top}
 use Rattle.viewers.proofs.Seating.{has_times}
 use Rattle.texts.specs.TextState.{TextState}
-use Rattle.machine.specs.DeskState.{DeskState}
+use Rattle.machine.specs.SiteTexts.{SiteTexts}
 use Rattle.machine.specs.ScreenPrinting.{track_lines, viewer_cells, viewer_line}
 use Rattle.machine.specs.Windows.{Window, row_in, window_of as shown_window}
 use Rattle.text_frames.specs.Reading.{no_row}
@@ -36,7 +36,7 @@ abbrev alone : ViewersSeen WindowSeen → WindowsSeen
 alone s = record { viewers = s; caret = None; selected = None }
 
 -- what a viewer shows has a line
-pub seat_shown : (d : DeskState) (s : ViewersSeen WindowSeen) (name : List ℕ) (from : ℕ) (seat : Seat) (x : WindowSeen)
+pub seat_shown : (d : SiteTexts) (s : ViewersSeen WindowSeen) (name : List ℕ) (from : ℕ) (seat : Seat) (x : WindowSeen)
     → ShowTexts d s → content_of s.contents seat.number ≡ Some x
     → seat_lines d s name from seat ≡ viewer_line name seat from x.text
 seat_shown d s name from seat x shows is =
@@ -45,14 +45,14 @@ seat_shown d s name from seat x shows is =
     (shown_text d (alone s) seat.number 0 x x old.text is old.at)
 
 -- where nothing is shown there is none
-pub seat_blank : (d : DeskState) (s : ViewersSeen WindowSeen) (name : List ℕ) (from : ℕ) (seat : Seat)
+pub seat_blank : (d : SiteTexts) (s : ViewersSeen WindowSeen) (name : List ℕ) (from : ℕ) (seat : Seat)
     → content_of s.contents seat.number ≡ None → seat_lines d s name from seat ≡ []
 seat_blank d s name from seat none =
     ap (λ (o : Option (Window × TextState)). option_map_or (λ shown. viewer_line name seat from shown.0.text) o [])
     (shown_nothing d (alone s) seat.number 0 none)
 
 -- the lines of the seats that are left begin with that of the next one
-pub next_lines : (d : DeskState) (s : ViewersSeen WindowSeen) (name : List ℕ) (from i : ℕ) (seats : List Seat) (none : Seat)
+pub next_lines : (d : SiteTexts) (s : ViewersSeen WindowSeen) (name : List ℕ) (from i : ℕ) (seats : List Seat) (none : Seat)
     → i < length seats
     → track_lines d (over s) name from (drop i seats)
     ≡ seat_lines d s name from (slice_index_or seats i none)
@@ -73,7 +73,7 @@ rows_fit s track seats from i none viewers same above lt =
     let all = next_bound seats i none lt in
     let low = viewers.divided.low in omega (arith, above, few, all, low)
 
--- the row ahead of the next seat
+-- the row before the next seat
 pub next_row : (seats : List Seat) (from i : ℕ) (none : Seat) → from ≡ rows (take i seats) → i < length seats
     → from + (slice_index_or seats i none).height ≡ rows (take (i + 1) seats)
 next_row seats from i none above lt =
@@ -84,7 +84,7 @@ next_row seats from i none above lt =
     omega (arith, above, next, moved)
 
 -- the lines put so far, with those of the seats that are left, stay the same by one more seat
-pub lines_go : (d : DeskState) (s : ViewersSeen WindowSeen) (name : List ℕ) (from i : ℕ) (seats : List Seat) (none : Seat)
+pub lines_go : (d : SiteTexts) (s : ViewersSeen WindowSeen) (name : List ℕ) (from i : ℕ) (seats : List Seat) (none : Seat)
     (before after all : List ℕ) → i < length seats
     → before ++ track_lines d (over s) name from (drop i seats) ≡ all
     → after ≡ before ++ seat_lines d s name from (slice_index_or seats i none)
@@ -111,8 +111,8 @@ one_track t v once system = by_test (has t.user v) refl
 -- the viewer that has a row of a track has an area there
 pub record Stands (t : ScreenSeen) (track : Track) (row v : ℕ) : Type 0 where
   pub seat : has (seats_of t track) v ≡ true
-  pub above : top (seats_of t track) (place (seats_of t track) v) ≤ row
-  pub below : row < bottom (seats_of t track) (place (seats_of t track) v)
+  pub above : top (seats_of t track) (seat_index (seats_of t track) v) ≤ row
+  pub below : row < bottom (seats_of t track) (seat_index (seats_of t track) v)
   pub area : area_of t v ≡ Some (area_in (seats_of t track) v (column_of t.width track) (width_of t.width track))
 
 stands_in : (t : ScreenSeen) (track : Track) (row v : ℕ) → IsScreen t
@@ -176,8 +176,8 @@ holds s track row v a viewers lt at is =
     let seats : List Seat = seats_of s.tracks track in
     let same : area_in (seats_of s.tracks track) v (column_of s.tracks.width track) (width_of s.tracks.width track) ≡ a =
     same_Some (area_in (seats_of s.tracks track) v (column_of s.tracks.width track) (width_of s.tracks.width track)) a (sym there.area ∙ is) in
-    let first : top (seats_of s.tracks track) (place (seats_of s.tracks track) v) ≡ a.top = ap (λ (x : Area). x.top) same in
-    let high : height_at (seats_of s.tracks track) (place (seats_of s.tracks track) v) ≡ a.height = ap (λ (x : Area). x.height) same in
+    let first : top (seats_of s.tracks track) (seat_index (seats_of s.tracks track) v) ≡ a.top = ap (λ (x : Area). x.top) same in
+    let high : height_at (seats_of s.tracks track) (seat_index (seats_of s.tracks track) v) ≡ a.height = ap (λ (x : Area). x.height) same in
     let above = there.above in let below = there.below in (
       omega (arith, first, above),
       record {
@@ -280,19 +280,19 @@ held_row s System row v viewers lt is =
         ap (λ (b : Bool). cond b (Some (area_in s.tracks.system v (user_width s.tracks.width) (s.tracks.width - user_width s.tracks.width))) None) system
 
 -- a row that no viewer has is blank
-pub row_blank : (d : DeskState) (s : ViewersSeen WindowSeen) (track : Track) (row : ℕ) → viewer_in (seats_of s.tracks track) row ≡ None
+pub row_blank : (d : SiteTexts) (s : ViewersSeen WindowSeen) (track : Track) (row : ℕ) → viewer_in (seats_of s.tracks track) row ≡ None
     → cells_in d s track row ≡ blanks (width_of s.tracks.width track)
 row_blank d s track row none =
-    ap (λ (o : Option ℕ). option_map_or (λ v. option_map_or (λ shown. viewer_cells v shown (width_of s.tracks.width track) (row - top (seats_of s.tracks track) (place (seats_of s.tracks track) v)))
+    ap (λ (o : Option ℕ). option_map_or (λ v. option_map_or (λ shown. viewer_cells v shown (width_of s.tracks.width track) (row - top (seats_of s.tracks track) (seat_index (seats_of s.tracks track) v)))
     (shown_window d (over s) v) (blanks (width_of s.tracks.width track))) o (blanks (width_of s.tracks.width track))) none
 
 -- so is one whose viewer shows nothing
-pub row_of_none : (d : DeskState) (s : ViewersSeen WindowSeen) (track : Track) (row v line : ℕ) → HoldsRow s track row v line
+pub row_of_none : (d : SiteTexts) (s : ViewersSeen WindowSeen) (track : Track) (row v line : ℕ) → HoldsRow s track row v line
     → content_of s.contents v ≡ None → cells_in d s track row ≡ blanks (width_of s.tracks.width track)
 row_of_none d s track row v line held none =
-    ap (λ (o : Option ℕ). option_map_or (λ v. option_map_or (λ shown. viewer_cells v shown (width_of s.tracks.width track) (row - top (seats_of s.tracks track) (place (seats_of s.tracks track) v)))
+    ap (λ (o : Option ℕ). option_map_or (λ v. option_map_or (λ shown. viewer_cells v shown (width_of s.tracks.width track) (row - top (seats_of s.tracks track) (seat_index (seats_of s.tracks track) v)))
     (shown_window d (over s) v) (blanks (width_of s.tracks.width track))) o (blanks (width_of s.tracks.width track))) held.viewer
-    ∙ ap (λ (o : Option (Window × TextState)). option_map_or (λ shown. viewer_cells v shown (width_of s.tracks.width track) (row - top (seats_of s.tracks track) (place (seats_of s.tracks track) v)))
+    ∙ ap (λ (o : Option (Window × TextState)). option_map_or (λ shown. viewer_cells v shown (width_of s.tracks.width track) (row - top (seats_of s.tracks track) (seat_index (seats_of s.tracks track) v)))
     o (blanks (width_of s.tracks.width track))) (shown_nothing d (alone s) v 0 none)
 
 -- a row below the menu is one of the rows
@@ -301,24 +301,24 @@ below zero n some lt = absurd (some refl)
 below (suc line) n some lt = omega (arith, lt)
 
 -- a row that no viewer has is blank
-pub blank_row : (d : DeskState) (s : ViewersSeen WindowSeen) (track : Track) (row n : ℕ)
+pub blank_row : (d : SiteTexts) (s : ViewersSeen WindowSeen) (track : Track) (row n : ℕ)
     → n ≡ width_of s.tracks.width track → viewer_in (seats_of s.tracks track) row ≡ None
     → cells_of n [] ≡ cells_in d s track row
 blank_row d s track row n wide none =
     no_cells n ∙ ap blanks wide
-    ∙ sym (ap (λ (o : Option ℕ). option_map_or (λ v. option_map_or (λ shown. viewer_cells v shown (width_of s.tracks.width track) (row - top (seats_of s.tracks track) (place (seats_of s.tracks track) v)))
+    ∙ sym (ap (λ (o : Option ℕ). option_map_or (λ v. option_map_or (λ shown. viewer_cells v shown (width_of s.tracks.width track) (row - top (seats_of s.tracks track) (seat_index (seats_of s.tracks track) v)))
     (shown_window d (over s) v) (blanks (width_of s.tracks.width track))) o (blanks (width_of s.tracks.width track))) none)
 
-module _ (d : DeskState) (s : ViewersSeen WindowSeen) (track : Track) (row v line : ℕ) (held : HoldsRow s track row v line) where
+module _ (d : SiteTexts) (s : ViewersSeen WindowSeen) (track : Track) (row v line : ℕ) (held : HoldsRow s track row v line) where
   abbrev cells_so : Option (Window × TextState) → List ℕ
   cells_so o =
-      option_map_or (λ shown. viewer_cells v shown (width_of s.tracks.width track) (row - top (seats_of s.tracks track) (place (seats_of s.tracks track) v)))
+      option_map_or (λ shown. viewer_cells v shown (width_of s.tracks.width track) (row - top (seats_of s.tracks track) (seat_index (seats_of s.tracks track) v)))
       o (blanks (width_of s.tracks.width track))
 
   -- the row's cells are those of its viewer
   cells_are : cells_in d s track row ≡ cells_so (shown_window d (over s) v)
   cells_are =
-      ap (λ (o : Option ℕ). option_map_or (λ v. option_map_or (λ shown. viewer_cells v shown (width_of s.tracks.width track) (row - top (seats_of s.tracks track) (place (seats_of s.tracks track) v)))
+      ap (λ (o : Option ℕ). option_map_or (λ v. option_map_or (λ shown. viewer_cells v shown (width_of s.tracks.width track) (row - top (seats_of s.tracks track) (seat_index (seats_of s.tracks track) v)))
       (shown_window d (over s) v) (blanks (width_of s.tracks.width track))) o (blanks (width_of s.tracks.width track))) held.viewer
 
   -- a viewer that shows nothing is blank

@@ -10,7 +10,7 @@ use Rattle.viewers.specs.declared.screen.Area.{Area}
 use Rattle.viewers.specs.declared.screen.Track.{Track}
 use Rattle.viewers.specs.declared.screen.Track.TheVariants.{User, System}
 use Rattle.viewers.specs.Screen.{ScreenSeen, after_closing, after_close, after_move, after_moving, area_in, has, move_answer, moving, seats_of, user_width, with_seats}
-use Rattle.viewers.specs.Tracks.{can_move, closed, moved, place}
+use Rattle.viewers.specs.Tracks.{can_move, closed, moved, seat_index}
 use Rattle.viewers.specs.Viewers.{AreViewers, ViewersSeen, content_of, has_room, with_top, with_viewer, without, without_viewer}
 use Rattle.viewers.proofs.Others.{show_where_they_stand}
 use Rattle.machine.specs.Windows.{Arranged, Caret, Screened, Selected, closed_at, is_open, is_row_below, moved_to, opened_at}
@@ -44,17 +44,17 @@ windows_without (entry ∷ rest) v = by_test (eqb entry.0 v) (windows_without re
     by_test false more = ap (λ l. (entry.0, window_of entry.1) ∷ l) more
 
 tracks_closed : (t : ScreenSeen) (v : ℕ) → (has t.user v || has t.system v) ≡ true
-    → with_seats t (cond (has t.user v) User System) (closed (seats_of t (cond (has t.user v) User System)) (place (seats_of t (cond (has t.user v) User System)) v))
+    → with_seats t (cond (has t.user v) User System) (closed (seats_of t (cond (has t.user v) User System)) (seat_index (seats_of t (cond (has t.user v) User System)) v))
     ≡ after_closing t v
 tracks_closed t v stands = by_tests (has t.user v) (has t.system v) refl refl stands
   where
     by_tests : (a b : Bool) → has t.user v ≡ a → has t.system v ≡ b → (a || b) ≡ true
-        → with_seats t (cond a User System) (closed (seats_of t (cond a User System)) (place (seats_of t (cond a User System)) v))
+        → with_seats t (cond a User System) (closed (seats_of t (cond a User System)) (seat_index (seats_of t (cond a User System)) v))
         ≡ cond a (record t { user = after_close t.user v }) (record t { system = after_close t.system v })
     by_tests true b user system stands =
-        let Track : Bool → ScreenSeen = λ x. record t { user = cond x (closed t.user (place t.user v)) t.user } in sym (ap Track user)
+        let Track : Bool → ScreenSeen = λ x. record t { user = cond x (closed t.user (seat_index t.user v)) t.user } in sym (ap Track user)
     by_tests false true user system stands =
-        let Track : Bool → ScreenSeen = λ x. record t { system = cond x (closed t.system (place t.system v)) t.system } in
+        let Track : Bool → ScreenSeen = λ x. record t { system = cond x (closed t.system (seat_index t.system v)) t.system } in
         sym (ap Track system)
     by_tests false false user system stands = cc
 
@@ -78,7 +78,7 @@ closed_is w v stands = when_true (is_open (screened w) v) _ (Err NoViewer) stand
   where
     same : ◌≡◌ {A = Arranged} (Ok (
       record {
-        tracks = with_seats w.viewers.tracks (cond (has w.viewers.tracks.user v) User System) (closed (seats_of w.viewers.tracks (cond (has w.viewers.tracks.user v) User System)) (place (seats_of w.viewers.tracks (cond (has w.viewers.tracks.user v) User System)) v));
+        tracks = with_seats w.viewers.tracks (cond (has w.viewers.tracks.user v) User System) (closed (seats_of w.viewers.tracks (cond (has w.viewers.tracks.user v) User System)) (seat_index (seats_of w.viewers.tracks (cond (has w.viewers.tracks.user v) User System)) v));
         next = w.viewers.next;
         windows = filter (λ entry. not (entry.0 == v)) (windows_of w.viewers.contents);
         caret = option_and_then (λ c. if c.viewer == v then None else Some c) w.caret;
@@ -157,36 +157,36 @@ abbrev stands_in : ScreenSeen → ℕ → Track
 stands_in t v = cond (has t.user v) User System
 
 moved_room : (t : ScreenSeen) (v row : ℕ) (u : Unit) → (has t.user v || has t.system v) ≡ true → moving t v row ≡ Ok u
-    → (can_move (seats_of t (stands_in t v)) (place (seats_of t (stands_in t v)) v) row ≡ true)
-    × (with_seats t (stands_in t v) (moved (seats_of t (stands_in t v)) (place (seats_of t (stands_in t v)) v) row) ≡ after_moving t v row)
+    → (can_move (seats_of t (stands_in t v)) (seat_index (seats_of t (stands_in t v)) v) row ≡ true)
+    × (with_seats t (stands_in t v) (moved (seats_of t (stands_in t v)) (seat_index (seats_of t (stands_in t v)) v) row) ≡ after_moving t v row)
 moved_room t v row u stands ok = by_tests (has t.user v) (has t.system v) stands ok
   where
     by_tests : (a b : Bool) → (a || b) ≡ true → cond a (move_answer t.user v row) (move_answer t.system v row) ≡ Ok u
-        → (can_move (seats_of t (cond a User System)) (place (seats_of t (cond a User System)) v) row ≡ true)
-        × (with_seats t (cond a User System) (moved (seats_of t (cond a User System)) (place (seats_of t (cond a User System)) v) row)
+        → (can_move (seats_of t (cond a User System)) (seat_index (seats_of t (cond a User System)) v) row ≡ true)
+        × (with_seats t (cond a User System) (moved (seats_of t (cond a User System)) (seat_index (seats_of t (cond a User System)) v) row)
         ≡ cond a (record t { user = after_move t.user v row }) (record t { system = after_move t.system v row }))
     by_tests true b stands ok =
-        let k = answers_ok (has t.user v) (can_move t.user (place t.user v) row) u ok in
-        (k.1, λ i. record t { user = cond (sym k.0 i && sym k.1 i) (moved t.user (place t.user v) row) t.user })
+        let k = answers_ok (has t.user v) (can_move t.user (seat_index t.user v) row) u ok in
+        (k.1, λ i. record t { user = cond (sym k.0 i && sym k.1 i) (moved t.user (seat_index t.user v) row) t.user })
     by_tests false b stands ok =
-        let k = answers_ok (has t.system v) (can_move t.system (place t.system v) row) u ok in
-        (k.1, λ i. record t { system = cond (sym k.0 i && sym k.1 i) (moved t.system (place t.system v) row) t.system })
+        let k = answers_ok (has t.system v) (can_move t.system (seat_index t.system v) row) u ok in
+        (k.1, λ i. record t { system = cond (sym k.0 i && sym k.1 i) (moved t.system (seat_index t.system v) row) t.system })
 
 moved_full : (t : ScreenSeen) (v row : ℕ) (why : Refusal) → (has t.user v || has t.system v) ≡ true → moving t v row ≡ Err why
-    → (can_move (seats_of t (stands_in t v)) (place (seats_of t (stands_in t v)) v) row ≡ false) × (NoRoom ≡ why)
+    → (can_move (seats_of t (stands_in t v)) (seat_index (seats_of t (stands_in t v)) v) row ≡ false) × (NoRoom ≡ why)
     × (after_moving t v row ≡ t)
 moved_full t v row why stands err = by_tests (has t.user v) (has t.system v) refl refl stands err
   where
     by_tests : (a b : Bool) → has t.user v ≡ a → has t.system v ≡ b → (a || b) ≡ true
         → cond a (move_answer t.user v row) (move_answer t.system v row) ≡ Err why
-        → (can_move (seats_of t (cond a User System)) (place (seats_of t (cond a User System)) v) row ≡ false) × (NoRoom ≡ why)
+        → (can_move (seats_of t (cond a User System)) (seat_index (seats_of t (cond a User System)) v) row ≡ false) × (NoRoom ≡ why)
         × (cond a (record t { user = after_move t.user v row }) (record t { system = after_move t.system v row }) ≡ t)
     by_tests true b user system stands err =
-        let k = answers_err (has t.user v) (can_move t.user (place t.user v) row) why user err in
-        (k.0, k.1, λ i. record t { user = cond (user i && k.0 i) (moved t.user (place t.user v) row) t.user })
+        let k = answers_err (has t.user v) (can_move t.user (seat_index t.user v) row) why user err in
+        (k.0, k.1, λ i. record t { user = cond (user i && k.0 i) (moved t.user (seat_index t.user v) row) t.user })
     by_tests false true user system stands err =
-        let k = answers_err (has t.system v) (can_move t.system (place t.system v) row) why system err in
-        (k.0, k.1, λ i. record t { system = cond (system i && k.0 i) (moved t.system (place t.system v) row) t.system })
+        let k = answers_err (has t.system v) (can_move t.system (seat_index t.system v) row) why system err in
+        (k.0, k.1, λ i. record t { system = cond (system i && k.0 i) (moved t.system (seat_index t.system v) row) t.system })
     by_tests false false user system stands err = cc
 
 pub moved_is : (w : WindowsSeen) (v row : ℕ) (u : Unit) → is_open (screened w) v ≡ true
@@ -197,7 +197,7 @@ moved_is w v row u stands above ok =
     let k = moved_room w.viewers.tracks v row u stands ok in
     when_true (is_open (screened w) v) _ (Err NoViewer) stands
     ∙ (when_false (nat_le t.height row) (Err OutOfRange) _ above
-    ∙ (when_true (can_move (seats_of t (stands_in t v)) (place (seats_of t (stands_in t v)) v) row) _ (Err NoRoom) k.0
+    ∙ (when_true (can_move (seats_of t (stands_in t v)) (seat_index (seats_of t (stands_in t v)) v) row) _ (Err NoRoom) k.0
     ∙ (λ i. Ok (record (screened w) { tracks = k.1 i }, None))))
 
 pub moved_refused : (w : WindowsSeen) (v row : ℕ) (why : Refusal) → is_open (screened w) v ≡ true
@@ -208,7 +208,7 @@ moved_refused w v row why stands above err =
     let k = moved_full w.viewers.tracks v row why stands err in (
       when_true (is_open (screened w) v) _ (Err NoViewer) stands
           ∙ (when_false (nat_le t.height row) (Err OutOfRange) _ above
-          ∙ (when_false (can_move (seats_of t (stands_in t v)) (place (seats_of t (stands_in t v)) v) row) _ (Err NoRoom) k.0
+          ∙ (when_false (can_move (seats_of t (stands_in t v)) (seat_index (seats_of t (stands_in t v)) v) row) _ (Err NoRoom) k.0
           ∙ ap Err k.1)),
       λ i. record w.viewers { tracks = k.2 i },
     )

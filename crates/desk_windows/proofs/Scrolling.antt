@@ -5,7 +5,7 @@ use Rattle.std.specs.Option.{option_and_then, option_map_or}
 use Rattle.looks.specs.declared.refusal.Refusal.TheVariants.{NoViewer}
 use Rattle.viewers.specs.Viewers.{content_of, with_content, with_entry}
 use Rattle.texts.specs.TextState.{TextState}
-use Rattle.machine.specs.DeskState.{DeskState, IsTextOf}
+use Rattle.machine.specs.SiteTexts.{SiteTexts, IsTextOf}
 use Rattle.machine.specs.Windows.{Arranged, Window, line_anchor, scrolled_in, shown_by, text_of, window_of as shown_window}
 use Rattle.text_frames.specs.Frames.{IsDrawn}
 use Rattle.desk_windows.specs.Windows.{ShowTexts, ShowsText, WindowSeen, WindowsSeen, screened, window_of, windows_of}
@@ -32,7 +32,7 @@ windows_set (entry ∷ rest) v c = by_test (eqb entry.0 v) (windows_set rest v c
     by_test true more = ap (λ l. (v, window_of c) ∷ l) more
     by_test false more = ap (λ l. (entry.0, window_of entry.1) ∷ l) more
 
-module _ (d : DeskState) (w : WindowsSeen) (v line : ℕ) where
+module _ (d : SiteTexts) (w : WindowsSeen) (v line : ℕ) where
   abbrev outcome : Option (Window × TextState) → Arranged
   outcome o = option_map_or (λ shown. Ok (
     record (screened w) {

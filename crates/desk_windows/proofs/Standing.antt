@@ -7,12 +7,12 @@ use Rattle.viewers.specs.declared.screen.Track.{Track}
 use Rattle.viewers.specs.declared.screen.Track.TheVariants.{User, System}
 use Rattle.viewers.specs.declared.seats.Seat.{Seat}
 use Rattle.viewers.specs.Screen.{ScreenSeen, after_close, after_closing, after_move, after_moving, has, seats_of, with_seats}
-use Rattle.viewers.specs.Tracks.{can_move, closed, moved, opened, place, row_for}
+use Rattle.viewers.specs.Tracks.{can_move, closed, moved, opened, seat_index, row_for}
 use Rattle.viewers.specs.Viewers.{AreViewers, ViewersSeen, after_opening, content_of, has_room, numbers, seated, times, with_top, with_viewer, without, without_viewer}
 use Rattle.viewers.proofs.Numbers.{none_next, one_if}
 use Rattle.viewers.proofs.Seating.{has_no_times, has_times, seated_moved, times_closed, times_opened}
 use Rattle.texts.specs.TextState.{TextState}
-use Rattle.machine.specs.DeskState.{DeskState, IsTextOf}
+use Rattle.machine.specs.SiteTexts.{SiteTexts, IsTextOf}
 use Rattle.machine.specs.declared.TheConstants.{MAX_TEXT}
 use Rattle.text_frames.specs.Frames.{IsDrawn}
 use Rattle.desk_windows.specs.Windows.{AllShow, ShowsText, WindowSeen, width_of}
@@ -28,20 +28,20 @@ has_by_times seats u some = by_test (has seats u) refl
 has_closed : (seats : List Seat) (v u : ℕ) → has (after_close seats v) u ≡ true → has seats u ≡ true
 has_closed seats v u is = by_test (has seats v) refl is
   where
-    by_test : (b : Bool) → has seats v ≡ b → has (cond b (closed seats (place seats v)) seats) u ≡ true → has seats u ≡ true
+    by_test : (b : Bool) → has seats v ≡ b → has (cond b (closed seats (seat_index seats v)) seats) u ≡ true → has seats u ≡ true
     by_test true at is =
-        let some = has_times (closed seats (place seats v)) u is in
-        let out = times_closed seats (place seats v) u (ltb-true (place seats v) (length seats) at) in
+        let some = has_times (closed seats (seat_index seats v)) u is in
+        let out = times_closed seats (seat_index seats v) u (ltb-true (seat_index seats v) (length seats) at) in
         has_by_times seats u (omega (arith, some, out))
     by_test false at is = is
 
 has_moved : (seats : List Seat) (v row u : ℕ) → has (after_move seats v row) u ≡ true → has seats u ≡ true
-has_moved seats v row u is = by_test (has seats v && can_move seats (place seats v) row) is
+has_moved seats v row u is = by_test (has seats v && can_move seats (seat_index seats v) row) is
   where
-    by_test : (b : Bool) → has (cond b (moved seats (place seats v) row) seats) u ≡ true → has seats u ≡ true
+    by_test : (b : Bool) → has (cond b (moved seats (seat_index seats v) row) seats) u ≡ true → has seats u ≡ true
     by_test true is =
-        let some = has_times (moved seats (place seats v) row) u is in
-        let same = ap (times u) (seated_moved seats (place seats v) row) in
+        let some = has_times (moved seats (seat_index seats v) row) u is in
+        let same = ap (times u) (seated_moved seats (seat_index seats v) row) in
         has_by_times seats u (omega (arith, some, same))
     by_test false is = is
 
@@ -146,7 +146,7 @@ module _ {C : Type 0} where
       by_test more false e = let n = more e in omega (arith, n)
 
 -- windows still show their texts where no viewer stands that didn't, and each shows what it showed
-pub all_kept : (d : DeskState) (s s' : ViewersSeen WindowSeen) → s'.tracks.width ≡ s.tracks.width
+pub all_kept : (d : SiteTexts) (s s' : ViewersSeen WindowSeen) → s'.tracks.width ≡ s.tracks.width
     → ((u : ℕ) → has s'.tracks.user u ≡ true → has s.tracks.user u ≡ true)
     → ((u : ℕ) → has s'.tracks.system u ≡ true → has s.tracks.system u ≡ true)
     → ((u : ℕ) (w : WindowSeen) → content_of s'.contents u ≡ Some w → content_of s.contents u ≡ Some w)
@@ -204,7 +204,7 @@ new_system t User seats v n none wide is = let some = has_times t.system v is in
 new_system t System seats v n none wide is = wide
 
 -- windows still show their texts as a window of one of them opens
-pub all_opened : (d : DeskState) (s : ViewersSeen WindowSeen) (track : Track) (row : Option ℕ) (c : WindowSeen) (t : TextState)
+pub all_opened : (d : SiteTexts) (s : ViewersSeen WindowSeen) (track : Track) (row : Option ℕ) (c : WindowSeen) (t : TextState)
     → AreViewers s → AllShow d s → c.text ≤ MAX_TEXT → IsTextOf d c.text t → IsDrawn c.frame t
     → c.frame.width ≡ width_of s.tracks.width track → AllShow d (with_viewer s track row c)
 all_opened d s track row c t viewers all low at drawn wide u w is =
@@ -243,18 +243,18 @@ all_opened d s track row c t viewers all low at drawn wide u w is =
     ]
 
 -- as a viewer closes, and as a top is moved
-pub all_closed : (d : DeskState) (s : ViewersSeen WindowSeen) (v : ℕ) → AllShow d s → AllShow d (without_viewer s v)
+pub all_closed : (d : SiteTexts) (s : ViewersSeen WindowSeen) (v : ℕ) → AllShow d s → AllShow d (without_viewer s v)
 all_closed d s v =
     all_kept d s (without_viewer s v) (closed_width s.tracks v) (λ u. closed_user s.tracks v u) (λ u. closed_system s.tracks v u)
     (λ u w. content_without s.contents v u w)
 
-pub all_moved : (d : DeskState) (s : ViewersSeen WindowSeen) (v row : ℕ) → AllShow d s → AllShow d (with_top s v row)
+pub all_moved : (d : SiteTexts) (s : ViewersSeen WindowSeen) (v row : ℕ) → AllShow d s → AllShow d (with_top s v row)
 all_moved d s v row =
     all_kept d s (with_top s v row) (moved_width s.tracks v row) (λ u. moved_user s.tracks v row u)
     (λ u. moved_system s.tracks v row u) (λ u w e. e)
 
 -- and as one opens, or finds no room
-pub all_after : (d : DeskState) (s : ViewersSeen WindowSeen) (track : Track) (row : Option ℕ) (c : WindowSeen) (t : TextState)
+pub all_after : (d : SiteTexts) (s : ViewersSeen WindowSeen) (track : Track) (row : Option ℕ) (c : WindowSeen) (t : TextState)
     → AreViewers s → AllShow d s → c.text ≤ MAX_TEXT → IsTextOf d c.text t → IsDrawn c.frame t
     → c.frame.width ≡ width_of s.tracks.width track → AllShow d (after_opening s track row c)
 all_after d s track row c t viewers all low at drawn wide = by_test (has_room s track row)

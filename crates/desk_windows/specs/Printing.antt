@@ -4,13 +4,13 @@ use Rattle.std.specs.Option.{option_map_or}
 use Rattle.line_drawing.specs.Rows.{cells_of}
 use Rattle.command_words.specs.Commands.{menu_of}
 use Rattle.viewers.specs.Screen.{area_of, has, seats_of, user_width}
-use Rattle.viewers.specs.Tracks.{place, top, viewer_in}
+use Rattle.viewers.specs.Tracks.{seat_index, top, viewer_in}
 use Rattle.viewers.specs.Viewers.{ViewersSeen}
 use Rattle.viewers.specs.declared.screen.Track.{Track}
 use Rattle.viewers.specs.declared.screen.Track.TheVariants.{User, System}
 use Rattle.viewers.specs.declared.screen.Area.{Area}
 use Rattle.viewers.specs.declared.seats.Seat.{Seat}
-use Rattle.machine.specs.DeskState.{DeskState}
+use Rattle.machine.specs.SiteTexts.{SiteTexts}
 use Rattle.machine.specs.ScreenPrinting.{track_cells, viewer_line}
 use Rattle.machine.specs.Windows.{Screened, window_of}
 use Rattle.text_frames.specs.Reading.{no_row}
@@ -36,12 +36,12 @@ viewer_row v w row =
     if row == 0 then cells_of w.frame.width (menu_of v w.text) else (slice_index_or w.frame.rows (row - 1) no_row).cells
 
 -- a row of a track
-abbrev pub cells_in : DeskState → ViewersSeen WindowSeen → Track → (row : ℕ) → List ℕ
+abbrev pub cells_in : SiteTexts → ViewersSeen WindowSeen → Track → (row : ℕ) → List ℕ
 cells_in d viewers track row =
     track_cells d (over viewers) (seats_of viewers.tracks track) (width_of viewers.tracks.width track) row
 
 -- the line of the viewer of a seat; none where it shows nothing
-abbrev pub seat_lines : DeskState → ViewersSeen WindowSeen → (name : List ℕ) → (top : ℕ) → Seat → List ℕ
+abbrev pub seat_lines : SiteTexts → ViewersSeen WindowSeen → (name : List ℕ) → (top : ℕ) → Seat → List ℕ
 seat_lines d viewers name top seat =
     option_map_or (λ shown. viewer_line name seat top shown.0.text) (window_of d (over viewers) seat.number) []
 
@@ -49,7 +49,7 @@ seat_lines d viewers name top seat =
 pub record HoldsRow (viewers : ViewersSeen WindowSeen) (track : Track) (row v line : ℕ) : Type 0 where
   pub viewer : viewer_in (seats_of viewers.tracks track) row ≡ Some v
   pub stands : has (seats_of viewers.tracks track) v ≡ true
-  pub line_is : line ≡ row - top (seats_of viewers.tracks track) (place (seats_of viewers.tracks track) v)
+  pub line_is : line ≡ row - top (seats_of viewers.tracks track) (seat_index (seats_of viewers.tracks track) v)
   pub area : Area
   pub is : area_of viewers.tracks v ≡ Some area
   pub in_area : line < area.height

@@ -17,7 +17,7 @@ use Rattle.texts.specs.Edit.{anchor_before}
 use Rattle.texts.specs.Laws.{KeepsTheOrder}
 use Rattle.texts.specs.Text.{IsAnchor, IsText}
 use Rattle.texts.specs.TextState.{TextState, shown_of}
-use Rattle.machine.specs.DeskState.{DeskState, IsTextOf}
+use Rattle.machine.specs.SiteTexts.{SiteTexts, IsTextOf}
 use Rattle.machine.specs.Windows.{Arranged, Caret, Screened, Selected, Window, place_in, window_of as shown_in}
 use Rattle.machine.specs.declared.TheConstants.{MAX_TEXT}
 use Rattle.text_frames.specs.Frames.{FrameSeen, IsDrawn, is_quiet_for}
@@ -57,7 +57,7 @@ width_of width User = user_width width
 width_of width System = width - user_width width
 
 -- a window shows a text of the desk, and is as wide as its viewer's track
-pub record ShowsText (d : DeskState) (tracks : ScreenSeen) (v : ℕ) (w : WindowSeen) : Type 0 where
+pub record ShowsText (d : SiteTexts) (tracks : ScreenSeen) (v : ℕ) (w : WindowSeen) : Type 0 where
   pub on_desk : w.text ≤ MAX_TEXT
   pub text : TextState
   pub at : IsTextOf d w.text text
@@ -66,7 +66,7 @@ pub record ShowsText (d : DeskState) (tracks : ScreenSeen) (v : ℕ) (w : Window
   pub in_system : has tracks.system v ≡ true → w.frame.width ≡ width_of tracks.width System
 
 -- all windows do
-abbrev pub AllShow : DeskState → ViewersSeen WindowSeen → Type 0
+abbrev pub AllShow : SiteTexts → ViewersSeen WindowSeen → Type 0
 AllShow d viewers =
     (v : ℕ) (w : WindowSeen) → content_of viewers.contents v ≡ Some w → ShowsText d viewers.tracks v w
 
@@ -76,37 +76,37 @@ HasRows viewers v = (w : WindowSeen) (area : Area) → content_of viewers.conten
     → area_of viewers.tracks v ≡ Some area → suc (length w.frame.rows) ≡ area.height
 
 -- all windows show texts of the desk, in their viewers' rows
-pub record ShowTexts (d : DeskState) (viewers : ViewersSeen WindowSeen) : Type 0 where
+pub record ShowTexts (d : SiteTexts) (viewers : ViewersSeen WindowSeen) : Type 0 where
   pub texts : AllShow d viewers
   pub high : (v : ℕ) → HasRows viewers v
 
 -- a viewer shows a text of the desk of which this holds
-abbrev pub ShowsSo : DeskState → ViewersSeen WindowSeen → (viewer : ℕ) → (TextState → Type 0) → Type 0
+abbrev pub ShowsSo : SiteTexts → ViewersSeen WindowSeen → (viewer : ℕ) → (TextState → Type 0) → Type 0
 ShowsSo d viewers v Holds =
     (w : WindowSeen) × (t : TextState) × (content_of viewers.contents v ≡ Some w) × IsTextOf d w.text t × Holds t
 
 -- The windows are those of the desk: all show its texts, and caret and selection stand in viewers, by characters of what
 -- these show.
-pub record AreOf (d : DeskState) (w : WindowsSeen) : Type 0 where
+pub record AreOf (d : SiteTexts) (w : WindowsSeen) : Type 0 where
   pub shown : ShowTexts d w.viewers
   pub caret : (c : Caret) → w.caret ≡ Some c → ShowsSo d w.viewers c.viewer (λ t. IsAnchor t.operations c.anchor)
   pub selected : (s : Selected) → w.selected ≡ Some s
       → ShowsSo d w.viewers s.viewer (λ t. IsChar t.operations s.first × IsChar t.operations s.last)
 
--- The caret's text, and how many shown characters stand ahead of the caret; nothing where there is no caret.
-abbrev pub IsCaretPlace : DeskState → WindowsSeen → Option (ℕ × ℕ) → Type 0
+-- The caret's text, and how many shown characters stand before the caret; nothing where there is no caret.
+abbrev pub IsCaretPlace : SiteTexts → WindowsSeen → Option (ℕ × ℕ) → Type 0
 IsCaretPlace d w None = w.caret ≡ None
 IsCaretPlace d w (Some place) = (c : Caret) × (shown : Window × TextState) × (w.caret ≡ Some c)
     × (shown_in d (screened w) c.viewer ≡ Some shown) × (place.0 ≡ shown.0.text) × (place.1 ≡ place_in shown.1 c.anchor)
 
 -- the number of the text that a viewer shows; none where there is no such viewer
-abbrev pub IsTextShown : DeskState → WindowsSeen → (viewer : ℕ) → Option ℕ → Type 0
+abbrev pub IsTextShown : SiteTexts → WindowsSeen → (viewer : ℕ) → Option ℕ → Type 0
 IsTextShown d w v None = shown_in d (screened w) v ≡ None
 IsTextShown d w v (Some text) =
     (shown : Window × TextState) × (shown_in d (screened w) v ≡ Some shown) × (text ≡ shown.0.text)
 
--- the caret, set behind so many shown characters of its text
-abbrev pub HasMovedTo : DeskState → (old : WindowsSeen) → (pos : ℕ) → (new : WindowsSeen) → Type 0
+-- the caret, set after so many shown characters of its text
+abbrev pub HasMovedTo : SiteTexts → (old : WindowsSeen) → (pos : ℕ) → (new : WindowsSeen) → Type 0
 HasMovedTo d old pos new = (c : Caret) (shown : Window × TextState) → old.caret ≡ Some c
     → shown_in d (screened old) c.viewer ≡ Some shown
     → screened new ≡ record (screened old)

@@ -17,7 +17,7 @@ fn fit(viewers: &mut Screen<Window>, texts: &Texts, number: u32)
     ensures fitted { HasRows viewers.new number }
     ensures kept { (v : ℕ) → HasRows viewers.old v → HasRows viewers.new v }
 {
-    viewers.are_viewers();
+    viewers.lemma_are_viewers();
     if let Some(area) = viewers.area(number) {
         if let Some(window) = viewers.content(number) {
             window.fit(texts, area.height - 1);

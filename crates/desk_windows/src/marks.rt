@@ -27,7 +27,7 @@ pub struct Stretch {
     pub end: u64,
 }
 
-// Appends numbers, each behind a blank. After an `Err` of this and of the others that append, some of it may stand there.
+// Appends numbers, each after a blank. After an `Err` of this and of the others that append, some of it may stand there.
 pub(crate) fn put_spaced(out: &mut Vec<u8>, numbers: &[u64]) -> Result<(), AllocError>
     ensures { OnOk result (out.new.items ≡ out.old.items ++ spaced numbers.now) }
 {
@@ -139,7 +139,7 @@ impl Windows {
         self.caret.is_some()
     }
 
-    /// The caret's text, and how many shown characters stand ahead of the caret; `None` where there is no caret.
+    /// The caret's text, and how many shown characters stand before the caret; `None` where there is no caret.
     pub fn caret_place(&self, texts: &Texts) -> Option<(TextNo, u64)>
         requires { AreOf texts.now self.now }
         ensures place { IsCaretPlace texts.now self.now result }
@@ -151,7 +151,7 @@ impl Windows {
         }
     }
 
-    /// Sets the caret behind so many shown characters of its text.
+    /// Sets the caret after so many shown characters of its text.
     pub fn move_caret(&mut self, texts: &Texts, pos: u64)
         requires of { AreOf texts.now self.old }
         requires in_text { (c : CaretSeen) (shown : WindowShown × TextState) → self.old.caret ≡ Just c
@@ -164,7 +164,7 @@ impl Windows {
             return;
         };
         let replica = texts.replica(spot.text);
-        replica.is_text();
+        replica.lemma_is_text();
         let anchor = replica.anchor_after(pos);
         self.caret = Some(Caret {
             viewer: spot.viewer,

@@ -4,7 +4,7 @@ ghost use Rattle.std.specs.Prelude.{◌≡◌, ◌+◌, ◌≤◌, None as Nothi
 ghost use Rattle.machine.specs.Windows.{arranged, selected_from};
 ghost use Rattle.machine.specs.declared.asked.Arrangement.TheVariants.{Point, Select};
 ghost use Rattle.texts.specs.TextState.{shown_of};
-ghost use Rattle.desk_windows.specs.Pointing.{IsClicked, IsInWindow, IsPlaceIn, IsPointed, spot_of};
+ghost use Rattle.desk_windows.specs.Pointing.{IsClicked, IsInWindow, IsTargetIn, IsPointed, spot_of};
 ghost use Rattle.desk_windows.specs.Windows.{AreOf, ComesTo, screened};
 
 use crate::window::Window;
@@ -18,7 +18,7 @@ use viewers::Area;
 
 /// Where a cell of a viewer stands: at a position of its menu's text, or of the text that it shows. This project's own.
 #[derive(Clone, Copy)]
-pub enum Place {
+pub enum CellTarget {
     Menu(u64),
     Text(u64),
 }
@@ -28,7 +28,7 @@ pub enum Place {
 pub struct Clicked {
     pub viewer: u32,
     pub text: TextNo,
-    pub place: Place,
+    pub place: CellTarget,
 }
 
 // A position of the text that a viewer shows.
@@ -39,7 +39,7 @@ pub(crate) struct Spot {
     pub(crate) pos: u64,
 }
 
-// The name of the character shown at a position; `None` behind the last one.
+// The name of the character shown at a position; `None` after the last one.
 fn name_at(replica: &Replica, pos: u64) -> Option<Name>
     ensures { result ≡ option_map (λ c. c.name) (slice_get (shown_of replica.now) pos) }
 {
@@ -72,15 +72,15 @@ fn between(replica: &Replica, viewer: u32, pos: u64, other: u64) -> Option<Selec
 }
 
 // Where a cell of a viewer with this area stands in it.
-fn cell_place(window: &Window, area: &Area, col: usize, row: usize) -> Place
+fn cell_target(window: &Window, area: &Area, col: usize, row: usize) -> CellTarget
     requires { IsInWindow area.now window.now col row }
-    ensures { IsPlaceIn area.now window.now col row result }
+    ensures { IsTargetIn area.now window.now col row result }
 {
     let col = col - area.col;
     if row == area.top {
-        return Place::Menu(col as u64);
+        return CellTarget::Menu(col as u64);
     }
-    Place::Text(window.frame.locate(col, row - area.top - 1))
+    CellTarget::Text(window.frame.locate(col, row - area.top - 1))
 }
 
 impl Windows {
@@ -90,7 +90,7 @@ impl Windows {
         ensures meets { IsClicked texts.now self.now col row result }
         ensures points { IsPointed texts.now self.now col row (spot_of result) }
     {
-        self.viewers.are_viewers();
+        self.viewers.lemma_are_viewers();
         if self.viewers.height() <= row {
             return None;
         }
@@ -106,7 +106,7 @@ impl Windows {
         Some(Clicked {
             viewer,
             text: window.text,
-            place: cell_place(window, &area, col, row),
+            place: cell_target(window, &area, col, row),
         })
     }
 
@@ -120,8 +120,8 @@ impl Windows {
             return None;
         };
         match at.place {
-            Place::Menu(_) => None,
-            Place::Text(pos) => Some(Spot {
+            CellTarget::Menu(_) => None,
+            CellTarget::Text(pos) => Some(Spot {
                 viewer: at.viewer,
                 text: at.text,
                 pos,
@@ -129,7 +129,7 @@ impl Windows {
         }
     }
 
-    /// Sets the caret into a cell below a viewer's menu: behind the character ahead of the cell's, or at the text's begin.
+    /// Sets the caret into a cell below a viewer's menu: after the character before the cell's, or at the text's begin.
     ///
     /// Refused `NoViewer` for a cell of a menu, of a blank track and outside the screen. Nothing is changed then.
     pub fn point(&mut self, texts: &Texts, col: usize, row: usize) -> Result<(), Refusal>
@@ -142,7 +142,7 @@ impl Windows {
             return Err(Refusal::NoViewer);
         };
         let replica = texts.replica(spot.text);
-        replica.is_text();
+        replica.lemma_is_text();
         let anchor = replica.anchor_after(spot.pos);
         self.caret = Some(Caret {
             viewer: spot.viewer,
@@ -155,7 +155,7 @@ impl Windows {
     /// greater one, with the character there.
     ///
     /// Refused, in this order, `NoViewer` for a cell of a menu, of a blank track and outside the screen, and for cells of two
-    /// viewers, and `OutOfRange` where both stand behind the text's last character. Nothing is changed then.
+    /// viewers, and `OutOfRange` where both stand after the text's last character. Nothing is changed then.
     pub fn select(
         &mut self,
         texts: &Texts,
@@ -177,7 +177,7 @@ impl Windows {
             return Err(Refusal::NoViewer);
         }
         let replica = texts.replica(from.text);
-        replica.is_text();
+        replica.lemma_is_text();
         let Some(selection) = between(replica, from.viewer, from.pos, to.pos) else {
             return Err(Refusal::OutOfRange);
         };

@@ -76,7 +76,7 @@ fn put_track(
     ensures { OnOk result (out.new.items ≡ out.old.items
         ++ track_lines texts.now (over viewers.now) (name_of track) 0 (seats_of viewers.now.tracks track)) }
 {
-    viewers.are_viewers();
+    viewers.lemma_are_viewers();
     let mut top = 0;
     for seat in viewers.seats(track) {
         put_seat(out, viewers, texts, track, *seat, top)?;
@@ -113,7 +113,7 @@ fn holder(viewers: &Screen<Window>, track: Track, row: usize) -> Option<(u32, us
     requires { row < viewers.now.tracks.height }
     ensures { IsHeld viewers.now track row result }
 {
-    viewers.are_viewers();
+    viewers.lemma_are_viewers();
     let col = first_column(viewers.width(), track);
     let Some(number) = viewers.at(col, row) else {
         return None;
@@ -153,7 +153,7 @@ fn put_row(
     requires below { row < viewers.now.tracks.height }
     ensures { OnOk result (out.new.items ≡ out.old.items ++ cells_in texts.now viewers.now track row) }
 {
-    viewers.are_viewers();
+    viewers.lemma_are_viewers();
     let mut room = [0; MAX_WIDTH];
     let cells = &mut room[..track_width(viewers.width(), track)];
     draw_track(cells, viewers, texts, track, row);

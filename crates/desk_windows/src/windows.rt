@@ -3,7 +3,7 @@ ghost use Rattle.std.specs.Option.{option_and_then};
 ghost use Rattle.looks.specs.Refusal.{RefusedForMemoryAlone};
 ghost use Rattle.looks.specs.declared.refusal.Refusal.TheVariants.{NoRoom};
 ghost use Rattle.viewers.specs.Viewers.{after_opening, has_room};
-ghost use Rattle.machine.specs.DeskState.{DeskState, InText};
+ghost use Rattle.machine.specs.SiteTexts.{SiteTexts, InText};
 ghost use Rattle.machine.specs.Windows.{arranged, blank_screen, is_open, is_row_below};
 ghost use Rattle.machine.specs.declared.asked.Arrangement.TheVariants.{Close, Move, Open, Scroll};
 ghost use Rattle.desk_windows.specs.Windows.{AreLeft, AreOf, ComesTo, ComesToOrShort, Follows, IsTextShown, screened, width_of};
@@ -99,7 +99,7 @@ impl Windows {
         requires high { MIN_HEIGHT ≤ height }
         requires low { height ≤ MAX_HEIGHT }
         ensures ok { IfOk result (λ w. screened w ≡ blank_screen width height) }
-        ensures of { IfOk result (λ w. (d : DeskState) → AreOf d w) }
+        ensures of { IfOk result (λ w. (d : SiteTexts) → AreOf d w) }
         ensures errors { RefusedForMemoryAlone result }
     {
         Ok(Windows {
@@ -129,8 +129,8 @@ impl Windows {
 
     /// The number of the text that a viewer shows; `None` for a viewer that isn't on the screen.
     pub fn text_of(&self, viewer: u32) -> Option<TextNo>
-        ensures text { (d : DeskState) → AreOf d self.now → IsTextShown d self.now viewer result }
-        ensures on_desk { (d : DeskState) → AreOf d self.now → IfSome result (λ text. text ≤ MAX_TEXT) }
+        ensures text { (d : SiteTexts) → AreOf d self.now → IsTextShown d self.now viewer result }
+        ensures on_desk { (d : SiteTexts) → AreOf d self.now → IfSome result (λ text. text ≤ MAX_TEXT) }
     {
         match self.viewers.content_at(viewer) {
             Some(window) => Some(window.text),
@@ -155,7 +155,7 @@ impl Windows {
             self.old (λ v. Just v) result self.new }
         ensures of { AreOf texts.now self.new }
     {
-        self.viewers.are_viewers();
+        self.viewers.lemma_are_viewers();
         if self.is_below(row) {
             return Err(Refusal::OutOfRange);
         }
@@ -178,7 +178,7 @@ impl Windows {
             self.old (λ _. Nothing) result self.new }
         ensures of { AreOf texts.now self.new }
     {
-        self.viewers.are_viewers();
+        self.viewers.lemma_are_viewers();
         let _window = self.viewers.close(viewer)?;
         self.caret = caret_without(self.caret, viewer);
         self.selected = selection_without(self.selected, viewer);
@@ -228,7 +228,7 @@ impl Windows {
     pub fn tell(&mut self, texts: &Texts, text: TextNo, changes: &[Change])
         requires { text ≤ MAX_TEXT }
         ensures screen { screened self.new ≡ screened self.old }
-        ensures of { (d : DeskState) → AreOf d self.old → InText (Follows changes.now) d text texts.now
+        ensures of { (d : SiteTexts) → AreOf d self.old → InText (Follows changes.now) d text texts.now
             → AreOf texts.now self.new }
         ensures left { AreLeft text changes.now self.old.viewers self.new.viewers }
     {

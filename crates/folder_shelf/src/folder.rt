@@ -66,7 +66,7 @@ pub trait Folder {
             (history self.old) (history self.new)) }
         ensures err { IfErr result (λ error. Goes (Perhaps error Same) (history self.old) (history self.new)) };
 
-    /// Puts the next piece of a file behind the bytes, and returns how many came: fewer than `MAX_PIECE` at the
+    /// Puts the next piece of a file after the bytes, and returns how many came: fewer than `MAX_PIECE` at the
     /// file's end alone.
     fn read(&mut self, file: &mut Self::File, bytes: &mut Vec<u8>) -> io::Result<usize>
         ensures ok { IfOk result (λ count. Goes (λ old new. Well Same old new

@@ -16,7 +16,7 @@ use std::io::ErrorKind;
 /// The most bytes of a file that is read or written. This project's own.
 pub const MAX_FILE_LEN: usize = 1 << 30;
 
-// How the names of files begin that aren't whole yet, behind which comes a number: longer than a file's name in a
+// How the names of files begin that aren't whole yet, after which comes a number: longer than a file's name in a
 // command, so that no command names one.
 const BESIDE: &str = ".file-of-a-text-that-is-not-whole-yet-";
 

@@ -71,7 +71,7 @@ is_located bytes width k col = record {
       let lt : k < length (lines bytes) = omega (arith, more) in
       let inside : end_of bytes k < length bytes =
       omega (arith, extent-next (lines bytes) k lt, beg_is bytes (suc k) more, end-back bytes k lt) in
-      ap (λ (n : ℕ). get_or bytes n 0) at ∙ (stands_between bytes k lt).0.behind inside;
+      ap (λ (n : ℕ). get_or bytes n 0) at ∙ (stands_between bytes k lt).0.after inside;
   last = λ past le.
       let at : place_of (beg_of bytes k) (end_of bytes k) col ≡ end_of bytes k = omega (arith, past) in
       at ∙ last_end bytes k le;

@@ -76,7 +76,7 @@ extent-take [] (suc k) = omega arith
 extent-take (l ∷ ls) zero = omega arith
 extent-take (l ∷ ls) (suc k) = omega (arith, extent-take ls k)
 
--- a line that there is begins behind those ahead of it
+-- a line that there is begins after those before it
 pub beg_is : (bytes : List ℕ) (k : ℕ) → k < length (lines bytes)
     → extent (take k (lines bytes)) ≤ length bytes
 beg_is bytes k lt =

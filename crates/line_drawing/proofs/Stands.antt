@@ -26,7 +26,7 @@ empty_line bytes b is = record {
   order = omega arith;
   within = omega arith;
   before = λ some. absurd (omega (arith, some));
-  behind = λ some. is;
+  after = λ some. is;
   each = λ k from to. absurd (omega (arith, from, to));
 }
 
@@ -42,7 +42,7 @@ shifted_each : (bytes : List ℕ) (b beg end : ℕ) → IsBetweenEnds bytes beg 
 shifted_each bytes b beg end is zero from to = absurd (omega (arith, from))
 shifted_each bytes b beg end is (suc k) from to = is.each k (omega (arith, from)) (omega (arith, to))
 
--- a line with one byte more ahead of it
+-- a line with one byte more before it
 shifted : (bytes : List ℕ) (b beg end : ℕ) → IsBetweenEnds bytes beg end → (beg ≡ 0 → b ≡ LINE_END)
     → IsBetweenEnds (b ∷ bytes) (suc beg) (suc end)
 shifted bytes b beg end is first =
@@ -53,7 +53,7 @@ shifted bytes b beg end is first =
       order = omega (arith, order);
       within = omega (arith, within);
       before = λ some. subst (λ (k : ℕ). get_or (b ∷ bytes) k 0 ≡ LINE_END) one (shifted_before bytes b beg end is first);
-      behind = λ inside. is.behind (omega (arith, inside));
+      after = λ inside. is.after (omega (arith, inside));
       each = shifted_each bytes b beg end is;
     }
 
@@ -70,7 +70,7 @@ grown bytes b end differs is =
       order = omega arith;
       within = omega (arith, within);
       before = λ some. absurd (omega (arith, some));
-      behind = λ inside. is.behind (omega (arith, inside));
+      after = λ inside. is.after (omega (arith, inside));
       each = grown_each bytes b end differs is;
     }
 
@@ -110,7 +110,7 @@ stand [] zero lt = record {
   order = omega arith;
   within = omega arith;
   before = λ some. absurd (omega (arith, some));
-  behind = λ some. absurd (omega (arith, some));
+  after = λ some. absurd (omega (arith, some));
   each = λ k from to. absurd (omega (arith, from, to));
 }
 stand [] (suc k) lt = absurd (omega (arith, lt))
@@ -223,7 +223,7 @@ on_line bytes pos le =
       to = omega (arith, to, end-back bytes k there);
     }
 
--- a line that comes later begins behind the end of each one ahead of it
+-- a line that comes later begins after the end of each one before it
 later-front : (ls : List (List ℕ)) (k j : ℕ) → k < j → j ≤ length ls → back ls k < front ls j
 later-front [] k j lt le = absurd (omega (arith, lt, le))
 later-front (l ∷ ls) k zero lt le = absurd (omega (arith, lt))
@@ -258,7 +258,7 @@ lies_on_one bytes pos le =
       ],
     )
 
--- where no end of a line stands between a position and what is found ahead of it, that is where its line begins
+-- where no end of a line stands between a position and what is found before it, that is where its line begins
 pub found_beg : (bytes : List ℕ) (pos beg : ℕ) → pos ≤ length bytes → beg ≤ pos
     → (0 < beg → get_or bytes (beg - 1) 0 ≡ LINE_END)
     → ((k : ℕ) → beg ≤ k → k < pos → get_or bytes k 0 ≢ LINE_END) → beg ≡ beg_of bytes (ends_in (take pos bytes))

@@ -11,7 +11,7 @@ AreJoined a b = lines (a ++ LINE_END ∷ b) ≡ lines a ++ lines b
 abbrev pub HasOneLineMore : List ℕ → Type 0
 HasOneLineMore bytes = length (lines bytes) ≡ suc (ends_in bytes)
 
--- what stands behind the end of a line doesn't change its row, or a row above it
+-- what stands after the end of a line doesn't change its row, or a row above it
 abbrev pub IsOfItsOwnLine : List ℕ → List ℕ → ℕ → ℕ → Type 0
 IsOfItsOwnLine a b width k =
     k < length (lines a) → row_of (a ++ LINE_END ∷ b) width k ≡ row_of a width k
@@ -29,7 +29,7 @@ pub record IsBetweenEnds (bytes : List ℕ) (beg end : ℕ) : Type 0 where
   pub order : beg ≤ end
   pub within : end ≤ length bytes
   pub before : 0 < beg → slice_index bytes (beg - 1) ≡ LINE_END
-  pub behind : end < length bytes → slice_index bytes end ≡ LINE_END
+  pub after : end < length bytes → slice_index bytes end ≡ LINE_END
   pub each : (k : ℕ) → beg ≤ k → k < end → slice_index bytes k ≢ LINE_END
 
 -- each line is what stands between two ends of lines
@@ -43,7 +43,7 @@ pub record IsOnLine (bytes : List ℕ) (pos k : ℕ) : Type 0 where
   pub from : beg_of bytes k ≤ pos
   pub to : pos ≤ end_of bytes k
 
--- each position lies on the line of as many ends as stand ahead of it, and on no other
+-- each position lies on the line of as many ends as stand before it, and on no other
 abbrev pub LiesOnOneLine : List ℕ → ℕ → Type 0
 LiesOnOneLine bytes pos = pos ≤ length bytes
     → IsOnLine bytes pos (ends_in (take pos bytes)) × ((k : ℕ) → IsOnLine bytes pos k → k ≡ ends_in (take pos bytes))

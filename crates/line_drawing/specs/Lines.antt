@@ -2,7 +2,7 @@
 use Rattle.std.specs.Prelude.{ℕ, suc, ◌+◌, List, [], ◌∷◌, ◌==◌, length, take, min, slice_index_or, if◌then◌else◌}
 use Rattle.line_drawing.specs.declared.drawing.TheConstants.{LINE_END}
 
--- the byte ahead of the first line
+-- the byte before the first line
 abbrev pub onto_first : ℕ → List (List ℕ) → List (List ℕ)
 onto_first b [] = (b ∷ []) ∷ []
 onto_first b (line ∷ lines) = (b ∷ line) ∷ lines
@@ -26,7 +26,7 @@ abbrev pub extent : List (List ℕ) → ℕ
 extent [] = 0
 extent (line ∷ lines) = suc (length line) + extent lines
 
--- where line k begins: behind those ahead of it; past the last line the length
+-- where line k begins: after those before it; past the last line the length
 abbrev pub beg_of : List ℕ → ℕ → ℕ
 beg_of bytes k = min (extent (take k (lines bytes))) (length bytes)
 

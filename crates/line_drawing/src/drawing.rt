@@ -16,7 +16,7 @@ pub fn sign(byte: u8) -> u8
     }
 }
 
-/// Draws a line, given without its end, into a row's cells: cut at their number, with blanks behind it.
+/// Draws a line, given without its end, into a row's cells: cut at their number, with blanks after it.
 pub fn draw_line(cells: &mut [u8], line: &[u8])
     ensures { cells.new ≡ cells_of (length cells.old) line.now }
 {

@@ -17,7 +17,7 @@ pub fn a_row_is_of_its_own_line()
     ensures { (a b : List ℕ) (width k : ℕ) → IsOfItsOwnLine a b width k }
 {}
 
-/// A law: lines begin one behind the other.
+/// A law: lines begin one after the other.
 pub fn begins_rise()
     ensures { (bytes : List ℕ) (k : ℕ) → BegsRise bytes k }
 {}
@@ -33,7 +33,7 @@ pub fn lines_stand_between_ends()
     ensures { (bytes : List ℕ) (k : ℕ) → StandsBetween bytes k }
 {}
 
-/// A law: each position lies on one line, that of as many ends as stand ahead of the position.
+/// A law: each position lies on one line, that of as many ends as stand before the position.
 pub fn positions_lie_on_one_line()
     ensures { (bytes : List ℕ) (pos : ℕ) → LiesOnOneLine bytes pos }
 {}

@@ -8,7 +8,7 @@ use Rattle.list_changes.specs.declared.change.ChangeKind.{ChangeKind}
 use Rattle.list_changes.specs.declared.change.ChangeKind.TheVariants.{Insert, Delete, Replace}
 use Rattle.list_changes.specs.declared.change.Change.{Change}
 use Rattle.list_changes.specs.Changes.{AreAlike, IsOfKind, Trades, Makes, Leads}
-use Rattle.list_changes.specs.Quiet.{is_quiet, is_behind}
+use Rattle.list_changes.specs.Quiet.{is_quiet, is_after}
 use Rattle.list_changes.specs.Laws.{AreComposed, HasBounds, IsInBounds, AreSameUpTo, KeepsUpTo, LeadBackByNone}
 
 module _ {X : Type 0} (Alike : X → X → Type 0) where
@@ -119,10 +119,10 @@ module _ {X Y : Type 0} (Alike : X → X → Type 0) (f : X → Y) where
   take-map (suc n) [] = refl
   take-map (suc n) (x ∷ xs) = ap (λ (l : List Y). f x ∷ l) (take-map n xs)
 
-  -- the front of a change that begins behind the position reaches past it
-  behind : (last : ℕ) (front rest other a b : List X) → last < length front → a ≡ front ++ rest
+  -- the front of a change that begins after the position reaches past it
+  after : (last : ℕ) (front rest other a b : List X) → last < length front → a ≡ front ++ rest
       → b ≡ front ++ other → AreSameUpTo f last a b
-  behind last front rest other a b lt was now = record {
+  after last front rest other a b lt was now = record {
     reaches = omega (arith, lt, ap length now, length-append front other);
     same =
         ap (λ (l : List X). map f (take (suc last) l)) now
@@ -165,13 +165,13 @@ module _ {X Y : Type 0} (Alike : X → X → Type 0) (f : X → Y) where
   lt-of m n h = ltb-true m n h
 
   pub quiet-one : ((x y : X) → Alike x y → f y ≡ f x) → (kind : ChangeKind) (last beg end : ℕ)
-      (front gone come back a b : List X) → length front ≡ beg → is_behind kind last beg ≡ true → last < length a
+      (front gone come back a b : List X) → length front ≡ beg → is_after kind last beg ≡ true → last < length a
       → a ≡ front ++ (gone ++ back) → b ≡ front ++ (come ++ back) → Trades Alike kind beg end gone come
       → AreSameUpTo f last a b
   quiet-one agree Insert last beg end front gone come back a b at quiet lt was now trades =
-      behind last front (gone ++ back) (come ++ back) a b (omega (arith, lt-of last beg quiet, at)) was now
+      after last front (gone ++ back) (come ++ back) a b (omega (arith, lt-of last beg quiet, at)) was now
   quiet-one agree Delete last beg end front gone come back a b at quiet lt was now trades =
-      behind last front (gone ++ back) (come ++ back) a b (omega (arith, lt-of last beg quiet, at)) was now
+      after last front (gone ++ back) (come ++ back) a b (omega (arith, lt-of last beg quiet, at)) was now
   quiet-one agree Replace last beg end front gone come back a b at quiet lt was now trades =
       replaced last front gone come back a b (alike-map agree gone come trades.0) lt was now
 

@@ -4,12 +4,12 @@ use Rattle.list_changes.specs.declared.change.ChangeKind.{ChangeKind}
 use Rattle.list_changes.specs.declared.change.ChangeKind.TheVariants.{Insert, Delete, Replace}
 use Rattle.list_changes.specs.declared.change.Change.{Change}
 
--- what is put in or cut lies behind this position
-abbrev pub is_behind : ChangeKind → ℕ → ℕ → Bool
-is_behind Insert last beg = nat_lt last beg
-is_behind Delete last beg = nat_lt last beg
-is_behind Replace last beg = true
+-- what is put in or cut lies after this position
+abbrev pub is_after : ChangeKind → ℕ → ℕ → Bool
+is_after Insert last beg = nat_lt last beg
+is_after Delete last beg = nat_lt last beg
+is_after Replace last beg = true
 
--- the change replaces, or begins behind this position
+-- the change replaces, or begins after this position
 abbrev pub is_quiet : ℕ → Change → Bool
-is_quiet last change = is_behind change.kind last change.beg
+is_quiet last change = is_after change.kind last change.beg

@@ -27,7 +27,7 @@ pub struct Change {
 
 impl Change {
     /// Whether the change leaves alone what stands at the positions 0 to `last`, but for putting elements that
-    /// are alike in their places: it replaces, or it begins behind `last`.
+    /// are alike in their places: it replaces, or it begins after `last`.
     pub fn is_quiet(&self, last: u64) -> bool
         ensures { result ≡ is_quiet last self.now }
     {

@@ -38,7 +38,7 @@ impl Looks {
 
     /// A law: looks are in range, as the types of their parts see to. A proof gets it by calling this, at no
     /// cost.
-    pub fn are_in_range(&self)
+    pub fn lemma_are_in_range(&self)
         ensures { IsLooks self.now }
     {
         let _ = (

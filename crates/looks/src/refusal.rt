@@ -20,7 +20,7 @@ pub enum Refusal {
     /// Another operation has this identity.
     Conflict = 3,
     /// The message's offset in its site's file isn't where that file ends, or it names an own character
-    /// behind that end.
+    /// after that end.
     BadOffset = 4,
     /// The stamp isn't above each cause's.
     BadStamp = 5,

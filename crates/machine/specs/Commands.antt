@@ -26,49 +26,49 @@ use Rattle.command_words.specs.declared.calls.Call.{Call}
 use Rattle.command_words.specs.declared.command.Command.{Command}
 use Rattle.command_words.specs.declared.command.Command.TheVariants as command
 use Rattle.shelf.specs.Names.{is_file_name}
-use Rattle.machine.specs.DeskState.{DeskState}
+use Rattle.machine.specs.SiteTexts.{SiteTexts}
 use Rattle.machine.specs.Events.{Task, arrange, change, forget, load, put_recalled, refuse, search, store}
 use Rattle.machine.specs.Windows.{Screened, Window, bytes_shown, marked, position_in, viewer_with, window_of}
 use Rattle.machine.specs.declared.TheConstants.{MAX_TEXT}
 use Rattle.machine.specs.declared.asked.Arrangement.TheVariants.{Close, Open}
 
 -- the number of a text that a value tells
-abbrev pub text_told : TokenValue → Option ℕ
-text_told (value.Int (pos n)) = if nat_le 1 n && nat_le n MAX_TEXT then Some n else None
-text_told other = None
+abbrev pub text_parameter : TokenValue → Option ℕ
+text_parameter (value.Int (pos n)) = if nat_le 1 n && nat_le n MAX_TEXT then Some n else None
+text_parameter other = None
 
 -- the file that a value tells
-abbrev pub file_told : TokenValue → Option (List ℕ)
-file_told (value.Name name) = if is_file_name name then Some name else None
-file_told (value.String name) = if is_file_name name then Some name else None
-file_told other = None
+abbrev pub file_parameter : TokenValue → Option (List ℕ)
+file_parameter (value.Name name) = if is_file_name name then Some name else None
+file_parameter (value.String name) = if is_file_name name then Some name else None
+file_parameter other = None
 
 -- the bytes to search for that a value tells
-abbrev pub bytes_told : TokenValue → Option (List ℕ)
-bytes_told (value.Name []) = None
-bytes_told (value.Name (b ∷ rest)) = Some (b ∷ rest)
-bytes_told (value.String []) = None
-bytes_told (value.String (b ∷ rest)) = Some (b ∷ rest)
-bytes_told (value.Char b) = Some (b ∷ [])
-bytes_told other = None
+abbrev pub bytes_parameter : TokenValue → Option (List ℕ)
+bytes_parameter (value.Name []) = None
+bytes_parameter (value.Name (b ∷ rest)) = Some (b ∷ rest)
+bytes_parameter (value.String []) = None
+bytes_parameter (value.String (b ∷ rest)) = Some (b ∷ rest)
+bytes_parameter (value.Char b) = Some (b ∷ [])
+bytes_parameter other = None
 
 -- which attributes change, and to which looks
 abbrev pub Change : Type 0
 Change = Selection × Looks
 
 -- the font that a value tells, as a change of looks
-abbrev pub font_told : TokenValue → Option Change
-font_told (value.Name name) =
+abbrev pub font_parameter : TokenValue → Option Change
+font_parameter (value.Name name) =
     if is_font_name name
     then Some (record { font = true; colour = false; offset = false }, record plain_looks { font = name }) else None
-font_told other = None
+font_parameter other = None
 
 -- the colour that a value tells, alike
-abbrev pub colour_told : TokenValue → Option Change
-colour_told (value.Int (pos n)) =
+abbrev pub colour_parameter : TokenValue → Option Change
+colour_parameter (value.Int (pos n)) =
     if nat_le n MAX_COLOUR
     then Some (record { font = false; colour = true; offset = false }, record plain_looks { colour = n }) else None
-colour_told other = None
+colour_parameter other = None
 
 -- an offset from -128 to 127
 abbrev pub is_offset : ℤ → Bool
@@ -76,20 +76,20 @@ is_offset (pos n) = nat_le n 127
 is_offset (negsuc n) = nat_le n 127
 
 -- the offset that a value tells, alike
-abbrev pub offset_told : TokenValue → Option Change
-offset_told (value.Int z) =
+abbrev pub offset_parameter : TokenValue → Option Change
+offset_parameter (value.Int z) =
     if is_offset z
     then Some (record { font = false; colour = false; offset = true }, record plain_looks { offset = z }) else None
-offset_told other = None
+offset_parameter other = None
 
 -- whether the token is the sign that the selection has the parameter
 abbrev pub is_caret_sign : TokenValue → Bool
 is_caret_sign (value.Char b) = b == 94
 is_caret_sign other = false
 
--- The parameter of a call: the value behind the word; or, where that is the sign, the value of the first token from the
+-- The parameter of a call: the value after the word; or, where that is the sign, the value of the first token from the
 -- selection's begin on, which isn't limited by its end and isn't followed again.
-abbrev pub IsParameter : DeskState → Screened → Token → Result TokenValue Refusal → Type 0
+abbrev pub IsParameter : SiteTexts → Screened → Token → Result TokenValue Refusal → Type 0
 IsParameter d w token told =
     MatchBool (is_caret_sign token.value)
     (MatchOption (marked d w) (told ≡ Err NoSelection)
@@ -102,28 +102,28 @@ with_told None task = refuse BadParameter
 with_told (Some x) task = task x
 
 -- a change of the looks of the selection
-abbrev pub dress_marked : DeskState → Screened → Change → Task
+abbrev pub dress_marked : SiteTexts → Screened → Change → Task
 dress_marked d w change_to =
     option_map_or (λ m. change m.window.text (looks_change m.beg m.end change_to.0 change_to.1)) (marked d w)
     (refuse NoSelection)
 
 -- what a command does with its parameter, in the viewer that was clicked, on this text: a row each
-abbrev pub task_of : DeskState → Screened → Command → TokenValue → (viewer text : ℕ) → Task
-task_of d w command.SystemOpen told v text = with_told (text_told told) (λ n. arrange (Open System n None))
+abbrev pub task_of : SiteTexts → Screened → Command → TokenValue → (viewer text : ℕ) → Task
+task_of d w command.SystemOpen told v text = with_told (text_parameter told) (λ n. arrange (Open System n None))
 task_of d w command.SystemClose told v text = arrange (Close v)
-task_of d w command.EditOpen told v text = with_told (text_told told) (λ n. arrange (Open User n None))
-task_of d w command.EditLoad told v text = with_told (file_told told) load
-task_of d w command.EditStore told v text = with_told (file_told told) (store text)
+task_of d w command.EditOpen told v text = with_told (text_parameter told) (λ n. arrange (Open User n None))
+task_of d w command.EditLoad told v text = with_told (file_parameter told) load
+task_of d w command.EditStore told v text = with_told (file_parameter told) (store text)
 task_of d w command.EditRecall told v text = put_recalled
 task_of d w command.EditRestore told v text = change text restoration
-task_of d w command.EditChangeFont told v text = with_told (font_told told) (dress_marked d w)
-task_of d w command.EditChangeColor told v text = with_told (colour_told told) (dress_marked d w)
-task_of d w command.EditChangeOffset told v text = with_told (offset_told told) (dress_marked d w)
-task_of d w command.EditSearch told v text = with_told (bytes_told told) search
+task_of d w command.EditChangeFont told v text = with_told (font_parameter told) (dress_marked d w)
+task_of d w command.EditChangeColor told v text = with_told (colour_parameter told) (dress_marked d w)
+task_of d w command.EditChangeOffset told v text = with_told (offset_parameter told) (dress_marked d w)
+task_of d w command.EditSearch told v text = with_told (bytes_parameter told) search
 task_of d w command.ShareForget told v text = forget text
 
 -- the task of a call, whose parameter is looked for where the command asks for one
-abbrev pub IsTaskOfCall : DeskState → Screened → Call → (viewer text : ℕ) → Task → Type 0
+abbrev pub IsTaskOfCall : SiteTexts → Screened → Call → (viewer text : ℕ) → Task → Type 0
 IsTaskOfCall d w call v text task =
     MatchBool (has_parameter call.command)
     ((told : Result TokenValue Refusal) × IsParameter d w call.token told
@@ -150,13 +150,13 @@ clicked_in v area col row shown =
     }
 
 -- what a click meets; nothing in a blank track and outside the screen
-abbrev pub clicked : DeskState → Screened → (col row : ℕ) → Option Clicked
+abbrev pub clicked : SiteTexts → Screened → (col row : ℕ) → Option Clicked
 clicked d w col row =
     option_and_then (λ v. option_and_then (λ area. option_map (clicked_in v area col row) (window_of d w v))
     (area_of w.tracks v)) (viewer_with w col row)
 
 -- the task of a click into this cell: no viewer is there; no call stands there; or that of the call
-abbrev pub IsTaskAt : DeskState → Screened → (col row : ℕ) → Task → Type 0
+abbrev pub IsTaskAt : SiteTexts → Screened → (col row : ℕ) → Task → Type 0
 IsTaskAt d w col row task =
     MatchOption (clicked d w col row) (task ≡ refuse NoViewer)
     (λ at. (NoCallAt at.bytes at.pos × (task ≡ refuse UnknownCommand))

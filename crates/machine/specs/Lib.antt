@@ -1,9 +1,9 @@
 pub mod Commands
-pub mod DeskState
+pub mod SiteTexts
 pub mod Events
 pub mod Machine
 pub mod OnTexts
-pub mod Places
+pub mod WhereShown
 pub mod Printing
 pub mod ScreenPrinting
 pub mod State

@@ -4,7 +4,7 @@ use Rattle.std.specs.Prelude.{false, true}
 use Rattle.looks.specs.declared.refusal.Refusal.TheVariants.{BadEvent, OutOfMemory}
 use Rattle.texts.specs.TextState.{TextState}
 use Rattle.machine.specs.Commands.{IsTaskAt}
-use Rattle.machine.specs.DeskState.{DeskState}
+use Rattle.machine.specs.SiteTexts.{SiteTexts}
 use Rattle.machine.specs.Events.{Delivery, Event, Part, Reply, Task, ask, bytes, click, copy, edit, merge, messages_of, prints}
 use Rattle.machine.specs.Events.{query, sent, settle, take, unknown, untouched}
 use Rattle.machine.specs.OnTexts.{CopiesText, CopiesTextShort, MergesText, MergesTextShort, Prints, SettlesText, TakesText}
@@ -34,9 +34,9 @@ Does s (query i text q) part r new =
     (part ≡ untouched) × (new ≡ s)
     × ((t : TextState) × (lines : List ℕ) × IsTextAt s i text t × Prints q t lines × (r ≡ prints lines))
 Does s (ask i t) part r new =
-    (d : DeskState) × (w : Screened) × IsDeskAt s i d w × DoesTask s i d w t part r new
+    (d : SiteTexts) × (w : Screened) × IsDeskAt s i d w × DoesTask s i d w t part r new
 Does s (click i col row) part r new =
-    (d : DeskState) × (w : Screened) × (t : Task) × IsDeskAt s i d w × IsTaskAt d w col row t × DoesTask s i d w t part r new
+    (d : SiteTexts) × (w : Screened) × (t : Task) × IsDeskAt s i d w × IsTaskAt d w col row t × DoesTask s i d w t part r new
 Does s unknown part r new = (part ≡ untouched) × Refuses s BadEvent r new
 
 -- What it does where memory was refused, in the shapes that all events share: nothing was done; or the first operations of an
@@ -54,9 +54,9 @@ Short s (merge i text j) part r new =
     (part ≡ untouched) × ((u : TextState) × IsTextAt s j text u × AtText (MergesTextShort u r) s i text [] new)
 Short s (query i text q) part r new = (part ≡ untouched) × Refuses s OutOfMemory r new
 Short s (ask i t) part r new =
-    (d : DeskState) × (w : Screened) × IsDeskAt s i d w × ShortTask s i d w t part r new
+    (d : SiteTexts) × (w : Screened) × IsDeskAt s i d w × ShortTask s i d w t part r new
 Short s (click i col row) part r new =
-    (d : DeskState) × (w : Screened) × (t : Task) × IsDeskAt s i d w × IsTaskAt d w col row t × ShortTask s i d w t part r new
+    (d : SiteTexts) × (w : Screened) × (t : Task) × IsDeskAt s i d w × IsTaskAt d w col row t × ShortTask s i d w t part r new
 Short s unknown part r new = ⊥
 
 -- the machine may reply so to the event, with this part of the files, and go on to new

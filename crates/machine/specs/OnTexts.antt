@@ -18,12 +18,12 @@ use Rattle.texts.specs.TextState.{TextState, shown_items, shown_of}
 use Rattle.texts.specs.declared.edit_refusal.EditRefusal.{EditRefusal}
 use Rattle.texts.specs.declared.merge_refusal.MergeRefusal.{MergeRefusal}
 use Rattle.texts.specs.declared.took.Took.{Took}
-use Rattle.machine.specs.DeskState.{DeskState, InText, IsTextOf}
+use Rattle.machine.specs.SiteTexts.{SiteTexts, InText, IsTextOf}
 use Rattle.machine.specs.Events.{Reply, edit_reply, merge_reply, messages_of, refuses, settles, take_reply}
-use Rattle.machine.specs.Places.{place_lines}
+use Rattle.machine.specs.WhereShown.{where_lines}
 use Rattle.machine.specs.Printing.{AreRunsOf, text_lines, front_lines, run_lines}
 use Rattle.machine.specs.declared.asked.Query.{Query}
-use Rattle.machine.specs.declared.asked.Query.TheVariants.{Text, Front, Runs, Places}
+use Rattle.machine.specs.declared.asked.Query.TheVariants.{Text, Front, Runs, WhereShown}
 
 -- An edit of a text, where memory is there: one whose positions lie outside the text is refused for that
 -- alone, and any other does what its operations do, and where all was done shows what it is to show.
@@ -43,7 +43,7 @@ stretch_of t (looks_change beg end sel looks) = []
 stretch_of t restoration = []
 stretch_of t (recalling pos) = t.last_stretch
 
--- The same where memory was refused: to one of its operations, and those ahead of it stand; or to its stretch, and
+-- The same where memory was refused: to one of its operations, and those before it stand; or to its stretch, and
 -- nothing was done.
 abbrev pub EditsTextShort : Edit → Reply → TextState → TextState → Type 0
 EditsTextShort e r t new =
@@ -52,7 +52,7 @@ EditsTextShort e r t new =
     × Shows t e result new × (r ≡ edit_reply result messages))
     ⊎ ((stretch_of t e ≢ []) × (r ≡ refuses OutOfMemory) × (new ≡ t)))
 
--- what a copy puts in, behind the first pos characters shown: what t shows from beg to end
+-- what a copy puts in, after the first pos characters shown: what t shows from beg to end
 abbrev pub copied : TextState → (beg end pos : ℕ) → Edit
 copied t beg end pos = insertion pos (slice_range (shown_items t) beg end)
 
@@ -105,10 +105,10 @@ Prints Front t lines =
     (sites : List ℕ) × AreSites t.operations sites × (lines ≡ front_lines t sites)
 Prints Runs t lines =
     (runs : List Stretch) × AreRunsOf (shown_items t) runs × (lines ≡ run_lines runs)
-Prints (Places names) t lines = lines ≡ place_lines (shown_of t) (names_of names)
+Prints (WhereShown names) t lines = lines ≡ where_lines (shown_of t) (names_of names)
 
 -- A text is changed in either way, with memory or without, and answers so, with the count of its messages where all was done;
--- these were put behind those that were sent.
+-- these were put after those that were sent.
 abbrev pub Sending : (Reply → TextState → TextState → Type 0) → (Reply → TextState → TextState → Type 0)
     → TextState → Result ℕ EditRefusal → TextState → (before after : List (List ℕ)) → Type 0
 Sending Goes Short t result new before after =
@@ -127,32 +127,32 @@ abbrev pub CopiesTextSending : TextState → (beg end pos : ℕ) → TextState �
 CopiesTextSending t beg end pos = Sending (CopiesText t beg end pos) (CopiesTextShort t beg end pos)
 
 -- an edit of one of a desk's texts, in either way
-abbrev pub EditsDesk : DeskState → (text : ℕ) → Edit → Result ℕ EditRefusal → DeskState
+abbrev pub EditsSite : SiteTexts → (text : ℕ) → Edit → Result ℕ EditRefusal → SiteTexts
     → (before after : List (List ℕ)) → Type 0
-EditsDesk d text e result new before after = InText (λ t t'. EditsTextSending t e result t' before after) d text new
+EditsSite d text e result new before after = InText (λ t t'. EditsTextSending t e result t' before after) d text new
 
 -- a copy out of one of a desk's texts into another one, or the same
-abbrev pub CopiesDesk : DeskState → (text beg end other pos : ℕ) → Result ℕ EditRefusal → DeskState
+abbrev pub CopiesSite : SiteTexts → (text beg end other pos : ℕ) → Result ℕ EditRefusal → SiteTexts
     → (before after : List (List ℕ)) → Type 0
-CopiesDesk d text beg end other pos result new before after =
+CopiesSite d text beg end other pos result new before after =
     (t : TextState) × IsTextOf d text t
     × InText (λ u u'. CopiesTextSending t beg end pos u result u' before after) d other new
 
 -- a message for one of a desk's texts
-abbrev pub TakesDesk : DeskState → ℕ → List ℕ → Result Took Refusal → DeskState → Type 0
-TakesDesk d text message result new =
+abbrev pub TakesSite : SiteTexts → ℕ → List ℕ → Result Took Refusal → SiteTexts → Type 0
+TakesSite d text message result new =
     InText (λ t t'. Takes t message result t' ⊎ TakesShort t message result t') d text new
 
 -- a settling
-abbrev pub SettlesDesk : DeskState → ℕ → (drained dropped : ℕ) → (stopped : Bool) → DeskState → Type 0
-SettlesDesk d text drained dropped stopped new = InText (λ t t'. Drains t drained dropped stopped t') d text new
+abbrev pub SettlesSite : SiteTexts → ℕ → (drained dropped : ℕ) → (stopped : Bool) → SiteTexts → Type 0
+SettlesSite d text drained dropped stopped new = InText (λ t t'. Drains t drained dropped stopped t') d text new
 
 -- a merge of another desk's text of this number
-abbrev pub MergesDesk : DeskState → ℕ → DeskState → Result ℕ MergeRefusal → DeskState → Type 0
-MergesDesk d text other result new =
+abbrev pub MergesSite : SiteTexts → ℕ → SiteTexts → Result ℕ MergeRefusal → SiteTexts → Type 0
+MergesSite d text other result new =
     (u : TextState) × IsTextOf other text u
     × InText (λ t t'. Merges t u result t' ⊎ MergesShort t u result t') d text new
 
 -- a query: these are its lines
-abbrev pub QueriesDesk : DeskState → ℕ → Query → List ℕ → Type 0
-QueriesDesk d text q lines = (t : TextState) × IsTextOf d text t × Prints q t lines
+abbrev pub QueriesSite : SiteTexts → ℕ → Query → List ℕ → Type 0
+QueriesSite d text q lines = (t : TextState) × IsTextOf d text t × Prints q t lines

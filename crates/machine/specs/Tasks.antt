@@ -17,7 +17,7 @@ use Rattle.texts.specs.SiteFiles.{IsNoSiteFile, IsSiteFileOf, site_bytes}
 use Rattle.texts.specs.Taking.{HasTakenAll}
 use Rattle.texts.specs.TextState.{TextState, empty_text, shown_items, shown_of, with_room}
 use Rattle.texts.specs.declared.TheConstants.{MAX_KEPT}
-use Rattle.machine.specs.DeskState.{DeskState}
+use Rattle.machine.specs.SiteTexts.{SiteTexts}
 use Rattle.machine.specs.Events.{Part, Reply, Task, arrange, change, done, failed, forget, forgot, found, keep, load, messages_of}
 use Rattle.machine.specs.Events.{not_found, opens, print, prints, put, put_recalled, refuse, refuses, reopen, search, store}
 use Rattle.machine.specs.Events.{untouched, went_well}
@@ -48,13 +48,13 @@ FileBecomes s name file new =
     (files : Files) × (files name ≡ file) × ((other : List ℕ) → other ≢ name → files other ≡ s.files other)
     × (new ≡ record s { files = files })
 
--- where the caret stands behind an edit at it: behind the last character that came in, or where it stood if none did
+-- where the caret stands after an edit at it: after the last character that came in, or where it stood if none did
 abbrev pub caret_after : TextState → TextState → (was : ℕ) → Anchor → Anchor
 caret_after t t' was old =
     if length (shown_of t') == length (shown_of t) then old
     else anchor_before (shown_of t') (was + (length (shown_of t') - length (shown_of t)))
 
--- an edit of the caret's text at the caret's place, behind which the caret stands then
+-- an edit of the caret's text at the caret's place, after which the caret stands then
 abbrev pub AtCaret : EditSteps → State → (i : ℕ) → Screened → Caret → Window → TextState → (ℕ → Edit)
     → Reply → State → Type 0
 AtCaret Steps s i w c window t edit_at r new =
@@ -64,28 +64,28 @@ AtCaret Steps s i w c window t edit_at r new =
     { caret = Some (record c { anchor = caret_after t t' (place_in t c.anchor) c.anchor }) }))
 
 -- at the caret, with what its viewer shows
-abbrev pub WithCaret : DeskState → Screened → (Caret → Window → TextState → Type 0) → Type 0
+abbrev pub WithCaret : SiteTexts → Screened → (Caret → Window → TextState → Type 0) → Type 0
 WithCaret d w Goes =
     (c : Caret) × (shown : Window × TextState) × (w.caret ≡ Some c) × (window_of d w c.viewer ≡ Some shown)
     × Goes c shown.0 shown.1
 
 -- the same, or refused where there is no caret, and then no file is asked for
-abbrev pub IfCaret : State → DeskState → Screened → Part → Reply → State
+abbrev pub IfCaret : State → SiteTexts → Screened → Part → Reply → State
     → (Caret → Window → TextState → Type 0) → Type 0
 IfCaret s d w part r new Goes =
     ((w.caret ≡ None) × (part ≡ untouched) × Refuses s NoCaret r new) ⊎ WithCaret d w Goes
 
 -- these bytes stand at this position
 abbrev pub StandsAt : (bytes text : List ℕ) → ℕ → Type 0
-StandsAt bytes text q = (ahead behind : List ℕ) × (text ≡ ahead ++ bytes ++ behind) × (length ahead ≡ q)
+StandsAt bytes text q = (before after : List ℕ) × (text ≡ before ++ bytes ++ after) × (length before ≡ q)
 
 -- this is the first position from here on where the bytes stand
 pub record IsFirstFrom (bytes text : List ℕ) (from q : ℕ) : Type 0 where
-  pub behind : from ≤ q
+  pub after : from ≤ q
   pub there : StandsAt bytes text q
   pub first : (other : ℕ) → from ≤ other → other < q → StandsAt bytes text other → ⊥
 
--- a search from the caret: it goes behind what is found, or stays
+-- a search from the caret: it goes after what is found, or stays
 abbrev pub Searches : State → (i : ℕ) → Screened → Caret → TextState → (bytes : List ℕ) → Reply → State
     → Type 0
 Searches s i w c t bytes r new =
@@ -166,20 +166,20 @@ Forgets s i text r new =
     AtText (λ t u. (r ≡ forgot (length t.waiting_room)) × (u ≡ with_room t [])) s i text [] new
 
 -- an arrangement of the screen
-abbrev pub Arranges : State → (i : ℕ) → DeskState → Screened → Arrangement → Reply → State → Type 0
+abbrev pub Arranges : State → (i : ℕ) → SiteTexts → Screened → Arrangement → Reply → State → Type 0
 Arranges s i d w a r new = MatchResult (arranged d w a)
     (λ out. (r ≡ option_map_or (λ v. opens v) out.1 done) × (new ≡ with_screen_at s i out.0))
     (λ why. Refuses s why r new)
 
 -- the lines of a view
-abbrev pub lines_of_view : DeskState → Screened → View → List ℕ
+abbrev pub lines_of_view : SiteTexts → Screened → View → List ℕ
 lines_of_view d w Marks = marks_lines d w
 lines_of_view d w Views = views_lines d w
 lines_of_view d w Show = screen_lines d w
 
 -- What a task does where memory is there, with the files' part in it. A load and a reopening alone read a file, and a store and
 -- a keeping write one.
-abbrev pub DoesTask : State → (i : ℕ) → DeskState → Screened → Task → Part → Reply → State → Type 0
+abbrev pub DoesTask : State → (i : ℕ) → SiteTexts → Screened → Task → Part → Reply → State → Type 0
 DoesTask s i d w (refuse why) part r new = (part ≡ untouched) × Refuses s why r new
 DoesTask s i d w (put items) part r new =
     IfCaret s d w part r new (λ c window t.
@@ -203,9 +203,9 @@ DoesTask s i d w (reopen text name) part r new =
     × MatchBool (has_begun t) ((part ≡ untouched) × Refuses s Conflict r new) (Reopens s i text t name part r new)
 
 -- What a task does where memory was refused: an edit in the ways of one of texts; a load, a store, a keeping, a
--- reopening, an opening and a print besides with nothing done, behind what is tested ahead of the memory. The other tasks take
+-- reopening, an opening and a print besides with nothing done, after what is tested before the memory. The other tasks take
 -- none.
-abbrev pub ShortTask : State → (i : ℕ) → DeskState → Screened → Task → Part → Reply → State → Type 0
+abbrev pub ShortTask : State → (i : ℕ) → SiteTexts → Screened → Task → Part → Reply → State → Type 0
 ShortTask s i d w (refuse why) part r new = ⊥
 ShortTask s i d w (put items) part r new =
     (part ≡ untouched)

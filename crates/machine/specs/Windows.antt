@@ -15,12 +15,12 @@ use Rattle.texts.specs.TextState.{TextState, shown_of}
 use Rattle.line_drawing.specs.Lines.{beg_of, ends_in}
 use Rattle.line_drawing.specs.Rows.{Row, row_of, place_of}
 use Rattle.viewers.specs.Screen.{ScreenSeen, area_of, has, seats_of, viewer_at, with_seats}
-use Rattle.viewers.specs.Tracks.{can_move, can_open, closed, moved, opened, place as seat_of, row_for}
+use Rattle.viewers.specs.Tracks.{can_move, can_open, closed, moved, opened, seat_index as seat_of, row_for}
 use Rattle.viewers.specs.declared.screen.Area.{Area}
 use Rattle.viewers.specs.declared.screen.Track.{Track}
 use Rattle.viewers.specs.declared.screen.Track.TheVariants.{User, System}
 use Rattle.viewers.specs.declared.seats.Seat.{Seat}
-use Rattle.machine.specs.DeskState.{DeskState}
+use Rattle.machine.specs.SiteTexts.{SiteTexts}
 use Rattle.machine.specs.declared.asked.Arrangement.{Arrangement}
 use Rattle.machine.specs.declared.asked.Arrangement.TheVariants.{Open, Close, Move, Scroll, Point, Select}
 
@@ -28,20 +28,20 @@ use Rattle.machine.specs.declared.asked.Arrangement.TheVariants.{Open, Close, Mo
 abbrev pub bytes_shown : TextState → List ℕ
 bytes_shown t = map (λ c. c.byte) (shown_of t)
 
--- how many shown characters are the anchor or stand ahead of it
+-- how many shown characters are the anchor or stand before it
 abbrev pub place_in : TextState → Anchor → ℕ
 place_in t anchor = place t.operations (map (λ c. c.name) t.order) anchor
 
--- how many shown characters stand ahead of this one
-abbrev pub place_ahead : TextState → CharName → ℕ
-place_ahead t name = place_in t (At name) - (if is_visible t.operations name then 1 else 0)
+-- how many shown characters stand before this one
+abbrev pub place_before : TextState → CharName → ℕ
+place_before t name = place_in t (At name) - (if is_visible t.operations name then 1 else 0)
 
 -- what a viewer shows: this text, from the line on that has this character
 pub record Window : Type 0 where
   pub text : ℕ
   pub anchor : Anchor
 
--- the caret stands in a viewer, behind this character of its text
+-- the caret stands in a viewer, after this character of its text
 pub record Caret : Type 0 where
   pub viewer : ℕ
   pub anchor : Anchor
@@ -77,11 +77,11 @@ shown_by v [] = None
 shown_by v (entry ∷ rest) = if entry.0 == v then Some entry.1 else shown_by v rest
 
 -- the text of this number
-abbrev pub text_of : DeskState → ℕ → Option TextState
+abbrev pub text_of : SiteTexts → ℕ → Option TextState
 text_of d text = slice_get d.texts (text - 1)
 
 -- what a viewer shows, with the text as it is
-abbrev pub window_of : DeskState → Screened → ℕ → Option (Window × TextState)
+abbrev pub window_of : SiteTexts → Screened → ℕ → Option (Window × TextState)
 window_of d w v =
     option_and_then (λ window. option_map (λ t. (window, t)) (text_of d window.text)) (shown_by v w.windows)
 
@@ -119,7 +119,7 @@ abbrev pub viewer_with : Screened → (col row : ℕ) → Option ℕ
 viewer_with w col row = if nat_lt row w.tracks.height then viewer_at w.tracks col row else None
 
 -- what a cell of the screen points at; nothing in a menu, in a blank track and outside the screen
-abbrev pub pointed : DeskState → Screened → (col row : ℕ) → Option Pointed
+abbrev pub pointed : SiteTexts → Screened → (col row : ℕ) → Option Pointed
 pointed d w col row =
     option_and_then (λ v. option_and_then (λ area.
     if row == area.top then None else option_map (pointed_in v area col row) (window_of d w v))
@@ -127,7 +127,7 @@ pointed d w col row =
 
 -- where a selection begins and ends in its text, as it is shown
 abbrev pub stretch_in : TextState → Selected → ℕ × ℕ
-stretch_in t s = (place_ahead t s.first, place_in t (At s.last))
+stretch_in t s = (place_before t s.first, place_in t (At s.last))
 
 -- the selection's viewer, what that shows, and the stretch; nothing where nothing of it is shown
 pub record Marked : Type 0 where
@@ -150,7 +150,7 @@ marked_as s shown =
     else None
 
 -- what is marked on a screen
-abbrev pub marked : DeskState → Screened → Option Marked
+abbrev pub marked : SiteTexts → Screened → Option Marked
 marked d w = option_and_then (λ s. option_and_then (marked_as s) (window_of d w s.viewer)) w.selected
 
 -- what it comes to: the screen then, and the number of a viewer that was opened
@@ -223,12 +223,12 @@ moved_to w v row =
     else moved_in w (track_of w v) (seats_with w v) (seat_of (seats_with w v) v) row)
     else Err NoViewer
 
--- the character behind which a line begins; a line past the last one is the last one
+-- the character after which a line begins; a line past the last one is the last one
 abbrev pub line_anchor : TextState → ℕ → Anchor
 line_anchor t line = anchor_before (shown_of t) (beg_of (bytes_shown t) (min line (ends_in (bytes_shown t))))
 
 -- a scrolling: the viewer begins with this line then
-abbrev pub scrolled_in : DeskState → Screened → (v line : ℕ) → Arranged
+abbrev pub scrolled_in : SiteTexts → Screened → (v line : ℕ) → Arranged
 scrolled_in d w v line =
     option_map_or (λ shown. Ok (
       record w {
@@ -239,8 +239,8 @@ scrolled_in d w v line =
     ))
     (window_of d w v) (Err NoViewer)
 
--- a pointing: the caret stands behind the character ahead of the position, or at the beginning
-abbrev pub pointed_to : DeskState → Screened → (col row : ℕ) → Arranged
+-- a pointing: the caret stands after the character before the position, or at the beginning
+abbrev pub pointed_to : SiteTexts → Screened → (col row : ℕ) → Arranged
 pointed_to d w col row =
     option_map_or (λ at. Ok (
       record w
@@ -263,14 +263,14 @@ selected_between w at pos =
     (Err OutOfRange)
 
 -- a selecting, by two cells below the menu of one viewer
-abbrev pub selected_by : DeskState → Screened → (col row col' row' : ℕ) → Arranged
+abbrev pub selected_by : SiteTexts → Screened → (col row col' row' : ℕ) → Arranged
 selected_by d w col row col' row' =
     option_map_or (λ at. option_map_or (λ other.
     if at.viewer == other.viewer then selected_between w at other.pos else Err NoViewer)
     (pointed d w col' row') (Err NoViewer)) (pointed d w col row) (Err NoViewer)
 
 -- each has one outcome: the screen then, or why nothing was done
-abbrev pub arranged : DeskState → Screened → Arrangement → Arranged
+abbrev pub arranged : SiteTexts → Screened → Arrangement → Arranged
 arranged d w (Open track text row) = opened_at w track text row
 arranged d w (Close v) = closed_at w v
 arranged d w (Move v row) = moved_to w v row

@@ -14,7 +14,7 @@ pub enum Query {
     /// Its runs of equal looks.
     Runs,
     /// Where the characters of these names are shown.
-    Places(NameRange),
+    WhereShown(NameRange),
 }
 
 /// What is to be printed of a screen.

@@ -38,10 +38,10 @@ use Rattle.texts.specs.declared.edit_refusal.EditRefusal.TheVariants.{Whole, Par
 use Rattle.convergence.proofs.OwnOperations.{standing_within}
 use Rattle.viewers.specs.Screen.{area_of}
 use Rattle.viewers.specs.declared.screen.Area.{Area}
-use Rattle.machine.specs.Commands.{Change, Clicked, IsParameter, IsTaskAt, IsTaskOfCall, bytes_told, clicked, clicked_in}
-use Rattle.machine.specs.Commands.{colour_told, dress_marked, file_told, font_told, is_caret_sign, offset_told, task_of}
-use Rattle.machine.specs.Commands.{text_told, with_told}
-use Rattle.machine.specs.DeskState.{DeskState, with_text}
+use Rattle.machine.specs.Commands.{Change, Clicked, IsParameter, IsTaskAt, IsTaskOfCall, bytes_parameter, clicked, clicked_in}
+use Rattle.machine.specs.Commands.{colour_parameter, dress_marked, file_parameter, font_parameter, is_caret_sign, offset_parameter, task_of}
+use Rattle.machine.specs.Commands.{text_parameter, with_told}
+use Rattle.machine.specs.SiteTexts.{SiteTexts, with_text}
 use Rattle.machine.specs.Events.{Part, Reply, Task, arrange, change, done, edit_reply, failed, forget, forgot, found, keep}
 use Rattle.machine.specs.Events.{load, messages_of, not_found, opens, print, prints, put, put_recalled, refuse, refuses}
 use Rattle.machine.specs.Events.{reopen, search, store, untouched, went_well}
@@ -51,7 +51,7 @@ use Rattle.machine.specs.Tasks.{AtCaret, BeginsAs, BeginsWith, DoesTask, EditsAt
 use Rattle.machine.specs.Tasks.{Loads, Searches, StandsAt, has_begun, lines_of_view}
 use Rattle.machine.specs.Windows.{Arranged, Caret, Marked, Screened, Window, arranged, bytes_shown, marked, marked_as}
 use Rattle.machine.specs.Windows.{place_in, stretch_in, viewer_with, window_of}
-use Rattle.machine_laws.proofs.OneOfTexts.{one_text}
+use Rattle.machine_laws.proofs.OneOfTexts.{lemma_one_text}
 use Rattle.machine_laws.proofs.OneReply.{BeginsOf, ComesTo, IsParameterBy, IsTaskBy, IsTaskIn, IsTaskTold, ReopensBy}
 use Rattle.machine_laws.proofs.OneReply.{shown_parts}
 use Rattle.machine_laws.proofs.Reopening.{some_begun}
@@ -113,7 +113,7 @@ edit_answered plain t e is = by (is_in_text t e) refl
 goes_at : (F : TextState → TextState → Type 0) (s : State) (i text : ℕ) (messages : List (List ℕ)) (t u : TextState)
     → IsTextAt s i text t → F t u → (new : State) × AtText F s i text messages new × IsTextAt new i text (all_told u)
 goes_at F s i text messages t u (d, at, there) does =
-    let D : DeskState = with_text d text (all_told u) in (
+    let D : SiteTexts = with_text d text (all_told u) in (
       record s { desks = slice_set s.desks i D; sent = s.sent ++ messages },
       (d, D, at, (t, all_told u, there, (u, does, refl), refl), refl),
       (D, put_there s.desks i d D at, put_there d.texts (text - 1) t (all_told u) there),
@@ -149,31 +149,31 @@ stands_or_not bytes text q within = by (bytes_eq (take (length bytes) (drop q te
           length-take-le q text within,
         )
     by false differ = inr (λ stands.
-        let (ahead, behind, is, len) = stands in
+        let (earlier, later, is, len) = stands in
         let here : take (length bytes) (drop q text) ≡ bytes =
-        ap (λ (x : List ℕ). take (length bytes) (drop q x)) (is ∙ append_assoc ahead bytes behind)
-        ∙ ap (take (length bytes)) (drop_at ahead (bytes ++ behind) q len) ∙ take_at bytes behind (length bytes) refl in
+        ap (λ (x : List ℕ). take (length bytes) (drop q x)) (is ∙ append_assoc earlier bytes later)
+        ∙ ap (take (length bytes)) (drop_at earlier (bytes ++ later) q len) ∙ take_at bytes later (length bytes) refl in
         true≢false (sym ((bytes_eq-Decides (take (length bytes) (drop q text)) bytes).1 here) ∙ differ))
 
 -- no bytes stand past the end
 stands_within : (bytes text : List ℕ) (q : ℕ) → StandsAt bytes text q → q ≤ length text
-stands_within bytes text q (ahead, behind, is, len) =
-    omega (arith, ap length (is ∙ append_assoc ahead bytes behind), length-append ahead (bytes ++ behind), len)
+stands_within bytes text q (earlier, later, is, len) =
+    omega (arith, ap length (is ∙ append_assoc earlier bytes later), length-append earlier (bytes ++ later), len)
 
 abbrev FirstOrNone : (bytes text : List ℕ) → ℕ → Type 0
 FirstOrNone bytes text from = ((q : ℕ) × IsFirstFrom bytes text from q)
     ⊎ ((q : ℕ) → from ≤ q → StandsAt bytes text q → ⊥)
 
 -- bytes stand somewhere from a position on, or nowhere there
-first_behind : (bytes text : List ℕ) (from n q : ℕ) → from ≤ q → n + q ≡ length text + 1
+first_after : (bytes text : List ℕ) (from n q : ℕ) → from ≤ q → n + q ≡ length text + 1
     → ((other : ℕ) → from ≤ other → other < q → StandsAt bytes text other → ⊥) → FirstOrNone bytes text from
-first_behind bytes text from zero q behind all none = inr (λ other from_le stands.
+first_after bytes text from zero q later all none = inr (λ other from_le stands.
     none other from_le (omega (arith, all, stands_within bytes text other stands)) stands)
-first_behind bytes text from (suc n) q behind all none = elim (stands_or_not bytes text q (omega (arith, all))) [
-  | inl here ↦ inl (q, record { behind = behind; there = here; first = none })
-  | inr not_here ↦ first_behind bytes text from n (suc q) (omega (arith, behind)) (omega (arith, all))
+first_after bytes text from (suc n) q later all none = elim (stands_or_not bytes text q (omega (arith, all))) [
+  | inl here ↦ inl (q, record { after = later; there = here; first = none })
+  | inr not_here ↦ first_after bytes text from n (suc q) (omega (arith, later)) (omega (arith, all))
       (λ other from_le lt stands. elim (cases_lt other q) [
-        | inl ahead ↦ none other from_le ahead stands
+        | inl earlier ↦ none other from_le earlier stands
         | inr le ↦ let same : other ≡ q = omega (arith, lt, le) in
             not_here (subst (StandsAt bytes text) same stands)
       ])
@@ -182,7 +182,7 @@ first_behind bytes text from (suc n) q behind all none = elim (stands_or_not byt
 first_or_none : (bytes text : List ℕ) (from : ℕ) → FirstOrNone bytes text from
 first_or_none bytes text from = elim (cases_lt (length text) from) [
   | inl past ↦ inr (λ q from_le stands. absurd (omega (arith, past, from_le, stands_within bytes text q stands)))
-  | inr le ↦ first_behind bytes text from (length text + 1 - from) from (omega arith) (omega (arith, le))
+  | inr le ↦ first_after bytes text from (length text + 1 - from) from (omega arith) (omega (arith, le))
       (λ other from_le lt. absurd (omega (arith, from_le, lt)))
 ]
 
@@ -198,7 +198,7 @@ searches s i w c t bytes = by (first_or_none bytes (bytes_shown t) (place_in t c
 -- what a desk is asked
 
 -- a task is answered, with this part
-abbrev Answers : State → ℕ → DeskState → Screened → Task → Part → Type 0
+abbrev Answers : State → ℕ → SiteTexts → Screened → Task → Part → Type 0
 Answers s i d w t part = (r : Reply) × (new : State) × DoesTask s i d w t part r new
 
 arranges : (s : State) (i : ℕ) (out : Arranged) → (r : Reply) × (new : State) × ComesTo s i out r new
@@ -212,7 +212,7 @@ clicked_number v area col row shown =
     cond_both (row == area.top) _ _ (λ (x : Clicked). shown.0.text ≡ x.text) (λ e. refl) (λ e. refl)
 
 -- at a desk whose caret has a text
-module _ (plain : OwnEditsArePlain) (s : State) (i : ℕ) (d : DeskState) (w : Screened) (are : AreTexts s)
+module _ (plain : OwnEditsArePlain) (s : State) (i : ℕ) (d : SiteTexts) (w : Screened) (are : AreTexts s)
     (at : IsDeskAt s i d w) (has : CaretHasText d w) where
   -- what a viewer shows is one of the texts
   shown_at : (v : ℕ) (window : Window) (t : TextState) → window_of d w v ≡ Some (window, t)
@@ -297,7 +297,7 @@ module _ (plain : OwnEditsArePlain) (s : State) (i : ℕ) (d : DeskState) (w : S
       → AtText (λ x u. (forgot (length x.waiting_room) ≡ forgot (length x.waiting_room)) × (u ≡ with_room x [])) s i text [] new
       → Forgets s i text (forgot (length t.waiting_room)) new
   forgotten text t there new (e, e', at_e, (u, v, of_e, (v', (same, is_v'), is_v), is_e'), is_new) =
-      let here : t ≡ u = one_text s i text t u there (e, at_e, of_e) in
+      let here : t ≡ u = lemma_one_text s i text t u there (e, at_e, of_e) in
       (e, e', at_e, (u, v, of_e, (v', (ap (λ (x : TextState). forgot (length x.waiting_room)) here, is_v'), is_v), is_e'), is_new)
 
   tasks : (t : Task) (part : Part) → HasText s i t → MayHavePart s i w t part → Answers s i d w t part
@@ -313,13 +313,13 @@ module _ (plain : OwnEditsArePlain) (s : State) (i : ℕ) (d : DeskState) (w : S
       (λ c window t is here. loads name file c window t there told here) w.caret refl (λ e. absurd (caret e))
   tasks (load name) (failed left) text caret = with_caret (failed left) _
       (λ c window t is here. ((refuses ReadFault), s, (refl, refl))) w.caret refl (λ e. absurd (caret e))
-  tasks (store text name) untouched has_text (t, there, long) = ((refuses BadFile), s, (t, there, (long, (refl, refl))))
-  tasks (store text name) went_well has_text (t, there, few) = (
+  tasks (store text name) untouched lemma_has_text (t, there, long) = ((refuses BadFile), s, (t, there, (long, (refl, refl))))
+  tasks (store text name) went_well lemma_has_text (t, there, few) = (
     done,
     with_file name (Some (formatted (shown_items t))),
     (t, there, (few, refl, becomes name (Some (formatted (shown_items t))))),
   )
-  tasks (store text name) (failed left) has_text (t, there, few) =
+  tasks (store text name) (failed left) lemma_has_text (t, there, few) =
       ((refuses WriteFault), with_file name left, (t, there, (few, refl, becomes name left)))
   tasks (search bytes) part text free = with_caret part _
       (λ c window t is here. let (r, new, g) = searches s i w c t bytes in (r, new, (free, g)))
@@ -332,18 +332,18 @@ module _ (plain : OwnEditsArePlain) (s : State) (i : ℕ) (d : DeskState) (w : S
       (forgot (length t.waiting_room), new, (free, forgotten text t there new goes))
   tasks (arrange a) part text free = let (r, new, g) = arranges s i (arranged d w a) in (r, new, (free, g))
   tasks (print v) part text free = (prints (lines_of_view d w v), s, (free, refl, refl))
-  tasks (keep text name) untouched has_text (t, there, long) = ((refuses BadFile), s, (t, there, (long, (refl, refl))))
-  tasks (keep text name) went_well has_text (t, there, few) =
+  tasks (keep text name) untouched lemma_has_text (t, there, long) = ((refuses BadFile), s, (t, there, (long, (refl, refl))))
+  tasks (keep text name) went_well lemma_has_text (t, there, few) =
       let file : List ℕ = site_bytes t.text t.site t.operations in
       (done, with_file name (Some file), (t, there, (few, refl, becomes name (Some file))))
-  tasks (keep text name) (failed left) has_text (t, there, few) =
+  tasks (keep text name) (failed left) lemma_has_text (t, there, few) =
       ((refuses WriteFault), with_file name left, (t, there, (few, refl, becomes name left)))
-  tasks (reopen text name) untouched has_text (t, there, begun) =
+  tasks (reopen text name) untouched lemma_has_text (t, there, begun) =
       ((refuses Conflict), s, (t, there, by_begun text t name untouched _ s true begun (refl, (refl, refl))))
-  tasks (reopen text name) went_well has_text ((t, there, fresh), (file, at_name, told)) =
+  tasks (reopen text name) went_well lemma_has_text ((t, there, fresh), (file, at_name, told)) =
       let (r, new, goes) = begins_as text t file there told in
       (r, new, (t, there, by_begun text t name went_well r new false fresh (file, at_name, goes)))
-  tasks (reopen text name) (failed left) has_text (t, there, fresh) =
+  tasks (reopen text name) (failed left) lemma_has_text (t, there, fresh) =
       ((refuses ReadFault), s, (t, there, by_begun text t name (failed left) _ s false fresh (refl, refl)))
 
   -- a part that may be
@@ -361,8 +361,8 @@ module _ (plain : OwnEditsArePlain) (s : State) (i : ℕ) (d : DeskState) (w : S
     | inr few ↦ (went_well, (t, there, few))
   ]
   parts (search bytes) text = (untouched, refl)
-  parts (change text e) has_text = (untouched, refl)
-  parts (forget text) has_text = (untouched, refl)
+  parts (change text e) lemma_has_text = (untouched, refl)
+  parts (forget text) lemma_has_text = (untouched, refl)
   parts (arrange a) text = (untouched, refl)
   parts (print v) text = (untouched, refl)
   parts (keep text name) (t, there) = elim (cases_lt MAX_KEPT (length t.operations)) [
@@ -411,8 +411,8 @@ module _ (plain : OwnEditsArePlain) (s : State) (i : ℕ) (d : DeskState) (w : S
 
   told_text : {X : Type 0} (o : Option X) (task : X → Task) → ((x : X) → HasText s i (task x))
       → HasText s i (with_told o task)
-  told_text None task has_text = tt
-  told_text (Some x) task has_text = has_text x
+  told_text None task lemma_has_text = tt
+  told_text (Some x) task lemma_has_text = lemma_has_text x
 
   dressed_text : (change_to : Change) → HasText s i (dress_marked d w change_to)
   dressed_text change_to = by (marked d w) refl
@@ -425,17 +425,17 @@ module _ (plain : OwnEditsArePlain) (s : State) (i : ℕ) (d : DeskState) (w : S
   -- the text that a command's task names is there
   command_text : (c : Command) (told : TokenValue) (v text : ℕ) (t : TextState) → IsTextAt s i text t
       → HasText s i (task_of d w c told v text)
-  command_text command.SystemOpen told v text t there = told_text (text_told told) _ (λ n. tt)
+  command_text command.SystemOpen told v text t there = told_text (text_parameter told) _ (λ n. tt)
   command_text command.SystemClose told v text t there = tt
-  command_text command.EditOpen told v text t there = told_text (text_told told) _ (λ n. tt)
-  command_text command.EditLoad told v text t there = told_text (file_told told) _ (λ name. tt)
-  command_text command.EditStore told v text t there = told_text (file_told told) _ (λ name. (t, there))
+  command_text command.EditOpen told v text t there = told_text (text_parameter told) _ (λ n. tt)
+  command_text command.EditLoad told v text t there = told_text (file_parameter told) _ (λ name. tt)
+  command_text command.EditStore told v text t there = told_text (file_parameter told) _ (λ name. (t, there))
   command_text command.EditRecall told v text t there = tt
   command_text command.EditRestore told v text t there = (t, there)
-  command_text command.EditChangeFont told v text t there = told_text (font_told told) _ dressed_text
-  command_text command.EditChangeColor told v text t there = told_text (colour_told told) _ dressed_text
-  command_text command.EditChangeOffset told v text t there = told_text (offset_told told) _ dressed_text
-  command_text command.EditSearch told v text t there = told_text (bytes_told told) _ (λ bytes. tt)
+  command_text command.EditChangeFont told v text t there = told_text (font_parameter told) _ dressed_text
+  command_text command.EditChangeColor told v text t there = told_text (colour_parameter told) _ dressed_text
+  command_text command.EditChangeOffset told v text t there = told_text (offset_parameter told) _ dressed_text
+  command_text command.EditSearch told v text t there = told_text (bytes_parameter told) _ (λ bytes. tt)
   command_text command.ShareForget told v text t there = (t, there)
 
   -- so is that of a call's task

@@ -6,7 +6,7 @@ use Rattle.looks.specs.declared.refusal.Refusal.TheVariants.{BadEvent, BadFile, 
 use Rattle.shelf.specs.Files.{Files}
 use Rattle.texts.specs.Edit.{Edit, insertion, recalling}
 use Rattle.texts.specs.TextState.{TextState}
-use Rattle.machine.specs.DeskState.{DeskState}
+use Rattle.machine.specs.SiteTexts.{SiteTexts}
 use Rattle.machine.specs.Events.{Delivery, Event, Part, Reply, Task, arrange, ask, bytes, change, click, copy, edit, forget}
 use Rattle.machine.specs.Events.{keep, load, merge, messages_of, print, put, put_recalled, query, refuse, reopen, search, sent, settle}
 use Rattle.machine.specs.Events.{store, take, unknown, untouched}
@@ -45,7 +45,7 @@ module _ (now : Files) where
   edits_short_over s i text e r new does = at_text_over (EditsTextShort e r) s new i text (messages_of r) does
 
   -- the tasks of a desk
-  module _ (s : State) (i : ℕ) (d : DeskState) (w : Screened) where
+  module _ (s : State) (i : ℕ) (d : SiteTexts) (w : Screened) where
     at_caret_over : (Steps : EditSteps) → EditsOver Steps → (c : Caret) (window : Window) (t : TextState)
         (edit_at : ℕ → Edit) (r : Reply) (new : State)
         → AtCaret Steps s i w c window t edit_at r new → AtCaret Steps (over s) i w c window t edit_at r (over new)
@@ -118,7 +118,7 @@ module _ (now : Files) where
     short_over (keep text name) r new (free, there, refused) = (free, there, refused_over s new OutOfMemory r refused)
     short_over (reopen text name) r new (there, refused) = (there, refused_over s new OutOfMemory r refused)
 
-  at_over : (s : State) (i : ℕ) (d : DeskState) (w : Screened) → IsDeskAt s i d w → IsDeskAt (over s) i d w
+  at_over : (s : State) (i : ℕ) (d : SiteTexts) (w : Screened) → IsDeskAt s i d w → IsDeskAt (over s) i d w
   at_over s i d w at = record { texts = at.texts; screen = at.screen }
 
   taken_over : (s new : State) (i text : ℕ) (told : Option (List ℕ)) (r : Reply)
@@ -162,12 +162,12 @@ module _ (now : Files) where
       (d, w, t, at_over s i d w at, is, short_over s i d w t r new does)
   falls_short_over s unknown r new does = absurd does
 
-if_caret_asks_for_none : (s new : State) (d : DeskState) (w : Screened) (part : Part) (r : Reply) (Goes : Caret → Window → TextState → Type 0)
+if_caret_asks_for_none : (s new : State) (d : SiteTexts) (w : Screened) (part : Part) (r : Reply) (Goes : Caret → Window → TextState → Type 0)
     → IfCaret s d w part r new (λ c window t. (part ≡ untouched) × Goes c window t) → part ≡ untouched
 if_caret_asks_for_none s new d w part r Goes (inl (none, free, refused)) = free
 if_caret_asks_for_none s new d w part r Goes (inr (c, shown, is_c, shows, (free, goes))) = free
 
-task_asks_for_none : (s : State) (i : ℕ) (d : DeskState) (w : Screened) (t : Task) (part : Part) (r : Reply) (new : State)
+task_asks_for_none : (s : State) (i : ℕ) (d : SiteTexts) (w : Screened) (t : Task) (part : Part) (r : Reply) (new : State)
     → AsksForNoFile (ask i t) → DoesTask s i d w t part r new → part ≡ untouched
 task_asks_for_none s i d w (refuse why) part r new none does = does.0
 task_asks_for_none s i d w (put items) part r new none does = if_caret_asks_for_none s new d w part r _ does
@@ -182,7 +182,7 @@ task_asks_for_none s i d w (print v) part r new none does = does.0
 task_asks_for_none s i d w (keep text name) part r new none does = absurd none
 task_asks_for_none s i d w (reopen text name) part r new none does = absurd none
 
-short_task_asks_for_none : (s : State) (i : ℕ) (d : DeskState) (w : Screened) (t : Task) (part : Part) (r : Reply) (new : State)
+short_task_asks_for_none : (s : State) (i : ℕ) (d : SiteTexts) (w : Screened) (t : Task) (part : Part) (r : Reply) (new : State)
     → AsksForNoFile (ask i t) → ShortTask s i d w t part r new → part ≡ untouched
 short_task_asks_for_none s i d w (refuse why) part r new none does = absurd does
 short_task_asks_for_none s i d w (put items) part r new none does = does.0

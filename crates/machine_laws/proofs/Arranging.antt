@@ -14,14 +14,14 @@ use Rattle.char_files.specs.declared.name.Anchor.TheVariants.{Root, At}
 use Rattle.operations.specs.Operation.{Operation}
 use Rattle.tree_order.specs.Tree.{IsChar}
 use Rattle.viewers.specs.Screen.{area_of, seats_of}
-use Rattle.viewers.specs.Tracks.{can_move, closed, place as seat_of}
+use Rattle.viewers.specs.Tracks.{can_move, closed, seat_index as seat_of}
 use Rattle.viewers.specs.declared.screen.Track.{Track}
 use Rattle.viewers.specs.declared.screen.Area.{Area}
 use Rattle.texts.specs.Edit.{anchor_before}
 use Rattle.texts.specs.Text.{IsAnchor, IsText}
 use Rattle.texts.specs.TextState.{TextState, shown_of}
 use Rattle.texts.proofs.Chars.{shown_are_chars}
-use Rattle.machine.specs.DeskState.{DeskState, IsTextOf}
+use Rattle.machine.specs.SiteTexts.{SiteTexts, IsTextOf}
 use Rattle.machine.specs.Windows.{Arranged, Caret, Pointed, Screened, Selected, Window, arranged, closed_at, has_room}
 use Rattle.machine.specs.Windows.{is_open, is_row_below, line_anchor, moved_to, opened_at, pointed, pointed_in, pointed_to}
 use Rattle.machine.specs.Windows.{scrolled_in, seats_with, selected_between, selected_by, selected_from, shown_by, text_of}
@@ -41,7 +41,7 @@ shown_char t is k c at =
     All-contains (IsChar t.operations) names c.name (shown_are_chars t is)
     (k, slice_get_within names k c.name here, get_or_from_slice_get names k c.name c.name here)
 
--- what stands ahead of a position is one, or the root
+-- what stands before a position is one, or the root
 pub anchor_stands : (t : TextState) → IsText t → (at : ℕ) → IsAnchor t.operations (anchor_before (shown_of t) at)
 anchor_stands t is at = by (at == 0) (slice_get (shown_of t) (at - 1)) refl
   where
@@ -52,7 +52,7 @@ anchor_stands t is at = by (at == 0) (slice_get (shown_of t) (at - 1)) refl
     by false (Some c) here = shown_char t is (at - 1) c here
 
 -- a viewer that shows this window shows its text
-pub shows_so : (d : DeskState) (w : Screened) (v : ℕ) (window : Window) (t : TextState) → shown_by v w.windows ≡ Some window
+pub shows_so : (d : SiteTexts) (w : Screened) (v : ℕ) (window : Window) (t : TextState) → shown_by v w.windows ≡ Some window
     → IsTextOf d window.text t → window_of d w v ≡ Some (window, t)
 shows_so d w v window t at there =
     ap (option_and_then {U = Window × TextState}
@@ -60,7 +60,7 @@ shows_so d w v window t at there =
     ∙ ap (option_map {U = Window × TextState} (λ t. (window, t))) there
 
 -- a viewer shows its text on another screen where it has its window
-shows_more : (d : DeskState) (w w' : Screened) (v : ℕ) (Has : List Operation → Type 0)
+shows_more : (d : SiteTexts) (w w' : Screened) (v : ℕ) (Has : List Operation → Type 0)
     → ((window : Window) → shown_by v w.windows ≡ Some window → shown_by v w'.windows ≡ Some window)
     → ShowsTextOf d w v Has → ShowsTextOf d w' v Has
 shows_more d w w' v Has more (shown, shows, has) =
@@ -72,7 +72,7 @@ option_both : {A B : Type 0} (P : B → Type 0) (f : A → B) (z : B) (o : Optio
 option_both P f z None some none = none
 option_both P f z (Some x) some none = some x refl
 
--- behind windows more a viewer shows what it showed
+-- after windows more a viewer shows what it showed
 shown_more : (v : ℕ) (ws more : List (ℕ × Window)) (window : Window) → shown_by v ws ≡ Some window
     → shown_by v (ws ++ more) ≡ Some window
 shown_more v [] more window at = absurd (none-some window at)
@@ -84,7 +84,7 @@ shown_more v (e ∷ ws) more window at = by (e.0 == v) (shown_more v ws more win
     by true rest at = at
     by false rest at = rest at
 
--- behind one more it shows that one, or what it showed
+-- after one more it shows that one, or what it showed
 shown_or_last : (v n : ℕ) (last : Window) (ws : List (ℕ × Window)) (window : Window)
     → shown_by v (ws ++ (n, last) ∷ []) ≡ Some window → (shown_by v ws ≡ Some window) ⊎ (window ≡ last)
 shown_or_last v n last [] window at = by (n == v) at
@@ -163,7 +163,7 @@ scrolled_other v u new (e ∷ ws) apart = by (e.0 == v) refl (scrolled_other v u
     by false differ rest = ap (λ (o : Option Window). if e.0 == u then Some e.1 else o) rest
 
 -- a caret that is set by a character
-pub caret_set : (d : DeskState) (w : Screened) (c : Caret) → ShowsTextOf d w c.viewer (λ ops. IsAnchor ops c.anchor)
+pub caret_set : (d : SiteTexts) (w : Screened) (c : Caret) → ShowsTextOf d w c.viewer (λ ops. IsAnchor ops c.anchor)
     → StandsByChars d w → StandsByChars d (record w { caret = Some c })
 caret_set d w c shows has = record {
   caret = λ x is.
@@ -173,7 +173,7 @@ caret_set d w c shows has = record {
 }
 
 -- and a selection
-selection_set : (d : DeskState) (w : Screened) (x : Selected)
+selection_set : (d : SiteTexts) (w : Screened) (x : Selected)
     → ShowsTextOf d w x.viewer (λ ops. IsChar ops x.first × IsChar ops x.last) → StandsByChars d w
     → StandsByChars d (record w { selected = Some x })
 selection_set d w x shows has = record {
@@ -185,11 +185,11 @@ selection_set d w x shows has = record {
 }
 
 -- the screen that an arrangement comes to stands by characters
-abbrev pub LeavesChars : DeskState → Arranged → Type 0
+abbrev pub LeavesChars : SiteTexts → Arranged → Type 0
 LeavesChars d (Ok out) = StandsByChars d out.0
 LeavesChars d (Err why) = Unit {0}
 
-module _ (d : DeskState) (w : Screened) (are : (n : ℕ) (t : TextState) → IsTextOf d n t → IsText t)
+module _ (d : SiteTexts) (w : Screened) (are : (n : ℕ) (t : TextState) → IsTextOf d n t → IsText t)
     (has : StandsByChars d w) where
   -- what a viewer shows is what its operations define
   shown_text : (v : ℕ) (shown : Window × TextState) → window_of d w v ≡ Some shown → IsText shown.1
@@ -299,7 +299,7 @@ module _ (d : DeskState) (w : Screened) (are : (n : ℕ) (t : TextState) → IsT
               is,
             )
 
-    -- and begins behind a character
+    -- and begins after a character
     windows_stand : (u : ℕ) (x : Window × TextState) (b : Bool) → (v == u) ≡ b
         → shown_by u (scroll_to v scrolled_to w.windows) ≡ Some x.0 → IsTextOf d x.0.text x.1
         → IsAnchor x.1.operations x.0.anchor

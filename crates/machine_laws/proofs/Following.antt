@@ -1,4 +1,4 @@
--- The texts of a run go on: behind an event each is what its operations define, has told its changes, and holds what it held.
+-- The texts of a run go on: after an event each is what its operations define, has told its changes, and holds what it held.
 use Rattle.std.proofs.Common.{◌≡◌, ℕ, zero, suc, ◌-◌, List, [], ◌∷◌, length, Some, Contains, refl, sym, ap}
 use Rattle.std.proofs.Common.{subst, ◌∙◌, inl, inr, arith}
 use Rattle.std.specs.Prelude.{slice_get, slice_set}
@@ -11,7 +11,7 @@ use Rattle.texts.specs.Laws.{OwnEditsArePlain}
 use Rattle.texts.specs.Text.{IsText}
 use Rattle.texts.specs.TextState.{TextState, all_told, with_room}
 use Rattle.convergence.proofs.OneWay.{text_with_room}
-use Rattle.machine.specs.DeskState.{DeskState, InText, IsTextOf}
+use Rattle.machine.specs.SiteTexts.{SiteTexts, InText, IsTextOf}
 use Rattle.machine.specs.OnTexts.{CopiesText, CopiesTextShort, EditsText, EditsTextShort, MergesText, MergesTextShort}
 use Rattle.machine.specs.OnTexts.{SettlesText, TakesText, TakesTextShort}
 use Rattle.machine.specs.State.{State, Tells}
@@ -41,8 +41,8 @@ Follows t u = IsText t → t.asked ≡ length t.operations
 same_follows : (t : TextState) → Follows t t
 same_follows t is told = (is, told, λ op held. held)
 
-text_told : (t : TextState) → IsText t → IsText (all_told t)
-text_told t is = record {
+text_parameter : (t : TextState) → IsText t → IsText (all_told t)
+text_parameter t is = record {
   good = is.good;
   in_order = is.in_order;
   identified = is.identified;
@@ -58,7 +58,7 @@ grown_follows : (Does' : TextState → TextState → Type 0) → ((t u : TextSta
 grown_follows Does' grow t u (t', does, is_u) is told =
     let grows = grow t t' does is in
     subst (λ (x : TextState). IsText x × (x.asked ≡ length x.operations) × IsPartOf t.operations x.operations) (sym is_u) (
-      text_told t' grows.is,
+      text_parameter t' grows.is,
       refl,
       λ op held. subst (λ (ops : List Operation). Contains ops op) (sym grows.taken)
           (Contains-append_left t.operations grows.more op held),
@@ -69,7 +69,7 @@ emptied_follows : AreIdentified [] → (t u : TextState) → Tells (λ t u. u �
 emptied_follows none t u (t', is_t', is_u) is told =
     subst (λ (x : TextState). IsText x × (x.asked ≡ length x.operations) × IsPartOf t.operations x.operations)
     (sym (is_u ∙ ap all_told is_t')) (
-      text_told (with_room t [])
+      text_parameter (with_room t [])
           (text_with_room t [] is (record { of_text = All-nil _; identified = none; few = omega arith })),
       refl,
       λ op held. held,
@@ -79,7 +79,7 @@ emptied_follows none t u (t', is_t', is_u) is told =
 begun_follows : (ops : List Operation) (t u : TextState) → Tells (Begins ops) t u → Follows t u
 begun_follows ops t u (t', (fresh, taken), is_u) is told =
     subst (λ (x : TextState). IsText x × (x.asked ≡ length x.operations) × IsPartOf t.operations x.operations) (sym is_u)
-    (text_told t' taken.is, refl, held_nothing t t'.operations fresh)
+    (text_parameter t' taken.is, refl, held_nothing t t'.operations fresh)
 
 module _ (plain : OwnEditsArePlain) (none : AreIdentified []) (s : State) where
   -- in whichever way it goes on
@@ -106,28 +106,28 @@ module _ (plain : OwnEditsArePlain) (none : AreIdentified []) (s : State) where
   goes_follows t u (t', begins ops spelled does, is) = begun_follows ops t u (t', does, is)
 
 -- each text of a desk follows the one of its number, where there was one there is one, and there are as many
-abbrev pub DeskFollows : DeskState → DeskState → Type 0
-DeskFollows d d' =
+abbrev pub SiteFollows : SiteTexts → SiteTexts → Type 0
+SiteFollows d d' =
     ((n : ℕ) (u : TextState) → IsTextOf d' n u → (t : TextState) × IsTextOf d n t × Follows t u)
     × ((n : ℕ) (t : TextState) → IsTextOf d n t → (u : TextState) × IsTextOf d' n u)
     × (length d'.texts ≡ length d.texts)
 
 -- so it is with each desk of a run
 abbrev pub StateFollows : State → State → Type 0
-StateFollows s new = (i : ℕ) (d' : DeskState) → slice_get new.desks i ≡ Some d'
-    → (d : DeskState) × (slice_get s.desks i ≡ Some d) × DeskFollows d d'
+StateFollows s new = (i : ℕ) (d' : SiteTexts) → slice_get new.desks i ≡ Some d'
+    → (d : SiteTexts) × (slice_get s.desks i ≡ Some d) × SiteFollows d d'
 
-desk_same : (d : DeskState) → DeskFollows d d
+desk_same : (d : SiteTexts) → SiteFollows d d
 desk_same d = (λ n u there. (u, there, same_follows u), λ n t there. (t, there), refl)
 
 state_same : (s new : State) → new.desks ≡ s.desks → StateFollows s new
-state_same s new same i d at = (d, ap (λ (ds : List DeskState). slice_get ds i) (sym same) ∙ at, desk_same d)
+state_same s new same i d at = (d, ap (λ (ds : List SiteTexts). slice_get ds i) (sym same) ∙ at, desk_same d)
 
-desk_follows : (Does' : TextState → TextState → Type 0) → ((t u : TextState) → Does' t u → Follows t u)
-    → (d : DeskState) (text : ℕ) (d' : DeskState) → InText Does' d text d' → DeskFollows d d'
-desk_follows Does' follow d text d' (t, u, at, does, is) = (
+site_follows : (Does' : TextState → TextState → Type 0) → ((t u : TextState) → Does' t u → Follows t u)
+    → (d : SiteTexts) (text : ℕ) (d' : SiteTexts) → InText Does' d text d' → SiteFollows d d'
+site_follows Does' follow d text d' (t, u, at, does, is) = (
   λ n v there.
-      let (x, at_x, how) = set_old d.texts (text - 1) (n - 1) u v (subst (λ (y : DeskState). IsTextOf y n v) is there) in
+      let (x, at_x, how) = set_old d.texts (text - 1) (n - 1) u v (subst (λ (y : SiteTexts). IsTextOf y n v) is there) in
       elim how [
         | inl same ↦ (x, at_x, subst (Follows x) (sym same) (same_follows x))
         | inr set ↦ (
@@ -138,22 +138,22 @@ desk_follows Does' follow d text d' (t, u, at, does, is) = (
       ],
   λ n v there.
       let (z, here) = set_still d.texts (text - 1) (n - 1) v u there in
-      (z, subst (λ (y : DeskState). IsTextOf y n z) (sym is) here),
-  ap (λ (y : DeskState). length y.texts) is ∙ length-set d.texts (text - 1) u,
+      (z, subst (λ (y : SiteTexts). IsTextOf y n z) (sym is) here),
+  ap (λ (y : SiteTexts). length y.texts) is ∙ length-set d.texts (text - 1) u,
 )
 
 -- what a text does that lets it follow lets the run's texts follow
 state_follows : (Does' : TextState → TextState → Type 0) → ((t u : TextState) → Does' t u → Follows t u)
-    → (s new : State) (i text : ℕ) (d d' : DeskState) → slice_get s.desks i ≡ Some d → InText Does' d text d'
+    → (s new : State) (i text : ℕ) (d d' : SiteTexts) → slice_get s.desks i ≡ Some d → InText Does' d text d'
     → new.desks ≡ slice_set s.desks i d' → StateFollows s new
 state_follows Does' follow s new i text d d' at does is j e there =
-    let (x, at_x, how) = set_old s.desks i j d' e (subst (λ (ds : List DeskState). slice_get ds j ≡ Some e) is there) in
+    let (x, at_x, how) = set_old s.desks i j d' e (subst (λ (ds : List SiteTexts). slice_get ds j ≡ Some e) is there) in
     elim how [
-      | inl same ↦ (x, at_x, subst (DeskFollows x) (sym same) (desk_same x))
+      | inl same ↦ (x, at_x, subst (SiteFollows x) (sym same) (desk_same x))
       | inr set ↦ (
         d,
         subst (λ (k : ℕ). slice_get s.desks k ≡ Some d) (sym set.1) at,
-        subst (DeskFollows d) (sym set.0) (desk_follows Does' follow d text d' does),
+        subst (SiteFollows d) (sym set.0) (site_follows Does' follow d text d' does),
       )
     ]
 

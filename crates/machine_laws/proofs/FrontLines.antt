@@ -92,13 +92,13 @@ told f g (x ∷ xs) [] v w small small' same s at =
     absurd (omega (arith, first))
 told f g (x ∷ xs) (y ∷ ys) v w small small' same s at =
     let both = sym (first_line f x xs (waiting_line v)) ∙ same ∙ first_line g y ys (waiting_line w) in
-    let behind : decimal x ++ 32 ∷ (decimal (f x) ++ 10 ∷ lines f xs (waiting_line v))
+    let after : decimal x ++ 32 ∷ (decimal (f x) ++ 10 ∷ lines f xs (waiting_line v))
     ≡ decimal y ++ 32 ∷ (decimal (g y) ++ 10 ∷ lines g ys (waiting_line w))
     = ap (λ (l : List ℕ). drop 6 l) both in
     let of_x = small x (here x xs) in
     let of_y = small' y (here y ys) in
     let site = same_number 32 x y (decimal (f x) ++ 10 ∷ lines f xs (waiting_line v))
-    (decimal (g y) ++ 10 ∷ lines g ys (waiting_line w)) (omega arith) of_x.0 of_y.0 behind in
+    (decimal (g y) ++ 10 ∷ lines g ys (waiting_line w)) (omega arith) of_x.0 of_y.0 after in
     let front = same_number 10 (f x) (g y) (lines f xs (waiting_line v)) (lines g ys (waiting_line w)) (omega arith)
     of_x.1 of_y.1 site.1 in
     at_place s at (front.0 ∙ ap g (sym site.0))
@@ -144,10 +144,10 @@ small_sites ops sites numbered are s at =
     let front : front_of ops s < 2 ^ 32 = small_front ops s numbered in
     (omega (arith, site), omega (arith, front))
 
--- what is printed ahead of how many wait are the lines of the fronts
-ahead : (t : TextState) (text sites : List ℕ) → text ++ waiting_line (length t.waiting_room) ≡ front_lines t sites
+-- what is printed before how many wait are the lines of the fronts
+before : (t : TextState) (text sites : List ℕ) → text ++ waiting_line (length t.waiting_room) ≡ front_lines t sites
     → text ≡ flat_map (λ site. front_line site (front_of t.operations site)) sites
-ahead t text sites is =
+before t text sites is =
     append_cancel_right text (flat_map (λ site. front_line site (front_of t.operations site)) sites)
     (waiting_line (length t.waiting_room)) is
 
@@ -156,7 +156,7 @@ fronts-lines t u text numbered numbered' (sites, are, is) (sites', are', is') s 
     let small = small_sites t.operations sites numbered are in
     let small' = small_sites u.operations sites' numbered' are' in
     let same : lines (front_of t.operations) sites (waiting_line 0) ≡ lines (front_of u.operations) sites' (waiting_line 0)
-    = ap (λ (l : List ℕ). l ++ waiting_line 0) (sym (ahead t text sites is) ∙ ahead u text sites' is') in
+    = ap (λ (l : List ℕ). l ++ waiting_line 0) (sym (before t text sites is) ∙ before u text sites' is') in
     elim (cases_lt 0 (front_of t.operations s)) [
       | inl more ↦ told (front_of t.operations) (front_of u.operations) sites sites' 0 0 small small' same s
           ((are.all s).1 more)

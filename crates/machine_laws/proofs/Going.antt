@@ -17,7 +17,7 @@ use Rattle.texts.specs.declared.merge_refusal.MergeRefusal.{MergeRefusal}
 use Rattle.texts.specs.declared.merge_refusal.MergeRefusal.TheVariants.{Whole as MergesNothing, Stopped}
 use Rattle.texts.specs.declared.took.Took.{Took}
 use Rattle.texts.specs.TextState.{TextState, empty_text, shown_of, with_room}
-use Rattle.machine.specs.DeskState.{DeskState, InText}
+use Rattle.machine.specs.SiteTexts.{SiteTexts, InText}
 use Rattle.machine.specs.Events.{Event, Part, Reply, Task, arrange, ask, change, click, copy, done, edit, failed, forget}
 use Rattle.machine.specs.Events.{forgot, found, keep, load, merge, merge_reply, messages_of, not_found, opens, print, prints}
 use Rattle.machine.specs.Events.{put, put_recalled, query, refuse, refuses, reopen, search, settle, store, take, take_reply}
@@ -32,7 +32,7 @@ use Rattle.machine.specs.Tasks.{caret_after, has_begun, lines_of_view}
 use Rattle.machine.specs.Windows.{Arranged, Caret, Screened, Window, arranged, place_in, window_of}
 use Rattle.machine.specs.declared.asked.Arrangement.{Arrangement}
 use Rattle.machine.specs.declared.asked.Arrangement.TheVariants.{Close, Move, Open, Point, Scroll, Select}
-use Rattle.machine_laws.proofs.OneOfTexts.{one_text}
+use Rattle.machine_laws.proofs.OneOfTexts.{lemma_one_text}
 use Rattle.machine_laws.proofs.OneReply.{ComesTo, shown_parts}
 use Rattle.machine_laws.proofs.Reopening.{Begins}
 use Rattle.machine_laws.proofs.Rooms.{by_test}
@@ -57,19 +57,19 @@ pub data TextGoes (s : State) (t u : TextState) : Type 0 where
 -- The texts stay; or one of them goes on so, and has told its changes.
 pub data TextsGo (s new : State) : Type 0 where
   as_they_are : new.desks ≡ s.desks → TextsGo s new
-  by_text : (i text : ℕ) (d d' : DeskState) → slice_get s.desks i ≡ Some d → InText (Tells (TextGoes s)) d text d'
+  by_text : (i text : ℕ) (d d' : SiteTexts) → slice_get s.desks i ≡ Some d → InText (Tells (TextGoes s)) d text d'
       → new.desks ≡ slice_set s.desks i d' → TextsGo s new
 
--- a place in a text is what it was, or is behind a character that the text shows now, or at its beginning
+-- a place in a text is what it was, or is after a character that the text shows now, or at its beginning
 abbrev pub PlaceGoes : TextState → (old new : Anchor) → Type 0
 PlaceGoes t old new = (new ≡ old) ⊎ ((n : ℕ) × (new ≡ anchor_before (shown_of t) n))
 
 -- No screen changes; or one is arranged, and no text changes; or the caret of one goes to another place of its text.
 pub data ScreensGo (s new : State) : Type 0 where
   no_screen : new.screens ≡ s.screens → ScreensGo s new
-  by_arranging : (i : ℕ) (d : DeskState) (w : Screened) (a : Arrangement) (out : Screened × Option ℕ) → IsDeskAt s i d w
+  by_arranging : (i : ℕ) (d : SiteTexts) (w : Screened) (a : Arrangement) (out : Screened × Option ℕ) → IsDeskAt s i d w
       → arranged d w a ≡ Ok out → new.desks ≡ s.desks → new.screens ≡ slice_set s.screens i out.0 → ScreensGo s new
-  by_caret : (i : ℕ) (d : DeskState) (w : Screened) (c : Caret) (shown : Window × TextState) (t : TextState) (anchor : Anchor)
+  by_caret : (i : ℕ) (d : SiteTexts) (w : Screened) (c : Caret) (shown : Window × TextState) (t : TextState) (anchor : Anchor)
       → IsDeskAt s i d w → w.caret ≡ Some c → window_of d w c.viewer ≡ Some shown → IsTextAt new i shown.0.text t
       → PlaceGoes t c.anchor anchor
       → new.screens ≡ slice_set s.screens i (record w { caret = Some (record c { anchor = anchor }) }) → ScreensGo s new
@@ -143,7 +143,7 @@ edit_goes s i text e r new does = at_text_goes (EditsText e r) s new i text r (�
 edit_goes_short : EditsGo EditsShortAt
 edit_goes_short s i text e r new short = at_text_goes (EditsTextShort e r) s new i text r (λ t u. edits_short e r) short
 
--- behind an edit the caret goes on
+-- after an edit the caret goes on
 caret_goes : (t u : TextState) (was : ℕ) (old : Anchor) → PlaceGoes u old (caret_after t u was old)
 caret_goes t u was old = cond_both (length (shown_of u) == length (shown_of t)) _ _ (PlaceGoes u old)
     (λ e. inl refl) (λ e. inr (_, refl))
@@ -154,7 +154,7 @@ as_mid s mid new same (as_they_are is) = as_they_are (same ∙ is)
 as_mid s mid new same (by_text i text d d' at does is) = by_text i text d d' at does (same ∙ is)
 
 -- the tasks of a desk
-module _ (s : State) (i : ℕ) (d : DeskState) (w : Screened) (at : IsDeskAt s i d w) where
+module _ (s : State) (i : ℕ) (d : SiteTexts) (w : Screened) (at : IsDeskAt s i d w) where
   at_caret : (Steps : EditSteps) → EditsGo Steps → ((text : ℕ) (e : Edit) (r : Reply) (mid : State)
       → Steps s i text e r mid → mid.screens ≡ s.screens) → (c : Caret) (shown : Window × TextState)
       (edit_at : ℕ → Edit) (r : Reply) (new : State) → w.caret ≡ Some c → window_of d w c.viewer ≡ Some shown
@@ -165,7 +165,7 @@ module _ (s : State) (i : ℕ) (d : DeskState) (w : Screened) (at : IsDeskAt s i
       let desks : new.desks ≡ mid.desks = ap (λ (x : State). x.desks) is_new in (
         as_mid s mid new desks texts,
         by_caret i d w c shown u (caret_after shown.1 u was c.anchor) at is_c shows
-            (let (e, at_e, of_e) = there in (e, ap (λ (ds : List DeskState). slice_get ds i) desks ∙ at_e, of_e))
+            (let (e, at_e, of_e) = there in (e, ap (λ (ds : List SiteTexts). slice_get ds i) desks ∙ at_e, of_e))
             (caret_goes shown.1 u was c.anchor)
             (ap (λ (x : State). x.screens) is_new ∙ ap (λ (ws : List Screened). slice_set ws i (record w
             { caret = Some (record c { anchor = caret_after shown.1 u was c.anchor }) }))
@@ -197,7 +197,7 @@ module _ (s : State) (i : ℕ) (d : DeskState) (w : Screened) (at : IsDeskAt s i
         as_they_are desks,
         by_caret i d w c shown shown.1 (anchor_before (shown_of shown.1) (q + length bytes)) at is_c shows (
           d,
-          ap (λ (ds : List DeskState). slice_get ds i) desks ∙ at.texts,
+          ap (λ (ds : List SiteTexts). slice_get ds i) desks ∙ at.texts,
           (shown_parts d w c.viewer shown shows).1,
         ) (inr (q + length bytes, refl)) (ap (λ (x : State). x.screens) is_new),
         none_told s new r (found (q + length bytes)) is refl (ap (λ (x : State). x.sent) is_new),
@@ -242,7 +242,7 @@ module _ (s : State) (i : ℕ) (d : DeskState) (w : Screened) (at : IsDeskAt s i
         → BeginsWith s i text ops r new → Goes s r new
     begins_with ops r new spelled (does, is) = silent_goes (λ t u. HasTakenAll (empty_text t.text t.site) ops u) s new i text r
         (λ u v here taken.
-        let same : t ≡ u = one_text s i text t u there here in
+        let same : t ≡ u = lemma_one_text s i text t u there here in
         (begins ops spelled (subst (λ (x : TextState). has_begun x ≡ false) same fresh, taken), ap messages_of is)) does
 
     begins_as : (file : List ℕ) (r : Reply) (new : State) → BeginsAs s i text t file r new → Goes s r new

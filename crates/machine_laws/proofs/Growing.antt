@@ -1,4 +1,4 @@
--- An event lets a text grow: it is what its operations define still, and what it takes in stands behind what it had.
+-- An event lets a text grow: it is what its operations define still, and what it takes in stands after what it had.
 use Rattle.std.proofs.Common.{◌≡◌, ℕ, ◌-◌, List, [], ◌∷◌, ◌++◌, take, Bool, true, false, Result, Ok, Err, refl, sym, ap}
 use Rattle.std.proofs.Common.{subst, ◌∙◌, inl, inr, append_assoc}
 use Rattle.std.specs.Prelude.{nat_lt}
@@ -32,7 +32,7 @@ use Rattle.machine_laws.proofs.Reaching.{merged, merged_short, settles_text, tak
 use Rattle.machine_laws.proofs.Rooms.{by_test}
 use Rattle.machine_laws.specs.Growing.{Grows}
 
--- what a text took in stands behind what it had, and it wasn't asked for its changes
+-- what a text took in stands after what it had, and it wasn't asked for its changes
 abbrev pub Adds : TextState → TextState → Type 0
 Adds t new = (more : List Operation) × (new.operations ≡ t.operations ++ more) × (new.asked ≡ t.asked)
 
@@ -55,10 +55,10 @@ taken_adds t new ops taken = (
 
 draining_adds : {t new : TextState} {drained dropped : ℕ} {stopped : Bool} → Drains t drained dropped stopped new → Adds t new
 draining_adds {t} (ends all) = adds_none t t refl
-draining_adds {t} (stops ahead behind op next judged) = adds_none t t refl
-draining_adds {t} {new} (takes_in {with_op = with_op} ahead behind op next judged taken rest) =
-    adds_more t with_op new (taken_adds (with_room t (ahead ++ behind)) with_op (op ∷ []) taken) (draining_adds rest)
-draining_adds (throws_away ahead behind op next thrown rest) = draining_adds rest
+draining_adds {t} (stops earlier later op next judged) = adds_none t t refl
+draining_adds {t} {new} (takes_in {with_op = with_op} earlier later op next judged taken rest) =
+    adds_more t with_op new (taken_adds (with_room t (earlier ++ later)) with_op (op ∷ []) taken) (draining_adds rest)
+draining_adds (throws_away earlier later op next thrown rest) = draining_adds rest
 
 -- own operations
 

@@ -33,7 +33,7 @@ use Rattle.texts.specs.declared.merge_refusal.MergeRefusal.{MergeRefusal}
 use Rattle.texts.specs.declared.merge_refusal.MergeRefusal.TheVariants.{Whole as MergesNothing, Stopped}
 use Rattle.texts.specs.declared.took.Took.{Took}
 use Rattle.texts.specs.declared.took.Took.TheVariants.{Waits}
-use Rattle.machine.specs.DeskState.{DeskState, IsTextOf, new_desk}
+use Rattle.machine.specs.SiteTexts.{SiteTexts, IsTextOf, fresh_texts}
 use Rattle.machine.specs.Events.{Reply}
 use Rattle.machine.specs.OnTexts.{CopiesText, EditsText, EditsTextShort, MergesText, MergesTextShort, SettlesText, TakesText}
 use Rattle.machine.specs.OnTexts.{TakesTextShort, copied, is_copy_in}
@@ -68,13 +68,13 @@ rest_of_all : (op : Operation) (ops : List Operation) → AreNumbered (op ∷ op
 rest_of_all op ops all k d within = all (suc k) d (omega arith)
 
 -- where one is taken out of the room, the others stay
-cut_out : (ahead behind : List Operation) (op : Operation) → AreNumbered (ahead ++ op ∷ behind)
-    → IsNumbered op × AreNumbered (ahead ++ behind)
-cut_out [] behind op all = (first_of_all op behind all, rest_of_all op behind all)
-cut_out (a ∷ ahead) behind op all =
-    let rest = cut_out ahead behind op (rest_of_all a (ahead ++ op ∷ behind) all) in
-    let first = one a (first_of_all a (ahead ++ op ∷ behind) all) in
-    (rest.0, All-append IsNumbered (a ∷ []) (ahead ++ behind) first rest.1)
+cut_out : (earlier later : List Operation) (op : Operation) → AreNumbered (earlier ++ op ∷ later)
+    → IsNumbered op × AreNumbered (earlier ++ later)
+cut_out [] later op all = (first_of_all op later all, rest_of_all op later all)
+cut_out (a ∷ earlier) later op all =
+    let rest = cut_out earlier later op (rest_of_all a (earlier ++ op ∷ later) all) in
+    let first = one a (first_of_all a (earlier ++ op ∷ later) all) in
+    (rest.0, All-append IsNumbered (a ∷ []) (earlier ++ later) first rest.1)
 
 -- operations more
 grown_by : (t : TextState) (ops : List Operation) (new : TextState) → AreNumbered ops → HasTakenAll t ops new
@@ -90,13 +90,13 @@ in_room t room all is = record { site = is.site; taken = is.taken; waits = all }
 
 drained : {t new : TextState} {n m : ℕ} {stopped : Bool} → Drains t n m stopped new → HasNumbers t → HasNumbers new
 drained (ends stay) is = is
-drained (stops ahead behind op next ready) is = is
-drained {t} (takes_in {with_op = with_op} ahead behind op next ready has drains) is =
-    let parts = cut_out ahead behind op (subst AreNumbered next.room is.waits) in
-    drained drains (grown_by (with_room t (ahead ++ behind)) (op ∷ []) with_op (one op parts.0) has
-    (in_room t (ahead ++ behind) parts.1 is))
-drained {t} (throws_away ahead behind op next thrown drains) is =
-    drained drains (in_room t (ahead ++ behind) (cut_out ahead behind op (subst AreNumbered next.room is.waits)).1 is)
+drained (stops earlier later op next ready) is = is
+drained {t} (takes_in {with_op = with_op} earlier later op next ready has drains) is =
+    let parts = cut_out earlier later op (subst AreNumbered next.room is.waits) in
+    drained drains (grown_by (with_room t (earlier ++ later)) (op ∷ []) with_op (one op parts.0) has
+    (in_room t (earlier ++ later) parts.1 is))
+drained {t} (throws_away earlier later op next thrown drains) is =
+    drained drains (in_room t (earlier ++ later) (cut_out earlier later op (subst AreNumbered next.room is.waits)).1 is)
 
 -- a message's operation fits
 
@@ -206,8 +206,8 @@ own_plan t restoration = own_restore t (is_restored t) _
 own_plan t (recalling pos) = own_inserts t pos (pieces_of t.last_stretch)
 
 -- one that stands isn't refused for the greatest seq, and so fits
-not_spent : (behind spent : Bool) (others : Option Refusal)
-    → (if behind then Some Behind else (if spent then Some SeqSpent else others)) ≡ None → spent ≡ false
+not_spent : (later spent : Bool) (others : Option Refusal)
+    → (if later then Some Behind else (if spent then Some SeqSpent else others)) ≡ None → spent ≡ false
 not_spent true spent others none = absurd cc
 not_spent false true others none = absurd cc
 not_spent false false others none = refl
@@ -222,7 +222,7 @@ seq_fits t kind none is =
     below_greatest : (n : ℕ) → (n == MAX_SEQ) ≡ false → n < 2 ^ 32 → n + 1 < 2 ^ 32
     below_greatest n test small = grind (arith, test, small)
 
--- where some stand, the first isn't refused, and of those behind it one less stands
+-- where some stand, the first isn't refused, and of those after it one less stands
 stands : (why : Option Refusal) (later : Option (ℕ × Refusal)) (n len : ℕ)
     → suc n ≤ option_map_or (λ stop. stop.0) (refusal_or why later) (suc len)
     → (why ≡ None) × (n ≤ option_map_or (λ stop. stop.0) later len)
@@ -317,12 +317,12 @@ tells_so t u is has = subst HasNumbers (sym is) (record { site = has.site; taken
 -- and what the run's texts do
 goes_so : (s new : State) → TextsGo s new → AllHaveNumbers s → AllHaveNumbers new
 goes_so s new (as_they_are same) all i number u (x, at_x, there) =
-    all i number u (x, ap (λ (ds : List DeskState). slice_get ds i) (sym same) ∙ at_x, there)
+    all i number u (x, ap (λ (ds : List SiteTexts). slice_get ds i) (sym same) ∙ at_x, there)
 goes_so s new (by_text i text d d' at (t, t', there, (t'', does, told), is) desks) all j number u (x, at_x, there_x) =
-    let texts : d'.texts ≡ slice_set d.texts (text - 1) t' = ap (λ (x : DeskState). x.texts) is in
+    let texts : d'.texts ≡ slice_set d.texts (text - 1) t' = ap (λ (x : SiteTexts). x.texts) is in
     elim (set_cases s.desks i j d' x (rw desks at at_x)) [
       | inl same ↦ let there' : slice_get d'.texts (number - 1) ≡ Some u
-          = subst (λ (y : DeskState). IsTextOf y number u) same there_x in
+          = subst (λ (y : SiteTexts). IsTextOf y number u) same there_x in
           elim (set_cases d.texts (text - 1) (number - 1) t' u (rw texts at there')) [
             | inl same' ↦ subst HasNumbers (sym same')
                 (tells_so t'' t' told (text_goes_so s all t t'' does (all i text t (d, at, there))))
@@ -341,9 +341,9 @@ of_range f a (suc n) (suc i) y at = let (k, below, is) = of_range f (a + 1) n i 
 new_so : (first count width height : ℕ) (files : Files) → first + count ≤ 2 ^ 16
     → AllHaveNumbers (new_state first count width height files)
 new_so first count width height files few i text t (d, at, there) =
-    let (site, below, is) = of_range new_desk first count i d at in
-    let here : slice_get (new_desk site).texts (text - 1) ≡ Some t = ap
-    (λ (x : DeskState). slice_get x.texts (text - 1)) is ∙ there in
+    let (site, below, is) = of_range fresh_texts first count i d at in
+    let here : slice_get (fresh_texts site).texts (text - 1) ≡ Some t = ap
+    (λ (x : SiteTexts). slice_get x.texts (text - 1)) is ∙ there in
     let (number, some, same) = of_range (λ (n : ℕ). empty_text n site) 1 16 (text - 1) t here in
     subst HasNumbers same (record {
       site =

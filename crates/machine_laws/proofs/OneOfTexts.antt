@@ -23,7 +23,7 @@ use Rattle.texts.specs.declared.merge_refusal.MergeRefusal.{MergeRefusal}
 use Rattle.texts.specs.declared.merge_refusal.MergeRefusal.TheVariants.{Whole as MergesNothing, Stopped}
 use Rattle.texts.specs.declared.took.Took.{Took}
 use Rattle.texts.specs.declared.took.Took.TheVariants.{Taken}
-use Rattle.machine.specs.DeskState.{DeskState, InText, IsTextOf}
+use Rattle.machine.specs.SiteTexts.{SiteTexts, InText, IsTextOf}
 use Rattle.machine.specs.Events.{Delivery, Part, Reply, copy, edit_reply, merge, merge_reply, messages_of, prints}
 use Rattle.machine.specs.Events.{query, refuses, settle, settles, stops, take as taking, take_reply, takes}
 use Rattle.machine.specs.Machine.{Does, Short, message_in}
@@ -40,13 +40,13 @@ pub one_element : {A : Type 0} (o : Option A) (x y : A) → o ≡ Some x → o �
 one_element o x y at_x at_y = same_Some x y (sym at_x ∙ at_y)
 
 -- a place has one text
-pub one_text : (s : State) (i text : ℕ) (t u : TextState) → IsTextAt s i text t → IsTextAt s i text u → t ≡ u
-one_text s i text t u (d, at, there) (d', at', there') =
+pub lemma_one_text : (s : State) (i text : ℕ) (t u : TextState) → IsTextAt s i text t → IsTextAt s i text u → t ≡ u
+lemma_one_text s i text t u (d, at, there) (d', at', there') =
     let same : d ≡ d' = one_element (slice_get s.desks i) d d' at at' in
-    one_element (slice_get d'.texts (text - 1)) t u (subst (λ (x : DeskState). IsTextOf x text t) same there) there'
+    one_element (slice_get d'.texts (text - 1)) t u (subst (λ (x : SiteTexts). IsTextOf x text t) same there) there'
 
 -- where a text does one thing, so does its desk
-pub in_text : (F G : TextState → TextState → Type 0) (P : Type 0) (d d' d'' : DeskState) (text : ℕ)
+pub in_text : (F G : TextState → TextState → Type 0) (P : Type 0) (d d' d'' : SiteTexts) (text : ℕ)
     → ((t u v : TextState) → IsTextOf d text t → F t u → G t v → P × (u ≡ v))
     → InText F d text d' → InText G d text d'' → P × (d' ≡ d'')
 in_text F G P d d' d'' text one (t, u, at, does, is) (t', v, at', does', is') =
@@ -70,7 +70,7 @@ at_text F G P s new new' i text m m' are told one (d, x, at, does, is) (d', y, a
     let same : d' ≡ d = one_element (slice_get s.desks i) d' d at' at in
     let both = in_text (Tells F) (Tells G) P d x y text
     (λ t u v there. tells_one F G P t u v (one t) (are i text t (d, at, there))) does
-    (subst (λ (k : DeskState). InText (Tells G) k text y) same does') in
+    (subst (λ (k : SiteTexts). InText (Tells G) k text y) same does') in
     (both.0, is ∙ (λ k. record s { desks = slice_set s.desks i (both.1 k); sent = s.sent ++ told both.0 k }) ∙ sym is')
 
 pub by_case : (b : Bool) (P P' Q Q' R : Type 0) → (P → P' → R) → (Q → Q' → R) → MatchBool b P Q → MatchBool b P' Q' → R
@@ -139,7 +139,7 @@ module _ (edits_so : EditsOneWay) (takes_so : TakesOneWay) (drains_so : DrainsOn
   pub one_copy : (i text beg end other pos : ℕ) → Does s (copy i text beg end other pos) part r new
       → Does s (copy i text beg end other pos) part r' new' → (r ≡ r') × (new ≡ new')
   one_copy i text beg end other pos (free, (t, there, does)) (free', (t', there', does')) =
-      let same : t' ≡ t = one_text s i text t' t there' there in
+      let same : t' ≡ t = lemma_one_text s i text t' t there' there in
       at_text (CopiesText t beg end pos r) (CopiesText t' beg end pos r') (r ≡ r') s new new' i other (messages_of r)
       (messages_of r') are (ap messages_of)
       (λ u v w is does does'. copies_text edits_so t beg end pos r r' u v w does
@@ -158,7 +158,7 @@ module _ (edits_so : EditsOneWay) (takes_so : TakesOneWay) (drains_so : DrainsOn
   pub one_merge : (i text j : ℕ) → Does s (merge i text j) part r new → Does s (merge i text j) part r' new'
       → (r ≡ r') × (new ≡ new')
   one_merge i text j (free, (t, there, does)) (free', (t', there', does')) =
-      let same : t' ≡ t = one_text s j text t' t there' there in
+      let same : t' ≡ t = lemma_one_text s j text t' t there' there in
       at_text (MergesText t r) (MergesText t' r') (r ≡ r') s new new' i text [] [] are (λ same. refl)
       (λ u v w is does does'. merges_text merges_so t r r' u v w is does
       (subst (λ (x : TextState). MergesText x r' u w) same does')) does does'
@@ -166,7 +166,7 @@ module _ (edits_so : EditsOneWay) (takes_so : TakesOneWay) (drains_so : DrainsOn
   pub one_query : (i text : ℕ) (q : Query) → Does s (query i text q) part r new → Does s (query i text q) part r' new'
       → (r ≡ r') × (new ≡ new')
   one_query i text q (free, stay, (t, a, there, lines, replied)) (free', stay', (t', b, there', lines', replied')) =
-      let same : t' ≡ t = one_text s i text t' t there' there in
+      let same : t' ≡ t = lemma_one_text s i text t' t there' there in
       let one : a ≡ b = one_print only q t a b lines (subst (λ (x : TextState). Prints q x b) same lines') in
       (replied ∙ ap prints one ∙ sym replied', stay ∙ sym stay')
 
@@ -260,7 +260,7 @@ settles_short one r r' t u v shape is (n, m, drains, replied) (n', m', drains', 
     with_counts n n' m m' same same' h =
         subst (λ (k : ℕ). Drains t k m' true u) same (subst (λ (k : ℕ). Drains t n k true u) same' h)
 
--- a merge was stopped behind so many operations
+-- a merge was stopped after so many operations
 part_of_merge : (t other : TextState) (result : Result ℕ MergeRefusal) (new : TextState)
     → MergesShort t other result new → (n : ℕ) × (result ≡ Err (Stopped n))
 part_of_merge t other (Ok n) new short = absurd short
@@ -293,7 +293,7 @@ module _ (takes_so : TakesOneWay) (drains_so : DrainsOneWay) (merges_so : Merges
   pub one_copy_short : (i text beg end other pos : ℕ) → Short s (copy i text beg end other pos) part r new
       → Short s (copy i text beg end other pos) part r' new' → (r ≡ r') × (new ≡ new')
   one_copy_short i text beg end other pos (free, (t, there, short)) (free', (t', there', short')) =
-      let same : t' ≡ t = one_text s i text t' t there' there in
+      let same : t' ≡ t = lemma_one_text s i text t' t there' there in
       at_text (CopiesTextShort t beg end pos r) (CopiesTextShort t' beg end pos r') (r ≡ r') s new new' i other
       (messages_of r) (messages_of r') are (ap messages_of)
       (λ u v w is short short'. edits_short (copied t beg end pos) r r' u v w shape short.2
@@ -316,7 +316,7 @@ module _ (takes_so : TakesOneWay) (drains_so : DrainsOneWay) (merges_so : Merges
   pub one_merge_short : (i text j : ℕ) → Short s (merge i text j) part r new → Short s (merge i text j) part r' new'
       → (r ≡ r') × (new ≡ new')
   one_merge_short i text j (free, (t, there, short)) (free', (t', there', short')) =
-      let same : t' ≡ t = one_text s j text t' t there' there in
+      let same : t' ≡ t = lemma_one_text s j text t' t there' there in
       at_text (MergesTextShort t r) (MergesTextShort t' r') (r ≡ r') s new new' i text [] [] are (λ p. refl)
       (λ u v w is short short'. merges_short merges_so t r r' u v w shape is short
       (subst (λ (x : TextState). MergesTextShort x r' u w) same short')) short short'

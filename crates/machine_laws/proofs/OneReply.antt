@@ -13,7 +13,7 @@ use Rattle.looks.specs.declared.refusal.Refusal.TheVariants.{BadEvent, BadFile, 
 use Rattle.looks.specs.declared.refusal.Refusal.TheVariants.{OutOfMemory, ReadFault, UnknownCommand, WrongText}
 use Rattle.char_files.specs.Stretch.{Item}
 use Rattle.char_files.specs.declared.name.Anchor.{Anchor}
-use Rattle.reader_scanner.proofs.OneToken.{one_token}
+use Rattle.reader_scanner.proofs.OneToken.{lemma_one_token}
 use Rattle.reader_scanner.specs.Tokens.{IsTokenAt}
 use Rattle.reader_scanner.specs.declared.token.Token.{Token}
 use Rattle.reader_scanner.specs.declared.token.TokenValue.{TokenValue}
@@ -32,7 +32,7 @@ use Rattle.texts.specs.declared.took.Took.TheVariants.{Repeat, Taken, Waits}
 use Rattle.convergence.specs.Outcomes.{DrainsOneWay, EditsOneWay, MergesOneWay, TakesOneWay}
 use Rattle.char_files.specs.Runs.{NoOtherRuns}
 use Rattle.machine.specs.Commands.{Clicked, IsParameter, IsTaskAt, IsTaskOfCall, clicked, is_caret_sign, task_of}
-use Rattle.machine.specs.DeskState.{DeskState, InText, IsTextOf}
+use Rattle.machine.specs.SiteTexts.{SiteTexts, InText, IsTextOf}
 use Rattle.machine.specs.Events.{Event, Part, Reply, Task, arrange, ask, change, click, copy, done, edit, failed, forget}
 use Rattle.machine.specs.Events.{forgot, found, keep, load, merge, merges, messages_of, not_found, opens, print, prints, put}
 use Rattle.machine.specs.Events.{put_recalled, query, refuse, refuses, reopen, search, sends, settle, settles, stops, store}
@@ -47,7 +47,7 @@ use Rattle.machine.specs.Windows.{shown_by, text_of, window_of}
 use Rattle.machine.specs.declared.asked.Arrangement.TheVariants.{Close, Move, Open, Point, Scroll, Select}
 use Rattle.machine_laws.proofs.OneOfTexts.{IsPartOfEdit, by_case, in_text, one_copy, one_copy_short, one_edit, one_edit_short}
 use Rattle.machine_laws.proofs.OneOfTexts.{one_element, one_merge, one_merge_short, one_query, one_settling}
-use Rattle.machine_laws.proofs.OneOfTexts.{one_settling_short, one_take, one_take_short, one_text, part_of_edit}
+use Rattle.machine_laws.proofs.OneOfTexts.{one_settling_short, one_take, one_take_short, lemma_one_text, part_of_edit}
 use Rattle.machine_laws.proofs.Reopening.{one_begun}
 use Rattle.machine_laws.proofs.Telling.{put_back, told_same}
 use Rattle.machine_laws.specs.Laws.{AreTexts, EachEventHasOneReply, HaveOneShape, HaveTold, IsLoad, MayLoad}
@@ -75,14 +75,14 @@ at_caret : (Steps : EditSteps) (s : State) (i : ℕ) (w : Screened) (c : Caret) 
     → AreSame r r' new new'
 at_caret Steps s i w c window t edit_at r r' new new' one (mid, u, does, there, is_new) (mid', u', does', there', is_new') =
     let same = one i window.text (edit_at (place_in t c.anchor)) mid mid' does does' in
-    let texts : u ≡ u' = one_text mid' i window.text u u'
+    let texts : u ≡ u' = lemma_one_text mid' i window.text u u'
     (subst (λ (x : State). IsTextAt x i window.text u) same.1 there) there' in (
       same.0,
       is_new ∙ (λ k. with_screen_at (same.1 k) i (record w
           { caret = Some (record c { anchor = caret_after t (texts k) (place_in t c.anchor) c.anchor }) })) ∙ sym is_new',
     )
 
-with_caret : (d : DeskState) (w : Screened) (G H : Caret → Window → TextState → Type 0) (R : Type 0)
+with_caret : (d : SiteTexts) (w : Screened) (G H : Caret → Window → TextState → Type 0) (R : Type 0)
     → ((c : Caret) (window : Window) (t : TextState) → w.caret ≡ Some c → window_of d w c.viewer ≡ Some (window, t)
     → G c window t → H c window t → R) → WithCaret d w G → WithCaret d w H → R
 with_caret d w G H R one (c, shown, at, there, goes) (c', shown', at', there', goes') =
@@ -92,7 +92,7 @@ with_caret d w G H R one (c, shown, at, there, goes) (c', shown', at', there', g
     one c shown.0 shown.1 at there goes (subst (λ (x : Window × TextState). H c x.0 x.1) windows
     (subst (λ (x : Caret). H x shown'.0 shown'.1) carets goes'))
 
-if_caret : (s : State) (d : DeskState) (w : Screened) (part : Part) (r r' : Reply) (new new' : State)
+if_caret : (s : State) (d : SiteTexts) (w : Screened) (part : Part) (r r' : Reply) (new new' : State)
     (G H : Caret → Window → TextState → Type 0)
     → ((c : Caret) (window : Window) (t : TextState) → G c window t → H c window t → AreSame r r' new new')
     → IfCaret s d w part r new G → IfCaret s d w part r' new' H → AreSame r r' new new'
@@ -106,7 +106,7 @@ if_caret s d w part r r' new new' G H one (inr a) (inr b) =
     with_caret d w G H (AreSame r r' new new') (λ c window t at there. one c window t) a b
 
 -- what a viewer shows is a window of its own on a text of the desk
-pub shown_parts : (d : DeskState) (w : Screened) (v : ℕ) (shown : Window × TextState) → window_of d w v ≡ Some shown
+pub shown_parts : (d : SiteTexts) (w : Screened) (v : ℕ) (shown : Window × TextState) → window_of d w v ≡ Some shown
     → (shown_by v w.windows ≡ Some shown.0) × IsTextOf d shown.0.text shown.1
 shown_parts d w v shown is = option_and_then_some {P = (shown_by v w.windows ≡ Some shown.0) × IsTextOf d shown.0.text shown.1}
     (λ (x : Window). option_map {U = Window × TextState} (λ t. (x, t)) (text_of d x.text)) (shown_by v w.windows) shown is
@@ -127,8 +127,8 @@ first_from : (bytes text : List ℕ) (from q q' : ℕ) → IsFirstFrom bytes tex
 first_from bytes text from q q' a b = by (cases_lt q q') (cases_lt q' q)
   where
     by : (q < q') ⊎ (q' ≤ q) → (q' < q) ⊎ (q ≤ q') → q ≡ q'
-    by (inl below) more = absurd (b.first q a.behind below a.there)
-    by (inr le) (inl below) = absurd (a.first q' b.behind below b.there)
+    by (inl below) more = absurd (b.first q a.after below a.there)
+    by (inr le) (inl below) = absurd (a.first q' b.after below b.there)
     by (inr le) (inr ge) = le_antisymm ge le
 
 searches : (s : State) (i : ℕ) (w : Screened) (c : Caret) (t : TextState) (bytes : List ℕ) (r r' : Reply)
@@ -140,9 +140,9 @@ searches s i w c t bytes r r' new new' (inl (q, first, is, is_new)) (inl (q', fi
           { caret = Some (record c { anchor = anchor_before (shown_of t) (same k + length bytes) }) })) ∙ sym is_new',
     )
 searches s i w c t bytes r r' new new' (inl (q, first, is, is_new)) (inr (none, is', is_new')) =
-    absurd (none q first.behind first.there)
+    absurd (none q first.after first.there)
 searches s i w c t bytes r r' new new' (inr (none, is, is_new)) (inl (q, first, is', is_new')) =
-    absurd (none q first.behind first.there)
+    absurd (none q first.after first.there)
 searches s i w c t bytes r r' new new' (inr (none, is, is_new)) (inr (none', is', is_new')) =
     (is ∙ sym is', is_new ∙ sym is_new')
 
@@ -203,7 +203,7 @@ at_text_one F one s new new' i text r r' (d, x, at, does, is) (d', x', at', does
     let both = in_text (Tells (F r)) (Tells (F r')) (r ≡ r') d x x' text
     (λ t u u' there (v, goes, is_u) (v', goes', is_u').
     let same = one r r' t v v' goes goes' in (same.0, is_u ∙ ap all_told same.1 ∙ sym is_u')) does
-    (subst (λ (y : DeskState). InText (Tells (F r')) y text x') ds does') in
+    (subst (λ (y : SiteTexts). InText (Tells (F r')) y text x') ds does') in
     (both.0, is ∙ (λ k. record s { desks = slice_set s.desks i (both.1 k); sent = s.sent ++ [] }) ∙ sym is')
 
 -- a beginning of a text anew
@@ -294,7 +294,7 @@ arranges s i (Ok out) r r' new new' a b = (a.0 ∙ sym b.0, a.1 ∙ sym b.1)
 arranges s i (Err why) r r' new new' a b = (a.0 ∙ sym b.0, a.1 ∙ sym b.1)
 
 -- what a desk is asked, where memory is there
-tasks : OneText → OneSite → (s : State) (i : ℕ) (d : DeskState) (w : Screened) (t : Task) (part : Part) (r r' : Reply)
+tasks : OneText → OneSite → (s : State) (i : ℕ) (d : SiteTexts) (w : Screened) (t : Task) (part : Part) (r r' : Reply)
     (new new' : State) → EditsOne EditsAt s r r' → DoesTask s i d w t part r new → DoesTask s i d w t part r' new'
     → AreSame r r' new new'
 tasks file_so sites_so s i d w (refuse why) part r r' new new' one a b = refuses_one s why r r' new new' a.1 b.1
@@ -306,7 +306,7 @@ tasks file_so sites_so s i d w (load name) part r r' new new' one a b = if_caret
     (λ c window t x y. loads file_so s i w name part c window t r r' new new' one x y) a b
 tasks file_so sites_so s i d w (store text name) part r r' new new' one (t, there, a) (t', there', b) =
     writes s _ _ name _ part r r' new new' a (subst (λ (x : TextState). Stores s x name part r' new')
-    (one_text s i text t' t there' there) b)
+    (lemma_one_text s i text t' t there' there) b)
 tasks file_so sites_so s i d w (search bytes) part r r' new new' one a b = if_caret s d w part r r' new new' _ _
     (λ c window t x y. searches s i w c t bytes r r' new new' x.1 y.1) a b
 tasks file_so sites_so s i d w (change text e) part r r' new new' one a b =
@@ -318,11 +318,11 @@ tasks file_so sites_so s i d w (print v) part r r' new new' one (p, is, is_new) 
     (is ∙ sym is', is_new ∙ sym is_new')
 tasks file_so sites_so s i d w (keep text name) part r r' new new' one (t, there, a) (t', there', b) =
     writes s _ _ name _ part r r' new new' a (subst (λ (x : TextState). Keeps s x name part r' new')
-    (one_text s i text t' t there' there) b)
+    (lemma_one_text s i text t' t there' there) b)
 tasks file_so sites_so s i d w (reopen text name) part r r' new new' one (t, there, a) (t', there', b) =
     reopens_by sites_so s i text t name part r r' new new' a
     (subst (λ (x : TextState). ReopensBy s i text x name part (has_begun x) r' new')
-    (one_text s i text t' t there' there) b)
+    (lemma_one_text s i text t' t there' there) b)
 
 -- a click's task
 
@@ -330,7 +330,7 @@ abbrev pub IsParameterBy : Token → Bool → Option Marked → Result TokenValu
 IsParameterBy token sign m told = MatchBool sign (MatchOption m (told ≡ Err NoSelection)
     (λ m. (there : Token) × IsTokenAt (bytes_shown m.text) m.beg there × (told ≡ Ok there.value))) (told ≡ Ok token.value)
 
-parameter : (d : DeskState) (w : Screened) (token : Token) (told told' : Result TokenValue Refusal)
+parameter : (d : SiteTexts) (w : Screened) (token : Token) (told told' : Result TokenValue Refusal)
     → IsParameter d w token told → IsParameter d w token told' → told ≡ told'
 parameter d w token told told' a b = by (is_caret_sign token.value) (marked d w) a b
   where
@@ -338,19 +338,19 @@ parameter d w token told told' a b = by (is_caret_sign token.value) (marked d w)
         → told ≡ told'
     by true None a b = a ∙ sym b
     by true (Some m) (there, at, is) (there', at', is') =
-        is ∙ (λ k. Ok ((one_token (bytes_shown m.text) m.beg there there' at at' k).value)) ∙ sym is'
+        is ∙ (λ k. Ok ((lemma_one_token (bytes_shown m.text) m.beg there there' at at' k).value)) ∙ sym is'
     by false m a b = a ∙ sym b
 
-abbrev pub IsTaskTold : DeskState → Screened → Call → ℕ → ℕ → Task → Result TokenValue Refusal → Type 0
+abbrev pub IsTaskTold : SiteTexts → Screened → Call → ℕ → ℕ → Task → Result TokenValue Refusal → Type 0
 IsTaskTold d w call v text x told =
     MatchResult told (λ value. x ≡ task_of d w call.command value v text) (λ why. x ≡ refuse why)
 
-abbrev pub IsTaskBy : DeskState → Screened → Call → ℕ → ℕ → Bool → Task → Type 0
+abbrev pub IsTaskBy : SiteTexts → Screened → Call → ℕ → ℕ → Bool → Task → Type 0
 IsTaskBy d w call v text has x = MatchBool has
     ((told : Result TokenValue Refusal) × IsParameter d w call.token told × IsTaskTold d w call v text x told)
     (x ≡ task_of d w call.command call.token.value v text)
 
-call_task : (d : DeskState) (w : Screened) (call : Call) (v text : ℕ) (t t' : Task) → IsTaskOfCall d w call v text t
+call_task : (d : SiteTexts) (w : Screened) (call : Call) (v text : ℕ) (t t' : Task) → IsTaskOfCall d w call v text t
     → IsTaskOfCall d w call v text t' → t ≡ t'
 call_task d w call v text t t' a b = by (has_parameter call.command) a b
   where
@@ -365,12 +365,12 @@ call_task d w call v text t t' a b = by (has_parameter call.command) a b
         (parameter d w call.token told' told is' is) b)
     by false a b = a ∙ sym b
 
-abbrev pub IsTaskIn : DeskState → Screened → Option Clicked → Task → Type 0
+abbrev pub IsTaskIn : SiteTexts → Screened → Option Clicked → Task → Type 0
 IsTaskIn d w at x = MatchOption at (x ≡ refuse NoViewer)
     (λ at. (NoCallAt at.bytes at.pos × (x ≡ refuse UnknownCommand))
     ⊎ ((call : Call) × IsCallAt at.bytes at.pos call × IsTaskOfCall d w call at.viewer at.text x))
 
-task_at : (d : DeskState) (w : Screened) (col row : ℕ) (t t' : Task) → IsTaskAt d w col row t → IsTaskAt d w col row t'
+task_at : (d : SiteTexts) (w : Screened) (col row : ℕ) (t t' : Task) → IsTaskAt d w col row t → IsTaskAt d w col row t'
     → t ≡ t'
 task_at d w col row t t' a b = by (clicked d w col row) a b
   where
@@ -384,14 +384,14 @@ task_at d w col row t t' a b = by (clicked d w col row) a b
         (one_call at.bytes at.pos call' call is' is) goes')
 
 -- a desk and a screen, told twice, are one
-at_desk : (Of : DeskState → Screened → Type 0) (s : State) (i : ℕ) (d d' : DeskState) (w w' : Screened)
+at_desk : (Of : SiteTexts → Screened → Type 0) (s : State) (i : ℕ) (d d' : SiteTexts) (w w' : Screened)
     → IsDeskAt s i d w → IsDeskAt s i d' w' → Of d' w' → Of d w
 at_desk Of s i d d' w w' at at' is =
     subst (λ (x : Screened). Of d x) (one_element (slice_get s.screens i) w' w at'.screen at.screen)
-    (subst (λ (x : DeskState). Of x w') (one_element (slice_get s.desks i) d' d at'.texts at.texts) is)
+    (subst (λ (x : SiteTexts). Of x w') (one_element (slice_get s.desks i) d' d at'.texts at.texts) is)
 
 -- what follows of a task that was clicked twice
-at_task : (Of : DeskState → Screened → Task → Type 0) (s : State) (i col row : ℕ) (d d' : DeskState) (w w' : Screened)
+at_task : (Of : SiteTexts → Screened → Task → Type 0) (s : State) (i col row : ℕ) (d d' : SiteTexts) (w w' : Screened)
     (t t' : Task) → IsDeskAt s i d w → IsDeskAt s i d' w' → IsTaskAt d w col row t → IsTaskAt d' w' col row t'
     → Of d' w' t' → Of d w t
 at_task Of s i col row d d' w w' t t' at at' is is' does =
@@ -482,7 +482,7 @@ caret_stays : (s : State) → HaveTold s → (i : ℕ) (w : Screened) (c : Caret
     → AtCaret EditsShortAt s i w c window t edit_at r new → Refuses s OutOfMemory r new
 caret_stays s told_all i w c window t edit_at r new screen caret here refusal (mid, u, does, there, is_new) =
     let stay = stays s told_all i window.text (edit_at (place_in t c.anchor)) r mid refusal does in
-    let texts : u ≡ t = one_text s i window.text u t
+    let texts : u ≡ t = lemma_one_text s i window.text u t
     (subst (λ (x : State). IsTextAt x i window.text u) stay.1 there) here in
     let anchor : caret_after t u (place_in t c.anchor) c.anchor ≡ c.anchor =
     ap (λ (x : TextState). caret_after t x (place_in t c.anchor) c.anchor) texts
@@ -526,7 +526,7 @@ loads_short file_so s told_all i w name went_well c window t r r' new new' scree
     at at' is is' goes')
 
 -- what a desk is asked
-tasks_short : OneText → (s : State) (i : ℕ) (d : DeskState) (w : Screened) (t : Task) → (IsLoad t → HaveTold s) → (part : Part) (r r' : Reply)
+tasks_short : OneText → (s : State) (i : ℕ) (d : SiteTexts) (w : Screened) (t : Task) → (IsLoad t → HaveTold s) → (part : Part) (r r' : Reply)
     (new new' : State) → IsDeskAt s i d w → HaveOneShape r r' → EditsOne EditsShortAt s r r'
     → ShortTask s i d w t part r new → ShortTask s i d w t part r' new' → AreSame r r' new new'
 tasks_short file_so s i d w (refuse why) told part r r' new new' at shape one a b = absurd a

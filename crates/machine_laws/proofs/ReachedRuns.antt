@@ -8,19 +8,19 @@ use Rattle.char_files.specs.declared.name.Anchor.TheVariants.{Root, At}
 use Rattle.operations.specs.Operation.{Operation}
 use Rattle.shelf.specs.Files.{Files}
 use Rattle.tree_order.specs.Good.{Good}
-use Rattle.tree_order.specs.Sequential.{OneWriterGoesBehindCauses}
+use Rattle.tree_order.specs.Sequential.{OneWriterGoesAfterCauses}
 use Rattle.tree_order.specs.Tree.{IsChar}
 use Rattle.tree_order.proofs.SameSet.{char}
 use Rattle.set_laws.specs.Sets.{AreIdentified, IsPartOf}
 use Rattle.texts.specs.Laws.{OwnEditsArePlain}
 use Rattle.texts.specs.Text.{IsAnchor, IsText}
 use Rattle.texts.specs.TextState.{TextState}
-use Rattle.machine.specs.DeskState.{DeskState, IsTextOf}
+use Rattle.machine.specs.SiteTexts.{SiteTexts, IsTextOf}
 use Rattle.machine.specs.State.{IsDeskAt, State, new_state}
 use Rattle.machine.specs.Windows.{Caret, Screened, Window, blank_screen, window_of}
 use Rattle.machine.specs.declared.TheConstants.{MAX_TEXT}
 use Rattle.machine_laws.proofs.Arranging.{LeavesChars, anchor_stands, arranged_leaves, caret_set, shows_so}
-use Rattle.machine_laws.proofs.Following.{DeskFollows, StateFollows, texts_follow, texts_go, told_follow}
+use Rattle.machine_laws.proofs.Following.{SiteFollows, StateFollows, texts_follow, texts_go, told_follow}
 use Rattle.machine_laws.proofs.Going.{PlaceGoes, ScreensGo, by_arranging, by_caret, no_screen, replies_go}
 use Rattle.machine_laws.proofs.OneOfTexts.{one_element}
 use Rattle.machine_laws.proofs.OneReply.{shown_parts}
@@ -35,10 +35,10 @@ anchor_more Root ops ops' part is = tt
 anchor_more (At c) ops ops' part is = char ops ops' part c is
 
 -- a desk's texts are what their operations define, and have told their changes
-abbrev HasSoundTexts : DeskState → Type 0
+abbrev HasSoundTexts : SiteTexts → Type 0
 HasSoundTexts d = (n : ℕ) (t : TextState) → IsTextOf d n t → IsText t × (t.asked ≡ length t.operations)
 
-module _ (d d' : DeskState) (w : Screened) (sound : HasSoundTexts d) (follow : DeskFollows d d') where
+module _ (d d' : SiteTexts) (w : Screened) (sound : HasSoundTexts d) (follow : SiteFollows d d') where
   -- a viewer shows what became of its text
   shows_followed : (v : ℕ) (Has : List Operation → Type 0)
       → ((ops ops' : List Operation) → IsPartOf ops ops' → Has ops → Has ops') → ShowsTextOf d w v Has → ShowsTextOf d' w v Has
@@ -68,11 +68,11 @@ module _ (d d' : DeskState) (w : Screened) (sound : HasSoundTexts d) (follow : D
         (has.windows v (shown.0, t) (shows_so d w v shown.0 t at there_t));
   }
 
-sound_at : (s : State) (i : ℕ) (d : DeskState) → IsSound s → slice_get s.desks i ≡ Some d → HasSoundTexts d
+sound_at : (s : State) (i : ℕ) (d : SiteTexts) → IsSound s → slice_get s.desks i ≡ Some d → HasSoundTexts d
 sound_at s i d sound at n t there = (sound.texts i n t (d, at, there), sound.told i n t (d, at, there))
 
 -- a desk has as many texts as before
-desks_followed : (s new : State) → IsSound s → StateFollows s new → (i : ℕ) (d : DeskState)
+desks_followed : (s new : State) → IsSound s → StateFollows s new → (i : ℕ) (d : SiteTexts)
     → slice_get new.desks i ≡ Some d → length d.texts ≡ MAX_TEXT
 desks_followed s new sound follow i d' at' =
     let (d, at, goes) = follow i d' at' in
@@ -93,9 +93,9 @@ sound_texts s new sound follow same = record {
 }
 
 -- where one does
-sound_screen : (s new : State) (i : ℕ) (d : DeskState) (w w' : Screened) → IsSound s → StateFollows s new
+sound_screen : (s new : State) (i : ℕ) (d : SiteTexts) (w w' : Screened) → IsSound s → StateFollows s new
     → new.screens ≡ slice_set s.screens i w' → IsDeskAt s i d w
-    → ((d' : DeskState) → slice_get new.desks i ≡ Some d' → DeskFollows d d' → StandsByChars d' w') → IsSound new
+    → ((d' : SiteTexts) → slice_get new.desks i ≡ Some d' → SiteFollows d d' → StandsByChars d' w') → IsSound new
 sound_screen s new i d w w' sound follow same at has = record {
   desks = desks_followed s new sound follow;
   texts = texts_follow s new follow sound.texts sound.told;
@@ -112,7 +112,7 @@ sound_screen s new i d w w' sound follow same at has = record {
             (subst (λ (k : ℕ). slice_get s.desks k ≡ Some d) (sym set.1) at.texts) in
             subst (StandsByChars e') (sym set.0)
             (has e' (subst (λ (k : ℕ). slice_get new.desks k ≡ Some e') set.1 at'.texts)
-            (subst (λ (y : DeskState). DeskFollows y e') ds goes))
+            (subst (λ (y : SiteTexts). SiteFollows y e') ds goes))
       ];
 }
 
@@ -120,10 +120,10 @@ sound_screen s new i d w w' sound follow same at has = record {
 place_stands : (t : TextState) (old new : Anchor) → IsText t → PlaceGoes t old new → IsAnchor t.operations old
     → IsAnchor t.operations new
 place_stands t old new is (inl same) stands = subst (IsAnchor t.operations) (sym same) stands
-place_stands t old new is (inr (n, behind)) stands = subst (IsAnchor t.operations) (sym behind) (anchor_stands t is n)
+place_stands t old new is (inr (n, after)) stands = subst (IsAnchor t.operations) (sym after) (anchor_stands t is n)
 
 -- and so does the caret in the text that its viewer shows
-caret_stands : (d : DeskState) (w : Screened) (c : Caret) (window : Window) (t : TextState) (anchor : Anchor) → IsText t
+caret_stands : (d : SiteTexts) (w : Screened) (c : Caret) (window : Window) (t : TextState) (anchor : Anchor) → IsText t
     → w.caret ≡ Some c → window_of d w c.viewer ≡ Some (window, t) → PlaceGoes t c.anchor anchor → StandsByChars d w
     → StandsByChars d (record w { caret = Some (record c { anchor = anchor }) })
 caret_stands d w c window t anchor is is_c shows goes has =
@@ -138,13 +138,13 @@ screens_go s new sound follow (by_arranging i d w a out at is texts same) =
     let leaves : StandsByChars d out.0 = subst (LeavesChars d) is
     (arranged_leaves d w (λ n t there. sound.texts i n t (d, at.texts, there)) (sound.screens i d w at) a) in
     sound_screen s new i d w out.0 sound follow same at (λ d' at' goes.
-    subst (λ (y : DeskState). StandsByChars y out.0) (one_element (slice_get s.desks i) d d' at.texts
-    (subst (λ (ds : List DeskState). slice_get ds i ≡ Some d') texts at')) leaves)
+    subst (λ (y : SiteTexts). StandsByChars y out.0) (one_element (slice_get s.desks i) d d' at.texts
+    (subst (λ (ds : List SiteTexts). slice_get ds i ≡ Some d') texts at')) leaves)
 screens_go s new sound follow (by_caret i d w c shown t anchor at is_c shows there moves same) =
     let is : IsText t = texts_follow s new follow sound.texts sound.told i shown.0.text t there in
     sound_screen s new i d w _ sound follow same at (λ d' at' goes.
     let (e, at_e, of_e) = there in
-    let here : IsTextOf d' shown.0.text t = subst (λ (y : DeskState). IsTextOf y shown.0.text t)
+    let here : IsTextOf d' shown.0.text t = subst (λ (y : SiteTexts). IsTextOf y shown.0.text t)
     (one_element (slice_get new.desks i) e d' at_e at') of_e in
     caret_stands d' w c shown.0 t anchor is is_c
     (shows_so d' w c.viewer shown.0 t (shown_parts d w c.viewer shown shows).0 here) moves
@@ -157,7 +157,7 @@ blank_at zero width height i w at = absurd (none-some w at)
 blank_at (suc count) width height zero w at = same_Some (blank_screen width height) w at
 blank_at (suc count) width height (suc i) w at = blank_at count width height i w at
 
-blank_stands : (d : DeskState) (width height : ℕ) → StandsByChars d (blank_screen width height)
+blank_stands : (d : SiteTexts) (width height : ℕ) → StandsByChars d (blank_screen width height)
 blank_stands d width height = record {
   caret = λ c is. absurd (none-some c is);
   selection = λ x is. absurd (none-some x is);
@@ -179,7 +179,7 @@ over_other_files s now sound = record {
   screens = λ i d w at. sound.screens i d w (record { texts = at.texts; screen = at.screen });
 }
 
-module _ (plain : OwnEditsArePlain) (good : Good []) (none : AreIdentified []) (order : OneWriterGoesBehindCauses) where
+module _ (plain : OwnEditsArePlain) (good : Good []) (none : AreIdentified []) (order : OneWriterGoesAfterCauses) where
   new_sound : (first count width height : ℕ) (files : Files) → IsSound (new_state first count width height files)
   new_sound first count width height files = record {
     desks = new_desks first count width height files;

@@ -14,7 +14,7 @@ use Rattle.operations.specs.NameSet.{IsAmong}
 use Rattle.operations.specs.Operation.{Operation}
 use Rattle.shelf.specs.Files.{Files}
 use Rattle.tree_order.specs.Good.{Good}
-use Rattle.tree_order.specs.Sequential.{OneWriterGoesBehindCauses}
+use Rattle.tree_order.specs.Sequential.{OneWriterGoesAfterCauses}
 use Rattle.set_laws.specs.Sets.{AreIdentified}
 use Rattle.texts.specs.Edit.{Edit, is_in_text, plan}
 use Rattle.texts.specs.Laws.{OwnEditsArePlain}
@@ -31,7 +31,7 @@ use Rattle.texts.specs.declared.fate.Fate.TheVariants.{LowStamp, Ready}
 use Rattle.texts.specs.declared.merge_refusal.MergeRefusal.{MergeRefusal}
 use Rattle.texts.specs.declared.merge_refusal.MergeRefusal.TheVariants.{Whole as MergesNothing, Stopped}
 use Rattle.texts.specs.declared.took.Took.{Took}
-use Rattle.machine.specs.DeskState.{DeskState, new_desk}
+use Rattle.machine.specs.SiteTexts.{SiteTexts, fresh_texts}
 use Rattle.machine.specs.Events.{Reply}
 use Rattle.machine.specs.OnTexts.{CopiesText, CopiesTextShort, EditsText, EditsTextShort, SettlesText, TakesText}
 use Rattle.machine.specs.OnTexts.{TakesTextShort, copied, is_copy_in}
@@ -77,7 +77,7 @@ first_of_none good zero = good
 first_of_none good (suc n) = good
 
 -- a text where nothing was taken in
-empty_is_text : (good : Good []) (identified : AreIdentified []) (order : OneWriterGoesBehindCauses) (text site : ℕ)
+empty_is_text : (good : Good []) (identified : AreIdentified []) (order : OneWriterGoesAfterCauses) (text site : ℕ)
     → IsText (empty_text text site)
 empty_is_text good identified order text site = record {
   good = good;
@@ -106,32 +106,32 @@ mapped f xs i b at = of_option f (slice_get xs i) b (sym (slice_get-map f xs i) 
 pub new_texts : (first count width height : ℕ) (files : Files) (i text : ℕ) (t : TextState) → IsTextAt (new_state first count width height files) i text t
     → (number site : ℕ) × (empty_text number site ≡ t)
 new_texts first count width height files i text t (d, at, there) =
-    let (site, is) = mapped new_desk (range_with_len first count) i d at in
-    let here : slice_get (new_desk site).texts (text - 1) ≡ Some t =
-    ap (λ (x : DeskState). slice_get x.texts (text - 1)) is ∙ there in
+    let (site, is) = mapped fresh_texts (range_with_len first count) i d at in
+    let here : slice_get (fresh_texts site).texts (text - 1) ≡ Some t =
+    ap (λ (x : SiteTexts). slice_get x.texts (text - 1)) is ∙ there in
     let (number, same) = mapped (λ (n : ℕ). empty_text n site) (range_with_len 1 16) (text - 1) t here in
     (number, site, same)
 
 -- so each is what its operations define
-pub new_are_texts : Good [] → AreIdentified [] → OneWriterGoesBehindCauses → (first count width height : ℕ) (files : Files)
+pub new_are_texts : Good [] → AreIdentified [] → OneWriterGoesAfterCauses → (first count width height : ℕ) (files : Files)
     → AreTexts (new_state first count width height files)
 new_are_texts good identified order first count width height files i text t there =
     let (number, site, is) = new_texts first count width height files i text t there in
     subst IsText is (empty_is_text good identified order number site)
 
 -- and each desk has a text of each number
-pub new_desks : (first count width height : ℕ) (files : Files) (i : ℕ) (d : DeskState)
+pub new_desks : (first count width height : ℕ) (files : Files) (i : ℕ) (d : SiteTexts)
     → slice_get (new_state first count width height files).desks i ≡ Some d
     → length d.texts ≡ MAX_TEXT
 new_desks first count width height files i d at =
-    let (site, is) = mapped new_desk (range_with_len first count) i d at in
-    subst (λ (x : DeskState). length x.texts ≡ MAX_TEXT) is refl
+    let (site, is) = mapped fresh_texts (range_with_len first count) i d at in
+    subst (λ (x : SiteTexts). length x.texts ≡ MAX_TEXT) is refl
 
 stayed : (t new : TextState) (answer result : Result Took Refusal) → Stays t answer result new → IsText t
     → IsText new
 stayed t new answer result (answered, same) is = subst IsText (sym same) is
 
--- what is taken in, and the draining behind it, leave the text defined
+-- what is taken in, and the draining after it, leave the text defined
 taken_in_text : (t : TextState) (op : Operation) (stopped : Bool) (result : Result Took Refusal) (new : TextState)
     → TakesIn t op stopped result new → IsText new
 taken_in_text t op stopped result new (with_op, drained, dropped, taken, drains, answered) =

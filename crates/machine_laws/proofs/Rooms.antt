@@ -70,7 +70,7 @@ entered t op result new enters (unheld, (of_it, is_new, verdict)) is =
 pub drained_is_text : {t new : TextState} {drained dropped : ℕ} {stopped : Bool} → Drains t drained dropped stopped new
     → IsText t → IsText new
 drained_is_text (ends all) is = is
-drained_is_text (stops ahead behind op next judged) is = is
-drained_is_text (takes_in ahead behind op next judged taken rest) is = drained_is_text rest taken.is
-drained_is_text {t} (throws_away ahead behind op next thrown rest) is =
-    drained_is_text rest (text_without t ahead behind op is next)
+drained_is_text (stops before after op next judged) is = is
+drained_is_text (takes_in before after op next judged taken rest) is = drained_is_text rest taken.is
+drained_is_text {t} (throws_away before after op next thrown rest) is =
+    drained_is_text rest (text_without t before after op is next)

@@ -20,17 +20,17 @@ use Rattle.texts.specs.Laws.{AreAlike, OperationsTellTheText}
 use Rattle.texts.specs.Text.{IsText}
 use Rattle.texts.specs.TextState.{TextState}
 use Rattle.viewers.specs.Screen.{user_width}
-use Rattle.viewers.specs.Tracks.{place as seat_of, top, viewer_in}
+use Rattle.viewers.specs.Tracks.{seat_index as seat_of, top, viewer_in}
 use Rattle.viewers.specs.declared.seats.Seat.{Seat}
 use Rattle.command_words.specs.Commands.{menu_of}
 use Rattle.line_drawing.specs.Lines.{ends_in}
 use Rattle.line_drawing.specs.Rows.{blanks, cells_of, row_of}
-use Rattle.machine.specs.DeskState.{DeskState}
+use Rattle.machine.specs.SiteTexts.{SiteTexts}
 use Rattle.machine.specs.Printing.{line}
 use Rattle.machine.specs.ScreenPrinting.{caret_line, screen_line, selection_line, spaced, track_cells}
 use Rattle.machine.specs.ScreenPrinting.{track_lines, viewer_cells, viewer_line}
 use Rattle.machine.specs.Tasks.{lines_of_view}
-use Rattle.machine.specs.Windows.{Caret, Marked, Screened, Selected, Window, bytes_shown, marked_as, place_ahead, place_in}
+use Rattle.machine.specs.Windows.{Caret, Marked, Screened, Selected, Window, bytes_shown, marked_as, place_before, place_in}
 use Rattle.machine.specs.Windows.{shown_by, stretch_in, text_of, window_of}
 use Rattle.machine.specs.declared.asked.View.{View}
 use Rattle.machine.specs.declared.asked.View.TheVariants.{Marks, Show, Views}
@@ -64,14 +64,14 @@ visible_alike a b same = λ k c. each c k
 record LookAlike (t u : TextState) : Type 0 where
   bytes : bytes_shown t ≡ bytes_shown u
   places : (a : Anchor) → place_in t a ≡ place_in u a
-  ahead : (c : CharName) → place_ahead t c ≡ place_ahead u c
+  before : (c : CharName) → place_before t c ≡ place_before u c
 
 look_alike : OperationsTellTheText → (t u : TextState) → IsText t → IsText u → AreSameSet t.operations u.operations
     → LookAlike t u
 look_alike tell t u is_t is_u same = record {
   bytes = ap (map (λ (c : Char). c.byte)) alike.shown;
   places = places;
-  ahead = λ c k. places (At c) k - (if visible k c then 1 else 0);
+  before = λ c k. places (At c) k - (if visible k c then 1 else 0);
 }
   where
     alike : AreAlike t u
@@ -147,10 +147,10 @@ marked_alike : (x : Selected) (window : Window) (t u : TextState) → LookAlike 
     → option_map_or marked_line (marked_as x (window, t)) no_selection
     ≡ option_map_or marked_line (marked_as x (window, u)) no_selection
 marked_alike x window t u alike =
-    marked_by x window t ∙ (λ k. stretch_line x window (alike.ahead x.first k, alike.places (At x.last) k))
+    marked_by x window t ∙ (λ k. stretch_line x window (alike.before x.first k, alike.places (At x.last) k))
     ∙ sym (marked_by x window u)
 
-module _ (tell : OperationsTellTheText) (d e : DeskState) (same : HoldTheSame d e) (w : Screened) where
+module _ (tell : OperationsTellTheText) (d e : SiteTexts) (same : HoldTheSame d e) (w : Screened) where
   -- what is told of what a viewer shows is told alike at both desks
   windows_alike : {B : Type 0} (v : ℕ) (f : Window × TextState → B) (z : B)
       → ((window : Window) (t u : TextState) → LookAlike t u → f (window, t) ≡ f (window, u))

@@ -9,9 +9,9 @@ use Rattle.set_laws.specs.Fronts.{AreSites}
 use Rattle.texts.specs.TextState.{TextState, shown_items, shown_of}
 use Rattle.machine_laws.specs.Laws.{IsOfWhatIsShown, PrintTheSame}
 use Rattle.machine.specs.declared.asked.Query.{Query}
-use Rattle.machine.specs.declared.asked.Query.TheVariants.{Front, Places, Runs, Text}
+use Rattle.machine.specs.declared.asked.Query.TheVariants.{Front, WhereShown, Runs, Text}
 use Rattle.machine.specs.OnTexts.{Prints}
-use Rattle.machine.specs.Places.{place_lines}
+use Rattle.machine.specs.WhereShown.{where_lines}
 use Rattle.machine.specs.Printing.{AreRunsOf, front_lines, run_lines, text_lines}
 use Rattle.machine_laws.proofs.RisingSites.{one_sites}
 
@@ -50,9 +50,9 @@ prints_one only Front t u a b (inr (is, same)) prints_a prints_b = absurd is
 prints_one only Runs t u a b alike (runs, are, prints_a) (runs', are', prints_b) =
     let same = items-shown t u (alike-shown Runs t u alike) in
     prints_a ∙ ap run_lines (one_runs only (shown_items t) (shown_items u) runs runs' are are' same) ∙ sym prints_b
-prints_one only (Places names) t u a b alike prints_a prints_b =
+prints_one only (WhereShown names) t u a b alike prints_a prints_b =
     prints_a
-    ∙ ap (λ (chars : List Char). place_lines chars (names_of names)) (alike-shown (Places names) t u alike)
+    ∙ ap (λ (chars : List Char). where_lines chars (names_of names)) (alike-shown (WhereShown names) t u alike)
     ∙ sym prints_b
 
 -- a query prints one thing of a text

@@ -4,7 +4,7 @@ use Rattle.std.specs.Prelude.{slice_get, slice_set}
 use Rattle.std.proofs.lemmas.List.{set-get_or, set-set}
 use Rattle.std.proofs.lemmas.Option.{get_or_from_slice_get, none-some, same_Some}
 use Rattle.texts.specs.TextState.{TextState, all_told}
-use Rattle.machine.specs.DeskState.{DeskState, InText, IsTextOf, with_text}
+use Rattle.machine.specs.SiteTexts.{SiteTexts, InText, IsTextOf, with_text}
 use Rattle.machine.specs.State.{Tells}
 
 -- what is put in its own place changes nothing
@@ -23,14 +23,14 @@ pub told_same : (t : TextState) → t.asked ≡ length t.operations → all_told
 told_same t told = λ k. record t { asked = sym told k }
 
 -- what a text does, and what it tells then, is done by the desk that has it, as one
-pub tells_in : (Goes : TextState → TextState → Type 0) (d d' new : DeskState) (text : ℕ) → InText Goes d text d'
+pub tells_in : (Goes : TextState → TextState → Type 0) (d d' new : SiteTexts) (text : ℕ) → InText Goes d text d'
     → InText (λ t u. u ≡ all_told t) d' text new → InText (Tells Goes) d text new
 tells_in Goes d d' new text (t, t', at, goes, is) (u, v, at_u, is_v, is_new) =
     let here : IsTextOf d' text t' =
-    subst (λ (x : DeskState). IsTextOf x text t') (sym is) (put_there d.texts (text - 1) t t' at) in
+    subst (λ (x : SiteTexts). IsTextOf x text t') (sym is) (put_there d.texts (text - 1) t t' at) in
     let same : u ≡ t' = same_Some u t' (sym at_u ∙ here) in
     let told : v ≡ all_told t' = is_v ∙ ap all_told same in
     let desk : new ≡ with_text d text v =
-    is_new ∙ ap (λ (x : DeskState). with_text x text v) is
+    is_new ∙ ap (λ (x : SiteTexts). with_text x text v) is
     ∙ (λ k. record d { texts = set-set d.texts (text - 1) t' v k }) in
     (t, v, at, (t', goes, told), desk)

@@ -15,7 +15,7 @@ use Rattle.texts.specs.Text.{IsAnchor, IsText}
 use Rattle.texts.specs.TextState.{TextState, shown_items}
 use Rattle.texts.specs.declared.TheConstants.{MAX_KEPT}
 use Rattle.texts.specs.declared.took.Took.TheVariants.{Taken}
-use Rattle.machine.specs.DeskState.{DeskState, IsTextOf}
+use Rattle.machine.specs.SiteTexts.{SiteTexts, IsTextOf}
 use Rattle.machine.specs.Commands.{IsTaskAt}
 use Rattle.machine.specs.Events.{Event, Part, Reply, Task, ask, change, click, failed, forget, keep, load, refuses, reopen}
 use Rattle.machine.specs.Events.{settles, stops, store, takes, untouched, went_well}
@@ -142,7 +142,7 @@ HasText s i (reopen text name) = (t : TextState) × IsTextAt s i text t
 HasText s i t = Unit {0}
 
 -- the caret, if there is one, stands in a viewer that shows one of the desk's texts
-abbrev pub CaretHasText : DeskState → Screened → Type 0
+abbrev pub CaretHasText : SiteTexts → Screened → Type 0
 CaretHasText d w =
     (c : Caret) → w.caret ≡ Some c → (shown : Window × TextState) × (window_of d w c.viewer ≡ Some shown)
 
@@ -186,7 +186,7 @@ IsAnswered s e part = (r : Reply) × (new : State) × Does s e part r new
 
 -- At a desk each task whose text is there has a part of the files that may be, and is answered with each such part; and so
 -- is each click, by the task of its cell.
-pub record AnswersAll (s : State) (i : ℕ) (d : DeskState) (w : Screened) : Type 0 where
+pub record AnswersAll (s : State) (i : ℕ) (d : SiteTexts) (w : Screened) : Type 0 where
   pub parts : (t : Task) → HasText s i t → (part : Part) × MayHavePart s i w t part
   pub tasks : (t : Task) (part : Part) → HasText s i t → MayHavePart s i w t part → IsAnswered s (ask i t) part
   pub clicks : (col row : ℕ) → (t : Task) × IsTaskAt d w col row t × HasText s i t
@@ -194,17 +194,17 @@ pub record AnswersAll (s : State) (i : ℕ) (d : DeskState) (w : Screened) : Typ
 
 -- so it is at each desk whose caret has a text, in each state whose texts are what their operations define
 abbrev pub EachTaskIsAnswered : Type 0
-EachTaskIsAnswered = (s : State) (i : ℕ) (d : DeskState) (w : Screened) → AreTexts s → IsDeskAt s i d w
+EachTaskIsAnswered = (s : State) (i : ℕ) (d : SiteTexts) (w : Screened) → AreTexts s → IsDeskAt s i d w
     → CaretHasText d w → AnswersAll s i d w
 
 -- the viewer shows one of the desk's texts, whose operations are such
-abbrev pub ShowsTextOf : DeskState → Screened → (v : ℕ) → (List Operation → Type 0) → Type 0
+abbrev pub ShowsTextOf : SiteTexts → Screened → (v : ℕ) → (List Operation → Type 0) → Type 0
 ShowsTextOf d w v Has = (shown : Window × TextState) × (window_of d w v ≡ Some shown) × Has shown.1.operations
 
--- All that is pointed at are characters: the caret, if there is one, stands in a viewer that shows a text, behind a character of
+-- All that is pointed at are characters: the caret, if there is one, stands in a viewer that shows a text, after a character of
 -- that or at its beginning; what is selected begins and ends with characters of the text that its viewer shows; and each window
--- begins behind a character of its text, or at the beginning.
-pub record StandsByChars (d : DeskState) (w : Screened) : Type 0 where
+-- begins after a character of its text, or at the beginning.
+pub record StandsByChars (d : SiteTexts) (w : Screened) : Type 0 where
   pub caret : (c : Caret) → w.caret ≡ Some c → ShowsTextOf d w c.viewer (λ ops. IsAnchor ops c.anchor)
   pub selection : (x : Selected) → w.selected ≡ Some x
       → ShowsTextOf d w x.viewer (λ ops. IsChar ops x.first × IsChar ops x.last)
@@ -214,10 +214,10 @@ pub record StandsByChars (d : DeskState) (w : Screened) : Type 0 where
 -- each desk has a text of each number; each text is what its operations define and has told its changes; and all that each
 -- screen points at are its characters
 pub record IsSound (s : State) : Type 0 where
-  pub desks : (i : ℕ) (d : DeskState) → slice_get s.desks i ≡ Some d → length d.texts ≡ MAX_TEXT
+  pub desks : (i : ℕ) (d : SiteTexts) → slice_get s.desks i ≡ Some d → length d.texts ≡ MAX_TEXT
   pub texts : AreTexts s
   pub told : HaveTold s
-  pub screens : (i : ℕ) (d : DeskState) (w : Screened) → IsDeskAt s i d w → StandsByChars d w
+  pub screens : (i : ℕ) (d : SiteTexts) (w : Screened) → IsDeskAt s i d w → StandsByChars d w
 
 -- so it is whatever a run does
 abbrev pub WhatARunReachesIsSound : Type 0
@@ -226,12 +226,12 @@ WhatARunReachesIsSound = (first count width height : ℕ) (files : Files) (s : S
 
 -- Two desks have equally many texts, and those of one number, each what its operations define, have taken in the same
 -- operations, in whatever order.
-pub record HoldTheSame (d e : DeskState) : Type 0 where
+pub record HoldTheSame (d e : SiteTexts) : Type 0 where
   pub count : length d.texts ≡ length e.texts
   pub texts : (n : ℕ) (t u : TextState) → IsTextOf d n t → IsTextOf e n u
       → IsText t × IsText u × AreSameSet t.operations u.operations
 
 -- over such desks one screen is printed alike: its caret and its selection, its viewers, and its cells
 abbrev pub TextsTellTheScreen : Type 0
-TextsTellTheScreen = (d e : DeskState) (w : Screened) → HoldTheSame d e
+TextsTellTheScreen = (d e : SiteTexts) (w : Screened) → HoldTheSame d e
     → (v : View) → lines_of_view d w v ≡ lines_of_view e w v

@@ -7,43 +7,43 @@ ghost use Rattle.machine_laws.specs.Laws.{EachEventHasOneReply, FrontLinesTellFr
 ghost use Rattle.machine_laws.specs.Laws.{EachTaskIsAnswered, FrontsTellWhatIsPrinted, TextsTellTheScreen};
 ghost use Rattle.machine_laws.specs.Laws.{TheSameOverAnyFiles, WhatARunReachesIsSound};
 
-use char_files::runs_are_maximal;
+use char_files::lemma_runs_are_maximal;
 use convergence::outcomes::{
-    drainings_end_one_way, edits_end_one_way, merges_end_one_way, takings_end_one_way,
+    lemma_drainings_end_one_way, lemma_edits_end_one_way, lemma_merges_end_one_way, lemma_takings_end_one_way,
 };
-use set_laws::closures::nothing_is_good;
-use site_file::one_site;
-use text_file::one_text;
-use texts::laws::{own_edits_are_plain, the_fronts_tell_the_text, the_operations_tell_the_text};
-use tree_order::laws::sequential::one_writer_goes_behind_causes;
+use set_laws::closures::lemma_nothing_is_good;
+use site_file::lemma_one_site;
+use text_file::lemma_one_text;
+use texts::laws::{lemma_own_edits_are_plain, lemma_the_fronts_tell_the_text, lemma_the_operations_tell_the_text};
+use tree_order::laws::sequential::lemma_one_writer_goes_after_causes;
 
 /// A law: two texts, of one run or of two, that have taken in the same operations print the same lines of
 /// what they show.
-pub fn the_same_operations_print_the_same()
+pub fn lemma_the_same_operations_print_the_same()
     ensures { OperationsTellWhatIsPrinted }
 {
-    the_operations_tell_the_text();
-    runs_are_maximal();
+    lemma_the_operations_tell_the_text();
+    lemma_runs_are_maximal();
 }
 
 /// A law: two texts, of one run or of two, that have equal fronts print the same lines of what they show,
 /// if no identity is used twice.
-pub fn the_same_fronts_print_the_same()
+pub fn lemma_the_same_fronts_print_the_same()
     ensures { FrontsTellWhatIsPrinted }
 {
-    the_fronts_tell_the_text();
-    runs_are_maximal();
+    lemma_the_fronts_tell_the_text();
+    lemma_runs_are_maximal();
 }
 
 /// A law: in a run of sites below 2^16, each operation that a text has taken in has a site and a seq that a message has
 /// places for, whatever else the run does to screens and files.
-pub fn what_is_reached_is_numbered()
+pub fn lemma_what_is_reached_is_numbered()
     ensures { WhatIsReachedIsNumbered }
 {}
 
 /// A law: texts of which `front` prints the same lines of fronts, however many operations wait, have equal fronts, if
 /// their sites and seqs are numbers that a message has places for.
-pub fn front_lines_tell_the_fronts()
+pub fn lemma_front_lines_tell_the_fronts()
     ensures { FrontLinesTellFronts }
 {}
 
@@ -53,13 +53,13 @@ pub fn front_lines_tell_the_fronts()
 pub fn each_event_has_one_reply()
     ensures { EachEventHasOneReply }
 {
-    edits_end_one_way();
-    takings_end_one_way();
-    drainings_end_one_way();
-    merges_end_one_way();
-    runs_are_maximal();
-    one_text();
-    one_site();
+    lemma_edits_end_one_way();
+    lemma_takings_end_one_way();
+    lemma_drainings_end_one_way();
+    lemma_merges_end_one_way();
+    lemma_runs_are_maximal();
+    lemma_one_text();
+    lemma_one_site();
 }
 
 /// A law: an event that asks for no file is answered the same over any files, and leaves them as they are.
@@ -72,24 +72,24 @@ pub fn any_files_will_do()
 pub fn each_task_is_answered()
     ensures { EachTaskIsAnswered }
 {
-    own_edits_are_plain();
+    lemma_own_edits_are_plain();
 }
 
 /// A law: whatever a run of texts, screens, commands and files does, each desk has its sixteen texts, each of them is what its
 /// operations define and has told its changes, and all that a screen points at, by its caret, its selection and its viewers'
 /// first lines, are characters of the texts that it shows.
-pub fn what_a_run_reaches_is_sound()
+pub fn lemma_what_a_run_reaches_is_sound()
     ensures { WhatARunReachesIsSound }
 {
-    nothing_is_good();
-    one_writer_goes_behind_causes();
-    own_edits_are_plain();
+    lemma_nothing_is_good();
+    lemma_one_writer_goes_after_causes();
+    lemma_own_edits_are_plain();
 }
 
 /// A law: what is printed of a screen follows from which operations each of its site's texts has taken in, in whatever
 /// order, and from what the screen points at: two desks that hold the same print one screen alike.
-pub fn the_same_texts_show_the_same_screen()
+pub fn lemma_the_same_texts_show_the_same_screen()
     ensures { TextsTellTheScreen }
 {
-    the_operations_tell_the_text();
+    lemma_the_operations_tell_the_text();
 }

@@ -10,12 +10,12 @@ use Rattle.std.proofs.lemmas.Option.{slice_get-get_or, get_or_from_slice_get}
 use Rattle.op_log.specs.declared.site_log.Entry.{Entry}
 use Rattle.op_log.specs.Tables.{EndBy, EndsPast, IsFirstPast}
 
--- the entries below the point end at the offset at most, the others behind it
+-- the entries below the point end at the offset at most, the others after it
 abbrev pub IsPoint : List Entry → ℕ → ℕ → Type 0
 IsPoint entries off at = IsPartitionPoint (λ (e : Entry). leb e.end off ≡ true)
     (λ (e : Entry). leb e.end off ≡ false) entries at
 
--- a window: all entries ahead of it end at the offset at most, and the one behind it past it
+-- a window: all entries before it end at the offset at most, and the one after it past it
 module _ (entries : List Entry) (off from to : ℕ) (le : from ≤ to) (low : EndBy entries off from)
     (high : EndsPast entries off to) where
   abbrev pub window : List Entry
@@ -35,10 +35,10 @@ module _ (entries : List Entry) (off from to : ℕ) (le : from ≤ to) (low : En
       IsNonDecreasingBy-take (λ (e : Entry). e.end) (to - from) (drop from entries)
       (IsNonDecreasingBy-drop (λ (e : Entry). e.end) from entries rising)
 
-  module _ (behind : ℕ) (most : behind ≤ length window) (point : IsPoint window off behind) (d : Entry) where
-    below : (k : ℕ) (e : Entry) → k < from + behind → (get_or entries k e).end ≤ off
+  module _ (after : ℕ) (most : after ≤ length window) (point : IsPoint window off after) (d : Entry) where
+    below : (k : ℕ) (e : Entry) → k < from + after → (get_or entries k e).end ≤ off
     below k e lt = elim (cases_lt k from) [
-      | inl ahead ↦ low k e ahead
+      | inl before ↦ low k e before
       | inr inside ↦ (
           let here : from + (k - from) < to = omega (arith, window_long) in
           let ends : (get_or window (k - from) e).end ≤ off =
@@ -52,23 +52,23 @@ module _ (entries : List Entry) (off from to : ℕ) (le : from ≤ to) (low : En
           ))
     ]
 
-    past : off < (get_or entries (from + behind) d).end
-    past = elim (cases_lt behind (to - from)) [
+    past : off < (get_or entries (from + after) d).end
+    past = elim (cases_lt after (to - from)) [
       | inl inside ↦ (
-          let ends : off < (get_or window behind d).end =
-          leb-false _ _ (point.1 behind d (omega arith) (omega (arith, window_long))) in
-          omega (arith, ends, ap (λ (x : Entry). x.end) (window_at behind d (omega arith))))
+          let ends : off < (get_or window after d).end =
+          leb-false _ _ (point.1 after d (omega arith) (omega (arith, window_long))) in
+          omega (arith, ends, ap (λ (x : Entry). x.end) (window_at after d (omega arith))))
       | inr end ↦ (
-          let at : from + behind ≡ to = omega (arith, window_long) in
+          let at : from + after ≡ to = omega (arith, window_long) in
           omega (arith, high.1 d, ap (λ (i : ℕ). (get_or entries i d).end) at))
     ]
 
     -- the window's point is the first entry past the offset
-    pub first_past : IsFirstPast entries off (get_or entries (from + behind) d)
+    pub first_past : IsFirstPast entries off (get_or entries (from + after) d)
     first_past = record {
-      at = from + behind;
-      there = slice_get-get_or entries (from + behind) d (omega (arith, high.0, window_long));
+      at = from + after;
+      there = slice_get-get_or entries (from + after) d (omega (arith, high.0, window_long));
       past = past;
-      ahead = λ k e less is.
+      before = λ k e less is.
           omega (arith, below k e less, ap (λ (x : Entry). x.end) (get_or_from_slice_get entries k e e is));
     }

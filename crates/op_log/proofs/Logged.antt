@@ -22,7 +22,7 @@ use Rattle.op_log.proofs.Files.{within_front, starts_empty}
 
 module _ {ops : List Operation} (known : AreIdentified ops) {site : ℕ} {t : SiteSeen}
     (table : IsTableOf ops site t) where
-  -- an entry ends where the site's file does behind its operation
+  -- an entry ends where the site's file does after its operation
   ends_at : (k : ℕ) (e : Entry) → slice_get t.entries k ≡ Some e
       → e.end ≡ file_before ops site (suc (suc k))
   ends_at k e is = (table.entries k e is).ends
@@ -75,17 +75,17 @@ module _ {ops : List Operation} (known : AreIdentified ops) {site : ℕ} {t : Si
       let grows = file_before_grows ops site (suc (suc i)) (suc (suc j)) (omega arith) in
       omega (arith, first, last, grows)
 
-  -- behind the entries ahead of the first one past an offset, the file is no longer than that
-  ahead_ends : (off : ℕ) (e : Entry) (first : IsFirstPast t.entries off e)
+  -- after the entries before the first one past an offset, the file is no longer than that
+  before_ends : (off : ℕ) (e : Entry) (first : IsFirstPast t.entries off e)
       → file_before ops site (suc first.at) ≤ off
-  ahead_ends off e first = by_place first.at refl
+  before_ends off e first = by_place first.at refl
     where
       by_place : (k : ℕ) → first.at ≡ k → file_before ops site (suc k) ≤ off
       by_place zero is = let none = starts_empty ops known site in omega arith
       by_place (suc k) is =
           let there : first.at < length t.entries = slice_get_within t.entries first.at e first.there in
           let (d, at) = slice_get-some t.entries k (omega arith) in
-          let le : d.end ≤ off = first.ahead k d (omega arith) at in
+          let le : d.end ≤ off = first.before k d (omega arith) at in
           let ends = ends_at k d at in
           omega arith
 
@@ -127,8 +127,8 @@ module _ {ops : List Operation} {tables : Tables} {stamp : ℕ} (logged : AreLog
             let le = within_front ops op site held on in omega arith)
       ]
 
-  pub are_held_to_the_front : AreHeldToTheFront ops
-  are_held_to_the_front site seq = held_to_front logged.known (logged.by_site site) seq
+  pub lemma_are_held_to_the_front : AreHeldToTheFront ops
+  lemma_are_held_to_the_front site seq = held_to_front logged.known (logged.by_site site) seq
 
   -- how long a site's file is
   pub file_told : (site : ℕ) → end_of (table_of tables site).entries ≡ file_len ops site
@@ -148,7 +148,7 @@ module _ {ops : List Operation} {tables : Tables} {stamp : ℕ} (logged : AreLog
 
     from : file_before ops entry.op.site entry.op.seq ≤ name.off
     from =
-        let le = ahead_ends logged.known (logged.by_site name.site) name.off e first in
+        let le = before_ends logged.known (logged.by_site name.site) name.off e first in
         subst (λ (s : ℕ). file_before ops s entry.op.seq ≤ name.off) (sym entry.on)
         (subst (λ (n : ℕ). file_before ops name.site n ≤ name.off) (sym entry.at) le)
 

@@ -37,7 +37,7 @@ told_by_first (o ∷ ops) site h =
           elim (Contains-cases o.site (first_sites ops) site
           (subst (λ (xs : List ℕ). Contains xs site) (with_first o ops e) h)) [
             | inl is ↦ (o, Contains-head o ops, is, eqb-true _ _ e)
-            | inr behind ↦ let (op, held, on, at) = told_by_first ops site behind in
+            | inr after ↦ let (op, held, on, at) = told_by_first ops site after in
                 (op, Contains-tail o ops op held, on, at)
           ]
       | inr e ↦
@@ -58,18 +58,18 @@ first_told (o ∷ ops) op held at =
             | inl is ↦
                 subst (Contains (o.site ∷ first_sites ops)) (ap (λ (x : Operation). x.site) is)
                 (Contains-head o.site (first_sites ops))
-            | inr behind ↦ Contains-tail o.site (first_sites ops) op.site (first_told ops op behind at)
+            | inr after ↦ Contains-tail o.site (first_sites ops) op.site (first_told ops op after at)
           ])
       | inr e ↦
           subst (λ (xs : List ℕ). Contains xs op.site) (sym (without_other o ops e))
           (elim (Contains-cases o ops op held) [
             | inl is ↦
                 absurd (both_ways _ e (eq-eqb _ _ (ap (λ (x : Operation). x.seq) is ∙ at)))
-            | inr behind ↦ first_told ops op behind at
+            | inr after ↦ first_told ops op after at
           ])
     ]
 
--- it is the site of no operation behind
+-- it is the site of no operation after
 apart : (o : Operation) (ops : List Operation) → AreOnce (o ∷ ops) → o.seq ≡ 1 → (site : ℕ)
     → Contains (first_sites ops) site → eqb o.site site ≡ false
 apart o ops once at site h =

@@ -8,7 +8,7 @@ use Rattle.set_laws.specs.Sets.{AreIdentified}
 use Rattle.op_log.specs.declared.site_log.Entry.{Entry}
 use Rattle.op_log.specs.Tables.{SiteSeen, Tables, table_of}
 
--- the entry tells where the site's operation of this seq stands, where the site's file ends behind it, and the
+-- the entry tells where the site's operation of this seq stands, where the site's file ends after it, and the
 -- operation's stamp
 pub record IsEntryOf (ops : List Operation) (site seq : ℕ) (e : Entry) : Type 0 where
   pub op : Operation

@@ -9,22 +9,22 @@ pub record SiteSeen : Type 0 where
   pub entries : List Entry
   pub room : ℕ
 
--- how long the site's file is behind the last entry
+-- how long the site's file is after the last entry
 abbrev pub end_of : List Entry → ℕ
 end_of entries = option_map_or (λ e. e.end) (slice_get entries (length entries - 1)) 0
 
--- the first entry whose operation ends its site's file behind the offset
+-- the first entry whose operation ends its site's file after the offset
 pub record IsFirstPast (entries : List Entry) (off : ℕ) (e : Entry) : Type 0 where
   pub at : ℕ
   pub there : slice_get entries at ≡ Some e
   pub past : off < e.end
-  pub ahead : (k : ℕ) (d : Entry) → k < at → slice_get entries k ≡ Some d → d.end ≤ off
+  pub before : (k : ℕ) (d : Entry) → k < at → slice_get entries k ≡ Some d → d.end ≤ off
 
--- the first n entries end their site's file at the offset or ahead of it
+-- the first n entries end their site's file at the offset or before it
 abbrev pub EndBy : List Entry → ℕ → ℕ → Type 0
 EndBy entries off n = (k : ℕ) (d : Entry) → k < n → (get_or entries k d).end ≤ off
 
--- the entry at this place ends its site's file behind the offset
+-- the entry at this place ends its site's file after the offset
 abbrev pub EndsPast : List Entry → ℕ → ℕ → Type 0
 EndsPast entries off place = (place < length entries) × ((d : Entry) → off < (get_or entries place d).end)
 

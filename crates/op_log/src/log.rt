@@ -51,7 +51,7 @@ fn appended_bytes(op: &Op) -> u32
     ensures value { result ≡ appended_len op.now.kind }
     ensures few { result ≤ MAX_INSERT }
 {
-    op.has_spelling();
+    op.lemma_has_spelling();
     match op.kind() {
         Kind::Insert { bytes, .. } => bytes.len() as u32,
         Kind::Delete { .. } | Kind::Restore { .. } | Kind::ChangeLooks { .. } => 0,
@@ -149,7 +149,7 @@ impl Log {
 
     /// A law: of each site the operations are those from 1 up to its front, each once. A proof gets it by
     /// calling this, at no cost.
-    pub fn are_held_to_the_front(&self)
+    pub fn lemma_are_held_to_the_front(&self)
         ensures held { AreHeldToTheFront self.now.ops }
         ensures identified { AreIdentified self.now.ops }
         ensures once { AllPairs (λ a b. a ≢ b) self.now.ops }
@@ -178,7 +178,7 @@ impl Log {
         requires begins { Begins op.kind (file_len self.old.ops op.site) }
         ensures { self.new.ops ≡ self.old.ops ++ op ∷ [] }
     {
-        op.has_spelling();
+        op.lemma_has_spelling();
         let site = op.site();
         let entry = Entry {
             index: self.ops.len(),

@@ -10,7 +10,7 @@ use looks::Refusal;
 use std::alloc::Global;
 use std::marker::Model;
 
-// Where an operation stands in the list of all, where its site's file ends behind it, and its stamp.
+// Where an operation stands in the list of all, where its site's file ends after it, and its stamp.
 #[derive(Clone, Copy)]
 pub(crate) struct Entry {
     pub(crate) index: usize,
@@ -50,8 +50,8 @@ fn guess(entries: &[Entry], off: u32, end: u32) -> usize
     last.min(scaled as usize)
 }
 
-// A place up to which all entries end by this offset: this one, or one ahead of it. Each step is twice the one before.
-fn low_place(entries: &[Entry], from: usize, off: u32) -> usize
+// A place up to which all entries end by this offset: this one, or one before it. Each step is twice the one before.
+fn low_index(entries: &[Entry], from: usize, off: u32) -> usize
     requires rising { IsNonDecreasingBy (λ e. e.end) entries.now }
     requires within { from < length entries.now }
     ensures low { EndBy entries.now off result }
@@ -66,8 +66,8 @@ fn low_place(entries: &[Entry], from: usize, off: u32) -> usize
     place
 }
 
-// The place of an entry that ends past this offset: this one, or one behind it. Each step is twice the one before.
-fn high_place(entries: &[Entry], from: usize, off: u32) -> usize
+// The place of an entry that ends past this offset: this one, or one after it. Each step is twice the one before.
+fn high_index(entries: &[Entry], from: usize, off: u32) -> usize
     requires past { off < end_of entries.now }
     requires within { from < length entries.now }
     ensures high { EndsPast entries.now off result }
@@ -122,17 +122,17 @@ impl SiteLog {
         Some(self.entries.get(seq as usize - 1)?.index)
     }
 
-    // The first operation behind which the site's file is longer than this.
+    // The first operation after which the site's file is longer than this.
     pub(crate) fn entry_past(&self, off: u32) -> Entry
         requires rising { IsNonDecreasingBy (λ e. e.end) self.now.entries }
         requires within { off < end_of self.now.entries }
         ensures { IsFirstPast self.now.entries off result }
     {
         let entries = self.entries.as_slice();
-        let from = low_place(entries, guess(entries, off, self.file_len()), off);
-        let to = high_place(entries, from, off);
-        let behind = entries[from..to].partition_point(|entry| entry.end <= off);
-        entries[from + behind]
+        let from = low_index(entries, guess(entries, off, self.file_len()), off);
+        let to = high_index(entries, from, off);
+        let after = entries[from..to].partition_point(|entry| entry.end <= off);
+        entries[from + after]
     }
 
     // Makes room for one operation more. Refused `OutOfMemory` alone.

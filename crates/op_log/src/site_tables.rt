@@ -69,7 +69,7 @@ impl SiteTables {
         self.sites.get(&site.get())?.index(seq)
     }
 
-    // The first operation of the name's site behind which that one's file has the name.
+    // The first operation of the name's site after which that one's file has the name.
     pub(crate) fn entry_of(&self, name: Name) -> Entry
         requires rising { IsNonDecreasingBy (λ e. e.end) (table_of self.now name.site).entries }
         requires within { name.off < end_of (table_of self.now name.site).entries }

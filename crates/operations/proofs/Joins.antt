@@ -17,11 +17,11 @@ use Rattle.std.proofs.lemmas.List.Quantifiers.{all_pairs_push}
 use Rattle.std.proofs.lemmas.List.Sorted.{sorted_far, ranks_by, Contains-permutation, IsPermutation-sym}
 use Rattle.std.proofs.lemmas.Grind.{take-set_at}
 use Rattle.char_files.specs.CharName.{CharName}
-use Rattle.operations.specs.NameSet.{Range, IsIn, IsAmong, IsRange, IsAhead, IsSet, IsFileName, StartsNoLater}
+use Rattle.operations.specs.NameSet.{Range, IsIn, IsAmong, IsRange, IsBefore, IsSet, IsFileName, StartsNoLater}
 use Rattle.operations.specs.NameSet.{names_in, set_of}
 use Rattle.operations.proofs.NamesOf.{Contains-names_in}
 use Rattle.operations.proofs.SetOf.{names_tell_the_set, IsSet-set_of, IsAmong-set_of}
-use Rattle.operations.proofs.WithName.{Among, among, is_among, IsAhead-trans}
+use Rattle.operations.proofs.WithName.{Among, among, is_among, IsBefore-trans}
 
 -- what a sort by site and first offset leaves
 
@@ -51,7 +51,7 @@ StartsNoLater-trans r s t a b = grind arith
 abbrev pub Reaches : Range → Range → Type 0
 Reaches q r = (q.site ≡ r.site) × (r.at ≤ q.at + q.len)
 
-not_reached : (q r : Range) → StartsNoLater q r → ¬ Reaches q r → IsAhead q r
+not_reached : (q r : Range) → StartsNoLater q r → ¬ Reaches q r → IsBefore q r
 not_reached q r (inl before) apart = inl before
 not_reached q r (inr start) apart =
     elim (cases_lt (q.at + q.len) r.at) [
@@ -59,7 +59,7 @@ not_reached q r (inr start) apart =
       | inr le ↦ absurd (apart (start.0, le))
     ]
 
--- one range more behind a set
+-- one range more after a set
 
 among_push : (ranges : List Range) (r : Range) (c : CharName)
     → Among (ranges ++ r ∷ []) c ↔ (Among ranges c ⊎ IsIn r c)
@@ -88,17 +88,17 @@ IsAmong-push ranges r c =
           (is.1 (elim h [ inl a ↦ inl (among ranges c a) | inr b ↦ inr b ])),
     )
 
-IsSet-push : (ranges : List Range) (r : Range) → IsSet ranges → IsRange r → All (λ q. IsAhead q r) ranges
+IsSet-push : (ranges : List Range) (r : Range) → IsSet ranges → IsRange r → All (λ q. IsBefore q r) ranges
     → IsSet (ranges ++ r ∷ [])
-IsSet-push ranges r set range ahead =
+IsSet-push ranges r set range earlier =
     record {
       ranges = All-push IsRange ranges r set.ranges range;
-      rising = all_pairs_push IsAhead ranges r set.rising (λ k d l. ahead k d l);
+      rising = all_pairs_push IsBefore ranges r set.rising (λ k d l. earlier k d l);
     }
 
--- the set ahead of its last range
+-- the set before its last range
 front : (ranges : List Range) (q : Range) → IsSet (ranges ++ q ∷ [])
-    → IsSet ranges × All (λ p. IsAhead p q) ranges
+    → IsSet ranges × All (λ p. IsBefore p q) ranges
 front ranges q set =
     let long : length (ranges ++ q ∷ []) ≡ length ranges + 1 = length-append ranges (q ∷ []) in
     let same : (k : ℕ) (d : Range) → k < length ranges → get_or (ranges ++ q ∷ []) k d ≡ get_or ranges k d =
@@ -107,16 +107,16 @@ front ranges q set =
     λ d. get_or-append_seam ranges q [] d in (
       record {
         ranges = λ k d l. subst IsRange (same k d l) (set.ranges k d (omega arith));
-        rising = λ i j d lt l. subst (λ (x : Range). IsAhead x (get_or ranges j d)) (same i d (omega arith))
-            (subst (λ (x : Range). IsAhead (get_or (ranges ++ q ∷ []) i d) x) (same j d l)
+        rising = λ i j d lt l. subst (λ (x : Range). IsBefore x (get_or ranges j d)) (same i d (omega arith))
+            (subst (λ (x : Range). IsBefore (get_or (ranges ++ q ∷ []) i d) x) (same j d l)
             (set.rising i j d lt (omega arith)));
       },
-      λ k d l. subst (λ (x : Range). IsAhead x q) (same k d l)
-          (subst (λ (x : Range). IsAhead (get_or (ranges ++ q ∷ []) k d) x) (last d)
+      λ k d l. subst (λ (x : Range). IsBefore x q) (same k d l)
+          (subst (λ (x : Range). IsBefore (get_or (ranges ++ q ∷ []) k d) x) (last d)
           (set.rising k (length ranges) d l (omega arith))),
     )
 
--- a range goes behind the kept ones
+-- a range goes after the kept ones
 
 module _ (ranges : List Range) (kept : ℕ) (r : Range) (lt : kept < length ranges) where
   after : take (kept + 1) (set ranges kept r) ≡ take kept ranges ++ r ∷ []
@@ -125,28 +125,28 @@ module _ (ranges : List Range) (kept : ℕ) (r : Range) (lt : kept < length rang
   kept_length : length (take kept ranges) ≡ kept
   kept_length = length-take-le kept ranges (omega arith)
 
-  -- where the last one doesn't reach r, or there is none, all stand ahead
-  pub all_ahead : IsSet (take kept ranges) → All (λ q. StartsNoLater q r) (take kept ranges)
+  -- where the last one doesn't reach r, or there is none, all stand before
+  pub all_before : IsSet (take kept ranges) → All (λ q. StartsNoLater q r) (take kept ranges)
       → (kept ≡ 0) ⊎ ((q : Range) × (0 < kept) × (q ≡ get_or ranges (kept - 1) q) × ¬ Reaches q r)
-      → All (λ q. IsAhead q r) (take kept ranges)
-  all_ahead set starts (inl e) k d l = absurd (omega (arith, kept_length))
-  all_ahead set starts (inr (q, some, is, apart)) k d l =
+      → All (λ q. IsBefore q r) (take kept ranges)
+  all_before set starts (inl e) k d l = absurd (omega (arith, kept_length))
+  all_before set starts (inr (q, some, is, apart)) k d l =
       let here : get_or (take kept ranges) (kept - 1) d ≡ q =
       get_or-take kept ranges (kept - 1) d (omega arith)
       ∙ get_or_default ranges (kept - 1) d q (omega arith) ∙ sym is in
       let start : StartsNoLater q r =
       subst (λ (x : Range). StartsNoLater x r) here (starts (kept - 1) d (omega (arith, kept_length))) in
-      let ahead : IsAhead q r = not_reached q r start apart in
+      let earlier : IsBefore q r = not_reached q r start apart in
       elim (cases_eq k (kept - 1)) [
-        | inl e ↦ rw e (rw here ahead)
-        | inr apart ↦ IsAhead-trans (get_or (take kept ranges) k d) q r
-            (subst (λ (x : Range). IsAhead (get_or (take kept ranges) k d) x) here
-            (set.rising k (kept - 1) d (omega (arith, kept_length)) (omega (arith, kept_length)))) ahead
+        | inl e ↦ rw e (rw here earlier)
+        | inr apart ↦ IsBefore-trans (get_or (take kept ranges) k d) q r
+            (subst (λ (x : Range). IsBefore (get_or (take kept ranges) k d) x) here
+            (set.rising k (kept - 1) d (omega (arith, kept_length)) (omega (arith, kept_length)))) earlier
       ]
 
-  pub appended_set : IsSet (take kept ranges) → IsRange r → All (λ q. IsAhead q r) (take kept ranges)
+  pub appended_set : IsSet (take kept ranges) → IsRange r → All (λ q. IsBefore q r) (take kept ranges)
       → IsSet (take (kept + 1) (set ranges kept r))
-  appended_set set range ahead = rw after (IsSet-push (take kept ranges) r set range ahead)
+  appended_set set range earlier = rw after (IsSet-push (take kept ranges) r set range earlier)
 
   pub appended_starts : All (λ q. StartsNoLater q r) (take kept ranges)
       → All (λ q. StartsNoLater q r) (take (kept + 1) (set ranges kept r))
@@ -175,11 +175,11 @@ module _ (ranges : List Range) (kept : ℕ) (q h r : Range) (some : 0 < kept) (l
 
   pub joined_set : IsSet (take kept ranges) → IsRange h → IsSet (take kept (set ranges (kept - 1) h))
   joined_set set range =
-      let parts : IsSet (take (kept - 1) ranges) × All (λ p. IsAhead p q) (take (kept - 1) ranges) =
+      let parts : IsSet (take (kept - 1) ranges) × All (λ p. IsBefore p q) (take (kept - 1) ranges) =
       front (take (kept - 1) ranges) q (subst IsSet before set) in
-      let ahead : (p : Range) → IsAhead p q → IsAhead p h = λ p a. grind arith in
+      let earlier : (p : Range) → IsBefore p q → IsBefore p h = λ p a. grind arith in
       rw afterwards (IsSet-push (take (kept - 1) ranges) h parts.0 range
-      (λ k d l. ahead (get_or (take (kept - 1) ranges) k d) (parts.1 k d l)))
+      (λ k d l. earlier (get_or (take (kept - 1) ranges) k d) (parts.1 k d l)))
 
   pub joined_starts : All (λ p. StartsNoLater p r) (take kept ranges)
       → All (λ p. StartsNoLater p r) (take kept (set ranges (kept - 1) h))
@@ -256,7 +256,7 @@ module _ (old ranges : List Range) (kept i : ℕ) (r : Range) (lt : i < length o
       → ((c : CharName) → IsAmong (take kept' new) c ↔ (IsAmong (take kept ranges) c ⊎ IsIn r c))
       → IsJoined old new kept' (i + 1)
   one_more_joined new kept' up le len rest set starts names =
-      let behind : (xs : List Range) → drop (i + 1) xs ≡ drop (i - kept) (drop (kept + 1) xs) =
+      let dropped_on : (xs : List Range) → drop (i + 1) xs ≡ drop (i - kept) (drop (kept + 1) xs) =
       λ xs. let e : i + 1 ≡ (kept + 1) + (i - kept) = omega (arith, so_far.within) in
       ap (λ (n : ℕ). drop n xs) e ∙ sym (drop-drop (i - kept) (kept + 1) xs) in
       let here_old : r ≡ get_or old i r = sym (ap (λ (xs : List Range). get_or xs 0 r) (sym (drop_more old i r lt) ∙ here)) in
@@ -272,7 +272,7 @@ module _ (old ranges : List Range) (kept i : ℕ) (r : Range) (lt : i < length o
       record {
         within = (omega (arith, so_far.within), omega arith);
         len = len ∙ so_far.len;
-        rest = behind new ∙ ap (drop (i - kept)) rest ∙ sym (behind ranges)
+        rest = dropped_on new ∙ ap (drop (i - kept)) rest ∙ sym (dropped_on ranges)
             ∙ sym (drop-drop 1 i ranges) ∙ ap (drop 1) so_far.rest ∙ drop-drop 1 i old;
         set = set;
         rising = λ k d l k' d' l'. StartsNoLater-trans (get_or (take kept' new) k d) r

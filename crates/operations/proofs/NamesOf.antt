@@ -5,7 +5,7 @@ use Rattle.std.proofs.lemmas.Bool.{cases_eq}
 use Rattle.std.proofs.lemmas.List.{get_or_default}
 use Rattle.std.proofs.lemmas.List.Kept.{AllPairs-cons}
 use Rattle.char_files.specs.CharName.{CharName}
-use Rattle.operations.specs.NameSet.{Range, IsIn, IsAmong, IsAhead, IsSet, names_of, names_in}
+use Rattle.operations.specs.NameSet.{Range, IsIn, IsAmong, IsBefore, IsSet, names_of, names_in}
 use Rattle.operations.proofs.WithName.{Among, among, is_among, same_name}
 
 -- lists of names by recursion
@@ -117,20 +117,20 @@ Contains-names_in ranges name = (
       (names_in ranges) name (ranges_have ranges name (among ranges name h)),
 )
 
--- a range ahead of all others has none of their names
-none_behind : (r : Range) (ranges : List Range) (name : CharName) → AllPairs IsAhead (r ∷ ranges)
+-- a range before all others has none of their names
+none_after : (r : Range) (ranges : List Range) (name : CharName) → AllPairs IsBefore (r ∷ ranges)
     → IsIn r name → ¬ IsAmong ranges name
-none_behind r ranges name up h (k, s, lt, is, h') =
-    let ahead : IsAhead r (get_or ranges k s) = up 0 (suc k) s (omega arith) (omega arith) in
-    let ahead' : IsAhead r s = rw is at ahead in
+none_after r ranges name up h (k, s, lt, is, h') =
+    let before : IsBefore r (get_or ranges k s) = up 0 (suc k) s (omega arith) (omega arith) in
+    let before' : IsBefore r s = rw is at before in
     absurd (grind arith)
 
-once_in : (ranges : List Range) → AllPairs IsAhead ranges → IsOnceEach (names_in ranges)
+once_in : (ranges : List Range) → AllPairs IsBefore ranges → IsOnceEach (names_in ranges)
 once_in [] up = tt
 once_in (r ∷ ranges) up =
     once_both (names_of r) (names_in ranges) (once_of r.site r.at r.len)
     (once_in ranges (λ i j d lt l. up (suc i) (suc j) d (omega arith) (omega arith)))
-    (λ name a b. none_behind r ranges name up (of_range r.site r.at r.len name a)
+    (λ name a b. none_after r ranges name up (of_range r.site r.at r.len name a)
     (is_among ranges name (in_ranges ranges name b)))
 
 pub AllPairs-names_in : (ranges : List Range) → IsSet ranges → AllPairs (λ a b. a ≢ b) (names_in ranges)

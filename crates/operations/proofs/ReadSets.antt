@@ -12,12 +12,12 @@ use Rattle.std.proofs.lemmas.Option.{none-some}
 use Rattle.std.proofs.lemmas.List.Concat.{flat_map-cons}
 use Rattle.char_files.specs.declared.TheConstants.{MAX_FILE}
 use Rattle.operations.specs.declared.name_set.TheConstants.{MAX_RANGES}
-use Rattle.operations.specs.NameSet.{Range, IsRange, IsAhead, IsNamed}
+use Rattle.operations.specs.NameSet.{Range, IsRange, IsBefore, IsNamed}
 use Rattle.byte_fields.specs.Fields.{◌>>=◌}
-use Rattle.operations.specs.Reading.{range_at, is_behind, ranges_at, ranges_in, set_at}
+use Rattle.operations.specs.Reading.{range_at, is_after, ranges_at, ranges_in, set_at}
 use Rattle.byte_fields.specs.Fields.{number_spelling}
 use Rattle.operations.specs.Spelling.{range_spelling, set_spelling}
-use Rattle.operations.proofs.WithName.{First, IsRising, ahead, is_ahead_true, rising, ranges_of, pairs_of}
+use Rattle.operations.proofs.WithName.{First, IsRising, before, is_before_true, rising, ranges_of, pairs_of}
 use Rattle.byte_fields.proofs.Readers.{IsBytes, Took, Reads, step, bind_some, some_is, not_stopped}
 use Rattle.byte_fields.proofs.Readers.{wide16, wide32, number_reads, positive_reads}
 
@@ -63,14 +63,14 @@ range_reads =
           ) refl;
     }
 
--- each range is in its file, and behind the one before
-abbrev AreBehind : Option Range → List Range → Type 0
-AreBehind last [] = Unit {0}
-AreBehind last (r ∷ ranges) = IsRange r × (is_behind last r ≡ true) × AreBehind (Some r) ranges
+-- each range is in its file, and after the one before
+abbrev AreAfter : Option Range → List Range → Type 0
+AreAfter last [] = Unit {0}
+AreAfter last (r ∷ ranges) = IsRange r × (is_after last r ≡ true) × AreAfter (Some r) ranges
 
 -- so many of them
 abbrev AreNext : Option Range → ℕ → List Range → Type 0
-AreNext last n ranges = (length ranges ≡ n) × AreBehind last ranges
+AreNext last n ranges = (length ranges ≡ n) × AreAfter last ranges
 
 abbrev ranges_spelling : List Range → List ℕ
 ranges_spelling ranges = flat_map range_spelling ranges
@@ -94,9 +94,9 @@ ranges_take last zero bytes x rest fits e =
     (some_is ([], bytes) (x, rest) e) (record { parts = refl; rest_fits = fits; in_range = (refl, tt) })
 ranges_take last (suc n) bytes x rest fits e =
     let s = step _ _ _ range_reads _ bytes (x, rest) fits e in
-    let others = bind_some (cond (is_behind last s.x) (ranges_at (Some s.x) n s.rest) None) _ (x, rest)
+    let others = bind_some (cond (is_after last s.x) (ranges_at (Some s.x) n s.rest) None) _ (x, rest)
     s.goes_on in
-    let g = went_on (is_behind last s.x) (ranges_at (Some s.x) n s.rest) others.0 others.1 in
+    let g = went_on (is_after last s.x) (ranges_at (Some s.x) n s.rest) others.0 others.1 in
     let t = ranges_take (Some s.x) n s.rest others.0.0 others.0.1 s.took.rest_fits g.1 in
     let whole : bytes ≡ ranges_spelling (s.x ∷ others.0.0) ++ others.0.1 =
     s.took.parts ∙ ap (λ (y : List ℕ). range_spelling s.x ++ y) t.parts
@@ -110,7 +110,7 @@ ranges_take last (suc n) bytes x rest fits e =
           (ap suc t.in_range.0, (s.took.in_range, g.0, t.in_range.1));
     })
 
-ranges_again : (last : Option Range) (x : List Range) (rest : List ℕ) → AreBehind last x
+ranges_again : (last : Option Range) (x : List Range) (rest : List ℕ) → AreAfter last x
     → ranges_at last (length x) (ranges_spelling x ++ rest) ≡ Some (x, rest)
 unfolding ranges_at
 ranges_again last [] rest is = refl
@@ -120,19 +120,19 @@ ranges_again last (r ∷ x) rest is =
 
 -- ---- sets
 
-rising_behind : (last : Option Range) (ranges : List Range) → AreBehind last ranges → IsRising ranges
-rising_behind last [] h = tt
-rising_behind last (r ∷ []) h = (h.0, tt, tt)
-rising_behind last (r ∷ s ∷ ranges) h = (h.0, ahead r s h.2.1, rising_behind (Some r) (s ∷ ranges) h.2)
+rising_after : (last : Option Range) (ranges : List Range) → AreAfter last ranges → IsRising ranges
+rising_after last [] h = tt
+rising_after last (r ∷ []) h = (h.0, tt, tt)
+rising_after last (r ∷ s ∷ ranges) h = (h.0, before r s h.2.1, rising_after (Some r) (s ∷ ranges) h.2)
 
-behind_rising : (r : Range) (ranges : List Range) → First (IsAhead r) ranges → IsRising ranges
-    → AreBehind (Some r) ranges
-behind_rising r [] first h = tt
-behind_rising r (s ∷ ranges) first h = (h.0, is_ahead_true r s first, behind_rising s ranges h.1 h.2)
+after_rising : (r : Range) (ranges : List Range) → First (IsBefore r) ranges → IsRising ranges
+    → AreAfter (Some r) ranges
+after_rising r [] first h = tt
+after_rising r (s ∷ ranges) first h = (h.0, is_before_true r s first, after_rising s ranges h.1 h.2)
 
-behind_none : (ranges : List Range) → IsRising ranges → AreBehind None ranges
-behind_none [] h = tt
-behind_none (r ∷ ranges) h = (h.0, refl, behind_rising r ranges h.1 h.2)
+after_none : (ranges : List Range) → IsRising ranges → AreAfter None ranges
+after_none [] h = tt
+after_none (r ∷ ranges) h = (h.0, refl, after_rising r ranges h.1 h.2)
 
 pub set_reads : Reads set_at set_spelling IsNamed
 unfolding set_at
@@ -143,7 +143,7 @@ set_reads =
           let s = step _ _ _ count _ bytes (x, rest) fits e in
           let g = not_stopped (ltb MAX_RANGES s.x) (ranges_at None s.x s.rest) (x, rest) s.goes_on in
           let t = ranges_take None s.x s.rest x rest s.took.rest_fits g.1 in
-          let up : IsRising x = rising_behind None x t.in_range.1 in
+          let up : IsRising x = rising_after None x t.in_range.1 in
           let few : s.x ≤ MAX_RANGES = ltb-false _ _ g.0 in
           let whole : bytes ≡ set_spelling x ++ rest =
           s.took.parts ∙ ap (λ (y : List ℕ). number_spelling w16 s.x ++ y) t.parts
@@ -161,15 +161,15 @@ set_reads =
           };
       again = λ x rest is.
           let few : ltb MAX_RANGES (length x) ≡ false = le-ltb _ _ is.few in
-          let behind : AreBehind None x = behind_none x (rising x is.set.ranges is.set.rising) in
+          let later : AreAfter None x = after_none x (rising x is.set.ranges is.set.rising) in
           ap set_at (append_assoc (number_spelling w16 (length x)) (ranges_spelling x) rest)
           ∙ rw (count.again (length x) (ranges_spelling x ++ rest) (is.some, omega (arith, is.few)), few)
-          (ranges_again None x rest behind);
+          (ranges_again None x rest later);
     }
 
 -- ---- one range after the other, as loops read them
 
--- what is left behind the ranges that were read
+-- what is left after the ranges that were read
 abbrev pub rest_of : Option (List Range × List ℕ) → Option (List ℕ)
 rest_of read = option_map (λ x. x.1) read
 
@@ -178,20 +178,20 @@ abbrev with_front : List Range → Option (List Range × List ℕ) → Option (L
 with_front front read = read >>= λ x. Some (front ++ x.0, x.1)
 
 more : (last : Option Range) (n : ℕ) (bytes : List ℕ) (r : Range) (after : List ℕ)
-    → range_at bytes ≡ Some (r, after) → is_behind last r ≡ true
+    → range_at bytes ≡ Some (r, after) → is_after last r ≡ true
     → ranges_at last (suc n) bytes ≡ with_front (r ∷ []) (ranges_at (Some r) n after)
 unfolding ranges_at
-more last n bytes r after there behind = rw (there, behind) refl
+more last n bytes r after there later = rw (there, later) refl
 
 missing : (last : Option Range) (n : ℕ) (bytes : List ℕ) → range_at bytes ≡ None
     → ranges_at last (suc n) bytes ≡ None
 unfolding ranges_at
 missing last n bytes none = rw none refl
 
-not_behind : (last : Option Range) (n : ℕ) (bytes : List ℕ) (r : Range) (after : List ℕ)
-    → range_at bytes ≡ Some (r, after) → is_behind last r ≡ false → ranges_at last (suc n) bytes ≡ None
+not_after : (last : Option Range) (n : ℕ) (bytes : List ℕ) (r : Range) (after : List ℕ)
+    → range_at bytes ≡ Some (r, after) → is_after last r ≡ false → ranges_at last (suc n) bytes ≡ None
 unfolding ranges_at
-not_behind last n bytes r after there not = rw (there, not) refl
+not_after last n bytes r after there not = rw (there, not) refl
 
 one_left : (count i : ℕ) → i < count → count - i ≡ suc (count - (i + 1))
 one_left count i lt = omega arith
@@ -202,13 +202,13 @@ rest_of-more front None = refl
 rest_of-more front (Some x) = refl
 
 pub rest_goes_on : (last : Option Range) (count i : ℕ) (bytes : List ℕ) (r : Range) (after : List ℕ)
-    (total : Option (List ℕ)) → i < count → range_at bytes ≡ Some (r, after) → is_behind last r ≡ true
+    (total : Option (List ℕ)) → i < count → range_at bytes ≡ Some (r, after) → is_after last r ≡ true
     → rest_of (ranges_at last (count - i) bytes) ≡ total
     → rest_of (ranges_at (Some r) (count - (i + 1)) after) ≡ total
-rest_goes_on last count i bytes r after total lt there behind so_far =
+rest_goes_on last count i bytes r after total lt there later so_far =
     let left : ℕ = count - (i + 1) in
     sym (rest_of-more (r ∷ []) (ranges_at (Some r) left after))
-    ∙ ap rest_of (sym (more last left bytes r after there behind))
+    ∙ ap rest_of (sym (more last left bytes r after there later))
     ∙ ap (λ (n : ℕ). rest_of (ranges_at last n bytes)) (sym (one_left count i lt)) ∙ so_far
 
 pub rest_missing : (last : Option Range) (count i : ℕ) (bytes : List ℕ) (total : Option (List ℕ)) → i < count
@@ -217,12 +217,12 @@ rest_missing last count i bytes total lt none so_far =
     sym so_far ∙ ap (λ (n : ℕ). rest_of (ranges_at last n bytes)) (one_left count i lt)
     ∙ ap rest_of (missing last (count - (i + 1)) bytes none)
 
-pub rest_not_behind : (last : Option Range) (count i : ℕ) (bytes : List ℕ) (r : Range) (after : List ℕ)
-    (total : Option (List ℕ)) → i < count → range_at bytes ≡ Some (r, after) → is_behind last r ≡ false
+pub rest_not_after : (last : Option Range) (count i : ℕ) (bytes : List ℕ) (r : Range) (after : List ℕ)
+    (total : Option (List ℕ)) → i < count → range_at bytes ≡ Some (r, after) → is_after last r ≡ false
     → rest_of (ranges_at last (count - i) bytes) ≡ total → total ≡ None
-rest_not_behind last count i bytes r after total lt there not so_far =
+rest_not_after last count i bytes r after total lt there not so_far =
     sym so_far ∙ ap (λ (n : ℕ). rest_of (ranges_at last n bytes)) (one_left count i lt)
-    ∙ ap rest_of (not_behind last (count - (i + 1)) bytes r after there not)
+    ∙ ap rest_of (not_after last (count - (i + 1)) bytes r after there not)
 
 -- no ranges are left
 ranges_end : (last : Option Range) (n : ℕ) (bytes : List ℕ) → n ≡ 0 → ranges_at last n bytes ≡ Some ([], bytes)
@@ -241,9 +241,9 @@ pub record IsRead (all front : List Range) (count i : ℕ) (bytes : List ℕ) : 
   pub all_is : with_front front (ranges_at last (count - i) bytes) ≡ Some (all, rest)
   pub counted : length front ≡ i
 
-nothing_ahead : (read : Option (List Range × List ℕ)) → with_front [] read ≡ read
-nothing_ahead None = refl
-nothing_ahead (Some x) = refl
+nothing_before : (read : Option (List Range × List ℕ)) → with_front [] read ≡ read
+nothing_before None = refl
+nothing_before (Some x) = refl
 
 read_there : (read : Option (List Range × List ℕ)) → IsSome read
     → (rest : List ℕ) × (read ≡ Some (option_map_or (λ x. x.0) read [], rest))
@@ -259,25 +259,25 @@ none_read count bytes there =
       rest = is.0;
       all_is =
           ap (λ (n : ℕ). with_front [] (ranges_at None n bytes)) (omega arith)
-          ∙ nothing_ahead (ranges_at None count bytes) ∙ is.1;
+          ∙ nothing_before (ranges_at None count bytes) ∙ is.1;
       counted = refl;
     }
 
--- the next range, which stands behind the last
+-- the next range, which stands after the last
 record Next (last : Option Range) (bytes : List ℕ) : Type 0 where
   r : Range
   after : List ℕ
   there : range_at bytes ≡ Some (r, after)
-  behind : is_behind last r ≡ true
+  later : is_after last r ≡ true
 
 next_is : (last : Option Range) (n : ℕ) (bytes : List ℕ) (x : List Range × List ℕ)
     → ranges_at last (suc n) bytes ≡ Some x → Next last bytes
 unfolding ranges_at
 next_is last n bytes x e =
     let s = bind_some (range_at bytes) _ x e in
-    let others = bind_some (cond (is_behind last s.0.0) (ranges_at (Some s.0.0) n s.0.1) None) _ x s.2 in
-    let g = went_on (is_behind last s.0.0) (ranges_at (Some s.0.0) n s.0.1) others.0 others.1 in
-    record { r = s.0.0; after = s.0.1; there = s.1; behind = g.0 }
+    let others = bind_some (cond (is_after last s.0.0) (ranges_at (Some s.0.0) n s.0.1) None) _ x s.2 in
+    let g = went_on (is_after last s.0.0) (ranges_at (Some s.0.0) n s.0.1) others.0 others.1 in
+    record { r = s.0.0; after = s.0.1; there = s.1; later = g.0 }
 
 next_in : (all front : List Range) (count i : ℕ) (bytes : List ℕ) → i < count
     → (so_far : IsRead all front count i bytes) → Next so_far.last bytes
@@ -304,11 +304,11 @@ goes_on all front count i bytes r after lt there so_far =
     let left : ℕ = count - (i + 1) in
     let next = next_in all front count i bytes lt so_far in
     let same : next.r ≡ r = ap (λ (x : Range × List ℕ). x.0) (some_is _ _ (sym next.there ∙ there)) in
-    let behind : is_behind so_far.last r ≡ true =
-    subst (λ (x : Range). is_behind so_far.last x ≡ true) same next.behind in
+    let later : is_after so_far.last r ≡ true =
+    subst (λ (x : Range). is_after so_far.last x ≡ true) same next.later in
     let one : ranges_at so_far.last (count - i) bytes ≡ with_front (r ∷ []) (ranges_at (Some r) left after) =
     ap (λ (n : ℕ). ranges_at so_far.last n bytes) (one_left count i lt)
-    ∙ more so_far.last left bytes r after there behind in
+    ∙ more so_far.last left bytes r after there later in
     record {
       last = Some r;
       rest = so_far.rest;

@@ -4,7 +4,7 @@ use Rattle.std.proofs.Common.{sym, subst, suc, Contains, arith}
 use Rattle.std.specs.List.{All}
 use Rattle.std.proofs.lemmas.Bool.{cases_lt}
 use Rattle.char_files.specs.CharName.{CharName}
-use Rattle.operations.specs.NameSet.{Range, IsIn, IsAmong, IsRange, IsAhead, IsSet, IsFileName, set_of}
+use Rattle.operations.specs.NameSet.{Range, IsIn, IsAmong, IsRange, IsBefore, IsSet, IsFileName, set_of}
 use Rattle.operations.proofs.NamesOf.{Has, has, contains}
 use Rattle.operations.proofs.WithName.{IsRising, Among, among, is_among, rising}
 use Rattle.operations.proofs.WithName.{IsSet-with_name, IsAmong-with_name}
@@ -16,13 +16,13 @@ name_at site off = record { site = site; off = off }
 abbrev range_at : ℕ → ℕ → ℕ → Range
 range_at site at len = record { site = site; at = at; len = len }
 
--- the names behind the first range leave a gap to it
+-- the names after the first range leave a gap to it
 beyond : (r : Range) (ranges : List Range) (m : CharName) → IsRising (r ∷ ranges) → Among ranges m
     → (r.site < m.site) ⊎ ((r.site ≡ m.site) × (r.at + r.len < m.off))
 beyond r [] m up h = absurd h
-beyond r (s ∷ ranges) m up (inl h) = let ahead : IsAhead r s = up.1 in grind arith
+beyond r (s ∷ ranges) m up (inl h) = let before : IsBefore r s = up.1 in grind arith
 beyond r (s ∷ ranges) m up (inr h) =
-    let ahead : IsAhead r s = up.1 in
+    let before : IsBefore r s = up.1 in
     let past : (s.site < m.site) ⊎ ((s.site ≡ m.site) × (s.at + s.len < m.off)) =
     beyond s ranges m up.2 h in
     grind arith
@@ -43,7 +43,7 @@ end_is_out r ranges up (inr h) =
     beyond r ranges (name_at r.site (r.at + r.len)) up h in
     absurd (grind arith)
 
--- no name stands ahead of the first range's first
+-- no name stands before the first range's first
 none_earlier : (r : Range) (ranges : List Range) (m : CharName) → IsRising (r ∷ ranges)
     → Among (r ∷ ranges) m → (r.site < m.site) ⊎ ((r.site ≡ m.site) × (r.at ≤ m.off))
 none_earlier r ranges m up (inl h) = grind arith
@@ -86,13 +86,13 @@ same_first r s ranges ranges' up up' is =
     let ge : s.len ≤ r.len = no_longer s r ranges' ranges up (λ c. (is c).1) (sym site) (sym at) in
     same_range r s site at (omega arith)
 
--- what is behind equal first ranges has the same names too
+-- what is after equal first ranges has the same names too
 rest_goes : (r s : Range) (ranges ranges' : List Range) (c : CharName) → IsRising (r ∷ ranges) → r ≡ s
     → (Among (r ∷ ranges) c → Among (s ∷ ranges') c) → Among ranges c → Among ranges' c
 rest_goes r s ranges ranges' c up e goes h =
     elim (goes (inr h)) [
       | inl inside ↦ absurd (not_in_first r ranges c up h (subst (λ (x : Range). IsIn x c) (sym e) inside))
-      | inr behind ↦ behind
+      | inr after ↦ after
     ]
 
 same_ranges : (xs ys : List Range) → IsRising xs → IsRising ys

@@ -14,29 +14,29 @@ use Rattle.std.proofs.lemmas.List.{set_at, length-take-le, take-append-drop}
 use Rattle.std.proofs.lemmas.Bool.Decides.{nat_tests}
 use Rattle.char_files.specs.CharName.{CharName}
 use Rattle.operations.specs.declared.name_set.TheConstants.{MAX_RANGES}
-use Rattle.operations.specs.NameSet.{Range, IsIn, IsAmong, IsRange, IsAhead, IsSet, IsInsertionPoint}
-use Rattle.operations.specs.NameSet.{of_name, is_ahead, touches, range_contains, with_first, with_range_at}
+use Rattle.operations.specs.NameSet.{Range, IsIn, IsAmong, IsRange, IsBefore, IsSet, IsInsertionPoint}
+use Rattle.operations.specs.NameSet.{of_name, comes_before, touches, range_contains, with_first, with_range_at}
 use Rattle.operations.specs.NameSet.{with_other_at, with_name}
 
 -- what the tests say
 
-pub ahead : (r s : Range) → is_ahead r s ≡ true → IsAhead r s
-ahead r s e = grind (arith, nat_tests)
+pub before : (r s : Range) → comes_before r s ≡ true → IsBefore r s
+before r s e = grind (arith, nat_tests)
 
-pub is_ahead_true : (r s : Range) → IsAhead r s → is_ahead r s ≡ true
-is_ahead_true r s h = grind (arith, nat_tests)
+pub is_before_true : (r s : Range) → IsBefore r s → comes_before r s ≡ true
+is_before_true r s h = grind (arith, nat_tests)
 
 touching : (r s : Range) → touches r s ≡ true → (r.site ≡ s.site) × (r.at + r.len ≡ s.at)
 touching r s e = grind (arith, nat_tests)
 
--- r ends at s, or ahead of it
+-- r ends at s, or before it
 abbrev Leads : Range → Range → Type 0
 Leads r s = (r.site < s.site) ⊎ ((r.site ≡ s.site) × (r.at + r.len ≤ s.at))
 
-ahead_of_next : (r s : Range) → touches r s ≡ false → Leads r s → IsAhead r s
-ahead_of_next r s e leads = grind (arith, nat_tests)
+before_next : (r s : Range) → touches r s ≡ false → Leads r s → IsBefore r s
+before_next r s e leads = grind (arith, nat_tests)
 
-in_front : (r : Range) (name : CharName) → is_ahead r (of_name name) ≡ false → touches r (of_name name)
+in_front : (r : Range) (name : CharName) → comes_before r (of_name name) ≡ false → touches r (of_name name)
     ≡ false → range_contains r name ≡ false → Leads (of_name name) r
 in_front r name e f g = grind (arith, nat_tests)
 
@@ -55,25 +55,25 @@ First P (r ∷ ranges) = P r
 
 abbrev pub IsRising : List Range → Type 0
 IsRising [] = Unit {0}
-IsRising (r ∷ ranges) = IsRange r × First (IsAhead r) ranges × IsRising ranges
+IsRising (r ∷ ranges) = IsRange r × First (IsBefore r) ranges × IsRising ranges
 
 First-weaker : (P Q : Range → Type 0) → ((r : Range) → P r → Q r) → (ranges : List Range) → First P ranges
     → First Q ranges
 First-weaker P Q f [] h = tt
 First-weaker P Q f (r ∷ ranges) h = f r h
 
-First-with_first : (q r : Range) (ranges : List Range) → IsAhead q r → First (IsAhead q) (with_first r ranges)
+First-with_first : (q r : Range) (ranges : List Range) → IsBefore q r → First (IsBefore q) (with_first r ranges)
 First-with_first q r [] h = h
-First-with_first q r (s ∷ ranges) h = cond_both (touches r s) _ _ (First (IsAhead q)) (λ e. h) (λ e. h)
+First-with_first q r (s ∷ ranges) h = cond_both (touches r s) _ _ (First (IsBefore q)) (λ e. h) (λ e. h)
 
-first_with_name : (q : Range) (ranges : List Range) (name : CharName) → IsAhead q (of_name name)
-    → First (IsAhead q) ranges → First (IsAhead q) (with_name ranges name)
+first_with_name : (q : Range) (ranges : List Range) (name : CharName) → IsBefore q (of_name name)
+    → First (IsBefore q) ranges → First (IsBefore q) (with_name ranges name)
 first_with_name q [] name h first = h
 first_with_name q (r ∷ ranges) name h first =
-    cond_both (is_ahead r (of_name name)) _ _ (First (IsAhead q)) (λ e. first)
-    (λ e. cond_both (touches r (of_name name)) _ _ (First (IsAhead q))
+    cond_both (comes_before r (of_name name)) _ _ (First (IsBefore q)) (λ e. first)
+    (λ e. cond_both (touches r (of_name name)) _ _ (First (IsBefore q))
     (λ f. First-with_first q (record r { len = r.len + 1 }) ranges first)
-    (λ f. cond_both (range_contains r name) _ _ (First (IsAhead q)) (λ g. first)
+    (λ f. cond_both (range_contains r name) _ _ (First (IsBefore q)) (λ g. first)
     (λ g. First-with_first q (of_name name) (r ∷ ranges) h)))
 
 with_first-rising : (r : Range) (ranges : List Range) → IsRange r → First (Leads r) ranges → IsRising ranges
@@ -84,22 +84,22 @@ with_first-rising r (s ∷ ranges) range leads rising =
     (λ e.
     let t : (r.site ≡ s.site) × (r.at + r.len ≡ s.at) = touching r s e in
     let both : Range = record r { len = r.len + s.len } in
-    let next : (q : Range) → IsAhead s q → IsAhead both q = λ q h. grind arith in (
+    let next : (q : Range) → IsBefore s q → IsBefore both q = λ q h. grind arith in (
       (omega arith, omega arith, omega arith, omega arith),
-      First-weaker (IsAhead s) (IsAhead both) next
+      First-weaker (IsBefore s) (IsBefore both) next
           ranges rising.1,
       rising.2,
     ))
-    (λ e. (range, ahead_of_next r s e leads, rising))
+    (λ e. (range, before_next r s e leads, rising))
 
 with_name-rising : (ranges : List Range) (name : CharName) → IsRange (of_name name) → IsRising ranges
     → IsRising (with_name ranges name)
 with_name-rising [] name one rising = (one, tt, tt)
 with_name-rising (r ∷ ranges) name one rising =
-    cond_both (is_ahead r (of_name name)) _ _ IsRising
+    cond_both (comes_before r (of_name name)) _ _ IsRising
     (λ e. (
       rising.0,
-      first_with_name r ranges name (ahead r (of_name name) e) rising.1,
+      first_with_name r ranges name (before r (of_name name) e) rising.1,
       with_name-rising
           ranges name one rising.2,
     ))
@@ -107,9 +107,9 @@ with_name-rising (r ∷ ranges) name one rising =
     (λ f.
     let t : (r.site ≡ name.site) × (r.at + r.len ≡ name.off) = touching r (of_name name) f in
     let longer : Range = record r { len = r.len + 1 } in
-    let next : (q : Range) → IsAhead r q → Leads longer q = λ q h. grind arith in
+    let next : (q : Range) → IsBefore r q → Leads longer q = λ q h. grind arith in
     with_first-rising longer ranges (omega arith, omega arith, omega arith, omega arith)
-    (First-weaker (IsAhead r) (Leads longer) next ranges rising.1) rising.2)
+    (First-weaker (IsBefore r) (Leads longer) next ranges rising.1) rising.2)
     (λ f. cond_both (range_contains r name) _ _ IsRising (λ g. rising)
     (λ g. with_first-rising (of_name name) (r ∷ ranges) one (in_front r name e f g) rising)))
 
@@ -183,7 +183,7 @@ with_name-names [] name m = (
       [ inl x ↦ inr x | inr e ↦ inl (from_one m name e) ],
 )
 with_name-names (r ∷ ranges) name m =
-    cond_both (is_ahead r (of_name name)) _ _ (λ xs. Among xs m ↔ (Among (r ∷ ranges) m ⊎ (m ≡ name)))
+    cond_both (comes_before r (of_name name)) _ _ (λ xs. Among xs m ↔ (Among (r ∷ ranges) m ⊎ (m ≡ name)))
     (λ e.
     let rest : Among (with_name ranges name) m ↔ (Among ranges m ⊎ (m ≡ name)) =
     with_name-names ranges name m in (
@@ -232,7 +232,7 @@ is_among (x ∷ ranges) m (inl h) = (0, x, omega arith, refl, h)
 is_among (x ∷ ranges) m (inr h) = let at : IsAmong ranges m = is_among ranges m h in
     (suc at.0, at.1, omega arith, at.3, at.4)
 
-pub rising : (ranges : List Range) → All IsRange ranges → AllPairs IsAhead ranges → IsRising ranges
+pub rising : (ranges : List Range) → All IsRange ranges → AllPairs IsBefore ranges → IsRising ranges
 rising [] all up = tt
 rising (r ∷ []) all up = (all 0 r (omega arith), tt, tt)
 rising (r ∷ s ∷ ranges) all up = (
@@ -248,21 +248,21 @@ ranges_of [] h k d l = absurd (omega arith)
 ranges_of (r ∷ ranges) h zero d l = h.0
 ranges_of (r ∷ ranges) h (suc k) d l = ranges_of ranges h.2 k d (omega arith)
 
-pub IsAhead-trans : (r s t : Range) → IsAhead r s → IsAhead s t → IsAhead r t
-IsAhead-trans r s t a b = grind arith
+pub IsBefore-trans : (r s t : Range) → IsBefore r s → IsBefore s t → IsBefore r t
+IsBefore-trans r s t a b = grind arith
 
-ahead_of_all : (q : Range) (ranges : List Range) → First (IsAhead q) ranges → IsRising ranges
-    → All (IsAhead q) ranges
-ahead_of_all q [] first h k d l = absurd (omega arith)
-ahead_of_all q (r ∷ ranges) first h zero d l = first
-ahead_of_all q (r ∷ ranges) first h (suc k) d l =
-    ahead_of_all q ranges (First-weaker (IsAhead r) (IsAhead q) (λ s a. IsAhead-trans q r s first a) ranges
+before_all : (q : Range) (ranges : List Range) → First (IsBefore q) ranges → IsRising ranges
+    → All (IsBefore q) ranges
+before_all q [] first h k d l = absurd (omega arith)
+before_all q (r ∷ ranges) first h zero d l = first
+before_all q (r ∷ ranges) first h (suc k) d l =
+    before_all q ranges (First-weaker (IsBefore r) (IsBefore q) (λ s a. IsBefore-trans q r s first a) ranges
     h.1) h.2 k d (omega arith)
 
-pub pairs_of : (ranges : List Range) → IsRising ranges → AllPairs IsAhead ranges
+pub pairs_of : (ranges : List Range) → IsRising ranges → AllPairs IsBefore ranges
 pairs_of [] h i j d lt l = absurd (omega arith)
 pairs_of (r ∷ ranges) h zero zero d lt l = absurd (omega arith)
-pairs_of (r ∷ ranges) h zero (suc j) d lt l = ahead_of_all r ranges h.1 h.2 j d (omega arith)
+pairs_of (r ∷ ranges) h zero (suc j) d lt l = before_all r ranges h.1 h.2 j d (omega arith)
 pairs_of (r ∷ ranges) h (suc i) zero d lt l = absurd (omega arith)
 pairs_of (r ∷ ranges) h (suc i) (suc j) d lt l = pairs_of ranges h.2 i j d (omega arith) (omega arith)
 
@@ -287,15 +287,15 @@ IsAmong-with_name ranges name m =
           (is.1 (elim h [ inl x ↦ inl (among ranges m x) | inr x ↦ inr x ])),
     )
 
--- the ranges ahead of the name stay
-pub with_name-behind : (ranges : List Range) (at : ℕ) (name : CharName) → at ≤ length ranges
-    → ((k : ℕ) (d : Range) → k < at → IsAhead (get_or ranges k d) (of_name name)) → with_name ranges name
+-- the ranges before the name stay
+pub with_name-after : (ranges : List Range) (at : ℕ) (name : CharName) → at ≤ length ranges
+    → ((k : ℕ) (d : Range) → k < at → IsBefore (get_or ranges k d) (of_name name)) → with_name ranges name
     ≡ take at ranges ++ with_name (drop at ranges) name
-with_name-behind ranges zero name le h = refl
-with_name-behind [] (suc at) name le h = absurd (omega arith)
-with_name-behind (r ∷ ranges) (suc at) name le h =
-    cond-true (is_ahead r (of_name name)) _ _ (is_ahead_true r (of_name name) (h 0 r (omega arith)))
-    ∙ ap (λ (xs : List Range). r ∷ xs) (with_name-behind ranges at name (omega arith)
+with_name-after ranges zero name le h = refl
+with_name-after [] (suc at) name le h = absurd (omega arith)
+with_name-after (r ∷ ranges) (suc at) name le h =
+    cond-true (comes_before r (of_name name)) _ _ (is_before_true r (of_name name) (h 0 r (omega arith)))
+    ∙ ap (λ (xs : List Range). r ∷ xs) (with_name-after ranges at name (omega arith)
     (λ k d l. h (suc k) d (omega arith)))
 
 -- what the steps of an insertion leave
@@ -374,18 +374,18 @@ with_other_at-end ranges at r lt le =
     set_parts ranges at r lt ∙ ap (λ (xs : List Range). take at ranges ++ xs)
     (sym (with_first-past ranges (at + 1) r le))
 
--- where the ranges ahead of one end
-pub IsPartitionedBy-ahead : (ranges : List Range) (q : Range) → IsSet ranges
-    → IsPartitionedBy (λ r. is_ahead r q) ranges
-IsPartitionedBy-ahead ranges q set i j d le lt e =
+-- where the ranges before one end
+pub IsPartitionedBy-before : (ranges : List Range) (q : Range) → IsSet ranges
+    → IsPartitionedBy (λ r. comes_before r q) ranges
+IsPartitionedBy-before ranges q set i j d le lt e =
     elim (cases_eq i j) [
       | inl same ↦ rw same e
-      | inr apart ↦ is_ahead_true (get_or ranges i d) q (IsAhead-trans (get_or ranges i d)
-          (get_or ranges j d) q (set.rising i j d (omega arith) lt) (ahead (get_or ranges j d) q e))
+      | inr apart ↦ is_before_true (get_or ranges i d) q (IsBefore-trans (get_or ranges i d)
+          (get_or ranges j d) q (set.rising i j d (omega arith) lt) (before (get_or ranges j d) q e))
     ]
 
-pub ahead_only : (r q : Range) → is_ahead r q ≡ false → ¬ IsAhead r q
-ahead_only r q e h = both_ways (is_ahead r q) e (is_ahead_true r q h)
+pub before_only : (r q : Range) → comes_before r q ≡ false → ¬ IsBefore r q
+before_only r q e h = both_ways (comes_before r q) e (is_before_true r q h)
 
 length-with_first : (r : Range) (ranges : List Range) → length (with_first r ranges) ≤ length ranges + 1
 length-with_first r [] = omega arith
@@ -444,10 +444,10 @@ in_at_point ranges at name set point (k, r, lt, is, h) d =
     elim (cases_order k at) [
       | inl same ↦ subst (λ (n : ℕ). (n < length ranges) × IsIn (get_or ranges n d) name) same (lt, inside)
       | inr apart ↦ elim apart [
-        | inl below ↦ let past : IsAhead (get_or ranges k d) (of_name name) =
+        | inl below ↦ let past : IsBefore (get_or ranges k d) (of_name name) =
             point.0 k d (omega arith) below in absurd (grind arith)
         | inr above ↦
-            let past : IsAhead (get_or ranges at d) (get_or ranges k d) = set.rising at k d above lt in
+            let past : IsBefore (get_or ranges at d) (get_or ranges k d) = set.rising at k d above lt in
             absurd (point.1 at d (omega arith) (omega arith) (grind arith))
       ]
     ]
@@ -476,29 +476,29 @@ none_past ranges at name set point past among =
 -- what an insertion does at its point
 module _ (ranges : List Range) (at : ℕ) (name : CharName) (le : at ≤ length ranges)
     (point : IsInsertionPoint ranges at (of_name name)) where
-  behind : with_name ranges name ≡ take at ranges ++ with_name (drop at ranges) name
-  behind = with_name-behind ranges at name le (λ k d lt. point.0 k d (omega arith) lt)
+  after : with_name ranges name ≡ take at ranges ++ with_name (drop at ranges) name
+  after = with_name-after ranges at name le (λ k d lt. point.0 k d (omega arith) lt)
 
   pub with_name-past : length ranges ≤ at → with_name ranges name ≡ with_range_at ranges at (of_name name)
-  with_name-past past = let rest : drop at ranges ≡ [] = drop_all at ranges past in behind ∙ rw rest refl
+  with_name-past past = let rest : drop at ranges ≡ [] = drop_all at ranges past in after ∙ rw rest refl
 
   module _ (r : Range) (lt : at < length ranges) (is : r ≡ get_or ranges at r) where
     split : drop at ranges ≡ r ∷ drop (at + 1) ranges
     split = drop_more ranges at r lt ∙ ap (λ (x : Range). x ∷ drop (at + 1) ranges) (sym is)
 
-    not_ahead : is_ahead r (of_name name) ≡ false
-    not_ahead =
-        false_from_ne_true (is_ahead r (of_name name)) (λ e. point.1 at r (omega arith) lt
-        (rw (sym is) (ahead r (of_name name) e)))
+    not_earlier : comes_before r (of_name name) ≡ false
+    not_earlier =
+        false_from_ne_true (comes_before r (of_name name)) (λ e. point.1 at r (omega arith) lt
+        (rw (sym is) (before r (of_name name) e)))
 
     step : with_name ranges name ≡ take at ranges ++ with_name (r ∷ drop (at + 1) ranges) name
-    step = behind ∙ ap (λ (xs : List Range). take at ranges ++ with_name xs name) split
+    step = after ∙ ap (λ (xs : List Range). take at ranges ++ with_name xs name) split
 
     pub with_name-touching : Touch r (of_name name) → with_name ranges name
         ≡ with_other_at ranges at (both r (of_name name))
     with_name-touching t =
         step ∙ ap (λ (xs : List Range). take at ranges ++ xs)
-        (cond-false (is_ahead r (of_name name)) _ _ not_ahead ∙ cond-true (touches r (of_name name)) _ _
+        (cond-false (comes_before r (of_name name)) _ _ not_earlier ∙ cond-true (touches r (of_name name)) _ _
         (touches_true r (of_name name) t))
 
     pub with_name-held : IsIn r name → with_name ranges name ≡ ranges
@@ -506,7 +506,7 @@ module _ (ranges : List Range) (at : ℕ) (name : CharName) (le : at ≤ length 
         let apart : touches r (of_name name) ≡ false =
         touches_false r (of_name name) (λ t. absurd (omega arith)) in
         step ∙ ap (λ (xs : List Range). take at ranges ++ xs)
-        (cond-false (is_ahead r (of_name name)) _ _ not_ahead ∙ cond-false (touches r (of_name name)) _ _
+        (cond-false (comes_before r (of_name name)) _ _ not_earlier ∙ cond-false (touches r (of_name name)) _ _
         apart ∙ cond-true (range_contains r name) _ _ (range_contains-in r name h) ∙ sym split)
         ∙ take-append-drop at ranges
 
@@ -516,6 +516,6 @@ module _ (ranges : List Range) (at : ℕ) (name : CharName) (le : at ≤ length 
         let out : range_contains r name ≡ false =
         false_from_ne_true (range_contains r name) (λ e. h (in-range_contains r name e)) in
         step ∙ ap (λ (xs : List Range). take at ranges ++ xs)
-        (cond-false (is_ahead r (of_name name)) _ _ not_ahead ∙ cond-false (touches r (of_name name)) _ _
+        (cond-false (comes_before r (of_name name)) _ _ not_earlier ∙ cond-false (touches r (of_name name)) _ _
         (touches_false r (of_name name) t) ∙ cond-false (range_contains r name) _ _ out
         ∙ ap (with_first (of_name name)) (sym split))

@@ -30,14 +30,14 @@ IsRange r = (0 < r.site) × (r.site < 2 ^ 16) × (0 < r.len) × (r.at + r.len �
 abbrev pub IsFileName : CharName → Type 0
 IsFileName name = (0 < name.site) × (name.site < 2 ^ 16) × (name.off < MAX_FILE)
 
--- r stands ahead of s, and doesn't touch it
-abbrev pub IsAhead : Range → Range → Type 0
-IsAhead r s = (r.site < s.site) ⊎ ((r.site ≡ s.site) × (r.at + r.len < s.at))
+-- r stands before s, and doesn't touch it
+abbrev pub IsBefore : Range → Range → Type 0
+IsBefore r s = (r.site < s.site) ⊎ ((r.site ≡ s.site) × (r.at + r.len < s.at))
 
 -- the maximal ranges of a set, rising
 pub record IsSet (names : List Range) : Type 0 where
   pub ranges : All IsRange names
-  pub rising : AllPairs IsAhead names
+  pub rising : AllPairs IsBefore names
 
 -- what a message may name: 1 to 1,024 ranges
 pub record IsNamed (names : List Range) : Type 0 where
@@ -45,9 +45,9 @@ pub record IsNamed (names : List Range) : Type 0 where
   pub some : 0 < length names
   pub few : length names ≤ MAX_RANGES
 
--- the ranges below at stand ahead of r, the others don't
+-- the ranges below at stand before r, the others don't
 abbrev pub IsInsertionPoint : List Range → ℕ → Range → Type 0
-IsInsertionPoint ranges at r = IsPartitionPoint (λ s. IsAhead s r) (λ s. ¬ IsAhead s r) ranges at
+IsInsertionPoint ranges at r = IsPartitionPoint (λ s. IsBefore s r) (λ s. ¬ IsBefore s r) ranges at
 
 -- the name alone
 abbrev pub of_name : CharName → Range
@@ -61,9 +61,9 @@ names_of r = map (λ off. record { site = r.site; off = off }) (range_with_len r
 abbrev pub names_in : List Range → List CharName
 names_in ranges = flat_map names_of ranges
 
--- whether r stands ahead of s, and doesn't touch it
-abbrev pub is_ahead : Range → Range → Bool
-is_ahead r s = nat_lt r.site s.site || (r.site == s.site && nat_lt (r.at + r.len) s.at)
+-- whether r stands before s, and doesn't touch it
+abbrev pub comes_before : Range → Range → Bool
+comes_before r s = nat_lt r.site s.site || (r.site == s.site && nat_lt (r.at + r.len) s.at)
 
 -- whether s goes on where r ends
 abbrev pub touches : Range → Range → Bool
@@ -73,12 +73,12 @@ touches r s = r.site == s.site && r.at + r.len == s.at
 abbrev pub range_contains : Range → CharName → Bool
 range_contains r name = name.site == r.site && nat_le r.at name.off && nat_lt name.off (r.at + r.len)
 
--- the ranges with r ahead of them, in one with the first of them where they touch
+-- the ranges with r before them, in one with the first of them where they touch
 abbrev pub with_first : Range → List Range → List Range
 with_first r [] = r ∷ []
 with_first r (s ∷ ranges) = if touches r s then record r { len = r.len + s.len } ∷ ranges else r ∷ s ∷ ranges
 
--- the same ahead of the ranges from at on
+-- the same before the ranges from at on
 abbrev pub with_range_at : List Range → ℕ → Range → List Range
 with_range_at ranges at r = take at ranges ++ with_first r (drop at ranges)
 
@@ -90,7 +90,7 @@ with_other_at ranges at r = take at ranges ++ with_first r (drop (at + 1) ranges
 abbrev pub with_name : List Range → CharName → List Range
 with_name [] name = of_name name ∷ []
 with_name (r ∷ ranges) name =
-    if is_ahead r (of_name name) then r ∷ with_name ranges name
+    if comes_before r (of_name name) then r ∷ with_name ranges name
     else (if touches r (of_name name) then with_first (record r { len = r.len + 1 }) ranges
     else (if range_contains r name then r ∷ ranges else with_first (of_name name) (r ∷ ranges)))
 

@@ -1,5 +1,5 @@
 -- Reading from left to right. Each function gives the value that the front of the bytes spells, and the bytes
--- behind it.
+-- after it.
 use Rattle.std.specs.Prelude.{◌≡◌, ℕ, ℤ, zero, suc, ◌+◌, ◌-◌, ◌/◌, ◌%◌, ◌^◌, ◌⊎◌, Bool, true, nat_lt}
 use Rattle.std.specs.Prelude.{nat_le, ◌==◌, ◌&&◌, ◌||◌, not, if◌then◌else◌, List, [], ◌∷◌, ◌++◌, length}
 use Rattle.std.specs.Prelude.{take, drop, slice_index, Option, Some, None, IsSome, Result, Ok}
@@ -23,7 +23,7 @@ use Rattle.char_files.specs.declared.TheConstants.{MAX_FILE}
 use Rattle.operations.specs.declared.kind.TheConstants.{MAX_INSERT}
 use Rattle.operations.specs.declared.name_set.TheConstants.{MAX_RANGES}
 use Rattle.operations.specs.declared.op.TheConstants.{MAX_STAMP}
-use Rattle.operations.specs.NameSet.{Range, is_ahead}
+use Rattle.operations.specs.NameSet.{Range, comes_before}
 use Rattle.operations.specs.Operation.{OpKind, insert, delete, restore, change_looks, Operation}
 use Rattle.operations.specs.Spelling.{HasSpelling, version_byte, looks_spelling, spelling}
 
@@ -38,7 +38,7 @@ is_font_name bytes =
     nat_lt 0 (length bytes) && nat_le (length bytes) MAX_FONT_NAME
     && is_ascii_alphabetic (slice_index bytes 0) && list_all is_font_byte bytes
 
--- a font's name behind its length
+-- a font's name after its length
 unfoldable pub font_at : List ℕ → Option (List ℕ × List ℕ)
 font_at bytes = do
   len ← byte_at bytes
@@ -117,24 +117,24 @@ range_at bytes = do
   if nat_lt MAX_FILE (at.0 + len.0) then None
       else Some (record { site = site.0; at = at.0; len = len.0 }, len.1)
 
--- the range stands behind the last one, if there is one, and doesn't touch it
-abbrev pub is_behind : Option Range → Range → Bool
-is_behind None r = true
-is_behind (Some last) r = is_ahead last r
+-- the range stands after the last one, if there is one, and doesn't touch it
+abbrev pub is_after : Option Range → Range → Bool
+is_after None r = true
+is_after (Some last) r = comes_before last r
 
--- so many ranges, each behind the one before
+-- so many ranges, each after the one before
 unfoldable pub ranges_at : Option Range → ℕ → List ℕ → Option (List Range × List ℕ)
 ranges_at last zero bytes = Some ([], bytes)
 ranges_at last (suc n) bytes = do
   first ← range_at bytes
-  others ← if is_behind last first.0 then ranges_at (Some first.0) n first.1 else None
+  others ← if is_after last first.0 then ranges_at (Some first.0) n first.1 else None
   Some (first.0 ∷ others.0, others.1)
 
 -- so many ranges; none where the bytes don't begin with so many
 abbrev pub ranges_in : ℕ → List ℕ → List Range
 ranges_in count bytes = option_map_or (λ x. x.0) (ranges_at None count bytes) []
 
--- a set of names: 1 to 1,024 ranges behind their count
+-- a set of names: 1 to 1,024 ranges after their count
 unfoldable pub set_at : List ℕ → Option (List Range × List ℕ)
 set_at bytes = do
   count ← positive_at w16 bytes
@@ -147,7 +147,7 @@ is_cause site at (At name) =
     nat_lt 0 name.site && nat_lt name.site (2 ^ 16) && nat_lt name.off MAX_FILE
     && (not (name.site == site) || nat_lt name.off at)
 
--- 1 to 4,096 bytes behind at others, within the site's file
+-- 1 to 4,096 bytes after at others, within the site's file
 abbrev pub fits_in_file : ℕ → ℕ → Bool
 fits_in_file at len = nat_lt 0 len && nat_le len MAX_INSERT && nat_le (at + len) MAX_FILE
 

@@ -16,7 +16,7 @@ use Rattle.operations.specs.declared.op.TheConstants.{MAX_STAMP}
 use Rattle.operations.specs.NameSet.{Range, IsNamed}
 use Rattle.operations.specs.Operation.{OpKind, insert, delete, restore, change_looks, Operation}
 
--- a font's name behind its length
+-- a font's name after its length
 abbrev pub font_spelling : List ℕ → List ℕ
 font_spelling font = length font ∷ font
 

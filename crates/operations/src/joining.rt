@@ -15,7 +15,7 @@ fn sort(ranges: &mut Vec<NameRange>)
     ranges.sort_unstable_by_key(|range| (range.site().get(), range.at()));
 }
 
-// Puts a range behind the kept ones, in one with the last of them where that reaches it, and tells how many
+// Puts a range after the kept ones, in one with the last of them where that reaches it, and tells how many
 // are kept then.
 fn keep(ranges: &mut Vec<NameRange>, kept: usize, range: NameRange) -> usize
     requires within { kept < length ranges.old.items }

@@ -84,7 +84,7 @@ pub(crate) fn is_cause(site: SiteNo, at: u32, cause: Anchor) -> bool
     }
 }
 
-// Whether this many bytes make an Insert, behind `at` bytes of its site's file.
+// Whether this many bytes make an Insert, after `at` bytes of its site's file.
 pub(crate) fn fits_in_file(at: u32, len: usize) -> bool
     ensures { IsTrue result ↔ ((0 < len) × (len ≤ MAX_INSERT) × (at + len ≤ MAX_FILE)) }
 {
@@ -95,7 +95,7 @@ pub(crate) fn fits_in_file(at: u32, len: usize) -> bool
 fn is_insert(site: SiteNo, cause: Anchor, at: u32, looks: &Looks, bytes: &[u8]) -> bool
     ensures { IsTrue result ↔ IsInsert site cause at looks.now bytes.now }
 {
-    looks.are_in_range();
+    looks.lemma_are_in_range();
     fits_in_file(at, bytes.len()) && is_cause(site, at, cause)
 }
 
@@ -120,7 +120,7 @@ fn is_plain_elsewhere(sel: Sel, looks: &Looks) -> bool
 fn is_change(sel: Sel, looks: &Looks, names: &NameSet) -> bool
     ensures { IsTrue result ↔ IsChange sel looks.now names.now }
 {
-    looks.are_in_range();
+    looks.lemma_are_in_range();
     let _ = sel.bits();
     is_named(names) && is_plain_elsewhere(sel, looks)
 }

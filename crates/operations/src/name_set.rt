@@ -3,7 +3,7 @@ ghost use Rattle.std.specs.Prelude.{OnOk, OnErr, IsTrue, IsErrOf};
 ghost use Rattle.std.specs.Option.{option_map_or};
 ghost use Rattle.looks.specs.Refusal.{RefusedForMemoryAlone};
 ghost use Rattle.char_files.specs.CharName.{CharName};
-ghost use Rattle.operations.specs.NameSet.{IsIn, IsAmong, IsRange, IsAhead, IsSet, IsInsertionPoint};
+ghost use Rattle.operations.specs.NameSet.{IsIn, IsAmong, IsRange, IsBefore, IsSet, IsInsertionPoint};
 ghost use Rattle.operations.specs.NameSet.{of_name, names_of, names_in, set_of, with_range_at, with_other_at};
 ghost use Rattle.operations.specs.NameSet.{with_name};
 
@@ -71,7 +71,7 @@ impl NameRange {
         self.len
     }
 
-    // The offset behind the last name.
+    // The offset after the last name.
     fn end(self) -> u32
         ensures { result ≡ self.at + self.len }
     {
@@ -107,9 +107,9 @@ impl NameRange {
         name.site().get() == self.site.get() && self.at <= name.off() && name.off() < self.end()
     }
 
-    // Whether the range stands ahead of the other, and doesn't touch it.
-    pub(crate) fn is_ahead(self, other: NameRange) -> bool
-        ensures { IsTrue result ↔ IsAhead self other }
+    // Whether the range stands before the other, and doesn't touch it.
+    pub(crate) fn comes_before(self, other: NameRange) -> bool
+        ensures { IsTrue result ↔ IsBefore self other }
     {
         let (site, next) = (self.site.get(), other.site.get());
         site < next || (site == next && self.end() < other.at)
@@ -122,7 +122,7 @@ impl NameRange {
         self.site.get() == other.site.get() && self.end() == other.at
     }
 
-    // Whether the other, of the same site, starts where this one ends, or ahead of that.
+    // Whether the other, of the same site, starts where this one ends, or before that.
     pub(crate) fn reaches(self, other: NameRange) -> bool
         ensures { IsTrue result ↔ ((self.site ≡ other.site) × (other.at ≤ self.at + self.len)) }
     {
@@ -166,16 +166,16 @@ impl NameRange {
     }
 }
 
-// How many ranges stand ahead of this one, and don't touch it.
+// How many ranges stand before this one, and don't touch it.
 fn insertion_point(ranges: &[NameRange], range: NameRange) -> usize
     requires { IsSet ranges.now }
     ensures within { result ≤ length ranges.now }
     ensures point { IsInsertionPoint ranges.now result range }
 {
-    ranges.partition_point(|other| other.is_ahead(range))
+    ranges.partition_point(|other| other.comes_before(range))
 }
 
-// Puts a range ahead of those from `at` on, in one with the first of them where they touch. An `Err` changes
+// Puts a range before those from `at` on, in one with the first of them where they touch. An `Err` changes
 // nothing.
 fn add(ranges: &mut Vec<NameRange>, at: usize, range: NameRange) -> Result<(), Refusal>
     requires within { at ≤ length ranges.old.items }
@@ -300,7 +300,7 @@ impl NameSet {
     }
 
     /// A law: what `with_name` makes of a set. A proof gets it by calling this, at no cost.
-    pub fn with_name_law(&self, name: Name)
+    pub fn lemma_with_name(&self, name: Name)
         ensures set { IsSet (with_name self.now name) }
         ensures names { (other : CharName) →
             IsAmong (with_name self.now name) other ↔ (IsAmong self.now other ⊎ (other ≡ name)) }

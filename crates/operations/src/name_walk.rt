@@ -16,7 +16,7 @@ use std::marker::Model;
 pub struct NameWalk<'a> {
     // What is left of the range at hand.
     range: Option<NameRange>,
-    // The ranges behind it.
+    // The ranges after it.
     ranges: &'a [NameRange],
 }
 
@@ -42,8 +42,8 @@ impl<'a> Iterator for NameWalk<'a> {
         let range = match self.range {
             Some(range) => range,
             None => {
-                let (first, behind) = self.ranges.split_first()?;
-                self.ranges = behind;
+                let (first, after) = self.ranges.split_first()?;
+                self.ranges = after;
                 *first
             }
         };
@@ -59,7 +59,7 @@ pub fn named(op: &Op) -> NameWalk<'_>
     ensures all { (name : CharName) → Contains result name ↔ Mentions op.now name }
     ensures once { AllPairs (λ a b. a ≢ b) result }
 {
-    op.has_spelling();
+    op.lemma_has_spelling();
     match op.kind() {
         Kind::Insert { cause, .. } => NameWalk {
             range: match *cause {

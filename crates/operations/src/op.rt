@@ -141,7 +141,7 @@ impl Op {
     }
 
     /// A law: an operation has a spelling. A proof gets it by calling this, at no cost.
-    pub fn has_spelling(&self)
+    pub fn lemma_has_spelling(&self)
         ensures { HasSpelling self.now }
     {
         let _ = &self.kind;

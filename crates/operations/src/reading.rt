@@ -136,7 +136,7 @@ fn parts_at(kind: u8, site: SiteNo, bytes: &[u8]) -> Option<(Parts<'_>, &[u8])>
     }
 }
 
-// The number of the kind, behind what tells a message and the kind's version.
+// The number of the kind, after what tells a message and the kind's version.
 fn tag_at(bytes: &[u8]) -> Option<(u8, &[u8])>
     ensures { Finds (λ x. (x.0, x.1.now)) result (tag_at bytes.now) }
 {
@@ -294,7 +294,7 @@ pub fn read_looks(bytes: &[u8]) -> Option<(Looks, usize)>
 
 /// A law: no two operations share a spelling, and no spelling begins another one; and the same of looks. A
 /// proof gets it by calling this, at no cost.
-pub fn one_spelling()
+pub fn lemma_one_spelling()
     ensures prefix { NoneBeginsAnother }
     ensures one { NoneIsShared }
     ensures looks { LooksAreTold }

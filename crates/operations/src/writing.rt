@@ -90,7 +90,7 @@ fn put_anchor(out: &mut Vec<u8>, anchor: Anchor) -> Result<(), AllocError>
     }
 }
 
-// What an Insert has behind the fields that every message has.
+// What an Insert has after the fields that every message has.
 fn put_insert(
     out: &mut Vec<u8>,
     cause: Anchor,
@@ -109,7 +109,7 @@ fn put_insert(
     out.extend_from_slice(bytes)
 }
 
-// What a ChangeLooks has behind the fields that every message has.
+// What a ChangeLooks has after the fields that every message has.
 fn put_change(out: &mut Vec<u8>, sel: Sel, looks: &Looks, names: &NameSet) -> Result<(), AllocError>
     ensures { Appends result out.old.items out.new.items
         (kind_spelling (change_looks sel looks.now names.now)) }
@@ -205,7 +205,7 @@ pub fn encode(op: &Op, out: &mut Vec<u8>) -> Result<(), Refusal>
     ensures errors { RefusedForMemoryAlone result }
     ensures err { OnErr result (out.new.items ≡ out.old.items) }
 {
-    op.has_spelling();
+    op.lemma_has_spelling();
     let start = out.len();
     let put = put_op(out, op);
     all_or_nothing(put, out, start)

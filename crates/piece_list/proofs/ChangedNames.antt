@@ -7,7 +7,7 @@ use Rattle.std.proofs.lemmas.Bool.{cases_lt}
 use Rattle.std.proofs.lemmas.List.{get_or-take, get_or_default, length-take}
 use Rattle.std.proofs.lemmas.List.Folds.{Any-from_list_any, list_any_more}
 use Rattle.char_files.specs.CharName.{CharName}
-use Rattle.operations.specs.NameSet.{Range, IsIn, IsAmong, IsAhead, IsSet, range_contains}
+use Rattle.operations.specs.NameSet.{Range, IsIn, IsAmong, IsBefore, IsSet, range_contains}
 use Rattle.tree_order.specs.Registers.{Atom, if_named}
 use Rattle.piece_list.specs.Changing.{AreHere}
 use Rattle.piece_list.specs.Spelled.{names_of_atoms, HasName}
@@ -164,14 +164,14 @@ module _ (each : Atom → Atom) (keeps : (k : Atom) → (each k).name ≡ k.name
           let few : k < i = omega (arith, length-take i ranges) in
           let there : get_or ranges k x ≡ x = sym (get_or-take i ranges k x few) ∙ at in
           let here : get_or ranges i x ≡ r = get_or_default ranges i x r lt ∙ sym is in
-          let rising : IsAhead x r =
-          subst (IsAhead x) here
-          (subst (λ (s : Range). IsAhead s (get_or ranges i x)) there (set.rising k i x few lt)) in
+          let rising : IsBefore x r =
+          subst (IsBefore x) here
+          (subst (λ (s : Range). IsBefore s (get_or ranges i x)) there (set.rising k i x few lt)) in
           let (s, from, to) = is_contained x c has in
           let (t, later, end) = is_contained r c (sym (one r c) ∙ too) in
           elim rising [
             | inl less ↦ omega arith
-            | inr ahead ↦ omega (arith, ahead.0, ahead.1)
+            | inr before ↦ omega (arith, before.0, before.1)
           ]
 
       joined : (c : CharName) → (named (take i ranges) c || named (r ∷ []) c) ≡ named (take (i + 1) ranges) c

@@ -21,7 +21,7 @@ use Rattle.piece_list.specs.Pieces.{range_of, IsPiece}
 use Rattle.piece_list.specs.Spelled.{spelled, HasName}
 use Rattle.piece_list.specs.Tables.{Tables, tag_at}
 use Rattle.piece_list.proofs.Changes.{of_its_names}
-use Rattle.piece_list.proofs.Cutting.{ahead_others, behind_others, written}
+use Rattle.piece_list.proofs.Cutting.{before_others, after_others, written}
 use Rattle.piece_list.proofs.CutList.{at_cursor, is_piece}
 use Rattle.piece_list.proofs.Edges.{entered_holds, begins_there}
 use Rattle.piece_list.proofs.Found.{some_is, one_value, name_has_place, place_has_name}
@@ -172,16 +172,16 @@ module _ (setting : Setting) (old : Items) (tables : Tables) (tag : ℕ) (p w : 
         let here : AreTags (xs ++ (tag, p) ∷ ys) = subst AreTags is tags in
         let all : All (Entered tables) (xs ++ (tag, p) ∷ ys) =
         subst (All (Entered tables)) is are.entered in
-        let behind : All (Entered tables) ((tag, p) ∷ ys) =
+        let after : All (Entered tables) ((tag, p) ∷ ys) =
         all_right (Entered tables) xs ((tag, p) ∷ ys) all in
-        let own : Entered tables (tag, p) = All-head (Entered tables) (tag, p) ys behind in
+        let own : Entered tables (tag, p) = All-head (Entered tables) (tag, p) ys after in
         ap spelled (parts xs ys is)
         ∙ ap (λ (q : Piece). spelled (xs ++ (tag, q) ∷ ys)) is_w
         ∙ of_its_names (changed_piece setting) (changed_char setting) xs ys tag p (changes_each setting)
         (avoids tables tag p xs own (all_left (Entered tables) xs ((tag, p) ∷ ys) all)
-        (ahead_others xs ys tag p here))
-        (avoids tables tag p ys own (All-tail (Entered tables) (tag, p) ys behind)
-        (behind_others xs ys tag p here))
+        (before_others xs ys tag p here))
+        (avoids tables tag p ys own (All-tail (Entered tables) (tag, p) ys after)
+        (after_others xs ys tag p here))
         ∙ sym (ap (λ (l : Items). map (if_named (range_of p ∷ []) (changed_char setting)) (spelled l)) is)
 
 -- the piece that a step changes, before it and after it

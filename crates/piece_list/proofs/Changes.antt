@@ -83,23 +83,23 @@ module _ (each : Atom → Atom) (r : Range) where
       ∙ ap (λ (ks : List Atom). chars_of m.1 ++ ks) (pieces_stay items (All-tail P m items avoid))
 
 pub of_its_names : ChangeIsOfItsNames
-of_its_names change each ahead behind tag p changes_each avoid_ahead avoid_behind =
+of_its_names change each before after tag p changes_each avoid_before avoid_after =
     let chars : ℕ × Piece → List Atom = λ (m : ℕ × Piece). chars_of m.1 in
     let r : Range = range_of p in
     let f : Atom → Atom = if_named (r ∷ []) each in
-    let a : List Atom = spelled ahead in
-    let c : List Atom = spelled behind in
+    let a : List Atom = spelled before in
+    let c : List Atom = spelled after in
     let is : (range_of (change p) ≡ range_of p) × ((d : CharName)
     → char_of (change p) d ≡ each (char_of p d)) =
     changes_each p in
     let own : map f (chars_of p) ≡ chars_of (change p) =
     chars_change each r p (change p) is.1 (names_of r) (in_range p)
     ∙ ap (λ (s : Range). map (char_of (change p)) (names_of s)) (sym is.0) in
-    let new : map f (spelled (ahead ++ (tag, p) ∷ behind)) ≡ a ++ (chars_of (change p) ++ c) =
-    ap (map f) (flat_map-append chars ahead ((tag, p) ∷ behind))
+    let new : map f (spelled (before ++ (tag, p) ∷ after)) ≡ a ++ (chars_of (change p) ++ c) =
+    ap (map f) (flat_map-append chars before ((tag, p) ∷ after))
     ∙ map-append f a (chars_of p ++ c)
     ∙ ap (λ (ks : List Atom). map f a ++ ks) (map-append f (chars_of p) c)
-    ∙ ap (λ (ks : List Atom). ks ++ (map f (chars_of p) ++ map f c)) (pieces_stay each r ahead avoid_ahead)
+    ∙ ap (λ (ks : List Atom). ks ++ (map f (chars_of p) ++ map f c)) (pieces_stay each r before avoid_before)
     ∙ ap (λ (ks : List Atom). a ++ (ks ++ map f c)) own
-    ∙ ap (λ (ks : List Atom). a ++ (chars_of (change p) ++ ks)) (pieces_stay each r behind avoid_behind) in
-    flat_map-append chars ahead ((tag, change p) ∷ behind) ∙ sym new
+    ∙ ap (λ (ks : List Atom). a ++ (chars_of (change p) ++ ks)) (pieces_stay each r after avoid_after) in
+    flat_map-append chars before ((tag, change p) ∷ after) ∙ sym new

@@ -37,11 +37,11 @@ chars_of-cut p n le =
     ∙ map-append (char_of p) (map name front) (map name rest)
 
 pub cut_spells_the_same : CutSpellsTheSame
-cut_spells_the_same ahead behind tag rest n p le =
+cut_spells_the_same before after tag rest n p le =
     let chars : ℕ × Piece → List Atom = λ (m : ℕ × Piece). chars_of m.1 in
     let front : List Atom = chars_of (front_of n p) in
     let others : List Atom = chars_of (rest_of n p) in
-    flat_map-append chars ahead ((tag, front_of n p) ∷ (rest, rest_of n p) ∷ behind)
-    ∙ ap (λ (ks : List Atom). spelled ahead ++ ks) (sym (append_assoc front others (spelled behind))
-    ∙ ap (λ (ks : List Atom). ks ++ spelled behind) (sym (chars_of-cut p n le)))
-    ∙ sym (flat_map-append chars ahead ((tag, p) ∷ behind))
+    flat_map-append chars before ((tag, front_of n p) ∷ (rest, rest_of n p) ∷ after)
+    ∙ ap (λ (ks : List Atom). spelled before ++ ks) (sym (append_assoc front others (spelled after))
+    ∙ ap (λ (ks : List Atom). ks ++ spelled after) (sym (chars_of-cut p n le)))
+    ∙ sym (flat_map-append chars before ((tag, p) ∷ after))

@@ -66,11 +66,11 @@ at_cursor r items tag room v e (t, at, is) =
     subst (λ (s : ℕ). IsMember items s v) (some_is t tag cursor)
     (subst (λ (l : Items). IsMember l t v) (ap (λ (s : Ring Piece). s.items) e) is)
 
-pub put_behind : (r : Ring Piece) (items new : Items) (tag room u : ℕ) (w front b rest : Piece)
+pub put_after : (r : Ring Piece) (items new : Items) (tag room u : ℕ) (w front b rest : Piece)
     → r ≡ ring items (Some tag) room → w ≡ front → b ≡ rest
     → IsPushed (with_value_at r.cursor w r.items) r.cursor u b new
     → IsPushed (with_value tag front items) (Some tag) u rest new
-put_behind r items new tag room u w front b rest e is_front is_rest put =
+put_after r items new tag room u w front b rest e is_front is_rest put =
     let P : Ring Piece → Piece → Piece → Type 0 = λ (s : Ring Piece) (x y : Piece).
     IsPushed (with_value_at s.cursor x s.items) s.cursor u y new in
     subst (λ (y : Piece). P (ring items (Some tag) room) front y) is_rest
@@ -98,8 +98,8 @@ cut_parts xs ys old new tag n u v are is put =
 pub cut_made : (old new : Items) (tag n u : ℕ) (v : Piece) → AreTags old → IsMember old tag v → n < v.len
     → IsPushed (with_value tag (front_of n v) old) (Some tag) u (rest_of n v) new → IsCut tag n u old new
 cut_made old new tag n u v are (xs, ys, is) within put = record {
-  ahead = xs;
-  behind = ys;
+  before = xs;
+  after = ys;
   piece = v;
   whole = is;
   within = within;
@@ -133,17 +133,17 @@ rest_fits items tables are tag n p rest is within e =
 pub cut_spells : (old new : Items) (tag n u : ℕ) → IsCut tag n u old new → spelled new ≡ spelled old
 cut_spells old new tag n u cut =
     let le : n ≤ cut.piece.len = omega (arith, cut.within) in
-    ap spelled cut.parts ∙ cut_spells_the_same cut.ahead cut.behind tag u n cut.piece le
+    ap spelled cut.parts ∙ cut_spells_the_same cut.before cut.after tag u n cut.piece le
     ∙ sym (ap spelled cut.whole)
 
 -- and makes one piece more
 pub cut_counts : (old new : Items) (tag n u : ℕ) → IsCut tag n u old new → length new ≡ length old + 1
 cut_counts old new tag n u cut =
     let p : Piece = cut.piece in
-    let whole : length old ≡ length cut.ahead + length ((tag, p) ∷ cut.behind) =
-    ap length cut.whole ∙ length-append cut.ahead ((tag, p) ∷ cut.behind) in
-    let parts : length new ≡ length cut.ahead + length ((tag, front_of n p) ∷ (u, rest_of n p) ∷ cut.behind) =
-    ap length cut.parts ∙ length-append cut.ahead ((tag, front_of n p) ∷ (u, rest_of n p) ∷ cut.behind) in
+    let whole : length old ≡ length cut.before + length ((tag, p) ∷ cut.after) =
+    ap length cut.whole ∙ length-append cut.before ((tag, p) ∷ cut.after) in
+    let parts : length new ≡ length cut.before + length ((tag, front_of n p) ∷ (u, rest_of n p) ∷ cut.after) =
+    ap length cut.parts ∙ length-append cut.before ((tag, front_of n p) ∷ (u, rest_of n p) ∷ cut.after) in
     omega arith
 
 -- and the place moves to the rest
@@ -152,12 +152,12 @@ pub cut_place : (old new : Items) (tag n u : ℕ) → AreTags old → IsCut tag 
     → IsPlaceOf new (record { piece = u; within = 0 }) c
 cut_place old new tag n u are cut c (q, held, within, site, off) =
     let p : Piece = cut.piece in
-    let e : q ≡ p = one_value old are tag q p held (cut.ahead, cut.behind, cut.whole) in
+    let e : q ≡ p = one_value old are tag q p held (cut.before, cut.after, cut.whole) in
     let site' : c.site ≡ p.site = site ∙ ap (λ (r : Piece). r.site) e in
     let off' : q.off ≡ p.off = ap (λ (r : Piece). r.off) e in
     let front : ℕ × Piece = (tag, front_of n p) in
     let rest : ℕ × Piece = (u, rest_of n p) in
-    let joined : new ≡ cut.ahead ++ front ∷ [] ++ rest ∷ cut.behind =
-    cut.parts ∙ sym (append_assoc cut.ahead (front ∷ []) (rest ∷ cut.behind)) in
+    let joined : new ≡ cut.before ++ front ∷ [] ++ rest ∷ cut.after =
+    cut.parts ∙ sym (append_assoc cut.before (front ∷ []) (rest ∷ cut.after)) in
     let some : 0 < p.len - n = omega (arith, cut.within) in
-    (rest_of n p, (cut.ahead ++ front ∷ [], cut.behind, joined), some, site', omega arith)
+    (rest_of n p, (cut.before ++ front ∷ [], cut.after, joined), some, site', omega arith)

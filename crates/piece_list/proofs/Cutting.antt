@@ -17,18 +17,18 @@ abbrev Items : Type 0
 Items = List (ℕ × Piece)
 
 -- the other members have other numbers
-pub ahead_others : (xs ys : Items) (tag : ℕ) (p : Piece) → AreTags (xs ++ (tag, p) ∷ ys)
+pub before_others : (xs ys : Items) (tag : ℕ) (p : Piece) → AreTags (xs ++ (tag, p) ∷ ys)
     → All (λ m. m.0 ≢ tag) xs
-ahead_others xs ys tag p are = λ i d lt same.
+before_others xs ys tag p are = λ i d lt same.
     let m : ℕ × Piece = (tag, p) in
     let all : length xs < length (xs ++ m ∷ ys) = omega (arith, length-append xs (m ∷ ys)) in
     apart (xs ++ m ∷ ys) are i (length xs) d lt all
     (ap (λ (n : ℕ × Piece). n.0) (get_or_append_left xs (m ∷ ys) d i lt) ∙ same
     ∙ sym (ap (λ (n : ℕ × Piece). n.0) (get_or-append_seam xs m ys d)))
 
-pub behind_others : (xs ys : Items) (tag : ℕ) (p : Piece) → AreTags (xs ++ (tag, p) ∷ ys)
+pub after_others : (xs ys : Items) (tag : ℕ) (p : Piece) → AreTags (xs ++ (tag, p) ∷ ys)
     → All (λ m. m.0 ≢ tag) ys
-behind_others xs ys tag p are = λ i d lt same.
+after_others xs ys tag p are = λ i d lt same.
     let m : ℕ × Piece = (tag, p) in
     let joined : xs ++ m ∷ [] ++ ys ≡ xs ++ m ∷ ys = append_assoc xs (m ∷ []) ys in
     let len : length (xs ++ m ∷ []) ≡ length xs + 1 = omega (arith, length-append xs (m ∷ [])) in
@@ -55,8 +55,8 @@ pub written : (xs ys : Items) (tag : ℕ) (p w : Piece) → AreTags (xs ++ (tag,
 written xs ys tag p w are =
     let put : ℕ × Piece → ℕ × Piece = λ (m : ℕ × Piece). (m.0, cond (m.0 == tag) w m.1) in
     map-append put xs ((tag, p) ∷ ys)
-    ∙ ap (λ (l : Items). l ++ put (tag, p) ∷ map put ys) (others_stay tag w xs (ahead_others xs ys tag p are))
-    ∙ ap (λ (l : Items). xs ++ put (tag, p) ∷ l) (others_stay tag w ys (behind_others xs ys tag p are))
+    ∙ ap (λ (l : Items). l ++ put (tag, p) ∷ map put ys) (others_stay tag w xs (before_others xs ys tag p are))
+    ∙ ap (λ (l : Items). xs ++ put (tag, p) ∷ l) (others_stay tag w ys (after_others xs ys tag p are))
     ∙ ap (λ (b : Bool). xs ++ (tag, cond b w p) ∷ ys) (eq-eqb tag tag refl)
 
 -- a write puts no piece in, and keeps the numbers
@@ -97,30 +97,30 @@ ends_with (m ∷ n ∷ xs) tag e =
     let (f, q, is) = ends_with (n ∷ xs) tag e in
     (m ∷ f, q, ap (λ (l : Items). m ∷ l) is)
 
--- a member that is put behind another one
+-- a member that is put after another one
 pub pushed : (xs ys : Items) (tag u : ℕ) (w v : Piece) (new : Items) → AreTags (xs ++ (tag, w) ∷ ys)
     → IsPushed (xs ++ (tag, w) ∷ ys) (Some tag) u v new → new ≡ xs ++ (tag, w) ∷ (u, v) ∷ ys
-pushed xs ys tag u w v new are (ahead, behind, old, last, is) =
+pushed xs ys tag u w v new are (before, after, old, last, is) =
     let m : ℕ × Piece = (tag, w) in
     let whole : Items = xs ++ m ∷ ys in
-    let (f, q, ends) = ends_with ahead tag last in
+    let (f, q, ends) = ends_with before tag last in
     let joined : xs ++ m ∷ [] ++ ys ≡ whole = append_assoc xs (m ∷ []) ys in
-    let again : whole ≡ f ++ (tag, q) ∷ behind =
-    old ∙ ap (λ (l : Items). l ++ behind) ends ∙ append_assoc f ((tag, q) ∷ []) behind in
+    let again : whole ≡ f ++ (tag, q) ∷ after =
+    old ∙ ap (λ (l : Items). l ++ after) ends ∙ append_assoc f ((tag, q) ∷ []) after in
     let at_f : get_or whole (length f) m ≡ (tag, q) =
-    ap (λ (l : Items). get_or l (length f) m) again ∙ get_or-append_seam f (tag, q) behind m in
+    ap (λ (l : Items). get_or l (length f) m) again ∙ get_or-append_seam f (tag, q) after m in
     let same : length f ≡ length xs =
     one_index whole are (length f) (length xs) m
-    (omega (arith, ap length again, length-append f ((tag, q) ∷ behind)))
+    (omega (arith, ap length again, length-append f ((tag, q) ∷ after)))
     (omega (arith, length-append xs (m ∷ ys)))
     (ap (λ (n : ℕ × Piece). n.0) at_f ∙ sym (ap (λ (n : ℕ × Piece). n.0) (get_or-append_seam xs m ys m))) in
-    let len : length ahead ≡ length (xs ++ m ∷ []) =
+    let len : length before ≡ length (xs ++ m ∷ []) =
     omega (arith, ap length ends, length-append f ((tag, q) ∷ []), length-append xs (m ∷ [])) in
-    let front : ahead ≡ xs ++ m ∷ [] =
-    sym (take-append_seam ahead behind) ∙ ap (take (length ahead)) (sym old ∙ sym joined)
+    let front : before ≡ xs ++ m ∷ [] =
+    sym (take-append_seam before after) ∙ ap (take (length before)) (sym old ∙ sym joined)
     ∙ ap (λ (k : ℕ). take k (xs ++ m ∷ [] ++ ys)) len ∙ take-append_seam (xs ++ m ∷ []) ys in
-    let back : behind ≡ ys =
-    sym (drop-append_seam ahead behind) ∙ ap (drop (length ahead)) (sym old ∙ sym joined)
+    let back : after ≡ ys =
+    sym (drop-append_seam before after) ∙ ap (drop (length before)) (sym old ∙ sym joined)
     ∙ ap (λ (k : ℕ). drop k (xs ++ m ∷ [] ++ ys)) len ∙ drop-append_seam (xs ++ m ∷ []) ys in
-    is ∙ ap (λ (l : Items). l ++ (u, v) ∷ behind) front ∙ ap (λ (l : Items). xs ++ m ∷ [] ++ (u, v) ∷ l) back
+    is ∙ ap (λ (l : Items). l ++ (u, v) ∷ after) front ∙ ap (λ (l : Items). xs ++ m ∷ [] ++ (u, v) ∷ l) back
     ∙ append_assoc xs (m ∷ []) ((u, v) ∷ ys)

@@ -13,7 +13,7 @@ use Rattle.piece_list.specs.Held.{AreEntered, IsCut}
 use Rattle.piece_list.specs.Pieces.{range_of, front_of, rest_of}
 use Rattle.piece_list.specs.Spelled.{spelled, HasName}
 use Rattle.piece_list.specs.Tables.{Tables, tag_at}
-use Rattle.piece_list.proofs.Cutting.{ahead_others, behind_others}
+use Rattle.piece_list.proofs.Cutting.{before_others, after_others}
 use Rattle.piece_list.proofs.CutList.{is_piece, cut_spells, cut_counts}
 use Rattle.piece_list.proofs.Found.{member_at, one_value, entry_of, some_is, name_has_place}
 use Rattle.piece_list.proofs.Gap.{all_left, all_right}
@@ -77,10 +77,10 @@ edge_there items tables tags are tag p c is entry begins = λ k d lt site from.
       | inr past ↦ past
     ]
 
--- there is one behind each piece
-pub edge_behind : (items : Items) (tables : Tables) → AreTags items → AreEntered items tables → (tag : ℕ)
+-- there is one after each piece
+pub edge_after : (items : Items) (tables : Tables) → AreTags items → AreEntered items tables → (tag : ℕ)
     (p : Piece) → IsMember items tag p → IsEdge p.site (p.off + p.len) items
-edge_behind items tables tags are tag p is = λ k d lt site from.
+edge_after items tables tags are tag p is = λ k d lt site from.
     let m : ℕ × Piece = get_or items k d in
     let some : 0 < p.len = (is_piece items tag p are.pieces is).0 in
     let last : CharName = record { site = p.site; off = p.off + (p.len - 1) } in
@@ -142,15 +142,15 @@ edges_after_cut old new tag n u cut site off edge =
     let front : ℕ × Piece = (tag, front_of n p) in
     let rest : ℕ × Piece = (u, rest_of n p) in
     let within : n < p.len = cut.within in
-    let whole : All E (cut.ahead ++ (tag, p) ∷ cut.behind) = subst (All E) cut.whole edge in
-    let here : All E ((tag, p) ∷ cut.behind) = all_right E cut.ahead ((tag, p) ∷ cut.behind) whole in
-    let own : E (tag, p) = All-head E (tag, p) cut.behind here in
+    let whole : All E (cut.before ++ (tag, p) ∷ cut.after) = subst (All E) cut.whole edge in
+    let here : All E ((tag, p) ∷ cut.after) = all_right E cut.before ((tag, p) ∷ cut.after) whole in
+    let own : E (tag, p) = All-head E (tag, p) cut.after here in
     let is_front : E front = λ s from. let past : p.off + p.len ≤ off = own s from in omega arith in
     let is_rest : E rest = λ s from. let past : p.off + p.len ≤ off = own s (omega arith) in omega arith in
     subst (All E) (sym cut.parts)
-    (All-append E cut.ahead (front ∷ rest ∷ cut.behind) (all_left E cut.ahead ((tag, p) ∷ cut.behind) whole)
-    (All-cons E front (rest ∷ cut.behind) is_front
-    (All-cons E rest cut.behind is_rest (All-tail E (tag, p) cut.behind here))))
+    (All-append E cut.before (front ∷ rest ∷ cut.after) (all_left E cut.before ((tag, p) ∷ cut.after) whole)
+    (All-cons E front (rest ∷ cut.after) is_front
+    (All-cons E rest cut.after is_rest (All-tail E (tag, p) cut.after here))))
 
 -- and makes one: of the other pieces none has the name that the rest begins with
 pub edge_after_cut : (old new : Items) (tables : Tables) → AreTags old → AreEntered old tables → (tag u : ℕ) (p : Piece)
@@ -162,25 +162,25 @@ edge_after_cut old new tables tags are tag u p name site off is_name is held cut
     let q : Piece = cut.piece in
     let front : ℕ × Piece = (tag, front_of (off - p.off) q) in
     let rest : ℕ × Piece = (u, rest_of (off - p.off) q) in
-    let one : q ≡ p = one_value old tags tag q p (cut.ahead, cut.behind, cut.whole) is in
+    let one : q ≡ p = one_value old tags tag q p (cut.before, cut.after, cut.whole) is in
     let first : q.off ≡ p.off = ap (λ (r : Piece). r.off) one in
     let c : CharName = record { site = site; off = off } in
     let (own, from, to) = subst (IsIn (range_of p)) is_name held in
-    let here : AreTags (cut.ahead ++ (tag, q) ∷ cut.behind) = subst AreTags cut.whole tags in
-    let all : All (Holds tables) (cut.ahead ++ (tag, q) ∷ cut.behind) = subst (All (Holds tables)) cut.whole are.entered in
-    let after : All (Holds tables) ((tag, q) ∷ cut.behind) = all_right (Holds tables) cut.ahead ((tag, q) ∷ cut.behind) all in
+    let here : AreTags (cut.before ++ (tag, q) ∷ cut.after) = subst AreTags cut.whole tags in
+    let all : All (Holds tables) (cut.before ++ (tag, q) ∷ cut.after) = subst (All (Holds tables)) cut.whole are.entered in
+    let after : All (Holds tables) ((tag, q) ∷ cut.after) = all_right (Holds tables) cut.before ((tag, q) ∷ cut.after) all in
     let entry : tag_at tables c ≡ Some tag =
-    All-head (Holds tables) (tag, q) cut.behind after c (subst (λ (r : Piece). IsIn (range_of r) c) (sym one) (own, from, to)) in
+    All-head (Holds tables) (tag, q) cut.after after c (subst (λ (r : Piece). IsIn (range_of r) c) (sym one) (own, from, to)) in
     let is_front : E front = λ s lt. omega (arith, first, from) in
     let is_rest : E rest = λ s lt. absurd (omega (arith, first, from, lt)) in
     subst (All E) (sym cut.parts)
-    (All-append E cut.ahead (front ∷ rest ∷ cut.behind)
-    (ends_there tables tag site off cut.ahead entry (all_left (Holds tables) cut.ahead ((tag, q) ∷ cut.behind) all)
-    (ahead_others cut.ahead cut.behind tag q here))
-    (All-cons E front (rest ∷ cut.behind) is_front
-    (All-cons E rest cut.behind is_rest
-    (ends_there tables tag site off cut.behind entry (All-tail (Holds tables) (tag, q) cut.behind after)
-    (behind_others cut.ahead cut.behind tag q here)))))
+    (All-append E cut.before (front ∷ rest ∷ cut.after)
+    (ends_there tables tag site off cut.before entry (all_left (Holds tables) cut.before ((tag, q) ∷ cut.after) all)
+    (before_others cut.before cut.after tag q here))
+    (All-cons E front (rest ∷ cut.after) is_front
+    (All-cons E rest cut.after is_rest
+    (ends_there tables tag site off cut.after entry (All-tail (Holds tables) (tag, q) cut.after after)
+    (after_others cut.before cut.after tag q here)))))
 
 -- what a cut makes of the pieces, and what none makes of them
 pub cut_once : (old new : Items) (tag n u : ℕ) → AreTags old → 0 < n → IsCut tag n u old new → AreCutOnce old new

@@ -15,7 +15,7 @@ use Rattle.piece_list.specs.Spelled.{spelled, HasName}
 use Rattle.piece_list.specs.Tables.{Tables, tag_in, table_of, tag_at}
 use Rattle.piece_list.proofs.Changes.{contained, is_contained}
 use Rattle.piece_list.proofs.Cut.{cut_spells_the_same}
-use Rattle.piece_list.proofs.Cutting.{ahead_others, behind_others}
+use Rattle.piece_list.proofs.Cutting.{before_others, after_others}
 use Rattle.piece_list.proofs.Found.{place_has_name}
 use Rattle.piece_list.proofs.Gap.{all_left, all_right}
 
@@ -55,8 +55,8 @@ new_held (m ∷ xs) ys tag u a b = inr (new_held xs ys tag u a b)
 -- what is entered for a range of one site is entered for its names, and for no others
 module _ (r : Range) (tag : ℕ) (old new : Tables)
     (within : (at : ℕ) → r.at ≤ at → at < r.at + r.len → tag_in (table_of new r.site) at ≡ Some tag)
-    (ahead : (at : ℕ) → at < r.at → tag_in (table_of new r.site) at ≡ tag_in (table_of old r.site) at)
-    (behind : (at : ℕ) → r.at + r.len ≤ at → tag_in (table_of new r.site) at ≡ tag_in
+    (earlier : (at : ℕ) → at < r.at → tag_in (table_of new r.site) at ≡ tag_in (table_of old r.site) at)
+    (later : (at : ℕ) → r.at + r.len ≤ at → tag_in (table_of new r.site) at ≡ tag_in
     (table_of old r.site) at)
     (others : (site : ℕ) → site ≢ r.site → table_of new site ≡ table_of old site) where
   pub filled_inside : (c : CharName) → IsIn r c → tag_at new c ≡ Some tag
@@ -74,10 +74,10 @@ module _ (r : Range) (tag : ℕ) (old new : Tables)
   filled_outside c out =
       elim (cases_eq c.site r.site) [
         | inl site ↦ elim (cases_lt c.off r.at) [
-          | inl before ↦ same_site c site (ahead c.off before)
+          | inl before ↦ same_site c site (earlier c.off before)
           | inr from ↦ elim (cases_lt c.off (r.at + r.len)) [
             | inl to ↦ absurd (out (site, from, to))
-            | inr after ↦ same_site c site (behind c.off after)
+            | inr after ↦ same_site c site (later c.off after)
           ]
         ]
         | inr other ↦ ap (λ (t : List (Option ℕ)). tag_in t c.off) (others c.site other)
@@ -169,11 +169,11 @@ module _ (xs ys : Items) (tag u n : ℕ) (p : Piece) (old new : Tables)
               (All-cons Is (u, rest_of n p) ys (omega arith, omega (arith, whole.1), omega (arith, whole.2), whole.3)
               (All-tail Is (tag, p) ys here)));
           entered = All-append (Entered new) xs ((tag, front_of n p) ∷ (u, rest_of n p) ∷ ys)
-              (all_stay xs (ahead_others xs ys tag p tags) (all_left (Entered old) xs
+              (all_stay xs (before_others xs ys tag p tags) (all_left (Entered old) xs
               ((tag, p) ∷ ys) are.entered))
               (All-cons (Entered new) (tag, front_of n p) ((u, rest_of n p) ∷ ys) front_entered
               (All-cons (Entered new) (u, rest_of n p) ys rest_entered
-              (all_stay ys (behind_others xs ys tag p tags) after)));
+              (all_stay ys (after_others xs ys tag p tags) after)));
           held = held_after;
           known = spelled_after;
         }

@@ -78,12 +78,12 @@ pub place_has_name : (items : List (ℕ × Piece)) (place : Place) (c : CharName
 place_has_name items place c (p, (xs, ys, is), within, site, off) =
     let own : List CharName = names_of (range_of p) in
     let rest : List CharName = names_of_atoms (spelled ys) in
-    let ahead : List CharName = names_of_atoms (spelled xs) in
+    let before : List CharName = names_of_atoms (spelled xs) in
     let held : Contains own c = names_have (range_of p) c (site, omega arith, omega arith) in
-    let names : ahead ++ (own ++ rest) ≡ names_of_atoms (spelled items) =
+    let names : before ++ (own ++ rest) ≡ names_of_atoms (spelled items) =
     sym (ap (λ (l : List (ℕ × Piece)). names_of_atoms (spelled l)) is ∙ names_around xs ys place.piece p) in
     subst (λ (cs : List CharName). Contains cs c) names
-    (Contains-append_right ahead (own ++ rest) c (Contains-append_left own rest c held))
+    (Contains-append_right before (own ++ rest) c (Contains-append_left own rest c held))
 
 -- and each name that is spelled has a place
 pub name_has_place : (items : List (ℕ × Piece)) (c : CharName) → HasName (spelled items) c

@@ -1,4 +1,4 @@
--- A piece put behind its cause and the pieces of greater key goes where the insertion law puts its run.
+-- A piece put after its cause and the pieces of greater key goes where the insertion law puts its run.
 use Rattle.std.proofs.Common.{◌≡◌, ℕ, suc, ◌+◌, ◌-◌, ◌<◌, true, false, List, [], ◌∷◌, ◌++◌, Some, length}
 use Rattle.std.proofs.Common.{get_or, take, drop, map, All, refl, sym, ap, subst, ◌∙◌, arith, append_assoc}
 use Rattle.std.specs.List.{range_with_len}
@@ -16,7 +16,7 @@ use Rattle.char_files.specs.CharName.{CharName}
 use Rattle.char_files.specs.declared.name.Anchor.{Anchor}
 use Rattle.char_files.specs.declared.name.Anchor.TheVariants.{Root, At}
 use Rattle.operations.specs.NameSet.{names_of}
-use Rattle.tree_order.specs.Insertion.{IsJustBehind}
+use Rattle.tree_order.specs.Insertion.{IsJustAfter}
 use Rattle.tree_order.specs.AtomInsertion.{IsLongest}
 use Rattle.tree_order.specs.Registers.{Atom}
 use Rattle.piece_list.specs.declared.piece.Piece.{Piece}
@@ -52,12 +52,12 @@ pub names_around : (front more : List (ℕ × Piece)) (tag : ℕ) (p : Piece)
     → names_of_atoms (spelled (front ++ (tag, p) ∷ more))
     ≡ names_of_atoms (spelled front) ++ (names_of (range_of p) ++ names_of_atoms (spelled more))
 names_around front more tag p =
-    let ahead : List CharName = names_of_atoms (spelled front) in
-    let behind : List CharName = names_of_atoms (spelled more) in
+    let earlier : List CharName = names_of_atoms (spelled front) in
+    let later : List CharName = names_of_atoms (spelled more) in
     ap names_of_atoms (flat_map-append chars front ((tag, p) ∷ more))
     ∙ map-append name_only (spelled front) (chars_of p ++ spelled more)
-    ∙ ap (λ (cs : List CharName). ahead ++ cs) (map-append name_only (chars_of p) (spelled more)
-    ∙ ap (λ (cs : List CharName). cs ++ behind) (names_of_chars p (names_of (range_of p))))
+    ∙ ap (λ (cs : List CharName). earlier ++ cs) (map-append name_only (chars_of p) (spelled more)
+    ∙ ap (λ (cs : List CharName). cs ++ later) (names_of_chars p (names_of (range_of p))))
 
 -- pieces of greater key have characters of greater key
 piece_above : (key : Key) (p : Piece) (cs : List CharName) → is_below key p.key ≡ true
@@ -92,7 +92,7 @@ not_above key (m ∷ items) pieces stops d some =
     let is : IsPiece m.1 = All-head (λ (n : ℕ × Piece). IsPiece n.1) m items pieces in
     ap (is_below key) (begins m.1 is.0 (spelled items) d) ∙ stops
 
--- b is the longest stretch of greater key behind a
+-- b is the longest stretch of greater key after a
 longest_stretch : (key : Key) (a b c : List Atom) → All (Above key) b
     → ((d : Atom) → 0 < length c → is_below key (get_or c 0 d).key ≡ false)
     → IsLongest key (a ++ b ++ c) (length a) (length b)
@@ -130,22 +130,22 @@ last_name p c some site off d =
     get_or-map-range_with_len (name p.site) p.off p.len (p.len - 1) c.off d (omega arith) at
     ∙ ap (λ (s : ℕ). name s c.off) (sym site)
 
--- the characters of the pieces up to the cause end behind it
-behind_last : (front more : List (ℕ × Piece)) (tag : ℕ) (p : Piece) (c : CharName) → 0 < p.len
+-- the characters of the pieces up to the cause end after it
+after_last : (front more : List (ℕ × Piece)) (tag : ℕ) (p : Piece) (c : CharName) → 0 < p.len
     → c.site ≡ p.site → c.off + 1 ≡ p.off + p.len
-    → IsJustBehind (names_of_atoms (spelled (front ++ (tag, p) ∷ more))) (At c)
+    → IsJustAfter (names_of_atoms (spelled (front ++ (tag, p) ∷ more))) (At c)
     (length (spelled (front ++ (tag, p) ∷ [])))
-behind_last front more tag p c some site off =
-    let ahead : List CharName = names_of_atoms (spelled front) in
+after_last front more tag p c some site off =
+    let earlier : List CharName = names_of_atoms (spelled front) in
     let own : List CharName = names_of (range_of p) in
-    let k : ℕ = length ahead + (p.len - 1) in
+    let k : ℕ = length earlier + (p.len - 1) in
     let all : List CharName = names_of_atoms (spelled (front ++ (tag, p) ∷ more)) in
     let len : length own ≡ p.len =
     length-map-range_with_len (λ (o : ℕ). record { site = p.site; off = o }) p.off p.len in
     let count : (xs : List (ℕ × Piece)) → length (names_of_atoms (spelled (front ++ (tag, p) ∷ xs)))
-    ≡ length ahead + (length own + length (names_of_atoms (spelled xs))) =
-    λ xs. ap length (names_around front xs tag p) ∙ length-append ahead (own ++ names_of_atoms (spelled xs))
-    ∙ ap (λ (n : ℕ). length ahead + n) (length-append own (names_of_atoms (spelled xs))) in
+    ≡ length earlier + (length own + length (names_of_atoms (spelled xs))) =
+    λ xs. ap length (names_around front xs tag p) ∙ length-append earlier (own ++ names_of_atoms (spelled xs))
+    ∙ ap (λ (n : ℕ). length earlier + n) (length-append own (names_of_atoms (spelled xs))) in
     let same : length (names_of_atoms (spelled (front ++ (tag, p) ∷ [])))
     ≡ length (spelled (front ++ (tag, p) ∷ [])) =
     length-map (spelled (front ++ (tag, p) ∷ [])) name_only in
@@ -153,52 +153,52 @@ behind_last front more tag p c some site off =
     let inside : k < length all = omega (arith, count more) in
     let at : get_or all k c ≡ c =
     ap (λ (xs : List CharName). get_or xs k c) (names_around front more tag p)
-    ∙ get_or-append-add ahead (own ++ names_of_atoms (spelled more)) (p.len - 1) c
+    ∙ get_or-append-add earlier (own ++ names_of_atoms (spelled more)) (p.len - 1) c
     ∙ get_or_append_left own (names_of_atoms (spelled more)) c (p.len - 1) (omega arith)
     ∙ last_name p c some site off c in
     (k, slice_get-get_or all k c inside ∙ ap Some at, omega (arith, count []))
 
-is_behind : (ahead more : List (ℕ × Piece)) (cause : Anchor) → ArePieces ahead → EndAt ahead cause
-    → IsJustBehind (names_of_atoms (spelled (ahead ++ more))) cause (length (spelled ahead))
-is_behind ahead more Root pieces none = ap (λ (xs : List (ℕ × Piece)). length (spelled xs)) none
-is_behind ahead more (At c) pieces (front, tag, p, is, site, off) =
+is_after : (earlier more : List (ℕ × Piece)) (cause : Anchor) → ArePieces earlier → EndAt earlier cause
+    → IsJustAfter (names_of_atoms (spelled (earlier ++ more))) cause (length (spelled earlier))
+is_after earlier more Root pieces none = ap (λ (xs : List (ℕ × Piece)). length (spelled xs)) none
+is_after earlier more (At c) pieces (front, tag, p, is, site, off) =
     let some : 0 < p.len = last_some front tag p (subst ArePieces is pieces) in
-    let joined : front ++ (tag, p) ∷ more ≡ ahead ++ more =
+    let joined : front ++ (tag, p) ∷ more ≡ earlier ++ more =
     sym (append_assoc front ((tag, p) ∷ []) more) ∙ ap (λ (xs : List (ℕ × Piece)). xs ++ more) (sym is) in
-    subst (λ (xs : List (ℕ × Piece)). IsJustBehind (names_of_atoms (spelled xs)) (At c) (length
-    (spelled ahead))) joined
-    (subst (λ (xs : List (ℕ × Piece)). IsJustBehind (names_of_atoms (spelled (front ++ (tag, p) ∷ more))) (At c)
-    (length (spelled xs))) (sym is) (behind_last front more tag p c some site off))
+    subst (λ (xs : List (ℕ × Piece)). IsJustAfter (names_of_atoms (spelled xs)) (At c) (length
+    (spelled earlier))) joined
+    (subst (λ (xs : List (ℕ × Piece)). IsJustAfter (names_of_atoms (spelled (front ++ (tag, p) ∷ more))) (At c)
+    (length (spelled xs))) (sym is) (after_last front more tag p c some site off))
 
 pub into_gap : PieceGoesIntoGap
-into_gap ahead skipped behind cause tag p pieces gap =
-    let a : List Atom = spelled ahead in
+into_gap earlier skipped later cause tag p pieces gap =
+    let a : List Atom = spelled earlier in
     let b : List Atom = spelled skipped in
-    let c : List Atom = spelled behind in
-    let whole : List Atom = spelled (ahead ++ skipped ++ behind) in
+    let c : List Atom = spelled later in
+    let whole : List Atom = spelled (earlier ++ skipped ++ later) in
     let n : ℕ = length a + length b in
     let is : ℕ × Piece → Type 0 = λ (m : ℕ × Piece). IsPiece m.1 in
-    let parts : (xs : List (ℕ × Piece)) → spelled (ahead ++ skipped ++ xs) ≡ a ++ b ++ spelled xs =
-    λ xs. flat_map-append chars (ahead ++ skipped) xs
-    ∙ ap (λ (ks : List Atom). ks ++ spelled xs) (flat_map-append chars ahead skipped) in
+    let parts : (xs : List (ℕ × Piece)) → spelled (earlier ++ skipped ++ xs) ≡ a ++ b ++ spelled xs =
+    λ xs. flat_map-append chars (earlier ++ skipped) xs
+    ∙ ap (λ (ks : List Atom). ks ++ spelled xs) (flat_map-append chars earlier skipped) in
     let len : n ≡ length (a ++ b) = sym (length-append a b) in
     let front : take n whole ≡ a ++ b =
-    ap (λ (i : ℕ). take i whole) len ∙ ap (take (length (a ++ b))) (parts behind)
+    ap (λ (i : ℕ). take i whole) len ∙ ap (take (length (a ++ b))) (parts later)
     ∙ take-append_seam (a ++ b) c in
     let back : drop n whole ≡ c =
-    ap (λ (i : ℕ). drop i whole) len ∙ ap (drop (length (a ++ b))) (parts behind)
+    ap (λ (i : ℕ). drop i whole) len ∙ ap (drop (length (a ++ b))) (parts later)
     ∙ drop-append_seam (a ++ b) c in
     record {
       before = length a;
       skipped = length b;
-      behind = subst (λ (xs : List (ℕ × Piece)). IsJustBehind (names_of_atoms (spelled xs)) cause (length a))
-          (sym (append_assoc ahead skipped behind))
-          (is_behind ahead (skipped ++ behind) cause
-          (all_left is ahead skipped (all_left is (ahead ++ skipped) behind pieces)) gap.at_cause);
-      longest = subst (λ (xs : List Atom). IsLongest p.key xs (length a) (length b)) (sym (parts behind))
+      after = subst (λ (xs : List (ℕ × Piece)). IsJustAfter (names_of_atoms (spelled xs)) cause (length a))
+          (sym (append_assoc earlier skipped later))
+          (is_after earlier (skipped ++ later) cause
+          (all_left is earlier skipped (all_left is (earlier ++ skipped) later pieces)) gap.at_cause);
+      longest = subst (λ (xs : List Atom). IsLongest p.key xs (length a) (length b)) (sym (parts later))
           (longest_stretch p.key a b c (pieces_above p.key skipped gap.greater)
-          (not_above p.key behind (all_right is (ahead ++ skipped) behind pieces) gap.stops));
-      placed = parts ((tag, p) ∷ behind) ∙ sym (append_assoc (a ++ b) (chars_of p) c)
+          (not_above p.key later (all_right is (earlier ++ skipped) later pieces) gap.stops));
+      placed = parts ((tag, p) ∷ later) ∙ sym (append_assoc (a ++ b) (chars_of p) c)
           ∙ ap (λ (ks : List Atom). ks ++ chars_of p ++ c) (sym front)
           ∙ ap (λ (ks : List Atom). take n whole ++ chars_of p ++ ks) (sym back);
     }

@@ -31,8 +31,8 @@ module _ (items : Items) (tables : Tables) (are : AreTags items) (entered : AreE
       subst (λ (r : Piece). (place.within < r.len) × (c.site ≡ r.site) × (c.off ≡ r.off + place.within)) one
       (within, site, off)
 
-  pub ends_behind : c.off < p.off + p.len
-  ends_behind = omega (arith, is_inside.0, is_inside.2)
+  pub ends_after : c.off < p.off + p.len
+  ends_after = omega (arith, is_inside.0, is_inside.2)
 
   pub end_fits : p.off + p.len ≤ MAX_FILE
   end_fits =

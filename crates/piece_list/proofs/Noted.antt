@@ -228,14 +228,14 @@ module _ (setting : Setting) (items : Items) (tag : ℕ) (p w : Piece) (are : Ar
   noted_turn index beg old new same member some other rank put =
       let (weight, found) = ranked_piece items index tag beg same rank in
       let one : found.piece ≡ p =
-      one_value items are tag found.piece p (found.front, found.behind, found.whole) member in
-      let is : items ≡ found.front ++ (tag, p) ∷ found.behind =
-      found.whole ∙ ap (λ (q : Piece). found.front ++ (tag, q) ∷ found.behind) one in
+      one_value items are tag found.piece p (found.front, found.after, found.whole) member in
+      let is : items ≡ found.front ++ (tag, p) ∷ found.after =
+      found.whole ∙ ap (λ (q : Piece). found.front ++ (tag, q) ∷ found.after) one in
       subst (λ (l : Items). IsNoted setting (range_of p ∷ []) old new l (with_value tag w items)) (sym is)
-      (subst (λ (l : Items). IsNoted setting (range_of p ∷ []) old new (found.front ++ (tag, p) ∷ found.behind) l)
-      (sym (set_there found.front found.behind is))
-      (noted_one setting found.front found.behind tag beg p w old new range_stays
-      (omega (arith, some, ap (λ (r : Range). r.len) range_stays)) found.ahead_is other put))
+      (subst (λ (l : Items). IsNoted setting (range_of p ∷ []) old new (found.front ++ (tag, p) ∷ found.after) l)
+      (sym (set_there found.front found.after is))
+      (noted_one setting found.front found.after tag beg p w old new range_stays
+      (omega (arith, some, ap (λ (r : Range). r.len) range_stays)) found.before_is other put))
 
   pub noted_still : (names : List Range) (old : List Change) → IsMember items tag p → ShowsTheSame p w
       → IsNoted setting names old old items (with_value tag w items)
@@ -263,7 +263,7 @@ noted_wider setting few more old new was now wider note = record {
   leads = note.leads;
 }
 
--- entries behind others are of their sort in the first list, too
+-- entries after others are of their sort in the first list, too
 sort_from : (setting : Setting) (names : List Range) (was mid : List Appearance) (first then : List Change)
     → All (λ change. IsOf setting names was change) first → Leads SameName first was mid
     → All (λ change. IsOf setting names mid change) then → All (λ change. IsOf setting names was change) then

@@ -30,7 +30,7 @@ chars m = chars_of m.1
 module _ (cause : Anchor) (p : Piece) (old new : Items) (steps : ℕ) (put : IsPutInGap cause p old new steps)
     (some : 0 < p.len) (shown : p.hidden.value ≡ false) where
   abbrev front : Items
-  front = put.ahead ++ put.skipped
+  front = put.before ++ put.skipped
 
   abbrev first : CharName
   first = record { site = p.site; off = p.off }
@@ -39,7 +39,7 @@ module _ (cause : Anchor) (p : Piece) (old new : Items) (steps : ℕ) (put : IsP
   at : (d : CharName) → get_or (names_of_atoms (spelled new)) (length (spelled front) + 0) d ≡ first
   at d =
       ap (λ (l : Items). get_or (names_of_atoms (spelled l)) (length (spelled front) + 0) d) put.put
-      ∙ name_at front put.behind put.tag p first 0 some refl (omega arith) d
+      ∙ name_at front put.after put.tag p first 0 some refl (omega arith) d
 
   within : length (spelled front) + 0 < length (names_of_atoms (spelled new))
   within =
@@ -47,9 +47,9 @@ module _ (cause : Anchor) (p : Piece) (old new : Items) (steps : ℕ) (put : IsP
         arith,
         length-map (spelled new) name_only,
         ap (λ (l : Items). length (spelled l)) put.put,
-        ap length (flat_map-append chars front ((put.tag, p) ∷ put.behind)),
-        length-append (spelled front) (spelled ((put.tag, p) ∷ put.behind)),
-        length-append (chars_of p) (spelled put.behind),
+        ap length (flat_map-append chars front ((put.tag, p) ∷ put.after)),
+        length-append (spelled front) (spelled ((put.tag, p) ∷ put.after)),
+        length-append (chars_of p) (spelled put.after),
         count_chars p,
       )
 
@@ -64,7 +64,7 @@ module _ (cause : Anchor) (p : Piece) (old new : Items) (steps : ℕ) (put : IsP
       slice_get-get_or (names_of_atoms (spelled new)) k first within ∙ ap (λ (c : CharName). Some c) (at first) in
       count k found
       ∙ ap (λ (l : Items). length (shown_chars (take (k + 1) (spelled l)))) put.put
-      ∙ ap (λ (ks : List Atom). length (shown_chars ks)) (up_to front put.behind put.tag p 0 some)
+      ∙ ap (λ (ks : List Atom). length (shown_chars ks)) (up_to front put.after put.tag p 0 some)
       ∙ count_more front (put.tag, record p { len = 0 + 1 })
       ∙ omega (arith, ap (λ b. cond b 0 (0 + 1)) shown)
 
@@ -75,16 +75,16 @@ module _ (cause : Anchor) (p : Piece) (old new : Items) (steps : ℕ) (put : IsP
         arith,
         count_to_first n count,
         ap shown_in put.put,
-        count_both front ((put.tag, p) ∷ put.behind),
-        count_cons (put.tag, p) put.behind,
+        count_both front ((put.tag, p) ∷ put.after),
+        count_cons (put.tag, p) put.after,
         ap (λ b. cond b 0 p.len) shown,
       )
 
-  was : appearances old ≡ appearances front ++ ([] ++ appearances put.behind)
+  was : appearances old ≡ appearances front ++ ([] ++ appearances put.after)
   was =
       ap (λ (ks : List Atom). map appearance_of (shown_chars ks)) (sym put.spells)
-      ∙ ap (map appearance_of) (shown_both front put.behind)
-      ∙ map-append appearance_of (shown_chars (spelled front)) (shown_chars (spelled put.behind))
+      ∙ ap (map appearance_of) (shown_both front put.after)
+      ∙ map-append appearance_of (shown_chars (spelled front)) (shown_chars (spelled put.after))
 
   run_noted : (n : ℕ) (note note' : List Change) → AreShownTo (spelled new) first n
       → note' ≡ note ++ record { kind = Insert; beg = n - 1; end = n - 1 + p.len } ∷ []
@@ -95,9 +95,9 @@ module _ (cause : Anchor) (p : Piece) (old new : Items) (steps : ℕ) (put : IsP
         front = appearances front;
         gone = [];
         come = told_by p;
-        back = appearances put.behind;
+        back = appearances put.after;
         before = was;
-        after = ap appearances put.put ∙ parts front put.behind put.tag p;
+        after = ap appearances put.put ∙ parts front put.after put.tag p;
         at = length-map (shown_chars (spelled front)) appearance_of ∙ omega (arith, count_to_first n count);
         trades = (refl, omega (arith, count_tells p shown));
       } in

@@ -8,14 +8,14 @@ use Rattle.operations.specs.Operation.{OpKind, key_of}
 use Rattle.tree_order.specs.Insertion.{run_by}
 use Rattle.tree_order.specs.Looks.{looks_by}
 use Rattle.tree_order.specs.Registers.{Atom, AreAtoms}
-use Rattle.tree_order.proofs.AtomsWithRun.{behind_greater_keys}
+use Rattle.tree_order.proofs.AtomsWithRun.{after_greater_keys}
 use Rattle.piece_list.specs.Pieces.{chars_of, piece_of}
 use Rattle.piece_list.specs.Laws.{PlacedAreAtoms, PieceIsFirstAtoms}
 
 pub are_atoms : PlacedAreAtoms
 are_atoms ops i cause old new one at atoms placed =
     subst (AreAtoms (ops ++ i ∷ [])) (sym placed.placed)
-    (behind_greater_keys ops i cause old placed.before placed.skipped one at atoms placed.behind placed.longest)
+    (after_greater_keys ops i cause old placed.before placed.skipped one at atoms placed.after placed.longest)
 
 -- the atoms that an Insert makes
 abbrev atoms_of : ℕ → Key → OpKind → List Atom

@@ -1,4 +1,4 @@
--- What follows a piece, and how the pieces are parted behind it.
+-- What follows a piece, and how the pieces are parted after it.
 use Rattle.std.proofs.Common.{◌≡◌, ◌≢◌, ℕ, ◌==◌, Bool, true, false, cond, List, [], ◌∷◌, ◌++◌, Option, Some}
 use Rattle.std.proofs.Common.{None, IfSome, length, All, refl, sym, ap, subst, ◌∙◌, append_assoc}
 use Rattle.std.proofs.Common.{ne_eqb, eq-eqb}
@@ -7,17 +7,17 @@ use Rattle.std.proofs.lemmas.List.Elements.{All-head, All-tail}
 use Rattle.piece_raw.specs.Ring.{AreTags, HasTag, tags, last_tag}
 use Rattle.piece_list.specs.declared.piece.Piece.{Piece}
 use Rattle.piece_list.specs.Placing.{IsParted, HasPart}
-use Rattle.piece_list.proofs.Cutting.{ahead_others, ends_with}
+use Rattle.piece_list.proofs.Cutting.{before_others, ends_with}
 
 abbrev Items : Type 0
 Items = List (ℕ × Piece)
 
--- the last number, where c stands ahead of the pieces
+-- the last number, where c stands before the pieces
 abbrev tag_from : Option ℕ → Items → Option ℕ
 tag_from c [] = c
 tag_from c (m ∷ ms) = tag_from (Some m.0) ms
 
-tag_from-last : (ahead : Items) → last_tag ahead ≡ tag_from None ahead
+tag_from-last : (before : Items) → last_tag before ≡ tag_from None before
 tag_from-last [] = refl
 tag_from-last (m ∷ []) = refl
 tag_from-last (m ∷ n ∷ ms) = tag_from-last (n ∷ ms)
@@ -58,12 +58,12 @@ all_apart : (items : Items) → AreTags items → Apart None items
 all_apart items are = apart_of None items (not_none items) are.0
 
 -- the last number isn't one that isn't there
-other : (c a : Option ℕ) (ahead behind : Items) → (a ≡ c → ⊥) → NoTag c (ahead ++ behind)
-    → tag_from a ahead ≡ c → ⊥
-other c a [] behind free frees e = free e
-other c a (m ∷ ahead) behind free (differs, frees) e = other c (Some m.0) ahead behind differs frees e
+other : (c a : Option ℕ) (before after : Items) → (a ≡ c → ⊥) → NoTag c (before ++ after)
+    → tag_from a before ≡ c → ⊥
+other c a [] after free frees e = free e
+other c a (m ∷ before) after free (differs, frees) e = other c (Some m.0) before after differs frees e
 
--- the pieces are parted behind a number in one way
+-- the pieces are parted after a number in one way
 same_parts : (c : Option ℕ) (a b a' b' : Items) → Apart c (a ++ b) → a ++ b ≡ a' ++ b'
     → tag_from c a ≡ tag_from c a' → (a ≡ a') × (b ≡ b')
 same_parts c [] b [] b' apart e s = (refl, e)
@@ -86,52 +86,52 @@ one_part items are c a b a' b' (is, last) (is', last') =
     same_parts None a b a' b' (all_apart (a ++ b) (subst AreTags is are)) (sym is ∙ is')
     (sym (tag_from-last a) ∙ last ∙ sym last' ∙ tag_from-last a')
 
--- where the pieces are parted behind a number, a piece has it
+-- where the pieces are parted after a number, a piece has it
 pub part_has_tag : (items : Items) (t : ℕ) → HasPart items (Some t) → HasTag items t
-part_has_tag items t (ahead, behind, (is, last)) =
-    let (f, q, ends) = ends_with ahead t last in
-    (q, (f, behind, is ∙ ap (λ (l : Items). l ++ behind) ends ∙ append_assoc f ((t, q) ∷ []) behind))
+part_has_tag items t (before, after, (is, last)) =
+    let (f, q, ends) = ends_with before t last in
+    (q, (f, after, is ∙ ap (λ (l : Items). l ++ after) ends ∙ append_assoc f ((t, q) ∷ []) after))
 
 pub part_has_tag_if : (items : Items) (last : Option ℕ) → HasPart items last → IfSome last (HasTag items)
 part_has_tag_if items None part = tt
 part_has_tag_if items (Some t) part = part_has_tag items t part
 
-pub last_tag-push : (ahead : Items) (m : ℕ × Piece) → last_tag (ahead ++ m ∷ []) ≡ Some m.0
+pub last_tag-push : (before : Items) (m : ℕ × Piece) → last_tag (before ++ m ∷ []) ≡ Some m.0
 last_tag-push [] m = refl
 last_tag-push (n ∷ []) m = refl
-last_tag-push (n ∷ k ∷ ahead) m = last_tag-push (k ∷ ahead) m
+last_tag-push (n ∷ k ∷ before) m = last_tag-push (k ∷ before) m
 
--- how many pieces stand behind a number
+-- how many pieces stand after a number
 abbrev after_tag : ℕ → Items → ℕ
 after_tag t [] = 0
 after_tag t (m ∷ ms) = cond (m.0 == t) (length ms) (after_tag t ms)
 
-abbrev pub count_behind : Option ℕ → Items → ℕ
-count_behind None items = length items
-count_behind (Some t) items = after_tag t items
+abbrev pub count_after : Option ℕ → Items → ℕ
+count_after None items = length items
+count_after (Some t) items = after_tag t items
 
-after_at : (t : ℕ) (f behind : Items) (q : Piece) → All (λ m. m.0 ≢ t) f
-    → after_tag t (f ++ (t, q) ∷ behind) ≡ length behind
-after_at t [] behind q others =
-    ap (λ (b : Bool). cond b (length behind) (after_tag t behind)) (eq-eqb t t refl)
-after_at t (m ∷ f) behind q others =
+after_at : (t : ℕ) (f after : Items) (q : Piece) → All (λ m. m.0 ≢ t) f
+    → after_tag t (f ++ (t, q) ∷ after) ≡ length after
+after_at t [] after q others =
+    ap (λ (b : Bool). cond b (length after) (after_tag t after)) (eq-eqb t t refl)
+after_at t (m ∷ f) after q others =
     let P : ℕ × Piece → Type 0 = λ (n : ℕ × Piece). n.0 ≢ t in
-    let all : Items = f ++ (t, q) ∷ behind in
+    let all : Items = f ++ (t, q) ∷ after in
     ap (λ (b : Bool). cond b (length all) (after_tag t all)) (ne_eqb m.0 t (All-head P m f others))
-    ∙ after_at t f behind q (All-tail P m f others)
+    ∙ after_at t f after q (All-tail P m f others)
 
-no_ahead : (ahead : Items) → last_tag ahead ≡ None → ahead ≡ []
-no_ahead [] e = refl
-no_ahead (m ∷ []) e = absurd cc
-no_ahead (m ∷ n ∷ ms) e = let none : n ∷ ms ≡ [] = no_ahead (n ∷ ms) e in absurd cc
+no_before : (before : Items) → last_tag before ≡ None → before ≡ []
+no_before [] e = refl
+no_before (m ∷ []) e = absurd cc
+no_before (m ∷ n ∷ ms) e = let none : n ∷ ms ≡ [] = no_before (n ∷ ms) e in absurd cc
 
-pub count_part : (items : Items) → AreTags items → (c : Option ℕ) (ahead behind : Items)
-    → IsParted items c ahead behind → count_behind c items ≡ length behind
-count_part items are None ahead behind (is, last) =
-    ap length (is ∙ ap (λ (l : Items). l ++ behind) (no_ahead ahead last))
-count_part items are (Some t) ahead behind (is, last) =
-    let (f, q, ends) = ends_with ahead t last in
-    let whole : items ≡ f ++ (t, q) ∷ behind =
-    is ∙ ap (λ (l : Items). l ++ behind) ends ∙ append_assoc f ((t, q) ∷ []) behind in
+pub count_part : (items : Items) → AreTags items → (c : Option ℕ) (before after : Items)
+    → IsParted items c before after → count_after c items ≡ length after
+count_part items are None before after (is, last) =
+    ap length (is ∙ ap (λ (l : Items). l ++ after) (no_before before last))
+count_part items are (Some t) before after (is, last) =
+    let (f, q, ends) = ends_with before t last in
+    let whole : items ≡ f ++ (t, q) ∷ after =
+    is ∙ ap (λ (l : Items). l ++ after) ends ∙ append_assoc f ((t, q) ∷ []) after in
     ap (after_tag t) whole
-    ∙ after_at t f behind q (ahead_others f behind t q (subst AreTags whole are))
+    ∙ after_at t f after q (before_others f after t q (subst AreTags whole are))

@@ -1,4 +1,4 @@
--- A piece is put into its gap: the walk to it, the cut ahead of it, and the tables afterwards.
+-- A piece is put into its gap: the walk to it, the cut before it, and the tables afterwards.
 use Rattle.std.proofs.Common.{◌≡◌, ◌≢◌, ℕ, ◌+◌, ◌-◌, ◌<◌, ◌≤◌, ◌⊎◌, Bool, true, false, inl, inr, List, [], ◌∷◌}
 use Rattle.std.proofs.Common.{◌++◌, Option, Some, length, All, Contains, refl, sym, ap, subst, ◌∙◌, arith}
 use Rattle.std.proofs.Common.{append_assoc}
@@ -30,7 +30,7 @@ use Rattle.piece_list.proofs.Cut.{cut_spells_the_same}
 use Rattle.piece_list.proofs.Entered.{Held, held, has_tag}
 use Rattle.piece_list.proofs.Found.{one_value, some_is, name_has_place, place_has_name}
 use Rattle.piece_list.proofs.Gap.{all_left, all_right, into_gap, name_only, names_of_chars}
-use Rattle.piece_list.proofs.Parts.{one_part, last_tag-push, count_part, count_behind}
+use Rattle.piece_list.proofs.Parts.{one_part, last_tag-push, count_part, count_after}
 
 abbrev Items : Type 0
 Items = List (ℕ × Piece)
@@ -47,102 +47,102 @@ counted_more from n steps m more a b = (omega arith, omega arith)
 -- the walk
 
 -- so far whole pieces of greater key are skipped, and a key is looked at for each
-pub record IsWalked (key : Key) (ahead behind : Items) (last : Option ℕ) (from steps : ℕ) : Type 0 where
+pub record IsWalked (key : Key) (before after : Items) (last : Option ℕ) (from steps : ℕ) : Type 0 where
   pub skipped : Items
   pub rest : Items
-  pub whole : behind ≡ skipped ++ rest
+  pub whole : after ≡ skipped ++ rest
   pub greater : All (λ m. is_below key m.1.key ≡ true) skipped
-  pub part : (items : Items) → items ≡ ahead ++ behind → IsParted items last (ahead ++ skipped) rest
+  pub part : (items : Items) → items ≡ before ++ after → IsParted items last (before ++ skipped) rest
   pub counts : IsCounted from (length skipped) steps
 
 abbrev pub Walked : Items → Key → Option ℕ → Option ℕ → ℕ → ℕ → Type 0
 Walked items key first last from steps =
-    (ahead behind : Items) → IsParted items first ahead behind → IsWalked key ahead behind last from steps
+    (before after : Items) → IsParted items first before after → IsWalked key before after last from steps
 
 pub walk_begins : (items : Items) (key : Key) (first : Option ℕ) (from : ℕ)
     → Walked items key first first from from
-walk_begins items key first from ahead behind (is, last) = record {
+walk_begins items key first from before after (is, last) = record {
   skipped = [];
-  rest = behind;
+  rest = after;
   whole = refl;
   greater = All-nil (λ (m : ℕ × Piece). is_below key m.1.key ≡ true);
   part = λ all e. (
-    e ∙ ap (λ (l : Items). l ++ behind) (sym (append-nil ahead)),
-    subst (λ (l : Items). last_tag l ≡ first) (sym (append-nil ahead)) last,
+    e ∙ ap (λ (l : Items). l ++ after) (sym (append-nil before)),
+    subst (λ (l : Items). last_tag l ≡ first) (sym (append-nil before)) last,
   );
   counts = counted_none from 0 refl;
 }
 
 pub walk_part : (items : Items) (key : Key) (first last : Option ℕ) (from steps : ℕ) → HasPart items first
     → Walked items key first last from steps → HasPart items last
-walk_part items key first last from steps (ahead, behind, parted) walked =
-    let w : IsWalked key ahead behind last from steps = walked ahead behind parted in
-    (ahead ++ w.skipped, w.rest, w.part items parted.0)
+walk_part items key first last from steps (before, after, parted) walked =
+    let w : IsWalked key before after last from steps = walked before after parted in
+    (before ++ w.skipped, w.rest, w.part items parted.0)
 
 pub walk_goes_on : (items : Items) (key : Key) (first last : Option ℕ) (next from steps more : ℕ)
     → Walked items key first last from steps → IsNext items key last next
-    → ((ahead behind : Items) → IsParted items last ahead behind → IsCounted steps (last_look behind) more)
+    → ((before after : Items) → IsParted items last before after → IsCounted steps (last_look after) more)
     → Walked items key first (Some next) from more
-walk_goes_on items key first last next from steps more walked is_next looks ahead behind parted =
+walk_goes_on items key first last next from steps more walked is_next looks before after parted =
     let P : ℕ × Piece → Type 0 = λ (m : ℕ × Piece). is_below key m.1.key ≡ true in
-    let w : IsWalked key ahead behind last from steps = walked ahead behind parted in
-    let (p, rest, is, above) = is_next (ahead ++ w.skipped) w.rest (w.part items parted.0) in
+    let w : IsWalked key before after last from steps = walked before after parted in
+    let (p, rest, is, above) = is_next (before ++ w.skipped) w.rest (w.part items parted.0) in
     let m : ℕ × Piece = (next, p) in
     let joined : w.skipped ++ m ∷ rest ≡ (w.skipped ++ m ∷ []) ++ rest =
     sym (append_assoc w.skipped (m ∷ []) rest) in
-    let whole : behind ≡ (w.skipped ++ m ∷ []) ++ rest =
+    let whole : after ≡ (w.skipped ++ m ∷ []) ++ rest =
     w.whole ∙ ap (λ (l : Items). w.skipped ++ l) is ∙ joined in
-    let regroup : ahead ++ (w.skipped ++ m ∷ []) ≡ (ahead ++ w.skipped) ++ m ∷ [] =
-    sym (append_assoc ahead w.skipped (m ∷ [])) in
+    let regroup : before ++ (w.skipped ++ m ∷ []) ≡ (before ++ w.skipped) ++ m ∷ [] =
+    sym (append_assoc before w.skipped (m ∷ [])) in
     record {
       skipped = w.skipped ++ m ∷ [];
       rest = rest;
       whole = whole;
       greater = All-append P w.skipped (m ∷ []) w.greater (All-cons P m [] above (All-nil P));
       part = λ all e. (
-        e ∙ ap (λ (l : Items). ahead ++ l) whole ∙ sym (append_assoc ahead (w.skipped ++ m ∷ []) rest),
-        ap last_tag regroup ∙ last_tag-push (ahead ++ w.skipped) m,
+        e ∙ ap (λ (l : Items). before ++ l) whole ∙ sym (append_assoc before (w.skipped ++ m ∷ []) rest),
+        ap last_tag regroup ∙ last_tag-push (before ++ w.skipped) m,
       );
       counts = subst (λ (n : ℕ). IsCounted from n more) (sym (length-append w.skipped (m ∷ [])))
           (counted_more from (length w.skipped) steps 1 more w.counts
           (subst (λ (n : ℕ). IsCounted steps n more) (ap last_look is)
-          (looks (ahead ++ w.skipped) w.rest (w.part items parted.0))));
+          (looks (before ++ w.skipped) w.rest (w.part items parted.0))));
     }
 
 pub walk_shrinks : (items : Items) (key : Key) (last : Option ℕ) (next : ℕ) → AreTags items
-    → HasPart items last → IsNext items key last next → count_behind (Some next) items < count_behind last items
-walk_shrinks items key last next are (ahead, behind, parted) is_next =
-    let (p, rest, is, above) = is_next ahead behind parted in
+    → HasPart items last → IsNext items key last next → count_after (Some next) items < count_after last items
+walk_shrinks items key last next are (before, after, parted) is_next =
+    let (p, rest, is, above) = is_next before after parted in
     let m : ℕ × Piece = (next, p) in
-    let whole : items ≡ (ahead ++ m ∷ []) ++ rest =
-    parted.0 ∙ ap (λ (l : Items). ahead ++ l) is ∙ sym (append_assoc ahead (m ∷ []) rest) in
+    let whole : items ≡ (before ++ m ∷ []) ++ rest =
+    parted.0 ∙ ap (λ (l : Items). before ++ l) is ∙ sym (append_assoc before (m ∷ []) rest) in
     omega (
       arith,
-      count_part items are last ahead behind parted,
-      count_part items are (Some next) (ahead ++ m ∷ []) rest (whole, last_tag-push ahead m),
+      count_part items are last before after parted,
+      count_part items are (Some next) (before ++ m ∷ []) rest (whole, last_tag-push before m),
       ap length is,
     )
 
 pub walk_ends : (items : Items) (key : Key) (first last : Option ℕ) (from steps more : ℕ)
     → Walked items key first last from steps
-    → ((ahead behind : Items) → IsParted items last ahead behind → BeginNotAbove key behind)
-    → ((ahead behind : Items) → IsParted items last ahead behind → IsCounted steps (last_look behind) more)
-    → (ahead behind : Items) → IsParted items first ahead behind → IsSkip key ahead behind last from more
-walk_ends items key first last from steps more walked stops looks ahead behind parted =
-    let w : IsWalked key ahead behind last from steps = walked ahead behind parted in record {
+    → ((before after : Items) → IsParted items last before after → BeginNotAbove key after)
+    → ((before after : Items) → IsParted items last before after → IsCounted steps (last_look after) more)
+    → (before after : Items) → IsParted items first before after → IsSkip key before after last from more
+walk_ends items key first last from steps more walked stops looks before after parted =
+    let w : IsWalked key before after last from steps = walked before after parted in record {
       skipped = w.skipped;
       rest = w.rest;
       whole = w.whole;
       greater = w.greater;
-      stops = stops (ahead ++ w.skipped) w.rest (w.part items parted.0);
+      stops = stops (before ++ w.skipped) w.rest (w.part items parted.0);
       last_is = (w.part items parted.0).1;
       counts = counted_more from (length w.skipped) steps (last_look w.rest) more w.counts
-          (looks (ahead ++ w.skipped) w.rest (w.part items parted.0));
+          (looks (before ++ w.skipped) w.rest (w.part items parted.0));
     }
 
--- the cut behind the cause
+-- the cut after the cause
 
--- the pieces that end with this one are parted behind its last character
+-- the pieces that end with this one are parted after its last character
 parted_at : (old xs ys : Items) (tag : ℕ) (p : Piece) (c : CharName) → c.site ≡ p.site
     → c.off + 1 ≡ p.off + p.len → IsCutThere old (xs ++ (tag, p) ∷ []) ys
     → IsPartedAt old (xs ++ (tag, p) ∷ ys) (Some tag) (At c)
@@ -172,7 +172,7 @@ parted_there items are place v member le (At c) (at, same, (q, (xs, ys, is), wit
     subst (λ (l : Items). IsPartedAt items l (Some place.piece) (At c)) (sym whole)
     (parted_at items xs ys place.piece q c site last (inl joined))
 
--- the piece is cut behind the cause
+-- the piece is cut after the cause
 pub parted_cut : (old new : Items) → AreTags old → (place : Place) (u : ℕ)
     → IsCut place.piece (place.within + 1) u old new → (cause : Anchor)
     → IsAnchorPlace old cause (Some place) → IsPartedAt old new (Some place.piece) cause
@@ -184,14 +184,14 @@ parted_cut old new are place u cut (At c) (at, same, (q, member, within, site, o
     let p : Piece = cut.piece in
     let n : ℕ = place.within + 1 in
     let held' : IsMember old place.piece q = subst (λ (t : ℕ). IsMember old t q) tag member in
-    let value : q ≡ p = one_value old are place.piece q p held' (cut.ahead, cut.behind, cut.whole) in
+    let value : q ≡ p = one_value old are place.piece q p held' (cut.before, cut.after, cut.whole) in
     let site' : c.site ≡ p.site = site ∙ ap (λ (r : Piece). r.site) value in
     let first : q.off ≡ p.off = ap (λ (r : Piece). r.off) value in
     let last : c.off + 1 ≡ p.off + n = omega (arith, off, first, index) in
-    let there : IsCutAt old (cut.ahead ++ (place.piece, front_of n p) ∷ []) ((u, rest_of n p) ∷ cut.behind) =
+    let there : IsCutAt old (cut.before ++ (place.piece, front_of n p) ∷ []) ((u, rest_of n p) ∷ cut.after) =
     record {
-      front = cut.ahead;
-      rest = cut.behind;
+      front = cut.before;
+      rest = cut.after;
       tag = place.piece;
       other = u;
       n = n;
@@ -202,28 +202,28 @@ parted_cut old new are place u cut (At c) (at, same, (q, member, within, site, o
       begins = refl;
     } in
     subst (λ (l : Items). IsPartedAt old l (Some place.piece) (At c)) (sym cut.parts)
-    (parted_at old cut.ahead ((u, rest_of n p) ∷ cut.behind) place.piece (front_of n p) c site' last
+    (parted_at old cut.before ((u, rest_of n p) ∷ cut.after) place.piece (front_of n p) c site' last
     (inr there))
 
-cut_there_spells : (old ahead behind : Items) → IsCutThere old ahead behind
-    → spelled (ahead ++ behind) ≡ spelled old
-cut_there_spells old ahead behind (inl same) = ap spelled (sym same)
-cut_there_spells old ahead behind (inr cut) =
+cut_there_spells : (old before after : Items) → IsCutThere old before after
+    → spelled (before ++ after) ≡ spelled old
+cut_there_spells old before after (inl same) = ap spelled (sym same)
+cut_there_spells old before after (inr cut) =
     let p : Piece = cut.piece in
     let front : Items = (cut.tag, front_of cut.n p) ∷ [] in
     let rest : Items = (cut.other, rest_of cut.n p) ∷ cut.rest in
     let le : cut.n ≤ p.len = omega (arith, cut.within) in
-    ap (λ (l : Items). spelled (l ++ behind)) cut.ends
+    ap (λ (l : Items). spelled (l ++ after)) cut.ends
     ∙ ap (λ (l : Items). spelled ((cut.front ++ front) ++ l)) cut.begins
     ∙ ap spelled (append_assoc cut.front front rest)
     ∙ cut_spells_the_same cut.front cut.rest cut.tag cut.other cut.n p le ∙ sym (ap spelled cut.whole)
 
 pub parted_spells : (old items : Items) (last : Option ℕ) (cause : Anchor) → IsPartedAt old items last cause
     → spelled items ≡ spelled old
-parted_spells old items last cause (ahead, behind, parted, at, there) =
-    ap spelled parted.0 ∙ cut_there_spells old ahead behind there
+parted_spells old items last cause (before, after, parted, at, there) =
+    ap spelled parted.0 ∙ cut_there_spells old before after there
 
--- a place in another piece, or ahead of the cut, stays
+-- a place in another piece, or before the cut, stays
 abbrev Among : Items → ℕ → Piece → Type 0
 Among [] t p = ⊥
 Among (m ∷ ms) t p = (m ≡ (t, p)) ⊎ Among ms t p
@@ -249,35 +249,35 @@ among_stays (m ∷ xs) ys tag u t v a b p differs (inr h) = inr (among_stays xs 
 
 pub cut_others : (old new : Items) (tag n u : ℕ) → AreTags old → IsCut tag n u old new → (other : Place)
     (c : CharName) → IsPlaceOf old other c → (other.piece ≢ tag) ⊎ (other.within < n) → IsPlaceOf new other c
-cut_others old new tag n u are cut other c (p, (xs, ys, is), within, site, off) ahead =
+cut_others old new tag n u are cut other c (p, (xs, ys, is), within, site, off) before =
     let v : Piece = cut.piece in
     let t : ℕ = other.piece in
     let here : IsMember old t p = (xs, ys, is) in
-    let there : Among (cut.ahead ++ (tag, v) ∷ cut.behind) t p =
+    let there : Among (cut.before ++ (tag, v) ∷ cut.after) t p =
     subst (λ (l : Items). Among l t p) (sym is ∙ cut.whole) (among_there xs ys t p) in
     let moved : t ≢ tag → IsPlaceOf new other c = λ (differs : t ≢ tag). (
       p,
       subst (λ (l : Items). IsMember l t p) (sym cut.parts)
-          (member (cut.ahead ++ (tag, front_of n v) ∷ (u, rest_of n v) ∷ cut.behind) t p
-          (among_stays cut.ahead cut.behind tag u t v (front_of n v) (rest_of n v) p differs there)),
+          (member (cut.before ++ (tag, front_of n v) ∷ (u, rest_of n v) ∷ cut.after) t p
+          (among_stays cut.before cut.after tag u t v (front_of n v) (rest_of n v) p differs there)),
       within,
       site,
       off,
     ) in
-    elim ahead [
+    elim before [
       | inl differs ↦ moved differs
       | inr lt ↦ elim (cases_eq t tag) [
         | inr differs ↦ moved differs
         | inl same ↦
             let value : p ≡ v = one_value old are t p v here
-            (cut.ahead, cut.behind, cut.whole ∙ ap (λ (k : ℕ). cut.ahead ++ (k, v) ∷ cut.behind) (sym same)) in
+            (cut.before, cut.after, cut.whole ∙ ap (λ (k : ℕ). cut.before ++ (k, v) ∷ cut.after) (sym same)) in
             let site' : c.site ≡ v.site = site ∙ ap (λ (r : Piece). r.site) value in
             let first : p.off ≡ v.off = ap (λ (r : Piece). r.off) value in (
               front_of n v,
               (
-                cut.ahead,
-                (u, rest_of n v) ∷ cut.behind,
-                cut.parts ∙ ap (λ (k : ℕ). cut.ahead ++ (k, front_of n v) ∷ (u, rest_of n v) ∷ cut.behind) (sym same),
+                cut.before,
+                (u, rest_of n v) ∷ cut.after,
+                cut.parts ∙ ap (λ (k : ℕ). cut.before ++ (k, front_of n v) ∷ (u, rest_of n v) ∷ cut.after) (sym same),
               ),
               lt,
               site',
@@ -414,56 +414,56 @@ pub stood_next : (r : Ring Piece) (items : Items) (last : Option ℕ) (room u : 
     → u ≡ length r.items → u ≡ length items
 stood_next r items last room u e next = next ∙ ap (λ (s : Ring Piece). length s.items) e
 
--- the piece stands behind the number, whichever way the pieces are parted there
+-- the piece stands after the number, whichever way the pieces are parted there
 pub pushed_there : (old new : Items) → AreTags old → (last : Option ℕ) (u : ℕ) (v : Piece)
-    → IsPushed old last u v new → (ahead behind : Items) → IsParted old last ahead behind
-    → new ≡ ahead ++ (u, v) ∷ behind
-pushed_there old new are last u v (xs, ys, is, at, new_is) ahead behind parted =
-    let (front, back) = one_part old are last xs ys ahead behind (is, at) parted in
-    new_is ∙ ap (λ (l : Items). l ++ (u, v) ∷ ys) front ∙ ap (λ (l : Items). ahead ++ (u, v) ∷ l) back
+    → IsPushed old last u v new → (before after : Items) → IsParted old last before after
+    → new ≡ before ++ (u, v) ∷ after
+pushed_there old new are last u v (xs, ys, is, at, new_is) before after parted =
+    let (front, back) = one_part old are last xs ys before after (is, at) parted in
+    new_is ∙ ap (λ (l : Items). l ++ (u, v) ∷ ys) front ∙ ap (λ (l : Items). before ++ (u, v) ∷ l) back
 
 pub pushed_part : (old new : Items) → AreTags old → (last : Option ℕ) (u : ℕ) (v : Piece)
-    → IsPushed old last u v new → (ahead behind : Items) → IsParted old last ahead behind
-    → (tag : ℕ) × (new ≡ ahead ++ (tag, v) ∷ behind)
-pushed_part old new are last u v put ahead behind parted =
-    (u, pushed_there old new are last u v put ahead behind parted)
+    → IsPushed old last u v new → (before after : Items) → IsParted old last before after
+    → (tag : ℕ) × (new ≡ before ++ (tag, v) ∷ after)
+pushed_part old new are last u v put before after parted =
+    (u, pushed_there old new are last u v put before after parted)
 
 -- the whole
 
 pub skip_part : (old items : Items) (key : Key) (end last : Option ℕ) (from steps : ℕ) (cause : Anchor)
     → IsPartedAt old items end cause
-    → ((ahead behind : Items) → IsParted items end ahead behind → IsSkip key ahead behind last from steps)
+    → ((before after : Items) → IsParted items end before after → IsSkip key before after last from steps)
     → HasPart items last
-skip_part old items key end last from steps cause (ahead, behind, parted, at, there) skips =
-    let s : IsSkip key ahead behind last from steps = skips ahead behind parted in (
-      ahead ++ s.skipped,
+skip_part old items key end last from steps cause (before, after, parted, at, there) skips =
+    let s : IsSkip key before after last from steps = skips before after parted in (
+      before ++ s.skipped,
       s.rest,
       (
-        parted.0 ∙ ap (λ (l : Items). ahead ++ l) s.whole ∙ sym (append_assoc ahead s.skipped s.rest),
+        parted.0 ∙ ap (λ (l : Items). before ++ l) s.whole ∙ sym (append_assoc before s.skipped s.rest),
         s.last_is,
       ),
     )
 
 pub put_in_gap : (old items new : Items) (cause : Anchor) (p : Piece) (end last : Option ℕ) (steps : ℕ)
     → IsPartedAt old items end cause
-    → ((ahead behind : Items) → IsParted items end ahead behind
-    → IsSkip p.key ahead behind last (compared cause) steps)
-    → ((ahead behind : Items) → IsParted items last ahead behind
-    → (tag : ℕ) × (new ≡ ahead ++ (tag, p) ∷ behind))
+    → ((before after : Items) → IsParted items end before after
+    → IsSkip p.key before after last (compared cause) steps)
+    → ((before after : Items) → IsParted items last before after
+    → (tag : ℕ) × (new ≡ before ++ (tag, p) ∷ after))
     → IsPutInGap cause p old new steps
-put_in_gap old items new cause p end last steps (ahead, behind, parted, at, there) skips put =
-    let s : IsSkip p.key ahead behind last (compared cause) steps = skips ahead behind parted in
-    let whole : items ≡ (ahead ++ s.skipped) ++ s.rest =
-    parted.0 ∙ ap (λ (l : Items). ahead ++ l) s.whole ∙ sym (append_assoc ahead s.skipped s.rest) in
-    let (tag, is) = put (ahead ++ s.skipped) s.rest (whole, s.last_is) in
+put_in_gap old items new cause p end last steps (before, after, parted, at, there) skips put =
+    let s : IsSkip p.key before after last (compared cause) steps = skips before after parted in
+    let whole : items ≡ (before ++ s.skipped) ++ s.rest =
+    parted.0 ∙ ap (λ (l : Items). before ++ l) s.whole ∙ sym (append_assoc before s.skipped s.rest) in
+    let (tag, is) = put (before ++ s.skipped) s.rest (whole, s.last_is) in
     record {
-      ahead = ahead;
+      before = before;
       skipped = s.skipped;
-      behind = s.rest;
+      after = s.rest;
       tag = tag;
       gap = record { at_cause = at; greater = s.greater; stops = s.stops };
-      cut = subst (IsCutThere old ahead) s.whole there;
-      spells = ap spelled (sym whole) ∙ ap spelled parted.0 ∙ cut_there_spells old ahead behind there;
+      cut = subst (IsCutThere old before) s.whole there;
+      spells = ap spelled (sym whole) ∙ ap spelled parted.0 ∙ cut_there_spells old before after there;
       put = is;
       counts = s.counts;
     }
@@ -473,15 +473,15 @@ pub placed_in_gap : (old new : Items) (cause : Anchor) (p : Piece) (steps : ℕ)
     → IsPlaced p.key cause (chars_of p) (spelled old) (spelled new)
 placed_in_gap old new cause p steps pieces g =
     let Is : ℕ × Piece → Type 0 = λ (m : ℕ × Piece). IsPiece m.1 in
-    let front : Items = g.ahead ++ g.skipped in
-    let here : ArePieces (front ++ (g.tag, p) ∷ g.behind) = subst ArePieces g.put pieces in
-    let others : ArePieces (front ++ g.behind) =
-    All-append Is front g.behind (all_left Is front ((g.tag, p) ∷ g.behind) here)
-    (all_right Is (front ++ (g.tag, p) ∷ []) g.behind
-    (subst ArePieces (sym (append_assoc front ((g.tag, p) ∷ []) g.behind)) here)) in
-    let law : IsPlaced p.key cause (chars_of p) (spelled (front ++ g.behind))
-    (spelled (front ++ (g.tag, p) ∷ g.behind)) =
-    into_gap g.ahead g.skipped g.behind cause g.tag p others g.gap in
+    let front : Items = g.before ++ g.skipped in
+    let here : ArePieces (front ++ (g.tag, p) ∷ g.after) = subst ArePieces g.put pieces in
+    let others : ArePieces (front ++ g.after) =
+    All-append Is front g.after (all_left Is front ((g.tag, p) ∷ g.after) here)
+    (all_right Is (front ++ (g.tag, p) ∷ []) g.after
+    (subst ArePieces (sym (append_assoc front ((g.tag, p) ∷ []) g.after)) here)) in
+    let law : IsPlaced p.key cause (chars_of p) (spelled (front ++ g.after))
+    (spelled (front ++ (g.tag, p) ∷ g.after)) =
+    into_gap g.before g.skipped g.after cause g.tag p others g.gap in
     subst (λ (l : Items). IsPlaced p.key cause (chars_of p) (spelled old) (spelled l)) (sym g.put)
     (subst (λ (ks : List Atom). IsPlaced p.key cause (chars_of p) ks
-    (spelled (front ++ (g.tag, p) ∷ g.behind))) g.spells law)
+    (spelled (front ++ (g.tag, p) ∷ g.after))) g.spells law)

@@ -1,4 +1,4 @@
--- How many characters are shown ahead of a piece, and which one is shown at a position.
+-- How many characters are shown before a piece, and which one is shown at a position.
 use Rattle.std.proofs.Common.{◌≡◌, ℕ, ◌+◌, ◌<◌, ◌≤◌, ◌^◌, Bool, true, false, cond, List, ◌∷◌, ◌++◌}
 use Rattle.std.proofs.Common.{length, refl, sym, ap, subst, arith}
 use Rattle.std.specs.Prelude.{IfSome, slice_get}
@@ -55,9 +55,9 @@ in_piece p i false e lt = (e, lt)
 pub is_visible : (p : Piece) (i : ℕ) → i < own p p.len → (p.hidden.value ≡ false) × (i < p.len)
 is_visible p i lt = in_piece p i p.hidden.value refl lt
 
--- of a piece with these ahead of it, and these behind it
+-- of a piece with these before it, and these after it
 module _ (items xs ys : Items) (tag : ℕ) (p : Piece) (is : items ≡ xs ++ (tag, p) ∷ ys) where
-  -- the count of what is shown ahead, and of what the piece shows of its first n characters, is small
+  -- the count of what is shown before, and of what the piece shows of its first n characters, is small
   pub sum_fits : (tables : Tables) (n : ℕ) → AreTags items → AreEntered items tables → n ≤ p.len
       → shown_in xs + own p n < 2 ^ 64
   sum_fits tables n are entered le =

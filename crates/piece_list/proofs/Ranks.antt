@@ -15,60 +15,60 @@ use Rattle.piece_list.proofs.Found.{one_value}
 use Rattle.piece_list.proofs.Positions.{Items, shown_in, own, is_inside, is_visible, sum_fits, counts_to}
 use Rattle.piece_list.proofs.Weighed.{Weights, ranked_piece, found_piece}
 
--- how much stands ahead of a name's piece
+-- how much stands before a name's piece
 module _ (items : Items) (tables : Tables) (index : Weights) (place : Place) (c : CharName) (p : Piece)
-    (ahead more : ℕ) (are : AreTags items) (entered : AreEntered items tables) (same : index ≡ weighed items)
+    (before more : ℕ) (are : AreTags items) (entered : AreEntered items tables) (same : index ≡ weighed items)
     (at : IsPlaceOf items place c) (member : IsMember items place.piece p)
-    (rank : IsRank index place.piece ahead) (by : more ≡ own p (place.within + 1))
+    (rank : IsRank index place.piece before) (by : more ≡ own p (place.within + 1))
   where
     inside : (place.within < p.len) × (c.site ≡ p.site) × (c.off ≡ p.off + place.within)
     inside = is_inside items place c p are member at
 
-    there : (xs ys : Items) × (items ≡ xs ++ (place.piece, p) ∷ ys) × (ahead ≡ shown_in xs)
+    there : (xs ys : Items) × (items ≡ xs ++ (place.piece, p) ∷ ys) × (before ≡ shown_in xs)
     there =
-        let (weight, found) = ranked_piece items index place.piece ahead same rank in
+        let (weight, found) = ranked_piece items index place.piece before same rank in
         let one : found.piece ≡ p =
-        one_value items are place.piece found.piece p (found.front, found.behind, found.whole) member in (
+        one_value items are place.piece found.piece p (found.front, found.after, found.whole) member in (
           found.front,
-          found.behind,
-          found.whole ∙ ap (λ (q : Piece). found.front ++ (place.piece, q) ∷ found.behind) one,
-          found.ahead_is,
+          found.after,
+          found.whole ∙ ap (λ (q : Piece). found.front ++ (place.piece, q) ∷ found.after) one,
+          found.before_is,
         )
 
-    pub rank_fits : ahead + more < 2 ^ 64
+    pub rank_fits : before + more < 2 ^ 64
     rank_fits =
-        let (xs, ys, is, ahead_is) = there in
+        let (xs, ys, is, before_is) = there in
         let le : place.within + 1 ≤ p.len = omega (arith, inside.0) in
-        omega (arith, ahead_is, by, sum_fits items xs ys place.piece p is tables (place.within + 1) are entered le)
+        omega (arith, before_is, by, sum_fits items xs ys place.piece p is tables (place.within + 1) are entered le)
 
     -- with its own characters up to the name, it is the count up to it
-    pub rank_counts : AreShownTo (spelled items) c (ahead + more)
+    pub rank_counts : AreShownTo (spelled items) c (before + more)
     rank_counts =
-        let (xs, ys, is, ahead_is) = there in
+        let (xs, ys, is, before_is) = there in
         let (lt, site, off) = inside in
-        let sum : shown_in xs + own p (place.within + 1) ≡ ahead + more = omega (arith, ahead_is, by) in
+        let sum : shown_in xs + own p (place.within + 1) ≡ before + more = omega (arith, before_is, by) in
         subst (AreShownTo (spelled items) c) sum
         (counts_to items xs ys place.piece p is tables place.within c are entered lt site off)
 
 -- the piece that a position lies in
 pub record IsFoundAt (items : Items) (pos tag within : ℕ) : Type 0 where
   pub front : Items
-  pub behind : Items
+  pub after : Items
   pub piece : Piece
-  pub whole : items ≡ front ++ (tag, piece) ∷ behind
+  pub whole : items ≡ front ++ (tag, piece) ∷ after
   pub at : pos ≡ shown_in front + within
   pub inside : within < own piece piece.len
 
 pub found_at : (items : Items) (index : Weights) (pos tag within : ℕ) → index ≡ weighed items
     → IsFound index pos tag within → IsFoundAt items pos tag within
 found_at items index pos tag within same found =
-    let (weight, ahead, there, at, lt) = found_piece items index pos tag within same found in
+    let (weight, before, there, at, lt) = found_piece items index pos tag within same found in
     record {
       front = there.front;
-      behind = there.behind;
+      after = there.after;
       piece = there.piece;
       whole = there.whole;
-      at = at ∙ ap (λ (n : ℕ). n + within) there.ahead_is;
+      at = at ∙ ap (λ (n : ℕ). n + within) there.before_is;
       inside = subst (λ (n : ℕ). within < n) there.weight_is lt;
     }
 
@@ -77,5 +77,5 @@ pub found_is_small : (items : Items) (pos tag within : ℕ) → ArePieces items 
 found_is_small items pos tag within pieces found =
     let (visible, lt) = is_visible found.piece within found.inside in
     let piece : IsPiece found.piece =
-    is_piece items tag found.piece pieces (found.front, found.behind, found.whole) in
+    is_piece items tag found.piece pieces (found.front, found.after, found.whole) in
     omega (arith, lt, piece.1)

@@ -53,8 +53,8 @@ later_numbers from (suc len) (suc n) le =
     ∙ ap (λ (a : ℕ). range_with_len a (len - n)) on
     ∙ ap (range_with_len (from + suc n)) less
 
-cut_ahead : (n : ℕ) (r : Run) → n ≤ r.len → appearances_in (run_from n r) ≡ drop n (appearances_in r)
-cut_ahead n r le =
+cut_before : (n : ℕ) (r : Run) → n ≤ r.len → appearances_in (run_from n r) ≡ drop n (appearances_in r)
+cut_before n r le =
     ap (λ (offs : List ℕ). map (appearance_in r) (map (name_in r) offs)) (sym (later_numbers r.off r.len n le))
     ∙ ap (map (appearance_in r)) (sym (drop-map (name_in r) n (range_with_len r.off r.len)))
     ∙ sym (drop-map (appearance_in r) n (map (name_in r) (range_with_len r.off r.len)))
@@ -148,7 +148,7 @@ pub skips_front : (n : ℕ) (r : Run) (runs : List Run) → n < r.len
 skips_front n r runs lt =
     let few : n ≤ length (appearances_in r) = omega (arith, told_len r) in
     let le : n ≤ r.len = omega arith in
-    ap (λ (front : List Appearance). front ++ told runs) (cut_ahead n r le)
+    ap (λ (front : List Appearance). front ++ told runs) (cut_before n r le)
     ∙ sym (drop-append-le n (appearances_in r) (told runs) few)
 
 pub front_within : (n : ℕ) (r : Run) (runs : List Run) → n < r.len → AreWithin (r ∷ runs) → AreWithin (run_from n r ∷ runs)

@@ -126,25 +126,25 @@ shown_at xs ys tag p i shown lt =
     let m : ℕ × Piece = (tag, p) in
     let k : Atom = char_of p (record { site = p.site; off = p.off + i }) in
     let whole : List Atom = shown_chars (spelled (xs ++ m ∷ ys)) in
-    let ahead : List Atom = shown_chars (spelled xs) in
-    let behind : List Atom = shown_chars (spelled ys) in
+    let before : List Atom = shown_chars (spelled xs) in
+    let after : List Atom = shown_chars (spelled ys) in
     let own : shown_by p ≡ chars_of p = ap (λ (b : Bool). cond b [] (chars_of p)) shown in
-    let parts : whole ≡ ahead ++ (chars_of p ++ behind) =
-    shown_both xs (m ∷ ys) ∙ ap (λ (ks : List Atom). ahead ++ ks) (shown_cons m ys
-    ∙ ap (λ (ks : List Atom). ks ++ behind) own) in
+    let parts : whole ≡ before ++ (chars_of p ++ after) =
+    shown_both xs (m ∷ ys) ∙ ap (λ (ks : List Atom). before ++ ks) (shown_cons m ys
+    ∙ ap (λ (ks : List Atom). ks ++ after) own) in
     let few : i < length (chars_of p) = omega (arith, count_chars p) in
-    let within : length ahead + i < length whole =
+    let within : length before + i < length whole =
     omega (
       arith,
       ap length parts,
-      length-append ahead (chars_of p ++ behind),
+      length-append before (chars_of p ++ after),
       length-append
-          (chars_of p) behind,
+          (chars_of p) after,
     ) in
-    slice_get-get_or whole (length ahead + i) k within
-    ∙ ap (λ (o : Atom). Some o) (ap (λ (ks : List Atom). get_or ks (length ahead + i) k) parts
-    ∙ get_or-append-add ahead (chars_of p ++ behind) i k
-    ∙ get_or_append_left (chars_of p) behind k i few
+    slice_get-get_or whole (length before + i) k within
+    ∙ ap (λ (o : Atom). Some o) (ap (λ (ks : List Atom). get_or ks (length before + i) k) parts
+    ∙ get_or-append-add before (chars_of p ++ after) i k
+    ∙ get_or_append_left (chars_of p) after k i few
     ∙ char_at p i k lt)
 
 -- and so its place is told

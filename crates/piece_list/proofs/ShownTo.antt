@@ -31,14 +31,14 @@ pub name_at : (xs ys : Items) (tag : ℕ) (p : Piece) (c : CharName) (i : ℕ) �
 name_at xs ys tag p c i lt site off d =
     let name : ℕ → ℕ → CharName = λ (s o : ℕ). record { site = s; off = o } in
     let own : List CharName = names_of (range_of p) in
-    let ahead : List CharName = names_of_atoms (spelled xs) in
-    let behind : List CharName = names_of_atoms (spelled ys) in
-    let len : length (spelled xs) ≡ length ahead = sym (length-map (spelled xs) name_only) in
+    let before : List CharName = names_of_atoms (spelled xs) in
+    let after : List CharName = names_of_atoms (spelled ys) in
+    let len : length (spelled xs) ≡ length before = sym (length-map (spelled xs) name_only) in
     let few : i < length own = omega (arith, length-map-range_with_len (name p.site) p.off p.len) in
     ap (λ (cs : List CharName). get_or cs (length (spelled xs) + i) d) (names_around xs ys tag p)
-    ∙ ap (λ (n : ℕ). get_or (ahead ++ (own ++ behind)) (n + i) d) len
-    ∙ get_or-append-add ahead (own ++ behind) i d
-    ∙ get_or_append_left own behind d i few
+    ∙ ap (λ (n : ℕ). get_or (before ++ (own ++ after)) (n + i) d) len
+    ∙ get_or-append-add before (own ++ after) i d
+    ∙ get_or_append_left own after d i few
     ∙ get_or-map-range_with_len (name p.site) p.off p.len i c.off d lt (sym off)
     ∙ ap (λ (s : ℕ). name s c.off) (sym site)
 
@@ -62,17 +62,17 @@ up_to xs ys tag p i lt =
     let le : i + 1 ≤ p.len = omega arith in
     let front : ℕ × Piece = (tag, front_of (i + 1) p) in
     let rest : ℕ × Piece = (tag, rest_of (i + 1) p) in
-    let ahead : Items = xs ++ front ∷ [] in
-    let behind : Items = rest ∷ ys in
-    let parts : spelled (xs ++ (tag, p) ∷ ys) ≡ spelled ahead ++ spelled behind =
+    let before : Items = xs ++ front ∷ [] in
+    let after : Items = rest ∷ ys in
+    let parts : spelled (xs ++ (tag, p) ∷ ys) ≡ spelled before ++ spelled after =
     sym (cut_spells_the_same xs ys tag tag (i + 1) p le)
-    ∙ ap spelled (sym (append_assoc xs (front ∷ []) behind))
-    ∙ flat_map-append chars ahead behind in
+    ∙ ap spelled (sym (append_assoc xs (front ∷ []) after))
+    ∙ flat_map-append chars before after in
     let none : length (spelled []) ≡ 0 = refl in
     let own : length (spelled (front ∷ [])) ≡ i + 1 =
     length-append (chars_of (front_of (i + 1) p)) (spelled [])
     ∙ omega (arith, count_chars (front_of (i + 1) p)) in
-    let len : length (spelled xs) + i + 1 ≡ length (spelled ahead) =
+    let len : length (spelled xs) + i + 1 ≡ length (spelled before) =
     omega (
       arith,
       ap length (flat_map-append chars xs (front ∷ [])),
@@ -80,8 +80,8 @@ up_to xs ys tag p i lt =
           (spelled (front ∷ [])),
     ) in
     ap (λ (n : ℕ). take n (spelled (xs ++ (tag, p) ∷ ys))) len
-    ∙ ap (take (length (spelled ahead))) parts
-    ∙ take-append_seam (spelled ahead) (spelled behind)
+    ∙ ap (take (length (spelled before))) parts
+    ∙ take-append_seam (spelled before) (spelled after)
 
 pub shown_up_to : (items xs ys : Items) (tag : ℕ) (p : Piece) (c : CharName) (i n : ℕ)
     → items ≡ xs ++ (tag, p) ∷ ys → AllPairs (λ a b. a ≢ b) (names_of_atoms (spelled items))

@@ -14,7 +14,7 @@ use Rattle.piece_list.specs.Tables.{Tables}
 use Rattle.piece_list.proofs.ChangedPiece.{IsTurn, same_names, edges_after, entered_after, changed_there, place_stays}
 use Rattle.piece_list.proofs.Cutting.{as_many, written_tags}
 use Rattle.piece_list.proofs.CutList.{is_piece}
-use Rattle.piece_list.proofs.Edges.{edge_behind, edge_of}
+use Rattle.piece_list.proofs.Edges.{edge_after, edge_of}
 use Rattle.piece_list.proofs.Positions.{Items, own, small_count}
 use Rattle.piece_list.proofs.Weighed.{Weights, has_weight, set_fits, set_weighed, total_is_shown}
 
@@ -69,7 +69,7 @@ module _ (setting : Setting) (items : Items) (tables : Tables) (weights : Weight
       some = omega (arith, t.end, t.held.2);
       edge = subst (λ (s : ℕ). IsEdge s (w.off + w.len) items) (sym t.held.0)
           (subst (λ (o : ℕ). IsEdge p.site o items) (sym t.end)
-          (edge_behind items tables held.numbered held.entered tag p t.member));
+          (edge_after items tables held.numbered held.entered tag p t.member));
       first = λ at lt edge.
           let past : p.off + p.len ≤ at = edge_of items name.site at edge tag p t.member (sym t.held.0)
           (omega (arith, t.off, lt)) in

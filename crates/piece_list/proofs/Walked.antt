@@ -22,23 +22,23 @@ appear items = map appearance_of (shown_chars (spelled items))
 
 -- from a piece on
 module _ (items xs ys : Items) (tag : ℕ) (p : Piece) (is : items ≡ xs ++ (tag, p) ∷ ys) where
-  abbrev behind : Items
-  behind = (tag, p) ∷ ys
+  abbrev after : Items
+  after = (tag, p) ∷ ys
 
   abbrev left : List Run
-  left = shown_runs behind
+  left = shown_runs after
 
   pub tells_from : (pos within : ℕ) → pos ≡ shown_in xs + within
       → drop within (told left) ≡ drop pos (appear items)
   tells_from pos within at =
-      let ahead : shown_in xs ≡ length (appear xs) = sym (length-map (shown_chars (spelled xs)) appearance_of) in
-      let whole : appear items ≡ appear xs ++ appear behind =
-      ap appear is ∙ ap (map appearance_of) (shown_both xs behind)
-      ∙ map-append appearance_of (shown_chars (spelled xs)) (shown_chars (spelled behind)) in
-      ap (drop within) (runs_tell behind)
-      ∙ sym (drop-append-add (appear xs) (appear behind) within)
-      ∙ ap (λ (n : ℕ). drop (n + within) (appear xs ++ appear behind)) (sym ahead)
-      ∙ ap (λ (n : ℕ). drop n (appear xs ++ appear behind)) (sym at)
+      let before : shown_in xs ≡ length (appear xs) = sym (length-map (shown_chars (spelled xs)) appearance_of) in
+      let whole : appear items ≡ appear xs ++ appear after =
+      ap appear is ∙ ap (map appearance_of) (shown_both xs after)
+      ∙ map-append appearance_of (shown_chars (spelled xs)) (shown_chars (spelled after)) in
+      ap (drop within) (runs_tell after)
+      ∙ sym (drop-append-add (appear xs) (appear after) within)
+      ∙ ap (λ (n : ℕ). drop (n + within) (appear xs ++ appear after)) (sym before)
+      ∙ ap (λ (n : ℕ). drop n (appear xs ++ appear after)) (sym at)
       ∙ ap (drop pos) (sym whole)
 
   pub front_from : (within : ℕ) → within < own p p.len → HasFront within left
@@ -52,6 +52,6 @@ module _ (items xs ys : Items) (tag : ℕ) (p : Piece) (is : items ≡ xs ++ (ta
   pub within_from : ArePieces items → AreWithin left
   within_from pieces =
       let Is : Run → Type 0 = λ (run : Run). (0 < run.len) × (run.off + run.len ≤ MAX_FILE) in
-      let those : ArePieces behind =
-      all_right (λ (m : ℕ × Piece). IsPiece m.1) xs behind (subst ArePieces is pieces) in
-      runs_are Is (λ q piece. (piece.0, piece.2)) behind those
+      let those : ArePieces after =
+      all_right (λ (m : ℕ × Piece). IsPiece m.1) xs after (subst ArePieces is pieces) in
+      runs_are Is (λ q piece. (piece.0, piece.2)) after those

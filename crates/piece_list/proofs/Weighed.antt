@@ -67,47 +67,47 @@ parted f (x ∷ items) (a ∷ fronts) bs e =
       back,
     )
 
-first_of : (items : Items) (tag weight : ℕ) (behind : Weights) → map weigh items ≡ (tag, weight) ∷ behind
+first_of : (items : Items) (tag weight : ℕ) (later : Weights) → map weigh items ≡ (tag, weight) ∷ later
     → (p : Piece) × (ys : Items) × (items ≡ (tag, p) ∷ ys) × (weight ≡ own p p.len)
-first_of [] tag weight behind e = absurd cc
-first_of (m ∷ ys) tag weight behind e =
+first_of [] tag weight later e = absurd cc
+first_of (m ∷ ys) tag weight later e =
     let head : (m.0, shown_weight m.1) ≡ (tag, weight) = cc in
     let same : m.0 ≡ tag = ap (λ (n : ℕ × ℕ). n.0) head in
     (m.1, ys, ap (λ (t : ℕ). (t, m.1) ∷ ys) same, sym (ap (λ (n : ℕ × ℕ). n.1) head))
 
--- a member of the index is a piece, with so much shown ahead of it
-pub record IsPieceAt (items : Items) (tag weight ahead : ℕ) : Type 0 where
+-- a member of the index is a piece, with so much shown before it
+pub record IsPieceAt (items : Items) (tag weight before : ℕ) : Type 0 where
   pub front : Items
-  pub behind : Items
+  pub after : Items
   pub piece : Piece
-  pub whole : items ≡ front ++ (tag, piece) ∷ behind
+  pub whole : items ≡ front ++ (tag, piece) ∷ later
   pub weight_is : weight ≡ own piece piece.len
-  pub ahead_is : ahead ≡ shown_in front
+  pub before_is : before ≡ shown_in front
 
-is_piece_at : (items : Items) (index ahead behind : Weights) (tag weight : ℕ) → index ≡ weighed items
-    → index ≡ ahead ++ (tag, weight) ∷ behind → IsPieceAt items tag weight (weight_of ahead)
-is_piece_at items index ahead behind tag weight same is =
-    let (xs, zs, whole, front, back) = parted weigh items ahead ((tag, weight) ∷ behind) (sym same ∙ is) in
-    let (p, ys, first, own) = first_of zs tag weight behind back in
+is_piece_at : (items : Items) (index before later : Weights) (tag weight : ℕ) → index ≡ weighed items
+    → index ≡ before ++ (tag, weight) ∷ later → IsPieceAt items tag weight (weight_of before)
+is_piece_at items index before later tag weight same is =
+    let (xs, zs, whole, front, back) = parted weigh items before ((tag, weight) ∷ later) (sym same ∙ is) in
+    let (p, ys, first, own) = first_of zs tag weight later back in
     record {
       front = xs;
-      behind = ys;
+      after = ys;
       piece = p;
       whole = whole ∙ ap (λ (l : Items). xs ++ l) first;
       weight_is = own;
-      ahead_is = ap weight_of (sym front) ∙ weight_is_shown xs;
+      before_is = ap weight_of (sym front) ∙ weight_is_shown xs;
     }
 
 pub ranked_piece : (items : Items) (index : Weights) (tag n : ℕ) → index ≡ weighed items → IsRank index tag n
     → (weight : ℕ) × IsPieceAt items tag weight n
-ranked_piece items index tag n same (ahead, behind, weight, is, at) =
-    (weight, subst (IsPieceAt items tag weight) (sym at) (is_piece_at items index ahead behind tag weight same is))
+ranked_piece items index tag n same (before, later, weight, is, at) =
+    (weight, subst (IsPieceAt items tag weight) (sym at) (is_piece_at items index before later tag weight same is))
 
 pub found_piece : (items : Items) (index : Weights) (pos tag within : ℕ) → index ≡ weighed items
     → IsFound index pos tag within
     → (weight : ℕ) × (n : ℕ) × IsPieceAt items tag weight n × (pos ≡ n + within) × (within < weight)
-found_piece items index pos tag within same (ahead, behind, weight, is, at, lt) =
-    (weight, weight_of ahead, is_piece_at items index ahead behind tag weight same is, at, lt)
+found_piece items index pos tag within same (before, later, weight, is, at, lt) =
+    (weight, weight_of before, is_piece_at items index before later tag weight same is, at, lt)
 
 -- a piece that is put in
 last_weight : (xs : Items) → last_tag (weighed xs) ≡ last_tag xs
@@ -179,38 +179,38 @@ module _ (items : Items) (index : Weights) (tag weight : ℕ) (p w : Piece) (sam
         small_count items tables are entered,
       )
 
--- of a piece that is cut: its front keeps its number, and the rest is put behind it
-module _ (items : Items) (tables : Tables) (index : Weights) (tag n ahead behind : ℕ) (v front rest : Piece)
+-- of a piece that is cut: its front keeps its number, and the rest is put after it
+module _ (items : Items) (tables : Tables) (index : Weights) (tag n before later : ℕ) (v front rest : Piece)
     (are : AreTags items) (entered : AreEntered items tables) (same : index ≡ weighed items)
     (member : IsMember items tag v) (lt : n < v.len) (is_front : front ≡ front_of n v)
-    (is_rest : rest ≡ rest_of n v) (by : ahead ≡ own front n) (rest_by : behind ≡ own rest rest.len)
+    (is_rest : rest ≡ rest_of n v) (by : before ≡ own front n) (rest_by : later ≡ own rest rest.len)
   where
     abbrev w : Piece
     w = front_of n v
 
-    weight_is : ahead ≡ own w w.len
+    weight_is : before ≡ own w w.len
     weight_is = by ∙ ap (λ (p : Piece). own p n) is_front
 
-    rest_is : behind ≡ own (rest_of n v) (rest_of n v).len
+    rest_is : later ≡ own (rest_of n v) (rest_of n v).len
     rest_is = rest_by ∙ ap (λ (p : Piece). own p p.len) is_rest
 
     short : v.len ≤ 4096
     short = (is_piece items tag v entered.pieces member).1
 
-    pub cut_fits : weight_of (with_value tag ahead index) ≤ 2 ^ 40 + 4096
+    pub cut_fits : weight_of (with_value tag before index) ≤ 2 ^ 40 + 4096
     cut_fits =
         let few : n ≤ 4096 = omega (arith, short) in
-        set_fits items index tag ahead v w same member weight_is tables are entered few
+        set_fits items index tag before v w same member weight_is tables are entered few
 
-    pub cut_rest_fits : weight_of (with_value tag ahead index) + behind < 2 ^ 64
+    pub cut_rest_fits : weight_of (with_value tag before index) + later < 2 ^ 64
     cut_rest_fits =
         let few : v.len - n ≤ 4096 = omega (arith, short) in
         omega (arith, cut_fits, rest_is, own_le (rest_of n v) (v.len - n) 4096 few)
 
     pub cut_weighed : (new : Items) (set after : Weights) (u : ℕ)
-        → IsPushed (with_value tag w items) (Some tag) u (rest_of n v) new → set ≡ with_value tag ahead index
-        → IsPushed set (Some tag) u behind after → after ≡ weighed new
+        → IsPushed (with_value tag w items) (Some tag) u (rest_of n v) new → set ≡ with_value tag before index
+        → IsPushed set (Some tag) u later after → after ≡ weighed new
     cut_weighed new set after u put is put_in =
-        pushed_weighed (with_value tag w items) new set after (Some tag) u behind (rest_of n v)
-        (written_tags tag w items are) (is ∙ set_weighed items index tag ahead v w same member weight_is) rest_is
+        pushed_weighed (with_value tag w items) new set after (Some tag) u later (rest_of n v)
+        (written_tags tag w items are) (is ∙ set_weighed items index tag before v w same member weight_is) rest_is
         put put_in

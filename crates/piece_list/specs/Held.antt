@@ -18,7 +18,7 @@ pub record PiecesSeen : Type 0 where
   pub items : List (ℕ × Piece)
   pub steps : ℕ
 
--- the piece of this number holds the character of this name, behind so many others
+-- the piece of this number holds the character of this name, after so many others
 abbrev pub IsPlaceOf : List (ℕ × Piece) → Place → CharName → Type 0
 IsPlaceOf items place c = (p : Piece) × IsMember items place.piece p × (place.within < p.len)
     × (c.site ≡ p.site) × (c.off ≡ p.off + place.within)
@@ -57,11 +57,11 @@ pub record AreHeld (items : List (ℕ × Piece)) (tables : Tables) (weights : Li
 abbrev pub HasPlace : List (ℕ × Piece) → Place → Type 0
 HasPlace items place = (p : Piece) × IsMember items place.piece p × (place.within < p.len)
 
--- new is old with the piece of this number cut behind its first n characters; the rest has the other number
+-- new is old with the piece of this number cut after its first n characters; the rest has the other number
 pub record IsCut (tag n rest : ℕ) (old new : List (ℕ × Piece)) : Type 0 where
-  pub ahead : List (ℕ × Piece)
-  pub behind : List (ℕ × Piece)
+  pub before : List (ℕ × Piece)
+  pub after : List (ℕ × Piece)
   pub piece : Piece
-  pub whole : old ≡ ahead ++ (tag, piece) ∷ behind
+  pub whole : old ≡ before ++ (tag, piece) ∷ after
   pub within : n < piece.len
-  pub parts : new ≡ ahead ++ (tag, front_of n piece) ∷ (rest, rest_of n piece) ∷ behind
+  pub parts : new ≡ before ++ (tag, front_of n piece) ∷ (rest, rest_of n piece) ∷ after

@@ -19,34 +19,34 @@ use Rattle.piece_list.specs.Spelled.{spelled, ArePieces}
 -- a piece cut in two, the rest under any number, spells the same
 abbrev pub CutSpellsTheSame : Type 0
 CutSpellsTheSame =
-    (ahead behind : List (ℕ × Piece)) (tag rest n : ℕ) (p : Piece) → n ≤ p.len
-    → spelled (ahead ++ (tag, front_of n p) ∷ (rest, rest_of n p) ∷ behind) ≡ spelled (ahead ++
-    (tag, p) ∷ behind)
+    (before after : List (ℕ × Piece)) (tag rest n : ℕ) (p : Piece) → n ≤ p.len
+    → spelled (before ++ (tag, front_of n p) ∷ (rest, rest_of n p) ∷ after) ≡ spelled (before ++
+    (tag, p) ∷ after)
 
--- the pieces end with the cause; there are none ahead of the root
+-- the pieces end with the cause; there are none before the root
 abbrev pub EndAt : List (ℕ × Piece) → Anchor → Type 0
-EndAt ahead Root = ahead ≡ []
-EndAt ahead (At c) = (front : List (ℕ × Piece)) × (tag : ℕ) × (p : Piece)
-    × (ahead ≡ front ++ (tag, p) ∷ []) × (c.site ≡ p.site) × (c.off + 1 ≡ p.off + p.len)
+EndAt before Root = before ≡ []
+EndAt before (At c) = (front : List (ℕ × Piece)) × (tag : ℕ) × (p : Piece)
+    × (before ≡ front ++ (tag, p) ∷ []) × (c.site ≡ p.site) × (c.off + 1 ≡ p.off + p.len)
 
 -- there are no pieces, or the first one's key isn't greater
 abbrev pub BeginNotAbove : Key → List (ℕ × Piece) → Type 0
 BeginNotAbove key [] = Unit {0}
-BeginNotAbove key (m ∷ behind) = is_below key m.1.key ≡ false
+BeginNotAbove key (m ∷ after) = is_below key m.1.key ≡ false
 
--- behind the cause whole pieces of greater key are skipped, and no further one is of greater key
-pub record IsPieceGap (key : Key) (cause : Anchor) (ahead skipped behind : List (ℕ × Piece)) : Type 0 where
-  pub at_cause : EndAt ahead cause
+-- after the cause whole pieces of greater key are skipped, and no further one is of greater key
+pub record IsPieceGap (key : Key) (cause : Anchor) (before skipped after : List (ℕ × Piece)) : Type 0 where
+  pub at_cause : EndAt before cause
   pub greater : All (λ m. is_below key m.1.key ≡ true) skipped
-  pub stops : BeginNotAbove key behind
+  pub stops : BeginNotAbove key after
 
 -- a piece put into this gap stands, character by character, where the insertion law puts its run
 abbrev pub PieceGoesIntoGap : Type 0
 PieceGoesIntoGap =
-    (ahead skipped behind : List (ℕ × Piece)) (cause : Anchor) (tag : ℕ) (p : Piece)
-    → ArePieces (ahead ++ skipped ++ behind) → IsPieceGap p.key cause ahead skipped behind
-    → IsPlaced p.key cause (chars_of p) (spelled (ahead ++ skipped ++ behind))
-    (spelled (ahead ++ skipped ++ (tag, p) ∷ behind))
+    (before skipped after : List (ℕ × Piece)) (cause : Anchor) (tag : ℕ) (p : Piece)
+    → ArePieces (before ++ skipped ++ after) → IsPieceGap p.key cause before skipped after
+    → IsPlaced p.key cause (chars_of p) (spelled (before ++ skipped ++ after))
+    (spelled (before ++ skipped ++ (tag, p) ∷ after))
 
 -- a run that is put there makes all characters of the larger set in order, each with its registers
 abbrev pub PlacedAreAtoms : Type 0
@@ -76,7 +76,7 @@ ChangesEach change each = (p : Piece)
 -- a piece that is changed changes the characters of its names, and no others
 abbrev pub ChangeIsOfItsNames : Type 0
 ChangeIsOfItsNames =
-    (change : Piece → Piece) (each : Atom → Atom) (ahead behind : List (ℕ × Piece)) (tag : ℕ) (p : Piece)
-    → ChangesEach change each → Avoid (range_of p) ahead → Avoid (range_of p) behind
-    → spelled (ahead ++ (tag, change p) ∷ behind)
-    ≡ map (if_named (range_of p ∷ []) each) (spelled (ahead ++ (tag, p) ∷ behind))
+    (change : Piece → Piece) (each : Atom → Atom) (before after : List (ℕ × Piece)) (tag : ℕ) (p : Piece)
+    → ChangesEach change each → Avoid (range_of p) before → Avoid (range_of p) after
+    → spelled (before ++ (tag, change p) ∷ after)
+    ≡ map (if_named (range_of p ∷ []) each) (spelled (before ++ (tag, p) ∷ after))

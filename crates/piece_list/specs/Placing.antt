@@ -29,17 +29,17 @@ abbrev pub IsAnchorPlace : List (ℕ × Piece) → Anchor → Option Place → T
 IsAnchorPlace items Root place = place ≡ None
 IsAnchorPlace items (At c) place = (at : Place) × (place ≡ Some at) × IsPlaceOf items at c
 
--- the pieces are those ahead, of which the last has this number (none where there are none), and those behind
+-- the pieces are those before, of which the last has this number (none where there are none), and those after
 abbrev pub IsParted : List (ℕ × Piece) → Option ℕ → List (ℕ × Piece) → List (ℕ × Piece) → Type 0
-IsParted items last ahead behind = (items ≡ ahead ++ behind) × (last_tag ahead ≡ last)
+IsParted items last before after = (items ≡ before ++ after) × (last_tag before ≡ last)
 
--- the pieces can be parted behind this number
+-- the pieces can be parted after this number
 abbrev pub HasPart : List (ℕ × Piece) → Option ℕ → Type 0
-HasPart items last = (ahead : List (ℕ × Piece)) × (behind : List (ℕ × Piece)) × IsParted items last ahead behind
+HasPart items last = (before : List (ℕ × Piece)) × (after : List (ℕ × Piece)) × IsParted items last before after
 
--- one piece of old is cut in two: its first n characters are the last of those ahead, and the others the
--- first of those behind
-pub record IsCutAt (old ahead behind : List (ℕ × Piece)) : Type 0 where
+-- one piece of old is cut in two: its first n characters are the last of those before, and the others the
+-- first of those after
+pub record IsCutAt (old before after : List (ℕ × Piece)) : Type 0 where
   pub front : List (ℕ × Piece)
   pub rest : List (ℕ × Piece)
   pub tag : ℕ
@@ -48,23 +48,23 @@ pub record IsCutAt (old ahead behind : List (ℕ × Piece)) : Type 0 where
   pub piece : Piece
   pub within : n < piece.len
   pub whole : old ≡ front ++ (tag, piece) ∷ rest
-  pub ends : ahead ≡ front ++ (tag, front_of n piece) ∷ []
-  pub begins : behind ≡ (other, rest_of n piece) ∷ rest
+  pub ends : before ≡ front ++ (tag, front_of n piece) ∷ []
+  pub begins : after ≡ (other, rest_of n piece) ∷ rest
 
--- old's pieces are those ahead and those behind, or are once one piece is cut there
+-- old's pieces are those before and those after, or are once one piece is cut there
 abbrev pub IsCutThere : List (ℕ × Piece) → List (ℕ × Piece) → List (ℕ × Piece) → Type 0
-IsCutThere old ahead behind = (old ≡ ahead ++ behind) ⊎ IsCutAt old ahead behind
+IsCutThere old before after = (old ≡ before ++ after) ⊎ IsCutAt old before after
 
--- the pieces are parted behind this number, directly behind the anchor; for this one of old's was cut there at
+-- the pieces are parted after this number, directly after the anchor; for this one of old's was cut there at
 -- most
 abbrev pub IsPartedAt : List (ℕ × Piece) → List (ℕ × Piece) → Option ℕ → Anchor → Type 0
-IsPartedAt old items last cause = (ahead : List (ℕ × Piece)) × (behind : List (ℕ × Piece))
-    × IsParted items last ahead behind × EndAt ahead cause × IsCutThere old ahead behind
+IsPartedAt old items last cause = (before : List (ℕ × Piece)) × (after : List (ℕ × Piece))
+    × IsParted items last before after × EndAt before cause × IsCutThere old before after
 
 -- the piece of this number follows directly, and its key is greater
 abbrev pub IsNext : List (ℕ × Piece) → Key → Option ℕ → ℕ → Type 0
-IsNext items key last next = (ahead behind : List (ℕ × Piece)) → IsParted items last ahead behind
-    → (p : Piece) × (rest : List (ℕ × Piece)) × (behind ≡ (next, p) ∷ rest) × (is_below key p.key ≡ true)
+IsNext items key last next = (before after : List (ℕ × Piece)) → IsParted items last before after
+    → (p : Piece) × (rest : List (ℕ × Piece)) × (after ≡ (next, p) ∷ rest) × (is_below key p.key ≡ true)
 
 -- a count went on by n from one number to another, as far as a u64 reaches
 abbrev pub IsCounted : (from n steps : ℕ) → Type 0
@@ -75,26 +75,26 @@ abbrev pub last_look : List (ℕ × Piece) → ℕ
 last_look [] = 0
 last_look (m ∷ rest) = 1
 
--- behind those ahead, of the pieces that follow, whole pieces of greater key are skipped, and no further one
+-- after those before, of the pieces that follow, whole pieces of greater key are skipped, and no further one
 -- is of greater key; the last piece then has this number, and each look at a key was counted
-pub record IsSkip (key : Key) (ahead behind : List (ℕ × Piece)) (last : Option ℕ) (from steps : ℕ) : Type 0 where
+pub record IsSkip (key : Key) (before after : List (ℕ × Piece)) (last : Option ℕ) (from steps : ℕ) : Type 0 where
   pub skipped : List (ℕ × Piece)
   pub rest : List (ℕ × Piece)
-  pub whole : behind ≡ skipped ++ rest
+  pub whole : after ≡ skipped ++ rest
   pub greater : All (λ m. is_below key m.1.key ≡ true) skipped
   pub stops : BeginNotAbove key rest
-  pub last_is : last_tag (ahead ++ skipped) ≡ last
+  pub last_is : last_tag (before ++ skipped) ≡ last
   pub counts : IsCounted from (length skipped + last_look rest) steps
 
--- new is old, cut behind the anchor where that is needed, with this piece in its gap; the steps are the comparisons that find the
+-- new is old, cut after the anchor where that is needed, with this piece in its gap; the steps are the comparisons that find the
 -- anchor, and one look at the key of each piece skipped and of the next one
 pub record IsPutInGap (cause : Anchor) (p : Piece) (old new : List (ℕ × Piece)) (steps : ℕ) : Type 0 where
-  pub ahead : List (ℕ × Piece)
+  pub before : List (ℕ × Piece)
   pub skipped : List (ℕ × Piece)
-  pub behind : List (ℕ × Piece)
+  pub after : List (ℕ × Piece)
   pub tag : ℕ
-  pub gap : IsPieceGap p.key cause ahead skipped behind
-  pub cut : IsCutThere old ahead (skipped ++ behind)
-  pub spells : spelled (ahead ++ skipped ++ behind) ≡ spelled old
-  pub put : new ≡ ahead ++ skipped ++ (tag, p) ∷ behind
-  pub counts : IsCounted (compared cause) (length skipped + last_look behind) steps
+  pub gap : IsPieceGap p.key cause before skipped after
+  pub cut : IsCutThere old before (skipped ++ after)
+  pub spells : spelled (before ++ skipped ++ after) ≡ spelled old
+  pub put : new ≡ before ++ skipped ++ (tag, p) ∷ after
+  pub counts : IsCounted (compared cause) (length skipped + last_look after) steps

@@ -3,7 +3,7 @@ use Rattle.std.specs.Prelude.{ℕ, zero, suc, ◌+◌, ◌-◌, ◌<◌, ◌≤�
 use Rattle.char_files.specs.declared.TheConstants.{MAX_FILE}
 use Rattle.piece_list.specs.declared.run.Run.{Run}
 
--- the runs with this one ahead of them, if there is one
+-- the runs with this one before them, if there is one
 abbrev pub with_first : Option Run → List Run → List Run
 with_first None runs = runs
 with_first (Some r) runs = r ∷ runs

@@ -55,7 +55,7 @@ impl PieceList {
     }
 
     /// A law: the pieces' numbers count from 0, and none is used twice. A proof gets it by calling this, at no cost.
-    pub fn are_numbered(&self)
+    pub fn lemma_are_numbered(&self)
         ensures { AreTags self.now.items }
     {
         let pieces = &self.pieces;
@@ -76,8 +76,8 @@ impl PieceList {
         self.pieces.locate(name, &mut self.steps)
     }
 
-    /// Cuts a piece in two ahead of this place, which is in the list, and answers the place of the same character
-    /// afterwards. The piece keeps its number and what stands ahead, and every other piece stays. Nothing changes
+    /// Cuts a piece in two before this place, which is in the list, and answers the place of the same character
+    /// afterwards. The piece keeps its number and what stands before, and every other piece stays. Nothing changes
     /// at a piece's first character.
     ///
     /// Refused `OutOfMemory` alone.

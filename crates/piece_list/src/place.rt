@@ -1,5 +1,5 @@
 /// Where a character stands: the number of its piece, which the piece keeps for good, and how many
-/// characters of the piece stand ahead of it.
+/// characters of the piece stand before it.
 #[derive(Clone, Copy, Debug, PartialEq, Eq)]
 pub struct Place {
     pub piece: u64,

@@ -49,8 +49,8 @@ impl SiteTags {
     fn fill(&mut self, off: u32, len: u32, tag: u64)
         requires { off + len ≤ length self.old }
         ensures inside { (at : ℕ) → off ≤ at → at < off + len → tag_in self.new at ≡ Just tag }
-        ensures ahead { (at : ℕ) → at < off → tag_in self.new at ≡ tag_in self.old at }
-        ensures behind { (at : ℕ) → off + len ≤ at → tag_in self.new at ≡ tag_in self.old at }
+        ensures before { (at : ℕ) → at < off → tag_in self.new at ≡ tag_in self.old at }
+        ensures after { (at : ℕ) → off + len ≤ at → tag_in self.new at ≡ tag_in self.old at }
         ensures long { length self.new ≡ length self.old }
     {
         for at in off as usize..off as usize + len as usize {
@@ -117,9 +117,9 @@ impl TagTables {
         requires { off + len ≤ length (table_of self.old site) }
         ensures inside { (at : ℕ) → off ≤ at → at < off + len → tag_in (table_of self.new site) at
             ≡ Just tag }
-        ensures ahead { (at : ℕ) → at < off → tag_in (table_of self.new site) at
+        ensures before { (at : ℕ) → at < off → tag_in (table_of self.new site) at
             ≡ tag_in (table_of self.old site) at }
-        ensures behind { (at : ℕ) → off + len ≤ at
+        ensures after { (at : ℕ) → off + len ≤ at
             → tag_in (table_of self.new site) at ≡ tag_in (table_of self.old site) at }
         ensures others { (other : ℕ) → other ≢ site → table_of self.new other ≡ table_of self.old other }
         ensures long { length (table_of self.new site) ≡ length (table_of self.old site) }

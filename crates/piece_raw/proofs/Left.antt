@@ -1,4 +1,4 @@
--- What is left of a ring from a node on, and behind it.
+-- What is left of a ring from a node on, and after it.
 use Rattle.std.proofs.Common.{◌≡◌, ℕ, Bool, false, cond, List, [], ◌∷◌, ◌++◌, Some, None, option_map}
 use Rattle.std.proofs.Common.{refl, sym, ap, ◌∙◌, subst, append_assoc}
 use Rattle.std.specs.List.{AllByRecursion}
@@ -9,7 +9,7 @@ use Rattle.piece_raw.specs.Ring.{first_tag, last_tag}
 use Rattle.piece_raw.specs.Tied.{members, nodes_from, stop_of, IsHeld}
 use Rattle.piece_raw.proofs.Splits.{cons_head, cons_tail, cut_last, all_left, all_right, distinct_differs}
 use Rattle.piece_raw.proofs.Apart.{same_ptr_refl, same_ptr_symm, apart_places, same_node}
-use Rattle.piece_raw.proofs.Matching.{N, members-cons, stop-some, found, step_after, cut_behind, cut_members}
+use Rattle.piece_raw.proofs.Matching.{N, members-cons, stop-some, found, step_after, cut_after, cut_members}
 
 last_tag-push : {T : Type 0} (us : List (ℕ × T)) (m : ℕ × T) → last_tag (us ++ m ∷ []) ≡ Some m.0
 last_tag-push [] m = refl
@@ -41,15 +41,15 @@ module _ {T : Type 0} where
         (distinct_differs (λ (n : N T). n.at) same_ptr same_ptr_symm xs x ys
         (subst (λ (l : List (N T)). IsApart (places l)) e (apart_places t.at ns d))))
 
-    -- from the node behind one on there are those behind it
+    -- from the node after one on there are those after it
     from_next : (xs : List (N T)) (x : N T) (ys : List (N T)) (c : t ∷ ns ≡ xs ++ x ∷ ys)
         → nodes_from (step_after t ns xs x ys c).0.at ns ≡ ys
     unfolding step_after
     from_next xs x [] c = from_trailer
-    from_next xs x (y ∷ ys) c = let on = cut_behind t ns xs x (y ∷ ys) c in from_node on.0 y ys on.1
+    from_next xs x (y ∷ ys) c = let on = cut_after t ns xs x (y ∷ ys) c in from_node on.0 y ys on.1
 
     module _ (ps : List Ptr) (held : AllByRecursion (IsHeld ps) ns) (none : t.value ≡ None) where
-      -- a member's node stands ahead of what is left behind it
+      -- a member's node stands before what is left after it
       pub left_steps : (xs : List (N T)) (x : N T) (ys : List (N T)) (c : t ∷ ns ≡ xs ++ x ∷ ys) (m : Member T)
           → x.value ≡ Some m → members (nodes_from x.at ns)
           ≡ (m.tag, m.value) ∷ members (nodes_from (step_after t ns xs x ys c).0.at ns)
@@ -81,22 +81,22 @@ module _ {T : Type 0} where
           found ps t none ns held (t ∷ on.0) y on.2 whole v.0 stop in
           let at : x.at ≡ y.at = cc in
           let same = same_node (t ∷ ns) xs x ys (t ∷ on.0) y on.2 d c whole at in
-          let behind : members ys ≡ vs = ap members same.2 ∙ on.8 in (
+          let after : members ys ≡ vs = ap members same.2 ∙ on.8 in (
             members-cons x on.3 ys (ap (λ (n : N T). n.value) same.1 ∙ on.5)
-                ∙ (λ i. on.6 i ∷ behind i),
-            behind,
+                ∙ (λ i. on.6 i ∷ after i),
+            after,
           )
 
-      -- what is left behind the member of a tag
-      pub left_behind : (us vs : List (ℕ × T)) → members ns ≡ us ++ vs → (xs : List (N T)) (x : N T)
+      -- what is left after the member of a tag
+      pub left_after : (us vs : List (ℕ × T)) → members ns ≡ us ++ vs → (xs : List (N T)) (x : N T)
           (ys : List (N T)) (c : t ∷ ns ≡ xs ++ x ∷ ys) → stop_of x ≡ last_tag us
           → members (nodes_from (step_after t ns xs x ys c).0.at ns) ≡ vs
-      left_behind [] vs e [] x ys c s = ap members (from_next [] x ys c) ∙ ap members (sym (cons_tail t x ns ys c)) ∙ e
-      left_behind [] vs e (z ∷ xs) x ys c s =
+      left_after [] vs e [] x ys c s = ap members (from_next [] x ys c) ∙ ap members (sym (cons_tail t x ns ys c)) ∙ e
+      left_after [] vs e (z ∷ xs) x ys c s =
           let here = (all_right (IsHeld ps) xs (x ∷ ys) (subst (AllByRecursion (IsHeld ps))
           (cons_tail t z ns (xs ++ x ∷ ys) c) held)).0 in
           let both : Some here.0.tag ≡ None = sym (stop-some x here.0 here.1) ∙ s in cc
-      left_behind (u ∷ us) vs e xs x ys c s =
+      left_after (u ∷ us) vs e xs x ys c s =
           let last = cut_last u us in
           ap members (from_next xs x ys c) ∙ (there last.0 _ vs (e ∙ ap (λ (l : List (ℕ × T)). l ++ vs) last.1
           ∙ append_assoc last.0 _ vs) xs x ys c (s ∙ ap last_tag last.1 ∙ last_tag-push last.0 _)).1

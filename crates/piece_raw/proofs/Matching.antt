@@ -214,10 +214,10 @@ module _ {T : Type 0} where
   places_last t [] = refl
   places_last t (x ∷ xs) = places_last x xs
 
-  pub cut_behind : (t : N T) (ns us : List (N T)) (x : N T) (vs : List (N T)) → t ∷ ns ≡ us ++ x ∷ vs →
+  pub cut_after : (t : N T) (ns us : List (N T)) (x : N T) (vs : List (N T)) → t ∷ ns ≡ us ++ x ∷ vs →
       (xs : List (N T)) × (ns ≡ xs ++ vs) × (last_from t xs ≡ x)
-  cut_behind t ns [] x vs e = ([], cons_tail t x ns vs e, cons_head t x ns vs e)
-  cut_behind t ns (u ∷ us) x vs e = (
+  cut_after t ns [] x vs e = ([], cons_tail t x ns vs e, cons_head t x ns vs e)
+  cut_after t ns (u ∷ us) x vs e = (
     us ++ x ∷ [],
     cons_tail t u ns (us ++ x ∷ vs) e ∙
         sym (append_assoc us (x ∷ []) vs),

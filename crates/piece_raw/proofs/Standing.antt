@@ -12,28 +12,28 @@ use Rattle.piece_raw.proofs.Matching.{N, members-append, members-cons, stop-some
 module _ {T : Type 0} (n : Nodes T) (tag : ℕ) where
   -- the node that holds the member of a tag
   pub record Standing : Type 0 where
-    pub ahead : List (N T)
+    pub before : List (N T)
     pub node : N T
-    pub behind : List (N T)
+    pub after : List (N T)
     pub member : Member T
-    pub cut : n.links.nodes ≡ ahead ++ node ∷ behind
+    pub cut : n.links.nodes ≡ before ++ node ∷ after
     pub held : node.value ≡ Some member
     pub tagged : member.tag ≡ tag
 
   module _ (on : Standing) where
     pub among : IsAmong (all_nodes n) on.node
-    among = (n.links.trailer ∷ on.ahead, on.behind, ap (λ ns. n.links.trailer ∷ ns) on.cut)
+    among = (n.links.trailer ∷ on.before, on.after, ap (λ ns. n.links.trailer ∷ ns) on.cut)
 
     pub stops : stop_of on.node ≡ Some tag
     stops = stop-some on.node on.member on.held ∙ ap Some on.tagged
 
     pub is_member : IsMember (members n.links.nodes) tag on.member.value
     is_member = (
-      members on.ahead,
-      members on.behind,
-      ap members on.cut ∙ members-append on.ahead (on.node ∷ on.behind) ∙
-          ap (λ l. members on.ahead ++ l) (members-cons on.node on.member on.behind on.held) ∙
-          ap (λ k. members on.ahead ++ (k, on.member.value) ∷ members on.behind) on.tagged,
+      members on.before,
+      members on.after,
+      ap members on.cut ∙ members-append on.before (on.node ∷ on.after) ∙
+          ap (λ l. members on.before ++ l) (members-cons on.node on.member on.after on.held) ∙
+          ap (λ k. members on.before ++ (k, on.member.value) ∷ members on.after) on.tagged,
     )
 
 module _ {T : Type 0} (n : Nodes T) (tied : IsTied n) where
@@ -42,9 +42,9 @@ module _ {T : Type 0} (n : Nodes T) (tied : IsTied n) where
       let on = cut_members (spots n.table.items) n.links.nodes tied.matches.held has.1.0 tag has.0 has.1.1
       has.1.2 in
       record {
-        ahead = on.0;
+        before = on.0;
         node = on.1;
-        behind = on.2;
+        after = on.2;
         member = on.3;
         cut = on.4;
         held = on.5;
@@ -61,7 +61,7 @@ module _ {T : Type 0} (n : Nodes T) (tied : IsTied n) where
       (subst (AllByRecursion (IsHeld ps)) rest tied.matches.held)).0 in
       let both : Some here.0.tag ≡ Some tag = sym (stop-some x here.0 here.1) ∙ s in
       let same : here.0.tag ≡ tag = cc in
-      record { ahead = xs; node = x; behind = ys; member = here.0; cut = rest; held = here.1; tagged = same }
+      record { before = xs; node = x; after = ys; member = here.0; cut = rest; held = here.1; tagged = same }
 
   -- where a cursor stands there is a member
   pub of_stop : (tag : ℕ) → IsStop (all_nodes n) (Some tag) → Standing n tag

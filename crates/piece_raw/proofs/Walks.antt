@@ -171,7 +171,7 @@ module _ (E : Of) (out : Slot 1) where
       ensures = λ _ r w. fact 𝓤 (Gives κs a.0.now a.1.0 r);
     }
 
-    -- there: the x that the links lend `off` bytes behind the node's address. made: the result, by x and the block
+    -- there: the x that the links lend `off` bytes after the node's address. made: the result, by x and the block
     pub looks : (R : RattleType) (off : ℕ) (made : (κs : Lfts 1) → R.Denot → ℕ → ℕ → (out.row κs).Denot)
         (there : (d : (Lr E).Denot) (node : (Np E).Denot) → Asks d node → R.Denot)
         → ((κ : Lft) (d : (Lr E).Denot) (node : (Np E).Denot) (asked : Asks d node) →

@@ -49,7 +49,7 @@ impl<V> Links<V> {
         Detached { ptr: trailer.ptr }
     }
 
-    // Links the node in directly behind the one at `at`.
+    // Links the node in directly after the one at `at`.
     pub(crate) fn attach(&mut self, at: NodePtr<V>, node: Detached<V>)
         requires { IsOn self.old.trailer self.old.nodes at.ptr }
         ensures trailer { self.new.trailer ≡ self.old.trailer }

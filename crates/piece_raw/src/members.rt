@@ -12,7 +12,7 @@ use std::marker::Model;
 #[derive(Drop)]
 pub struct Members<'a, T> {
     nodes: &'a Nodes<T>,
-    // Where the next one lies; the trailer behind the last one.
+    // Where the next one lies; the trailer after the last one.
     at: NodePtr<Option<Member<T>>>,
 }
 
@@ -52,7 +52,7 @@ impl<'a, T> Members<'a, T> {
     // Those from the one of this tag on; none for `None`.
     pub(crate) fn from(nodes: &'a Nodes<T>, at: Option<u64>) -> Members<'a, T>
         requires { IsTied nodes.now × IsStop (all_nodes nodes.now) at }
-        ensures { (ahead left : List (ℕ × T)) → members nodes.now.links.nodes ≡ ahead ++ left
+        ensures { (before left : List (ℕ × T)) → members nodes.now.links.nodes ≡ before ++ left
             → first_tag left ≡ at → result ≡ left }
     {
         Members {
@@ -61,11 +61,11 @@ impl<'a, T> Members<'a, T> {
         }
     }
 
-    // Those behind the one of this tag; all for `None`.
-    pub(crate) fn behind(nodes: &'a Nodes<T>, last: Option<u64>) -> Members<'a, T>
+    // Those after the one of this tag; all for `None`.
+    pub(crate) fn rest_after(nodes: &'a Nodes<T>, last: Option<u64>) -> Members<'a, T>
         requires { IsTied nodes.now × IsStop (all_nodes nodes.now) last }
-        ensures { (ahead left : List (ℕ × T)) → members nodes.now.links.nodes ≡ ahead ++ left
-            → last_tag ahead ≡ last → result ≡ left }
+        ensures { (before left : List (ℕ × T)) → members nodes.now.links.nodes ≡ before ++ left
+            → last_tag before ≡ last → result ≡ left }
     {
         Members {
             nodes,

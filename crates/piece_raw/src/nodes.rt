@@ -88,7 +88,7 @@ impl<T> Nodes<T> {
         }
     }
 
-    // Links a new member in directly behind the stop, under the next tag.
+    // Links a new member in directly after the stop, under the next tag.
     pub(crate) fn push(
         &mut self,
         stop: Option<u64>,

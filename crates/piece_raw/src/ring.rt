@@ -86,19 +86,19 @@ impl<T> Ring<T> {
     /// The members from the one of this tag on; none for `None`.
     pub fn from(&self, at: Option<u64>) -> Members<'_, T>
         requires { IfSome at (HasTag self.now.items) }
-        ensures { (ahead left : List (ℕ × T)) → self.now.items ≡ ahead ++ left → first_tag left ≡ at
+        ensures { (before left : List (ℕ × T)) → self.now.items ≡ before ++ left → first_tag left ≡ at
             → result ≡ left }
     {
         Members::from(&self.nodes, at)
     }
 
-    /// The members behind the one of this tag; all for `None`.
-    pub fn behind(&self, last: Option<u64>) -> Members<'_, T>
+    /// The members after the one of this tag; all for `None`.
+    pub fn rest_after(&self, last: Option<u64>) -> Members<'_, T>
         requires { IfSome last (HasTag self.now.items) }
-        ensures { (ahead left : List (ℕ × T)) → self.now.items ≡ ahead ++ left → last_tag ahead ≡ last
+        ensures { (before left : List (ℕ × T)) → self.now.items ≡ before ++ left → last_tag before ≡ last
             → result ≡ left }
     {
-        Members::behind(&self.nodes, last)
+        Members::rest_after(&self.nodes, last)
     }
 
     /// The value of the member of this tag.

@@ -15,7 +15,7 @@ use Rattle.rank_index.proofs.Tagged.{Members}
 
 -- a member of a tag is among the members
 pub has_place : (xs : Members) (tag place : ℕ) → IsPlace xs tag place → HasTag xs tag
-has_place xs tag place (ahead, behind, weight, cut, at) = (weight, (ahead, behind, cut))
+has_place xs tag place (before, after, weight, cut, at) = (weight, (before, after, cut))
 
 last_tag-push : (xs : Members) (m : ℕ × ℕ) → last_tag (xs ++ m ∷ []) ≡ Some m.0
 last_tag-push [] m = refl
@@ -23,19 +23,19 @@ last_tag-push (n ∷ []) m = refl
 last_tag-push (n ∷ k ∷ xs) m = last_tag-push (k ∷ xs) m
 
 pub place_within : (xs : Members) (tag place : ℕ) → IsPlace xs tag place → place < length xs
-place_within xs tag place (ahead, behind, weight, cut, at) =
-    omega (arith, ap length cut, length-append ahead ((tag, weight) ∷ behind))
+place_within xs tag place (before, after, weight, cut, at) =
+    omega (arith, ap length cut, length-append before ((tag, weight) ∷ after))
 
--- the last one up to the place behind a tag's is the one of this tag
-pub last_behind : (xs : Members) (tag place : ℕ) → IsPlace xs tag place
+-- the last one up to the place after a tag's is the one of this tag
+pub last_later : (xs : Members) (tag place : ℕ) → IsPlace xs tag place
     → last_tag (take (place + 1) xs) ≡ Some tag
-last_behind xs tag place (ahead, behind, weight, cut, at) =
+last_later xs tag place (before, after, weight, cut, at) =
     let m : ℕ × ℕ = (tag, weight) in
-    let count : length (ahead ++ m ∷ []) ≡ place + 1 = omega (arith, length-append ahead (m ∷ [])) in
-    let front : take (place + 1) xs ≡ ahead ++ m ∷ [] =
-    ap (take (place + 1)) (cut ∙ sym (append_assoc ahead (m ∷ []) behind))
-    ∙ take_at (ahead ++ m ∷ []) behind (place + 1) count in
-    ap last_tag front ∙ last_tag-push ahead m
+    let count : length (before ++ m ∷ []) ≡ place + 1 = omega (arith, length-append before (m ∷ [])) in
+    let front : take (place + 1) xs ≡ before ++ m ∷ [] =
+    ap (take (place + 1)) (cut ∙ sym (append_assoc before (m ∷ []) after))
+    ∙ take_at (before ++ m ∷ []) after (place + 1) count in
+    ap last_tag front ∙ last_tag-push before m
 
 -- what one member more weighs
 pub weight_of-insert : (xs : Members) (at : ℕ) (m : ℕ × ℕ) → weight_of (insert xs at m) ≡ weight_of xs + m.1
@@ -82,16 +82,16 @@ written (m ∷ xs) ys tag v w distinct =
 -- a weight written at a tag's place
 pub set_at : (items xs : Members) (tag place w : ℕ) (m : ℕ × ℕ) → items ≡ xs → m ≡ get_or items place m
     → IsPlace xs tag place → IsDistinct ◌==◌ (tags xs) → set items place (m.0, w) ≡ with_value tag w xs
-set_at items xs tag place w m same read (ahead, behind, v, cut, at) distinct =
+set_at items xs tag place w m same read (before, after, v, cut, at) distinct =
     let n : ℕ × ℕ = (tag, v) in
-    let whole : items ≡ ahead ++ n ∷ behind = same ∙ cut in
+    let whole : items ≡ before ++ n ∷ after = same ∙ cut in
     let kept : m.0 ≡ tag =
     ap (λ (k : ℕ × ℕ). k.0) read ∙ ap (λ (l : Members). (get_or l place m).0) whole
-    ∙ ap (λ (k : ℕ). (get_or (ahead ++ n ∷ behind) k m).0) at
-    ∙ ap (λ (k : ℕ × ℕ). k.0) (get_or-append_seam ahead n behind m) in
+    ∙ ap (λ (k : ℕ). (get_or (before ++ n ∷ after) k m).0) at
+    ∙ ap (λ (k : ℕ × ℕ). k.0) (get_or-append_seam before n after m) in
     ap (λ (t : ℕ). set items place (t, w)) kept
     ∙ ap (λ (l : Members). set l place (tag, w)) whole
-    ∙ ap (λ (k : ℕ). set (ahead ++ n ∷ behind) k (tag, w)) at
-    ∙ set-append_seam ahead n behind (tag, w)
-    ∙ sym (written ahead behind tag v w (subst (λ (l : Members). IsDistinct ◌==◌ (tags l)) cut distinct))
+    ∙ ap (λ (k : ℕ). set (before ++ n ∷ after) k (tag, w)) at
+    ∙ set-append_seam before n after (tag, w)
+    ∙ sym (written before after tag v w (subst (λ (l : Members). IsDistinct ◌==◌ (tags l)) cut distinct))
     ∙ sym (ap (with_value tag w) cut)

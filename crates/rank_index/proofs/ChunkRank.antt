@@ -1,4 +1,4 @@
--- What stands ahead of a member, and what a part of the members weighs.
+-- What stands before a member, and what a part of the members weighs.
 use Rattle.std.proofs.Common.{◌≡◌, ◌≢◌, ℕ, ◌+◌, ◌<◌, ◌≤◌, [], ◌∷◌, ◌++◌, length, get_or, take, drop, All}
 use Rattle.std.proofs.Common.{sym, ap, ◌∙◌, subst, arith}
 use Rattle.std.proofs.lemmas.List.{take-append-drop, take_all, drop_more, take_more, length-append, length-take-le}
@@ -31,7 +31,7 @@ module _ (xs : Members) (i : ℕ) (d : ℕ × ℕ) (lt : i < length xs) where
   weight_of-more =
       omega (arith, ap weight_of (take_more xs i d lt), weight_of-cut (take i xs) (get_or xs i d) [])
 
-  -- what stands ahead of a member, and the member, are within the whole
+  -- what stands before a member, and the member, are within the whole
   pub weight_of-more_le : weight_of (take i xs) + (get_or xs i d).1 ≤ weight_of xs
   weight_of-more_le =
       omega (arith, ap weight_of cut_at, weight_of-cut (take i xs) (get_or xs i d) (drop (i + 1) xs))
@@ -70,15 +70,15 @@ module _ (xs : Members) (i : ℕ) (d : ℕ × ℕ) (lt : i < length xs) where
 
 -- a tag that none has
 no_member : (xs : Members) (tag : ℕ) → All (λ m. m.0 ≢ tag) xs → HasTag xs tag → ⊥
-no_member xs tag none (weight, (ahead, behind, cut)) =
+no_member xs tag none (weight, (before, after, cut)) =
     let m : ℕ × ℕ = (tag, weight) in
-    none (length ahead) m (omega (arith, ap length cut, length-append ahead (m ∷ behind)))
-    (ap (λ (l : Members). (get_or l (length ahead) m).0) cut
-    ∙ ap (λ (n : ℕ × ℕ). n.0) (get_or-append_seam ahead m behind m))
+    none (length before) m (omega (arith, ap length cut, length-append before (m ∷ after)))
+    (ap (λ (l : Members). (get_or l (length before) m).0) cut
+    ∙ ap (λ (n : ℕ × ℕ). n.0) (get_or-append_seam before m after m))
 
 -- a tag that none has of those from the front on
-pub none_behind : (xs : Members) (i tag : ℕ) → i ≡ 0 → All (λ m. m.0 ≢ tag) (drop i xs) → HasTag xs tag → ⊥
-none_behind xs i tag front none =
+pub none_after : (xs : Members) (i tag : ℕ) → i ≡ 0 → All (λ m. m.0 ≢ tag) (drop i xs) → HasTag xs tag → ⊥
+none_after xs i tag front none =
     no_member xs tag (subst (λ (n : ℕ). All (λ m. m.0 ≢ tag) (drop n xs)) front none)
 
 -- a tag that none has of those that a loop has passed

@@ -90,12 +90,12 @@ groups_set groups chunks place c d s lt is are told =
       sums = λ (k : ℕ) (among : k < length (set groups g s)).
           let old : k < length groups = omega (arith, among, length-set groups g s) in
           elim (cases_lt k g) [
-            | inl ahead ↦ omega (
+            | inl before ↦ omega (
               arith,
               are.sums k old,
-              low (GROUP * k) (omega (arith, ahead)),
-              low (GROUP * (k + 1)) (omega (arith, ahead)),
-              get_or-set_other groups g k s 0 (λ (e : k ≡ g). absurd (omega (arith, e, ahead))),
+              low (GROUP * k) (omega (arith, before)),
+              low (GROUP * (k + 1)) (omega (arith, before)),
+              get_or-set_other groups g k s 0 (λ (e : k ≡ g). absurd (omega (arith, e, before))),
             )
             | inr rest ↦ elim (eq-or-lt_of_le rest) [
               | inl here ↦ omega (
@@ -108,12 +108,12 @@ groups_set groups chunks place c d s lt is are told =
                 get_or-set_same groups g s 0 within,
                 told,
               )
-              | inr behind ↦ omega (
+              | inr after ↦ omega (
                 arith,
                 are.sums k old,
-                high (GROUP * k) (omega (arith, behind)),
-                high (GROUP * (k + 1)) (omega (arith, behind)),
-                get_or-set_other groups g k s 0 (λ (e : k ≡ g). absurd (omega (arith, e, behind))),
+                high (GROUP * k) (omega (arith, after)),
+                high (GROUP * (k + 1)) (omega (arith, after)),
+                get_or-set_other groups g k s 0 (λ (e : k ≡ g). absurd (omega (arith, e, after))),
               )
             ]
           ];

@@ -11,8 +11,8 @@ use Rattle.rank_index.specs.Chunks.{IsPlaceOf, HasRoom}
 use Rattle.rank_index.proofs.Homes.{homes_kept}
 use Rattle.std.specs.List.{insert}
 use Rattle.std.proofs.Math.ListN.{set}
-use Rattle.rank_index.proofs.Pieces.{all_parts, all_whole, get-seam, cut_at, seam_at, insert-behind, is_read}
-use Rattle.rank_index.proofs.Stretches.{members_of-seam, not_ahead, not_behind}
+use Rattle.rank_index.proofs.Pieces.{all_parts, all_whole, get-seam, cut_at, seam_at, insert-after, is_read}
+use Rattle.rank_index.proofs.Stretches.{members_of-seam, not_earlier, not_after}
 use Rattle.rank_index.proofs.Tagged.{Members, AreApart, HasTag-append, HasTag-left, HasTag-right, no_tag_twice}
 use Rattle.rank_index.proofs.Tagged.{apart_left, apart_right}
 
@@ -35,20 +35,20 @@ pub full_among : (chunks : List ChunkSeen) (place : ℕ) (c : ChunkSeen) → Are
     → slice_get chunks place ≡ Some c → MOST ≤ length c.members
     → HALF * (length chunks + 1) ≤ length (members_of chunks)
 full_among chunks place c half at full =
-    let (ahead, behind, cut, there) = cut_at chunks place c at in
-    let count : length chunks ≡ length ahead + length (c ∷ behind) =
-    ap length cut ∙ length-append ahead (c ∷ behind) in
+    let (earlier, later, cut, there) = cut_at chunks place c at in
+    let count : length chunks ≡ length earlier + length (c ∷ later) =
+    ap length cut ∙ length-append earlier (c ∷ later) in
     let members : length (members_of chunks)
-    ≡ length (members_of ahead) + (length c.members + length (members_of behind)) =
-    ap (λ (l : List ChunkSeen). length (members_of l)) cut ∙ ap length (members_of-seam ahead c behind)
-    ∙ length-append (members_of ahead) (c.members ++ members_of behind)
-    ∙ ap (λ (n : ℕ). length (members_of ahead) + n) (length-append c.members (members_of behind)) in
+    ≡ length (members_of earlier) + (length c.members + length (members_of later)) =
+    ap (λ (l : List ChunkSeen). length (members_of l)) cut ∙ ap length (members_of-seam earlier c later)
+    ∙ length-append (members_of earlier) (c.members ++ members_of later)
+    ∙ ap (λ (n : ℕ). length (members_of earlier) + n) (length-append c.members (members_of later)) in
     elim half [
       | inl one ↦ omega (arith, members, full, one)
       | inr all ↦
           let P : ChunkSeen → Type 0 = λ (d : ChunkSeen). HALF ≤ length d.members in
-          let (left, here, right) = all_parts P ahead c behind (subst (All P) cut all) in
-          omega (arith, members, full, count, half_full ahead left, half_full behind right)
+          let (left, here, right) = all_parts P earlier c later (subst (All P) cut all) in
+          omega (arith, members, full, count, half_full earlier left, half_full later right)
     ]
 
 -- its place is that of one of them
@@ -61,22 +61,22 @@ none [] e = All-nil (λ (c : ChunkSeen). HALF ≤ length c.members)
 none (x ∷ xs) e = absurd (omega arith)
 
 -- the same chunks, with one of them in two parts
-module _ (ahead : List ChunkSeen) (whole front rest : ChunkSeen) (behind : List ChunkSeen)
+module _ (earlier : List ChunkSeen) (whole front rest : ChunkSeen) (later : List ChunkSeen)
     (parts : whole.members ≡ front.members ++ rest.members)
   where
     abbrev old : List ChunkSeen
-    old = ahead ++ whole ∷ behind
+    old = earlier ++ whole ∷ later
 
     abbrev new : List ChunkSeen
-    new = ahead ++ front ∷ rest ∷ behind
+    new = earlier ++ front ∷ rest ∷ later
 
     members_halved : members_of new ≡ members_of old
     members_halved =
-        members_of-seam ahead front (rest ∷ behind)
-        ∙ ap (λ (l : Members). members_of ahead ++ l)
-        (sym (append_assoc front.members rest.members (members_of behind))
-        ∙ ap (λ (l : Members). l ++ members_of behind) (sym parts))
-        ∙ sym (members_of-seam ahead whole behind)
+        members_of-seam earlier front (rest ∷ later)
+        ∙ ap (λ (l : Members). members_of earlier ++ l)
+        (sym (append_assoc front.members rest.members (members_of later))
+        ∙ ap (λ (l : Members). l ++ members_of later) (sym parts))
+        ∙ sym (members_of-seam earlier whole later)
 
     homes_halved : (before after : List ℕ) → AreApart (members_of old) → AreHomes before old
         → front.home ≡ whole.home → AreEntered after rest.home rest.members
@@ -88,34 +88,34 @@ module _ (ahead : List ChunkSeen) (whole front rest : ChunkSeen) (behind : List 
         let in_whole : (tag : ℕ) → HasTag rest.members tag → HasTag whole.members tag =
         λ (tag : ℕ) (h : HasTag rest.members tag).
         subst (λ (l : Members). HasTag l tag) (sym parts) (HasTag-right front.members rest.members tag h) in
-        let (left, here, right) = all_parts P ahead whole behind are in
-        let left' : All Q ahead =
-        homes_kept before after rest.members others ahead (λ (tag : ℕ) (h : HasTag rest.members tag)
-        (g : HasTag (members_of ahead) tag). not_ahead ahead whole behind tag apart (in_whole tag h) g) left in
-        let right' : All Q behind =
-        homes_kept before after rest.members others behind (λ (tag : ℕ) (h : HasTag rest.members tag)
-        (g : HasTag (members_of behind) tag). not_behind ahead whole behind tag apart (in_whole tag h) g) right in
+        let (left, here, right) = all_parts P earlier whole later are in
+        let left' : All Q earlier =
+        homes_kept before after rest.members others earlier (λ (tag : ℕ) (h : HasTag rest.members tag)
+        (g : HasTag (members_of earlier) tag). not_earlier earlier whole later tag apart (in_whole tag h) g) left in
+        let right' : All Q later =
+        homes_kept before after rest.members others later (λ (tag : ℕ) (h : HasTag rest.members tag)
+        (g : HasTag (members_of later) tag). not_after earlier whole later tag apart (in_whole tag h) g) right in
         let two : AreApart (front.members ++ rest.members) =
-        subst AreApart parts (apart_left whole.members (members_of behind)
-        (apart_right (members_of ahead) (whole.members ++ members_of behind)
-        (subst AreApart (members_of-seam ahead whole behind) apart))) in
+        subst AreApart parts (apart_left whole.members (members_of later)
+        (apart_right (members_of earlier) (whole.members ++ members_of later)
+        (subst AreApart (members_of-seam earlier whole later) apart))) in
         let here' : Q front = λ (tag : ℕ) (has : HasTag front.members tag).
         others tag (λ (h : HasTag rest.members tag). no_tag_twice front.members rest.members tag two has h)
         ∙ here tag (subst (λ (l : Members). HasTag l tag) (sym parts)
         (HasTag-left front.members rest.members tag has))
         ∙ ap Some (sym same) in
-        all_whole Q ahead front (rest ∷ behind) left' here' (All-cons Q rest behind entered right')
+        all_whole Q earlier front (rest ∷ later) left' here' (All-cons Q rest later entered right')
 
     halves_halved : AreHalfFull old → length front.members ≡ HALF → length rest.members ≡ HALF → AreHalfFull new
     halves_halved half first second =
         let P : ChunkSeen → Type 0 = λ (c : ChunkSeen). HALF ≤ length c.members in
-        let count : length old ≡ length ahead + length (whole ∷ behind) = length-append ahead (whole ∷ behind) in
-        let both : All P ahead × All P behind = elim half [
-          | inl one ↦ (none ahead (omega (arith, count, one)), none behind (omega (arith, count, one)))
-          | inr all ↦ let (left, here, right) = all_parts P ahead whole behind all in (left, right)
+        let count : length old ≡ length earlier + length (whole ∷ later) = length-append earlier (whole ∷ later) in
+        let both : All P earlier × All P later = elim half [
+          | inl one ↦ (none earlier (omega (arith, count, one)), none later (omega (arith, count, one)))
+          | inr all ↦ let (left, here, right) = all_parts P earlier whole later all in (left, right)
         ] in
-        inr (all_whole P ahead front (rest ∷ behind) both.0 (omega (arith, first))
-        (All-cons P rest behind (omega (arith, second)) both.1))
+        inr (all_whole P earlier front (rest ∷ later) both.0 (omega (arith, first))
+        (All-cons P rest later (omega (arith, second)) both.1))
 
     tied_halved : (before after : List ℕ) → AreTied before old → length after ≡ length before
         → front.home ≡ whole.home → (length front.members ≡ HALF) × (length rest.members ≡ HALF)
@@ -127,7 +127,7 @@ module _ (ahead : List ChunkSeen) (whole front rest : ChunkSeen) (behind : List 
       counted = same_length ∙ tied.counted ∙ ap length (sym members_halved);
       entered = homes_halved before after tied.tags.0 tied.entered same entered others;
       halves = halves_halved tied.halves halves.0 halves.1;
-      some = omega (arith, length-append ahead (front ∷ rest ∷ behind));
+      some = omega (arith, length-append earlier (front ∷ rest ∷ later));
     }
 
 -- there is one chunk more; where there are as few as before, all is as it was
@@ -138,8 +138,8 @@ same_if_few at was now halved few =
       few,
       ap length halved.was,
       ap length halved.is,
-      length-append halved.ahead (halved.whole ∷ halved.behind),
-      length-append halved.ahead (halved.front ∷ halved.rest ∷ halved.behind),
+      length-append halved.before (halved.whole ∷ halved.after),
+      length-append halved.before (halved.front ∷ halved.rest ∷ halved.after),
     ))
 
 -- where a member of the whole is now
@@ -147,18 +147,18 @@ module _ (at : ℕ) (was now : List ChunkSeen) (halved : IsHalved at was now) wh
   pub at_front : slice_get now at ≡ Some halved.front
   at_front =
       subst (λ (l : List ChunkSeen). slice_get l at ≡ Some halved.front) (sym halved.is)
-      (ap (slice_get (halved.ahead ++ halved.front ∷ halved.rest ∷ halved.behind)) halved.place
-      ∙ get-seam halved.ahead halved.front (halved.rest ∷ halved.behind))
+      (ap (slice_get (halved.before ++ halved.front ∷ halved.rest ∷ halved.after)) halved.place
+      ∙ get-seam halved.before halved.front (halved.rest ∷ halved.after))
 
   pub at_rest : slice_get now (at + 1) ≡ Some halved.rest
   at_rest =
-      let longer : List ChunkSeen = halved.ahead ++ halved.front ∷ [] in
-      let is : now ≡ longer ++ halved.rest ∷ halved.behind =
-      halved.is ∙ sym (append_assoc halved.ahead (halved.front ∷ []) (halved.rest ∷ halved.behind)) in
+      let longer : List ChunkSeen = halved.before ++ halved.front ∷ [] in
+      let is : now ≡ longer ++ halved.rest ∷ halved.after =
+      halved.is ∙ sym (append_assoc halved.before (halved.front ∷ []) (halved.rest ∷ halved.after)) in
       let next : at + 1 ≡ length longer =
-      omega (arith, halved.place, length-append halved.ahead (halved.front ∷ [])) in
+      omega (arith, halved.place, length-append halved.before (halved.front ∷ [])) in
       subst (λ (l : List ChunkSeen). slice_get l (at + 1) ≡ Some halved.rest) (sym is)
-      (ap (slice_get (longer ++ halved.rest ∷ halved.behind)) next ∙ get-seam longer halved.rest halved.behind)
+      (ap (slice_get (longer ++ halved.rest ∷ halved.after)) next ∙ get-seam longer halved.rest halved.after)
 
   pub room_at_front : HasRoom now at
   room_at_front = (halved.front, at_front, omega (arith, halved.halves.0))
@@ -170,15 +170,15 @@ module _ (at : ℕ) (was now : List ChunkSeen) (halved : IsHalved at was now) wh
   in_a_half tag (c, there, has) =
       let whole : slice_get was at ≡ Some halved.whole =
       subst (λ (l : List ChunkSeen). slice_get l at ≡ Some halved.whole) (sym halved.was)
-      (ap (slice_get (halved.ahead ++ halved.whole ∷ halved.behind)) halved.place
-      ∙ get-seam halved.ahead halved.whole halved.behind) in
+      (ap (slice_get (halved.before ++ halved.whole ∷ halved.after)) halved.place
+      ∙ get-seam halved.before halved.whole halved.after) in
       let same : c ≡ halved.whole = same_Some c halved.whole (sym there ∙ whole) in
       HasTag-append halved.front.members halved.rest.members tag
       (subst (λ (l : Members). HasTag l tag) (ap (λ (d : ChunkSeen). d.members) same ∙ halved.parts) has)
 
-  pub behind_in_rest : (tag : ℕ) → IsPlaceOf was at tag → (HasTag halved.front.members tag → ⊥)
+  pub after_in_rest : (tag : ℕ) → IsPlaceOf was at tag → (HasTag halved.front.members tag → ⊥)
       → IsPlaceOf now (at + 1) tag
-  behind_in_rest tag there absent = elim (in_a_half tag there) [
+  after_in_rest tag there absent = elim (in_a_half tag there) [
     | inl first ↦ absurd (absent first)
     | inr second ↦ (halved.rest, at_rest, second)
   ]
@@ -202,23 +202,23 @@ module _ (chunks : List ChunkSeen) (at : ℕ) (whole front rest : ChunkSeen) (lt
     abbrev made : List ChunkSeen
     made = insert (set chunks at front) (at + 1) rest
 
-    made_of : (ahead behind : List ChunkSeen) → at ≡ length ahead → set chunks at front ≡ ahead ++ front ∷ behind
-        → made ≡ ahead ++ front ∷ rest ∷ behind
-    made_of ahead behind place e =
-        (λ i. insert (e i) (place i + 1) rest) ∙ insert-behind ahead front rest behind
+    made_of : (earlier later : List ChunkSeen) → at ≡ length earlier → set chunks at front ≡ earlier ++ front ∷ later
+        → made ≡ earlier ++ front ∷ rest ∷ later
+    made_of earlier later place e =
+        (λ i. insert (e i) (place i + 1) rest) ∙ insert-after earlier front rest later
 
     pub halved_here : IsHalved at chunks made
     halved_here =
-        let (ahead, behind, cut, place, changed) = seam_at chunks at whole lt is_read in
+        let (earlier, later, cut, place, changed) = seam_at chunks at whole lt is_read in
         record {
-          ahead = ahead;
+          before = earlier;
           whole = whole;
-          behind = behind;
+          after = later;
           front = front;
           rest = rest;
           place = place;
           was = cut;
-          is = made_of ahead behind place (changed front);
+          is = made_of earlier later place (changed front);
           parts = parts;
           halves = halves;
         }
@@ -228,7 +228,7 @@ module _ (chunks : List ChunkSeen) (at : ℕ) (whole front rest : ChunkSeen) (lt
         → ((tag : ℕ) → (HasTag rest.members tag → ⊥) → slice_get after tag ≡ slice_get before tag)
         → AreTied after made
     tied_here before after tied same_length same entered others =
-        let (ahead, behind, cut, place, changed) = seam_at chunks at whole lt is_read in
-        subst (AreTied after) (sym (made_of ahead behind place (changed front)))
-        (tied_halved ahead whole front rest behind parts before after (subst (AreTied before) cut tied)
+        let (earlier, later, cut, place, changed) = seam_at chunks at whole lt is_read in
+        subst (AreTied after) (sym (made_of earlier later place (changed front)))
+        (tied_halved earlier whole front rest later parts before after (subst (AreTied before) cut tied)
         same_length same halves entered others)

@@ -86,14 +86,14 @@ HasTag-read members k d lt =
     let m : ℕ × ℕ = get_or members k d in
     (m.1, (take k members, drop (suc k) members, cut_read members k m lt (read_same members k d lt)))
 
--- a new member is entered behind all others
-pub homes_pushed : (homes : List ℕ) (ahead : List ChunkSeen) (c d : ChunkSeen) (behind : List ChunkSeen)
-    (after : Option ℕ) (tag w : ℕ) → AreHomes homes (ahead ++ c ∷ behind) → d.home ≡ c.home → tag ≡ length homes
-    → IsPushed c.members after tag w d.members → AreHomes (homes ++ d.home ∷ []) (ahead ++ d ∷ behind)
-homes_pushed homes ahead c d behind after tag w are same next (xs, ys, was, last, is) =
+-- a new member is entered after all others
+pub homes_pushed : (homes : List ℕ) (earlier : List ChunkSeen) (c d : ChunkSeen) (later : List ChunkSeen)
+    (after : Option ℕ) (tag w : ℕ) → AreHomes homes (earlier ++ c ∷ later) → d.home ≡ c.home → tag ≡ length homes
+    → IsPushed c.members after tag w d.members → AreHomes (homes ++ d.home ∷ []) (earlier ++ d ∷ later)
+homes_pushed homes earlier c d later after tag w are same next (xs, ys, was, last, is) =
     let P : ChunkSeen → Type 0 = λ (e : ChunkSeen). AreEntered homes e.home e.members in
     let Q : ChunkSeen → Type 0 = λ (e : ChunkSeen). AreEntered (homes ++ d.home ∷ []) e.home e.members in
-    let (left, here, right) = all_parts P ahead c behind are in
+    let (left, here, right) = all_parts P earlier c later are in
     let kept : (e : ChunkSeen) → P e → Q e =
     λ (e : ChunkSeen) (p : P e) (t : ℕ) (has : HasTag e.members t).
     get-left homes (d.home ∷ []) t e.home (p t has) in
@@ -112,7 +112,7 @@ homes_pushed homes ahead c d behind after tag w are same next (xs, ys, was, last
         | inr h ↦ old t (HasTag-right xs ys t h)
       ]
     ] in
-    all_whole Q ahead d behind (All-weaker P Q kept ahead left) all (All-weaker P Q kept behind right)
+    all_whole Q earlier d later (All-weaker P Q kept earlier left) all (All-weaker P Q kept later right)
 
 -- what is entered elsewhere stays, for chunks of which no member is among these
 pub homes_kept : (old new : List ℕ) (others : Members)

@@ -11,22 +11,22 @@ use Rattle.std.proofs.lemmas.Option.{same_Some, slice_get_read, get_or_from_slic
 
 module _ {X : Type 0} where
   pub cut_at : (xs : List X) (k : ℕ) (x : X) → slice_get xs k ≡ Some x
-      → (ahead : List X) × (behind : List X) × (xs ≡ ahead ++ x ∷ behind) × (k ≡ length ahead)
+      → (before : List X) × (after : List X) × (xs ≡ before ++ x ∷ after) × (k ≡ length before)
   cut_at [] k x e = absurd cc
   cut_at (y ∷ xs) zero x e =
       let same : y ≡ x = same_Some y x e in
       ([], xs, ap (λ (z : X). z ∷ xs) same, refl)
   cut_at (y ∷ xs) (suc k) x e =
-      let (ahead, behind, cut, at) = cut_at xs k x e in
-      let more : length (y ∷ ahead) ≡ suc (length ahead) = omega arith in
-      (y ∷ ahead, behind, ap (λ (l : List X). y ∷ l) cut, ap suc at ∙ sym more)
+      let (before, after, cut, at) = cut_at xs k x e in
+      let more : length (y ∷ before) ≡ suc (length before) = omega arith in
+      (y ∷ before, after, ap (λ (l : List X). y ∷ l) cut, ap suc at ∙ sym more)
 
-  pub get-seam : (ahead : List X) (x : X) (behind : List X)
-      → slice_get (ahead ++ x ∷ behind) (length ahead) ≡ Some x
-  get-seam [] x behind = refl
-  get-seam (y ∷ ahead) x behind =
-      let more : length (y ∷ ahead) ≡ suc (length ahead) = omega arith in
-      ap (slice_get (y ∷ ahead ++ x ∷ behind)) more ∙ get-seam ahead x behind
+  pub get-seam : (before : List X) (x : X) (after : List X)
+      → slice_get (before ++ x ∷ after) (length before) ≡ Some x
+  get-seam [] x after = refl
+  get-seam (y ∷ before) x after =
+      let more : length (y ∷ before) ≡ suc (length before) = omega arith in
+      ap (slice_get (y ∷ before ++ x ∷ after)) more ∙ get-seam before x after
 
   pub get-left : (xs ys : List X) (k : ℕ) (x : X) → slice_get xs k ≡ Some x → slice_get (xs ++ ys) k ≡ Some x
   get-left [] ys k x e = absurd cc
@@ -37,15 +37,15 @@ module _ {X : Type 0} where
   pub is_read : (xs : List X) (k : ℕ) (x r : X) → slice_get xs k ≡ Some x → r ≡ get_or xs k r → r ≡ x
   is_read xs k x r e is = is ∙ get_or_from_slice_get xs k x r e
 
-  pub insert-behind : (ahead : List X) (x y : X) (behind : List X)
-      → insert (ahead ++ x ∷ behind) (length ahead + 1) y ≡ ahead ++ x ∷ y ∷ behind
-  insert-behind [] x y behind = refl
-  insert-behind (z ∷ ahead) x y behind =
-      let more : length (z ∷ ahead) + 1 ≡ suc (length ahead + 1) = omega arith in
-      ap (λ (n : ℕ). insert (z ∷ ahead ++ x ∷ behind) n y) more
-      ∙ ap (λ (l : List X). z ∷ l) (insert-behind ahead x y behind)
+  pub insert-after : (before : List X) (x y : X) (after : List X)
+      → insert (before ++ x ∷ after) (length before + 1) y ≡ before ++ x ∷ y ∷ after
+  insert-after [] x y after = refl
+  insert-after (z ∷ before) x y after =
+      let more : length (z ∷ before) + 1 ≡ suc (length before + 1) = omega arith in
+      ap (λ (n : ℕ). insert (z ∷ before ++ x ∷ after) n y) more
+      ∙ ap (λ (l : List X). z ∷ l) (insert-after before x y after)
 
-  -- a list is what stands ahead of an index, the element there, and the rest
+  -- a list is what stands before an index, the element there, and the rest
   pub cut_read : (xs : List X) (k : ℕ) (x : X) → k < length xs → x ≡ get_or xs k x
       → xs ≡ take k xs ++ x ∷ drop (suc k) xs
   cut_read xs k x lt is =
@@ -54,15 +54,15 @@ module _ {X : Type 0} where
 
   -- and the same with another element there
   pub seam_at : (xs : List X) (k : ℕ) (x : X) → k < length xs → x ≡ get_or xs k x
-      → (ahead : List X) × (behind : List X) × (xs ≡ ahead ++ x ∷ behind) × (k ≡ length ahead)
-      × ((y : X) → set xs k y ≡ ahead ++ y ∷ behind)
+      → (before : List X) × (after : List X) × (xs ≡ before ++ x ∷ after) × (k ≡ length before)
+      × ((y : X) → set xs k y ≡ before ++ y ∷ after)
   seam_at xs k x lt is =
-      let (ahead, behind, cut, at) = cut_at xs k x (slice_get_read xs (length xs) k x refl lt is) in (
-        ahead,
-        behind,
+      let (before, after, cut, at) = cut_at xs k x (slice_get_read xs (length xs) k x refl lt is) in (
+        before,
+        after,
         cut,
         at,
-        λ (y : X). (λ i. set (cut i) (at i) y) ∙ set-append_seam ahead x behind y,
+        λ (y : X). (λ i. set (cut i) (at i) y) ∙ set-append_seam before x after y,
       )
 
   module _ (P : X → Type 0) where
@@ -77,5 +77,5 @@ module _ {X : Type 0} where
 
     pub all_at : (xs : List X) (k : ℕ) (x : X) → All P xs → slice_get xs k ≡ Some x → P x
     all_at xs k x all e =
-        let (ahead, behind, cut, at) = cut_at xs k x e in
-        (all_parts ahead x behind (subst (All P) cut all)).1
+        let (before, after, cut, at) = cut_at xs k x e in
+        (all_parts before x after (subst (All P) cut all)).1

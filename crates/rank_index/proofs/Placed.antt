@@ -13,7 +13,7 @@ use Rattle.rank_index.proofs.Homes.{get-set_same, get-set_other, home_at}
 use Rattle.rank_index.proofs.Pieces.{get-left}
 use Rattle.rank_index.proofs.Stretches.{chunk_with}
 
--- an element of a list with one more is that one, or stands where it stood or one place behind
+-- an element of a list with one more is that one, or stands where it stood or one place after
 module _ {X : Type 0} (x d : X) (ys : List X) where
   pub around_seam : (xs : List X) (k : ℕ) → slice_get (xs ++ x ∷ ys) k ≡ Some d
       → ((k < length xs) × (slice_get (xs ++ ys) k ≡ Some d))
@@ -79,9 +79,9 @@ placed_set places chunks at c d lt is same placed =
       counted = placed.counted ∙ sym long;
     }
 
--- the table tells the chunks ahead of this place, and has room to tell each, under a home of its own
+-- the table tells the chunks before this place, and has room to tell each, under a home of its own
 pub record IsToldTo (places : List ℕ) (chunks : List ChunkSeen) (from : ℕ) : Type 0 where
-  pub ahead : AreToldTo places chunks from
+  pub before : AreToldTo places chunks from
   pub homes : HomesDiffer chunks
   pub within : (k : ℕ) (c : ChunkSeen) → slice_get chunks k ≡ Some c → c.home < length places
 
@@ -92,7 +92,7 @@ module _ (places : List ℕ) (chunks : List ChunkSeen) (placed : ArePlaced place
     abbrev made : List ChunkSeen
     made = insert chunks at rest
 
-    -- where the table has the chunk at a place: there, nowhere, or one place ahead
+    -- where the table has the chunk at a place: there, nowhere, or one place before
     abbrev WasAt : ℕ → ChunkSeen → Type 0
     WasAt k d = ((k < at) × (slice_get places d.home ≡ Some k))
         ⊎ (((k ≡ at) × (d.home ≡ length places))
@@ -114,8 +114,8 @@ module _ (places : List ℕ) (chunks : List ChunkSeen) (placed : ArePlaced place
           ]
         ]
 
-    told_ahead : (v : ℕ) → AreToldTo (places ++ v ∷ []) made at
-    told_ahead v k d below there = elim (was_at k d there) [
+    told_earlier : (v : ℕ) → AreToldTo (places ++ v ∷ []) made at
+    told_earlier v k d below there = elim (was_at k d there) [
       | inl w ↦ get-left places (v ∷ []) d.home k w.1
       | inr more ↦ elim more [
         | inl w ↦ absurd (omega (arith, w.0, below))
@@ -165,7 +165,7 @@ module _ (places : List ℕ) (chunks : List ChunkSeen) (placed : ArePlaced place
       ]
     ]
 
--- a chunk that is changed under its home, and a new one directly behind it, under the next home
+-- a chunk that is changed under its home, and a new one directly after it, under the next home
 module _ (places : List ℕ) (chunks : List ChunkSeen) (placed : ArePlaced places chunks) (at : ℕ) (c d rest : ChunkSeen)
     (lt : at < length chunks) (is : c ≡ get_or chunks at c) (same : d.home ≡ c.home)
     (fresh : rest.home ≡ length places)
@@ -179,9 +179,9 @@ module _ (places : List ℕ) (chunks : List ChunkSeen) (placed : ArePlaced place
     was_placed : ArePlaced places changed
     was_placed = placed_set places chunks at c d lt is same placed
 
-    pub told_behind : (v : ℕ) → IsToldTo (places ++ v ∷ []) (insert changed (at + 1) rest) (at + 1)
-    told_behind v = record {
-      ahead = told_ahead places changed was_placed (at + 1) le rest fresh v;
+    pub told_after : (v : ℕ) → IsToldTo (places ++ v ∷ []) (insert changed (at + 1) rest) (at + 1)
+    told_after v = record {
+      before = told_earlier places changed was_placed (at + 1) le rest fresh v;
       homes = homes_differ places changed was_placed (at + 1) le rest fresh;
       within = homes_within places changed was_placed (at + 1) le rest fresh v;
     }

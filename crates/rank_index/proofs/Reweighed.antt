@@ -9,7 +9,7 @@ use Rattle.rank_index.specs.Chunks.{ChunkSeen, members_of, AreEntered, AreTied}
 use Rattle.rank_index.specs.Ranked.{weight_of}
 use Rattle.rank_index.proofs.Inserted.{half_full}
 use Rattle.rank_index.proofs.Pieces.{all_parts, all_whole, cut_read, seam_at}
-use Rattle.rank_index.proofs.Stretches.{IsReadFor, members_of-seam, apart_here, not_ahead, not_behind}
+use Rattle.rank_index.proofs.Stretches.{IsReadFor, members_of-seam, apart_here, not_earlier, not_after}
 use Rattle.rank_index.proofs.Tagged.{Members, HasTag-cons, HasTag-first, HasTag-right}
 use Rattle.rank_index.proofs.Tagged.{with_value-elsewhere, AreApart}
 use Rattle.rank_index.proofs.Weights.{weight_at}
@@ -35,46 +35,46 @@ tag_stays tag w (x ∷ xs) t h = elim (HasTag-cons (x.0, cond (x.0 == tag) w x.1
   | inr rest ↦ HasTag-right (x ∷ []) xs t (tag_stays tag w xs t rest)
 ]
 
-module _ (ahead : List ChunkSeen) (c d : ChunkSeen) (behind : List ChunkSeen) (tag w : ℕ)
+module _ (before : List ChunkSeen) (c d : ChunkSeen) (after : List ChunkSeen) (tag w : ℕ)
     (is : d.members ≡ with_value tag w c.members)
   where
-    pub reweighed_in_all : AreTags (members_of (ahead ++ c ∷ behind)) → HasTag c.members tag
-        → members_of (ahead ++ d ∷ behind) ≡ with_value tag w (members_of (ahead ++ c ∷ behind))
+    pub reweighed_in_all : AreTags (members_of (before ++ c ∷ after)) → HasTag c.members tag
+        → members_of (before ++ d ∷ after) ≡ with_value tag w (members_of (before ++ c ∷ after))
     reweighed_in_all are here =
         let change : ℕ × ℕ → ℕ × ℕ = λ (m : ℕ × ℕ). (m.0, cond (m.0 == tag) w m.1) in
-        let left : with_value tag w (members_of ahead) ≡ members_of ahead =
-        with_value-elsewhere tag w (members_of ahead) (not_ahead ahead c behind tag are.0 here) in
-        let right : with_value tag w (members_of behind) ≡ members_of behind =
-        with_value-elsewhere tag w (members_of behind) (not_behind ahead c behind tag are.0 here) in
-        let whole : with_value tag w (members_of (ahead ++ c ∷ behind))
-        ≡ with_value tag w (members_of ahead)
-        ++ (with_value tag w c.members ++ with_value tag w (members_of behind)) =
-        ap (with_value tag w) (members_of-seam ahead c behind)
-        ∙ map-append change (members_of ahead) (c.members ++ members_of behind)
-        ∙ ap (λ (l : Members). with_value tag w (members_of ahead) ++ l)
-        (map-append change c.members (members_of behind)) in
-        members_of-seam ahead d behind
+        let left : with_value tag w (members_of before) ≡ members_of before =
+        with_value-elsewhere tag w (members_of before) (not_earlier before c after tag are.0 here) in
+        let right : with_value tag w (members_of after) ≡ members_of after =
+        with_value-elsewhere tag w (members_of after) (not_after before c after tag are.0 here) in
+        let whole : with_value tag w (members_of (before ++ c ∷ after))
+        ≡ with_value tag w (members_of before)
+        ++ (with_value tag w c.members ++ with_value tag w (members_of after)) =
+        ap (with_value tag w) (members_of-seam before c after)
+        ∙ map-append change (members_of before) (c.members ++ members_of after)
+        ∙ ap (λ (l : Members). with_value tag w (members_of before) ++ l)
+        (map-append change c.members (members_of after)) in
+        members_of-seam before d after
         ∙ (λ i. sym left i ++ (is i ++ sym right i))
         ∙ sym whole
 
     pub tied_reweighed : (homes : List ℕ) → d.home ≡ c.home → HasTag c.members tag
-        → AreTied homes (ahead ++ c ∷ behind) → AreTied homes (ahead ++ d ∷ behind)
+        → AreTied homes (before ++ c ∷ after) → AreTied homes (before ++ d ∷ after)
     tied_reweighed homes same here tied =
         let P : ChunkSeen → Type 0 = λ (e : ChunkSeen). AreEntered homes e.home e.members in
-        let (left, entered, right) = all_parts P ahead c behind tied.entered in
-        let all : members_of (ahead ++ d ∷ behind) ≡ with_value tag w (members_of (ahead ++ c ∷ behind)) =
+        let (left, entered, right) = all_parts P before c after tied.entered in
+        let all : members_of (before ++ d ∷ after) ≡ with_value tag w (members_of (before ++ c ∷ after)) =
         reweighed_in_all tied.tags here in
         let entered' : P d = λ (t : ℕ) (has : HasTag d.members t).
         subst (λ (n : ℕ). slice_get homes t ≡ Some n) (sym same)
         (entered t (tag_stays tag w c.members t (subst (λ (l : Members). HasTag l t) is has))) in
         record {
-          tags = subst AreTags (sym all) (AreTags-with_value tag w (members_of (ahead ++ c ∷ behind)) tied.tags);
+          tags = subst AreTags (sym all) (AreTags-with_value tag w (members_of (before ++ c ∷ after)) tied.tags);
           counted = tied.counted ∙ sym (ap length all
-              ∙ length-with_value tag w (members_of (ahead ++ c ∷ behind)));
-          entered = all_whole P ahead d behind left entered' right;
-          halves = half_full ahead c d behind (omega (arith, ap length is, length-with_value tag w c.members))
+              ∙ length-with_value tag w (members_of (before ++ c ∷ after)));
+          entered = all_whole P before d after left entered' right;
+          halves = half_full before c d after (omega (arith, ap length is, length-with_value tag w c.members))
               tied.halves;
-          some = omega (arith, length-append ahead (d ∷ behind));
+          some = omega (arith, length-append before (d ∷ after));
         }
 
 -- the members of the chunk that the code reads stand apart
@@ -97,19 +97,19 @@ module _ (chunks : List ChunkSeen) (place tag : ℕ) (c : ChunkSeen) (read : IsR
     pub reweighed_here : AreTags (members_of chunks)
         → members_of (set chunks place d) ≡ with_value tag w (members_of chunks)
     reweighed_here are =
-        let (ahead, behind, cut, at, changed) = seam_at chunks place c read.within read.is in
+        let (before, after, cut, at, changed) = seam_at chunks place c read.within read.is in
         let old : List ChunkSeen → Members = λ (l : List ChunkSeen). with_value tag w (members_of l) in
         ap members_of (changed d)
-        ∙ reweighed_in_all ahead c d behind tag w is
+        ∙ reweighed_in_all before c d after tag w is
         (subst (λ (l : List ChunkSeen). AreTags (members_of l)) cut are) read.here
         ∙ ap old (sym cut)
 
     pub tied_reweighed_here : (homes : List ℕ) → d.home ≡ c.home → AreTied homes chunks
         → AreTied homes (set chunks place d)
     tied_reweighed_here homes same tied =
-        let (ahead, behind, cut, at, changed) = seam_at chunks place c read.within read.is in
+        let (before, after, cut, at, changed) = seam_at chunks place c read.within read.is in
         subst (AreTied homes) (sym (changed d))
-        (tied_reweighed ahead c d behind tag w is homes same read.here (subst (AreTied homes) cut tied))
+        (tied_reweighed before c d after tag w is homes same read.here (subst (AreTied homes) cut tied))
 
 -- what it weighs beside the other chunks
 pub weighs_here : (chunks : List ChunkSeen) (place tag : ℕ) (c : ChunkSeen) → IsReadFor chunks place tag c → (w : ℕ)

@@ -12,9 +12,9 @@ use Rattle.rank_index.proofs.Tagged.{no_tag_twice, apart_left, apart_right}
 pub members_of-append : (xs ys : List ChunkSeen) → members_of (xs ++ ys) ≡ members_of xs ++ members_of ys
 members_of-append xs ys = flat_map-append (λ (c : ChunkSeen). c.members) xs ys
 
-pub members_of-seam : (ahead : List ChunkSeen) (c : ChunkSeen) (behind : List ChunkSeen)
-    → members_of (ahead ++ c ∷ behind) ≡ members_of ahead ++ (c.members ++ members_of behind)
-members_of-seam ahead c behind = members_of-append ahead (c ∷ behind)
+pub members_of-seam : (before : List ChunkSeen) (c : ChunkSeen) (after : List ChunkSeen)
+    → members_of (before ++ c ∷ after) ≡ members_of before ++ (c.members ++ members_of after)
+members_of-seam before c after = members_of-append before (c ∷ after)
 
 -- each member is in some chunk
 pub chunk_with : (chunks : List ChunkSeen) (tag : ℕ) → HasTag (members_of chunks) tag
@@ -52,23 +52,23 @@ read_for seen chunks place tag c same told is =
     }
 
 -- the members of one chunk stand apart from the others
-pub apart_here : (ahead : List ChunkSeen) (c : ChunkSeen) (behind : List ChunkSeen)
-    → AreApart (members_of (ahead ++ c ∷ behind)) → AreApart c.members
-apart_here ahead c behind d =
-    apart_left c.members (members_of behind)
-    (apart_right (members_of ahead) (c.members ++ members_of behind)
-    (subst AreApart (members_of-seam ahead c behind) d))
+pub apart_here : (before : List ChunkSeen) (c : ChunkSeen) (after : List ChunkSeen)
+    → AreApart (members_of (before ++ c ∷ after)) → AreApart c.members
+apart_here before c after d =
+    apart_left c.members (members_of after)
+    (apart_right (members_of before) (c.members ++ members_of after)
+    (subst AreApart (members_of-seam before c after) d))
 
-pub not_ahead : (ahead : List ChunkSeen) (c : ChunkSeen) (behind : List ChunkSeen) (tag : ℕ)
-    → AreApart (members_of (ahead ++ c ∷ behind)) → HasTag c.members tag → HasTag (members_of ahead) tag → ⊥
-not_ahead ahead c behind tag d here other =
-    no_tag_twice (members_of ahead) (c.members ++ members_of behind) tag
-    (subst AreApart (members_of-seam ahead c behind) d) other
-    (HasTag-left c.members (members_of behind) tag here)
+pub not_earlier : (before : List ChunkSeen) (c : ChunkSeen) (after : List ChunkSeen) (tag : ℕ)
+    → AreApart (members_of (before ++ c ∷ after)) → HasTag c.members tag → HasTag (members_of before) tag → ⊥
+not_earlier before c after tag d here other =
+    no_tag_twice (members_of before) (c.members ++ members_of after) tag
+    (subst AreApart (members_of-seam before c after) d) other
+    (HasTag-left c.members (members_of after) tag here)
 
-pub not_behind : (ahead : List ChunkSeen) (c : ChunkSeen) (behind : List ChunkSeen) (tag : ℕ)
-    → AreApart (members_of (ahead ++ c ∷ behind)) → HasTag c.members tag → HasTag (members_of behind) tag → ⊥
-not_behind ahead c behind tag d here other =
-    no_tag_twice c.members (members_of behind) tag
-    (apart_right (members_of ahead) (c.members ++ members_of behind)
-    (subst AreApart (members_of-seam ahead c behind) d)) here other
+pub not_after : (before : List ChunkSeen) (c : ChunkSeen) (after : List ChunkSeen) (tag : ℕ)
+    → AreApart (members_of (before ++ c ∷ after)) → HasTag c.members tag → HasTag (members_of after) tag → ⊥
+not_after before c after tag d here other =
+    no_tag_twice c.members (members_of after) tag
+    (apart_right (members_of before) (c.members ++ members_of after)
+    (subst AreApart (members_of-seam before c after) d)) here other

@@ -11,13 +11,13 @@ use Rattle.rank_index.proofs.Pieces.{cut_read, seam_at}
 use Rattle.rank_index.proofs.Stretches.{members_of-append, members_of-seam}
 use Rattle.rank_index.proofs.Tagged.{Members}
 
-pub weight_of-seam : (ahead : List ChunkSeen) (c : ChunkSeen) (behind : List ChunkSeen)
-    → weight_of (members_of (ahead ++ c ∷ behind))
-    ≡ weight_of (members_of ahead) + (weight_of c.members + weight_of (members_of behind))
-weight_of-seam ahead c behind =
-    ap weight_of (members_of-seam ahead c behind)
-    ∙ weight_of-append (members_of ahead) (c.members ++ members_of behind)
-    ∙ ap (λ (n : ℕ). weight_of (members_of ahead) + n) (weight_of-append c.members (members_of behind))
+pub weight_of-seam : (before : List ChunkSeen) (c : ChunkSeen) (after : List ChunkSeen)
+    → weight_of (members_of (before ++ c ∷ after))
+    ≡ weight_of (members_of before) + (weight_of c.members + weight_of (members_of after))
+weight_of-seam before c after =
+    ap weight_of (members_of-seam before c after)
+    ∙ weight_of-append (members_of before) (c.members ++ members_of after)
+    ∙ ap (λ (n : ℕ). weight_of (members_of before) + n) (weight_of-append c.members (members_of after))
 
 -- the first chunks and the others
 pub weight_parts : (chunks : List ChunkSeen) (n : ℕ)
@@ -27,7 +27,7 @@ weight_parts chunks n =
     ∙ ap weight_of (members_of-append (take n chunks) (drop n chunks))
     ∙ weight_of-append (members_of (take n chunks)) (members_of (drop n chunks))
 
--- the chunks ahead weigh no more than all
+-- the chunks before weigh no more than all
 pub weight_to-most : (chunks : List ChunkSeen) (n : ℕ) → weight_to chunks n ≤ weight_of (members_of chunks)
 weight_to-most chunks n = omega (arith, weight_parts chunks n)
 
@@ -48,14 +48,14 @@ pub weight_at : (chunks : List ChunkSeen) (k : ℕ) (c : ChunkSeen) → k < leng
     → (rest : ℕ) × (weight_of (members_of chunks) ≡ weight_of c.members + rest)
     × ((d : ChunkSeen) → weight_of (members_of (set chunks k d)) ≡ weight_of d.members + rest)
 weight_at chunks k c lt is =
-    let (ahead, behind, cut, at, changed) = seam_at chunks k c lt is in
+    let (before, after, cut, at, changed) = seam_at chunks k c lt is in
     let weight : List ChunkSeen → ℕ = λ (l : List ChunkSeen). weight_of (members_of l) in (
-      weight ahead + weight behind,
-      omega (arith, ap weight cut, weight_of-seam ahead c behind),
-      λ (d : ChunkSeen). omega (arith, ap weight (changed d), weight_of-seam ahead d behind),
+      weight before + weight after,
+      omega (arith, ap weight cut, weight_of-seam before c after),
+      λ (d : ChunkSeen). omega (arith, ap weight (changed d), weight_of-seam before d after),
     )
 
--- what is found among some members is found among others too, with what stands ahead of them
+-- what is found among some members is found among others too, with what stands before them
 around : (front us : Members) (m : ℕ × ℕ) (vs back : Members)
     → front ++ ((us ++ m ∷ vs) ++ back) ≡ (front ++ us) ++ m ∷ (vs ++ back)
 around front us m vs back =
@@ -72,9 +72,9 @@ found_among front items back pos left tag within at (us, vs, weight, e, is, lt) 
   lt,
 )
 
-pub found_behind : (chunks : List ChunkSeen) (n pos left tag within : ℕ) → pos ≡ weight_to chunks n + left
+pub found_after : (chunks : List ChunkSeen) (n pos left tag within : ℕ) → pos ≡ weight_to chunks n + left
     → IsFound (members_of (drop n chunks)) left tag within → IsFound (members_of chunks) pos tag within
-found_behind chunks n pos left tag within at found =
+found_after chunks n pos left tag within at found =
     let first : Members = members_of (take n chunks) in
     let rest : Members = members_of (drop n chunks) in
     let parts : first ++ (rest ++ []) ≡ members_of chunks =
@@ -83,29 +83,29 @@ found_behind chunks n pos left tag within at found =
     subst (λ (l : Members). IsFound l pos tag within) parts (found_among first rest [] pos left tag within at found)
 
 -- where a member stands in a chunk tells where it stands in the whole
-module _ (ahead : List ChunkSeen) (c : ChunkSeen) (behind : List ChunkSeen) where
+module _ (before : List ChunkSeen) (c : ChunkSeen) (after : List ChunkSeen) where
   placed : (us vs : Members) (m : ℕ × ℕ) → c.members ≡ us ++ m ∷ vs
-      → members_of (ahead ++ c ∷ behind) ≡ (members_of ahead ++ us) ++ m ∷ (vs ++ members_of behind)
+      → members_of (before ++ c ∷ after) ≡ (members_of before ++ us) ++ m ∷ (vs ++ members_of after)
   placed us vs m e =
-      members_of-seam ahead c behind
-      ∙ ap (λ (l : Members). members_of ahead ++ (l ++ members_of behind)) e
-      ∙ around (members_of ahead) us m vs (members_of behind)
+      members_of-seam before c after
+      ∙ ap (λ (l : Members). members_of before ++ (l ++ members_of after)) e
+      ∙ around (members_of before) us m vs (members_of after)
 
   pub rank_in_all : (tag n : ℕ) → IsRank c.members tag n
-      → IsRank (members_of (ahead ++ c ∷ behind)) tag (weight_of (members_of ahead) + n)
+      → IsRank (members_of (before ++ c ∷ after)) tag (weight_of (members_of before) + n)
   rank_in_all tag n (us, vs, weight, e, is) = (
-    members_of ahead ++ us,
-    vs ++ members_of behind,
+    members_of before ++ us,
+    vs ++ members_of after,
     weight,
     placed us vs (tag, weight) e,
-    ap (λ (k : ℕ). weight_of (members_of ahead) + k) is ∙ sym (weight_of-append (members_of ahead) us),
+    ap (λ (k : ℕ). weight_of (members_of before) + k) is ∙ sym (weight_of-append (members_of before) us),
   )
 
-  pub found_in_all : (pos left tag within : ℕ) → pos ≡ weight_of (members_of ahead) + left
-      → IsFound c.members left tag within → IsFound (members_of (ahead ++ c ∷ behind)) pos tag within
+  pub found_in_all : (pos left tag within : ℕ) → pos ≡ weight_of (members_of before) + left
+      → IsFound c.members left tag within → IsFound (members_of (before ++ c ∷ after)) pos tag within
   found_in_all pos left tag within at found =
-      subst (λ (l : Members). IsFound l pos tag within) (sym (members_of-seam ahead c behind))
-      (found_among (members_of ahead) c.members (members_of behind) pos left tag within at found)
+      subst (λ (l : Members). IsFound l pos tag within) (sym (members_of-seam before c after))
+      (found_among (members_of before) c.members (members_of after) pos left tag within at found)
 
 -- the same of the chunk that the code reads at a place
 module _ (chunks : List ChunkSeen) (k : ℕ) (c : ChunkSeen) (lt : k < length chunks) (is : c ≡ get_or chunks k c) where

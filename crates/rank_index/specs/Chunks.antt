@@ -58,24 +58,24 @@ abbrev pub IsPlaceOf : List ChunkSeen → ℕ → ℕ → Type 0
 IsPlaceOf chunks place tag = (c : ChunkSeen) × (slice_get chunks place ≡ Some c) × HasTag c.members tag
 
 -- this place is that of a member's chunk, or the first one
-abbrev pub IsPlaceBehind : List ChunkSeen → ℕ → Option ℕ → Type 0
-IsPlaceBehind chunks place None = place ≡ 0
-IsPlaceBehind chunks place (Some tag) = IsPlaceOf chunks place tag
+abbrev pub IsPlaceAfter : List ChunkSeen → ℕ → Option ℕ → Type 0
+IsPlaceAfter chunks place None = place ≡ 0
+IsPlaceAfter chunks place (Some tag) = IsPlaceOf chunks place tag
 
 -- the chunk at this place has room for one member more
 abbrev pub HasRoom : List ChunkSeen → ℕ → Type 0
 HasRoom chunks place = (c : ChunkSeen) × (slice_get chunks place ≡ Some c) × (length c.members < MOST)
 
--- the chunk at this place has given its second half to a chunk that stands behind it
+-- the chunk at this place has given its second half to a chunk that stands after it
 pub record IsHalved (at : ℕ) (old new : List ChunkSeen) : Type 0 where
-  pub ahead : List ChunkSeen
+  pub before : List ChunkSeen
   pub whole : ChunkSeen
-  pub behind : List ChunkSeen
+  pub after : List ChunkSeen
   pub front : ChunkSeen
   pub rest : ChunkSeen
-  pub place : at ≡ length ahead
-  pub was : old ≡ ahead ++ whole ∷ behind
-  pub is : new ≡ ahead ++ front ∷ rest ∷ behind
+  pub place : at ≡ length before
+  pub was : old ≡ before ++ whole ∷ after
+  pub is : new ≡ before ++ front ∷ rest ∷ after
   pub parts : whole.members ≡ front.members ++ rest.members
   pub halves : (length front.members ≡ HALF) × (length rest.members ≡ HALF)
 

@@ -13,12 +13,12 @@ ranked items room = record { items = items; room = room }
 abbrev pub weight_of : List (ℕ × ℕ) → ℕ
 weight_of items = sum (map (λ m. m.1) items)
 
--- so much weight stands ahead of the member of this tag
+-- so much weight stands before the member of this tag
 abbrev pub IsRank : List (ℕ × ℕ) → ℕ → ℕ → Type 0
-IsRank items tag n = (ahead : List (ℕ × ℕ)) × (behind : List (ℕ × ℕ)) × (weight : ℕ)
-    × (items ≡ ahead ++ (tag, weight) ∷ behind) × (n ≡ weight_of ahead)
+IsRank items tag n = (before : List (ℕ × ℕ)) × (after : List (ℕ × ℕ)) × (weight : ℕ)
+    × (items ≡ before ++ (tag, weight) ∷ after) × (n ≡ weight_of before)
 
--- the member of this tag is the one whose stretch of the sum holds a position, so far behind the stretch's start
+-- the member of this tag is the one whose stretch of the sum holds a position, so far after the stretch's start
 abbrev pub IsFound : List (ℕ × ℕ) → ℕ → ℕ → ℕ → Type 0
-IsFound items pos tag within = (ahead : List (ℕ × ℕ)) × (behind : List (ℕ × ℕ)) × (weight : ℕ)
-    × (items ≡ ahead ++ (tag, weight) ∷ behind) × (pos ≡ weight_of ahead + within) × (within < weight)
+IsFound items pos tag within = (before : List (ℕ × ℕ)) × (after : List (ℕ × ℕ)) × (weight : ℕ)
+    × (items ≡ before ++ (tag, weight) ∷ after) × (pos ≡ weight_of before + within) × (within < weight)

@@ -112,17 +112,17 @@ impl Chunk {
         self.place_of(tag).is_some()
     }
 
-    // How much stands ahead of the member of this tag.
+    // How much stands before the member of this tag.
     pub(crate) fn rank(&self, tag: u64) -> u64
         requires { HasTag self.now.members tag }
         ensures { IsRank self.now.members tag result }
     {
-        let mut ahead = 0;
+        let mut before = 0;
         for member in &self.members {
             if u64::from(member.0) == tag {
-                return ahead;
+                return before;
             }
-            ahead += u64::from(member.1);
+            before += u64::from(member.1);
         }
         unreachable!()
     }
@@ -143,8 +143,8 @@ impl Chunk {
         unreachable!()
     }
 
-    // The place directly behind the member of a tag, the front for `None`.
-    fn place_behind(&self, after: Option<u64>) -> usize
+    // The place directly after the member of a tag, the front for `None`.
+    fn place_after(&self, after: Option<u64>) -> usize
         requires after { IfSome after (HasTag self.now.members) }
         requires room { length self.now.members < MOST }
         ensures within { result ≤ length self.now.members }
@@ -159,7 +159,7 @@ impl Chunk {
         }
     }
 
-    // Puts a member directly behind that of a tag, at the front for `None`.
+    // Puts a member directly after that of a tag, at the front for `None`.
     pub(crate) fn insert_after(&mut self, after: Option<u64>, tag: u64, weight: u32)
         requires after { IfSome after (HasTag self.old.members) }
         requires tag { tag < MAX_TAGS }
@@ -168,7 +168,7 @@ impl Chunk {
         ensures inserted { IsPushed self.old.members after tag weight self.new.members }
         ensures home { self.new.home ≡ self.old.home }
     {
-        let place = self.place_behind(after);
+        let place = self.place_after(after);
         match self.members.insert(place, (tag as u32, weight)) {
             Ok(()) => self.sum += u64::from(weight),
             Err(_) => unreachable!(),

@@ -51,8 +51,8 @@ pub(crate) fn regroup_if_grown(groups: &mut Vec<u64>, chunks: &[Chunk], before: 
     }
 }
 
-// How much stands ahead of the chunk at this place.
-pub(crate) fn weight_ahead(groups: &[u64], chunks: &[Chunk], place: usize) -> u64
+// How much stands before the chunk at this place.
+pub(crate) fn weight_before(groups: &[u64], chunks: &[Chunk], place: usize) -> u64
     requires groups { AreGroups groups.now chunks.now }
     requires total { weight_of (members_of chunks.now) < 2 ^ 64 }
     requires place { place < length chunks.now }

@@ -4,16 +4,16 @@ ghost use Rattle.looks.specs.Refusal.{RefusedForMemoryAlone};
 ghost use Rattle.piece_raw.specs.Ring.{HasTag, IsPushed, AreTags, with_value};
 ghost use Rattle.piece_raw.specs.declared.TheConstants.{MAX_TAGS};
 ghost use Rattle.rank_index.specs.Chunks.{ChunkSeen, members_of, AreEntered, AreHomes, AreTied, AreEmpty};
-ghost use Rattle.rank_index.specs.Chunks.{AreToldTo, ArePlaced, HomesDiffer, IsPlaceOf, IsPlaceBehind, HasRoom, IsHalved};
+ghost use Rattle.rank_index.specs.Chunks.{AreToldTo, ArePlaced, HomesDiffer, IsPlaceOf, IsPlaceAfter, HasRoom, IsHalved};
 ghost use Rattle.rank_index.specs.Ranked.{weight_of, IsRank, IsFound};
 
 use crate::chunk::{Chunk, HALF, MOST};
-use crate::groups::{GROUP, group_at, regroup_if_grown, weight_ahead};
+use crate::groups::{GROUP, group_at, regroup_if_grown, weight_before};
 use looks::Refusal;
 use std::alloc::Global;
 use std::marker::Model;
 
-/// A list of members, each a tag and a weight, that tells how much weight stands ahead of a member, and which
+/// A list of members, each a tag and a weight, that tells how much weight stands before a member, and which
 /// member holds a position in the sum of all weights. Tags count from 0 in the order of insertion.
 ///
 /// This project's own: chunks of neighbours with their sums, the sums of groups of chunks, and a table from a tag
@@ -99,9 +99,9 @@ fn enter(homes: &mut [usize], chunk: &Chunk)
     }
 }
 
-// Tells the places of the chunks from this one on anew, as those ahead of it are told.
+// Tells the places of the chunks from this one on anew, as those before it are told.
 fn renumber(places: &mut [usize], chunks: &[Chunk], from: usize)
-    requires ahead { AreToldTo places.old chunks.now from }
+    requires before { AreToldTo places.old chunks.now from }
     requires homes { HomesDiffer chunks.now }
     requires within { (place : ℕ) (c : ChunkSeen) → slice_get chunks.now place ≡ Some c → c.home < length places.old }
     ensures { AreToldTo places.new chunks.now (length chunks.now) }
@@ -151,8 +151,8 @@ fn halve(
     }
 }
 
-// The place of a chunk with room for one more behind this member, at the front for `None`. A full one is halved.
-fn place_behind(
+// The place of a chunk with room for one more after this member, at the front for `None`. A full one is halved.
+fn place_after(
     chunks: &mut Vec<Chunk>,
     spare: &mut Vec<Chunk>,
     places: &mut Vec<usize>,
@@ -166,7 +166,7 @@ fn place_behind(
     requires placed { ArePlaced places.old.items chunks.old.items }
     requires chunks_room { vec_len chunks.old + vec_len spare.old ≤ vec_capacity chunks.old }
     requires places_room { vec_len chunks.old + vec_len spare.old ≤ vec_capacity places.old }
-    ensures place { IsPlaceBehind chunks.new.items result after }
+    ensures place { IsPlaceAfter chunks.new.items result after }
     ensures room { HasRoom chunks.new.items result }
     ensures members { members_of chunks.new.items ≡ members_of chunks.old.items }
     ensures empty { AreEmpty spare.new.items }
@@ -274,7 +274,7 @@ impl RankIndex {
         self.total
     }
 
-    /// Puts a member directly behind that of another tag, at the front for `None`. A member has that tag, its own
+    /// Puts a member directly after that of another tag, at the front for `None`. A member has that tag, its own
     /// is the next one, and there is room; the sum of all weights stays below 2^64.
     pub fn insert_after(&mut self, after: Option<u64>, tag: u64, weight: u32)
         requires after { IfSome after (HasTag self.old.items) }
@@ -285,7 +285,7 @@ impl RankIndex {
         ensures room { self.old.room ≤ self.new.room + 1 }
     {
         let before = self.chunks.len();
-        let place = place_behind(
+        let place = place_after(
             &mut self.chunks,
             &mut self.spare,
             &mut self.places,
@@ -318,16 +318,16 @@ impl RankIndex {
         self.total = self.total - was + is;
     }
 
-    /// How much weight stands ahead of a member. A member has this tag.
+    /// How much weight stands before a member. A member has this tag.
     pub fn rank(&self, tag: u64) -> u64
         requires here { HasTag self.now.items tag }
         ensures rank { IsRank self.now.items tag result }
     {
         let place = chunk_of(&self.chunks, &self.places, &self.homes, tag);
-        weight_ahead(&self.groups, &self.chunks, place) + self.chunks[place].rank(tag)
+        weight_before(&self.groups, &self.chunks, place) + self.chunks[place].rank(tag)
     }
 
-    /// The member whose stretch of the sum of all weights holds this position, and how far behind the
+    /// The member whose stretch of the sum of all weights holds this position, and how far after the
     /// stretch's start it lies. The position is below that sum.
     pub fn find(&self, pos: u64) -> (u64, u64)
         requires within { pos < weight_of self.now.items }

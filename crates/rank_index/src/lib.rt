@@ -1,5 +1,5 @@
 //! A list of numbered members, each with a weight, that finds a member by a position in the sum of the weights
-//! and tells how much stands ahead of one.
+//! and tells how much stands before one.
 #![tactic(auto)]
 
 mod chunk;

@@ -3,7 +3,7 @@ use Rattle.std.proofs.Common.{◌≡◌, ℕ, ◌+◌, ◌-◌, ◌<◌, ◌≤�
 use Rattle.std.proofs.Common.{sym, ap, ◌∙◌, arith}
 use Rattle.std.proofs.lemmas.List.{length-take, length-drop, length-map, get_or-drop, take_more}
 use Rattle.char_files.specs.Stretch.{Item}
-use Rattle.reader_scanner.specs.Place.{bytes_of, bytes_from, bytes_between}
+use Rattle.reader_scanner.specs.ReaderState.{bytes_of, bytes_from, bytes_between}
 
 pub between_length : (items : List Item) (beg end : ℕ) → beg ≤ end → end ≤ length items
     → length (bytes_between items beg end) ≡ end - beg

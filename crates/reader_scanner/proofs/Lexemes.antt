@@ -217,7 +217,7 @@ spelled_string rest = go (eqb (get_or rest n 0) 34) refl
           spells = subst (λ (m : ℕ). Spells (take m (34 ∷ rest)) (drop m (34 ∷ rest)) value.Inval) one at_suc;
         }
 
--- a number behind its sign
+-- a number after its sign
 record SpelledInt (negative : Bool) (bytes : List ℕ) : Type 0 where
   token : TokenValue
   n : ℕ
@@ -323,8 +323,8 @@ spelled (b ∷ rest) stops =
     no_blank : is_blank b ≡ false
     no_blank = stops (omega arith)
 
-    go : (letter quote digit minus behind : Bool) → is_ascii_alphabetic b ≡ letter → eqb b 34 ≡ quote
-        → is_ascii_digit b ≡ digit → eqb b 45 ≡ minus → is_ascii_digit (get_or rest 0 0) ≡ behind
+    go : (letter quote digit minus after : Bool) → is_ascii_alphabetic b ≡ letter → eqb b 34 ≡ quote
+        → is_ascii_digit b ≡ digit → eqb b 45 ≡ minus → is_ascii_digit (get_or rest 0 0) ≡ after
         → Spelled (b ∷ rest)
     go true q d m h e1 e2 e3 e4 e5 = spelled_name (b ∷ rest) e1
     go false true d m h e1 e2 e3 e4 e5 = subst (λ (x : ℕ). Spelled (x ∷ rest)) (sym (eqb-true b 34 e2))

@@ -15,7 +15,7 @@ use Rattle.std.proofs.lemmas.List.Folds.{list_all-append}
 use Rattle.std.proofs.lemmas.List.Sums.{AllPass-from_list_all}
 use Rattle.char_files.specs.Stretch.{Item}
 use Rattle.reader_scanner.specs.declared.token.TheConstants.{MAX_INT}
-use Rattle.reader_scanner.specs.Place.{bytes_of, bytes_from, bytes_between}
+use Rattle.reader_scanner.specs.ReaderState.{bytes_of, bytes_from, bytes_between}
 use Rattle.reader_scanner.specs.Tokens.{is_size}
 use Rattle.reader_scanner.proofs.Bytes.{between_length, between_more}
 

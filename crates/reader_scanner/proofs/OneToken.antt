@@ -1,4 +1,4 @@
--- Every source has a token behind every position, and no other one.
+-- Every source has a token after every position, and no other one.
 use Rattle.std.proofs.Common.{◌≡◌, ℕ, ◌+◌, ◌-◌, ◌≤◌, min, Bool, true, false, List, [], ◌∷◌, ◌++◌}
 use Rattle.std.proofs.Common.{length, get_or, take, drop, refl, sym, ap, subst, ◌∙◌, inl, inr}
 use Rattle.std.proofs.Common.{append_assoc, length-append, arith}
@@ -16,7 +16,7 @@ use Rattle.reader_scanner.specs.Tokens.{is_blank, is_name_byte, is_string_byte, 
 use Rattle.reader_scanner.specs.Tokens.{if_short, int_token, sign, begins_other, Spells, none, name, string}
 use Rattle.reader_scanner.specs.Tokens.{open_string, hexadecimal, decimal, char, IsTokenAt, IsNone, IsName}
 use Rattle.reader_scanner.specs.Tokens.{IsString, IsOpenString, IsHexadecimal, IsDecimal, IsChar}
-use Rattle.reader_scanner.proofs.Stretches.{behind, longest_len, longest_at, first_of}
+use Rattle.reader_scanner.proofs.Stretches.{after, longest_len, longest_at, first_of}
 use Rattle.reader_scanner.proofs.Lexemes.{lex, lexeme_none, lexeme_name, lexeme_string, lexeme_int}
 use Rattle.reader_scanner.proofs.Lexemes.{lexeme_minus}
 use Rattle.reader_scanner.proofs.Lexemes.{lexeme_char, name_found, string_found, string_open, hex_found}
@@ -98,19 +98,19 @@ found_name text rest token h =
 
 found_string : (text rest : List ℕ) (token : TokenValue) → IsString text token → Found text rest token
 found_string text rest token h =
-    let behind_it : List ℕ = 34 ∷ rest in
+    let after_it : List ℕ = 34 ∷ rest in
     let n : ℕ = length h.inner in
-    let split : text ++ rest ≡ 34 ∷ (h.inner ++ behind_it) =
+    let split : text ++ rest ≡ 34 ∷ (h.inner ++ after_it) =
     ap (λ (t : List ℕ). t ++ rest) h.parts
     ∙ ap (λ (t : List ℕ). 34 ∷ t) (append_assoc h.inner (34 ∷ []) rest) in
-    let len : prefix_len is_string_byte (h.inner ++ behind_it) ≡ n =
-    longest_len is_string_byte h.inner behind_it h.each (λ some. refl) in
+    let len : prefix_len is_string_byte (h.inner ++ after_it) ≡ n =
+    longest_len is_string_byte h.inner after_it h.each (λ some. refl) in
     let text_len : length text ≡ n + 2 =
     omega (arith, ap length h.parts, length-append (34 ∷ h.inner) (34 ∷ [])) in
     record {
-      is = ap lexeme_at split ∙ lexeme_string (34 ∷ (h.inner ++ behind_it)) refl
-          ∙ string_found (h.inner ++ behind_it) n len (behind h.inner behind_it)
-          ∙ ap (λ (t : List ℕ). lex (if_short value.String t) (n + 2)) (take_at h.inner behind_it n refl)
+      is = ap lexeme_at split ∙ lexeme_string (34 ∷ (h.inner ++ after_it)) refl
+          ∙ string_found (h.inner ++ after_it) n len (after h.inner after_it)
+          ∙ ap (λ (t : List ℕ). lex (if_short value.String t) (n + 2)) (take_at h.inner after_it n refl)
           ∙ ap (λ (v : TokenValue). lex v (n + 2)) (sym h.value_is) ∙ ap (lex token) (sym text_len);
       stops = subst (StopsAt is_blank) (sym split) (λ some. refl);
     }
@@ -124,12 +124,12 @@ found_open text rest token h =
     let text_len : length text ≡ n + 1 = omega (arith, ap length h.parts) in
     record {
       is = ap lexeme_at split ∙ lexeme_string (34 ∷ (h.inner ++ rest)) refl
-          ∙ string_open (h.inner ++ rest) n len (λ e. h.unclosed (sym (behind h.inner rest) ∙ e))
+          ∙ string_open (h.inner ++ rest) n len (λ e. h.unclosed (sym (after h.inner rest) ∙ e))
           ∙ ap (λ (v : TokenValue). lex v (n + 1)) (sym h.value_is) ∙ ap (lex token) (sym text_len);
       stops = subst (StopsAt is_blank) (sym split) (λ some. refl);
     }
 
--- a number behind its sign
+-- a number after its sign
 signed : (negative : Bool) (digits tail : List ℕ) (token : TokenValue) (n : ℕ)
     → is_ascii_digit (get_or digits 0 0) ≡ true → int_at negative (digits ++ tail) ≡ lex token n
     → (lexeme_at (sign negative ++ (digits ++ tail)) ≡ lex token (length (sign negative) + n))
@@ -148,18 +148,18 @@ signed false digits tail token n first is =
 
 found_hex : (text rest : List ℕ) (token : TokenValue) → IsHexadecimal text token → Found text rest token
 found_hex text rest token h =
-    let behind_it : List ℕ = 72 ∷ rest in
+    let after_it : List ℕ = 72 ∷ rest in
     let n : ℕ = length h.digits in
-    let split : text ++ rest ≡ sign h.negative ++ (h.digits ++ behind_it) =
+    let split : text ++ rest ≡ sign h.negative ++ (h.digits ++ after_it) =
     ap (λ (t : List ℕ). t ++ rest) h.parts ∙ append_assoc (sign h.negative ++ h.digits) (72 ∷ []) rest
-    ∙ append_assoc (sign h.negative) h.digits behind_it in
-    let len : prefix_len is_hex_digit (h.digits ++ behind_it) ≡ n =
-    longest_len is_hex_digit h.digits behind_it h.each (λ some. refl) in
-    let number : int_at h.negative (h.digits ++ behind_it) ≡ lex token (n + 1) =
-    hex_found h.negative (h.digits ++ behind_it) n len (behind h.digits behind_it)
-    ∙ ap (λ (t : List ℕ). lex (int_token 16 h.negative t) (n + 1)) (take_at h.digits behind_it n refl)
+    ∙ append_assoc (sign h.negative) h.digits after_it in
+    let len : prefix_len is_hex_digit (h.digits ++ after_it) ≡ n =
+    longest_len is_hex_digit h.digits after_it h.each (λ some. refl) in
+    let number : int_at h.negative (h.digits ++ after_it) ≡ lex token (n + 1) =
+    hex_found h.negative (h.digits ++ after_it) n len (after h.digits after_it)
+    ∙ ap (λ (t : List ℕ). lex (int_token 16 h.negative t) (n + 1)) (take_at h.digits after_it n refl)
     ∙ ap (λ (v : TokenValue). lex v (n + 1)) (sym h.value_is) in
-    let both = signed h.negative h.digits behind_it token (n + 1) h.first number in
+    let both = signed h.negative h.digits after_it token (n + 1) h.first number in
     let text_len : length text ≡ length (sign h.negative) + (n + 1) =
     omega (
       arith,
@@ -180,7 +180,7 @@ found_decimal text rest token h =
     let len : prefix_len is_hex_digit (h.digits ++ rest) ≡ n =
     longest_len is_hex_digit h.digits rest h.longest.each h.longest.stops in
     let number : int_at h.negative (h.digits ++ rest) ≡ lex token n =
-    decimal_found h.negative (h.digits ++ rest) n len (λ e. h.no_h (sym (behind h.digits rest) ∙ e))
+    decimal_found h.negative (h.digits ++ rest) n len (λ e. h.no_h (sym (after h.digits rest) ∙ e))
     ∙ ap (λ (t : List ℕ). lex (int_token 10 h.negative t) n) (take_at h.digits rest n refl)
     ∙ ap (λ (v : TokenValue). lex v n) (sym h.value_is) in
     let both = signed h.negative h.digits rest token n h.first number in
@@ -263,9 +263,9 @@ same_token a b beg end value =
     let three : second ≡ b = ap (λ (x : TokenValue). record { beg = b.beg; end = b.end; value = x }) value in
     one ∙ two ∙ three
 
-pub one_token : (source : List ℕ) (from : ℕ) (a b : Token) → IsTokenAt source from a → IsTokenAt source from b
+pub lemma_one_token : (source : List ℕ) (from : ℕ) (a b : Token) → IsTokenAt source from a → IsTokenAt source from b
     → a ≡ b
-one_token source from a b h k =
+lemma_one_token source from a b h k =
     let s = settled source from a h in
     let t = settled source from b k in
     let beg : a.beg ≡ b.beg = omega (arith, s.beg, t.beg) in

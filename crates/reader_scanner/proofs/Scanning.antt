@@ -13,7 +13,7 @@ use Rattle.reader_scanner.specs.declared.token.TheConstants.{MAX_TOKEN}
 use Rattle.reader_scanner.specs.declared.token.TokenValue.{TokenValue}
 use Rattle.reader_scanner.specs.declared.token.TokenValue.TheVariants as value
 use Rattle.reader_scanner.specs.Lexeme.{name_at, string_at, int_at, lexeme_at, longer}
-use Rattle.reader_scanner.specs.Place.{bytes_of, bytes_from, bytes_between}
+use Rattle.reader_scanner.specs.ReaderState.{bytes_of, bytes_from, bytes_between}
 use Rattle.reader_scanner.specs.Tokens.{is_name_byte, is_string_byte, is_hex_digit, if_short, int_token}
 use Rattle.reader_scanner.proofs.Bytes.{between_length}
 use Rattle.reader_scanner.proofs.Lexemes.{lex, lexeme_none, lexeme_name, lexeme_string, lexeme_int}
@@ -55,7 +55,7 @@ between_is p items beg end e =
     let n : prefix_len p (bytes_from items beg) ≡ end - beg = omega arith in
     ap (λ (k : ℕ). take k (bytes_from items beg)) n
 
--- the byte behind it
+-- the byte after it
 byte_is : (p : ℕ → Bool) (items : List Item) (beg end b : ℕ)
     → end ≡ beg + prefix_len p (bytes_from items beg) → b ≡ get_or (bytes_of items) end 0
     → get_or (bytes_from items beg) (prefix_len p (bytes_from items beg)) 0 ≡ b

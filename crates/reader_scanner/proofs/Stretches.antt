@@ -9,12 +9,12 @@ use Rattle.std.proofs.lemmas.List.{get_or_append_left, get_or-append-add}
 use Rattle.std.proofs.lemmas.List.Sums.{prefix_len_is, prefix_len_passes, prefix_len_stops}
 use Rattle.std.proofs.lemmas.List.Sums.{prefix_len-le-length, prefix_len-drop_yes}
 use Rattle.char_files.specs.Stretch.{Item}
-use Rattle.reader_scanner.specs.Place.{bytes_of, bytes_from}
+use Rattle.reader_scanner.specs.ReaderState.{bytes_of, bytes_from}
 use Rattle.reader_scanner.specs.Tokens.{StopsAt, IsLongest}
 
--- the byte behind a stretch
-pub behind : (text rest : List ℕ) → get_or (text ++ rest) (length text) 0 ≡ get_or rest 0 0
-behind text rest =
+-- the byte after a stretch
+pub after : (text rest : List ℕ) → get_or (text ++ rest) (length text) 0 ≡ get_or rest 0 0
+after text rest =
     let at : length text + 0 ≡ length text = omega arith in
     let P : ℕ → Type 0 = λ k. get_or (text ++ rest) k 0 ≡ get_or rest 0 0 in
     subst P at (get_or-append-add text rest 0 0)
@@ -40,7 +40,7 @@ longest_len p text rest each stops =
     let all : length (text ++ rest) ≡ length text + length rest = length-append text rest in
     prefix_len_is p (text ++ rest) (length text) 0 (omega (arith, all))
     (λ k lt. rw (get_or_append_left text rest 0 k lt) (each k 0 lt))
-    (λ lt. rw (behind text rest) (stops (omega (arith, all))))
+    (λ lt. rw (after text rest) (stops (omega (arith, all))))
 
 pub longest_at : (p : ℕ → Bool) (bytes : List ℕ)
     → IsLongest p (take (prefix_len p bytes) bytes) (drop (prefix_len p bytes) bytes)

@@ -29,7 +29,7 @@ name_at bytes = record {
   len = prefix_len is_name_byte bytes;
 }
 
--- a string, from behind its first quote on; the quotes count
+-- a string, from after its first quote on; the quotes count
 unfoldable pub string_at : List ℕ → Lexeme
 string_at bytes =
     let n = prefix_len is_string_byte bytes in

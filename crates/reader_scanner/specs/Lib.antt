@@ -1,4 +1,4 @@
 pub mod Class
 pub mod Lexeme
-pub mod Place
+pub mod ReaderState
 pub mod Tokens

@@ -1,4 +1,4 @@
--- Tokens: what stands in a source of bytes behind a position, class by class, over whole stretches of bytes.
+-- Tokens: what stands in a source of bytes after a position, class by class, over whole stretches of bytes.
 use Rattle.std.specs.Prelude.{◌≡◌, ◌≢◌, ℕ, ◌+◌, ◌<◌, Bool, true, false, ◌&&◌, ◌||◌, not, ◌==◌, nat_le, nat_lt}
 use Rattle.std.specs.Prelude.{if◌then◌else◌, List, [], ◌∷◌, ◌++◌, length, drop, slice_index, pos, ◌-ℤ◌}
 use Rattle.std.specs.Char.{is_ascii_alphabetic, is_ascii_alphanumeric, is_ascii_digit, digit_value}
@@ -93,7 +93,7 @@ pub record IsHexadecimal (text : List ℕ) (token : TokenValue) : Type 0 where
   pub each : AllPass is_hex_digit digits
   pub value_is : token ≡ int_token 16 negative digits
 
--- a number in base 10: the same without an H behind the longest stretch of digits and A to F, which may have
+-- a number in base 10: the same without an H after the longest stretch of digits and A to F, which may have
 -- no A to F
 pub record IsDecimal (text rest : List ℕ) (token : TokenValue) : Type 0 where
   pub negative : Bool
@@ -104,7 +104,7 @@ pub record IsDecimal (text rest : List ℕ) (token : TokenValue) : Type 0 where
   pub no_h : slice_index rest 0 ≢ 72
   pub value_is : token ≡ int_token 10 negative digits
 
--- whether a byte with these behind it is skipped or begins a name, a string or a number
+-- whether a byte with these after it is skipped or begins a name, a string or a number
 abbrev pub begins_other : ℕ → List ℕ → Bool
 begins_other b rest =
     is_blank b || is_ascii_alphabetic b || b == 34 || is_ascii_digit b
@@ -117,7 +117,7 @@ pub record IsChar (text rest : List ℕ) (token : TokenValue) : Type 0 where
   pub no_other : begins_other byte rest ≡ false
   pub value_is : token ≡ value.Char byte
 
--- the text of a token, with the rest behind it, and the token's value
+-- the text of a token, with the rest after it, and the token's value
 pub data Spells (text rest : List ℕ) (token : TokenValue) : Type 0 where
   none : IsNone text rest token → Spells text rest token
   name : IsName text rest token → Spells text rest token
@@ -127,7 +127,7 @@ pub data Spells (text rest : List ℕ) (token : TokenValue) : Type 0 where
   decimal : IsDecimal text rest token → Spells text rest token
   char : IsChar text rest token → Spells text rest token
 
--- the token of a source behind a position: blanks are skipped, then its text stands from beg to end
+-- the token of a source after a position: blanks are skipped, then its text stands from beg to end
 pub record IsTokenAt (source : List ℕ) (from : ℕ) (token : Token) : Type 0 where
   pub blanks : List ℕ
   pub text : List ℕ
@@ -138,7 +138,7 @@ pub record IsTokenAt (source : List ℕ) (from : ℕ) (token : Token) : Type 0 w
   pub beg : token.beg + length text + length rest ≡ length source
   pub end : token.end + length rest ≡ length source
 
--- every source has a token behind every position
+-- every source has a token after every position
 abbrev pub TokenThere : Type 0
 TokenThere = (source : List ℕ) (from : ℕ) → (token : Token) × IsTokenAt source from token
 

@@ -8,7 +8,7 @@ mod scanner;
 mod token;
 mod writer;
 
-pub use laws::one_token;
+pub use laws::lemma_one_token;
 pub use limits::the_limits;
 pub use reader::Reader;
 pub use scanner::{Scanner, byte_at};

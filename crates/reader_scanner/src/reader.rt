@@ -12,9 +12,9 @@ pub struct Reader<'a, S: Source> {
 }
 
 impl<'a, S: Source> Model for Reader<'a, S> {
-    ghost use Rattle.reader_scanner.specs.Place.{Place};
+    ghost use Rattle.reader_scanner.specs.ReaderState.{ReaderState};
 
-    ghost Value = { Place };
+    ghost Value = { ReaderState };
 
     ghost view = { λ r. record { items = S.items r.source.now; pos = r.pos } };
 }

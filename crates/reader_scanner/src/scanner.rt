@@ -4,7 +4,7 @@ ghost use Rattle.std.specs.Char.{is_ascii_digit};
 ghost use Rattle.std.specs.List.{prefix_len};
 ghost use Rattle.std.specs.Str.Parse.{digits_value};
 ghost use Rattle.reader_scanner.specs.Lexeme.{has_byte, name_at, string_at, int_at, lexeme_at};
-ghost use Rattle.reader_scanner.specs.Place.{bytes_of, bytes_from, bytes_between};
+ghost use Rattle.reader_scanner.specs.ReaderState.{bytes_of, bytes_from, bytes_between};
 ghost use Rattle.reader_scanner.specs.Tokens.{IsTokenAt, is_size, int_token};
 ghost use Rattle.reader_scanner.specs.Tokens.{is_blank, is_name_byte, is_string_byte, is_hex_digit};
 
@@ -142,7 +142,7 @@ fn name_at<S: Source>(source: &S, beg: u64) -> Lexeme
     Lexeme { value, end }
 }
 
-// A string, from behind its first quote on.
+// A string, from after its first quote on.
 fn string_at<S: Source>(source: &S, beg: u64) -> Lexeme
     requires { beg ≤ length (S.items source.now) }
     ensures value { result.value ≡ (string_at (bytes_from (S.items source.now) beg)).token }
@@ -233,9 +233,9 @@ pub struct Scanner<'a, S: Source> {
 }
 
 impl<'a, S: Source> Model for Scanner<'a, S> {
-    ghost use Rattle.reader_scanner.specs.Place.{Place};
+    ghost use Rattle.reader_scanner.specs.ReaderState.{ReaderState};
 
-    ghost Value = { Place };
+    ghost Value = { ReaderState };
 
     ghost view = { λ s. record { items = S.items s.source.now; pos = s.pos } };
 }
@@ -264,7 +264,7 @@ impl<'a, S: Source> Scanner<'a, S> {
         }
     }
 
-    /// The position behind the last token.
+    /// The position after the last token.
     pub fn pos(&self) -> u64
         ensures { result ≡ self.now.pos }
     {

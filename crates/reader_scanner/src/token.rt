@@ -93,7 +93,7 @@ impl Class {
 pub struct Token {
     /// The position of its first byte.
     pub beg: u64,
-    /// The position behind its last byte.
+    /// The position after its last byte.
     pub end: u64,
     pub value: TokenValue,
 }

@@ -1,7 +1,7 @@
 ghost use Rattle.std.specs.Prelude.{◌≡◌, ◌<◌, ◌≤◌, ◌+◌, [], ◌∷◌, ◌++◌, ◌↔◌, ◌⊎◌, length};
 ghost use Rattle.std.specs.Prelude.{IfErr, OnOk, OnErr, IsErrOf};
 ghost use Rattle.looks.specs.Looks.{plain_looks};
-ghost use Rattle.reader_scanner.specs.Place.{in_looks, filled_decimal};
+ghost use Rattle.reader_scanner.specs.ReaderState.{in_looks, filled_decimal};
 
 use arrayvec::ArrayVec;
 use char_files::{Buffer, MAX_FILE};
@@ -17,7 +17,7 @@ pub struct Writer {
 }
 
 impl Model for Writer {
-    ghost use Rattle.reader_scanner.specs.Place.{WriterState};
+    ghost use Rattle.reader_scanner.specs.ReaderState.{WriterState};
 
     ghost Value = { WriterState };
 

@@ -4,7 +4,7 @@ use Rattle.std.specs.Prelude.{MatchBool, slice_get}
 use Rattle.looks.specs.declared.refusal.Refusal.{Refusal}
 use Rattle.shelf.specs.Files.{Files}
 use Rattle.texts.specs.TextState.{TextState}
-use Rattle.machine.specs.DeskState.{DeskState}
+use Rattle.machine.specs.SiteTexts.{SiteTexts}
 use Rattle.machine.specs.Events.{Event, prints, refuses}
 use Rattle.machine.specs.OnTexts.{Prints}
 use Rattle.machine.specs.State.{IsDeskAt, IsTextAt, State, new_state}
@@ -12,13 +12,13 @@ use Rattle.machine.specs.Tasks.{lines_of_view}
 use Rattle.machine.specs.Windows.{Screened}
 use Rattle.machine.specs.declared.asked.Query.{Query}
 use Rattle.machine.specs.declared.asked.View.{View}
-use Rattle.machine_laws.proofs.OneOfTexts.{one_element, one_text}
+use Rattle.machine_laws.proofs.OneOfTexts.{one_element, lemma_one_text}
 use Rattle.machine_laws.specs.Laws.{HoldTheSame, IsSound, PrintTheSame, Reached, WhatARunReachesIsSound, begins, goes_on, others_write}
 use Rattle.script_io.specs.Lines.{without_return}
 use Rattle.script_runs.specs.Trace.{Step, Trace, is_silent}
 use Rattle.script_runs.specs.Trace.{begins as starts, goes_on as follows}
 use Rattle.run_laws.specs.Laws.{AnswersQuery, AnswersView, AreAnsweredTheSame, EachTraceIsReached, HaveTakenTheSame}
-use Rattle.run_laws.specs.Laws.{IsBehindLines, Start}
+use Rattle.run_laws.specs.Laws.{IsAfterLines, Start}
 
 module _ (first count width height : ℕ) (files : Files) where
   -- one line further
@@ -37,11 +37,11 @@ module _ (first count width height : ℕ) (files : Files) where
       line_reached (record old { files = now }) (is_silent (without_return raw)) _ answer new
       (others_write now (trace_reached told before front said old trace)) answered
 
--- so behind any lines all is sound
-pub behind_sound : EachTraceIsReached → WhatARunReachesIsSound → (start : Start) (s : State) → IsBehindLines start s
+-- so after any lines all is sound
+pub after_sound : EachTraceIsReached → WhatARunReachesIsSound → (start : Start) (s : State) → IsAfterLines start s
     → IsSound s
-behind_sound reached sound start s behind =
-    sound start.first start.count start.width start.height start.files s (reached start s behind)
+after_sound reached sound start s after =
+    sound start.first start.count start.width start.height start.files s (reached start s after)
 
 -- equal replies print equal lines
 same_lines : (a b : List ℕ) → prints a ≡ prints b → a ≡ b
@@ -55,7 +55,7 @@ prints_refuses lines why e = cc
 pub query_replied : (s : State) (i text : ℕ) (t : TextState) (q : Query) (lines : List ℕ) → IsTextAt s i text t
     → AnswersQuery s i text q lines → Prints q t lines
 query_replied s i text t q lines there (new, inl (free, stays, (u, said, at, is, replied))) =
-    subst (λ (x : TextState). Prints q x lines) (one_text s i text u t at there)
+    subst (λ (x : TextState). Prints q x lines) (lemma_one_text s i text u t at there)
     (subst (Prints q u) (sym (same_lines lines said replied)) is)
 query_replied s i text t q lines there (new, inr (free, refused)) = absurd (prints_refuses lines _ refused.0)
 
@@ -66,7 +66,7 @@ answered s s' i j text text' t u at_t at_u same q a b of_shown asked asked' =
     same q a b of_shown (query_replied s i text t q a at_t asked) (query_replied s' j text' u q b at_u asked')
 
 -- what is replied to a view is what is printed of the screen there
-pub view_replied : (s : State) (i : ℕ) (d : DeskState) (w : Screened) (v : View) (lines : List ℕ) → IsDeskAt s i d w
+pub view_replied : (s : State) (i : ℕ) (d : SiteTexts) (w : Screened) (v : View) (lines : List ℕ) → IsDeskAt s i d w
     → AnswersView s i v lines → lines ≡ lines_of_view d w v
 view_replied s i d w v lines at (new, inl (e, x, at', (free, is, stays))) =
     let desk : e ≡ d = one_element (slice_get s.desks i) e d at'.texts at.texts in
@@ -75,7 +75,7 @@ view_replied s i d w v lines at (new, inl (e, x, at', (free, is, stays))) =
 view_replied s i d w v lines at (new, inr (e, x, at', (free, refused))) = absurd (prints_refuses lines _ refused.0)
 
 -- desks that are sound and whose texts have taken in the same hold the same
-pub same_held : (s s' : State) (i j : ℕ) (d e : DeskState) → IsSound s → IsSound s' → slice_get s.desks i ≡ Some d
+pub same_held : (s s' : State) (i j : ℕ) (d e : SiteTexts) → IsSound s → IsSound s' → slice_get s.desks i ≡ Some d
     → slice_get s'.desks j ≡ Some e → HaveTakenTheSame d e → HoldTheSame d e
 same_held s s' i j d e sound sound' at at' same = record {
   count = sound.desks i d at ∙ sym (sound'.desks j e at');

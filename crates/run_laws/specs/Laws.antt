@@ -4,7 +4,7 @@ use Rattle.shelf.specs.Files.{Files}
 use Rattle.tree_order.specs.Laws.{AreSameSet}
 use Rattle.set_laws.specs.Sets.{AreIdentified}
 use Rattle.texts.specs.TextState.{TextState}
-use Rattle.machine.specs.DeskState.{DeskState, IsTextOf}
+use Rattle.machine.specs.SiteTexts.{SiteTexts, IsTextOf}
 use Rattle.machine.specs.Events.{ask, print, prints, query, untouched}
 use Rattle.machine.specs.Machine.{Replies}
 use Rattle.machine.specs.State.{IsDeskAt, IsTextAt, State, new_state}
@@ -26,22 +26,22 @@ pub record Start : Type 0 where
   pub height : ℕ
   pub files : Files
 
--- a state behind some lines of a script, in a run that began so, over a shelf that tells its files or over one that doesn't
-pub record IsBehindLines (start : Start) (s : State) : Type 0 where
+-- a state after some lines of a script, in a run that began so, over a shelf that tells its files or over one that doesn't
+pub record IsAfterLines (start : Start) (s : State) : Type 0 where
   pub told : Bool
   pub lines : ℕ
   pub script : List ℕ
   pub answers : List ℕ
   pub trace : Trace told (new_state start.first start.count start.width start.height start.files) lines script answers s
 
--- the state behind any lines of a script is one that a run can come to
+-- the state after any lines of a script is one that a run can come to
 abbrev pub EachTraceIsReached : Type 0
-EachTraceIsReached = (start : Start) (s : State) → IsBehindLines start s
+EachTraceIsReached = (start : Start) (s : State) → IsAfterLines start s
     → Reached start.first start.count start.width start.height start.files s
 
--- a text at a desk behind some lines of a script
+-- a text at a desk after some lines of a script
 pub record IsTraced (start : Start) (s : State) (i text : ℕ) (t : TextState) : Type 0 where
-  pub behind : IsBehindLines start s
+  pub after : IsAfterLines start s
   pub there : IsTextAt s i text t
 
 -- a query of a text is answered by these lines
@@ -77,13 +77,13 @@ TheSameFrontsAreAnswered =
     → AnswersFronts s i text t lines → AnswersFronts s' j text' u lines
     → AreAnsweredTheSame s s' i j text text'
 
--- a desk and its screen behind some lines of a script
-pub record IsTracedDesk (start : Start) (s : State) (i : ℕ) (d : DeskState) (w : Screened) : Type 0 where
-  pub behind : IsBehindLines start s
+-- a desk and its screen after some lines of a script
+pub record IsTracedDesk (start : Start) (s : State) (i : ℕ) (d : SiteTexts) (w : Screened) : Type 0 where
+  pub after : IsAfterLines start s
   pub there : IsDeskAt s i d w
 
 -- the texts of two desks have taken in the same operations, number for number, in whatever order
-abbrev pub HaveTakenTheSame : DeskState → DeskState → Type 0
+abbrev pub HaveTakenTheSame : SiteTexts → SiteTexts → Type 0
 HaveTakenTheSame d e =
     (n : ℕ) (t u : TextState) → IsTextOf d n t → IsTextOf e n u → AreSameSet t.operations u.operations
 
@@ -95,7 +95,7 @@ AnswersView s i v lines = (new : State) × Replies s (ask i (print v)) untouched
 -- tracks, windows, caret, selection and the next viewer's number, `views`, `marks` and `show` are answered the same
 abbrev pub TheSameViewsAreAnswered : Type 0
 TheSameViewsAreAnswered =
-    (start start' : Start) (i j : ℕ) (s s' : State) (d e : DeskState) (w : Screened)
+    (start start' : Start) (i j : ℕ) (s s' : State) (d e : SiteTexts) (w : Screened)
     → IsTracedDesk start s i d w → IsTracedDesk start' s' j e w → HaveTakenTheSame d e
     → (v : View) (a b : List ℕ) → AnswersView s i v a → AnswersView s' j v b → a ≡ b
 

@@ -9,14 +9,14 @@ ghost use Rattle.run_laws.specs.Laws.{TheSameViewsAreAnswered, WithoutFilesAllIs
 pub use folder::run_over_a_folder;
 
 use machine_laws::{
-    any_files_will_do, front_lines_tell_the_fronts, the_same_fronts_print_the_same,
-    the_same_operations_print_the_same, the_same_texts_show_the_same_screen,
-    what_a_run_reaches_is_sound, what_is_reached_is_numbered,
+    any_files_will_do, lemma_front_lines_tell_the_fronts, lemma_the_same_fronts_print_the_same,
+    lemma_the_same_operations_print_the_same, lemma_the_same_texts_show_the_same_screen,
+    lemma_what_a_run_reaches_is_sound, lemma_what_is_reached_is_numbered,
 };
 
-/// A law: behind any lines of a script stands a state that a run can come to. So what is said of those is said
+/// A law: after any lines of a script stands a state that a run can come to. So what is said of those is said
 /// of whole scripts.
-pub fn each_trace_is_reached()
+pub fn lemma_each_trace_is_reached()
     ensures { EachTraceIsReached }
 {}
 
@@ -25,9 +25,9 @@ pub fn each_trace_is_reached()
 pub fn the_same_operations_are_answered_the_same()
     ensures { TheSameIsAnswered }
 {
-    each_trace_is_reached();
-    what_a_run_reaches_is_sound();
-    the_same_operations_print_the_same();
+    lemma_each_trace_is_reached();
+    lemma_what_a_run_reaches_is_sound();
+    lemma_the_same_operations_print_the_same();
 }
 
 /// A law: wherever in a run, or in two runs, two sites answer `front` of a text by the same lines of fronts, however many
@@ -36,11 +36,11 @@ pub fn the_same_operations_are_answered_the_same()
 pub fn the_same_fronts_are_answered_the_same()
     ensures { TheSameFrontsAreAnswered }
 {
-    each_trace_is_reached();
-    what_a_run_reaches_is_sound();
-    what_is_reached_is_numbered();
-    front_lines_tell_the_fronts();
-    the_same_fronts_print_the_same();
+    lemma_each_trace_is_reached();
+    lemma_what_a_run_reaches_is_sound();
+    lemma_what_is_reached_is_numbered();
+    lemma_front_lines_tell_the_fronts();
+    lemma_the_same_fronts_print_the_same();
 }
 
 /// A law: wherever in a run, or in two runs, two sites have taken in the same operations of each text, and their screens
@@ -49,9 +49,9 @@ pub fn the_same_fronts_are_answered_the_same()
 pub fn the_same_texts_answer_the_same_views()
     ensures { TheSameViewsAreAnswered }
 {
-    each_trace_is_reached();
-    what_a_run_reaches_is_sound();
-    the_same_texts_show_the_same_screen();
+    lemma_each_trace_is_reached();
+    lemma_what_a_run_reaches_is_sound();
+    lemma_the_same_texts_show_the_same_screen();
 }
 
 /// A law: over a shelf that doesn't tell its files, as the folder's, lines that ask for none are answered as over one that tells

@@ -5,7 +5,7 @@ use Rattle.std.specs.Bool.{then_some}
 use Rattle.std.specs.Char.{IsAsciiHexdigit, IsNotAsciiHexdigit}
 use Rattle.std.proofs.lemmas.Option.{same_Some}
 use Rattle.hex.specs.Hex.{hex_digit_value}
-use Rattle.script_events.specs.Script.{byte_of_digits, cut_hex_byte, hex_in, hex_pairs}
+use Rattle.script_events.specs.Script.{byte_of_digits, split_hex_byte, hex_in, hex_pairs}
 
 -- a digit's value is the low half of its code, and 9 more for a letter
 pub hex_digit-bits : (digit : Bool) (c : ℕ) → MatchBool digit (IsAsciiHexdigit c) (IsNotAsciiHexdigit c) → then_some digit (c % 16 + 9 * (c / 64)) ≡ hex_digit_value c
@@ -14,27 +14,27 @@ hex_digit-bits true c (inl (inr in_range)) = grind (arith, in_range.0, in_range.
 hex_digit-bits true c (inr in_range) = grind (arith, in_range.0, in_range.1)
 hex_digit-bits false c out_of_ranges = grind (arith, out_of_ranges.0.0, out_of_ranges.0.1, out_of_ranges.1)
 
--- the bytes behind the first
-abbrev behind : List ℕ → ℕ → Option (List ℕ)
-behind rest byte = option_map (λ bytes. byte ∷ bytes) (hex_pairs rest)
+-- the bytes after the first
+abbrev after : List ℕ → ℕ → Option (List ℕ)
+after rest byte = option_map (λ bytes. byte ∷ bytes) (hex_pairs rest)
 
-of_byte : (o : Option ℕ) (rest : List ℕ) (byte : ℕ) (left : List ℕ) → ◌≡◌ {A = Option (ℕ × List ℕ)} (Some (byte, left)) (option_map (λ b. (b, rest)) o) → option_and_then (behind rest) o ≡ behind left byte
+of_byte : (o : Option ℕ) (rest : List ℕ) (byte : ℕ) (left : List ℕ) → ◌≡◌ {A = Option (ℕ × List ℕ)} (Some (byte, left)) (option_map (λ b. (b, rest)) o) → option_and_then (after rest) o ≡ after left byte
 of_byte None rest byte left e = absurd cc
-of_byte (Some b) rest byte left e = sym (ap (λ (cut : ℕ × List ℕ). behind cut.1 cut.0) (same_Some (byte, left) (b, rest) e))
+of_byte (Some b) rest byte left e = sym (ap (λ (cut : ℕ × List ℕ). after cut.1 cut.0) (same_Some (byte, left) (b, rest) e))
 
 -- a byte is cut, and the rest spells the others
-pub hex_pairs-cut : (raw : List ℕ) (byte : ℕ) (left : List ℕ) → Some (byte, left) ≡ cut_hex_byte raw → hex_pairs raw ≡ option_map (λ bytes. byte ∷ bytes) (hex_pairs left)
+pub hex_pairs-cut : (raw : List ℕ) (byte : ℕ) (left : List ℕ) → Some (byte, left) ≡ split_hex_byte raw → hex_pairs raw ≡ option_map (λ bytes. byte ∷ bytes) (hex_pairs left)
 unfolding hex_pairs
 hex_pairs-cut [] byte left e = absurd cc
 hex_pairs-cut (digit ∷ []) byte left e = absurd cc
 hex_pairs-cut (high ∷ low ∷ rest) byte left e = of_byte (byte_of_digits high low) rest byte left e
 
-of_none : (o : Option ℕ) (rest : List ℕ) → ◌≡◌ {A = Option (ℕ × List ℕ)} None (option_map (λ b. (b, rest)) o) → option_and_then (behind rest) o ≡ None
+of_none : (o : Option ℕ) (rest : List ℕ) → ◌≡◌ {A = Option (ℕ × List ℕ)} None (option_map (λ b. (b, rest)) o) → option_and_then (after rest) o ≡ None
 of_none None rest e = refl
 of_none (Some b) rest e = absurd cc
 
 -- where no byte can be cut, none are spelled
-pub hex_pairs-wrong : (raw : List ℕ) → 0 < length raw → None ≡ cut_hex_byte raw → hex_pairs raw ≡ None
+pub hex_pairs-wrong : (raw : List ℕ) → 0 < length raw → None ≡ split_hex_byte raw → hex_pairs raw ≡ None
 unfolding hex_pairs
 hex_pairs-wrong [] some e = absurd (omega arith)
 hex_pairs-wrong (digit ∷ []) some e = refl
@@ -50,7 +50,7 @@ one_longer : (o : Option (List ℕ)) (byte n : ℕ) → IfSome o (λ bytes. leng
 one_longer None byte n h = tt
 one_longer (Some bytes) byte n h = omega arith
 
-longer : (o : Option ℕ) (rest : List ℕ) → IfSome (hex_pairs rest) (λ bytes. length bytes ≤ length rest) → IfSome (option_and_then (behind rest) o) (λ bytes. length bytes ≤ length rest + 2)
+longer : (o : Option ℕ) (rest : List ℕ) → IfSome (hex_pairs rest) (λ bytes. length bytes ≤ length rest) → IfSome (option_and_then (after rest) o) (λ bytes. length bytes ≤ length rest + 2)
 longer None rest h = tt
 longer (Some byte) rest h = one_longer (hex_pairs rest) byte (length rest) h
 
@@ -72,7 +72,7 @@ is_some-map : (byte : ℕ) (o : Option (List ℕ)) → is_some (option_map (λ b
 is_some-map byte None = refl
 is_some-map byte (Some bytes) = refl
 
-pub IsChecked-more : {raw rest : List ℕ} (byte : ℕ) (left : List ℕ) → IsChecked raw rest → Some (byte, left) ≡ cut_hex_byte rest → IsChecked raw left
+pub IsChecked-more : {raw rest : List ℕ} (byte : ℕ) (left : List ℕ) → IsChecked raw rest → Some (byte, left) ≡ split_hex_byte rest → IsChecked raw left
 IsChecked-more {raw} {rest} byte left i cut_is =
     record { same = sym (ap is_some (hex_pairs-cut rest byte left cut_is) ∙ is_some-map byte (hex_pairs left)) ∙ i.same }
 
@@ -89,7 +89,7 @@ pub hex_in-some : (raw : List ℕ) → 0 < length raw → hex_in raw ≡ hex_pai
 hex_in-some [] some = absurd (omega arith)
 hex_in-some (digit ∷ raw) some = let test : (length (digit ∷ raw) == 0) ≡ false = grind arith in rw test refl
 
-pub IsChecked-wrong : {raw rest : List ℕ} → IsChecked raw rest → 0 < length raw → 0 < length rest → None ≡ cut_hex_byte rest → hex_in raw ≡ None
+pub IsChecked-wrong : {raw rest : List ℕ} → IsChecked raw rest → 0 < length raw → 0 < length rest → None ≡ split_hex_byte rest → hex_in raw ≡ None
 IsChecked-wrong {raw} {rest} i some left e =
     hex_in-some raw some ∙ none_there (hex_pairs raw) (sym (ap is_some (hex_pairs-wrong rest left e)) ∙ i.same)
 

@@ -5,7 +5,7 @@ use Rattle.std.specs.Bool.{then_some}
 use Rattle.std.specs.List.{list_any}
 use Rattle.std.proofs.lemmas.List.{append-nil}
 use Rattle.std.proofs.lemmas.Option.{same_Some}
-use Rattle.script_events.specs.Script.{byte_of_digits, cut_hex_byte, cut_byte, bytes_in}
+use Rattle.script_events.specs.Script.{byte_of_digits, split_hex_byte, split_byte, bytes_in}
 
 and_then-if : {A B : Type 0} (f : A → Option B) (t : Bool) (x y : Option A) → option_and_then f (cond t x y) ≡ cond t (option_and_then f x) (option_and_then f y)
 and_then-if f true x y = refl
@@ -19,24 +19,24 @@ and_then-map f g None = refl
 abbrev onto : ℕ × List ℕ → Option (List ℕ)
 onto cut = option_map (λ bytes. cut.0 ∷ bytes) (bytes_in cut.1)
 
-bytes_in-step : (b : ℕ) (behind : List ℕ) → bytes_in (b ∷ behind) ≡ option_and_then onto (cut_byte b behind)
+bytes_in-step : (b : ℕ) (after : List ℕ) → bytes_in (b ∷ after) ≡ option_and_then onto (split_byte b after)
 unfolding bytes_in
-bytes_in-step b [] = sym (and_then-if onto (b == 92) (cut_hex_byte []) (Some (b, [])))
-bytes_in-step b (c ∷ []) = sym (and_then-if onto (b == 92) (cut_hex_byte (c ∷ [])) (Some (b, c ∷ [])))
+bytes_in-step b [] = sym (and_then-if onto (b == 92) (split_hex_byte []) (Some (b, [])))
+bytes_in-step b (c ∷ []) = sym (and_then-if onto (b == 92) (split_hex_byte (c ∷ [])) (Some (b, c ∷ [])))
 bytes_in-step b (c ∷ d ∷ raw) =
     let plain = option_map (λ (bytes : List ℕ). b ∷ bytes) (bytes_in (c ∷ d ∷ raw)) in
     ap (λ (o : Option (List ℕ)). cond (b == 92) o plain) (sym (and_then-map onto (λ byte. (byte, raw)) (byte_of_digits c d)))
-    ∙ sym (and_then-if onto (b == 92) (cut_hex_byte (c ∷ d ∷ raw)) (Some (b, c ∷ d ∷ raw)))
+    ∙ sym (and_then-if onto (b == 92) (split_hex_byte (c ∷ d ∷ raw)) (Some (b, c ∷ d ∷ raw)))
 
 -- a byte is cut, and the rest spells the others
-pub bytes_in-cut : (rest : List ℕ) (b : ℕ) (behind : List ℕ) (byte : ℕ) (left : List ℕ) → rest ≡ b ∷ behind → Some (byte, left) ≡ cut_byte b behind → bytes_in rest ≡ option_map (λ bytes. byte ∷ bytes) (bytes_in left)
-bytes_in-cut rest b behind byte left rest_is cut_is =
-    ap bytes_in rest_is ∙ bytes_in-step b behind ∙ ap (option_and_then onto) (sym cut_is)
+pub bytes_in-cut : (rest : List ℕ) (b : ℕ) (after : List ℕ) (byte : ℕ) (left : List ℕ) → rest ≡ b ∷ after → Some (byte, left) ≡ split_byte b after → bytes_in rest ≡ option_map (λ bytes. byte ∷ bytes) (bytes_in left)
+bytes_in-cut rest b after byte left rest_is cut_is =
+    ap bytes_in rest_is ∙ bytes_in-step b after ∙ ap (option_and_then onto) (sym cut_is)
 
 -- where no byte can be cut, none are spelled
-pub bytes_in-wrong : (rest : List ℕ) (b : ℕ) (behind : List ℕ) → rest ≡ b ∷ behind → None ≡ cut_byte b behind → bytes_in rest ≡ None
-bytes_in-wrong rest b behind rest_is cut_is =
-    ap bytes_in rest_is ∙ bytes_in-step b behind ∙ ap (option_and_then onto) (sym cut_is)
+pub bytes_in-wrong : (rest : List ℕ) (b : ℕ) (after : List ℕ) → rest ≡ b ∷ after → None ≡ split_byte b after → bytes_in rest ≡ None
+bytes_in-wrong rest b after rest_is cut_is =
+    ap bytes_in rest_is ∙ bytes_in-step b after ∙ ap (option_and_then onto) (sym cut_is)
 
 pub bytes_in-end : (rest : List ℕ) → length rest ≡ 0 → bytes_in rest ≡ Some []
 unfolding bytes_in
@@ -59,9 +59,9 @@ one_counted len byte (Some bytes) = ap Some (omega arith)
 pub IsCounted-none : (raw : List ℕ) → IsCounted raw raw 0
 IsCounted-none raw = record { same = none_counted (bytes_in raw); within = omega arith }
 
-pub IsCounted-more : {raw rest : List ℕ} {len : ℕ} (b : ℕ) (behind : List ℕ) (byte : ℕ) (left : List ℕ) → IsCounted raw rest len → rest ≡ b ∷ behind → Some (byte, left) ≡ cut_byte b behind → length left ≤ length behind → IsCounted raw left (len + 1)
-IsCounted-more {raw} {rest} {len} b behind byte left i rest_is cut_is less = record {
-  same = sym (one_counted len byte (bytes_in left)) ∙ ap (option_map (λ (bytes : List ℕ). len + length bytes)) (sym (bytes_in-cut rest b behind byte left rest_is cut_is)) ∙ i.same;
+pub IsCounted-more : {raw rest : List ℕ} {len : ℕ} (b : ℕ) (after : List ℕ) (byte : ℕ) (left : List ℕ) → IsCounted raw rest len → rest ≡ b ∷ after → Some (byte, left) ≡ split_byte b after → length left ≤ length after → IsCounted raw left (len + 1)
+IsCounted-more {raw} {rest} {len} b after byte left i rest_is cut_is less = record {
+  same = sym (one_counted len byte (bytes_in left)) ∙ ap (option_map (λ (bytes : List ℕ). len + length bytes)) (sym (bytes_in-cut rest b after byte left rest_is cut_is)) ∙ i.same;
   within = omega (arith, ap length rest_is);
 }
 
@@ -70,9 +70,9 @@ none_spelled None e = refl
 none_spelled (Some bytes) e = absurd cc
 
 -- where no byte can be cut, raw spells none
-pub IsCounted-wrong : {raw rest : List ℕ} {len : ℕ} (b : ℕ) (behind : List ℕ) → IsCounted raw rest len → rest ≡ b ∷ behind → None ≡ cut_byte b behind → bytes_in raw ≡ None
-IsCounted-wrong {raw} {rest} {len} b behind i rest_is cut_is =
-    none_spelled (bytes_in raw) (ap (option_map (λ (bytes : List ℕ). len + length bytes)) (sym (bytes_in-wrong rest b behind rest_is cut_is)) ∙ i.same)
+pub IsCounted-wrong : {raw rest : List ℕ} {len : ℕ} (b : ℕ) (after : List ℕ) → IsCounted raw rest len → rest ≡ b ∷ after → None ≡ split_byte b after → bytes_in raw ≡ None
+IsCounted-wrong {raw} {rest} {len} b after i rest_is cut_is =
+    none_spelled (bytes_in raw) (ap (option_map (λ (bytes : List ℕ). len + length bytes)) (sym (bytes_in-wrong rest b after rest_is cut_is)) ∙ i.same)
 
 pub IsCounted-all : {raw rest : List ℕ} {len : ℕ} → IsCounted raw rest len → length rest ≡ 0 → option_map length (bytes_in raw) ≡ Some len
 IsCounted-all {raw} {rest} {len} i none =
@@ -89,7 +89,7 @@ pub bytes_in-short : {len most : ℕ} (o : Option (List ℕ)) → option_map len
 bytes_in-short None e le = absurd cc
 bytes_in-short {len} {most} (Some bytes) e le = omega (arith, same_Some (length bytes) len e)
 
--- what is left to decode spells what is still to come behind those in front
+-- what is left to decode spells what is still to come after those in front
 pub record IsDecoded (whole front : List ℕ) (spelled : Option (List ℕ)) : Type 0 where
   pub same : option_map (λ bytes. front ++ bytes) spelled ≡ Some whole
 
@@ -133,11 +133,11 @@ unfolding bytes_in
 bytes_in-plain [] none = refl
 bytes_in-plain (b ∷ []) none = let itself : (b == 92) ≡ false = (neither (b == 92) false none).0 in rw itself refl
 bytes_in-plain (b ∷ c ∷ []) none =
-    let (itself, behind) = neither (b == 92) (list_any (λ b. b == 92) (c ∷ [])) none in
-    rw itself (ap (option_map (λ (bytes : List ℕ). b ∷ bytes)) (bytes_in-plain (c ∷ []) behind))
+    let (itself, after) = neither (b == 92) (list_any (λ b. b == 92) (c ∷ [])) none in
+    rw itself (ap (option_map (λ (bytes : List ℕ). b ∷ bytes)) (bytes_in-plain (c ∷ []) after))
 bytes_in-plain (b ∷ c ∷ d ∷ raw) none =
-    let (itself, behind) = neither (b == 92) (list_any (λ b. b == 92) (c ∷ d ∷ raw)) none in
-    rw itself (ap (option_map (λ (bytes : List ℕ). b ∷ bytes)) (bytes_in-plain (c ∷ d ∷ raw) behind))
+    let (itself, after) = neither (b == 92) (list_any (λ b. b == 92) (c ∷ d ∷ raw)) none in
+    rw itself (ap (option_map (λ (bytes : List ℕ). b ∷ bytes)) (bytes_in-plain (c ∷ d ∷ raw) after))
 
 -- so they are lent as they stand
 pub lent_plain : {X : Type 0} (now : X → List ℕ) (found : Bool) (raw : X) (lent : Option X) → found ≡ list_any (λ b. b == 92) (now raw) → lent ≡ then_some (not found) raw

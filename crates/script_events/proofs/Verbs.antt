@@ -35,7 +35,7 @@ found rows i row word test whole read is passes within left =
     ap (λ (x : Row). Some x.1) read
     ∙ sym (from_row rows i row word within ∙ by_test (get_or rows i row) (drop (i + 1) rows) word true here) ∙ left
 
--- else by those behind it
+-- else by those after it
 pub passed : (rows : List Row) (i : ℕ) (row : Row) (word : List ℕ) (test : Bool) (whole : Option Verb)
     → row ≡ get_or rows i row → test ≡ is_word row.0.now word → test ≡ false → i < length rows → among rows i word ≡ whole
     → among rows (i + 1) word ≡ whole

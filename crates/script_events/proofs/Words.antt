@@ -11,13 +11,13 @@ use Rattle.std.proofs.lemmas.Option.{same_Some}
 use Rattle.std.proofs.lemmas.List.{take_all, length-drop, get_or_past}
 use Rattle.std.proofs.lemmas.Str.{IsUtf8-from_ascii}
 use Rattle.std.proofs.lemmas.Str.Parse.{IsNumeralModel, numerals_by_value, tells_all_ascii_digits, digit_at, parse_digits}
-use Rattle.script_events.specs.Words.{some_if, cut_word, number_in}
+use Rattle.script_events.specs.Words.{some_if, split_word, number_in}
 
-pub cut_word-none : (bytes : List ℕ) → position (λ b. b == 32) bytes ≡ None → cut_word bytes ≡ None
-cut_word-none bytes e = ap (option_map (λ (i : ℕ). (take i bytes, drop (i + 1) bytes))) e
+pub split_word-none : (bytes : List ℕ) → position (λ b. b == 32) bytes ≡ None → split_word bytes ≡ None
+split_word-none bytes e = ap (option_map (λ (i : ℕ). (take i bytes, drop (i + 1) bytes))) e
 
-pub cut_word-some : (bytes : List ℕ) (i : ℕ) → position (λ b. b == 32) bytes ≡ Some i → cut_word bytes ≡ Some (take i bytes, take (length bytes - (i + 1)) (drop (i + 1) bytes))
-cut_word-some bytes i e =
+pub split_word-some : (bytes : List ℕ) (i : ℕ) → position (λ b. b == 32) bytes ≡ Some i → split_word bytes ≡ Some (take i bytes, take (length bytes - (i + 1)) (drop (i + 1) bytes))
+split_word-some bytes i e =
     let whole : take (length bytes - (i + 1)) (drop (i + 1) bytes) ≡ drop (i + 1) bytes = take_all (length bytes - (i + 1)) (drop (i + 1) bytes) (omega (arith, length-drop (i + 1) bytes)) in
     rw whole (ap (option_map (λ (i : ℕ). (take i bytes, drop (i + 1) bytes))) e)
 

@@ -9,14 +9,14 @@ use Rattle.looks.specs.Sel.{Selection, bits_of}
 use Rattle.operations.specs.Reading.{is_font_name}
 use Rattle.script_events.specs.Words.{◌>>=◌, some_if, is_word, front_word, number_in}
 
--- what stands behind this key, where a word begins with it
+-- what stands after this key, where a word begins with it
 abbrev pub value_of : (key word : List ℕ) → Option (List ℕ)
 value_of key word = some_if (is_word (take (length key) word) key) (drop (length key) word)
 
 -- the value of this key's attribute, where the words that are left begin with it; and the words that are then left
-abbrev pub cut_value : (key : List ℕ) → Option (List ℕ) → Option (List ℕ) × Option (List ℕ)
-cut_value key None = (None, None)
-cut_value key (Some words) =
+abbrev pub split_value : (key : List ℕ) → Option (List ℕ) → Option (List ℕ) × Option (List ℕ)
+split_value key None = (None, None)
+split_value key (Some words) =
     option_map_or (λ value. (Some value, (front_word words).1)) (value_of key (front_word words).0)
     (None, Some words)
 
@@ -28,7 +28,7 @@ font_in word = some_if (is_font_name word) word
 abbrev pub colour_in : List ℕ → Option ℕ
 colour_in word = number_in word >>= λ colour. some_if (nat_le colour MAX_COLOUR) colour
 
--- a number, perhaps behind a `-`
+-- a number, perhaps after a `-`
 abbrev pub signed_in : List ℕ → Option ℤ
 signed_in [] = None
 signed_in (b ∷ word) =
@@ -68,7 +68,7 @@ change_of font colour offset = do
 -- the attributes that these words give, where they are all that there is
 abbrev pub change_in : List ℕ → Option (Selection × Looks)
 change_in words =
-    let font = cut_value (codes "font=") (Some words) in
-    let colour = cut_value (codes "colour=") font.1 in
-    let offset = cut_value (codes "offset=") colour.1 in
+    let font = split_value (codes "font=") (Some words) in
+    let colour = split_value (codes "colour=") font.1 in
+    let offset = split_value (codes "offset=") colour.1 in
     if is_some offset.1 then None else change_of font.0 colour.0 offset.0

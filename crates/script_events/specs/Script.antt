@@ -17,10 +17,10 @@ use Rattle.machine.specs.Events.{put, query, reopen, sent as by_number, settle, 
 use Rattle.machine.specs.declared.asked.Arrangement.{Arrangement}
 use Rattle.machine.specs.declared.asked.Arrangement.TheVariants.{Close, Move, Open, Point, Scroll, Select}
 use Rattle.machine.specs.declared.asked.Cell.{Cell}
-use Rattle.machine.specs.declared.asked.Query.TheVariants.{Front, Places, Runs, Text}
+use Rattle.machine.specs.declared.asked.Query.TheVariants.{Front, WhereShown, Runs, Text}
 use Rattle.machine.specs.declared.asked.View.TheVariants.{Marks, Show, Views}
 use Rattle.script_events.specs.LooksWords.{change_in}
-use Rattle.script_events.specs.Words.{◌>>=◌, some_if, is_word, cut_word, front_word, number_in, cut_number, desk_in, text_in}
+use Rattle.script_events.specs.Words.{◌>>=◌, some_if, is_word, split_word, front_word, number_in, split_number, desk_in, text_in}
 use Rattle.script_events.specs.declared.event.verbs.ArrangeVerb.{ArrangeVerb}
 use Rattle.script_events.specs.declared.event.verbs.ArrangeVerb.TheVariants.{Close as Closes, Move as Moves, Open as Opens}
 use Rattle.script_events.specs.declared.event.verbs.ArrangeVerb.TheVariants.{Point as Points, Scroll as Scrolls, Select as Selects}
@@ -39,14 +39,14 @@ use Rattle.script_events.specs.declared.event.verbs.Verb.TheVariants.{Arrange, D
 abbrev pub byte_of_digits : ℕ → ℕ → Option ℕ
 byte_of_digits high low = hex_digit_value high >>= λ h. hex_digit_value low >>= λ l. Some (16 * h + l)
 
--- the byte of the two hex digits in front, and what stands behind them
-abbrev pub cut_hex_byte : List ℕ → Option (ℕ × List ℕ)
-cut_hex_byte (high ∷ low ∷ rest) = option_map (λ byte. (byte, rest)) (byte_of_digits high low)
-cut_hex_byte _ = None
+-- the byte of the two hex digits in front, and what stands after them
+abbrev pub split_hex_byte : List ℕ → Option (ℕ × List ℕ)
+split_hex_byte (high ∷ low ∷ rest) = option_map (λ byte. (byte, rest)) (byte_of_digits high low)
+split_hex_byte _ = None
 
--- the byte that first spells with what stands behind it, and what is left behind that
-abbrev pub cut_byte : ℕ → List ℕ → Option (ℕ × List ℕ)
-cut_byte first behind = if first == 92 then cut_hex_byte behind else Some (first, behind)
+-- the byte that first spells with what stands after it, and what is left after that
+abbrev pub split_byte : ℕ → List ℕ → Option (ℕ × List ℕ)
+split_byte first after = if first == 92 then split_hex_byte after else Some (first, after)
 
 -- bytes, in which a backslash and two hex digits stand for one byte, and a backslash for nothing else
 unfoldable pub bytes_in : List ℕ → Option (List ℕ)
@@ -62,7 +62,7 @@ unfoldable pub hex_pairs : List ℕ → Option (List ℕ)
 hex_pairs [] = Some []
 hex_pairs (digit ∷ []) = None
 hex_pairs (high ∷ low ∷ rest) =
-    byte_of_digits high low >>= λ byte. option_map (λ behind. byte ∷ behind) (hex_pairs rest)
+    byte_of_digits high low >>= λ byte. option_map (λ after. byte ∷ after) (hex_pairs rest)
 
 -- a message in hex: one byte at least
 abbrev pub hex_in : List ℕ → Option (List ℕ)
@@ -79,25 +79,25 @@ delivery_in (b ∷ word) =
 abbrev pub typing : (pos : ℕ) → List ℕ → Edit
 typing pos bytes = insertion pos (map (λ b. (b, plain_looks)) bytes)
 
--- what `type` goes on with behind its text: a position and the bytes
+-- what `type` goes on with after its text: a position and the bytes
 abbrev pub type_edit : List ℕ → Option Edit
 type_edit rest = do
-  pos ← cut_number rest
+  pos ← split_number rest
   bytes ← bytes_in pos.1
   Some (typing pos.0 bytes)
 
 -- `cut`: from where to where
 abbrev pub cut_edit : List ℕ → Option Edit
 cut_edit rest = do
-  beg ← cut_number rest
+  beg ← split_number rest
   end ← number_in beg.1
   Some (deletion beg.0 end)
 
 -- `looks`: from where to where, and the attributes
 abbrev pub looks_edit : List ℕ → Option Edit
 looks_edit rest = do
-  beg ← cut_number rest
-  end ← cut_number beg.1
+  beg ← split_number rest
+  end ← split_number beg.1
   change ← change_in end.1
   Some (looks_change beg.0 end.0 change.0 change.1)
 
@@ -105,12 +105,12 @@ looks_edit rest = do
 abbrev pub recall_edit : List ℕ → Option Edit
 recall_edit rest = option_map (λ pos. recalling pos) (number_in rest)
 
--- what `save` goes on with behind its text: from where to where, the other text, and a position in that
+-- what `save` goes on with after its text: from where to where, the other text, and a position in that
 abbrev pub save_event : (desk text : ℕ) → List ℕ → Option Event
 save_event desk text rest = do
-  beg ← cut_number rest
-  end ← cut_number beg.1
-  cut ← cut_word end.1
+  beg ← split_number rest
+  end ← split_number beg.1
+  cut ← split_word end.1
   other ← text_in cut.0
   pos ← number_in cut.1
   Some (copy desk text beg.0 end.0 other pos)
@@ -118,15 +118,15 @@ save_event desk text rest = do
 -- names of a site, as a message has them too: the site, the first one's offset, and how many they are
 abbrev pub names_in : List ℕ → Option Range
 names_in rest = do
-  site ← cut_number rest
-  at ← cut_number site.1
+  site ← split_number rest
+  at ← split_number site.1
   len ← number_in at.1
   some_if (nat_le 1 site.0 && nat_lt site.0 (2 ^ 16) && nat_le 1 len && nat_le (at.0 + len) MAX_FILE)
       (record { site = site.0; at = at.0; len = len })
 
 -- `where`: names of a site
-abbrev pub places_event : (desk text : ℕ) → List ℕ → Option Event
-places_event desk text rest = option_map (λ names. query desk text (Places names)) (names_in rest)
+abbrev pub where_event : (desk text : ℕ) → List ℕ → Option Event
+where_event desk text rest = option_map (λ names. query desk text (WhereShown names)) (names_in rest)
 
 -- `merge`: the site whose text is taken over
 abbrev pub merge_event : (first count desk text : ℕ) → List ℕ → Option Event
@@ -141,7 +141,7 @@ track_in word =
 -- two numbers that end the line
 abbrev pub pair_in : List ℕ → Option (ℕ × ℕ)
 pair_in rest = do
-  first ← cut_number rest
+  first ← split_number rest
   second ← number_in first.1
   Some (first.0, second)
 
@@ -149,17 +149,17 @@ pair_in rest = do
 abbrev pub cell_in : List ℕ → Option Cell
 cell_in rest = option_map (λ pair. record { col = pair.0; row = pair.1 }) (pair_in rest)
 
--- what `open` goes on with behind its track: a text, which ends the line or has a row behind it
+-- what `open` goes on with after its track: a text, which ends the line or has a row after it
 abbrev pub opening_in : Track → List ℕ → Option Arrangement
 opening_in track rest =
     option_map_or
     (λ cut. text_in cut.0 >>= λ text. option_map (λ row. Open track text (Some row)) (number_in cut.1))
-    (cut_word rest) (option_map (λ text. Open track text None) (text_in rest))
+    (split_word rest) (option_map (λ text. Open track text None) (text_in rest))
 
 -- `open`: a track, a text, and perhaps a row
 abbrev pub open_arrangement : List ℕ → Option Arrangement
 open_arrangement rest = do
-  cut ← cut_word rest
+  cut ← split_word rest
   track ← track_in cut.0
   opening_in track cut.1
 
@@ -182,8 +182,8 @@ point_arrangement rest = option_map (λ cell. Point cell) (cell_in rest)
 -- `select`: the columns and rows of two cells
 abbrev pub select_arrangement : List ℕ → Option Arrangement
 select_arrangement rest = do
-  col ← cut_number rest
-  row ← cut_number col.1
+  col ← split_number rest
+  row ← split_number col.1
   cell ← cell_in row.1
   Some (Select (record { col = col.0; row = row.0 }) cell)
 
@@ -198,7 +198,7 @@ file_in word = some_if (is_file_name word && not (list_any (λ b. b == 32) word)
 -- what `keep` and `reopen` go on with: a text, and the file, which ends the line
 abbrev pub filing_in : List ℕ → Option (ℕ × List ℕ)
 filing_in rest = do
-  cut ← cut_word rest
+  cut ← split_word rest
   text ← text_in cut.0
   name ← file_in cut.1
   Some (text, name)
@@ -208,21 +208,21 @@ abbrev pub short_event : ShortVerb → (desk text : ℕ) → Event
 short_event Restore desk text = edit desk text restoration
 short_event Settle desk text = settle desk text
 
--- the edit that a verb asks for with what stands behind the text: a row for each verb
+-- the edit that a verb asks for with what stands after the text: a row for each verb
 abbrev pub edit_in : EditVerb → List ℕ → Option Edit
 edit_in TypeIn rest = type_edit rest
 edit_in Cut rest = cut_edit rest
 edit_in Looks rest = looks_edit rest
 edit_in Recall rest = recall_edit rest
 
--- what else a verb asks of a text with what stands behind it: a row for each verb
+-- what else a verb asks of a text with what stands after it: a row for each verb
 abbrev pub long_event : (first count : ℕ) → LongVerb → (desk text : ℕ) → List ℕ → Option Event
 long_event first count Save desk text rest = save_event desk text rest
 long_event first count Take desk text rest = option_map (λ message. taking desk text message) (delivery_in rest)
 long_event first count Merge desk text rest = merge_event first count desk text rest
-long_event first count Where desk text rest = places_event desk text rest
+long_event first count Where desk text rest = where_event desk text rest
 
--- the arrangement that a verb asks for with what stands behind it: a row for each verb
+-- the arrangement that a verb asks for with what stands after it: a row for each verb
 abbrev pub arrangement_in : ArrangeVerb → List ℕ → Option Arrangement
 arrangement_in Opens rest = open_arrangement rest
 arrangement_in Closes rest = close_arrangement rest
@@ -231,24 +231,24 @@ arrangement_in Scrolls rest = scroll_arrangement rest
 arrangement_in Points rest = point_arrangement rest
 arrangement_in Selects rest = select_arrangement rest
 
--- what else a verb asks of a desk with what stands behind it: a row for each verb
+-- what else a verb asks of a desk with what stands after it: a row for each verb
 abbrev pub desk_event : DeskVerb → (desk : ℕ) → List ℕ → Option Event
 desk_event Keep desk rest = option_map (λ filing. ask desk (keep filing.0 filing.1)) (filing_in rest)
 desk_event Reopen desk rest = option_map (λ filing. ask desk (reopen filing.0 filing.1)) (filing_in rest)
 desk_event Key desk rest = option_map (λ bytes. ask desk (put (plain_items bytes))) (bytes_in rest)
 desk_event Click desk rest = option_map (λ cell. click desk cell.col cell.row) (cell_in rest)
 
--- what a verb asks with what stands behind its blank, if it doesn't end the line
+-- what a verb asks with what stands after its blank, if it doesn't end the line
 abbrev pub verb_event : (first count : ℕ) → Verb → (desk : ℕ) → Option (List ℕ) → Option Event
 verb_event first count (Queries q) desk rest =
     rest >>= λ words. option_map (λ text. query desk text q) (text_in words)
 verb_event first count (Short verb) desk rest =
     rest >>= λ words. option_map (λ text. short_event verb desk text) (text_in words)
 verb_event first count (EditOf verb) desk rest =
-    rest >>= λ words. cut_word words >>= λ cut. text_in cut.0 >>= λ text.
+    rest >>= λ words. split_word words >>= λ cut. text_in cut.0 >>= λ text.
     option_map (λ e. edit desk text e) (edit_in verb cut.1)
 verb_event first count (Long verb) desk rest =
-    rest >>= λ words. cut_word words >>= λ cut. text_in cut.0 >>= λ text. long_event first count verb desk text cut.1
+    rest >>= λ words. split_word words >>= λ cut. text_in cut.0 >>= λ text. long_event first count verb desk text cut.1
 verb_event first count (Arrange verb) desk rest =
     rest >>= λ words. option_map (λ a. ask desk (arrange a)) (arrangement_in verb words)
 verb_event first count (Desk verb) desk rest = rest >>= λ words. desk_event verb desk words
@@ -296,7 +296,7 @@ verb_in word = verb_among verbs word
 -- the event that a line spells, if it spells one: a site, a verb, and what the verb goes on with
 unfoldable pub spelled_event : (first count : ℕ) → List ℕ → Option Event
 spelled_event first count line = do
-  site ← cut_word line
+  site ← split_word line
   verb ← verb_in (front_word site.1).0
   desk ← desk_in first count site.0
   verb_event first count verb desk (front_word site.1).1

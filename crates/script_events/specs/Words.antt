@@ -21,13 +21,13 @@ some_if test v = if test then Some v else None
 abbrev pub is_word : List ℕ → List ℕ → Bool
 is_word word other = pointwise nat_eq word other
 
--- the word up to the first blank, and what stands behind that blank
-abbrev pub cut_word : List ℕ → Option (List ℕ × List ℕ)
-cut_word bytes = option_map (λ i. (take i bytes, drop (i + 1) bytes)) (position (λ b. b == 32) bytes)
+-- the word up to the first blank, and what stands after that blank
+abbrev pub split_word : List ℕ → Option (List ℕ × List ℕ)
+split_word bytes = option_map (λ i. (take i bytes, drop (i + 1) bytes)) (position (λ b. b == 32) bytes)
 
--- the word in front, and what stands behind its blank: nothing where it is the line's last word
+-- the word in front, and what stands after its blank: nothing where it is the line's last word
 abbrev pub front_word : List ℕ → List ℕ × Option (List ℕ)
-front_word words = option_map_or (λ cut. (cut.0, Some cut.1)) (cut_word words) (words, None)
+front_word words = option_map_or (λ cut. (cut.0, Some cut.1)) (split_word words) (words, None)
 
 -- a number: 1 to 10 decimal digits, with a value to 2^32 - 1
 abbrev pub number_in : List ℕ → Option ℕ
@@ -35,10 +35,10 @@ number_in word =
     some_if (nat_le 1 (length word) && nat_le (length word) 10 && all_ascii_digits word
     && nat_lt (digits_value 10 word) (2 ^ 32)) (digits_value 10 word)
 
--- the number up to the first blank, and what stands behind that blank
-abbrev pub cut_number : List ℕ → Option (ℕ × List ℕ)
-cut_number bytes = do
-  cut ← cut_word bytes
+-- the number up to the first blank, and what stands after that blank
+abbrev pub split_number : List ℕ → Option (ℕ × List ℕ)
+split_number bytes = do
+  cut ← split_word bytes
   n ← number_in cut.0
   Some (n, cut.1)
 

@@ -1,8 +1,8 @@
 ghost use Rattle.std.specs.Prelude.{◌≡◌, ◌+◌, ◌≤◌, ◌++◌, length, option_map, IfSome};
 ghost use Rattle.std.specs.Prelude.{vec_capacity, vec_len};
-ghost use Rattle.script_events.specs.Script.{bytes_in, cut_byte};
+ghost use Rattle.script_events.specs.Script.{bytes_in, split_byte};
 
-use crate::hex_bytes::cut_hex_byte;
+use crate::hex_bytes::split_hex_byte;
 use std::marker::Model;
 
 /// Bytes as a line of a script spells them: a backslash and two hex digits of either case stand for one byte,
@@ -41,8 +41,8 @@ impl<'a> Escaped<'a> {
         }
         let mut len = 0;
         let mut rest = raw;
-        while let Some((first, behind)) = rest.split_first() {
-            rest = cut_byte(*first, behind)?.1;
+        while let Some((first, after)) = rest.split_first() {
+            rest = split_byte(*first, after)?.1;
             len += 1;
         }
         Some(Escaped { raw, len })
@@ -62,29 +62,29 @@ impl<'a> Escaped<'a> {
         (!self.raw.contains(&b'\\')).then_some(self.raw)
     }
 
-    /// Puts the bytes behind those that `out` has, which has the room.
+    /// Puts the bytes after those that `out` has, which has the room.
     pub fn decode(&self, out: &mut Vec<u8>)
         requires { vec_len out.old + length self.now ≤ vec_capacity out.old }
         ensures bytes { out.new.items ≡ out.old.items ++ self.now }
         ensures room { vec_capacity out.new ≡ vec_capacity out.old }
     {
         let mut rest = self.raw;
-        while let Some((first, behind)) = rest.split_first() {
-            let (byte, left) = cut_byte(*first, behind).unwrap();
+        while let Some((first, after)) = rest.split_first() {
+            let (byte, left) = split_byte(*first, after).unwrap();
             out.push_reserved(byte);
             rest = left;
         }
     }
 }
 
-// The byte that `first` spells with what stands behind it, and what is left behind that.
-fn cut_byte(first: u8, behind: &[u8]) -> Option<(u8, &[u8])>
-    ensures value { option_map (λ cut. (cut.0, cut.1.now)) result ≡ cut_byte first behind.now }
-    ensures shorter { IfSome result (λ cut. length cut.1.now ≤ length behind.now) }
+// The byte that `first` spells with what stands after it, and what is left after that.
+fn split_byte(first: u8, after: &[u8]) -> Option<(u8, &[u8])>
+    ensures value { option_map (λ cut. (cut.0, cut.1.now)) result ≡ split_byte first after.now }
+    ensures shorter { IfSome result (λ cut. length cut.1.now ≤ length after.now) }
 {
     if first == b'\\' {
-        cut_hex_byte(behind)
+        split_hex_byte(after)
     } else {
-        Some((first, behind))
+        Some((first, after))
     }
 }

@@ -2,7 +2,7 @@ ghost use Rattle.std.specs.Prelude.{◌≡◌, ℕ, ◌<◌, ◌≤◌, length, 
 ghost use Rattle.script_events.specs.EventView.{delivery_of, edit_of, event_of, event_or_unknown, IsInRun, IsOfLine, IsWithin};
 ghost use Rattle.script_events.specs.EventView.{OpensDeskText, TypesAtMost};
 ghost use Rattle.script_events.specs.Script.{arrangement_in, delivery_in, desk_event, edit_in, event_in, long_event, merge_event};
-ghost use Rattle.script_events.specs.Script.{names_in, places_event, save_event, short_event, verb_event};
+ghost use Rattle.script_events.specs.Script.{names_in, where_event, save_event, short_event, verb_event};
 
 mod arrangements;
 mod edits;
@@ -19,7 +19,7 @@ use crate::event::arrangements::{
 use crate::event::edits::{cut_edit, looks_edit, recall_edit, type_edit};
 use crate::event::filings::filing_in;
 use crate::event::verbs::{ArrangeVerb, DeskVerb, EditVerb, LongVerb, ShortVerb, Verb};
-use crate::event::words::{cut_number, cut_word, desk_in, front_word, number_in, text_in};
+use crate::event::words::{split_number, split_word, desk_in, front_word, number_in, text_in};
 use crate::hex_bytes::Hex;
 use char_files::{MAX_FILE, SiteNo, TextNo};
 use looks::{Looks, Sel};
@@ -164,16 +164,16 @@ fn delivery_in(word: &[u8]) -> Option<Delivery<'_>>
     }
 }
 
-// What `save` goes on with behind its text: from where to where, the other text, and a position in that.
+// What `save` goes on with after its text: from where to where, the other text, and a position in that.
 fn save_event(desk: usize, text: TextNo, rest: &[u8]) -> Option<Event<'_>>
     requires { text ≤ MAX_TEXT }
     ensures event { option_map event_of result ≡ save_event desk text rest.now }
     ensures in_run { IfSome result (λ event. (count : ℕ) → desk < count → IsInRun count event) }
     ensures within { IfSome result (λ event. (len : ℕ) → IsOfLine len event) }
 {
-    let (beg, rest) = cut_number(rest)?;
-    let (end, rest) = cut_number(rest)?;
-    let (other, pos) = cut_word(rest)?;
+    let (beg, rest) = split_number(rest)?;
+    let (end, rest) = split_number(rest)?;
+    let (other, pos) = split_word(rest)?;
     let save = Save {
         beg,
         end,
@@ -187,8 +187,8 @@ fn save_event(desk: usize, text: TextNo, rest: &[u8]) -> Option<Event<'_>>
 fn names_in(rest: &[u8]) -> Option<NameRange>
     ensures { result ≡ names_in rest.now }
 {
-    let (site, rest) = cut_number(rest)?;
-    let (at, len) = cut_number(rest)?;
+    let (site, rest) = split_number(rest)?;
+    let (at, len) = split_number(rest)?;
     let len = u64::from(number_in(len)?);
     if site > u64::from(u16::MAX) || len == 0 || MAX_FILE < at + len {
         return None;
@@ -197,13 +197,13 @@ fn names_in(rest: &[u8]) -> Option<NameRange>
 }
 
 // `where`: names of a site.
-fn places_event(desk: usize, text: TextNo, rest: &[u8]) -> Option<Event<'static>>
+fn where_event(desk: usize, text: TextNo, rest: &[u8]) -> Option<Event<'static>>
     requires { text ≤ MAX_TEXT }
-    ensures event { option_map event_of result ≡ places_event desk text rest.now }
+    ensures event { option_map event_of result ≡ where_event desk text rest.now }
     ensures in_run { IfSome result (λ event. (count : ℕ) → desk < count → IsInRun count event) }
     ensures within { IfSome result (λ event. (len : ℕ) → IsOfLine len event) }
 {
-    let query = Query::Places(names_in(rest)?);
+    let query = Query::WhereShown(names_in(rest)?);
     Some(Event::Queries { desk, text, query })
 }
 
@@ -234,7 +234,7 @@ fn short_event(verb: ShortVerb, desk: usize, text: TextNo) -> Event<'static>
     }
 }
 
-// The edit that a verb asks for with what stands behind the text: a row for each verb.
+// The edit that a verb asks for with what stands after the text: a row for each verb.
 fn edit_in(verb: EditVerb, rest: &[u8]) -> Option<Edit<'_>>
     ensures edit { option_map edit_of result ≡ edit_in verb rest.now }
     ensures short { IfSome result (λ edit. (len : ℕ) → length rest.now ≤ len → TypesAtMost len edit) }
@@ -247,7 +247,7 @@ fn edit_in(verb: EditVerb, rest: &[u8]) -> Option<Edit<'_>>
     }
 }
 
-// What else a verb asks of a text with what stands behind it: a row for each verb.
+// What else a verb asks of a text with what stands after it: a row for each verb.
 fn long_event<'a>(
     run: RunSites,
     verb: LongVerb,
@@ -271,11 +271,11 @@ fn long_event<'a>(
             })
         }
         LongVerb::Merge => merge_event(run, desk, text, rest),
-        LongVerb::Where => places_event(desk, text, rest),
+        LongVerb::Where => where_event(desk, text, rest),
     }
 }
 
-// The arrangement that a verb asks for with what stands behind it: a row for each verb.
+// The arrangement that a verb asks for with what stands after it: a row for each verb.
 fn arrangement_in(verb: ArrangeVerb, rest: &[u8]) -> Option<Arrangement>
     ensures arrangement { result ≡ arrangement_in verb rest.now }
     ensures on_desk { IfSome result (λ arrangement. OpensDeskText arrangement) }
@@ -290,7 +290,7 @@ fn arrangement_in(verb: ArrangeVerb, rest: &[u8]) -> Option<Arrangement>
     }
 }
 
-// What else a verb asks of a desk with what stands behind it: a row for each verb.
+// What else a verb asks of a desk with what stands after it: a row for each verb.
 fn desk_event<'a>(verb: DeskVerb, desk: usize, rest: &'a [u8]) -> Option<Event<'a>>
     ensures event { option_map event_of result ≡ desk_event verb desk rest.now }
     ensures in_run { IfSome result (λ event. (count : ℕ) → desk < count → IsInRun count event) }
@@ -320,7 +320,7 @@ fn desk_event<'a>(verb: DeskVerb, desk: usize, rest: &'a [u8]) -> Option<Event<'
     }
 }
 
-// What a verb asks with what stands behind its blank, if it doesn't end the line.
+// What a verb asks with what stands after its blank, if it doesn't end the line.
 fn verb_event<'a>(
     run: RunSites,
     verb: Verb,
@@ -344,13 +344,13 @@ fn verb_event<'a>(
         }
         Verb::Short(verb) => Some(short_event(verb, desk, text_in(rest?)?)),
         Verb::Edit(verb) => {
-            let (text, rest) = cut_word(rest?)?;
+            let (text, rest) = split_word(rest?)?;
             let text = text_in(text)?;
             let edit = edit_in(verb, rest)?;
             Some(Event::Edits { desk, text, edit })
         }
         Verb::Long(verb) => {
-            let (text, rest) = cut_word(rest?)?;
+            let (text, rest) = split_word(rest?)?;
             long_event(run, verb, desk, text_in(text)?, rest)
         }
         Verb::Arrange(verb) => {
@@ -368,7 +368,7 @@ pub fn event_in<'a>(first: u16, count: usize, line: &'a [u8]) -> Option<Event<'a
     ensures in_run { IfSome result (λ event. IsInRun count event) }
     ensures within { IfSome result (λ event. IsOfLine (length line.now) event) }
 {
-    let (site, rest) = cut_word(line)?;
+    let (site, rest) = split_word(line)?;
     let (word, rest) = front_word(rest);
     let verb = Verb::named(word)?;
     let desk = desk_in(first, count, site)?;

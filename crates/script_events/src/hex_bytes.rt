@@ -1,7 +1,7 @@
 ghost use Rattle.std.specs.Prelude.{◌≡◌, ◌+◌, ◌<◌, ◌≤◌, ◌++◌, length, option_map, IfSome};
 ghost use Rattle.std.specs.Prelude.{vec_capacity, vec_len};
 ghost use Rattle.hex.specs.Hex.{hex_digit_value};
-ghost use Rattle.script_events.specs.Script.{cut_hex_byte, hex_in};
+ghost use Rattle.script_events.specs.Script.{split_hex_byte, hex_in};
 
 use std::marker::Model;
 
@@ -35,12 +35,12 @@ impl<'a> Hex<'a> {
         }
         let mut rest = raw;
         while !rest.is_empty() {
-            rest = cut_hex_byte(rest)?.1;
+            rest = split_hex_byte(rest)?.1;
         }
         Some(Hex { raw })
     }
 
-    /// Puts the bytes behind those that `out` has, which has the room.
+    /// Puts the bytes after those that `out` has, which has the room.
     pub fn decode(&self, out: &mut Vec<u8>)
         requires { vec_len out.old + length self.now ≤ vec_capacity out.old }
         ensures bytes { out.new.items ≡ out.old.items ++ self.now }
@@ -48,16 +48,16 @@ impl<'a> Hex<'a> {
     {
         let mut rest = self.raw;
         while !rest.is_empty() {
-            let (byte, left) = cut_hex_byte(rest).unwrap();
+            let (byte, left) = split_hex_byte(rest).unwrap();
             out.push_reserved(byte);
             rest = left;
         }
     }
 }
 
-// The byte of the two hex digits in front, and what stands behind them.
-pub(crate) fn cut_hex_byte(raw: &[u8]) -> Option<(u8, &[u8])>
-    ensures value { option_map (λ cut. (cut.0, cut.1.now)) result ≡ cut_hex_byte raw.now }
+// The byte of the two hex digits in front, and what stands after them.
+pub(crate) fn split_hex_byte(raw: &[u8]) -> Option<(u8, &[u8])>
+    ensures value { option_map (λ cut. (cut.0, cut.1.now)) result ≡ split_hex_byte raw.now }
     ensures shorter { IfSome result (λ cut. length cut.1.now + 2 ≡ length raw.now) }
 {
     let [high, low, rest @ ..] = raw else {

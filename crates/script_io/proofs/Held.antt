@@ -11,9 +11,9 @@ use Rattle.std.proofs.lemmas.Bool.{cases_lt, eqb-false, lt-ltb, le-ltb}
 use Rattle.std.proofs.lemmas.List.{get_or-take, take-append-le, take-take, take_min}
 use Rattle.std.proofs.lemmas.List.Sums.{fails_before_first}
 
-front_known : (none : Bool) (behind new : Option (List ℕ)) (held : List ℕ) (n : ℕ) → n ≤ length held → DropsConsumable (cond none None (prepend_known held behind)) new (Some (length held)) n
-    → Consumes (cond none None (prepend_known held behind)) new (take n held)
-front_known true behind new held n le drops = tt
+front_known : (none : Bool) (after new : Option (List ℕ)) (held : List ℕ) (n : ℕ) → n ≤ length held → DropsConsumable (cond none None (prepend_known held after)) new (Some (length held)) n
+    → Consumes (cond none None (prepend_known held after)) new (take n held)
+front_known true after new held n le drops = tt
 front_known false None new held n le drops = tt
 front_known false (Some ys) new held n le drops =
     let split : held ++ ys ≡ take n held ++ drop n (held ++ ys) = sym (take-append-drop n (held ++ ys)) ∙ ap (λ (front : List ℕ). front ++ drop n (held ++ ys)) (take-append-le n held ys le) in
@@ -24,30 +24,30 @@ pub front_consumed : {R A : Type 0} (remaining : R → Option (List ℕ)) (reade
     → DropsConsumable (reader_remaining remaining reader) new (Some (length (reader_buffer reader))) n → Consumes (reader_remaining remaining reader) new (take n (reader_buffer reader))
 front_consumed remaining reader new n le drops = front_known (reader_capacity reader == 0) (remaining reader.inner) new (reader_buffer reader) n le drops
 
--- so many bytes are ahead of the first newline, or all where there is none
-pub record IsAhead (xs : List ℕ) (n : ℕ) : Type 0 where
+-- so many bytes are before the first newline, or all where there is none
+pub record IsBefore (xs : List ℕ) (n : ℕ) : Type 0 where
   pub first : n ≤ position_or_len (λ b. b == 10) xs
   pub within : n ≤ length xs
 
-ahead_or_all : (p n : ℕ) → (unwrap_or (cond (nat_lt p n) (Some p) None) n ≤ p) × (unwrap_or (cond (nat_lt p n) (Some p) None) n ≤ n)
-ahead_or_all p n =
+before_or_all : (p n : ℕ) → (unwrap_or (cond (nat_lt p n) (Some p) None) n ≤ p) × (unwrap_or (cond (nat_lt p n) (Some p) None) n ≤ n)
+before_or_all p n =
     elim (cases_lt p n) [
       | inl lt ↦ let test : nat_lt p n ≡ true = lt-ltb _ _ lt in rw test (omega arith, omega arith)
       | inr le ↦ let test : nat_lt p n ≡ false = le-ltb _ _ le in rw test (omega arith, omega arith)
     ]
 
-pub IsAhead-found : (xs : List ℕ) (found : Option ℕ) → found ≡ position (λ b. b == 10) xs → IsAhead xs (unwrap_or found (length xs))
-IsAhead-found xs found is =
+pub IsBefore-found : (xs : List ℕ) (found : Option ℕ) → found ≡ position (λ b. b == 10) xs → IsBefore xs (unwrap_or found (length xs))
+IsBefore-found xs found is =
     let p = position_or_len (λ (b : ℕ). b == 10) xs in
     let at = ap (λ (o : Option ℕ). unwrap_or o (length xs)) is in
-    let both = ahead_or_all p (length xs) in
+    let both = before_or_all p (length xs) in
     record { first = omega (arith, at, both.0); within = omega (arith, at, both.1) }
 
 -- no newline is among them
-pub IsAhead-none : {xs : List ℕ} {n : ℕ} → IsAhead xs n → All (λ b. b ≢ 10) (take n xs)
-IsAhead-none {xs} {n} ahead k d lt =
+pub IsBefore-none : {xs : List ℕ} {n : ℕ} → IsBefore xs n → All (λ b. b ≢ 10) (take n xs)
+IsBefore-none {xs} {n} before k d lt =
     let near : k < n = omega (arith, length-take n xs) in
-    let fails = fails_before_first (λ b. b == 10) xs k d (omega (arith, ahead.first)) in
+    let fails = fails_before_first (λ b. b == 10) xs k d (omega (arith, before.first)) in
     rw (get_or-take n xs k d near) (eqb-false _ _ fails)
 
 -- so it is of what is held of a line
@@ -55,11 +55,11 @@ module _ (most : ℕ) (held : List ℕ) where
   abbrev near : List ℕ
   near = take most held
 
-  is_ahead : IsAhead near (unwrap_or (position (λ b. b == 10) near) (length near))
-  is_ahead = IsAhead-found near (position (λ b. b == 10) near) refl
+  comes_before : IsBefore near (unwrap_or (position (λ b. b == 10) near) (length near))
+  comes_before = IsBefore-found near (position (λ b. b == 10) near) refl
 
   pub line_front-none : All (λ b. b ≢ 10) (line_front most held)
-  line_front-none = IsAhead-none is_ahead
+  line_front-none = IsBefore-none comes_before
 
   pub line_front-few : length (line_front most held) ≤ most
   line_front-few = omega (
@@ -72,9 +72,9 @@ module _ (most : ℕ) (held : List ℕ) where
   pub line_front-take : take (length (line_front most held)) held ≡ line_front most held
   line_front-take =
       let count = unwrap_or (position (λ b. b == 10) near) (length near) in
-      let long : length (line_front most held) ≡ count = omega (arith, length-take count near, is_ahead.within) in
+      let long : length (line_front most held) ≡ count = omega (arith, length-take count near, comes_before.within) in
       ap (λ (n : ℕ). take n held) long
-      ∙ sym (take-take count most held (omega (arith, is_ahead.within, length-take most held)))
+      ∙ sym (take-take count most held (omega (arith, comes_before.within, length-take most held)))
 
 -- what the code finds so is what is held of a line
 pub front_is : (most : ℕ) (held : List ℕ) (n count : ℕ) (found : Option ℕ) → n ≡ min most (length held)

@@ -22,7 +22,7 @@ pub record IsTooLong (part : List ℕ) : Type 0 where
   pub one_line : All (λ b. b ≢ 10) part
   pub long : length part ≡ MAX_LINE + 1
 
--- why taking a line broke off behind this part of it: the reader failed, or the line is too long
+-- why taking a line broke off after this part of it: the reader failed, or the line is too long
 abbrev pub BreaksLine : (failed : Bool) → List ℕ → Type 0
 BreaksLine failed part = (IsTrue failed × IsRaw part) ⊎ IsTooLong part
 

@@ -14,7 +14,7 @@ use std::marker::Model;
 // out line by line.
 const HELD: usize = 2 * (MAX_LINE + 1);
 
-// What is held of a line, ahead of its newline: `most` bytes at most.
+// What is held of a line, before its newline: `most` bytes at most.
 fn front_of_line(held: &[u8], most: usize) -> &[u8]
     ensures { result.now ≡ line_front most held.now }
 {
@@ -97,7 +97,7 @@ impl<R: Read + Drop> Input<R> {
         }
     }
 
-    /// Moves what is held of a line, ahead of its newline, behind `line`, until that has `most` bytes. The reader
+    /// Moves what is held of a line, before its newline, after `line`, until that has `most` bytes. The reader
     /// isn't asked.
     pub(crate) fn move_held(&mut self, line: &mut Vec<u8>, most: usize)
         requires short { vec_len line.old ≤ most }

@@ -8,5 +8,5 @@ mod output;
 
 pub use input::Input;
 pub use limits::the_limits;
-pub use lines::{MAX_LINE, NextLine, take_line};
+pub use lines::{MAX_LINE, NextLine, next_line};
 pub use output::Output;

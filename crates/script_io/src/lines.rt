@@ -35,7 +35,7 @@ fn strip_return(line: &mut Vec<u8>)
 ///
 /// All that was written to `output` is out, unless a whole line is at hand: so a person sees each answer before
 /// the next line is asked for. The output is there for this condition alone.
-pub fn take_line<R: Read + Drop, W: Write>(
+pub fn next_line<R: Read + Drop, W: Write>(
     input: &mut Input<R>,
     output: &Output<W>,
     line: &mut Vec<u8>,

@@ -47,7 +47,7 @@ fn play_row<W: Write>(alloc: Global, row: &str, writer: &mut W) -> io::Result<()
     play_script(alloc, settings, what, &script, writer)
 }
 
-// What stands ahead of the first row is for the reader of the data.
+// What stands before the first row is for the reader of the data.
 fn play_rows<W: Write>(alloc: Global, rows: &str, writer: &mut W) -> io::Result<()> {
     for row in rows.split("\n= ").skip(1) {
         play_row(alloc, row, writer)?;

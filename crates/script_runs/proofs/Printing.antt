@@ -11,7 +11,7 @@ use Rattle.script_runs.specs.Answers.{send_line, send_lines}
 use Rattle.script_runs.specs.Writing.{Writes}
 use Rattle.script_runs.proofs.WriteLemmas.{writes_after, writes_stopped}
 
--- a list at an index: what is ahead of it, the element there, and what is behind it
+-- a list at an index: what is before it, the element there, and what is after it
 split_at : {A : Type 0} (xs : List A) (i : ℕ) (d : A) → i < length xs → xs ≡ take i xs ++ (get_or xs i d ∷ drop (i + 1) xs)
 split_at xs i d lt = rw add-one (sym (take-append-drop i xs) ∙ ap (λ (ys : List _). take i xs ++ ys) (drop-cons xs i d lt))
 
@@ -29,11 +29,11 @@ pub hex_more : (a b c : Option (List ℕ)) (done stretch : List ℕ) → Appends
 hex_more a b c done stretch p q = subst (Appends a c) (sym (encode_lower-append done stretch)) (Appends-trans a b c (encode_lower done) (encode_lower stretch) p q)
 
 -- a fault in the hex of a stretch
-pub hex_stopped : (result : Result (Unit {0}) Refusal) (failed : Bool) (why : Refusal) (old mid new : Option (List ℕ)) (done stretch behind : List ℕ) → Appends old mid (encode_lower done)
-    → IsErrAnd result (λ e. e ≡ why) → Writes (Err why) failed mid new (encode_lower stretch) → Writes result failed old new (encode_lower (done ++ (stretch ++ behind)))
-hex_stopped result failed why old mid new done stretch behind p e w =
-    let whole = encode_lower-append done (stretch ++ behind) ∙ ap (λ (r : List ℕ). encode_lower done ++ r) (encode_lower-append stretch behind) in
-    subst (Writes result failed old new) (sym whole) (writes_after result failed old mid new (encode_lower done) (encode_lower stretch ++ encode_lower behind) p (writes_stopped result failed why mid new (encode_lower stretch) (encode_lower behind) e w))
+pub hex_stopped : (result : Result (Unit {0}) Refusal) (failed : Bool) (why : Refusal) (old mid new : Option (List ℕ)) (done stretch after : List ℕ) → Appends old mid (encode_lower done)
+    → IsErrAnd result (λ e. e ≡ why) → Writes (Err why) failed mid new (encode_lower stretch) → Writes result failed old new (encode_lower (done ++ (stretch ++ after)))
+hex_stopped result failed why old mid new done stretch after p e w =
+    let whole = encode_lower-append done (stretch ++ after) ∙ ap (λ (r : List ℕ). encode_lower done ++ r) (encode_lower-append stretch after) in
+    subst (Writes result failed old new) (sym whole) (writes_after result failed old mid new (encode_lower done) (encode_lower stretch ++ encode_lower after) p (writes_stopped result failed why mid new (encode_lower stretch) (encode_lower after) e w))
 
 send_lines-append : (k : ℕ) (xs ys : List (List ℕ)) → send_lines k (xs ++ ys) ≡ send_lines k xs ++ send_lines (k + length xs) ys
 send_lines-append k [] ys =
@@ -44,10 +44,10 @@ send_lines-append k (x ∷ xs) ys =
     ap (λ (lines : List ℕ). send_line (k + 1) x ++ lines) (send_lines-append (k + 1) xs ys ∙ ap (λ (j : ℕ). send_lines (k + 1) xs ++ send_lines j ys) place)
     ∙ sym (append_assoc (send_line (k + 1) x) (send_lines (k + 1) xs) (send_lines (k + length (x ∷ xs)) ys))
 
--- the lines up to an index, the line there, and the lines behind it
-send_lines-split : (from index : ℕ) (m : List ℕ) (ahead behind : List (List ℕ)) → from + length ahead ≡ index → send_lines from (ahead ++ (m ∷ behind)) ≡ send_lines from ahead ++ (send_line (index + 1) m ++ send_lines (index + 1) behind)
-send_lines-split from index m ahead behind e =
-    send_lines-append from ahead (m ∷ behind) ∙ ap (λ (j : ℕ). send_lines from ahead ++ send_lines j (m ∷ behind)) e
+-- the lines up to an index, the line there, and the lines after it
+send_lines-split : (from index : ℕ) (m : List ℕ) (before after : List (List ℕ)) → from + length before ≡ index → send_lines from (before ++ (m ∷ after)) ≡ send_lines from before ++ (send_line (index + 1) m ++ send_lines (index + 1) after)
+send_lines-split from index m before after e =
+    send_lines-append from before (m ∷ after) ∙ ap (λ (j : ℕ). send_lines from before ++ send_lines j (m ∷ after)) e
 
 -- a message among those that were sent after the first `from`
 record IsSentAfter (sent : List (List ℕ)) (from index : ℕ) (m : List ℕ) : Type 0 where
@@ -72,23 +72,23 @@ pub sends_more : (a b c : Option (List ℕ)) (sent : List (List ℕ)) (from inde
     → Appends a b (send_lines from (take (index - from) (drop from sent))) → Appends b c (send_line (index + 1) m) → Appends a c (send_lines from (take (index + 1 - from) (drop from sent)))
 sends_more a b c sent from index m le is p q =
     let rest = drop from sent in
-    let ahead = take (index - from) rest in
+    let before = take (index - from) rest in
     let at = sent_after sent from index m le is in
     let one_more : index + 1 - from ≡ index - from + 1 = omega arith in
-    let more : take (index + 1 - from) rest ≡ ahead ++ m ∷ [] = ap (λ (i : ℕ). take i rest) one_more ∙ take_more rest (index - from) m at.within ∙ ap (λ (x : List ℕ). ahead ++ x ∷ []) at.read in
-    let lines = ap (send_lines from) more ∙ send_lines-split from index m ahead [] at.number ∙ ap (λ (l : List ℕ). send_lines from ahead ++ l) (append-nil (send_line (index + 1) m)) in
-    subst (Appends a c) (sym lines) (Appends-trans a b c (send_lines from ahead) (send_line (index + 1) m) p q)
+    let more : take (index + 1 - from) rest ≡ before ++ m ∷ [] = ap (λ (i : ℕ). take i rest) one_more ∙ take_more rest (index - from) m at.within ∙ ap (λ (x : List ℕ). before ++ x ∷ []) at.read in
+    let lines = ap (send_lines from) more ∙ send_lines-split from index m before [] at.number ∙ ap (λ (l : List ℕ). send_lines from before ++ l) (append-nil (send_line (index + 1) m)) in
+    subst (Appends a c) (sym lines) (Appends-trans a b c (send_lines from before) (send_line (index + 1) m) p q)
 
 -- a fault in the line of a message
 pub sends_stopped : (result : Result (Unit {0}) Refusal) (failed : Bool) (why : Refusal) (old mid new : Option (List ℕ)) (sent : List (List ℕ)) (from index : ℕ) (m : List ℕ) → from ≤ index → slice_get sent index ≡ Some m
     → Appends old mid (send_lines from (take (index - from) (drop from sent))) → IsErrAnd result (λ e. e ≡ why) → Writes (Err why) failed mid new (send_line (index + 1) m) → Writes result failed old new (send_lines from (drop from sent))
 sends_stopped result failed why old mid new sent from index m le is p e w =
     let rest = drop from sent in
-    let ahead = take (index - from) rest in
-    let behind = drop (index - from + 1) rest in
+    let before = take (index - from) rest in
+    let after = drop (index - from + 1) rest in
     let at = sent_after sent from index m le is in
-    let split : rest ≡ ahead ++ (m ∷ behind) = split_at rest (index - from) m at.within ∙ ap (λ (x : List ℕ). ahead ++ (x ∷ behind)) at.read in
-    let lines = ap (send_lines from) split ∙ send_lines-split from index m ahead behind at.number in
+    let split : rest ≡ before ++ (m ∷ after) = split_at rest (index - from) m at.within ∙ ap (λ (x : List ℕ). before ++ (x ∷ after)) at.read in
+    let lines = ap (send_lines from) split ∙ send_lines-split from index m before after at.number in
     let line = send_line (index + 1) m in
-    let later = send_lines (index + 1) behind in
-    subst (Writes result failed old new) (sym lines) (writes_after result failed old mid new (send_lines from ahead) (line ++ later) p (writes_stopped result failed why mid new line later e w))
+    let later = send_lines (index + 1) after in
+    subst (Writes result failed old new) (sym lines) (writes_after result failed old mid new (send_lines from before) (line ++ later) p (writes_stopped result failed why mid new line later e w))

@@ -21,29 +21,29 @@ use Rattle.script_runs.specs.Seen.{OverFiles, Replied, SitesSeen, Stepped, run_o
 use Rattle.script_runs.proofs.Filing.{over_same, over_weaker}
 use Rattle.script_runs.specs.Trace.{Answers, Step, is_silent}
 
--- the messages sent behind those before are those that the reply tells
-told_behind_those : (s new : State) (e : Event) (part : Part) (r : Reply) → Replies s e part r new → drop (length s.sent) new.sent ≡ messages_of r
-told_behind_those s new e part r replies =
+-- the messages sent after those before are those that the reply tells
+told_after_those : (s new : State) (e : Event) (part : Part) (r : Reply) → Replies s e part r new → drop (length s.sent) new.sent ≡ messages_of r
+told_after_those s new e part r replies =
     let goes = replies_go s e part r new replies in
     ap (drop (length s.sent)) goes.2 ∙ drop_at s.sent (messages_of r) (length s.sent) refl
 
 -- the reply to an edit is told by them
-edit_told : (result : Result ℕ EditRefusal) (messages behind : List (List ℕ)) → behind ≡ messages_of (edit_reply result messages) → edit_reply result behind ≡ edit_reply result messages
-edit_told (Ok n) messages behind is = ap (edit_reply (Ok n)) is
-edit_told (Err (Whole why)) messages behind is = refl
-edit_told (Err (Partial count why)) messages behind is = ap (edit_reply (Err (Partial count why))) is
+edit_told : (result : Result ℕ EditRefusal) (messages after : List (List ℕ)) → after ≡ messages_of (edit_reply result messages) → edit_reply result after ≡ edit_reply result messages
+edit_told (Ok n) messages after is = ap (edit_reply (Ok n)) is
+edit_told (Err (Whole why)) messages after is = refl
+edit_told (Err (Partial count why)) messages after is = ap (edit_reply (Err (Partial count why))) is
 
 -- and so is that to a command
-answer_told : (result : Result Answer EditRefusal) (messages behind : List (List ℕ)) → behind ≡ messages_of (answer_reply result messages) → answer_reply result behind ≡ answer_reply result messages
-answer_told (Ok (Sent count)) messages behind is = ap sends is
-answer_told (Ok (Viewer number)) messages behind is = refl
-answer_told (Ok (Found at)) messages behind is = refl
-answer_told (Ok NotFound) messages behind is = refl
-answer_told (Ok (Forgot count)) messages behind is = refl
-answer_told (Ok Done) messages behind is = refl
-answer_told (Err why) messages behind is = edit_told (Err why) messages behind is
+answer_told : (result : Result Answer EditRefusal) (messages after : List (List ℕ)) → after ≡ messages_of (answer_reply result messages) → answer_reply result after ≡ answer_reply result messages
+answer_told (Ok (Sent count)) messages after is = ap sends is
+answer_told (Ok (Viewer number)) messages after is = refl
+answer_told (Ok (Found at)) messages after is = refl
+answer_told (Ok NotFound) messages after is = refl
+answer_told (Ok (Forgot count)) messages after is = refl
+answer_told (Ok Done) messages after is = refl
+answer_told (Err why) messages after is = edit_told (Err why) messages after is
 
--- the lines of an edit's reply: of the messages that came behind those before
+-- the lines of an edit's reply: of the messages that came after those before
 abbrev pub change_lines : SitesSeen → Result ℕ EditRefusal → SitesSeen → List ℕ
 change_lines s result new = reply_lines (length s.sent) (edit_reply result (drop (length s.sent) new.sent))
 
@@ -52,14 +52,14 @@ pub change_step : (s new : SitesSeen) (e : Event) (result : Result ℕ EditRefus
     → Stepped s e (change_lines s result new) new
 change_step s new e result (messages, replied) = λ files.
     let reply = edit_reply result messages in
-    let told = edit_told result messages (drop (length s.sent) new.sent) (told_behind_those (run_of s files) (run_of new files) e untouched reply (replied files)) in
+    let told = edit_told result messages (drop (length s.sent) new.sent) (told_after_those (run_of s files) (run_of new files) e untouched reply (replied files)) in
     (untouched, reply, ap (reply_lines (length s.sent)) told, replied files)
 
 -- the step of a command
 pub answer_step : (s new : State) (e : Event) (part : Part) (result : Result Answer EditRefusal) (messages : List (List ℕ)) → Replies s e part (answer_reply result messages) new
     → Step s e (reply_lines (length s.sent) (answer_reply result (drop (length s.sent) new.sent))) new
 answer_step s new e part result messages replies =
-    let told = answer_told result messages (drop (length s.sent) new.sent) (told_behind_those s new e part (answer_reply result messages) replies) in
+    let told = answer_told result messages (drop (length s.sent) new.sent) (told_after_those s new e part (answer_reply result messages) replies) in
     (part, answer_reply result messages, ap (reply_lines (length s.sent)) told, replies)
 
 -- the step of any other event

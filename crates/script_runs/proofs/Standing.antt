@@ -6,14 +6,14 @@ use Rattle.std.proofs.lemmas.List.{map-set}
 use Rattle.std.proofs.lemmas.Option.{slice_get-map, slice_get_read}
 use Rattle.looks.specs.declared.refusal.Refusal.{Refusal}
 use Rattle.looks.specs.declared.refusal.Refusal.TheVariants.{BadEvent}
-use Rattle.set_laws.proofs.Fronts.{are_held_to_the_front}
+use Rattle.set_laws.proofs.Fronts.{lemma_are_held_to_the_front}
 use Rattle.texts.specs.Text.{IsText}
 use Rattle.texts.specs.TextState.{TextState}
 use Rattle.texts.specs.declared.edit_refusal.EditRefusal.{EditRefusal}
 use Rattle.texts.specs.declared.merge_refusal.MergeRefusal.{MergeRefusal}
 use Rattle.texts.specs.declared.took.Took.{Took}
 use Rattle.shelf.specs.Files.{Files}
-use Rattle.machine.specs.DeskState.{DeskState, IsTextOf, new_desk}
+use Rattle.machine.specs.SiteTexts.{SiteTexts, IsTextOf, fresh_texts}
 use Rattle.machine.specs.Events.{Delivery, Event, Part, Reply, arrange, ask, edit_reply, merge, merge_reply, merges, refuses, sent}
 use Rattle.machine.specs.Events.{take, take_reply, untouched}
 use Rattle.machine.specs.Machine.{Replies, message_in}
@@ -30,7 +30,7 @@ use Rattle.script_runs.specs.Seen.{OverFiles, Replied, SitesSeen, Stepped, run_o
 use Rattle.script_runs.specs.Trace.{Step}
 
 -- a desk's texts, and its screen
-abbrev texts_of : DeskSeen → DeskState
+abbrev texts_of : DeskSeen → SiteTexts
 texts_of d = d.texts
 
 abbrev screen_of : DeskSeen → Screened
@@ -128,7 +128,7 @@ desk_read s i d within read = slice_get_read s.desks (length s.desks) i d refl w
 pub merged_still : (s : SitesSeen) (i text : ℕ) (d : DeskSeen) (t : TextState) → slice_get s.desks i ≡ Some d → IsTextOf d.texts text t → IsText t → t.asked ≡ length t.operations
     → Replied s (merge i text i) (merges 0) s
 merged_still s i text d t at there is told = λ files.
-    merged_itself (run_of s files) i text d.texts (stands s files i d at).texts t there is told are_held_to_the_front
+    merged_itself (run_of s files) i text d.texts (stands s files i d at).texts t there is told lemma_are_held_to_the_front
 
 -- a message that wasn't sent yet is none
 pub unsent_still : (s : SitesSeen) (i text k : ℕ) → (k ≡ 0) ⊎ (length s.sent < k)
@@ -137,7 +137,7 @@ unsent_still s i text k unsent = λ files. inl (refl, rw (no_message (run_of s f
 
 -- the sites as a run of them begins
 abbrev pub new_seen : Screened → ℕ → DeskSeen
-new_seen w site = record { texts = new_desk site; screen = w }
+new_seen w site = record { texts = fresh_texts site; screen = w }
 
 -- their screens are blank
 blank_screens : (w : Screened) (first count : ℕ) → map screen_of (map (new_seen w) (range_with_len first count)) ≡ replicate count w
@@ -145,9 +145,9 @@ blank_screens w first zero = refl
 blank_screens w first (suc count) = ap (λ (ws : List Screened). w ∷ ws) (blank_screens w (first + 1) count)
 
 -- and their texts are empty
-empty_texts : (w : Screened) (sites : List ℕ) → map texts_of (map (new_seen w) sites) ≡ map (λ site. new_desk site) sites
+empty_texts : (w : Screened) (sites : List ℕ) → map texts_of (map (new_seen w) sites) ≡ map (λ site. fresh_texts site) sites
 empty_texts w [] = refl
-empty_texts w (site ∷ sites) = ap (λ (ds : List DeskState). new_desk site ∷ ds) (empty_texts w sites)
+empty_texts w (site ∷ sites) = ap (λ (ds : List SiteTexts). fresh_texts site ∷ ds) (empty_texts w sites)
 
 pub begins_new : (first count width height : ℕ) (files : Files)
     → run_of (record { first = first; desks = map (new_seen (blank_screen width height)) (range_with_len first count); sent = [] }) files ≡ new_state first count width height files

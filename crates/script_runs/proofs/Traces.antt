@@ -49,7 +49,7 @@ module _ (told : Bool) (start : State) (script : List ℕ) where
   abbrev IsWhole : Option (List ℕ) → List ℕ → Files → Type 0
   IsWhole left answers now = IsAnswered told start script answers now × Consumes (Some script) left script
 
-  -- nothing was left behind the lines
+  -- nothing was left after the lines
   whole_by_end : (left left' old mid : Option (List ℕ)) (n : ℕ) (s : State) (f : IsSoFar told start script left old mid n s) → n ≤ MAX_LINES → Consumes left left' [] → IsAtEnd left' → IsWhole left' f.answers s.files
   whole_by_end left left' old mid n s f few taken end =
       let all = Consumes-trans (Some script) left left' f.front [] f.taken taken in
@@ -94,7 +94,7 @@ module _ (told : Bool) (start : State) (script : List ℕ) where
         let all = prefix_of_all old new f.answers (Appends-kept old mid new f.answers f.written kept) in
         ends_unwritten left old new y f.answers s.files (e ∙ fault) all (inl (n, f.front, s, few, f.trace, f.taken, refl))
 
-    -- taking broke off behind the lines
+    -- taking broke off after the lines
     pub ends_broken : (left left' old mid new : Option (List ℕ)) (n : ℕ) (s : State) (part : List ℕ) (result : Result (Unit {0}) Refusal) (cut : Bool) → IsSoFar told start script left old mid n s
         → n ≤ MAX_LINES → Breaks failed n part → Consumes left left' part → BreaksOff cut mid new result → Ends told start script result failed left' old new s.files
     ends_broken left left' old mid new n s part (Ok done) cut f few broken taken b = elim b [ ]
@@ -151,7 +151,7 @@ module _ (told : Bool) (start : State) (script : List ℕ) (failed cut : Bool) (
   pub ends_by_fault : (r : Result (Unit {0}) Refusal) (line : List ℕ) (why : Refusal) → n ≤ MAX_LINES → Takes failed left left' (Err why) line → BreaksOff cut mid new r → Ends told start script r failed left' old new s.files
   ends_by_fault r line why few t b = ends_broken told start script failed left left' old mid new n s t.1.0 r cut f few (inl t.1.1) t.1.2 b
 
-  -- a line or a part of one stands behind the last line
+  -- a line or a part of one stands after the last line
   pub ends_by_limit : (r : Result (Unit {0}) Refusal) (taken : Result NextLine Refusal) (line : List ℕ) → n ≡ MAX_LINES → taken ≢ Ok End → Takes failed left left' taken line → BreaksOff cut mid new r
       → Ends told start script r failed left' old new s.files
   ends_by_limit r (Ok Line) line full some t b =

@@ -20,7 +20,7 @@ pub prefix_after : (old mid new : Option (List ℕ)) (a b : List ℕ) → Append
 prefix_after old mid new a b p (written, missing, split, q) =
     (a ++ written, missing, ap (λ l. a ++ l) split ∙ sym (append_assoc a written missing), Appends-trans old mid new a written p q)
 
--- a second part is written behind the first
+-- a second part is written after the first
 pub writes_after : (result : Result (Unit {0}) Refusal) (failed : Bool) (old mid new : Option (List ℕ)) (a b : List ℕ) → Appends old mid a → Writes result failed mid new b → Writes result failed old new (a ++ b)
 writes_after (Ok done) failed old mid new a b p w = Appends-trans old mid new a b p w
 writes_after (Err why) failed old mid new a b p w = (w.0, w.1, prefix_after old mid new a b p w.2)

@@ -1,4 +1,4 @@
--- How a run ends: the theorem over whole scripts is `Ends`; what it speaks of stands ahead of it, as
+-- How a run ends: the theorem over whole scripts is `Ends`; what it speaks of stands before it, as
 -- definitions must.
 use Rattle.std.specs.Prelude.{◌≡◌, ◌≢◌, ℕ, ◌<◌, ◌≤◌, ◌⊎◌, List, [], ◌∷◌, ◌++◌, Bool, Option, Some, Result, Ok}
 use Rattle.std.specs.Prelude.{Err}
@@ -13,7 +13,7 @@ use Rattle.script_runs.specs.Trace.{AnswersNext, Trace}
 use Rattle.script_runs.specs.Writing.{AppendsPrefix}
 use Rattle.script_runs.specs.declared.running.TheConstants.{MAX_LINES}
 
--- the answers to a whole script, behind which the files are these: to its lines, not too many, the last of which may lack its
+-- the answers to a whole script, after which the files are these: to its lines, not too many, the last of which may lack its
 -- newline
 abbrev pub IsAnswered : (told : Bool) → State → List ℕ → List ℕ → (now : Files) → Type 0
 IsAnswered told start script answers now =
@@ -22,9 +22,9 @@ IsAnswered told start script answers now =
     × (n < MAX_LINES) × Trace told start n front before s × IsRaw raw × (raw ≢ [])
     × AnswersNext told s raw answer new × (script ≡ front ++ raw) × (answers ≡ before ++ answer) × (new.files ≡ now))
 
--- Why a run breaks off behind n lines, where this part of the script was taken behind them: the reader failed
+-- Why a run breaks off after n lines, where this part of the script was taken after them: the reader failed
 -- in a line, or the line is too long; or n is as many lines as there may be, and a line or the last line's
--- bytes stand behind them.
+-- bytes stand after them.
 abbrev pub Breaks : (failed : Bool) → ℕ → List ℕ → Type 0
 Breaks failed n part =
     BreaksLine failed part

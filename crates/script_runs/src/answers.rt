@@ -38,7 +38,7 @@ fn put_number<W: Write>(output: &mut Output<W>, number: u64) -> Result<(), Refus
     put(output, itoa::Buffer::new().format(number).as_bytes())
 }
 
-// Some bytes, and a number behind them.
+// Some bytes, and a number after them.
 #[tactic(auto, using(crate::proofs::WriteLemmas::writes_after, crate::proofs::WriteLemmas::writes_stopped))]
 fn put_numbered<W: Write>(output: &mut Output<W>, front: &[u8], number: u64) -> Result<(), Refusal>
     ensures { Puts result output.old output.new (front.now ++ decimal number) }
@@ -47,7 +47,7 @@ fn put_numbered<W: Write>(output: &mut Output<W>, front: &[u8], number: u64) -> 
     put_number(output, number)
 }
 
-// The line of a number behind a word.
+// The line of a number after a word.
 #[tactic(auto, using(crate::proofs::WriteLemmas::writes_after, crate::proofs::WriteLemmas::writes_stopped))]
 fn put_count<W: Write>(output: &mut Output<W>, word: &[u8], count: u64) -> Result<(), Refusal>
     ensures { Puts result output.old output.new (line (word.now ++ decimal count)) }
@@ -136,7 +136,7 @@ fn put_edit<W: Write>(
     }
 }
 
-// Counts of the operations that waited, and whether that ended early, behind a word.
+// Counts of the operations that waited, and whether that ended early, after a word.
 fn put_drained<W: Write>(
     output: &mut Output<W>,
     word: &[u8],

@@ -12,7 +12,7 @@ use crate::answers::put_refused;
 use crate::settings::Settings;
 use crate::sites::Sites;
 use looks::Refusal;
-use script_io::{Input, MAX_LINE, NextLine, Output, take_line};
+use script_io::{Input, MAX_LINE, NextLine, Output, next_line};
 use shelf::Shelf;
 use std::alloc::Global;
 use std::io::{Read, Write};
@@ -85,16 +85,16 @@ fn run_lines<R: Read + Drop, W: Write, S: Shelf>(
 {
     for _ in 0..MAX_LINES {
         put_out(input, output)?;
-        match take_line(input, output, line) {
+        match next_line(input, output, line) {
             Ok(NextLine::Line) => sites.answer(output, shelf, line)?,
             Ok(NextLine::Last) => return answer_last(sites, output, shelf, line),
             Ok(NextLine::End) => return output.flush(),
             Err(_) => return break_off(output),
         }
     }
-    // Behind the last line that is read nothing may follow.
+    // After the last line that is read nothing may follow.
     put_out(input, output)?;
-    match take_line(input, output, line) {
+    match next_line(input, output, line) {
         Ok(NextLine::End) => output.flush(),
         _ => break_off(output),
     }

@@ -269,7 +269,7 @@ impl Sites {
             let (front, back) = self.desks.split_at_mut(other);
             front[desk].merge(text, &back[0])
         } else {
-            self.desks[desk].has_text(text);
+            self.desks[desk].lemma_has_text(text);
             Ok(0)
         }
     }

@@ -21,8 +21,8 @@ use Rattle.set_laws.proofs.Verdicts.{held_or_not, some_verdict, same_verdict}
 nothing_within : (ops : List Operation) → IsPartOf [] ops
 nothing_within ops op held = absurd (Contains-none op held)
 
-pub nothing_is_good : Good []
-nothing_is_good = record {
+pub lemma_nothing_is_good : Good []
+lemma_nothing_is_good = record {
   identities = λ a b held. absurd (Contains-none a held);
   predecessors = λ op held. absurd (Contains-none op held);
   mentions = λ op name held. absurd (Contains-none op held);
@@ -154,7 +154,7 @@ module _ (all : List Operation) (known : AreIdentified all) where
       ]
 
   full : (set : List Operation) × IsFull set
-  full = filled (length all) [] all refl nothing_is_good (record {
+  full = filled (length all) [] all refl lemma_nothing_is_good (record {
     within = nothing_within all;
     rest_within = λ op held. held;
     each = λ op held. inr held;

@@ -85,8 +85,8 @@ held_to_front ops before site seq some le =
     let (op, held, on, at) = front_reached ops site (omega arith) in
     subst (λ (s : ℕ). IsHeld ops s seq) on (held_up_to ops before op held seq some (omega arith))
 
-pub are_held_to_the_front : (ops : List Operation) → Good ops → AreIdentified ops → AreHeldToTheFront ops
-are_held_to_the_front ops good known site seq = (
+pub lemma_are_held_to_the_front : (ops : List Operation) → Good ops → AreIdentified ops → AreHeldToTheFront ops
+lemma_are_held_to_the_front ops good known site seq = (
   λ h. let (op, held, on, at) = h in
       let counted = known.counted op held in
       let below : op.seq ≤ front_of ops site =

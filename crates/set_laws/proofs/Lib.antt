@@ -1,4 +1,4 @@
-pub mod Ahead
+pub mod Preceding
 pub mod ByVerdict
 pub mod Closing
 pub mod Counting

@@ -52,7 +52,7 @@ IsInConflict ops op =
 abbrev pub KeepsCauses : List Operation → Type 0
 KeepsCauses ops = (n : ℕ) → Good (take n ops)
 
--- the causes that an operation has among the others stand ahead of it
-abbrev pub HasCausesAhead : List Operation → Type 0
-HasCausesAhead ops = (n : ℕ) (op p : Operation) → slice_get ops n ≡ Some op → Contains ops p → IsCauseOf p op
+-- the causes that an operation has among the others stand before it
+abbrev pub HasCausesBefore : List Operation → Type 0
+HasCausesBefore ops = (n : ℕ) (op p : Operation) → slice_get ops n ≡ Some op → Contains ops p → IsCauseOf p op
     → Contains (take n ops) p

@@ -7,13 +7,13 @@ ghost use Rattle.set_laws.specs.Closure.{IsFreedBy, IsClosure, HasOneClosure, Is
 ghost use Rattle.set_laws.specs.Closure.{GrowsByWhatIsFreed, NoneIsReady, IsKept, AllWait};
 
 /// A law: no operations are a good set.
-pub fn nothing_is_good()
+pub fn lemma_nothing_is_good()
     ensures good { Good [] }
     ensures identified { AreIdentified [] }
 {}
 
 /// A law: a set in which no identity has two operations has a closure, and only one.
-pub fn there_is_one_closure()
+pub fn lemma_there_is_one_closure()
     ensures { (all : List Operation) → AreIdentified all → HasOneClosure all }
 {}
 
@@ -42,7 +42,7 @@ pub fn closed_where_none_is_ready()
 {}
 
 /// A law: where all that isn't taken in waits or was refused, what is taken in is the closure of all.
-pub fn kept_and_waiting_is_closed()
+pub fn lemma_kept_and_waiting_is_closed()
     ensures { (taken waiting all : List Operation) → AreIdentified all → Good taken → IsKept taken waiting all
         → AllWait taken waiting → IsClosure all taken }
 {}

@@ -6,9 +6,9 @@ ghost use Rattle.tree_order.specs.Laws.{AreSameSet};
 ghost use Rattle.tree_order.specs.Tree.{IsChar};
 ghost use Rattle.set_laws.specs.Fronts.{IsHere};
 ghost use Rattle.set_laws.specs.Sets.{AreIdentified, UnionIsGood, UnionsAreSets, UnionsShowSets};
-ghost use Rattle.set_laws.specs.Sets.{HasCausesAhead, HaveEqualFronts, KeepsCauses};
+ghost use Rattle.set_laws.specs.Sets.{HasCausesBefore, HaveEqualFronts, KeepsCauses};
 
-use tree_order::laws::only_the_set_counts;
+use tree_order::laws::lemma_only_the_set_counts;
 
 /// A law: the union of two good sets is good, if no identity has two operations in it.
 pub fn union_is_good()
@@ -16,7 +16,7 @@ pub fn union_is_good()
 {}
 
 /// A law: union is commutative, associative and idempotent, for lists that are read as sets.
-pub fn unions_are_sets()
+pub fn lemma_unions_are_sets()
     ensures { (a b c : List Operation) → UnionsAreSets a b c }
 {}
 
@@ -24,7 +24,7 @@ pub fn unions_are_sets()
 pub fn unions_show_sets()
     ensures { (a b c : List Operation) → UnionsShowSets a b c }
 {
-    only_the_set_counts();
+    lemma_only_the_set_counts();
 }
 
 /// A law: good sets with equal fronts are equal, if no identity has two operations in both together.
@@ -40,9 +40,9 @@ pub fn names_here_are_the_characters()
         → IsHere ops name ↔ IsChar ops name }
 {}
 
-/// A law: in a list that keeps causes, each operation's causes stand ahead of it.
-pub fn causes_stand_ahead()
-    ensures { (ops : List Operation) → KeepsCauses ops → AreIdentified ops → HasCausesAhead ops }
+/// A law: in a list that keeps causes, each operation's causes stand before it.
+pub fn causes_stand_before()
+    ensures { (ops : List Operation) → KeepsCauses ops → AreIdentified ops → HasCausesBefore ops }
 {}
 
 /// A law: a list that keeps causes goes on so with each operation with which it is good.

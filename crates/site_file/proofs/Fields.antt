@@ -53,8 +53,8 @@ IsShort message = length message < 2 ^ 16
 
 message_joined : (bytes x message rest : List ℕ) (len : ℕ) → bytes ≡ number_spelling w16 len ++ x
     → x ≡ message ++ rest → length message ≡ len → bytes ≡ message_spelling message ++ rest
-message_joined bytes x message rest len front behind same =
-    front ∙ ap (λ (r : List ℕ). number_spelling w16 len ++ r) behind
+message_joined bytes x message rest len front after same =
+    front ∙ ap (λ (r : List ℕ). number_spelling w16 len ++ r) after
     ∙ ap (λ (n : ℕ). number_spelling w16 n ++ (message ++ rest)) (sym same)
     ∙ sym (append_assoc (number_spelling w16 (length message)) message rest)
 
@@ -77,7 +77,7 @@ message_reads = record {
       ) ((stretch_reads (length message)).again message rest refl);
 }
 
--- a message that was found behind its length is the first of the bytes
+-- a message that was found after its length is the first of the bytes
 pub message_first : {X : Type 0} (view : X → List ℕ × List ℕ) (r : Option X) (bytes rest : List ℕ) (len n : ℕ)
     → IsBytes bytes → number_at w16 bytes ≡ Some (len, rest) → n ≡ len → Finds view r (stretch_at n rest)
     → IfSome r (λ x. bytes ≡ message_spelling (view x).0 ++ (view x).1)

@@ -45,10 +45,10 @@ none_yet start entries is = record {
   parts = refl;
 }
 
-pub one_more : (start now new : TextState) (entries : List ℕ) (n : ℕ) (rest message behind : List ℕ)
-    → SoFar start now entries n rest → rest ≡ message_spelling message ++ behind
-    → (op : Operation) × Tells message op × HasTaken now op new → SoFar start new entries (n + 1) behind
-one_more start now new entries n rest message behind s e (op, tells, has) =
+pub one_more : (start now new : TextState) (entries : List ℕ) (n : ℕ) (rest message after : List ℕ)
+    → SoFar start now entries n rest → rest ≡ message_spelling message ++ after
+    → (op : Operation) × Tells message op × HasTaken now op new → SoFar start new entries (n + 1) after
+one_more start now new entries n rest message after s e (op, tells, has) =
     let more : List Operation → TextState = λ ops. record start { operations = ops; order = new.order } in
     let front : List ℕ = flat_map entry_spelling s.done in
     record {
@@ -63,9 +63,9 @@ one_more start now new entries n rest message behind s e (op, tells, has) =
             ∙ ap more (append_assoc start.operations s.done (op ∷ []));
       };
       parts =
-          s.parts ∙ ap (λ (r : List ℕ). front ++ r) (e ∙ ap (λ (m : List ℕ). message_spelling m ++ behind) tells.spelled)
-          ∙ sym (append_assoc front (entry_spelling op) behind)
-          ∙ ap (λ (l : List ℕ). l ++ behind) (flat_map_more entry_spelling [] s.done op);
+          s.parts ∙ ap (λ (r : List ℕ). front ++ r) (e ∙ ap (λ (m : List ℕ). message_spelling m ++ after) tells.spelled)
+          ∙ sym (append_assoc front (entry_spelling op) after)
+          ∙ ap (λ (l : List ℕ). l ++ after) (flat_map_more entry_spelling [] s.done op);
     }
 
 -- nothing waits
@@ -177,12 +177,12 @@ module _ (start now : TextState) (entries : List ℕ) (n : ℕ) (rest : List ℕ
         absurd cc
 
     -- and it tells one that is ready
-    pub found_next : (message behind : List ℕ) → n < count → message_at rest ≡ Some (message, behind)
+    pub found_next : (message after : List ℕ) → n < count → message_at rest ≡ Some (message, after)
         → (op : Operation) × Tells message op × IsJudged now op ready
-    found_next message behind lt found =
+    found_next message after lt found =
         let next = next_there lt in
         let again = entry_again next.op (flat_map entry_spelling next.todo) next.spelled in
-        let pair : ◌≡◌ {A = List ℕ × List ℕ} (message, behind) (spelling next.op, flat_map entry_spelling next.todo) =
+        let pair : ◌≡◌ {A = List ℕ × List ℕ} (message, after) (spelling next.op, flat_map entry_spelling next.todo) =
         some_is _ _ (sym found ∙ ap message_at next.parts ∙ again) in
         (next.op, record { valid = next.spelled; spelled = ap (λ (p : List ℕ × List ℕ). p.0) pair }, next.judged)
 
@@ -204,15 +204,15 @@ all_read start now entries n count rest s all none = (
 
 -- ---- the whole file
 
--- what is to be known of the text that was made of the messages behind a head
+-- what is to be known of the text that was made of the messages after a head
 abbrev pub IsTextOf : Head → List ℕ → TextState → Type 0
 IsTextOf head entries r =
     (r.text ≡ head.text) × (r.site ≡ head.site) × HasSiteFile r.text r.site r.operations
     × AreEntries r.operations head.count entries × HasTakenAll (empty_text r.text r.site) r.operations r
 
--- what stands behind others is bytes where all is
-pub fits_behind : (front rest : List ℕ) → IsBytes (front ++ rest) → IsBytes rest
-fits_behind front rest fits i =
+-- what stands after others is bytes where all is
+pub fits_after : (front rest : List ℕ) → IsBytes (front ++ rest) → IsBytes rest
+fits_after front rest fits i =
     subst (λ (b : ℕ). b < 256) (get_or-append-add front rest i 0) (fits (length front + i))
 
 module _ (file rest entries : List ℕ) (head : Head) (tagged : file ≡ tag ++ rest)
@@ -220,8 +220,8 @@ module _ (file rest entries : List ℕ) (head : Head) (tagged : file ≡ tag ++ 
   -- it has this file
   has_file : (r : TextState) → IsBytes file → IsTextOf head entries r → IsSiteFileOf r.text r.site r.operations file
   has_file r fits (text, site, tells, are, taken) =
-      let behind : rest ≡ head_spelling head ++ entries =
-      (head_reads.takes rest head entries (fits_behind tag rest (subst IsBytes tagged fits)) found).parts in
+      let after : rest ≡ head_spelling head ++ entries =
+      (head_reads.takes rest head entries (fits_after tag rest (subst IsBytes tagged fits)) found).parts in
       let made : ℕ → ℕ → ℕ → Head = λ t s n. record { text = t; site = s; count = n } in
       let same : head ≡ head_of r.text r.site r.operations =
       ap (λ (t : ℕ). made t head.site head.count) (sym text)
@@ -230,7 +230,7 @@ module _ (file rest entries : List ℕ) (head : Head) (tagged : file ≡ tag ++ 
       record {
         tells = tells;
         spelled =
-            tagged ∙ ap (λ (l : List ℕ). tag ++ l) (behind ∙ ap (λ (h : Head). head_spelling h ++ entries) same
+            tagged ∙ ap (λ (l : List ℕ). tag ++ l) (after ∙ ap (λ (h : Head). head_spelling h ++ entries) same
             ∙ ap (λ (l : List ℕ). head_spelling (head_of r.text r.site r.operations) ++ l) are.parts)
             ∙ sym (file_parts r.text r.site r.operations);
       }
@@ -254,7 +254,7 @@ module _ (file rest entries : List ℕ) (head : Head) (tagged : file ≡ tag ++ 
         parts = ap (λ (p : Head × List ℕ). p.1) same;
       })
 
--- where no head stands behind the tag, it is no site's file
+-- where no head stands after the tag, it is no site's file
 pub no_head : (file rest : List ℕ) → file ≡ tag ++ rest → head_at rest ≡ None → (text site : ℕ)
     (ops : List Operation) → IsSiteFileOf text site ops file → ⊥
 no_head file rest tagged none text site ops of =

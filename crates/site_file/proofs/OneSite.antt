@@ -26,15 +26,15 @@ pub file_parts : (text site : ℕ) (ops : List Operation)
 unfolding site_bytes
 file_parts text site ops = simp append_assoc
 
--- the head, and the messages, are told by what stands behind the tag
+-- the head, and the messages, are told by what stands after the tag
 pub head_told : (text site : ℕ) (ops : List Operation) (file rest : List ℕ) → IsSiteFileOf text site ops file
     → file ≡ tag ++ rest → head_at rest ≡ Some (head_of text site ops, flat_map entry_spelling ops)
 head_told text site ops file rest is e =
     let entries : List ℕ = flat_map entry_spelling ops in
-    let behind : rest ≡ head_spelling (head_of text site ops) ++ entries =
+    let after : rest ≡ head_spelling (head_of text site ops) ++ entries =
     append_cancel_left tag rest (head_spelling (head_of text site ops) ++ entries) (sym e ∙ is.spelled
     ∙ file_parts text site ops) in
-    ap head_at behind ∙ head_reads.again (head_of text site ops) entries (head_is text site ops is.tells)
+    ap head_at after ∙ head_reads.again (head_of text site ops) entries (head_is text site ops is.tells)
 
 -- a site's file begins with the tag
 pub file_tagged : (text site : ℕ) (ops : List Operation) (file : List ℕ) → IsSiteFileOf text site ops file
@@ -44,14 +44,14 @@ file_tagged text site ops file is =
     ∙ take_at tag (head_spelling (head_of text site ops) ++ flat_map entry_spelling ops) 4 refl
 
 -- no two texts, sites or lists of operations share a file
-pub one_site : OneSite
-one_site file text site text' site' ops ops' is is' =
+pub lemma_one_site : OneSite
+lemma_one_site file text site text' site' ops ops' is is' =
     let entries : List ℕ = flat_map entry_spelling ops in
-    let behind : List ℕ = head_spelling (head_of text site ops) ++ entries in
-    let parts : file ≡ tag ++ behind = is.spelled ∙ file_parts text site ops in
+    let after : List ℕ = head_spelling (head_of text site ops) ++ entries in
+    let parts : file ≡ tag ++ after = is.spelled ∙ file_parts text site ops in
     let same : ◌≡◌ {A = Head × List ℕ} (head_of text site ops, entries)
     (head_of text' site' ops', flat_map entry_spelling ops') =
-    some_is _ _ (sym (head_told text site ops file behind is parts) ∙ head_told text' site' ops' file behind is' parts) in
+    some_is _ _ (sym (head_told text site ops file after is parts) ∙ head_told text' site' ops' file after is' parts) in
     let len : length ops ≡ length ops' = ap (λ (p : Head × List ℕ). p.0.count) same in
     let found =
     entries_told ops ops' [] is.tells.spelled is'.tells.spelled (omega arith) (append-nil entries

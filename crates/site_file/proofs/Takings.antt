@@ -23,22 +23,22 @@ use Rattle.site_file.specs.Parts.{IsTaken}
 
 -- ---- where nothing waits, nothing is drained
 
-none_ahead : (xs ys : List Operation) (op : Operation) → ◌≡◌ {A = List Operation} [] (xs ++ op ∷ ys) → ⊥
-none_ahead xs ys op e = absurd (omega (arith, ap length e, length-append xs (op ∷ ys)))
+none_before : (xs ys : List Operation) (op : Operation) → ◌≡◌ {A = List Operation} [] (xs ++ op ∷ ys) → ⊥
+none_before xs ys op e = absurd (omega (arith, ap length e, length-append xs (op ∷ ys)))
 
-not_next : (t : TextState) (ahead behind : List Operation) (op : Operation) → t.waiting_room ≡ []
-    → IsNextOut t ahead op behind → ⊥
-not_next t ahead behind op empty next = none_ahead ahead behind op (sym empty ∙ next.room)
+not_next : (t : TextState) (before after : List Operation) (op : Operation) → t.waiting_room ≡ []
+    → IsNextOut t before op after → ⊥
+not_next t before after op empty next = none_before before after op (sym empty ∙ next.room)
 
 nothing_drained : (t new : TextState) (drained dropped : ℕ) (stopped : Bool) → t.waiting_room ≡ []
     → Drains t drained dropped stopped new → new ≡ t
 nothing_drained t new drained dropped stopped empty (ends stay) = refl
-nothing_drained t new drained dropped stopped empty (stops ahead behind op next judged) =
-    absurd (not_next t ahead behind op empty next)
-nothing_drained t new drained dropped stopped empty (takes_in ahead behind op next judged taken drains) =
-    absurd (not_next t ahead behind op empty next)
-nothing_drained t new drained dropped stopped empty (throws_away ahead behind op next thrown drains) =
-    absurd (not_next t ahead behind op empty next)
+nothing_drained t new drained dropped stopped empty (stops before after op next judged) =
+    absurd (not_next t before after op empty next)
+nothing_drained t new drained dropped stopped empty (takes_in before after op next judged taken drains) =
+    absurd (not_next t before after op empty next)
+nothing_drained t new drained dropped stopped empty (throws_away before after op next thrown drains) =
+    absurd (not_next t before after op empty next)
 
 -- the room stays as it is where operations are taken in
 pub same_room : (t new : TextState) (ops : List Operation) → HasTakenAll t ops new → new.waiting_room ≡ t.waiting_room

@@ -29,7 +29,7 @@ head_at bytes = do
   count ← number_at w32 site.1
   Some (record { text = text.0; site = site.0; count = count.0 }, count.1)
 
--- a message behind its length
+-- a message after its length
 abbrev pub message_spelling : List ℕ → List ℕ
 message_spelling message = number_spelling w16 (length message) ++ message
 

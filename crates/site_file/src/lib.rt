@@ -6,6 +6,6 @@ mod loading;
 mod reading;
 mod storing;
 
-pub use laws::one_site;
+pub use laws::lemma_one_site;
 pub use loading::load_site;
 pub use storing::store_site;

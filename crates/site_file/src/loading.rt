@@ -7,7 +7,7 @@ ghost use Rattle.texts.specs.Taking.{HasTaken, HasTakenAll, IsJudged};
 ghost use Rattle.texts.specs.TextState.{empty_text};
 ghost use Rattle.site_file.specs.Parts.{AreEntries, IsTaken};
 
-use crate::reading::{Head, behind_tag, head_at, message_at};
+use crate::reading::{Head, rest_of_tag, head_at, message_at};
 use looks::Refusal;
 use std::alloc::Global;
 use texts::{Replica, Took};
@@ -48,7 +48,7 @@ fn take_next(replica: &mut Replica, message: &[u8]) -> Result<(), Refusal>
     }
 }
 
-// Takes in the operations of so many messages, behind which nothing may follow.
+// Takes in the operations of so many messages, after which nothing may follow.
 fn take_all(replica: &mut Replica, count: u32, entries: &[u8]) -> Result<(), Refusal>
     requires { replica.old ≡ empty_text replica.old.text replica.old.site }
     ensures ok { OnOk result ((ops : List Operation) × AreEntries ops count entries.now
@@ -57,14 +57,14 @@ fn take_all(replica: &mut Replica, count: u32, entries: &[u8]) -> Result<(), Ref
         → HasSiteFile replica.old.text replica.old.site ops → AreEntries ops count entries.now → ⊥ }
     ensures errors { IfErr result (λ e. (e ≡ Refusal.BadFile) ⊎ (e ≡ Refusal.OutOfMemory)) }
 {
-    replica.is_text();
+    replica.lemma_is_text();
     let mut rest = entries;
     for _ in 0..count {
-        let Some((message, behind)) = message_at(rest) else {
+        let Some((message, after)) = message_at(rest) else {
             return Err(Refusal::BadFile);
         };
         take_next(replica, message)?;
-        rest = behind;
+        rest = after;
     }
     if !rest.is_empty() {
         return Err(Refusal::BadFile);
@@ -72,7 +72,7 @@ fn take_all(replica: &mut Replica, count: u32, entries: &[u8]) -> Result<(), Ref
     Ok(())
 }
 
-// The text of a file, of which these bytes stand behind its head.
+// The text of a file, of which these bytes stand after its head.
 fn text_of(alloc: Global, head: Head, entries: &[u8]) -> Result<Replica, Refusal>
     ensures ok { IfOk result (λ r. (r.text ≡ head.text) × (r.site ≡ head.site)
         × HasSiteFile r.text r.site r.operations × AreEntries r.operations head.count entries.now
@@ -83,8 +83,8 @@ fn text_of(alloc: Global, head: Head, entries: &[u8]) -> Result<Replica, Refusal
 {
     let mut replica = Replica::new(alloc, head.text, head.site)?;
     take_all(&mut replica, head.count, entries)?;
-    replica.are_taken_once();
-    replica.is_text();
+    replica.lemma_are_taken_once();
+    replica.lemma_is_text();
     Ok(replica)
 }
 
@@ -100,7 +100,7 @@ pub fn load_site(alloc: Global, bytes: &[u8]) -> Result<Replica, Refusal>
     ensures refused { IsErrOf result Refusal.BadFile → IsNoSiteFile bytes.now }
     ensures errors { IfErr result (λ e. (e ≡ Refusal.BadFile) ⊎ (e ≡ Refusal.OutOfMemory)) }
 {
-    let Some(rest) = behind_tag(bytes) else {
+    let Some(rest) = rest_of_tag(bytes) else {
         return Err(Refusal::BadFile);
     };
     let Some((head, entries)) = head_at(rest) else {

@@ -1,4 +1,4 @@
-//! The parts of a site's file, each with the bytes behind it.
+//! The parts of a site's file, each with the bytes after it.
 
 ghost use Rattle.std.specs.Prelude.{◌≡◌, ◌≢◌, ◌++◌, take, IfSome, MatchOption};
 ghost use Rattle.std.specs.Int.{w16, w32};
@@ -20,8 +20,8 @@ pub(crate) struct Head {
     pub(crate) count: u32,
 }
 
-/// What stands behind the tag, where the file begins with it.
-pub(crate) fn behind_tag(bytes: &[u8]) -> Option<&[u8]>
+/// What stands after the tag, where the file begins with it.
+pub(crate) fn rest_of_tag(bytes: &[u8]) -> Option<&[u8]>
     ensures { MatchOption result (take 4 bytes.now ≢ tag) (λ rest. bytes.now ≡ tag ++ rest.now) }
 {
     bytes.strip_prefix(b"OTS1")
@@ -42,7 +42,7 @@ pub(crate) fn head_at(bytes: &[u8]) -> Option<(Head, &[u8])>
     Some((Head { text, site, count }, rest))
 }
 
-/// A message that stands behind its length. None of it is copied.
+/// A message that stands after its length. None of it is copied.
 #[tactic(auto, unfolding(crate::specs::Parts::message_at))]
 pub(crate) fn message_at(bytes: &[u8]) -> Option<(&[u8], &[u8])>
     ensures found { Finds (λ x. (x.0.now, x.1.now)) result (message_at bytes.now) }

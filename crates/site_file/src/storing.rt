@@ -13,7 +13,7 @@ use operations::{Op, encode};
 use std::alloc::AllocError;
 use texts::{MAX_KEPT, Replica};
 
-// What stands ahead of the messages.
+// What stands before the messages.
 fn put_head(out: &mut Vec<u8>, text: u16, site: u16, count: u32) -> Result<(), AllocError>
     ensures { Appends result out.old.items out.new.items
         (tag ++ number_spelling w16 text ++ number_spelling w16 site ++ number_spelling w32 count) }
@@ -24,13 +24,13 @@ fn put_head(out: &mut Vec<u8>, text: u16, site: u16, count: u32) -> Result<(), A
     put_u32(out, count)
 }
 
-// A message behind its length. It is put together in `message`, whose own bytes are lost.
+// A message after its length. It is put together in `message`, whose own bytes are lost.
 fn put_entry(out: &mut Vec<u8>, message: &mut Vec<u8>, op: &Op) -> Result<(), Refusal>
     ensures entry { Appends result out.old.items out.new.items (entry_spelling op.now) }
     ensures spelled { HasSpelling op.now }
     ensures errors { RefusedForMemoryAlone result }
 {
-    op.has_spelling();
+    op.lemma_has_spelling();
     message.clear();
     encode(op, message)?;
     put_u16(out, message.len() as u16)?;
@@ -38,7 +38,7 @@ fn put_entry(out: &mut Vec<u8>, message: &mut Vec<u8>, op: &Op) -> Result<(), Re
     Ok(())
 }
 
-// All messages of the text, each behind its length.
+// All messages of the text, each after its length.
 fn put_entries(out: &mut Vec<u8>, replica: &Replica) -> Result<(), Refusal>
     ensures errors { RefusedForMemoryAlone result }
     ensures entries { Appends result out.old.items out.new.items
@@ -60,8 +60,8 @@ fn put_site(out: &mut Vec<u8>, replica: &Replica) -> Result<(), Refusal>
         (site_bytes replica.now.text replica.now.site replica.now.operations) }
     ensures tells { OnOk result (HasSiteFile replica.now.text replica.now.site replica.now.operations) }
 {
-    replica.is_text();
-    replica.are_taken_once();
+    replica.lemma_is_text();
+    replica.lemma_are_taken_once();
     let (text, site) = (replica.text().get(), replica.site().get());
     put_head(out, text, site, replica.taken_len() as u32)?;
     put_entries(out, replica)

@@ -22,7 +22,7 @@ len_of_site ops op counted site e = rw (eq-eqb op.site site e) at (counted.file 
 len_of_others : (ops : List Operation) (op : Operation) → AreCountedOn ops op → (site : ℕ) → eqb op.site site ≡ false → file_len (ops ++ op ∷ []) site ≡ file_len ops site
 len_of_others ops op counted site e = rw e at (counted.file site)
 
--- what is appended to a site's file where room was made stands behind what it had
+-- what is appended to a site's file where room was made stands after what it had
 pub appended : (files mid files' : Files) (site at : ℕ) (bytes given : List ℕ) → at ≡ site → given ≡ bytes
     → SameBytes files mid → bytes_of files' at ≡ bytes_of mid at ++ given → OthersStay mid at files'
     → (bytes_of files' site ≡ bytes_of files site ++ bytes) × OthersStay files site files'
@@ -72,7 +72,7 @@ module _ (ops : List Operation) (op : Operation) (files : Files) (here : (c : Ch
         get_or-append_right (bytes_of files op.site) bytes (file_len ops op.site) c.off 0 (hold.lengths op.site) in_run.1 in
         byte ∙ sym at ∙ ap (λ (bs : List ℕ). slice_index bs c.off) (sym is)
 
-    -- an Insert's bytes stand behind those that its site's file had
+    -- an Insert's bytes stand after those that its site's file had
     pub hold_more : HoldBytes (ops ++ op ∷ []) files'
     hold_more = record {
       lengths = λ site. elim (eqb_tells op.site site) [

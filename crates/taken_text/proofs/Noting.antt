@@ -79,7 +79,7 @@ shown_stay ops items files files' site bytes taken own others =
     (All-filter (λ (k : Atom). not k.hidden.value) (λ (k : Atom). HasByteIn files k.name) (spelled items)
     (have_bytes ops items files taken) i d lt))
 
--- what is ahead of one position and not ahead of another
+-- what is before one position and not before another
 one_stretch : {X : Type 0} (xs : List X) (beg end : ℕ) → drop beg (take end xs) ≡ take (end - beg) (drop beg xs)
 one_stretch {X} xs beg end = elim (cases_lt beg end) [
   | inl lt ↦
@@ -142,7 +142,7 @@ gains_told ops op Is old new was now files files' taken stay sort notes = record
   };
 }
 
--- changes of one operation more, behind those of others
+-- changes of one operation more, after those of others
 told_more : (ops more : List Operation) (op : Operation) (changes gained : List Change) (was mid now : List Char)
     → AreChangesOfAll ops more changes was mid → AreChangesOf (ops ++ more) op gained mid now
     → AreChangesOfAll ops (more ++ op ∷ []) (changes ++ gained) was now

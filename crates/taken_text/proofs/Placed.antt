@@ -55,9 +55,9 @@ module _ (ops : List Operation) (c : CharName) where
         ∙ ap (λ (b : Bool). length (filter (is_visible ops) (k.name ∷ cond b [] (up_to c (names_of_atoms atoms))))) (sym e);
   }
 
-  -- or it stands further behind
-  behind : (k : Atom) (atoms : List Atom) → is_it k ≡ false → TellRegisters ops k → Stands atoms → Stands (k ∷ atoms)
-  behind k atoms e tell rest = record {
+  -- or it stands further after
+  after : (k : Atom) (atoms : List Atom) → is_it k ≡ false → TellRegisters ops k → Stands atoms → Stands (k ∷ atoms)
+  after k atoms e tell rest = record {
     at = suc rest.at;
     is = rest.is;
     count =
@@ -82,7 +82,7 @@ module _ (ops : List Operation) (c : CharName) where
   stands (k ∷ atoms) all has =
       elim (cases_Bool (is_it k)) [
         | inl e ↦ at_front k atoms e (All-head (TellRegisters ops) k atoms all)
-        | inr e ↦ behind k atoms e (All-head (TellRegisters ops) k atoms all)
+        | inr e ↦ after k atoms e (All-head (TellRegisters ops) k atoms all)
             (stands atoms (All-tail (TellRegisters ops) k atoms all) (has_rest k atoms e has))
       ]
 

@@ -96,49 +96,49 @@ walk_in_files files atoms have runs some within told =
 abbrev pub without_first : Run → Run
 without_first r = record r { off = r.off + 1; len = r.len - 1 }
 
--- a run was read on by one character: the rest of it is read next, or the run behind it
+-- a run was read on by one character: the rest of it is read next, or the run after it
 abbrev pub ReadsOn : Run → List Run → Option Run → List Run → Type 0
-ReadsOn r rest next behind =
-    ((0 < r.len - 1) × (next ≡ Some (without_first r)) × (behind ≡ rest))
-    ⊎ ((r.len - 1 ≡ 0) × YieldsFirst (λ (runs : List Run). runs) rest next behind)
+ReadsOn r rest next after =
+    ((0 < r.len - 1) × (next ≡ Some (without_first r)) × (after ≡ rest))
+    ⊎ ((r.len - 1 ≡ 0) × YieldsFirst (λ (runs : List Run). runs) rest next after)
 
 none_left : (files : Files) (r : Run) → r.len - 1 ≡ 0 → chars_of_run files (without_first r) ≡ []
 none_left files r none =
     ap (λ (n : ℕ). map (with_byte files) (map (appearance_in r) (names_of (record { site = r.site; at = r.off + 1; len = n })))) none
 
-next_left : (files : Files) (rest : List Run) (next : Option Run) (behind : List Run) → YieldsFirst (λ (runs : List Run). runs) rest next behind
-    → chars_of_runs files rest ≡ chars_of_runs files (runs_left next behind)
-next_left files rest None behind is = ap (chars_of_runs files) is.0
-next_left files rest (Some r) behind is = ap (chars_of_runs files) is
+next_left : (files : Files) (rest : List Run) (next : Option Run) (after : List Run) → YieldsFirst (λ (runs : List Run). runs) rest next after
+    → chars_of_runs files rest ≡ chars_of_runs files (runs_left next after)
+next_left files rest None after is = ap (chars_of_runs files) is.0
+next_left files rest (Some r) after is = ap (chars_of_runs files) is
 
-chars_left : (files : Files) (r : Run) (rest : List Run) (next : Option Run) (behind : List Run) → ReadsOn r rest next behind
-    → chars_of_run files (without_first r) ++ chars_of_runs files rest ≡ chars_of_runs files (runs_left next behind)
-chars_left files r rest next behind (inl (some, is, same)) =
+chars_left : (files : Files) (r : Run) (rest : List Run) (next : Option Run) (after : List Run) → ReadsOn r rest next after
+    → chars_of_run files (without_first r) ++ chars_of_runs files rest ≡ chars_of_runs files (runs_left next after)
+chars_left files r rest next after (inl (some, is, same)) =
     ap (λ (runs : List Run). chars_of_run files (without_first r) ++ chars_of_runs files runs) (sym same)
-    ∙ ap (λ (o : Option Run). chars_of_runs files (runs_left o behind)) (sym is)
-chars_left files r rest next behind (inr (none, is)) =
-    ap (λ (cs : List Char). cs ++ chars_of_runs files rest) (none_left files r none) ∙ next_left files rest next behind is
+    ∙ ap (λ (o : Option Run). chars_of_runs files (runs_left o after)) (sym is)
+chars_left files r rest next after (inr (none, is)) =
+    ap (λ (cs : List Char). cs ++ chars_of_runs files rest) (none_left files r none) ∙ next_left files rest next after is
 
 -- so its first character comes, and then what is left
-pub first_and_rest : (files : Files) (r : Run) (rest : List Run) (next : Option Run) (behind : List Run) → 0 < r.len → ReadsOn r rest next behind
-    → chars_of_runs files (r ∷ rest) ≡ with_byte files (appearance_in r (record { site = r.site; off = r.off })) ∷ chars_of_runs files (runs_left next behind)
-first_and_rest files r rest next behind some on =
+pub first_and_rest : (files : Files) (r : Run) (rest : List Run) (next : Option Run) (after : List Run) → 0 < r.len → ReadsOn r rest next after
+    → chars_of_runs files (r ∷ rest) ≡ with_byte files (appearance_in r (record { site = r.site; off = r.off })) ∷ chars_of_runs files (runs_left next after)
+first_and_rest files r rest next after some on =
     ap (λ (cs : List Char). cs ++ chars_of_runs files rest) (chars_first files r some)
-    ∙ ap (λ (cs : List Char). with_byte files (appearance_in r (record { site = r.site; off = r.off })) ∷ cs) (chars_left files r rest next behind on)
+    ∙ ap (λ (cs : List Char). with_byte files (appearance_in r (record { site = r.site; off = r.off })) ∷ cs) (chars_left files r rest next after on)
 
-next_in_files : (files : Files) (rest : List Run) (next : Option Run) (behind : List Run) → YieldsFirst (λ (runs : List Run). runs) rest next behind
-    → AreInFiles files rest → AreInFiles files (runs_left next behind)
-next_in_files files rest None behind is all = All-nil (IsInFile files)
-next_in_files files rest (Some r) behind is all = subst (AreInFiles files) is all
+next_in_files : (files : Files) (rest : List Run) (next : Option Run) (after : List Run) → YieldsFirst (λ (runs : List Run). runs) rest next after
+    → AreInFiles files rest → AreInFiles files (runs_left next after)
+next_in_files files rest None after is all = All-nil (IsInFile files)
+next_in_files files rest (Some r) after is all = subst (AreInFiles files) is all
 
 -- which is in the files
-pub left_in_files : (files : Files) (r : Run) (rest : List Run) (next : Option Run) (behind : List Run) → ReadsOn r rest next behind
-    → AreInFiles files (r ∷ rest) → AreInFiles files (runs_left next behind)
-left_in_files files r rest next behind (inl (some, is, same)) all =
+pub left_in_files : (files : Files) (r : Run) (rest : List Run) (next : Option Run) (after : List Run) → ReadsOn r rest next after
+    → AreInFiles files (r ∷ rest) → AreInFiles files (runs_left next after)
+left_in_files files r rest next after (inl (some, is, same)) all =
     let here : IsInFile files r = All-head (IsInFile files) r rest all in
-    subst (λ (o : Option Run). AreInFiles files (runs_left o behind)) (sym is)
-    (All-cons (IsInFile files) (without_first r) behind
+    subst (λ (o : Option Run). AreInFiles files (runs_left o after)) (sym is)
+    (All-cons (IsInFile files) (without_first r) after
     (record { some = some; within = omega (arith, here.within, here.some); held = omega (arith, here.held, here.some) })
     (subst (AreInFiles files) (sym same) (All-tail (IsInFile files) r rest all)))
-left_in_files files r rest next behind (inr (none, is)) all =
-    next_in_files files rest next behind is (All-tail (IsInFile files) r rest all)
+left_in_files files r rest next after (inr (none, is)) all =
+    next_in_files files rest next after is (All-tail (IsInFile files) r rest all)

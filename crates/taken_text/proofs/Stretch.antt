@@ -73,6 +73,6 @@ module _ (ops : List Operation) (items : List (ℕ × Piece)) (files : Files) (a
         ap set_of (names_told runs ∙ ap (map (λ (a : Appearance). a.name)) part_told ∙ names_of_all files part
         ∙ ap (map (λ (c : Char). c.name)) (sym part_shown))
 
--- the runs behind the first
+-- the runs after the first
 pub rest_within : (r : Run) (runs : List Run) → AreWithin (r ∷ runs) → AreWithin runs
 rest_within r runs all = All-tail (λ (run : Run). (0 < run.len) × (run.off + run.len ≤ MAX_FILE)) r runs all

@@ -17,7 +17,7 @@ use Rattle.set_laws.specs.Growing.{AreToldByCounts}
 use Rattle.set_laws.specs.Sets.{KeepsCauses}
 use Rattle.set_laws.specs.Verdict.{HasVerdict, IsNew, ready}
 use Rattle.tree_order.proofs.RegisterLists.{atom_list}
-use Rattle.set_laws.proofs.Ahead.{causes_kept_with_one}
+use Rattle.set_laws.proofs.Preceding.{causes_kept_with_one}
 use Rattle.set_laws.proofs.Counting.{told_by_counts}
 use Rattle.piece_list.proofs.Order.{are_atoms, first_atoms_piece}
 use Rattle.piece_list.specs.Laws.{IsRunOf}
@@ -29,7 +29,7 @@ use Rattle.piece_list.specs.declared.piece.Piece.{Piece}
 use Rattle.piece_list.specs.declared.run.Run.{Run}
 use Rattle.taken_text.specs.Taken.{IsTaken}
 use Rattle.taken_text.proofs.Bytes.{hold_more, hold_no_more}
-use Rattle.taken_text.proofs.Ready.{begins, none_behind, counted, larger_good, larger_identified, mentioned_atoms, one_more}
+use Rattle.taken_text.proofs.Ready.{begins, none_after, counted, larger_good, larger_identified, mentioned_atoms, one_more}
 
 -- what follows where there is a value
 pub on_ok : {X E : Type 0} (r : Result X E) (P Q : Type 0) → (P → Q) → OnOk r P → OnOk r Q
@@ -44,7 +44,7 @@ module _ (ops : List Operation) (op : Operation) (items : List (ℕ × Piece)) (
   told : AreToldByCounts ops op
   told = told_by_counts ops op taken.good taken.identified new
 
-  -- causes stay ahead
+  -- causes come first
   larger_in_order : KeepsCauses (ops ++ op ∷ [])
   larger_in_order = causes_kept_with_one ops op taken.in_order (larger_good ops op taken.good taken.identified new is)
 
@@ -66,9 +66,9 @@ module _ (ops : List Operation) (op : Operation) (items : List (ℕ × Piece)) (
     pub names_new : (c : CharName) → IsIn (record { site = op.site; at = at; len = length bytes }) c → HasName (spelled items) c → ⊥
     names_new c h =
         let len : file_len ops c.site ≡ at = ap (file_len ops) h.0 ∙ sym at_end in
-        none_behind ops op taken.good taken.identified new is (spelled items) taken.atoms c (omega (arith, len, h.1))
+        none_after ops op taken.good taken.identified new is (spelled items) taken.atoms c (omega (arith, len, h.1))
 
-    -- its run put in its place, and its bytes behind its site's
+    -- its run put in its place, and its bytes after its site's
     pub taken_with_run : (run : Run) → IsRunOf op run → (items' : List (ℕ × Piece)) (files' : Files)
         → IsPlaced run.key cause (chars_of (piece_of run)) (spelled items) (spelled items') → bytes_of files' op.site ≡ bytes_of files op.site ++ bytes → OthersStay files op.site files'
         → IsTaken (ops ++ op ∷ []) items' files'

@@ -38,7 +38,7 @@ AreChangesOfAll ops (op ∷ more) changes was now =
     (here rest : List Change) × (mid : List Char) × (changes ≡ here ++ rest) × AreChangesOf ops op here was mid
     × AreChangesOfAll (ops ++ op ∷ []) more rest mid now
 
--- the changes tell what the operations behind the first so many made of what these show
+-- the changes tell what the operations after the first so many made of what these show
 pub record AreChangesSince (asked : ℕ) (ops : List Operation) (changes : List Change) (now : List Char) : Type 0 where
   pub within : asked ≤ length ops
   pub was : List Char
@@ -51,7 +51,7 @@ pub record GainsChangesOf (ops : List Operation) (op : Operation) (old new : Lis
   pub kept : new ≡ old ++ gained
   pub told : AreChangesOf ops op gained was now
 
--- the operations are taken in, and the note tells what those behind the first so many made of what is shown
+-- the operations are taken in, and the note tells what those after the first so many made of what is shown
 pub record IsNotedText (ops : List Operation) (items : List (ℕ × Piece)) (files : Files) (asked : ℕ)
     (note : List Change) : Type 0 where
   pub taken : IsTaken ops items files

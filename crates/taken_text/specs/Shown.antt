@@ -24,7 +24,7 @@ chars_of_run files r = map (with_byte files) (appearances_in r)
 abbrev pub chars_of_runs : Files → List Run → List Char
 chars_of_runs files runs = flat_map (chars_of_run files) runs
 
--- the run that is being read, and those behind it; none where there is no such run
+-- the run that is being read, and those after it; none where there is no such run
 abbrev pub runs_left : Option Run → List Run → List Run
 runs_left None rest = []
 runs_left (Some r) rest = r ∷ rest

@@ -60,7 +60,7 @@ impl TakenText {
 
     /// The names of the characters that are shown from `beg` to `end`, as a set.
     ///
-    /// Refused `Scattered` where they make more than 1,024 ranges, and `OutOfMemory`, which may come ahead of
+    /// Refused `Scattered` where they make more than 1,024 ranges, and `OutOfMemory`, which may come before
     /// it.
     pub fn names_shown(&self, beg: u64, end: u64) -> Result<NameSet, Refusal>
         requires range { beg ≤ end }

@@ -65,7 +65,7 @@ fn insert_run(
     ensures err { OnErr result ((pieces.new.items ≡ pieces.old.items) × SameBytes files.old files.new
         × (note.new.items ≡ note.old.items)) }
 {
-    op.has_spelling();
+    op.lemma_has_spelling();
     let Kind::Insert {
         cause,
         at,
@@ -135,9 +135,9 @@ impl TakenText {
         })
     }
 
-    /// A law: the operations are good, each behind its causes, and the characters are those that the definition
+    /// A law: the operations are good, each after its causes, and the characters are those that the definition
     /// gives. A proof gets it by calling this, at no cost.
-    pub fn is_defined(&self)
+    pub fn lemma_is_defined(&self)
         ensures { IsDefined self.now }
     {
         let _ = &self.log;
@@ -170,7 +170,7 @@ impl TakenText {
         }
     }
 
-    /// How many shown characters stand at or ahead of the character of this name, which may be hidden; `None`
+    /// How many shown characters stand at or before the character of this name, which may be hidden; `None`
     /// for a name that isn't here.
     pub fn place_of(&self, name: Name) -> Option<u64>
         ensures here { IsSome result ↔ IsChar self.now.operations name }
@@ -196,8 +196,8 @@ impl TakenText {
         mem::replace(&mut self.note, Vec::new(self.alloc))
     }
 
-    /// Takes in an operation that is ready: it stands behind those that were taken in, and the characters are
-    /// then those that the definition gives of them all (`is_defined`). What it changes of what is shown is noted.
+    /// Takes in an operation that is ready: it stands after those that were taken in, and the characters are
+    /// then those that the definition gives of them all (`lemma_is_defined`). What it changes of what is shown is noted.
     ///
     /// Refused `OutOfMemory` alone.
     pub fn add(&mut self, op: Op) -> Result<(), Refusal>

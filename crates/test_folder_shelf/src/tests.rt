@@ -141,7 +141,7 @@ fn a_long_file_and_a_link_are_refused(rt: HostRuntime) -> Result<(), Fail> {
     is(linked, "a link")
 }
 
-// Each step of a write that fails leaves the file as it was; a read that fails behind its first piece gives no bytes.
+// Each step of a write that fails leaves the file as it was; a read that fails after its first piece gives no bytes.
 fn faults_are_told(rt: &HostRuntime, name: &str) -> Result<(), Fail> {
     for step in [Step::Write, Step::Sync, Step::Rename] {
         let mut shelf = FolderShelf::new(Faulty { host: rt, step }, rt.alloc());

@@ -30,7 +30,7 @@ InLooks items = AllByRecursion (λ c. IsLooks c.1) items
 
 -- ---- runs that are cut
 
--- what is left of the characters behind the first run
+-- what is left of the characters after the first run
 module _ (h : Head) (heads : List Head) (chars : List ℕ) (e : total_of (h ∷ heads) ≡ length chars) where
   first_len : length (take h.len chars) ≡ h.len
   first_len = omega (arith, e, length-take h.len chars)

@@ -49,24 +49,24 @@ todo_all heads chars text none runs s = record {
   ends = ap (λ (t : List Item). t ++ items_of (cut runs chars)) none;
 }
 
-module _ (told : LooksAreTold) (whole text : List Item) (rest left : List ℕ) (h : Head) (behind : List ℕ)
-    (is : IsHead h) (e : rest ≡ head_spelling h ++ behind) where
+module _ (told : LooksAreTold) (whole text : List Item) (rest left : List ℕ) (h : Head) (after : List ℕ)
+    (is : IsHead h) (e : rest ≡ head_spelling h ++ after) where
   -- the run that was read is the first one to do
   next_is : (t : Todo whole text rest left) → (more : List Head)
-      × (t.runs ≡ h ∷ more) × AreHeads (Some h.looks) more × (behind ≡ flat_map head_spelling more)
+      × (t.runs ≡ h ∷ more) × AreHeads (Some h.looks) more × (after ≡ flat_map head_spelling more)
   next_is t = go t.runs refl
     where
       go : (runs : List Head) → t.runs ≡ runs → (more : List Head)
-          × (t.runs ≡ h ∷ more) × AreHeads (Some h.looks) more × (behind ≡ flat_map head_spelling more)
+          × (t.runs ≡ h ∷ more) × AreHeads (Some h.looks) more × (after ≡ flat_map head_spelling more)
       go [] are =
-          let none : head_spelling h ++ behind ≡ [] =
+          let none : head_spelling h ++ after ≡ [] =
           sym e ∙ t.spelled ∙ ap (λ (runs : List Head). flat_map head_spelling runs) are in
           absurd (omega (arith, ap length none))
       go (g ∷ runs) are =
           let valid : AreHeads t.last (g ∷ runs) = subst (AreHeads t.last) are t.valid in
-          let spelled : head_spelling h ++ behind ≡ head_spelling g ++ flat_map head_spelling runs =
+          let spelled : head_spelling h ++ after ≡ head_spelling g ++ flat_map head_spelling runs =
           sym e ∙ t.spelled ∙ ap (λ (hs : List Head). flat_map head_spelling hs) are in
-          let one = head_told told h g behind (flat_map head_spelling runs) is valid.0 spelled in (
+          let one = head_told told h g after (flat_map head_spelling runs) is valid.0 spelled in (
             runs,
             are ∙ ap (λ (x : Head). x ∷ runs) (sym one.0),
             subst (λ (x : Head). AreHeads (Some x.looks) runs) (sym one.0) valid.2,
@@ -79,11 +79,11 @@ module _ (told : LooksAreTold) (whole text : List Item) (rest left : List ℕ) (
 
   pub todo_more : (new : List Item) (front others : List ℕ) → front ≡ take h.len left
       → others ≡ drop h.len left → Todo whole text rest left
-      → new ≡ text ++ run_items h.looks front → Todo whole new behind others
+      → new ≡ text ++ run_items h.looks front → Todo whole new after others
   todo_more new front others front_is others_is t pushed =
       let next = next_is t in
       let more : List Item = items_of (cut next.0 (drop h.len left)) in
-      subst (λ (l : List ℕ). Todo whole new behind l) (sym others_is)
+      subst (λ (l : List ℕ). Todo whole new after l) (sym others_is)
       (record {
         last = Some h.looks;
         runs = next.0;
@@ -105,7 +105,7 @@ run_len old new looks bytes e =
     omega (arith, ap length e, length-append old (run_items looks bytes), length-map bytes item)
 
 pub todo_none : (whole text : List Item) (rest left : List ℕ) → Todo whole text rest left
-    → ((h : Head) (behind : List ℕ) → IsHead h → rest ≡ head_spelling h ++ behind → ⊥) → text ≡ whole
+    → ((h : Head) (after : List ℕ) → IsHead h → rest ≡ head_spelling h ++ after → ⊥) → text ≡ whole
 todo_none whole text rest left t none = go t.runs refl
   where
     go : (runs : List Head) → t.runs ≡ runs → text ≡ whole

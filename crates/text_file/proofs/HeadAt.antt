@@ -18,22 +18,22 @@ pub looks_first : (bytes rest : List ℕ) (h : Head) → bytes ≡ head_spelling
     → bytes ≡ looks_spelling h.looks ++ (number_spelling w32 h.len ++ rest)
 looks_first bytes rest h e = e ∙ append_assoc (looks_spelling h.looks) (number_spelling w32 h.len) rest
 
--- behind the looks that were read stands the length
-pub len_behind : (bytes rest : List ℕ) (looks : Looks) (n : ℕ) (h : Head)
+-- after the looks that were read stands the length
+pub len_after : (bytes rest : List ℕ) (looks : Looks) (n : ℕ) (h : Head)
     → ((l : Looks) (r : List ℕ) → IsLooks l → bytes ≡ looks_spelling l ++ r
     → ◌≡◌ {A = Option (Looks × ℕ)} (Some (looks, n)) (Some (l, length (looks_spelling l)))) → IsHead h
     → bytes ≡ head_spelling h ++ rest → drop n bytes ≡ number_spelling w32 h.len ++ rest
-len_behind bytes rest looks n h only is e =
-    let behind : List ℕ = number_spelling w32 h.len ++ rest in
-    let read = only h.looks behind is.looks (looks_first bytes rest h e) in
+len_after bytes rest looks n h only is e =
+    let after : List ℕ = number_spelling w32 h.len ++ rest in
+    let read = only h.looks after is.looks (looks_first bytes rest h e) in
     let pair : ◌≡◌ {A = Looks × ℕ} (looks, n) (h.looks, length (looks_spelling h.looks)) = cc in
     let len : length (looks_spelling h.looks) ≡ n = sym (ap (λ (p : Looks × ℕ). p.1) pair) in
     ap (λ (l : List ℕ). drop n l) (looks_first bytes rest h e)
-    ∙ drop_at (looks_spelling h.looks) behind n len
+    ∙ drop_at (looks_spelling h.looks) after n len
 
--- the bytes behind the looks
-abbrev behind : ℕ → List ℕ → List ℕ
-behind n bytes = take (length bytes - n) (drop n bytes)
+-- the bytes after the looks
+abbrev after : ℕ → List ℕ → List ℕ
+after n bytes = take (length bytes - n) (drop n bytes)
 
 -- no run stands at the front of these bytes
 abbrev pub NoHead : List ℕ → Type 0
@@ -46,21 +46,21 @@ OnlyLooks bytes looks n =
     → ◌≡◌ {A = Option (Looks × ℕ)} (Some (looks, n)) (Some (l, length (looks_spelling l)))
 
 pub none_short : (bytes : List ℕ) (looks : Looks) (n : ℕ) → OnlyLooks bytes looks n
-    → length (behind n bytes) < 4 → NoHead bytes
+    → length (after n bytes) < 4 → NoHead bytes
 none_short bytes looks n only short h rest is e =
-    let spelled = len_behind bytes rest looks n h only is e in
+    let spelled = len_after bytes rest looks n h only is e in
     absurd (omega (arith, short, ap length (take_rest bytes n ∙ spelled), number_long h.len rest))
 
 pub none_empty : (bytes : List ℕ) (looks : Looks) (n len : ℕ) (more : List ℕ) → OnlyLooks bytes looks n
-    → len ≡ 0 → behind n bytes ≡ number_spelling w32 len ++ more → NoHead bytes
+    → len ≡ 0 → after n bytes ≡ number_spelling w32 len ++ more → NoHead bytes
 none_empty bytes looks n len more only zero there h rest is e =
-    let spelled = len_behind bytes rest looks n h only is e in
+    let spelled = len_after bytes rest looks n h only is e in
     let same = number_told len h.len more rest (omega arith) is.fits (sym there ∙ take_rest bytes n ∙ spelled) in
     absurd (omega (arith, is.some, same.0))
 
 -- both together are the run
 pub head_there : (bytes rest : List ℕ) (looks : Looks) (n len : ℕ) → take n bytes ≡ looks_spelling looks
-    → behind n bytes ≡ number_spelling w32 len ++ rest
+    → after n bytes ≡ number_spelling w32 len ++ rest
     → bytes ≡ (looks_spelling looks ++ number_spelling w32 len) ++ rest
 head_there bytes rest looks n len front back =
     sym (take-append-drop n bytes) ∙ ap (λ (l : List ℕ). l ++ drop n bytes) front

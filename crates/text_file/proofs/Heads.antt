@@ -13,7 +13,7 @@ use Rattle.text_file.specs.declared.loading.Head.{Head}
 use Rattle.text_file.specs.Heads.{head_spelling, IsHead, AreHeads, total_of, IsRead}
 use Rattle.text_file.proofs.Numbers.{number_told, number_len, number_long}
 
--- ---- runs behind others
+-- ---- runs after others
 
 -- the looks of the last of these runs, or those before them
 abbrev pub last_or : Option Looks → List Head → Option Looks
@@ -104,7 +104,7 @@ module _ (told : LooksAreTold) where
 
 -- ---- reading runs one by one
 
--- so many runs were read, behind which so many characters more may come; the last one's looks; the bytes left
+-- so many runs were read, after which so many characters more may come; the last one's looks; the bytes left
 pub record SoFar (bytes : List ℕ) (n left : ℕ) (last : Option Looks) (rest : List ℕ) : Type 0 where
   pub done : List Head
   pub valid : AreHeads None done
@@ -118,9 +118,9 @@ none_yet bytes =
     record { done = []; valid = tt; counted = refl; summed = omega arith; last_is = refl; parts = refl }
 
 pub one_more : (bytes : List ℕ) (n left : ℕ) (last : Option Looks) (rest : List ℕ) (h : Head)
-    (behind : List ℕ) → SoFar bytes n left last rest → IsHead h → last ≢ Some h.looks → h.len ≤ left
-    → rest ≡ head_spelling h ++ behind → SoFar bytes (n + 1) (left - h.len) (Some h.looks) behind
-one_more bytes n left last rest h behind s is apart fits e = record {
+    (after : List ℕ) → SoFar bytes n left last rest → IsHead h → last ≢ Some h.looks → h.len ≤ left
+    → rest ≡ head_spelling h ++ after → SoFar bytes (n + 1) (left - h.len) (Some h.looks) after
+one_more bytes n left last rest h after s is apart fits e = record {
   done = s.done ++ h ∷ [];
   valid = AreHeads-push None s.done h s.valid is (λ same. apart (sym s.last_is ∙ same));
   counted = omega (arith, length-append s.done (h ∷ []), s.counted);
@@ -128,8 +128,8 @@ one_more bytes n left last rest h behind s is apart fits e = record {
   last_is = last_or-push None s.done h;
   parts =
       s.parts ∙ ap (λ (r : List ℕ). flat_map head_spelling s.done ++ r) e
-      ∙ sym (append_assoc (flat_map head_spelling s.done) (head_spelling h) behind)
-      ∙ ap (λ (front : List ℕ). front ++ behind) (flat_map_more head_spelling [] s.done h);
+      ∙ sym (append_assoc (flat_map head_spelling s.done) (head_spelling h) after)
+      ∙ ap (λ (front : List ℕ). front ++ after) (flat_map_more head_spelling [] s.done h);
 }
 
 pub all_read : (bytes : List ℕ) (n left count : ℕ) (last : Option Looks) (rest : List ℕ)
@@ -162,7 +162,7 @@ none_more told bytes n left count last rest s lt none heads more valid counted f
         (omega (arith, ap total_of all, total_of-append s.done (h ∷ todo), s.summed))
         (back ∙ append_assoc (head_spelling h) (flat_map head_spelling todo) more)
 
--- ---- the parts behind the tag
+-- ---- the parts after the tag
 
 heads_fit : (heads : List Head) (chars bytes : List ℕ) → IsRead heads chars bytes → length heads < 2 ^ 32
 heads_fit heads chars bytes r = omega (arith, heads_few None heads r.valid, r.total, r.few)
@@ -185,26 +185,26 @@ pub count_told : (heads : List Head) (chars bytes : List ℕ) (count : ℕ) (res
     → (length heads ≡ count)
     × (rest ≡ flat_map head_spelling heads ++ (number_spelling w32 (length chars) ++ chars))
 count_told heads chars bytes count rest r fits e =
-    let behind : List ℕ = flat_map head_spelling heads ++ (number_spelling w32 (length chars) ++ chars) in
-    let both = number_told (length heads) count behind rest (heads_fit heads chars bytes r) fits (sym r.parts
+    let after : List ℕ = flat_map head_spelling heads ++ (number_spelling w32 (length chars) ++ chars) in
+    let both = number_told (length heads) count after rest (heads_fit heads chars bytes r) fits (sym r.parts
     ∙ e) in
     (both.0, sym both.1)
 
--- behind runs that were read, as many as there are, stand how many characters there are, and these
+-- after runs that were read, as many as there are, stand how many characters there are, and these
 pub total_told : (told : LooksAreTold) (heads : List Head) (chars rest : List ℕ) (done : List Head)
-    (behind : List ℕ) → AreHeads None heads → AreHeads None done → length done ≡ length heads
+    (after : List ℕ) → AreHeads None heads → AreHeads None done → length done ≡ length heads
     → rest ≡ flat_map head_spelling heads ++ (number_spelling w32 (length chars) ++ chars)
-    → rest ≡ flat_map head_spelling done ++ behind
-    → (heads ≡ done) × (behind ≡ number_spelling w32 (length chars) ++ chars)
-total_told told heads chars rest done behind valid done_are counted e f =
+    → rest ≡ flat_map head_spelling done ++ after
+    → (heads ≡ done) × (after ≡ number_spelling w32 (length chars) ++ chars)
+total_told told heads chars rest done after valid done_are counted e f =
     let more : List ℕ = number_spelling w32 (length chars) ++ chars in
     let found =
-    heads_told told None None done heads behind more done_are valid (omega arith) (sym f ∙ e) in
+    heads_told told None None done heads after more done_are valid (omega arith) (sym f ∙ e) in
     go found.0 found.1 found.2
   where
     go : (todo : List Head) → heads ≡ done ++ todo
-        → behind ≡ flat_map head_spelling todo ++ (number_spelling w32 (length chars) ++ chars)
-        → (heads ≡ done) × (behind ≡ number_spelling w32 (length chars) ++ chars)
+        → after ≡ flat_map head_spelling todo ++ (number_spelling w32 (length chars) ++ chars)
+        → (heads ≡ done) × (after ≡ number_spelling w32 (length chars) ++ chars)
     go [] all back = (all ∙ append-nil done, back)
     go (h ∷ todo) all back = absurd (omega (arith, ap length all, length-append done (h ∷ todo), counted))
 
@@ -212,7 +212,7 @@ total_told told heads chars rest done behind valid done_are counted e f =
 
 module _ (told : LooksAreTold) (bytes : List ℕ) (count : ℕ) (rest : List ℕ) (fits : count < 2 ^ 32)
     (first : bytes ≡ number_spelling w32 count ++ rest) where
-  -- no runs can be read behind the count
+  -- no runs can be read after the count
   pub no_heads : ((heads : List Head) (more : List ℕ) → AreHeads None heads → length heads ≡ count
       → total_of heads ≤ MAX_TEXT → rest ≡ flat_map head_spelling heads ++ more → ⊥)
       → (heads : List Head) (chars : List ℕ) → IsRead heads chars bytes → ⊥
@@ -221,29 +221,29 @@ module _ (told : LooksAreTold) (bytes : List ℕ) (count : ℕ) (rest : List ℕ
       none heads (number_spelling w32 (length chars) ++ chars) r.valid told_count.0
       (omega (arith, r.total, r.few)) told_count.1
 
-  -- what can be read behind them
-  pub total_behind : (done : List Head) (behind : List ℕ) → AreHeads None done → length done ≡ count
-      → rest ≡ flat_map head_spelling done ++ behind → (heads : List Head) (chars : List ℕ)
-      → IsRead heads chars bytes → (heads ≡ done) × (behind ≡ number_spelling w32 (length chars) ++ chars)
-  total_behind done behind done_are counted e heads chars r =
+  -- what can be read after them
+  pub total_after : (done : List Head) (after : List ℕ) → AreHeads None done → length done ≡ count
+      → rest ≡ flat_map head_spelling done ++ after → (heads : List Head) (chars : List ℕ)
+      → IsRead heads chars bytes → (heads ≡ done) × (after ≡ number_spelling w32 (length chars) ++ chars)
+  total_after done after done_are counted e heads chars r =
       let told_count = count_told heads chars bytes count rest r fits first in
-      total_told told heads chars rest done behind r.valid done_are (counted ∙ sym told_count.0) told_count.1 e
+      total_told told heads chars rest done after r.valid done_are (counted ∙ sym told_count.0) told_count.1 e
 
-  pub no_total : (done : List Head) (behind : List ℕ) → AreHeads None done → length done ≡ count
-      → rest ≡ flat_map head_spelling done ++ behind → length behind < 4 → (heads : List Head)
+  pub no_total : (done : List Head) (after : List ℕ) → AreHeads None done → length done ≡ count
+      → rest ≡ flat_map head_spelling done ++ after → length after < 4 → (heads : List Head)
       (chars : List ℕ) → IsRead heads chars bytes → ⊥
-  no_total done behind done_are counted e short heads chars r =
-      let there = total_behind done behind done_are counted e heads chars r in
+  no_total done after done_are counted e short heads chars r =
+      let there = total_after done after done_are counted e heads chars r in
       omega (arith, short, ap length there.1, number_long (length chars) chars)
 
-  -- the total that was read, and the characters behind it, aren't as many as the runs have
-  pub other_total : (done : List Head) (behind : List ℕ) (sum total : ℕ) (more : List ℕ)
+  -- the total that was read, and the characters after it, aren't as many as the runs have
+  pub other_total : (done : List Head) (after : List ℕ) (sum total : ℕ) (more : List ℕ)
       → AreHeads None done → length done ≡ count → total_of done ≡ sum
-      → rest ≡ flat_map head_spelling done ++ behind → total < 2 ^ 32
-      → behind ≡ number_spelling w32 total ++ more → (total ≢ sum) ⊎ (length more ≢ sum)
+      → rest ≡ flat_map head_spelling done ++ after → total < 2 ^ 32
+      → after ≡ number_spelling w32 total ++ more → (total ≢ sum) ⊎ (length more ≢ sum)
       → (heads : List Head) (chars : List ℕ) → IsRead heads chars bytes → ⊥
-  other_total done behind sum total more done_are counted sum_is e total_fits f why heads chars r =
-      let there = total_behind done behind done_are counted e heads chars r in
+  other_total done after sum total more done_are counted sum_is e total_fits f why heads chars r =
+      let there = total_after done after done_are counted e heads chars r in
       let same =
       number_told (length chars) total chars more (chars_fit heads chars bytes r) total_fits (sym there.1 ∙ f) in
       let is_sum : length chars ≡ sum = sym r.total ∙ ap total_of there.0 ∙ sum_is in

@@ -49,11 +49,11 @@ at_other a (b ∷ rest) other =
     let test : (a == 13) ≡ false = ne_eqb a 13 other in
     ap (λ (t : Bool). cond (t && b == 10) (13 ∷ plain_bytes rest) (as_line_end a ∷ plain_bytes (b ∷ rest))) test
 
-pub return_first : (bytes : List ℕ) (a : ℕ) (rest behind : List ℕ) → bytes ≡ a ∷ rest → a ≡ 13
-    → behind ≡ without_newline rest → plain_bytes bytes ≡ 13 ∷ plain_bytes behind
-return_first bytes a rest behind e is behind_is =
+pub return_first : (bytes : List ℕ) (a : ℕ) (rest after : List ℕ) → bytes ≡ a ∷ rest → a ≡ 13
+    → after ≡ without_newline rest → plain_bytes bytes ≡ 13 ∷ plain_bytes after
+return_first bytes a rest after e is after_is =
     ap plain_bytes (e ∙ ap (λ (b : ℕ). b ∷ rest) is) ∙ at_return rest
-    ∙ ap (λ (l : List ℕ). 13 ∷ plain_bytes l) (sym behind_is)
+    ∙ ap (λ (l : List ℕ). 13 ∷ plain_bytes l) (sym after_is)
 
 pub other_first : (bytes : List ℕ) (a : ℕ) (rest : List ℕ) (b : ℕ) → bytes ≡ a ∷ rest → a ≢ 13
     → b ≡ as_line_end a → plain_bytes bytes ≡ b ∷ plain_bytes rest
@@ -68,9 +68,9 @@ plain_length bytes = let item : ℕ → Item = λ b. (b, plain_looks) in length-
 pub none_pushed : (text : List Item) (chars : List ℕ) → text ≡ [] → text ++ plain_items chars ≡ plain_items chars
 none_pushed text chars e = ap (λ (t : List Item). t ++ plain_items chars) e
 
-pub room_for_one : (text : List Item) (b : ℕ) (rest behind all : List ℕ) → rest ≡ b ∷ behind
+pub room_for_one : (text : List Item) (b : ℕ) (rest after all : List ℕ) → rest ≡ b ∷ after
     → text ++ plain_items rest ≡ plain_items all → length all ≤ MAX_TEXT → length text < MAX_FILE
-room_for_one text b rest behind all e so_far few =
+room_for_one text b rest after all e so_far few =
     omega (
       arith,
       few,
@@ -81,13 +81,13 @@ room_for_one text b rest behind all e so_far few =
       plain_length all,
     )
 
-pub one_pushed : (old new : List Item) (b : ℕ) (looks : Looks) (rest behind all : List ℕ)
-    → new ≡ old ++ (b, looks) ∷ [] → looks ≡ plain_looks → rest ≡ b ∷ behind
-    → old ++ plain_items rest ≡ plain_items all → new ++ plain_items behind ≡ plain_items all
-one_pushed old new b looks rest behind all pushed is e so_far =
+pub one_pushed : (old new : List Item) (b : ℕ) (looks : Looks) (rest after all : List ℕ)
+    → new ≡ old ++ (b, looks) ∷ [] → looks ≡ plain_looks → rest ≡ b ∷ after
+    → old ++ plain_items rest ≡ plain_items all → new ++ plain_items after ≡ plain_items all
+one_pushed old new b looks rest after all pushed is e so_far =
     let item : Looks → Item = λ l. (b, l) in
-    ap (λ (t : List Item). t ++ plain_items behind) (pushed ∙ ap (λ (l : Looks). old ++ item l ∷ []) is)
-    ∙ append_assoc old (item plain_looks ∷ []) (plain_items behind)
+    ap (λ (t : List Item). t ++ plain_items after) (pushed ∙ ap (λ (l : Looks). old ++ item l ∷ []) is)
+    ∙ append_assoc old (item plain_looks ∷ []) (plain_items after)
     ∙ ap (λ (r : List ℕ). old ++ plain_items r) (sym e) ∙ so_far
 
 pub all_pushed : (text : List Item) (rest all : List ℕ) → rest ≡ []

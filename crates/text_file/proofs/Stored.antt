@@ -68,7 +68,7 @@ runs_few (r ∷ runs) h =
       length-append r.bytes (chars_of runs),
     )
 
--- what a formatted file has behind the tag, by its runs
+-- what a formatted file has after the tag, by its runs
 abbrev with_runs : List Stretch → ℕ → List ℕ → List ℕ
 with_runs runs len chars =
     tag ++ number_spelling w32 (length runs) ++ flat_map run_spelling runs ++ number_spelling w32 len ++ chars

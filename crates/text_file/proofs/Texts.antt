@@ -35,14 +35,14 @@ abbrev pub bytes_of : List Item → List ℕ
 bytes_of items = map (λ c. c.0) items
 
 -- so many runs, spelled so, and characters
-abbrev pub behind_tag : ℕ → List ℕ → ℕ → List ℕ → List ℕ
-behind_tag count heads total chars =
+abbrev pub rest_of_tag : ℕ → List ℕ → ℕ → List ℕ → List ℕ
+rest_of_tag count heads total chars =
     number_spelling w32 count ++ (heads ++ (number_spelling w32 total ++ chars))
 
--- what stands behind the tag
+-- what stands after the tag
 abbrev pub read_spelling : List Head → List ℕ → List ℕ
 read_spelling heads chars =
-    behind_tag (length heads) (flat_map head_spelling heads) (length chars) chars
+    rest_of_tag (length heads) (flat_map head_spelling heads) (length chars) chars
 
 regroup : (a b c d e : List ℕ) → a ++ b ++ c ++ d ++ e ≡ a ++ (b ++ (c ++ (d ++ e)))
 regroup a b c d e = simp append_assoc
@@ -55,10 +55,10 @@ formatted_is items =
     let spelled : List ℕ = flat_map run_spelling runs in
     let first : Item → ℕ = λ c. c.0 in
     regroup tag (number_spelling w32 (length runs)) spelled (number_spelling w32 (length items)) bytes
-    ∙ ap (λ (n : ℕ). tag ++ behind_tag n spelled (length items) bytes) (sym (length-map runs head_of))
-    ∙ ap (λ (l : List ℕ). tag ++ behind_tag (length (heads_of items)) l (length items) bytes)
+    ∙ ap (λ (n : ℕ). tag ++ rest_of_tag n spelled (length items) bytes) (sym (length-map runs head_of))
+    ∙ ap (λ (l : List ℕ). tag ++ rest_of_tag (length (heads_of items)) l (length items) bytes)
     (sym (heads_spelling runs))
-    ∙ ap (λ (n : ℕ). tag ++ behind_tag (length (heads_of items)) (flat_map head_spelling (heads_of items)) n
+    ∙ ap (λ (n : ℕ). tag ++ rest_of_tag (length (heads_of items)) (flat_map head_spelling (heads_of items)) n
     bytes) (sym (length-map items first))
 
 -- a formatted file begins with the tag

@@ -34,7 +34,7 @@ pub record HasFile (items : List Item) : Type 0 where
 abbrev pub as_line_end : ℕ → ℕ
 as_line_end b = if b == 10 then 13 else b
 
--- the bytes behind a 0DH, to which a 0AH that follows it belongs
+-- the bytes after a 0DH, to which a 0AH that follows it belongs
 abbrev pub without_newline : List ℕ → List ℕ
 without_newline [] = []
 without_newline (b ∷ rest) = if b == 10 then rest else b ∷ rest

@@ -21,7 +21,7 @@ pub record IsHead (h : Head) : Type 0 where
   pub some : 0 < h.len
   pub fits : h.len < 2 ^ 32
 
--- runs that there may be behind one of these looks, if there is one: neighbours differ in looks
+-- runs that there may be after one of these looks, if there is one: neighbours differ in looks
 abbrev pub AreHeads : Option Looks → List Head → Type 0
 AreHeads last [] = Unit {0}
 AreHeads last (h ∷ heads) = IsHead h × (last ≢ Some h.looks) × AreHeads (Some h.looks) heads
@@ -42,7 +42,7 @@ pub record AreSpelled (heads : List Head) (chars bytes : List ℕ) : Type 0 wher
   pub total : total_of heads ≡ length chars
   pub spelled : bytes ≡ flat_map head_spelling heads
 
--- what stands behind the tag: how many runs there are, these runs, how many characters there are, these characters
+-- what stands after the tag: how many runs there are, these runs, how many characters there are, these characters
 pub record IsRead (heads : List Head) (chars bytes : List ℕ) : Type 0 where
   pub valid : AreHeads None heads
   pub total : total_of heads ≡ length chars

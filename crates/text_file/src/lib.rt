@@ -8,7 +8,7 @@ mod loading;
 mod plain;
 mod storing;
 
-pub use laws::one_text;
+pub use laws::lemma_one_text;
 pub use limits::the_limits;
 pub use loading::load;
 pub use storing::store;

@@ -25,14 +25,14 @@ struct Head {
     len: u32,
 }
 
-// What stands behind the runs' number: how the runs are spelled, and their characters.
+// What stands after the runs' number: how the runs are spelled, and their characters.
 #[derive(Clone, Copy, Drop)]
 struct Parts<'a> {
     heads: &'a [u8],
     chars: &'a [u8],
 }
 
-// A run that there may be, and the bytes behind it.
+// A run that there may be, and the bytes after it.
 fn head_at(bytes: &[u8]) -> Option<(Head, &[u8])>
     ensures some { IfSome result (λ x. IsHead x.0 × (bytes.now ≡ head_spelling x.0 ++ x.1.now)) }
     ensures none { IfNone result ((h : Head) (rest : List ℕ) → IsHead h
@@ -58,14 +58,14 @@ fn is_last(last: &Option<Looks>, looks: &Looks) -> bool
     }
 }
 
-// A run that may stand behind one of the looks `last`, where at most `left` characters more may stand.
+// A run that may stand after one of the looks `last`, where at most `left` characters more may stand.
 fn next_head<'a>(last: &Option<Looks>, left: u64, bytes: &'a [u8]) -> Option<(Head, &'a [u8])>
     ensures some { IfSome result (λ x. IsHead x.0 × (last.now ≢ Some x.0.looks) × (x.0.len ≤ left)
         × (bytes.now ≡ head_spelling x.0 ++ x.1.now)) }
     ensures none { IfNone result ((h : Head) (rest : List ℕ) → IsHead h → last.now ≢ Some h.looks
         → h.len ≤ left → bytes.now ≡ head_spelling h ++ rest → ⊥) }
 {
-    operations::one_spelling();
+    operations::lemma_one_spelling();
     let Some((head, rest)) = head_at(bytes) else {
         return None;
     };
@@ -78,7 +78,7 @@ fn next_head<'a>(last: &Option<Looks>, left: u64, bytes: &'a [u8]) -> Option<(He
     Some((head, rest))
 }
 
-// So many runs: how many characters they have, and the bytes behind them.
+// So many runs: how many characters they have, and the bytes after them.
 fn heads_at(count: u32, bytes: &[u8]) -> Option<(u64, &[u8])>
     ensures some { IfSome result (λ x. (heads : List Head) × AreHeads None heads × (length heads ≡ count)
         × (total_of heads ≡ x.0) × (x.0 ≤ MAX_TEXT)
@@ -87,38 +87,38 @@ fn heads_at(count: u32, bytes: &[u8]) -> Option<(u64, &[u8])>
         → length heads ≡ count → total_of heads ≤ MAX_TEXT
         → bytes.now ≡ flat_map head_spelling heads ++ rest → ⊥) }
 {
-    operations::one_spelling();
+    operations::lemma_one_spelling();
     let mut rest = bytes;
     let mut left = MAX_TEXT;
     let mut last = None;
     for _ in 0..count {
-        let Some((head, behind)) = next_head(&last, left, rest) else {
+        let Some((head, after)) = next_head(&last, left, rest) else {
             return None;
         };
         left -= u64::from(head.len);
         last = Some(head.looks);
-        rest = behind;
+        rest = after;
     }
     Some((MAX_TEXT - left, rest))
 }
 
-// The parts of a formatted file, of which these bytes stand behind the tag.
+// The parts of a formatted file, of which these bytes stand after the tag.
 fn parts_of(bytes: &[u8]) -> Option<Parts<'_>>
     ensures some { IfSome result (λ p. (heads : List Head) × IsRead heads p.chars.now bytes.now
         × AreSpelled heads p.chars.now p.heads.now) }
     ensures none { IfNone result ((heads : List Head) (chars : List ℕ) → IsRead heads chars bytes.now → ⊥) }
 {
-    operations::one_spelling();
+    operations::lemma_one_spelling();
     let (count, rest) = u32_at(bytes)?;
-    let (sum, behind) = heads_at(count, rest)?;
-    let (total, chars) = u32_at(behind)?;
+    let (sum, after) = heads_at(count, rest)?;
+    let (total, chars) = u32_at(after)?;
     if u64::from(total) != sum {
         return None;
     }
     if chars.len() as u64 != sum {
         return None;
     }
-    let heads = &rest[..rest.len() - behind.len()];
+    let heads = &rest[..rest.len() - after.len()];
     Some(Parts { heads, chars })
 }
 
@@ -130,27 +130,27 @@ fn text_of(alloc: Global, heads: &[u8], chars: &[u8]) -> Result<Buffer, Refusal>
         → text ≡ items_of (cut runs chars.now)) }
     ensures errors { RefusedForMemoryAlone result }
 {
-    operations::one_spelling();
+    operations::lemma_one_spelling();
     let mut text = Buffer::new(alloc);
     let mut rest = heads;
     let mut left = chars;
-    while let Some((head, behind)) = head_at(rest) {
+    while let Some((head, after)) = head_at(rest) {
         let (front, others) = left.split_at(head.len as usize);
         push_all(&mut text, front, &head.looks)?;
-        rest = behind;
+        rest = after;
         left = others;
     }
     Ok(text)
 }
 
-// The text of a formatted file, of which these bytes stand behind the tag.
+// The text of a formatted file, of which these bytes stand after the tag.
 fn load_formatted(alloc: Global, bytes: &[u8]) -> Result<Buffer, Refusal>
     ensures ok { IfOk result (λ items. IsFormatted items (tag ++ bytes.now)) }
     ensures refused { IsErrOf result Refusal.BadFile
         ↔ ((items : List Item) → IsFormatted items (tag ++ bytes.now) → ⊥) }
     ensures errors { IfErr result (λ e. (e ≡ Refusal.BadFile) ⊎ (e ≡ Refusal.OutOfMemory)) }
 {
-    char_files::runs_are_maximal();
+    char_files::lemma_runs_are_maximal();
     let Some(parts) = parts_of(bytes) else {
         return Err(Refusal::BadFile);
     };
@@ -170,8 +170,8 @@ fn load_plain(alloc: Global, bytes: &[u8]) -> Result<Buffer, Refusal>
     plain_text(alloc, bytes)
 }
 
-// What stands behind the tag, where the file begins with it.
-fn behind_tag(bytes: &[u8]) -> Option<&[u8]>
+// What stands after the tag, where the file begins with it.
+fn rest_of_tag(bytes: &[u8]) -> Option<&[u8]>
     ensures { MatchOption result (take 4 bytes.now ≢ tag) (λ rest. bytes.now ≡ tag ++ rest.now) }
 {
     bytes.strip_prefix(b"OTF1")
@@ -192,8 +192,8 @@ pub fn load(alloc: Global, bytes: &[u8]) -> Result<Buffer, Refusal>
     ensures refused { IsErrOf result Refusal.BadFile ↔ IsNoFile bytes.now }
     ensures errors { IfErr result (λ e. (e ≡ Refusal.BadFile) ⊎ (e ≡ Refusal.OutOfMemory)) }
 {
-    crate::laws::one_text();
-    match behind_tag(bytes) {
+    crate::laws::lemma_one_text();
+    match rest_of_tag(bytes) {
         Some(rest) => load_formatted(alloc, rest),
         None => load_plain(alloc, bytes),
     }

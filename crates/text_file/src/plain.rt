@@ -18,18 +18,18 @@ fn as_line_end(byte: u8) -> u8
     if byte == b'\n' { b'\r' } else { byte }
 }
 
-// The bytes behind a 0DH, to which a 0AH that follows it belongs.
-fn behind_return(rest: &[u8]) -> &[u8]
+// The bytes after a 0DH, to which a 0AH that follows it belongs.
+fn after_return(rest: &[u8]) -> &[u8]
     ensures value { result.now ≡ without_newline rest.now }
     ensures few { length result.now ≤ length rest.now }
 {
     match rest {
-        [b'\n', behind @ ..] => behind,
+        [b'\n', after @ ..] => after,
         _ => rest,
     }
 }
 
-// The first character of a plain file, and the bytes behind it.
+// The first character of a plain file, and the bytes after it.
 fn first_of(bytes: &[u8]) -> Option<(u8, &[u8])>
     ensures value { MatchOption result (bytes.now ≡ [])
         (λ x. plain_bytes bytes.now ≡ x.0 ∷ plain_bytes x.1.now) }
@@ -39,7 +39,7 @@ fn first_of(bytes: &[u8]) -> Option<(u8, &[u8])>
         return None;
     };
     if *first == b'\r' {
-        return Some((b'\r', behind_return(rest)));
+        return Some((b'\r', after_return(rest)));
     }
     Some((as_line_end(*first), rest))
 }
@@ -50,9 +50,9 @@ pub(crate) fn plain_len(bytes: &[u8]) -> u64
 {
     let mut len = 0;
     let mut rest = bytes;
-    while let Some((_, behind)) = first_of(rest) {
+    while let Some((_, after)) = first_of(rest) {
         len += 1;
-        rest = behind;
+        rest = after;
     }
     len
 }
@@ -65,9 +65,9 @@ pub(crate) fn plain_text(alloc: Global, bytes: &[u8]) -> Result<Buffer, Refusal>
 {
     let mut text = Buffer::new(alloc);
     let mut rest = bytes;
-    while let Some((byte, behind)) = first_of(rest) {
+    while let Some((byte, after)) = first_of(rest) {
         push_char(&mut text, byte, Looks::plain())?;
-        rest = behind;
+        rest = after;
     }
     Ok(text)
 }

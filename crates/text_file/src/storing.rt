@@ -26,7 +26,7 @@ fn copy_of<S: Source>(alloc: Global, source: &S) -> Result<Buffer, Refusal>
     let mut text = Buffer::new(alloc);
     for pos in 0..source.len() {
         let (byte, looks) = source.at(pos);
-        looks.are_in_range();
+        looks.lemma_are_in_range();
         push_char(&mut text, byte, looks)?;
     }
     Ok(text)
@@ -68,7 +68,7 @@ fn file_of(alloc: Global, text: &Buffer) -> Result<Vec<u8>, Refusal>
     ensures ok { IfOk result (λ file. file.items ≡ formatted text.now) }
     ensures errors { RefusedForMemoryAlone result }
 {
-    char_files::runs_are_maximal();
+    char_files::lemma_runs_are_maximal();
     let runs = text.runs();
     let mut file = Vec::from_slice(alloc, b"OTF1")?;
     put_u32(&mut file, runs.len() as u32)?;

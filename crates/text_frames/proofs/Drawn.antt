@@ -4,7 +4,7 @@ use Rattle.std.proofs.Common.{refl, ap, ◌∙◌, arith}
 use Rattle.list_changes.specs.declared.change.ChangeKind.{ChangeKind}
 use Rattle.list_changes.specs.declared.change.ChangeKind.TheVariants.{Insert, Delete, Replace}
 use Rattle.list_changes.specs.declared.change.Change.{Change}
-use Rattle.list_changes.specs.Quiet.{is_behind, is_quiet}
+use Rattle.list_changes.specs.Quiet.{is_after, is_quiet}
 use Rattle.line_drawing.specs.Rows.{Row, row_of, rows_from}
 use Rattle.texts.specs.TextState.{TextState}
 use Rattle.machine.specs.Windows.{bytes_shown, first_line, row_in}
@@ -29,7 +29,7 @@ row_told f t i d drawn lt =
 
 -- of full rows a change leaves the lines where it is quiet up to the end of the last
 leaves_full : (kind : ChangeKind) (last beg : ℕ)
-    → (replaces kind || (true && nat_lt last beg)) ≡ is_behind kind last beg
+    → (replaces kind || (true && nat_lt last beg)) ≡ is_after kind last beg
 leaves_full Insert last beg = refl
 leaves_full Delete last beg = refl
 leaves_full Replace last beg = refl

@@ -25,7 +25,7 @@ use Rattle.text_frames.specs.Frames.{FrameSeen, IsDrawn, is_quiet_for, last_row,
 use Rattle.text_frames.specs.Reading.{no_row}
 use Rattle.text_frames.proofs.Drawn.{full_leaves, row_told}
 use Rattle.text_frames.proofs.Places.{names_shown, place_stays, place_within}
-use Rattle.text_frames.proofs.Quiet.{AreFull, full_rows_stay, place_ahead_of_end}
+use Rattle.text_frames.proofs.Quiet.{AreFull, full_rows_stay, place_before_end}
 
 lt-true : (m n : ℕ) → m < n → nat_lt m n ≡ true
 lt-true m n lt = grind (arith, nat_tests)
@@ -65,17 +65,17 @@ module _ (f : FrameSeen) (t u : TextState) (is : IsText t) (is' : IsText u) (dra
         place_within t is f.anchor drawn.anchored,
         length-map (shown_of t) (λ (c : Char). c.byte),
       ) in
-      let ahead : p ≤ last = place_ahead_of_end old (first_line t f.anchor) n last are p within refl in
+      let before : p ≤ last = place_before_end old (first_line t f.anchor) n last are p within refl in
       let named : take (suc last) (names_shown u) ≡ take (suc last) (names_shown t) =
       take-map (λ (c : Char). c.name) (suc last) (shown_of u) ∙ names.same
       ∙ sym (take-map (λ (c : Char). c.name) (suc last) (shown_of t)) in
       let here : take (suc p) (names_shown u) ≡ take (suc p) (names_shown t) =
-      sym (take-take (suc p) (suc last) (names_shown u) (omega (arith, ahead)))
-      ∙ ap (take (suc p)) named ∙ take-take (suc p) (suc last) (names_shown t) (omega (arith, ahead)) in
+      sym (take-take (suc p) (suc last) (names_shown u) (omega (arith, before)))
+      ∙ ap (take (suc p)) named ∙ take-take (suc p) (suc last) (names_shown t) (omega (arith, before)) in
       let stays : place_in u f.anchor ≡ p = place_stays t u is is' keeps f.anchor drawn.anchored char here in
       let front : take p new ≡ take p old =
-      sym (take-take p (suc last) new (omega (arith, ahead)))
-      ∙ ap (take p) same ∙ take-take p (suc last) old (omega (arith, ahead)) in
+      sym (take-take p (suc last) new (omega (arith, before)))
+      ∙ ap (take p) same ∙ take-take p (suc last) old (omega (arith, before)) in
       let first : first_line u f.anchor ≡ first_line t f.anchor =
       ap (λ (k : ℕ). ends_in (take k new)) stays ∙ ap ends_in front in
       record {

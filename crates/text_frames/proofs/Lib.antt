@@ -1,4 +1,4 @@
-pub mod Ahead
+pub mod Preceding
 pub mod Drawn
 pub mod Kept
 pub mod Lines

@@ -15,7 +15,7 @@ use Rattle.char_files.specs.declared.name.Anchor.{Anchor}
 use Rattle.char_files.specs.declared.name.Anchor.TheVariants.{Root, At}
 use Rattle.operations.proofs.WithName.{same_name}
 use Rattle.tree_order.specs.Laws.{HasOneOrder}
-use Rattle.tree_order.specs.Order.{IsAheadIn}
+use Rattle.tree_order.specs.Order.{IsBeforeIn}
 use Rattle.tree_order.specs.Shown.{IsPlace, IsShown, is_visible, place, up_to}
 use Rattle.tree_order.specs.Tree.{IsChar}
 use Rattle.tree_order.proofs.Before.{has_order, Before-irreflexive, Before-transitive}
@@ -66,7 +66,7 @@ parts_of c (d ∷ order) h =
       | inr later ↦ parts_of c order later
     ])
 
--- What stands ahead of the place, or at it, and what stands behind it, of the names that pass.
+-- What stands before the place, or at it, and what stands after it, of the names that pass.
 pub record Splits (passes : CharName → Bool) (c : CharName) (order : List CharName) (n : ℕ) : Type 0 where
   pub front : List CharName
   pub back : List CharName
@@ -101,8 +101,8 @@ slice_get-right [] ys n k x is at =
 slice_get-right (y ∷ xs) ys zero k x is at = absurd (omega (arith, is))
 slice_get-right (y ∷ xs) ys (suc n) k x is at = slice_get-right xs ys n k x (omega (arith, is)) at
 
-ahead_in_parts : (xs ys : List CharName) (c d : CharName) → Contains xs c → Contains ys d → IsAheadIn (xs ++ ys) c d
-ahead_in_parts xs ys c d one other =
+before_in_parts : (xs ys : List CharName) (c d : CharName) → Contains xs c → Contains ys d → IsBeforeIn (xs ++ ys) c d
+before_in_parts xs ys c d one other =
     let (i, at) = found xs c one in
     let (j, there) = found ys d other in
     let within : i < length xs = slice_get_within xs i c at in (
@@ -134,34 +134,34 @@ of_back (x ∷ xs) ys zero d le at = absurd (omega (arith, le))
 of_back (x ∷ xs) ys (suc i) d le at = of_back xs ys i d (omega (arith, le)) at
 
 module _ (passes : CharName → Bool) (c : CharName) (order : List CharName) (n : ℕ) (s : Splits passes c order n) where
-  ahead : List CharName
-  ahead = s.front ++ c ∷ []
+  before : List CharName
+  before = s.front ++ c ∷ []
 
-  -- those that pass, up to the place, are c or stand ahead of it
-  pub ahead_or_it : (i : ℕ) (d : CharName) → i < n → slice_get (filter passes order) i ≡ Some d
-      → (d ≡ c) ⊎ IsAheadIn order d c
-  ahead_or_it i d lt at =
+  -- those that pass, up to the place, are c or stand before it
+  pub before_or_it : (i : ℕ) (d : CharName) → i < n → slice_get (filter passes order) i ≡ Some d
+      → (d ≡ c) ⊎ IsBeforeIn order d c
+  before_or_it i d lt at =
       let at' : slice_get (filter passes (s.front ++ c ∷ []) ++ filter passes s.back) i ≡ Some d =
       subst (λ (l : List CharName). slice_get l i ≡ Some d) s.passed at in
       let here : Contains (s.front ++ c ∷ []) d =
       passed_is_of passes (s.front ++ c ∷ []) d
       (of_front (filter passes (s.front ++ c ∷ [])) (filter passes s.back) i d (omega (arith, lt, s.count)) at') in
       elim (Contains-push_cases s.front c d here) [
-        | inl front ↦ inr (subst (λ (l : List CharName). IsAheadIn l d c) (sym s.whole)
-            (ahead_in_parts s.front (c ∷ s.back) d c front (0, omega arith, refl)))
+        | inl front ↦ inr (subst (λ (l : List CharName). IsBeforeIn l d c) (sym s.whole)
+            (before_in_parts s.front (c ∷ s.back) d c front (0, omega arith, refl)))
         | inr same ↦ inl (sym same)
       ]
 
-  -- those behind it stand behind c
-  pub behind_it : (i : ℕ) (d : CharName) → n ≤ i → slice_get (filter passes order) i ≡ Some d → IsAheadIn order c d
-  behind_it i d le at =
+  -- those after it stand after c
+  pub after_it : (i : ℕ) (d : CharName) → n ≤ i → slice_get (filter passes order) i ≡ Some d → IsBeforeIn order c d
+  after_it i d le at =
       let at' : slice_get (filter passes (s.front ++ c ∷ []) ++ filter passes s.back) i ≡ Some d =
       subst (λ (l : List CharName). slice_get l i ≡ Some d) s.passed at in
       let there : Contains s.back d =
       passed_is_of passes s.back d
       (of_back (filter passes (s.front ++ c ∷ [])) (filter passes s.back) i d (omega (arith, le, s.count)) at') in
-      subst (λ (l : List CharName). IsAheadIn l c d) (append_assoc s.front (c ∷ []) s.back ∙ sym s.whole)
-      (ahead_in_parts (s.front ++ c ∷ []) s.back c d (Contains-push s.front c) there)
+      subst (λ (l : List CharName). IsBeforeIn l c d) (append_assoc s.front (c ∷ []) s.back ∙ sym s.whole)
+      (before_in_parts (s.front ++ c ∷ []) s.back c d (Contains-push s.front c) there)
 
   pub few : n ≤ length (filter passes order)
   few =
@@ -172,14 +172,14 @@ module _ (passes : CharName → Bool) (c : CharName) (order : List CharName) (n 
         length-append (filter passes (s.front ++ c ∷ [])) (filter passes s.back),
       )
 
--- no name stands ahead of itself, and of two only one ahead of the other
-one_way : (t : TextState) → IsText t → (c d : CharName) → IsAheadIn (names_of t) c d → IsAheadIn (names_of t) d c → ⊥
+-- no name stands before itself, and of two only one before the other
+one_way : (t : TextState) → IsText t → (c d : CharName) → IsBeforeIn (names_of t) c d → IsBeforeIn (names_of t) d c → ⊥
 one_way t is c d one other =
     Before-irreflexive t.operations is.good c
-    (Before-transitive t.operations is.good c d c ((is.chars.order.ahead c d).0 one)
-    ((is.chars.order.ahead d c).0 other))
+    (Before-transitive t.operations is.good c d c ((is.chars.order.before c d).0 one)
+    ((is.chars.order.before d c).0 other))
 
-not_itself : (t : TextState) → IsText t → (c : CharName) → IsAheadIn (names_of t) c c → ⊥
+not_itself : (t : TextState) → IsText t → (c : CharName) → IsBeforeIn (names_of t) c c → ⊥
 not_itself t is c one = one_way t is c c one one
 
 -- the names of those that are shown are the visible names
@@ -237,26 +237,26 @@ module _ (t u : TextState) (is : IsText t) (is' : IsText u) (keeps : KeepsTheOrd
   not_less : (k : ℕ) (d : CharName) → k < place_in t (At c) → place_in u (At c) ≤ k
       → slice_get (names_shown t) k ≡ Some d → slice_get (names_shown u) k ≡ Some d → ⊥
   not_less k d lt le at at' =
-      let behind : IsAheadIn (names_of u) c d =
-      behind_it (is_visible u.operations) c (names_of u) (place_in u (At c)) (split_text u is' c char') k d le
+      let after : IsBeforeIn (names_of u) c d =
+      after_it (is_visible u.operations) c (names_of u) (place_in u (At c)) (split_text u is' c char') k d le
       (visible_at u is' k d at') in
-      elim (ahead_or_it (is_visible t.operations) c (names_of t) (place_in t (At c)) (split_text t is c char) k d lt
+      elim (before_or_it (is_visible t.operations) c (names_of t) (place_in t (At c)) (split_text t is c char) k d lt
       (visible_at t is k d at)) [
-        | inl same ↦ not_itself u is' c (subst (λ (x : CharName). IsAheadIn (names_of u) c x) same behind)
-        | inr first ↦ one_way u is' c d behind (keeps d c first)
+        | inl same ↦ not_itself u is' c (subst (λ (x : CharName). IsBeforeIn (names_of u) c x) same after)
+        | inr first ↦ one_way u is' c d after (keeps d c first)
       ]
 
   not_more : (d : CharName) → place_in t (At c) < place_in u (At c)
       → slice_get (names_shown t) (place_in t (At c)) ≡ Some d
       → slice_get (names_shown u) (place_in t (At c)) ≡ Some d → ⊥
   not_more d lt at at' =
-      let behind : IsAheadIn (names_of u) c d =
-      keeps c d (behind_it (is_visible t.operations) c (names_of t) (place_in t (At c)) (split_text t is c char)
+      let after : IsBeforeIn (names_of u) c d =
+      keeps c d (after_it (is_visible t.operations) c (names_of t) (place_in t (At c)) (split_text t is c char)
       (place_in t (At c)) d (omega arith) (visible_at t is (place_in t (At c)) d at)) in
-      elim (ahead_or_it (is_visible u.operations) c (names_of u) (place_in u (At c)) (split_text u is' c char')
+      elim (before_or_it (is_visible u.operations) c (names_of u) (place_in u (At c)) (split_text u is' c char')
       (place_in t (At c)) d lt (visible_at u is' (place_in t (At c)) d at')) [
-        | inl same ↦ not_itself u is' c (subst (λ (x : CharName). IsAheadIn (names_of u) c x) same behind)
-        | inr first ↦ one_way u is' c d behind first
+        | inl same ↦ not_itself u is' c (subst (λ (x : CharName). IsBeforeIn (names_of u) c x) same after)
+        | inr first ↦ one_way u is' c d after first
       ]
 
   both_have : take (suc (place_in t (At c))) (names_shown u) ≡ take (suc (place_in t (At c))) (names_shown t) → (k : ℕ)

@@ -30,7 +30,7 @@ at_end bytes last lt is =
     ∙ ap (λ (l : List ℕ). take last bytes ++ l)
     (drop-cons bytes last 0 lt ∙ ap (λ (b : ℕ). b ∷ drop (suc last) bytes) is)
 
--- rows ahead of an end of a line are those of the bytes ahead of it
+-- rows before an end of a line are those of the bytes before it
 rows_own : (a rest : List ℕ) (width k n : ℕ) → k + n ≤ length (lines a)
     → rows_from (a ++ LINE_END ∷ rest) width k n ≡ rows_from a width k n
 rows_own a rest width k zero le = refl
@@ -62,10 +62,10 @@ module _ (bytes : List ℕ) (k n last : ℕ) (full : AreFull bytes k n last) whe
   pub ends_there : get_or bytes last 0 ≡ LINE_END
   ends_there =
       subst (λ (e : ℕ). e < length bytes → get_or bytes e 0 ≡ LINE_END) (sym full.ends)
-      (stands_between bytes (k + (n - 1)) there).0.behind full.within
+      (stands_between bytes (k + (n - 1)) there).0.after full.within
 
-  pub lines_ahead : k + n ≡ suc (ends_in (take last bytes))
-  lines_ahead =
+  pub lines_before : k + n ≡ suc (ends_in (take last bytes))
+  lines_before =
       let is : last ≡ end_of bytes (k + (n - 1)) = full.ends in
       let some : 0 < n = full.some in
       let within : last < length bytes = full.within in
@@ -75,15 +75,15 @@ module _ (bytes : List ℕ) (k n last : ℕ) (full : AreFull bytes k n last) whe
       (lies_on_one bytes last (omega (arith, within))).1 (k + (n - 1)) on in
       omega (arith, same, some)
 
-  -- a place on the first of these lines stands ahead of the end of the last
-  pub place_ahead_of_end : (p : ℕ) → p ≤ length bytes → k ≡ ends_in (take p bytes) → p ≤ last
-  place_ahead_of_end p le first = elim (cases_lt last p) [
+  -- a place on the first of these lines stands before the end of the last
+  pub place_before_end : (p : ℕ) → p ≤ length bytes → k ≡ ends_in (take p bytes) → p ≤ last
+  place_before_end p le first = elim (cases_lt last p) [
     | inl lt ↦
         let long : length (take p bytes) ≡ p = omega (arith, length-take p bytes, le) in
         let at : get_or (take p bytes) last 0 ≡ LINE_END = get_or-take p bytes last 0 lt ∙ ends_there in
         let parts : take p bytes ≡ take last (take p bytes) ++ LINE_END ∷ drop (suc last) (take p bytes) =
         at_end (take p bytes) last (omega (arith, long, lt)) at in
-        let ahead : ends_in (take last (take p bytes)) ≡ ends_in (take last bytes) =
+        let before : ends_in (take last (take p bytes)) ≡ ends_in (take last bytes) =
         ap ends_in (take-take last p bytes (omega (arith, lt))) in
         let some : 0 < n = full.some in
         absurd (omega (
@@ -91,8 +91,8 @@ module _ (bytes : List ℕ) (k n last : ℕ) (full : AreFull bytes k n last) whe
           first,
           ap ends_in parts,
           ends-append (take last (take p bytes)) (drop (suc last) (take p bytes)),
-          ahead,
-          lines_ahead,
+          before,
+          lines_before,
           some,
         ))
     | inr ge ↦ ge
@@ -109,7 +109,7 @@ module _ (bytes : List ℕ) (k n last : ℕ) (full : AreFull bytes k n last) whe
       sym (get_or-take (suc last) other last 0 (omega arith))
       ∙ ap (λ (l : List ℕ). get_or l last 0) same ∙ get_or-take (suc last) bytes last 0 (omega arith)
       ∙ ends_there in
-      let few : k + n ≤ length (lines (take last bytes)) = omega (arith, lines_ahead, one_more (take last bytes)) in
+      let few : k + n ≤ length (lines (take last bytes)) = omega (arith, lines_before, one_more (take last bytes)) in
       ap (λ (l : List ℕ). rows_from l width k n) (at_end other last lt at)
       ∙ ap (λ (l : List ℕ). rows_from (l ++ LINE_END ∷ drop (suc last) other) width k n) front
       ∙ rows_own (take last bytes) (drop (suc last) other) width k n few

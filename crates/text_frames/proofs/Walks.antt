@@ -9,15 +9,15 @@ use Rattle.line_drawing.specs.Rows.{Row, rows_from}
 use Rattle.line_drawing.proofs.Cells.{cells-length}
 use Rattle.line_drawing.proofs.Lines.{some_line, one_more}
 use Rattle.text_frames.specs.Frames.{last_row}
-use Rattle.text_frames.specs.Reading.{behind_line, bytes_of, counted, line_ahead, no_row, row_ahead}
-use Rattle.text_frames.proofs.Lines.{beg-past, beg-within, is_last, line_is, more_behind, next_beg, next_left, rows_ahead}
+use Rattle.text_frames.specs.Reading.{after_line, bytes_of, counted, line_before, no_row, row_before}
+use Rattle.text_frames.proofs.Lines.{beg-past, beg-within, is_last, line_is, more_after, next_beg, next_left, rows_before}
 use Rattle.text_frames.proofs.OneLine.{counted_on}
 
-ahead-few : (bytes : List ℕ) → length (line_ahead bytes) ≤ length bytes
-ahead-few [] = omega arith
-ahead-few (b ∷ bytes) =
-    let few : length (line_ahead bytes) ≤ length bytes = ahead-few bytes in
-    elim (b == LINE_END) as (λ v. length (if v then [] else b ∷ line_ahead bytes) ≤ suc (length bytes)) [
+before-few : (bytes : List ℕ) → length (line_before bytes) ≤ length bytes
+before-few [] = omega arith
+before-few (b ∷ bytes) =
+    let few : length (line_before bytes) ≤ length bytes = before-few bytes in
+    elim (b == LINE_END) as (λ v. length (if v then [] else b ∷ line_before bytes) ≤ suc (length bytes)) [
       | true ↦ omega arith
       | false ↦ omega (arith, few)
     ]
@@ -25,10 +25,10 @@ ahead-few (b ∷ bytes) =
 -- So many rows are drawn, and so far the walk has come that began here.
 pub record DrawsRows (all : List Char) (width from before count : ℕ) (rows : List Row) (walk : List Char)
     (beg reads : ℕ) : Type 0 where
-  pub drawn : rows ++ rows_ahead width beg (bytes_of walk) (count - length rows)
-      ≡ rows_ahead width from (drop from (bytes_of all)) count
+  pub drawn : rows ++ rows_before width beg (bytes_of walk) (count - length rows)
+      ≡ rows_before width from (drop from (bytes_of all)) count
   pub few : length rows ≤ count
-  pub behind : from ≤ beg
+  pub after : from ≤ beg
   pub left : beg + length walk ≡ length all
   pub last : 0 < length rows → beg ≡ min (suc (last_row rows).end) (length all)
   pub counts : reads ≡ counted (before + (beg - from))
@@ -40,59 +40,59 @@ rows_begin all width from before count walk is le left =
     let all_left : count - 0 ≡ count = omega arith in
     record {
       drawn =
-          ap (λ (n : ℕ). rows_ahead width from (bytes_of walk) n) all_left
-          ∙ ap (λ (l : List Char). rows_ahead width from (bytes_of l) count) left
-          ∙ ap (λ (l : List ℕ). rows_ahead width from l count) (sym (drop-map (λ (c : Char). c.byte) from all));
+          ap (λ (n : ℕ). rows_before width from (bytes_of walk) n) all_left
+          ∙ ap (λ (l : List Char). rows_before width from (bytes_of l) count) left
+          ∙ ap (λ (l : List ℕ). rows_before width from l count) (sym (drop-map (λ (c : Char). c.byte) from all));
       few = omega arith;
-      behind = omega arith;
+      after = omega arith;
       left = omega (arith, le, ap length left, length-drop from all);
       last = λ some. absurd (omega (arith, some));
       counts = is ∙ ap counted none;
     }
 
 drawn_more : (width beg : ℕ) (rows : List Row) (row : Row) (walk walk' : List Char) (count beg' : ℕ)
-    → length rows < count → row ≡ row_ahead width beg (bytes_of walk)
-    → walk' ≡ behind_line (line_ahead (bytes_of walk)) walk
-    → beg' ≡ min (suc (beg + length (line_ahead (bytes_of walk)))) (beg + length walk)
-    → (rows ++ row ∷ []) ++ rows_ahead width beg' (bytes_of walk') (count - length (rows ++ row ∷ []))
-    ≡ rows ++ rows_ahead width beg (bytes_of walk) (count - length rows)
+    → length rows < count → row ≡ row_before width beg (bytes_of walk)
+    → walk' ≡ after_line (line_before (bytes_of walk)) walk
+    → beg' ≡ min (suc (beg + length (line_before (bytes_of walk)))) (beg + length walk)
+    → (rows ++ row ∷ []) ++ rows_before width beg' (bytes_of walk') (count - length (rows ++ row ∷ []))
+    ≡ rows ++ rows_before width beg (bytes_of walk) (count - length rows)
 drawn_more width beg rows row walk walk' count beg' lt is left next =
     let m : ℕ = count - (length rows + 1) in
     let here : count - length (rows ++ row ∷ []) ≡ m = omega (arith, length_push rows row) in
     let one : suc m ≡ count - length rows = omega (arith, lt) in
-    let line : List ℕ = line_ahead (bytes_of walk) in
+    let line : List ℕ = line_before (bytes_of walk) in
     let bytes : List ℕ = bytes_of walk in
-    let rest : bytes_of walk' ≡ behind_line line bytes =
+    let rest : bytes_of walk' ≡ after_line line bytes =
     ap bytes_of left ∙ sym (drop-map (λ (c : Char). c.byte) (suc (length line)) walk) in
     let beg-is : beg' ≡ min (suc (beg + length line)) (beg + length bytes) =
     next ∙ ap (λ (n : ℕ). min (suc (beg + length line)) (beg + n)) (sym (length-map walk (λ (c : Char). c.byte))) in
-    append_assoc rows (row ∷ []) (rows_ahead width beg' (bytes_of walk') (count - length (rows ++ row ∷ [])))
-    ∙ ap (λ (n : ℕ). rows ++ row ∷ rows_ahead width beg' (bytes_of walk') n) here
-    ∙ ap (λ (l : List ℕ). rows ++ row ∷ rows_ahead width beg' l m) rest
-    ∙ ap (λ (n : ℕ). rows ++ row ∷ rows_ahead width n (behind_line line bytes) m) beg-is
-    ∙ ap (λ (r : Row). rows ++ r ∷ rows_ahead width (min (suc (beg + length line)) (beg + length bytes))
-    (behind_line line bytes) m) is
-    ∙ ap (λ (n : ℕ). rows ++ rows_ahead width beg bytes n) one
+    append_assoc rows (row ∷ []) (rows_before width beg' (bytes_of walk') (count - length (rows ++ row ∷ [])))
+    ∙ ap (λ (n : ℕ). rows ++ row ∷ rows_before width beg' (bytes_of walk') n) here
+    ∙ ap (λ (l : List ℕ). rows ++ row ∷ rows_before width beg' l m) rest
+    ∙ ap (λ (n : ℕ). rows ++ row ∷ rows_before width n (after_line line bytes) m) beg-is
+    ∙ ap (λ (r : Row). rows ++ r ∷ rows_before width (min (suc (beg + length line)) (beg + length bytes))
+    (after_line line bytes) m) is
+    ∙ ap (λ (n : ℕ). rows ++ rows_before width beg bytes n) one
 
 pub rows_more : (all : List Char) (width from before count : ℕ) (rows : List Row) (walk walk' : List Char)
     (beg beg' reads reads' : ℕ) (row : Row) → DrawsRows all width from before count rows walk beg reads
-    → length rows < count → row ≡ row_ahead width beg (bytes_of walk)
-    → walk' ≡ behind_line (line_ahead (bytes_of walk)) walk
+    → length rows < count → row ≡ row_before width beg (bytes_of walk)
+    → walk' ≡ after_line (line_before (bytes_of walk)) walk
     → reads' ≡ counted (reads + (length walk - length walk'))
     → beg' ≡ min (min (row.end + 1) (2 ^ 64 - 1)) (length all) → length all < 2 ^ 64
     → DrawsRows all width from before count (rows ++ row ∷ []) walk' beg' reads'
 rows_more all width from before count rows walk walk' beg beg' reads reads' row was lt is rest counts next fits =
-    let line : List ℕ = line_ahead (bytes_of walk) in
+    let line : List ℕ = line_before (bytes_of walk) in
     let few : length line ≤ length walk =
-    omega (arith, ahead-few (bytes_of walk), length-map walk (λ (c : Char). c.byte)) in
+    omega (arith, before-few (bytes_of walk), length-map walk (λ (c : Char). c.byte)) in
     let left : beg + length walk ≡ length all = was.left in
-    let behind : from ≤ beg = was.behind in
+    let after : from ≤ beg = was.after in
     let end : row.end ≡ beg + length line = ap (λ (r : Row). r.end) is in
     let next' : beg' ≡ min (suc (beg + length line)) (length all) = omega (arith, next, end, fits, few, left) in
     let long : length walk' ≡ length walk - suc (length line) =
     ap length rest ∙ length-drop (suc (length line)) walk in
     let gone : (beg - from) + (length walk - length walk') ≡ beg' - from =
-    omega (arith, behind, left, next', long, few) in
+    omega (arith, after, left, next', long, few) in
     let at : length (rows ++ row ∷ []) - 1 ≡ length rows = omega (arith, length_push rows row) in
     let last : last_row (rows ++ row ∷ []) ≡ row =
     ap (λ (n : ℕ). get_or (rows ++ row ∷ []) n no_row) at ∙ get_or_push rows row no_row (length rows) refl in
@@ -100,7 +100,7 @@ rows_more all width from before count rows walk walk' beg beg' reads reads' row 
       drawn =
           drawn_more width beg rows row walk walk' count beg' lt is rest (omega (arith, next', left)) ∙ was.drawn;
       few = omega (arith, length_push rows row, lt);
-      behind = omega (arith, behind, next', left, few);
+      after = omega (arith, after, next', left, few);
       left = omega (arith, left, next', long, few);
       last = λ some. omega (arith, next', end, ap (λ (r : Row). r.end) last);
       counts =
@@ -111,11 +111,11 @@ rows_more all width from before count rows walk walk' beg beg' reads reads' row 
 -- all rows are drawn
 pub rows_drawn : (all : List Char) (width from before count : ℕ) (rows : List Row) (walk : List Char) (beg reads : ℕ)
     → DrawsRows all width from before count rows walk beg reads → count ≤ length rows
-    → rows ≡ rows_ahead width from (drop from (bytes_of all)) count
+    → rows ≡ rows_before width from (drop from (bytes_of all)) count
 rows_drawn all width from before count rows walk beg reads was all_drawn =
     let none : 0 ≡ count - length rows = omega (arith, all_drawn) in
     sym (append-nil rows)
-    ∙ ap (λ (n : ℕ). rows ++ rows_ahead width beg (bytes_of walk) n) none ∙ was.drawn
+    ∙ ap (λ (n : ℕ). rows ++ rows_before width beg (bytes_of walk) n) none ∙ was.drawn
 
 pub rows_counted : (all : List Char) (width from before count : ℕ) (rows : List Row) (walk : List Char) (beg reads : ℕ)
     → DrawsRows all width from before count rows walk beg reads → 0 < length rows
@@ -144,8 +144,8 @@ seek_begins all before walk is left =
 -- what a walk over the next line does, which ends here
 pub record Passes (all : List Char) (before j : ℕ) (walk walk' : List Char) (beg end reads reads' : ℕ) : Type 0 where
   pub was : SeeksLine all before j walk beg reads
-  pub is : end ≡ beg + length (line_ahead (bytes_of walk))
-  pub rest : walk' ≡ behind_line (line_ahead (bytes_of walk)) walk
+  pub is : end ≡ beg + length (line_before (bytes_of walk))
+  pub rest : walk' ≡ after_line (line_before (bytes_of walk)) walk
   pub counts : reads' ≡ counted (reads + (length walk - length walk'))
 
 bytes_left : (all : List Char) (before j : ℕ) (walk : List Char) (beg reads : ℕ)
@@ -158,18 +158,18 @@ bytes_left all before j walk beg reads was =
 end_passed : (all : List Char) (before j : ℕ) (walk walk' : List Char) (beg end reads reads' : ℕ)
     → Passes all before j walk walk' beg end reads reads' → end ≡ end_of (bytes_of all) j
 end_passed all before j walk walk' beg end reads reads' p =
-    let line : length (line_ahead (bytes_of walk)) ≡ length (line_ahead (drop (beg_of (bytes_of all) j) (bytes_of all))) =
-    ap (λ (l : List ℕ). length (line_ahead l)) (bytes_left all before j walk beg reads p.was) in
+    let line : length (line_before (bytes_of walk)) ≡ length (line_before (drop (beg_of (bytes_of all) j) (bytes_of all))) =
+    ap (λ (l : List ℕ). length (line_before l)) (bytes_left all before j walk beg reads p.was) in
     let at : beg ≡ beg_of (bytes_of all) j = p.was.at in
-    let is : end ≡ beg + length (line_ahead (bytes_of walk)) = p.is in
+    let is : end ≡ beg + length (line_before (bytes_of walk)) = p.is in
     omega (arith, is, at, line, ap length (line_is (bytes_of all) j))
 
 left_passed : (all : List Char) (before j : ℕ) (walk walk' : List Char) (beg end reads reads' : ℕ)
     → Passes all before j walk walk' beg end reads reads' → walk' ≡ drop (beg_of (bytes_of all) (suc j)) all
 left_passed all before j walk walk' beg end reads reads' p =
     p.rest
-    ∙ ap (λ (l : List ℕ). behind_line (line_ahead l) walk) (bytes_left all before j walk beg reads p.was)
-    ∙ ap (λ (l : List Char). behind_line (line_ahead (drop (beg_of (bytes_of all) j) (bytes_of all))) l)
+    ∙ ap (λ (l : List ℕ). after_line (line_before l) walk) (bytes_left all before j walk beg reads p.was)
+    ∙ ap (λ (l : List Char). after_line (line_before (drop (beg_of (bytes_of all) j) (bytes_of all))) l)
     (p.was.left ∙ ap (λ (n : ℕ). drop n all) p.was.at)
     ∙ next_left (bytes_of all) all j (sym (length-map all (λ (c : Char). c.byte)))
 
@@ -191,7 +191,7 @@ counts_passed all before j walk walk' beg end reads reads' p =
     counted_on before beg (length walk - length walk') reads reads' p.was.counts p.counts
     ∙ ap (λ (n : ℕ). counted (before + n)) gone
 
--- another line begins behind this one
+-- another line begins after this one
 pub seeks_on : (all : List Char) (before j : ℕ) (walk walk' : List Char) (beg end reads reads' : ℕ)
     → Passes all before j walk walk' beg end reads reads' → end < length all
     → SeeksLine all before (j + 1) walk' (end + 1) reads'
@@ -201,7 +201,7 @@ seeks_on all before j walk walk' beg end reads reads' p lt =
     let is : end ≡ end_of bytes j = end_passed all before j walk walk' beg end reads reads' p in
     let at : beg_of bytes (suc j) ≡ end + 1 = omega (arith, next_beg bytes j, is, same, lt) in
     let next : suc j ≡ j + 1 = omega arith in
-    let there : suc j < length (lines bytes) = more_behind bytes j (omega (arith, is, same, lt)) in
+    let there : suc j < length (lines bytes) = more_after bytes j (omega (arith, is, same, lt)) in
     record {
       at = sym at ∙ ap (beg_of bytes) next;
       there = omega (arith, there);
@@ -230,7 +230,7 @@ last_found all before j number walk walk' beg end reads reads' p le lt =
           ∙ ap (λ (n : ℕ). counted (before + n)) (next ∙ sym far),
     )
 
--- all lines ahead are passed
+-- all lines before are passed
 pub line_found : (all : List Char) (before number j : ℕ) (walk : List Char) (beg reads : ℕ) → number ≡ j
     → SeeksLine all before j walk beg reads
     → (beg ≡ beg_of (bytes_of all) (min number (ends_in (bytes_of all))))

@@ -40,7 +40,7 @@ pub record IsDrawn (f : FrameSeen) (t : TextState) : Type 0 where
   pub full : f.full ≡ nat_lt (last_row f.rows).end (length (shown_of t))
 
 -- How many characters are read for these rows of a text of so many, from this place: back to the begin of the place's line,
--- with the 0DH ahead of it; then on to the end of the last row's line, with the 0DH there.
+-- with the 0DH before it; then on to the end of the last row's line, with the 0DH there.
 abbrev pub reads_of : (len place : ℕ) → List Row → ℕ
 reads_of len place rows =
     (place - ((first_row rows).beg - 1)) + (min (suc (last_row rows).end) len - (first_row rows).beg)
@@ -56,7 +56,7 @@ replaces Delete = false
 replaces Replace = true
 
 -- Whether a change leaves rows as they are, the last of which ends here: it replaces; or they are full, and it begins
--- behind the 0DH of the last one.
+-- after the 0DH of the last one.
 abbrev pub leaves_rows : (full : Bool) → (last : ℕ) → Change → Bool
 leaves_rows full last change = replaces change.kind || (full && nat_lt last change.beg)
 

@@ -18,21 +18,21 @@ abbrev pub GivesNext : List Char → Option ℕ → List Char → Type 0
 GivesNext [] next left = (next ≡ None) × (left ≡ [])
 GivesNext (c ∷ chars) next left = (next ≡ (if c.byte == LINE_END then None else Some c.byte)) × (left ≡ chars)
 
--- the bytes ahead of the first that ends a line, or all
-abbrev pub line_ahead : List ℕ → List ℕ
-line_ahead [] = []
-line_ahead (b ∷ bytes) = if b == LINE_END then [] else b ∷ line_ahead bytes
+-- the bytes before the first that ends a line, or all
+abbrev pub line_before : List ℕ → List ℕ
+line_before [] = []
+line_before (b ∷ bytes) = if b == LINE_END then [] else b ∷ line_before bytes
 
--- what stands behind that line and its end
-abbrev pub behind_line : {X : Type 0} → List ℕ → List X → List X
-behind_line line rest = drop (suc (length line)) rest
+-- what stands after that line and its end
+abbrev pub after_line : {X : Type 0} → List ℕ → List X → List X
+after_line line rest = drop (suc (length line)) rest
 
 -- the row of the line that begins here, where these bytes are left
-abbrev pub row_ahead : (width beg : ℕ) → List ℕ → Row
-row_ahead width beg bytes = record {
+abbrev pub row_before : (width beg : ℕ) → List ℕ → Row
+row_before width beg bytes = record {
   beg = beg;
-  end = beg + length (line_ahead bytes);
-  cells = cells_of width (line_ahead bytes);
+  end = beg + length (line_before bytes);
+  cells = cells_of width (line_before bytes);
 }
 
 -- a row of nothing, which stands for one that isn't there

@@ -15,12 +15,12 @@ use line_drawing::LINE_END;
 use texts::Replica;
 use viewers::MAX_WIDTH;
 
-// How many shown characters are the anchor or stand ahead of it; 0 for one that isn't here.
+// How many shown characters are the anchor or stand before it; 0 for one that isn't here.
 pub(crate) fn place_of(replica: &Replica, anchor: Anchor) -> u64
     ensures place { IsAnchor replica.now.operations anchor → result ≡ place_in replica.now anchor }
     ensures within { result ≤ length (shown_of replica.now) }
 {
-    replica.is_text();
+    replica.lemma_is_text();
     match replica.position(anchor) {
         Some(place) => place,
         None => 0,

@@ -110,7 +110,7 @@ impl Frame {
 
     /// A law: it has 1 to `MAX_ROWS` rows, each as wide as the frame, which has 1 to `MAX_WIDTH` columns. A proof gets it by
     /// calling this, at no cost.
-    pub fn are_rows(&self)
+    pub fn lemma_are_rows(&self)
         ensures { AreRows self.now.width self.now.rows }
     {
         let _ = &self.width;
@@ -148,7 +148,7 @@ impl Frame {
     /// what was shown to what is shown now, the characters stand in the order in which they stood, and the frame's own is
     /// still one of them.
     ///
-    /// Where each change replaces, or lies behind the lines of a frame whose rows each hold a line, the rows stay and nothing
+    /// Where each change replaces, or lies after the lines of a frame whose rows each hold a line, the rows stay and nothing
     /// is read; else they are drawn anew.
     pub fn update(&mut self, replica: &Replica, changes: &[Change])
         ensures anchor { self.new.anchor ≡ self.old.anchor }
@@ -162,7 +162,7 @@ impl Frame {
             → IsAnchor replica.now.operations self.old.anchor
             → self.new.reads ≡ counted (drawing_reads replica.now self.new) }
     {
-        replica.is_text();
+        replica.lemma_is_text();
         if leave_rows(self.rows.as_slice(), self.full, changes) {
             self.reads = 0;
         } else {
@@ -196,7 +196,7 @@ impl Frame {
         ensures reads { self.new.reads
             ≡ counted (beg_of (bytes_shown replica.now) line + drawing_reads replica.now self.new) }
     {
-        replica.is_text();
+        replica.lemma_is_text();
         let mut reads = 0;
         let beg = begin_of_line(replica, line, &mut reads);
         self.anchor = replica.anchor_after(beg);

@@ -1,7 +1,7 @@
 ghost use Rattle.std.specs.Prelude.{◌≡◌, ◌↔◌, IsTrue};
 ghost use Rattle.texts.specs.Text.{IsAnchor};
 ghost use Rattle.tree_order.specs.Tree.{IsChar};
-ghost use Rattle.machine.specs.Windows.{place_ahead, place_in};
+ghost use Rattle.machine.specs.Windows.{place_before, place_in};
 ghost use Rattle.text_frames.specs.Marks.{range_in};
 
 use crate::drawing::place_of;
@@ -9,13 +9,13 @@ use char_files::{Anchor, Name};
 use std::marker::Model;
 use texts::Replica;
 
-/// Where the next character is typed: in a viewer, behind a character of its text or at the text's begin (Project Oberon,
+/// Where the next character is typed: in a viewer, after a character of its text or at the text's begin (Project Oberon,
 /// chapter 5; that it is told by a character is this project's own).
 #[derive(Clone, Copy, Debug, PartialEq, Eq)]
 pub struct Caret {
     /// The viewer's number.
     pub viewer: u32,
-    /// The character ahead of the caret, or the root. It may be hidden.
+    /// The character before the caret, or the root. It may be hidden.
     pub anchor: Anchor,
 }
 
@@ -30,7 +30,7 @@ impl Model for Caret {
 }
 
 impl Caret {
-    /// How many shown characters stand ahead of the caret.
+    /// How many shown characters stand before the caret.
     pub fn place(&self, replica: &Replica) -> u64
         requires { IsAnchor replica.now.operations self.now.anchor }
         ensures { result ≡ place_in replica.now self.now.anchor }
@@ -68,12 +68,12 @@ fn are_same(anchor: &Anchor, other: &Anchor) -> bool
     anchor == other
 }
 
-// How many shown characters stand ahead of this one.
-fn place_ahead(replica: &Replica, name: Name) -> u64
+// How many shown characters stand before this one.
+fn place_before(replica: &Replica, name: Name) -> u64
     requires { IsChar replica.now.operations name }
-    ensures { result ≡ place_ahead replica.now name }
+    ensures { result ≡ place_before replica.now name }
 {
-    replica.is_text();
+    replica.lemma_is_text();
     let place = place_of(replica, Anchor::At(name));
     if are_same(&replica.anchor_after(place), &Anchor::At(name)) {
         place - 1
@@ -90,7 +90,7 @@ impl Selection {
         requires last { IsChar replica.now.operations self.now.last }
         ensures { result ≡ range_in replica.now self.now }
     {
-        let beg = place_ahead(replica, self.first);
+        let beg = place_before(replica, self.first);
         let end = place_of(replica, Anchor::At(self.last));
         (beg < end).then_some((beg, end))
     }

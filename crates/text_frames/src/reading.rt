@@ -24,7 +24,7 @@ pub(crate) fn byte_at(replica: &Replica, pos: u64, reads: &mut u64) -> u8
 }
 
 // Reads the next byte of a walk's line, and counts it; `None` for the 0DH that ends the line, which is counted too, and
-// behind the last character, where nothing is read.
+// after the last character, where nothing is read.
 pub(crate) fn next_byte(walk: &mut Shown<'_>, reads: &mut u64) -> Option<u8>
     ensures next { GivesNext walk.old result walk.new }
     ensures reads { reads.new ≡ counted (reads.old + (length walk.old - length walk.new)) }

@@ -1,6 +1,6 @@
 ghost use Rattle.std.specs.Prelude.{◌≡◌, ◌+◌, ◌-◌, ◌^◌, ◌<◌, ◌≤◌, ◌∷◌, [], ◌++◌, length, take};
 ghost use Rattle.line_drawing.specs.Rows.{blanks, sign_of};
-ghost use Rattle.text_frames.specs.Reading.{behind_line, bytes_of, counted, line_ahead, row_ahead};
+ghost use Rattle.text_frames.specs.Reading.{after_line, bytes_of, counted, line_before, row_before};
 
 use crate::reading::next_byte;
 use arrayvec::ArrayVec;
@@ -51,8 +51,8 @@ fn fill(cells: &mut ArrayVec<u8, MAX_WIDTH>, width: usize)
 pub(crate) fn read_row(walk: &mut Shown<'_>, beg: u64, width: usize, reads: &mut u64) -> DrawnRow
     requires wide { width ≤ MAX_WIDTH }
     requires in_text { beg + length walk.old < 2 ^ 64 }
-    ensures row { result ≡ row_ahead width beg (bytes_of walk.old) }
-    ensures rest { walk.new ≡ behind_line (line_ahead (bytes_of walk.old)) walk.old }
+    ensures row { result ≡ row_before width beg (bytes_of walk.old) }
+    ensures rest { walk.new ≡ after_line (line_before (bytes_of walk.old)) walk.old }
     ensures reads { reads.new ≡ counted (reads.old + (length walk.old - length walk.new)) }
 {
     // A count is in range.

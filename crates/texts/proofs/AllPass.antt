@@ -15,8 +15,8 @@ first_or_later at off from = elim (cases_Bool (eqb at off)) [
   | inr e ↦ inr (omega (arith, from, eqb-false at off e))
 ]
 
-behind : (r : Range) (ranges : List Range) (c : CharName) → IsAmong ranges c → IsAmong (r ∷ ranges) c
-behind r ranges c (k, s, lt, is, within) = (suc k, s, omega (arith, lt), is, within)
+after : (r : Range) (ranges : List Range) (c : CharName) → IsAmong ranges c → IsAmong (r ∷ ranges) c
+after r ranges c (k, s, lt, is, within) = (suc k, s, omega (arith, lt), is, within)
 
 module _ (p : CharName → Bool) where
   all_within : (site at len : ℕ) → ((off : ℕ) → at ≤ off → off < at + len → p (name site off) ≡ true)
@@ -46,7 +46,7 @@ module _ (p : CharName → Bool) where
   all_pass (r ∷ ranges) each =
       list_all-append p (names_of r) (names_in ranges)
       ∙ both _ _ (all_within r.site r.at r.len (λ off from to. each (name r.site off) (0, r, omega arith, refl, (refl, from, to))))
-      (all_pass ranges (λ c among. each c (behind r ranges c among)))
+      (all_pass ranges (λ c among. each c (after r ranges c among)))
 
   pub each_passes : (ranges : List Range) → list_all p (names_in ranges) ≡ true → (c : CharName)
       → IsAmong ranges c → p c ≡ true

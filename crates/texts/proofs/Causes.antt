@@ -13,7 +13,7 @@ use Rattle.char_files.specs.declared.character.Char.{Char}
 use Rattle.char_files.specs.declared.name.Anchor.{Anchor}
 use Rattle.char_files.specs.declared.name.Anchor.TheVariants.{Root, At}
 use Rattle.operations.specs.Operation.{Operation, insert, MentionsBy}
-use Rattle.tree_order.specs.Insertion.{EndsAt, IsJustBehind}
+use Rattle.tree_order.specs.Insertion.{EndsAt, IsJustAfter}
 use Rattle.tree_order.specs.Order.{IsOrder}
 use Rattle.tree_order.specs.Shown.{up_to}
 use Rattle.tree_order.specs.Tree.{IsChar}
@@ -21,11 +21,11 @@ use Rattle.texts.specs.Edit.{anchor_before}
 use Rattle.texts.specs.Order.{count_to}
 use Rattle.texts.specs.Text.{IsAnchor}
 
--- the position is that behind the anchor
-pub anchor_is_behind : (shown : List Char) (pos : ℕ) → pos ≤ length shown
-    → IsJustBehind (map (λ s. s.name) shown) (anchor_before shown pos) pos
-anchor_is_behind shown zero within = refl
-anchor_is_behind shown (suc k) within =
+-- the position is that after the anchor
+pub anchor_is_after : (shown : List Char) (pos : ℕ) → pos ≤ length shown
+    → IsJustAfter (map (λ s. s.name) shown) (anchor_before shown pos) pos
+anchor_is_after shown zero within = refl
+anchor_is_after shown (suc k) within =
     let apart : eqb (suc k) 0 ≡ false = grind (arith, nat_tests) in
     elim (slice_get_cases shown (suc k - 1)).1 [
       | inl w ↦
@@ -40,19 +40,19 @@ pub old_if_mentioned : (ops : List Operation) (a : Anchor) (at : ℕ) (looks : L
 old_if_mentioned ops Root at looks bytes old name m = absurd m
 old_if_mentioned ops (At c) at looks bytes old name m = subst (IsChar ops) (sym m) old
 
-pub old_if_behind : (ops : List Operation) (names : List CharName) (a : Anchor) (pos : ℕ) → All (IsChar ops) names
-    → IsJustBehind names a pos → IsAnchor ops a
-old_if_behind ops names Root pos are behind = tt
-old_if_behind ops names (At c) pos are (k, at, next) =
+pub old_if_after : (ops : List Operation) (names : List CharName) (a : Anchor) (pos : ℕ) → All (IsChar ops) names
+    → IsJustAfter names a pos → IsAnchor ops a
+old_if_after ops names Root pos are after = tt
+old_if_after ops names (At c) pos are (k, at, next) =
     All-contains (IsChar ops) names c are
     (k, slice_get_within names k c at, get_or_from_slice_get names k c c at)
 
 -- one step of the way to c, which d is or not
-one_step : (c d : CharName) (names ahead : List CharName) (same : Bool) → (same ≡ true → d ≡ c)
-    → (same ≡ false → (front : List CharName) × (take (length ahead) names ≡ front ++ c ∷ []))
-    → (front : List CharName) × (d ∷ take (length (cond same [] ahead)) names ≡ front ++ c ∷ [])
-one_step c d names ahead true here later = ([], ap (λ (x : CharName). x ∷ []) (here refl))
-one_step c d names ahead false here later =
+one_step : (c d : CharName) (names before : List CharName) (same : Bool) → (same ≡ true → d ≡ c)
+    → (same ≡ false → (front : List CharName) × (take (length before) names ≡ front ++ c ∷ []))
+    → (front : List CharName) × (d ∷ take (length (cond same [] before)) names ≡ front ++ c ∷ [])
+one_step c d names before true here later = ([], ap (λ (x : CharName). x ∷ []) (here refl))
+one_step c d names before false here later =
     let (front, e) = later refl in
     (d ∷ front, ap (λ (xs : List CharName). d ∷ xs) e)
 

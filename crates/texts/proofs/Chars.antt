@@ -19,7 +19,7 @@ use Rattle.texts.specs.TextState.{TextState, shown_of}
 use Rattle.tree_order.proofs.Before.{has_order}
 use Rattle.tree_order.proofs.OneText.{one_each, shows_one_text}
 use Rattle.tree_order.proofs.SameSet.{before, says_the_same}
-use Rattle.set_laws.proofs.Ahead.{causes_kept_with_one}
+use Rattle.set_laws.proofs.Preceding.{causes_kept_with_one}
 use Rattle.set_laws.proofs.Covered.{same_by_fronts}
 use Rattle.taken_text.proofs.Spelling.{visible_are_shown}
 use Rattle.texts.proofs.OwnStep.{char_stays}
@@ -82,8 +82,8 @@ one_text_with t op is good known own =
 
 -- the order stays in what has grown
 pub grown_keeps_the_order : GrownTextsKeepTheOrder
-grown_keeps_the_order t u is is' within c d ahead =
-    (is'.chars.order.ahead c d).1 (before t.operations u.operations within c d ((is.chars.order.ahead c d).0 ahead))
+grown_keeps_the_order t u is is' within c d earlier =
+    (is'.chars.order.before c d).1 (before t.operations u.operations within c d ((is.chars.order.before c d).0 earlier))
 
 -- what the same operations tell is one text
 pub operations_tell : OperationsTellTheText

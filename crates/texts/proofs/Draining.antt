@@ -25,7 +25,7 @@ module _ {X : Type 0} where
   is_element (y ∷ ys) zero x is = (0, omega arith, same_Some y x is)
   is_element (y ∷ ys) (suc i) x is = let (j, lt, at) = is_element ys i x is in (suc j, omega arith, at)
 
-  -- a list is what stands ahead of a place, what stands there, and what stands behind it
+  -- a list is what stands before a place, what stands there, and what stands after it
   pub parted : (xs : List X) (i : ℕ) (x : X) → slice_get xs i ≡ Some x → xs ≡ take i xs ++ x ∷ drop (i + 1) xs
   parted [] i x is = absurd (none-some x is)
   parted (y ∷ ys) zero x is = ap (λ z. z ∷ ys) (same_Some y x is)
@@ -37,11 +37,11 @@ module _ {X : Type 0} where
 pub one_fewer : (room : List Operation) (i : ℕ) (op : Operation) → slice_get room i ≡ Some op
     → length (without room i) + 1 ≡ length room
 one_fewer room i op there =
-    let ahead = take i room in
-    let behind = drop (i + 1) room in
-    let whole : length room ≡ length ahead + length (op ∷ behind) =
-    ap (length {A = Operation}) (parted room i op there) ∙ length-append ahead (op ∷ behind) in
-    let rest : length (without room i) ≡ length ahead + length behind = length-append ahead behind in
+    let before = take i room in
+    let after = drop (i + 1) room in
+    let whole : length room ≡ length before + length (op ∷ after) =
+    ap (length {A = Operation}) (parted room i op there) ∙ length-append before (op ∷ after) in
+    let rest : length (without room i) ≡ length before + length after = length-append before after in
     omega (arith, whole, rest)
 
 -- what holds of all holds without one of them
@@ -52,7 +52,7 @@ all_without P room i all =
 -- the first to leave the room is the next one out
 pub next_out : (t : TextState) (i : ℕ) (op : Operation) → IsFirstToLeave t.operations t.waiting_room i
     → slice_get t.waiting_room i ≡ Some op → IsNextOut t (take i t.waiting_room) op (drop (i + 1) t.waiting_room)
-next_out t i op first there = record { room = parted t.waiting_room i op there; stay = first.ahead }
+next_out t i op first there = record { room = parted t.waiting_room i op there; stay = first.before }
 
 -- it is of this text, and doesn't stay
 pub is_leaving : (t : TextState) (i : ℕ) (op : Operation) → IsText t → IsFirstToLeave t.operations t.waiting_room i
@@ -115,29 +115,29 @@ module _ (t now : TextState) (drained dropped : ℕ) (leads : LeadsTo t drained 
     -- memory was refused
     pub stopped_here : (why : Refusal) → LeavesRoom now i (Err why) new → Drains t drained dropped true new
     stopped_here why (memory, (op, there, judged), same) =
-        let ahead = take i now.waiting_room in
-        let behind = drop (i + 1) now.waiting_room in
+        let before = take i now.waiting_room in
+        let after = drop (i + 1) now.waiting_room in
         subst (λ u. Drains t drained dropped true u) (sym same)
         (recount t now true (drained + 0) drained (dropped + 0) dropped (omega arith) (omega arith)
-        (leads 0 0 true now (stops ahead behind op (next_out now i op first there) judged)))
+        (leads 0 0 true now (stops before after op (next_out now i op first there) judged)))
 
     -- one more was taken in
     pub one_taken : LeavesRoom now i (Ok true) new → LeadsTo t (drained + 1) dropped new
     one_taken (op, there, judged, taken) n m stopped last drains =
-        let ahead = take i now.waiting_room in
-        let behind = drop (i + 1) now.waiting_room in
+        let before = take i now.waiting_room in
+        let after = drop (i + 1) now.waiting_room in
         recount t last stopped (drained + (n + 1)) (drained + 1 + n) (dropped + m) (dropped + m) (omega arith) refl
         (leads (n + 1) m stopped last
-        (takes_in ahead behind op (next_out now i op first there) judged taken drains))
+        (takes_in before after op (next_out now i op first there) judged taken drains))
 
     -- one more was thrown away
     pub one_thrown : LeavesRoom now i (Ok false) new → LeadsTo t drained (dropped + 1) new
     one_thrown (op, there, thrown, same) n m stopped last drains =
-        let ahead = take i now.waiting_room in
-        let behind = drop (i + 1) now.waiting_room in
+        let before = take i now.waiting_room in
+        let after = drop (i + 1) now.waiting_room in
         recount t last stopped (drained + n) (drained + n) (dropped + (m + 1)) (dropped + 1 + m) refl (omega arith)
         (leads n (m + 1) stopped last
-        (throws_away ahead behind op (next_out now i op first there) thrown
+        (throws_away before after op (next_out now i op first there) thrown
         (subst (λ u. Drains u n m stopped last) same drains)))
 
 -- one fewer waits where one left the room

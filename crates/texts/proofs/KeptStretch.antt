@@ -21,7 +21,7 @@ module _ (t : TextState) (beg end : ℕ) (is : IsText t) where
   pub names_stretch : NamesStretch t (names_shown t beg end) beg end
   names_stretch c = IsAmong-set_of (map (λ s. s.name) (slice_range (shown_of t) beg end)) c
 
-  -- an end ahead of beg makes a stretch as empty as that from beg to beg
+  -- an end before beg makes a stretch as empty as that from beg to beg
   picked : filter (is_named (names_shown t beg end)) (shown_of t) ≡ slice_range (shown_of t) beg end
   picked =
       let last : ℕ = beg + (end - beg) in

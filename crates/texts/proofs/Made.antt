@@ -113,8 +113,8 @@ pub has_names : (t : TextState) (names : List Range) (beg end : ℕ) → NamesSt
 has_names t names beg end stretch some within =
     let part = slice_range (shown_of t) beg end in
     let long : length (map (λ (s : Char). s.name) part) ≡ length part = length-map part (λ s. s.name) in
-    let behind : length (drop beg (shown_of t)) ≡ length (shown_of t) - beg = length-drop beg (shown_of t) in
-    let taken : length part ≡ end - beg = length-take-le (end - beg) (drop beg (shown_of t)) (omega (arith, behind, some, within)) in
+    let after : length (drop beg (shown_of t)) ≡ length (shown_of t) - beg = length-drop beg (shown_of t) in
+    let taken : length part ≡ end - beg = length-take-le (end - beg) (drop beg (shown_of t)) (omega (arith, after, some, within)) in
     let (c, there) = first_name (map (λ (s : Char). s.name) part) (omega (arith, long, taken, some)) in
     among_some names c ((stretch c).1 there)
 
@@ -169,8 +169,8 @@ pub stretch_long : (t : TextState) (beg end : ℕ) → end ≤ length (shown_of 
     → length (slice_range (shown_items t) beg end) ≡ end - beg
 stretch_long t beg end within =
     let all : length (shown_items t) ≡ length (shown_of t) = length-map (shown_of t) (λ c. (c.byte, c.looks)) in
-    let behind = length-drop beg (shown_items t) in
-    length-take-le (end - beg) (drop beg (shown_items t)) (omega (arith, all, behind, within))
+    let after = length-drop beg (shown_items t) in
+    length-take-le (end - beg) (drop beg (shown_items t)) (omega (arith, all, after, within))
 
 -- so long a stretch does a Delete of it keep
 pub keeps_so_much : (t : TextState) → IsText t → (beg end : ℕ) → end ≤ length (shown_of t)

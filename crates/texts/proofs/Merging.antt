@@ -12,7 +12,7 @@ use Rattle.std.proofs.lemmas.List.Sums.{count_by-le-length, length-filter}
 use Rattle.std.proofs.lemmas.Option.{get_or_from_slice_get, slice_get_read, slice_get_within}
 use Rattle.operations.specs.Operation.{Operation}
 use Rattle.set_laws.specs.Fronts.{front_of}
-use Rattle.set_laws.specs.Sets.{AreIdentified, HasCausesAhead, HasToTheFront, IsPartOf}
+use Rattle.set_laws.specs.Sets.{AreIdentified, HasCausesBefore, HasToTheFront, IsPartOf}
 use Rattle.set_laws.specs.Verdict.{IsNew, ready}
 use Rattle.texts.specs.Merge.{CanMerge, Merges, MergesShort, is_past_front, news}
 use Rattle.texts.specs.Taking.{HasTaken, HasTakenAll, IsJudged}
@@ -22,7 +22,7 @@ use Rattle.texts.specs.declared.merge_refusal.MergeRefusal.TheVariants.{Stopped}
 use Rattle.set_laws.proofs.Fronts.{has_to_the_front}
 use Rattle.set_laws.proofs.Freed.{ready_from_others}
 use Rattle.set_laws.proofs.Lengths.{part_identified}
-use Rattle.set_laws.proofs.Ahead.{first_part_within}
+use Rattle.set_laws.proofs.Preceding.{first_part_within}
 use Rattle.texts.proofs.News.{next_passes, next_fails, parts_filtered, news_of}
 use Rattle.texts.proofs.News.{held_or_new, held_with_news}
 
@@ -47,7 +47,7 @@ pub record CanTakeOver (start other : TextState) : Type 0 where
   pub is_other : IsText other
   pub can : CanMerge start other
   pub once : AllPairs (λ a b. a ≢ b) other.operations
-  pub ahead : HasCausesAhead other.operations
+  pub before : HasCausesBefore other.operations
 
 -- of the first i operations of the other text those that weren't held are taken over
 pub record IsTakenTo (start other : TextState) (i done : ℕ) (now : TextState) : Type 0 where
@@ -100,8 +100,8 @@ module _ {start other now : TextState} {i done : ℕ} (u : IsTakenTo start other
         | inr there ↦ Contains-append_right start.operations other.operations op there
         | inl here ↦ elim (Contains-append_cases start.operations first op (only_first op here)) [
           | inl held ↦ Contains-append_left start.operations other.operations op held
-          | inr ahead ↦
-              Contains-append_right start.operations other.operations op (first_part_within other.operations i op ahead)
+          | inr before ↦
+              Contains-append_right start.operations other.operations op (first_part_within other.operations i op before)
         ]
       ])
       can.identified
@@ -156,7 +156,7 @@ module _ {start other now : TextState} {i done : ℕ} (u : IsTakenTo start other
     held_at_start most =
         elim (Contains-append_cases start.operations first op (only_first op ((told_now op here).1 most))) [
           | inl held ↦ le-ltb _ _ ((told op here).0 held)
-          | inr ahead ↦ absurd (not_earlier ahead)
+          | inr before ↦ absurd (not_earlier before)
         ]
 
     one_new : front_of now.operations op.site < op.seq
@@ -192,7 +192,7 @@ module _ {start other now : TextState} {i done : ℕ} (u : IsTakenTo start other
           texts_are_one,
           new,
           ready_from_others now.operations other.operations op u.taken.is.good u.by.is_other.good known here new
-              (λ p there cause. first_held p (u.by.ahead i op p at there cause)),
+              (λ p there cause. first_held p (u.by.before i op p at there cause)),
         )
 
     -- and is taken in

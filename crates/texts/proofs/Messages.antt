@@ -26,18 +26,18 @@ all_offered P room op Same new (waits, same) all own = subst (All P) (sym same) 
 
 module _ (t : TextState) (op : Operation) where
   -- an operation that was refused a place in the room doesn't change the text
-  refused_a_place : (why : Refusal) (room : List Operation) → (¬ IsHeld t.waiting_room op.site op.seq)
+  refused_for_room : (why : Refusal) (room : List Operation) → (¬ IsHeld t.waiting_room op.site op.seq)
       → Offers t.waiting_room op (Err why) room
       → Enters t op (Err why) (with_room t room) ⊎ StaysOut t (Err why) (with_room t room)
-  refused_a_place Conflict room unheld ((other, waits, site, seq, differs), same) =
+  refused_for_room Conflict room unheld ((other, waits, site, seq, differs), same) =
       absurd (unheld (other, waits, site, seq))
-  refused_a_place RoomFull room unheld (none, full, same) =
+  refused_for_room RoomFull room unheld (none, full, same) =
       let no_place : nat_lt (length t.waiting_room) MAX_WAITING ≡ false = ap (λ n. nat_lt n MAX_WAITING) full in
       inl (subst (λ b. MatchBool b
       ((Err RoomFull ≡ Ok Waits) × (with_room t room ≡ with_room t (t.waiting_room ++ op ∷ [])))
       (Stays t (Err RoomFull) (Err RoomFull) (with_room t room))) (sym no_place) (refl, ap (with_room t) same))
-  refused_a_place OutOfMemory room unheld (place, same) = inr (place.1, (refl, ap (with_room t) same))
-  refused_a_place why room unheld other = absurd other
+  refused_for_room OutOfMemory room unheld (place, same) = inr (place.1, (refl, ap (with_room t) same))
+  refused_for_room why room unheld other = absurd other
 
   -- and is answered so
   pub kept_out : (result : Result Took Refusal) (why : Refusal) (room : List Operation)
@@ -47,9 +47,9 @@ module _ (t : TextState) (op : Operation) where
   kept_out (Ok took) why room err unheld offers = absurd err
   kept_out (Err e) why room err unheld offers =
       subst (λ x. Enters t op (Err x) (with_room t room) ⊎ StaysOut t (Err x) (with_room t room))
-      (sym err) (refused_a_place why room unheld offers)
+      (sym err) (refused_for_room why room unheld offers)
 
--- an operation was taken in, and the room drained behind it, as far as that goes
+-- an operation was taken in, and the room drained after it, as far as that goes
 pub taken_and_drained : (t with_op : TextState) (op : Operation) (drained dropped : ℕ) (stopped : Bool)
     (new : TextState) → HasTaken t op with_op → Drains with_op drained dropped stopped new
     → TakesIn t op false (Ok (Taken drained dropped stopped)) new

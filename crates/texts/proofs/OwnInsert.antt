@@ -1,4 +1,4 @@
--- An own Insert is the latest of all, and so stands directly behind its cause.
+-- An own Insert is the latest of all, and so stands directly after its cause.
 use Rattle.std.proofs.Common.{◌≡◌, ℕ, ◌<◌, ◌≤◌, inl, inr, Bool}
 use Rattle.std.proofs.Common.{List, [], ◌∷◌, ◌++◌, length, take, drop, map, refl, sym, subst, ◌∙◌}
 use Rattle.std.proofs.Common.{arith}
@@ -13,7 +13,7 @@ use Rattle.char_files.specs.CharName.{CharName}
 use Rattle.char_files.specs.declared.character.Char.{Char}
 use Rattle.char_files.specs.declared.name.Anchor.{Anchor}
 use Rattle.operations.specs.Operation.{Operation, Inserts, insert}
-use Rattle.tree_order.specs.Insertion.{IsJustBehind, run_of}
+use Rattle.tree_order.specs.Insertion.{IsJustAfter, run_of}
 use Rattle.tree_order.specs.Looks.{HasLooks, Sets}
 use Rattle.tree_order.specs.Order.{IsOrder}
 use Rattle.tree_order.specs.RegisterLaws.{first_atom}
@@ -26,12 +26,12 @@ use Rattle.texts.specs.Laws.{OwnInsertIsPlain, shown_with_run}
 use Rattle.texts.specs.Order.{chars_of, count_to, put}
 use Rattle.texts.specs.Text.{IsAnchor, IsText}
 use Rattle.texts.specs.TextState.{TextState, shown_of}
-use Rattle.tree_order.proofs.Latest.{behind_cause}
+use Rattle.tree_order.proofs.Latest.{after_cause}
 use Rattle.tree_order.proofs.OneText.{shows_one_text}
 use Rattle.tree_order.proofs.PlaceOfShown.{plain_edit}
 use Rattle.tree_order.proofs.RegisterLists.{offers_its_values}
 use Rattle.tree_order.proofs.RegistersTell.{tell}
-use Rattle.texts.proofs.Causes.{anchor_is_behind, ends_at, old_if_behind, old_if_mentioned}
+use Rattle.texts.proofs.Causes.{anchor_is_after, ends_at, old_if_after, old_if_mentioned}
 use Rattle.texts.proofs.Chars.{shown_are_chars, shows_the_definition}
 use Rattle.texts.proofs.OwnStep.{byte_stays, looks_stay, own_step, IsOwnStep}
 use Rattle.texts.proofs.RunChars.{names_in_run, names_of_chars, run_is_chars}
@@ -68,24 +68,24 @@ module _ (t : TextState) (pos : ℕ) (looks : Looks) (bytes : List ℕ) (is : Is
   run = chars_of t.site at looks bytes
 
   -- the cause is the root or a character
-  behind : IsJustBehind (map (λ s. s.name) (shown_of t)) cause pos
-  behind = anchor_is_behind (shown_of t) pos in_text
+  after : IsJustAfter (map (λ s. s.name) (shown_of t)) cause pos
+  after = anchor_is_after (shown_of t) pos in_text
 
   old : IsAnchor ops cause
-  old = old_if_behind ops (map (λ (s : Char). s.name) (shown_of t)) cause pos (shown_are_chars t is) behind
+  old = old_if_after ops (map (λ (s : Char). s.name) (shown_of t)) cause pos (shown_are_chars t is) after
 
   -- so the Insert is ready
   step : IsOwnStep t own
   step = own_step t (insert cause at looks bytes) is refl (old_if_mentioned ops cause at looks bytes old)
 
-  -- its run stands directly behind its cause
+  -- its run stands directly after its cause
   order : IsOrder with_own (map (λ c. c.name) (put t.order (count_to t.order cause) run))
   order =
       let names : List CharName = map (λ (c : Char). c.name) t.order in
       let k = count_to t.order cause in
       let parts : IsOrder ops (take k names ++ drop k names) =
       subst (IsOrder ops) (sym (take-append-drop k names)) is.chars.order in
-      let put_in = behind_cause ops own cause (take k names) (drop k names) step.one step.latest refl parts
+      let put_in = after_cause ops own cause (take k names) (drop k names) step.one step.latest refl parts
       (ends_at ops t.order cause is.chars.order old) in
       subst (IsOrder with_own)
       (sym (names_of_put t.order run k (run_of own) (names_of_chars t.site looks at bytes))) put_in
@@ -139,7 +139,7 @@ module _ (t : TextState) (pos : ℕ) (looks : Looks) (bytes : List ℕ) (is : Is
   shown : shown_of (with_operation t own) ≡ shown_with_run t pos looks bytes
   shown =
       let was = shows_the_definition t is in
-      let plain = plain_edit ops own cause (shown_of t) pos step.one step.latest refl was behind in
+      let plain = plain_edit ops own cause (shown_of t) pos step.one step.latest refl was after in
       let is_plain : IsShown with_own (put (shown_of t) pos run) = subst
       (λ (chars : List Char). IsShown with_own (put (shown_of t) pos chars))
       (run_is_chars t.site looks cause at bytes) plain in

@@ -1,4 +1,4 @@
--- The Inserts of pieces, one behind the other, are one insertion of their characters.
+-- The Inserts of pieces, one after the other, are one insertion of their characters.
 use Rattle.std.proofs.Common.{◌≡◌, ℕ, zero, suc, ◌+◌, ◌≤◌, List, [], ◌∷◌, ◌++◌, length, take, refl, sym, ap, ◌∙◌}
 use Rattle.std.proofs.Common.{arith}
 use Rattle.std.specs.Prelude.{◌==◌}
@@ -15,14 +15,14 @@ use Rattle.texts.specs.Text.{IsText}
 use Rattle.texts.specs.TextState.{TextState, shown_of}
 use Rattle.set_laws.proofs.Counting.{counted_on}
 use Rattle.texts.proofs.OwnInsert.{insert_is_plain}
-use Rattle.texts.proofs.RunsPut.{chars_from_run, items_of_pieces, length-chars_of, length-put, put_behind, put_none}
+use Rattle.texts.proofs.RunsPut.{chars_from_run, items_of_pieces, length-chars_of, length-put, put_after, put_none}
 
 -- this text shows what another one did, with characters put in
 pub record ShowsWith (t : TextState) (pos : ℕ) (items : List Item) (u : TextState) : Type 0 where
   pub text : IsText u
   pub shown : shown_of u ≡ shown_with t pos items
 
--- one piece, and what was put in behind it
+-- one piece, and what was put in after it
 module _ (t : TextState) (pos : ℕ) (p : Stretch) (is : IsText t) (in_text : pos ≤ length (shown_of t)) where
   abbrev own : Operation
   own = own_insert t pos p.looks p.bytes
@@ -56,8 +56,8 @@ module _ (t : TextState) (pos : ℕ) (p : Stretch) (is : IsText t) (in_text : po
   pub with_first : (more : List Item) (u : TextState) → ShowsWith new (pos + length p.bytes) more u
       → ShowsWith t pos (items_of_run p ++ more) u
   with_first more u shows = record { text = shows.text; shown = is_shown } where
-    behind : ℕ → List Char
-    behind from = chars_from t.site from more
+    later : ℕ → List Char
+    later from = chars_from t.site from more
 
     was : List Char
     was = put (shown_of t) pos run
@@ -65,10 +65,10 @@ module _ (t : TextState) (pos : ℕ) (p : Stretch) (is : IsText t) (in_text : po
     is_shown : shown_of u ≡ shown_with t pos (items_of_run p ++ more)
     is_shown =
         shows.shown
-        ∙ ap (λ (xs : List Char). put xs (pos + length p.bytes) (behind (file_len new.operations t.site))) plain.shown
-        ∙ ap (λ (n : ℕ). put was (pos + length p.bytes) (behind n)) file_grows
-        ∙ ap (λ (n : ℕ). put was (pos + n) (behind (at + length p.bytes))) (sym long)
-        ∙ put_behind (shown_of t) pos run (behind (at + length p.bytes)) in_text
+        ∙ ap (λ (xs : List Char). put xs (pos + length p.bytes) (later (file_len new.operations t.site))) plain.shown
+        ∙ ap (λ (n : ℕ). put was (pos + length p.bytes) (later n)) file_grows
+        ∙ ap (λ (n : ℕ). put was (pos + n) (later (at + length p.bytes))) (sym long)
+        ∙ put_after (shown_of t) pos run (later (at + length p.bytes)) in_text
         ∙ ap (put (shown_of t) pos) (sym (chars_from_run t.site at p.looks p.bytes more))
 
 -- the first pieces of several

@@ -22,9 +22,9 @@ use Rattle.texts.specs.Edit.{own_op, set_after, with_operation}
 use Rattle.texts.specs.Order.{order_after}
 use Rattle.texts.specs.Text.{AreCharNames, IsText}
 use Rattle.texts.specs.TextState.{TextState}
-use Rattle.set_laws.proofs.Ahead.{causes_kept_with_one}
+use Rattle.set_laws.proofs.Preceding.{causes_kept_with_one}
 use Rattle.set_laws.proofs.Counting.{own_next_ready, told_by_counts}
-use Rattle.set_laws.proofs.Fronts.{are_held_to_the_front}
+use Rattle.set_laws.proofs.Fronts.{lemma_are_held_to_the_front}
 use Rattle.set_laws.proofs.ByVerdict.{grows_by_verdict}
 
 -- the operation may be taken in, is the latest, and leaves a text where its characters are those defined
@@ -72,7 +72,7 @@ module _ (t : TextState) (kind : OpKind) (is : IsText t)
   new = record {
     counted = omega arith;
     unheld = λ held.
-        let up = ((are_held_to_the_front ops is.good is.identified t.site (front_of ops t.site + 1)).0 held).1 in
+        let up = ((lemma_are_held_to_the_front ops is.good is.identified t.site (front_of ops t.site + 1)).0 held).1 in
         omega arith;
   }
 

@@ -75,48 +75,48 @@ module _ (shown : List Char) (names : List Range) (beg end : ℕ) (rising : beg 
   abbrev names_of : List Char → List CharName
   names_of xs = map (λ s. s.name) xs
 
-  abbrev ahead : List Char
-  ahead = take beg shown
+  abbrev before : List Char
+  before = take beg shown
 
   abbrev stretch : List Char
   stretch = slice_range shown beg end
 
-  abbrev behind : List Char
-  behind = drop end shown
+  abbrev after : List Char
+  after = drop end shown
 
-  parts : shown ≡ ahead ++ (stretch ++ behind)
+  parts : shown ≡ before ++ (stretch ++ after)
   parts =
       let on : beg + (end - beg) ≡ end = omega arith in
-      let rest : drop beg shown ≡ stretch ++ behind =
+      let rest : drop beg shown ≡ stretch ++ after =
       sym (take-append-drop (end - beg) (drop beg shown))
       ∙ ap (λ (xs : List Char). stretch ++ xs)
       (drop-drop (end - beg) beg shown ∙ ap (λ (k : ℕ). drop k shown) on) in
-      sym (take-append-drop beg shown) ∙ ap (λ (xs : List Char). ahead ++ xs) rest
+      sym (take-append-drop beg shown) ∙ ap (λ (xs : List Char). before ++ xs) rest
 
-  apart : AllPairs (λ a b. a ≢ b) (names_of ahead ++ (names_of stretch ++ names_of behind))
+  apart : AllPairs (λ a b. a ≢ b) (names_of before ++ (names_of stretch ++ names_of after))
   apart =
-      let same : names_of shown ≡ names_of ahead ++ (names_of stretch ++ names_of behind) =
-      ap names_of parts ∙ map-append (λ (s : Char). s.name) ahead (stretch ++ behind)
-      ∙ ap (λ (xs : List CharName). names_of ahead ++ xs) (map-append (λ (s : Char). s.name) stretch behind) in
+      let same : names_of shown ≡ names_of before ++ (names_of stretch ++ names_of after) =
+      ap names_of parts ∙ map-append (λ (s : Char). s.name) before (stretch ++ after)
+      ∙ ap (λ (xs : List CharName). names_of before ++ xs) (map-append (λ (s : Char). s.name) stretch after) in
       subst (λ (xs : List CharName). AllPairs (λ a b. a ≢ b) xs) same once
 
   in_stretch : (c : Char) → is_named names c ≡ true → Contains (names_of stretch) c.name
   in_stretch c named = (exact c.name).0 ((named_is names c).0 named)
 
-  unnamed_ahead : (c : Char) → Contains ahead c → is_named names c ≡ false
-  unnamed_ahead c here = false_from_ne_true (is_named names c) (λ named.
-      apart_across (names_of ahead) (names_of stretch ++ names_of behind) apart c.name (has_name ahead c here)
-      (Contains-append_left (names_of stretch) (names_of behind) c.name (in_stretch c named)))
+  unnamed_before : (c : Char) → Contains before c → is_named names c ≡ false
+  unnamed_before c here = false_from_ne_true (is_named names c) (λ named.
+      apart_across (names_of before) (names_of stretch ++ names_of after) apart c.name (has_name before c here)
+      (Contains-append_left (names_of stretch) (names_of after) c.name (in_stretch c named)))
 
-  unnamed_behind : (c : Char) → Contains behind c → is_named names c ≡ false
-  unnamed_behind c here =
-      let apart' : AllPairs (λ a b. a ≢ b) ((names_of ahead ++ names_of stretch) ++ names_of behind) =
+  unnamed_after : (c : Char) → Contains after c → is_named names c ≡ false
+  unnamed_after c here =
+      let apart' : AllPairs (λ a b. a ≢ b) ((names_of before ++ names_of stretch) ++ names_of after) =
       subst (λ (xs : List CharName). AllPairs (λ a b. a ≢ b) xs)
-      (sym (append_assoc (names_of ahead) (names_of stretch) (names_of behind))) apart in
+      (sym (append_assoc (names_of before) (names_of stretch) (names_of after))) apart in
       false_from_ne_true (is_named names c) (λ named.
-      apart_across (names_of ahead ++ names_of stretch) (names_of behind) apart' c.name
-      (Contains-append_right (names_of ahead) (names_of stretch) c.name (in_stretch c named))
-      (has_name behind c here))
+      apart_across (names_of before ++ names_of stretch) (names_of after) apart' c.name
+      (Contains-append_right (names_of before) (names_of stretch) c.name (in_stretch c named))
+      (has_name after c here))
 
   named_there : (c : Char) → Contains stretch c → is_named names c ≡ true
   named_there c here = (named_is names c).1 ((exact c.name).1 (has_name stretch c here))
@@ -124,25 +124,25 @@ module _ (shown : List Char) (names : List Range) (beg end : ℕ) (rising : beg 
   pub is_cut : filter (λ c. not (is_named names c)) shown ≡ cut shown beg end
   is_cut =
       let p : Char → Bool = λ c. not (is_named names c) in
-      ap (filter p) parts ∙ filter-append p ahead (stretch ++ behind)
-      ∙ ap (λ (xs : List Char). xs ++ filter p (stretch ++ behind))
-      (filter_keeps p ahead (each ahead (λ c. p c ≡ true) (λ c here. ap not (unnamed_ahead c here))))
-      ∙ ap (λ (xs : List Char). ahead ++ xs) (filter-append p stretch behind
-      ∙ ap (λ (xs : List Char). xs ++ filter p behind)
+      ap (filter p) parts ∙ filter-append p before (stretch ++ after)
+      ∙ ap (λ (xs : List Char). xs ++ filter p (stretch ++ after))
+      (filter_keeps p before (each before (λ c. p c ≡ true) (λ c here. ap not (unnamed_before c here))))
+      ∙ ap (λ (xs : List Char). before ++ xs) (filter-append p stretch after
+      ∙ ap (λ (xs : List Char). xs ++ filter p after)
       (filter_drops p stretch (each stretch (λ c. p c ≡ false) (λ c here. ap not (named_there c here))))
-      ∙ filter_keeps p behind (each behind (λ c. p c ≡ true) (λ c here. ap not (unnamed_behind c here))))
+      ∙ filter_keeps p after (each after (λ c. p c ≡ true) (λ c here. ap not (unnamed_after c here))))
 
   pub is_picked : filter (is_named names) shown ≡ stretch
   is_picked =
       let p : Char → Bool = is_named names in
-      ap (filter p) parts ∙ filter-append p ahead (stretch ++ behind)
-      ∙ ap (λ (xs : List Char). xs ++ filter p (stretch ++ behind))
-      (filter_drops p ahead (each ahead (λ c. p c ≡ false) unnamed_ahead))
-      ∙ (filter-append p stretch behind
-      ∙ ap (λ (xs : List Char). xs ++ filter p behind)
+      ap (filter p) parts ∙ filter-append p before (stretch ++ after)
+      ∙ ap (λ (xs : List Char). xs ++ filter p (stretch ++ after))
+      (filter_drops p before (each before (λ c. p c ≡ false) unnamed_before))
+      ∙ (filter-append p stretch after
+      ∙ ap (λ (xs : List Char). xs ++ filter p after)
       (filter_keeps p stretch (each stretch (λ c. p c ≡ true) named_there))
       ∙ ap (λ (xs : List Char). stretch ++ xs)
-      (filter_drops p behind (each behind (λ c. p c ≡ false) unnamed_behind))
+      (filter_drops p after (each after (λ c. p c ≡ false) unnamed_after))
       ∙ append-nil stretch)
 
   pub is_dressed : (sel : Selection) (looks : Looks)
@@ -152,15 +152,15 @@ module _ (shown : List Char) (names : List Range) (beg end : ℕ) (rising : beg 
       let g : Char → Char = dressed sel looks in
       let by : (c : Char) (b : Bool) → is_named names c ≡ b → f c ≡ (if b then g c else c) =
       λ c b e. ap (λ (b : Bool). if b then g c else c) e in
-      ap (map f) parts ∙ map-append f ahead (stretch ++ behind)
-      ∙ ap (λ (xs : List Char). xs ++ map f (stretch ++ behind))
-      (map_keeps f ahead (each ahead (λ c. f c ≡ c) (λ c here. by c false (unnamed_ahead c here))))
-      ∙ ap (λ (xs : List Char). ahead ++ xs) (map-append f stretch behind
-      ∙ ap (λ (xs : List Char). xs ++ map f behind)
+      ap (map f) parts ∙ map-append f before (stretch ++ after)
+      ∙ ap (λ (xs : List Char). xs ++ map f (stretch ++ after))
+      (map_keeps f before (each before (λ c. f c ≡ c) (λ c here. by c false (unnamed_before c here))))
+      ∙ ap (λ (xs : List Char). before ++ xs) (map-append f stretch after
+      ∙ ap (λ (xs : List Char). xs ++ map f after)
       (map_agrees f g stretch (each stretch (λ c. f c ≡ g c) (λ c here. by c true (named_there c here))))
       ∙ ap (λ (xs : List Char). map g stretch ++ xs)
-      (map_keeps f behind (each behind (λ c. f c ≡ c) (λ c here. by c false (unnamed_behind c here)))))
-      ∙ sym (append_assoc ahead (map g stretch) behind)
+      (map_keeps f after (each after (λ c. f c ≡ c) (λ c here. by c false (unnamed_after c here)))))
+      ∙ sym (append_assoc before (map g stretch) after)
 
 -- what is shown has each name once
 pub names_differ : (t : TextState) → IsText t → AllPairs (λ a b. a ≢ b) (map (λ s. s.name) (shown_of t))

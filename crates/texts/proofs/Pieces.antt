@@ -70,7 +70,7 @@ last_piece r runs read some few =
     (only_one (drop read r.bytes) (omega (arith, long, some)) few)
     ∙ ap (λ (ps : List Stretch). piece r (drop read r.bytes) ∷ ps) (sym (all_left runs))
 
--- a piece of a run that goes on behind it
+-- a piece of a run that goes on after it
 pub full_piece : (r : Stretch) (runs : List Stretch) (read : ℕ) → MAX_INSERT < length (drop read r.bytes)
     → pieces_left (r ∷ runs) read
     ≡ piece r (take MAX_INSERT (drop read r.bytes)) ∷ pieces_left (r ∷ runs) (read + MAX_INSERT)
@@ -120,7 +120,7 @@ count_pieces (r ∷ runs) =
     omega (arith, pieces, items, of_parts, of_items, count_parts [] r.bytes, count_pieces runs)
 
 -- what a reader of runs gives: all that is left of a run, or the next piece of it
-module _ (runs : List Stretch) (read : ℕ) (r : Stretch) (behind : List Stretch) (first : runs ≡ r ∷ behind)
+module _ (runs : List Stretch) (read : ℕ) (r : Stretch) (after : List Stretch) (first : runs ≡ r ∷ after)
     (looks : Looks) (bytes : List ℕ) (same_looks : looks ≡ r.looks) where
   abbrev gives : Stretch
   gives = record { looks = looks; bytes = bytes }
@@ -131,18 +131,18 @@ module _ (runs : List Stretch) (read : ℕ) (r : Stretch) (behind : List Stretch
       ∙ ap (λ (bs : List ℕ). record { looks = looks; bytes = bs }) (sym same)
 
   pub reads_last : AreUnread runs read → bytes ≡ drop read r.bytes → length bytes ≤ MAX_INSERT
-      → pieces_left runs read ≡ gives ∷ pieces_left behind 0
+      → pieces_left runs read ≡ gives ∷ pieces_left after 0
   reads_last unread same few =
-      let at : AreUnread (r ∷ behind) read = subst (λ (rs : List Stretch). AreUnread rs read) first unread in
+      let at : AreUnread (r ∷ after) read = subst (λ (rs : List Stretch). AreUnread rs read) first unread in
       ap (λ (rs : List Stretch). pieces_left rs read) first
-      ∙ last_piece r behind read at.0 (omega (arith, few, ap (length {A = ℕ}) same))
-      ∙ ap (λ (p : Stretch). p ∷ pieces_left behind 0) (is_piece (drop read r.bytes) same)
+      ∙ last_piece r after read at.0 (omega (arith, few, ap (length {A = ℕ}) same))
+      ∙ ap (λ (p : Stretch). p ∷ pieces_left after 0) (is_piece (drop read r.bytes) same)
 
   pub reads_part : MAX_INSERT < length (drop read r.bytes) → bytes ≡ take MAX_INSERT (drop read r.bytes)
       → pieces_left runs read ≡ gives ∷ pieces_left runs (read + MAX_INSERT)
   reads_part many same =
       ap (λ (rs : List Stretch). pieces_left rs read) first
-      ∙ full_piece r behind read many
-      ∙ ap (λ (p : Stretch). p ∷ pieces_left (r ∷ behind) (read + MAX_INSERT))
+      ∙ full_piece r after read many
+      ∙ ap (λ (p : Stretch). p ∷ pieces_left (r ∷ after) (read + MAX_INSERT))
       (is_piece (take MAX_INSERT (drop read r.bytes)) same)
       ∙ ap (λ (rs : List Stretch). gives ∷ pieces_left rs (read + MAX_INSERT)) (sym first)

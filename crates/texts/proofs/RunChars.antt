@@ -39,10 +39,10 @@ module _ (site : ℕ) (looks : Looks) where
         let more : drop k all ≡ get_or all k 0 ∷ drop (k + 1) all = drop_more all k 0 within in
         let same : off - at ≡ k = omega arith in
         let byte : slice_index all (off - at) ≡ b = ap (slice_index all) same ∙ cc in
-        let behind : drop (k + 1) all ≡ bytes = cc in
+        let after : drop (k + 1) all ≡ bytes = cc in
         let by : CharName → Char = char_by (insert cause at looks all) in
         let first : by (record { site = site; off = off }) ≡ made off b = ap (λ (n : ℕ). made off n) byte in
-        let others = chars_from (k + 1) (off + 1) bytes (omega arith) behind in
+        let others = chars_from (k + 1) (off + 1) bytes (omega arith) after in
         ap (λ (c : Char). c ∷ map by (names_from (off + 1) (length bytes))) first
         ∙ ap (λ (cs : List Char). made off b ∷ cs) others
 

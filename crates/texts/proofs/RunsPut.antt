@@ -1,4 +1,4 @@
--- The pieces of a stretch have its characters, and runs that are put in one behind the other are one run.
+-- The pieces of a stretch have its characters, and runs that are put in one after the other are one run.
 use Rattle.std.proofs.Common.{◌≡◌, ℕ, suc, ◌+◌, ◌≤◌, Bool, true, false, cond, List, [], ◌∷◌, ◌++◌, length}
 use Rattle.std.proofs.Common.{take, drop, map, refl, sym, ap, ◌∙◌, append_assoc, append-nil, arith}
 use Rattle.std.specs.List.{flat_map}
@@ -55,7 +55,7 @@ items_of_all_parts (r ∷ runs) =
 pub items_of_pieces : (items : List Item) → items_of (pieces_of items) ≡ items
 items_of_pieces items = items_of_all_parts (maximal_runs items) ∙ maximal_items items
 
--- ---- characters of runs, one behind the other in the site's file
+-- ---- characters of runs, one after the other in the site's file
 
 pub length-chars_of : (site at : ℕ) (looks : Looks) (bytes : List ℕ)
     → length (chars_of site at looks bytes) ≡ length bytes
@@ -91,9 +91,9 @@ length-put xs pos run within =
     omega arith
 
 -- what is put at the end of what was put
-pub put_behind : (xs : List Char) (pos : ℕ) (run more : List Char) → pos ≤ length xs
+pub put_after : (xs : List Char) (pos : ℕ) (run more : List Char) → pos ≤ length xs
     → put (put xs pos run) (pos + length run) more ≡ put xs pos (run ++ more)
-put_behind xs pos run more within =
+put_after xs pos run more within =
     let front : List Char = take pos xs in
     let back : List Char = drop pos xs in
     let long : length (front ++ run) ≡ pos + length run =

@@ -13,7 +13,7 @@ use Rattle.operations.specs.Spelling.{spelling}
 use Rattle.texts.specs.Edit.{Edit, after, plan, with_operation}
 use Rattle.texts.specs.Outcome.{EditsSending, TakesMemory, count_standing, first_refusal}
 use Rattle.texts.specs.Outcome.{refusal_for, refusal_or}
-use Rattle.texts.specs.Own.{SendsOne, answer_of_one, refused_behind}
+use Rattle.texts.specs.Own.{SendsOne, answer_of_one, refused_after}
 use Rattle.texts.specs.Text.{IsText}
 use Rattle.texts.specs.TextState.{TextState, shown_of}
 use Rattle.texts.specs.Edit.{is_in_text}
@@ -23,7 +23,7 @@ use Rattle.texts.proofs.OwnParts.{edits_are_plain}
 abbrev Stop : Type 0
 Stop = Option (ℕ × Refusal)
 
--- what stops operations that come behind so many others
+-- what stops operations that come after so many others
 abbrev pub later : ℕ → Stop → Stop
 later n stop = option_map (λ s. (s.0 + n, s.1)) stop
 
@@ -182,7 +182,7 @@ module _ (t : TextState) (e : Edit) (is : IsText t) (in_text : IsTrue (is_in_tex
     pub refused : (n : ℕ) (op : Operation) (rest : List Operation) (why : Refusal) (now new : TextState)
         (sent sent' sent'' : List (List ℕ)) → IsUnderWay t (plan t e) (op ∷ rest) n now sent sent'
         → (refusal_for now op.kind ≡ Some Scattered → n ≡ 0) → SendsOne now op (Err why) new sent' sent''
-        → EditsSending t e (Err (refused_behind n why)) new sent sent''
+        → EditsSending t e (Err (refused_after n why)) new sent sent''
     refused zero op rest why now new sent sent' sent'' u first (whynot, same, none) =
         let here = stand t (plan t e) 0 now sent sent' (op ∷ rest) u in
         stopped_whole why new sent sent'' (same ∙ here.0) (none ∙ here.1 ∙ append-nil sent) (elim whynot [

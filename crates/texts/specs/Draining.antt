@@ -14,10 +14,10 @@ use Rattle.texts.specs.TextState.{TextState, with_room}
 abbrev pub AllStay : TextState → Type 0
 AllStay t = All (StaysWaiting t.operations) t.waiting_room
 
--- these wait ahead of the operation, and stay; and those behind it
-pub record IsNextOut (t : TextState) (ahead : List Operation) (op : Operation) (behind : List Operation) : Type 0 where
-  pub room : t.waiting_room ≡ ahead ++ op ∷ behind
-  pub stay : All (StaysWaiting t.operations) ahead
+-- these wait before the operation, and stay; and those after it
+pub record IsNextOut (t : TextState) (before : List Operation) (op : Operation) (after : List Operation) : Type 0 where
+  pub room : t.waiting_room ≡ before ++ op ∷ after
+  pub stay : All (StaysWaiting t.operations) before
 
 -- the operation's identity is held, or it is refused
 abbrev pub IsThrownAway : TextState → Operation → Type 0
@@ -29,15 +29,15 @@ IsThrownAway t op =
 -- Where memory is refused, that operation stays, and the draining is stopped.
 pub data Drains : TextState → (drained dropped : ℕ) → (stopped : Bool) → TextState → Type 0 where
   ends : {t : TextState} → AllStay t → Drains t 0 0 false t
-  stops : {t : TextState} (ahead behind : List Operation) (op : Operation) → IsNextOut t ahead op behind
+  stops : {t : TextState} (before after : List Operation) (op : Operation) → IsNextOut t before op after
       → IsJudged t op ready → Drains t 0 0 true t
-  takes_in : {t with_op new : TextState} {drained dropped : ℕ} {stopped : Bool} (ahead behind : List Operation)
-      (op : Operation) → IsNextOut t ahead op behind → IsJudged t op ready
-      → HasTaken (with_room t (ahead ++ behind)) op with_op → Drains with_op drained dropped stopped new
+  takes_in : {t with_op new : TextState} {drained dropped : ℕ} {stopped : Bool} (before after : List Operation)
+      (op : Operation) → IsNextOut t before op after → IsJudged t op ready
+      → HasTaken (with_room t (before ++ after)) op with_op → Drains with_op drained dropped stopped new
       → Drains t (drained + 1) dropped stopped new
-  throws_away : {t new : TextState} {drained dropped : ℕ} {stopped : Bool} (ahead behind : List Operation)
-      (op : Operation) → IsNextOut t ahead op behind → IsThrownAway t op
-      → Drains (with_room t (ahead ++ behind)) drained dropped stopped new
+  throws_away : {t new : TextState} {drained dropped : ℕ} {stopped : Bool} (before after : List Operation)
+      (op : Operation) → IsNextOut t before op after → IsThrownAway t op
+      → Drains (with_room t (before ++ after)) drained dropped stopped new
       → Drains t drained (dropped + 1) stopped new
 
 -- the operation at this index can be taken in, or is to be thrown away

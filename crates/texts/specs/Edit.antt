@@ -19,7 +19,7 @@ use Rattle.tree_order.specs.Shown.{is_visible}
 use Rattle.texts.specs.Order.{chars_from, cut, dress, is_named, order_after, put, with_selected}
 use Rattle.texts.specs.TextState.{TextState, shown_of}
 
--- What an edit asks: to put characters behind the first pos shown; to take those from beg to end out of what is
+-- What an edit asks: to put characters after the first pos shown; to take those from beg to end out of what is
 -- shown, or to give them looks; to show again those that were deleted last, or to put them in anew, as a copy.
 pub data Edit : Type 0 where
   insertion : (pos : ℕ) (items : List Item) → Edit
@@ -40,7 +40,7 @@ is_in_text t (looks_change beg end sel looks) = is_range_in t beg end
 is_in_text t restoration = true
 is_in_text t (recalling pos) = nat_le pos (length (shown_of t))
 
--- what a character hangs on that is typed behind the first pos characters shown: the last of them, or the
+-- what a character hangs on that is typed after the first pos characters shown: the last of them, or the
 -- root
 abbrev pub anchor_before : List Char → ℕ → Anchor
 anchor_before shown pos =
@@ -56,7 +56,7 @@ own_op t kind = record {
   kind = kind;
 }
 
--- the Insert of a run behind the first pos characters shown
+-- the Insert of a run after the first pos characters shown
 abbrev pub own_insert : TextState → ℕ → Looks → List ℕ → Operation
 own_insert t pos looks bytes =
     own_op t (insert (anchor_before (shown_of t) pos) (file_len t.operations t.site) looks bytes)
@@ -97,7 +97,7 @@ abbrev pub after : TextState → List Operation → TextState
 after t [] = t
 after t (op ∷ ops) = after (with_operation t op) ops
 
--- bytes behind those of a part, cut behind each 4,096
+-- bytes after those of a part, cut after each 4,096
 abbrev pub parts_from : (part bytes : List ℕ) → List (List ℕ)
 parts_from [] [] = []
 parts_from (p ∷ part) [] = (p ∷ part) ∷ []
@@ -108,12 +108,12 @@ parts_from part (b ∷ bytes) =
 abbrev pub parts_of : Stretch → List Stretch
 parts_of r = map (λ part. record { looks = r.looks; bytes = part }) (parts_from [] r.bytes)
 
--- the pieces of a stretch that are inserted one by one: cut where the looks change, and behind each 4,096
+-- the pieces of a stretch that are inserted one by one: cut where the looks change, and after each 4,096
 -- bytes of equal looks
 abbrev pub pieces_of : List Item → List Stretch
 pieces_of items = flat_map parts_of (maximal_runs items)
 
--- the Inserts of pieces: the first one behind the first pos characters shown, each other one behind the piece
+-- the Inserts of pieces: the first one after the first pos characters shown, each other one after the piece
 -- before it
 abbrev pub inserts : TextState → ℕ → List Stretch → List Operation
 inserts t pos [] = []
@@ -138,7 +138,7 @@ plan t (looks_change beg end sel looks) =
 plan t restoration = if is_restored t then [] else own_op t (restore t.last_set) ∷ []
 plan t (recalling pos) = inserts t pos (pieces_of t.last_stretch)
 
--- what is shown with these characters of the site's behind the first pos
+-- what is shown with these characters of the site's after the first pos
 abbrev pub shown_with : TextState → ℕ → List Item → List Char
 shown_with t pos items = put (shown_of t) pos (chars_from t.site (file_len t.operations t.site) items)
 

@@ -10,7 +10,7 @@ use Rattle.operations.specs.Operation.{Operation, OpKind, delete, restore, chang
 use Rattle.list_changes.specs.Changes.{Leads}
 use Rattle.list_changes.specs.declared.change.Change.{Change}
 use Rattle.tree_order.specs.Laws.{AreSameSet}
-use Rattle.tree_order.specs.Order.{IsAheadIn}
+use Rattle.tree_order.specs.Order.{IsBeforeIn}
 use Rattle.tree_order.specs.Shown.{IsShown, is_visible}
 use Rattle.set_laws.specs.Sets.{AreIdentified, HaveEqualFronts, IsPartOf}
 use Rattle.set_laws.specs.Verdict.{HasVerdict, IsNew, ready}
@@ -40,14 +40,14 @@ OperationsTellTheText = (t u : TextState) → IsText t → IsText u → AreSameS
 -- the characters of t stand in u in the order in which they stand in t
 abbrev pub KeepsTheOrder : TextState → TextState → Type 0
 KeepsTheOrder t u = (c d : CharName)
-    → IsAheadIn (map (λ s. s.name) t.order) c d → IsAheadIn (map (λ s. s.name) u.order) c d
+    → IsBeforeIn (map (λ s. s.name) t.order) c d → IsBeforeIn (map (λ s. s.name) u.order) c d
 
 -- they do so in every text that has taken in what t has, and more
 abbrev pub GrownTextsKeepTheOrder : Type 0
 GrownTextsKeepTheOrder = (t u : TextState) → IsText t → IsText u → IsPartOf t.operations u.operations
     → KeepsTheOrder t u
 
--- what tells the changes by the operations behind the first so many leads from what these show to what is shown
+-- what tells the changes by the operations after the first so many leads from what these show to what is shown
 abbrev pub ChangesLead : Type 0
 ChangesLead = (asked : ℕ) (ops : List Operation) (changes : List Change) (now : List Char)
     → AreChangesSince asked ops changes now
@@ -58,7 +58,7 @@ abbrev pub FrontsTellTheText : Type 0
 FrontsTellTheText = (t u : TextState) → IsText t → IsText u → AreIdentified (t.operations ++ u.operations)
     → HaveEqualFronts t.operations u.operations → AreAlike t u
 
--- what is shown with a run of the site's behind the first pos characters
+-- what is shown with a run of the site's after the first pos characters
 abbrev pub shown_with_run : TextState → ℕ → Looks → List ℕ → List Char
 shown_with_run t pos looks bytes =
     put (shown_of t) pos (chars_of t.site (file_len t.operations t.site) looks bytes)

@@ -16,19 +16,19 @@ use Rattle.tree_order.specs.Shown.{up_to}
 abbrev pub put : {X : Type 0} → List X → ℕ → List X → List X
 put xs n run = take n xs ++ run ++ drop n xs
 
--- how many characters of the list are the anchor or stand ahead of it; the root stands ahead of all
+-- how many characters of the list are the anchor or stand before it; the root stands before all
 abbrev pub count_to : List Char → Anchor → ℕ
 count_to order Root = 0
 count_to order (At name) = length (up_to name (map (λ c. c.name) order))
 
--- the characters of an Insert, behind at bytes of the site's file
+-- the characters of an Insert, after at bytes of the site's file
 abbrev pub chars_of : (site at : ℕ) (looks : Looks) (bytes : List ℕ) → List Char
 chars_of site at looks [] = []
 chars_of site at looks (b ∷ bs) =
     record { name = record { site = site; off = at }; byte = b; looks = looks }
     ∷ chars_of site (at + 1) looks bs
 
--- characters of any looks, behind at bytes of the site's file
+-- characters of any looks, after at bytes of the site's file
 abbrev pub chars_from : (site at : ℕ) → List Item → List Char
 chars_from site at [] = []
 chars_from site at (i ∷ items) =
@@ -64,7 +64,7 @@ abbrev pub dress : Selection → Looks → List Char → (beg end : ℕ) → Lis
 dress sel looks chars beg end =
     take beg chars ++ map (dressed sel looks) (slice_range chars beg end) ++ drop end chars
 
--- an Insert's run stands directly behind its cause; a Delete hides, a Restore shows again, and neither moves
+-- an Insert's run stands directly after its cause; a Delete hides, a Restore shows again, and neither moves
 -- anything; a ChangeLooks gives looks to those that it names
 abbrev pub order_by : OpKind → ℕ → List Char → List Char
 order_by (insert cause at looks bytes) site order =

@@ -91,7 +91,7 @@ Shows t e (Ok sent) new = shown_of new ≡ shown_after t e
 Shows t e (Err (Whole why)) new = shown_of new ≡ shown_of t
 Shows t e (Err (Partial done why)) new = shown_of new ≡ shown_after t (first_part t done e)
 
--- an edit with its messages put behind those that were sent, whether memory was there or not
+-- an edit with its messages put after those that were sent, whether memory was there or not
 abbrev pub EditsSending : TextState → Edit → Result ℕ EditRefusal → TextState → (sent sent' : List (List ℕ))
     → Type 0
 EditsSending t e result new sent sent' =

@@ -10,7 +10,7 @@ use Rattle.texts.specs.TextState.{TextState}
 use Rattle.texts.specs.declared.edit_refusal.EditRefusal.{EditRefusal}
 use Rattle.texts.specs.declared.edit_refusal.EditRefusal.TheVariants.{Whole, Partial}
 
--- why an operation wasn't made: what refuses it whatever the memory, or want of memory, ahead of `Scattered`
+-- why an operation wasn't made: what refuses it whatever the memory, or want of memory, before `Scattered`
 -- at most
 abbrev pub IsWhyNot : TextState → Operation → Refusal → Type 0
 IsWhyNot t op why =
@@ -30,6 +30,6 @@ answer_of_one (Ok made) = Ok 1
 answer_of_one (Err why) = Err (Whole why)
 
 -- what an edit answers of whose operations so many stand, and the next one was refused
-abbrev pub refused_behind : ℕ → Refusal → EditRefusal
-refused_behind zero why = Whole why
-refused_behind (suc n) why = Partial (suc n) why
+abbrev pub refused_after : ℕ → Refusal → EditRefusal
+refused_after zero why = Whole why
+refused_after (suc n) why = Partial (suc n) why

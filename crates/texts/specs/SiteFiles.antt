@@ -12,7 +12,7 @@ use Rattle.texts.specs.declared.TheConstants.{MAX_KEPT}
 abbrev pub tag : List ℕ
 tag = codes "OTS1"
 
--- a message, behind its length
+-- a message, after its length
 abbrev pub entry_spelling : Operation → List ℕ
 entry_spelling op = number_spelling w16 (length (spelling op)) ++ spelling op
 
@@ -26,7 +26,7 @@ site_bytes text site ops =
 abbrev pub IsNumber : ℕ → Type 0
 IsNumber n = (0 < n) × (n < 2 ^ 16)
 
--- operations that a site's file can tell: not too many, messages of this text all of them, none twice, and each behind its
+-- operations that a site's file can tell: not too many, messages of this text all of them, none twice, and each after its
 -- causes
 pub record HasSiteFile (text site : ℕ) (ops : List Operation) : Type 0 where
   pub text_number : IsNumber text

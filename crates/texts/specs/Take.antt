@@ -61,7 +61,7 @@ Enters t op result new =
 abbrev pub StaysOut : TextState → Result Took Refusal → TextState → Type 0
 StaysOut t result new = (length t.waiting_room < MAX_WAITING) × Stays t (Err OutOfMemory) result new
 
--- one that is ready is taken in, and the room is drained behind it, as far as that was not stopped
+-- one that is ready is taken in, and the room is drained after it, as far as that was not stopped
 abbrev pub TakesIn : TextState → Operation → (stopped : Bool) → Result Took Refusal → TextState → Type 0
 TakesIn t op stopped result new =
     (with_op : TextState) × (drained dropped : ℕ) × HasTaken t op with_op
@@ -83,7 +83,7 @@ abbrev pub TakesOp : TextState → Operation → Result Took Refusal → TextSta
 TakesOp t op result new = (fate : Fate) × HasFate t op fate × Becomes t op fate result new
 
 -- The same where memory was refused: one that has to wait, and has a place, or that is ready changes nothing; or that
--- was taken in, and the draining behind it was stopped.
+-- was taken in, and the draining after it was stopped.
 abbrev pub TakesOpShort : TextState → Operation → Result Took Refusal → TextState → Type 0
 TakesOpShort t op result new =
     (HasFate t op Wait × StaysOut t result new)
@@ -96,7 +96,7 @@ Takes t message result new =
     ⊎ ((op : Operation) × (fate : Fate) × Tells message op × HasFate t op fate × Becomes t op fate result new)
 
 -- The same where memory was refused: it tells an operation, and nothing changes; or its operation was taken in, and
--- the draining behind it was stopped.
+-- the draining after it was stopped.
 abbrev pub TakesShort : TextState → List ℕ → Result Took Refusal → TextState → Type 0
 TakesShort t message result new =
     ((¬ SpellsNone message) × Stays t (Err OutOfMemory) result new)

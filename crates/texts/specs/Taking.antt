@@ -1,4 +1,4 @@
--- A text with operations more, which stand behind those taken in.
+-- A text with operations more, which stand after those taken in.
 use Rattle.std.specs.Prelude.{◌≡◌, List, [], ◌∷◌, ◌++◌}
 use Rattle.operations.specs.Operation.{Operation}
 use Rattle.set_laws.specs.Verdict.{Verdict, IsNew, HasVerdict}

@@ -11,7 +11,7 @@ pub enum Fate {
     AlreadyWaits,
     /// A cause of it isn't held.
     Wait,
-    /// It begins elsewhere than its site's file ends, or names an own character behind that end.
+    /// It begins elsewhere than its site's file ends, or names an own character after that end.
     Misfit,
     /// Its stamp isn't above each cause's.
     LowStamp,

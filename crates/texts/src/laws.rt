@@ -11,12 +11,12 @@ ghost use Rattle.texts.specs.Text.{IsText};
 ghost use Rattle.texts.specs.TextState.{TextState};
 
 /// A law: what a text shows is what the definition gives from the operations that it took in.
-pub fn a_text_shows_the_definition()
+pub fn lemma_a_text_shows_the_definition()
     ensures { ShowsTheDefinition }
 {}
 
 /// A law: two texts that have taken in the same operations, in whatever order, are alike.
-pub fn the_operations_tell_the_text()
+pub fn lemma_the_operations_tell_the_text()
     ensures { OperationsTellTheText }
 {}
 
@@ -32,7 +32,7 @@ pub fn changes_lead()
 {}
 
 /// A law: two texts of equal fronts are alike, if no identity is used twice.
-pub fn the_fronts_tell_the_text()
+pub fn lemma_the_fronts_tell_the_text()
     ensures { FrontsTellTheText }
 {}
 
@@ -43,7 +43,7 @@ pub fn a_delete_keeps_its_stretch()
 {}
 
 /// A law: own edits are plain edits, however many of their operations stand.
-pub fn own_edits_are_plain()
+pub fn lemma_own_edits_are_plain()
     ensures { OwnEditsArePlain }
 {}
 
@@ -54,6 +54,6 @@ pub fn there_is_one_text_with_it()
 {}
 
 /// A law: a merge leaves the operations of both texts, and shows what the definition gives from these.
-pub fn merges_show_the_union()
+pub fn lemma_merges_show_the_union()
     ensures { MergesShowTheUnion }
 {}

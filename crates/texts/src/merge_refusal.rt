@@ -5,7 +5,7 @@ use looks::Refusal;
 pub enum MergeRefusal {
     /// Nothing was changed.
     Whole(Refusal),
-    /// Memory was refused behind so many takings, which stand. No other crate can make one.
+    /// Memory was refused after so many takings, which stand. No other crate can make one.
     #[non_exhaustive]
     Stopped {
         /// How many operations were taken in.

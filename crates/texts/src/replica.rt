@@ -88,18 +88,18 @@ impl Replica {
 
     /// A law: the operations taken in are good, all characters are theirs, in the order that is defined, and those
     /// that wait are a room's. A proof gets it by calling this, at no cost.
-    pub fn is_text(&self)
+    pub fn lemma_is_text(&self)
         ensures { IsText self.now }
     {
-        self.taken.is_defined();
-        self.room.are_identified();
+        self.taken.lemma_is_defined();
+        self.room.lemma_are_identified();
     }
 
     /// A law: no operation was taken in twice. A proof gets it by calling this, at no cost.
-    pub fn are_taken_once(&self)
+    pub fn lemma_are_taken_once(&self)
         ensures { AllPairs (λ a b. a ≢ b) self.now.operations }
     {
-        self.taken.log().are_held_to_the_front();
+        self.taken.log().lemma_are_held_to_the_front();
     }
 
     /// The greatest seq of a site's operations that were taken in, its front; 0 for none.
@@ -172,7 +172,7 @@ impl Replica {
         self.taken.shown_between(beg, end)
     }
 
-    /// What a character hangs on that is typed behind the first `pos` characters shown: the last of them, or
+    /// What a character hangs on that is typed after the first `pos` characters shown: the last of them, or
     /// the root where there is none.
     pub fn anchor_after(&self, pos: u64) -> Anchor
         requires { pos ≤ length (shown_of self.now) }
@@ -185,13 +185,13 @@ impl Replica {
         }
     }
 
-    /// How many shown characters are the anchor, which may be hidden, or stand ahead of it; `None` for a name
+    /// How many shown characters are the anchor, which may be hidden, or stand before it; `None` for a name
     /// that isn't here.
     pub fn position(&self, anchor: Anchor) -> Option<u64>
         ensures here { IsSome result ↔ IsAnchor self.now.operations anchor }
         ensures place { IfSome result (IsPlace self.now.operations anchor) }
     {
-        self.taken.is_defined();
+        self.taken.lemma_is_defined();
         match anchor {
             Anchor::Root => Some(0),
             Anchor::At(name) => self.taken.place_of(name),

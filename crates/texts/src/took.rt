@@ -3,7 +3,7 @@
 pub enum Took {
     /// Its operation was taken in, and then those that waited for it.
     Taken {
-        /// How many operations that waited were taken in behind it.
+        /// How many operations that waited were taken in after it.
         drained: u32,
         /// How many operations that waited were thrown away.
         dropped: u32,

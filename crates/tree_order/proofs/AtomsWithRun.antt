@@ -15,8 +15,8 @@ use Rattle.char_files.specs.declared.name.Anchor.{Anchor}
 use Rattle.char_files.specs.declared.name.Anchor.TheVariants.{Root, At}
 use Rattle.operations.specs.Operation.{Operation, OpKind, insert, Inserts, key_of}
 use Rattle.tree_order.specs.Insertion.{IsOneMore, IsGap, IsInsertAt, HasCauseBy, EndsAt, IsAbove}
-use Rattle.tree_order.specs.Insertion.{IsJustBehind, BeginsNotAbove, run_of}
-use Rattle.tree_order.specs.AtomInsertion.{IsLongest, atom_run, RunGoesBehindGreaterKeys}
+use Rattle.tree_order.specs.Insertion.{IsJustAfter, BeginsNotAbove, run_of}
+use Rattle.tree_order.specs.AtomInsertion.{IsLongest, atom_run, RunGoesAfterGreaterKeys}
 use Rattle.tree_order.specs.Order.{IsOrder}
 use Rattle.tree_order.specs.Registers.{Atom, HasRegisters, atom_by}
 use Rattle.tree_order.specs.RegisterLaws.{first_atom}
@@ -35,7 +35,7 @@ names_of_atom_run : (op : Operation) (run : List CharName) → names_of_atoms (m
 names_of_atom_run op [] = refl
 names_of_atom_run op (c ∷ run) = ap (λ (xs : List CharName). c ∷ xs) (names_of_atom_run op run)
 
--- those of three lists behind one another
+-- those of three lists after one another
 names-append3 : (a b c : List Atom)
     → names_of_atoms a ++ names_of_atoms b ++ names_of_atoms c ≡ names_of_atoms (a ++ b ++ c)
 names-append3 a b c =
@@ -44,7 +44,7 @@ names-append3 a b c =
     ∙ sym (map-append name (a ++ b) c)
 
 -- the front up to the anchor ends at it
-ends_at : (atoms : List Atom) (cause : Anchor) (n : ℕ) → IsJustBehind (names_of_atoms atoms) cause n
+ends_at : (atoms : List Atom) (cause : Anchor) (n : ℕ) → IsJustAfter (names_of_atoms atoms) cause n
     → EndsAt (names_of_atoms (take n atoms)) cause
 ends_at atoms Root n none = ap (λ (k : ℕ). names_of_atoms (take k atoms)) none
 ends_at atoms (At c) n (k, at, next) =
@@ -115,8 +115,8 @@ run_registers ops i one =
     first_registers ops one.good i (get_or (run_of i) k d) new
     (λ is. not_both ops i one (get_or (run_of i) k d) is new))
 
-pub behind_greater_keys : RunGoesBehindGreaterKeys
-behind_greater_keys ops i cause atoms n m one at are ahead longest =
+pub after_greater_keys : RunGoesAfterGreaterKeys
+after_greater_keys ops i cause atoms n m one at are before longest =
     let a : List Atom = take n atoms in
     let b : List Atom = take m (drop n atoms) in
     let d : List Atom = drop (n + m) atoms in
@@ -128,7 +128,7 @@ behind_greater_keys ops i cause atoms n m one at are ahead longest =
     let gap : IsGap ops i (names_of_atoms a) (names_of_atoms b) (names_of_atoms d) = record {
       cause = cause;
       of_insert = at;
-      at_cause = ends_at atoms cause n ahead;
+      at_cause = ends_at atoms cause n before;
       greater = each_greater ops (key_of i) atoms n m are.registers longest;
       stops = next_not_above ops (key_of i) atoms n m are.registers longest;
     } in

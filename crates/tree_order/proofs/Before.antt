@@ -10,7 +10,7 @@ use Rattle.char_files.specs.declared.name.Anchor.TheVariants.{Root, At}
 use Rattle.operations.specs.Operation.{Operation}
 use Rattle.tree_order.specs.Good.{Good}
 use Rattle.tree_order.specs.Tree.{IsChar, IsPath}
-use Rattle.tree_order.specs.Order.{Before, IsAheadIn, IsOrder}
+use Rattle.tree_order.specs.Order.{Before, IsBeforeIn, IsOrder}
 use Rattle.tree_order.specs.Laws.{HasOneOrder}
 use Rattle.tree_order.proofs.Characters.{IsChar-from_characters, characters, characters_from_IsChar}
 use Rattle.tree_order.proofs.Sorted.{AllPairs-insert_first, same_sorted, sorted_list}
@@ -26,17 +26,17 @@ Before-from_trail ops c d p q up uq t = (p, q, up, uq, cases_Trail ops p q t)
 
 pub trail_from_Before : (ops : List Operation) → Good ops → (c d : CharName) (p q : List CharName)
     → IsPath ops c p → IsPath ops d q → Before ops c d → Trail ops p q
-trail_from_Before ops good c d p q up uq (p', q', up', uq', ahead) =
+trail_from_Before ops good c d p q up uq (p', q', up', uq', before) =
     rw (one_path ops good c p p' up up', one_path ops good d q q' uq uq')
-    (elim ahead [ inl h ↦ Trail-from_prefix ops p' q' h | inr h ↦ Trail-from_turn ops p' q' h ])
+    (elim before [ inl h ↦ Trail-from_prefix ops p' q' h | inr h ↦ Trail-from_turn ops p' q' h ])
 
 -- what stands before another is a character, and so is the other
 
 IsChar-before : (ops : List Operation) (c d : CharName) → Before ops c d → IsChar ops c
-IsChar-before ops c d (p, q, up, uq, ahead) = IsChar-from_path ops c p up
+IsChar-before ops c d (p, q, up, uq, before) = IsChar-from_path ops c p up
 
-IsChar-behind : (ops : List Operation) (c d : CharName) → Before ops c d → IsChar ops d
-IsChar-behind ops c d (p, q, up, uq, ahead) = IsChar-from_path ops d q uq
+IsChar-after : (ops : List Operation) (c d : CharName) → Before ops c d → IsChar ops d
+IsChar-after ops c d (p, q, up, uq, before) = IsChar-from_path ops d q uq
 
 -- a strict total order
 
@@ -71,7 +71,7 @@ Before-asymmetric ops good c d b b' = Before-irreflexive ops good c (Before-tran
 
 -- sorted lists and the order
 
--- c put ahead of the first element that it stands before
+-- c put before the first element that it stands before
 pub sorted_with : (ops : List Operation) → Good ops → (order : List CharName) (i : ℕ) (c : CharName)
     → i ≤ length order → AllPairs (Before ops) order → ((k : ℕ) (d : CharName) → k < i
     → Before ops (get_or order k d) c) → ((d : CharName) → i < length order
@@ -79,20 +79,20 @@ pub sorted_with : (ops : List Operation) → Good ops → (order : List CharName
 sorted_with ops good order i c within sorted below at =
     AllPairs-insert_first (Before ops) (Before-transitive ops good) order i c within sorted below at
 
--- what stands ahead of another in a sorted list is before it
-before_from_ahead : (ops : List Operation) (order : List CharName) → AllPairs (Before ops) order
-    → (c d : CharName) → IsAheadIn order c d → Before ops c d
-before_from_ahead ops order sorted c d (i, j, less, at, at') =
+-- what stands before another in a sorted list is before it
+Before_from_order : (ops : List Operation) (order : List CharName) → AllPairs (Before ops) order
+    → (c d : CharName) → IsBeforeIn order c d → Before ops c d
+Before_from_order ops order sorted c d (i, j, less, at, at') =
     let high : get_or order j c ≡ d = get_or_from_slice_get order j d c at' in
     let low : get_or order i c ≡ c = get_or_from_slice_get order i c c at in
     subst (λ (x : CharName). Before ops x d) low (subst (λ (x : CharName). Before ops (get_or order i c) x)
     high (sorted i j c less (slice_get_within order j d at')))
 
--- and of two members the one that is before the other stands ahead of it
-ahead_from_before : (ops : List Operation) → Good ops → (order : List CharName)
+-- and of two members the one that is before the other stands before it
+order_from_Before : (ops : List Operation) → Good ops → (order : List CharName)
     → AllPairs (Before ops) order → (c d : CharName) → Contains order c → Contains order d → Before ops c d
-    → IsAheadIn order c d
-ahead_from_before ops good order sorted c d (i, low, e) (j, high, f) b =
+    → IsBeforeIn order c d
+order_from_Before ops good order sorted c d (i, low, e) (j, high, f) b =
     let at : slice_get order i ≡ Some c = slice_get_read order (length order) i c refl low (sym e) in
     let at' : slice_get order j ≡ Some d = slice_get_read order (length order) j d refl high (sym f) in
     elim (cases_order i j) [
@@ -101,7 +101,7 @@ ahead_from_before ops good order sorted c d (i, low, e) (j, high, f) b =
           absurd (Before-irreflexive ops good d (subst (λ (x : CharName). Before ops x d) one b))
       | inr other ↦ elim other [
         | inl less ↦ (i, j, less, at, at')
-        | inr more ↦ absurd (Before-asymmetric ops good c d b (before_from_ahead ops order sorted d c
+        | inr more ↦ absurd (Before-asymmetric ops good c d b (Before_from_order ops order sorted d c
             (j, i, more, at', at)))
       ]
     ]
@@ -116,10 +116,10 @@ IsOrder-from_sorted ops good order each sorted = record {
   each = each;
   once = λ i j d less within same. Before-irreflexive ops good (get_or order j d)
       (subst (λ (x : CharName). Before ops x (get_or order j d)) same (sorted i j d less within));
-  ahead = λ c d. (
-    before_from_ahead ops order sorted c d,
-    λ b. ahead_from_before ops good order sorted c d ((each c).1 (IsChar-before ops c d b))
-        ((each d).1 (IsChar-behind ops c d b)) b,
+  before = λ c d. (
+    Before_from_order ops order sorted c d,
+    λ b. order_from_Before ops good order sorted c d ((each c).1 (IsChar-before ops c d b))
+        ((each d).1 (IsChar-after ops c d b)) b,
   );
 }
 
@@ -127,7 +127,7 @@ IsOrder-from_sorted ops good order each sorted = record {
 pub sorted_from_IsOrder : (ops : List Operation) (order : List CharName) → IsOrder ops order
     → AllPairs (Before ops) order
 sorted_from_IsOrder ops order is i j d less within =
-    (is.ahead (get_or order i d) (get_or order j d)).0 (
+    (is.before (get_or order i d) (get_or order j d)).0 (
       i,
       j,
       less,

@@ -19,16 +19,16 @@ use Rattle.tree_order.proofs.Sorted.{Contains-head, Contains-tail}
 -- the longest stretch of greater keys that begins a list, and the rest
 record Segment (ops : List Operation) (key : Key) (chars : List CharName) : Type 0 where
   skipped : List CharName
-  behind : List CharName
-  parts : chars ≡ skipped ++ behind
+  after : List CharName
+  parts : chars ≡ skipped ++ after
   greater : All (IsAbove ops key) skipped
-  stops : BeginsNotAbove ops key behind
+  stops : BeginsNotAbove ops key after
 
 stretch_of : (ops : List Operation) (key : Key) (chars : List CharName)
     → ((c : CharName) → Contains chars c → IsChar ops c) → Segment ops key chars
 stretch_of ops key [] all = record {
   skipped = [];
-  behind = [];
+  after = [];
   parts = refl;
   greater = All-nil (IsAbove ops key);
   stops = tt;
@@ -41,14 +41,14 @@ stretch_of ops key (c ∷ chars) all =
           stretch_of ops key chars (λ d h. all d (Contains-tail c chars d h)) in
           record {
             skipped = c ∷ rest.skipped;
-            behind = rest.behind;
+            after = rest.after;
             parts = ap (λ (xs : List CharName). c ∷ xs) rest.parts;
             greater = All-cons (IsAbove ops key) c rest.skipped (key_of j, (j, is, refl), above) rest.greater;
             stops = rest.stops;
           }
       | inr not_above ↦ record {
         skipped = [];
-        behind = c ∷ chars;
+        after = c ∷ chars;
         parts = refl;
         greater = All-nil (IsAbove ops key);
         stops = (key_of j, (j, is, refl), not_above);
@@ -58,29 +58,29 @@ stretch_of ops key (c ∷ chars) all =
 pub gains_run : OrderGainsRun
 gains_run ops i cause order larger one at is is' =
     let first : AtCause order cause = parts_at_cause ops i one cause at order is in
-    let old : (c : CharName) → Contains first.behind c → IsChar ops c =
+    let old : (c : CharName) → Contains first.after c → IsChar ops c =
     λ c h. (is.each c).0 (subst (λ (xs : List CharName). Contains xs c) (sym first.parts)
-    (Contains-append_right first.ahead first.behind c h)) in
-    let then : Segment ops (key_of i) first.behind = stretch_of ops (key_of i) first.behind old in
-    let parts : order ≡ first.ahead ++ then.skipped ++ then.behind =
-    first.parts ∙ ap (λ (xs : List CharName). first.ahead ++ xs) then.parts
-    ∙ sym (append_assoc first.ahead then.skipped then.behind) in
-    let gap : IsGap ops i first.ahead then.skipped then.behind = record {
+    (Contains-append_right first.before first.after c h)) in
+    let then : Segment ops (key_of i) first.after = stretch_of ops (key_of i) first.after old in
+    let parts : order ≡ first.before ++ then.skipped ++ then.after =
+    first.parts ∙ ap (λ (xs : List CharName). first.before ++ xs) then.parts
+    ∙ sym (append_assoc first.before then.skipped then.after) in
+    let gap : IsGap ops i first.before then.skipped then.after = record {
       cause = cause;
       of_insert = at;
       at_cause = first.ends;
       greater = then.greater;
       stops = then.stops;
     } in
-    let new : IsOrder (ops ++ i ∷ []) (first.ahead ++ then.skipped ++ run_of i ++ then.behind) =
-    into_gap ops i first.ahead then.skipped then.behind one (subst (IsOrder ops) parts is) gap in
+    let new : IsOrder (ops ++ i ∷ []) (first.before ++ then.skipped ++ run_of i ++ then.after) =
+    into_gap ops i first.before then.skipped then.after one (subst (IsOrder ops) parts is) gap in
     record {
-      ahead = first.ahead;
+      before = first.before;
       skipped = then.skipped;
-      behind = then.behind;
+      after = then.after;
       gap = gap;
       old = parts;
       new =
           one_order (ops ++ i ∷ []) one.larger larger
-          (first.ahead ++ then.skipped ++ run_of i ++ then.behind) is' new;
+          (first.before ++ then.skipped ++ run_of i ++ then.after) is' new;
     }

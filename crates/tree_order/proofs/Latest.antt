@@ -1,4 +1,4 @@
--- An Insert that is stamped above all others stands directly behind its cause.
+-- An Insert that is stamped above all others stands directly after its cause.
 use Rattle.std.proofs.Common.{◌≡◌, ◌<◌, true, false, List, [], ◌∷◌, ◌++◌, refl, sym, ap, subst}
 use Rattle.std.proofs.Common.{◌∙◌, All, Contains, arith}
 use Rattle.std.proofs.lemmas.Bool.Decides.{nat_tests}
@@ -11,7 +11,7 @@ use Rattle.operations.specs.Operation.{Operation, key_of}
 use Rattle.tree_order.specs.Tree.{IsChar}
 use Rattle.tree_order.specs.Order.{IsOrder}
 use Rattle.tree_order.specs.Insertion.{IsGap, IsInsertAt, EndsAt, IsAbove, BeginsNotAbove, run_of}
-use Rattle.tree_order.specs.Sequential.{IsLatest, LatestSkipsNone, LatestGoesBehindCause}
+use Rattle.tree_order.specs.Sequential.{IsLatest, LatestSkipsNone, LatestGoesAfterCause}
 use Rattle.tree_order.proofs.Gap.{into_gap}
 use Rattle.tree_order.proofs.Sorted.{Contains-head}
 
@@ -36,33 +36,33 @@ skips_none ops i latest (c ∷ skipped) greater =
     absurd (none_above ops i latest c (All-head (IsAbove ops (key_of i)) c skipped greater))
 
 pub latest_skips_none : LatestSkipsNone
-latest_skips_none ops i ahead skipped behind latest gap = skips_none ops i latest skipped gap.greater
+latest_skips_none ops i before skipped after latest gap = skips_none ops i latest skipped gap.greater
 
 -- so the gap begins where the cause stands
-begins_not_above : (ops : List Operation) (i : Operation) → IsLatest ops i → (behind : List CharName)
-    → ((c : CharName) → Contains behind c → IsChar ops c) → BeginsNotAbove ops (key_of i) behind
+begins_not_above : (ops : List Operation) (i : Operation) → IsLatest ops i → (after : List CharName)
+    → ((c : CharName) → Contains after c → IsChar ops c) → BeginsNotAbove ops (key_of i) after
 begins_not_above ops i latest [] old = tt
-begins_not_above ops i latest (c ∷ behind) old =
-    let (j, is) = old c (Contains-head c behind) in
+begins_not_above ops i latest (c ∷ after) old =
+    let (j, is) = old c (Contains-head c after) in
     (key_of j, (j, is, refl), not_above_latest i j (below_latest ops i j latest is.held))
 
-pub latest_gap : (ops : List Operation) (i : Operation) (cause : Anchor) (ahead behind : List CharName)
-    → IsLatest ops i → IsInsertAt i cause → IsOrder ops (ahead ++ behind) → EndsAt ahead cause
-    → IsGap ops i ahead [] behind
-latest_gap ops i cause ahead behind latest at is ends = record {
+pub latest_gap : (ops : List Operation) (i : Operation) (cause : Anchor) (before after : List CharName)
+    → IsLatest ops i → IsInsertAt i cause → IsOrder ops (before ++ after) → EndsAt before cause
+    → IsGap ops i before [] after
+latest_gap ops i cause before after latest at is ends = record {
   cause = cause;
   of_insert = at;
   at_cause = ends;
   greater = All-nil (IsAbove ops (key_of i));
   stops =
-      begins_not_above ops i latest behind
-      (λ c h. (is.each c).0 (Contains-append_right ahead behind c h));
+      begins_not_above ops i latest after
+      (λ c h. (is.each c).0 (Contains-append_right before after c h));
 }
 
-pub behind_cause : LatestGoesBehindCause
-behind_cause ops i cause ahead behind one latest at is ends =
-    let same : ahead ++ [] ≡ ahead = append-nil ahead in
-    let is' : IsOrder ops (ahead ++ [] ++ behind) =
-    subst (λ (xs : List CharName). IsOrder ops (xs ++ behind)) (sym same) is in
-    subst (λ (xs : List CharName). IsOrder (ops ++ i ∷ []) (xs ++ run_of i ++ behind)) same
-    (into_gap ops i ahead [] behind one is' (latest_gap ops i cause ahead behind latest at is ends))
+pub after_cause : LatestGoesAfterCause
+after_cause ops i cause before after one latest at is ends =
+    let same : before ++ [] ≡ before = append-nil before in
+    let is' : IsOrder ops (before ++ [] ++ after) =
+    subst (λ (xs : List CharName). IsOrder ops (xs ++ after)) (sym same) is in
+    subst (λ (xs : List CharName). IsOrder (ops ++ i ∷ []) (xs ++ run_of i ++ after)) same
+    (into_gap ops i before [] after one is' (latest_gap ops i cause before after latest at is ends))

@@ -35,7 +35,7 @@ same_char x y name byte looks =
     ap (λ (n : CharName). made n x.byte x.looks) name ∙ ap (λ (b : ℕ). made y.name b x.looks) byte
     ∙ ap (made y.name y.byte) looks
 
--- what holds of each element holds of those behind the first
+-- what holds of each element holds of those after the first
 All-tail : {X : Type 0} (P : X → Type 0) (x : X) (xs : List X) → All P (x ∷ xs) → All P xs
 All-tail P x xs all k d lt = all (suc k) d (omega arith)
 

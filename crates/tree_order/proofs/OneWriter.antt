@@ -14,10 +14,10 @@ use Rattle.operations.specs.Operation.{Operation, OpKind, insert, delete, append
 use Rattle.tree_order.specs.Good.{Good, appended_len_at, file_before}
 use Rattle.tree_order.specs.Order.{IsOrder}
 use Rattle.tree_order.specs.Insertion.{IsOneMore, IsInsertAt, HasCauseBy, run_of}
-use Rattle.tree_order.specs.Sequential.{AreOfOneWriter, IsLatest, OneWriterGoesBehindCauses}
+use Rattle.tree_order.specs.Sequential.{AreOfOneWriter, IsLatest, OneWriterGoesAfterCauses}
 use Rattle.tree_order.specs.Sequential.{up_to_anchor, with_run_by, with_runs}
 use Rattle.tree_order.proofs.Before.{IsOrder-from_sorted}
-use Rattle.tree_order.proofs.Latest.{behind_cause}
+use Rattle.tree_order.proofs.Latest.{after_cause}
 use Rattle.tree_order.proofs.RegisterLists.{keeps_the_order}
 use Rattle.tree_order.proofs.Sorted.{Contains-head, Contains-tail}
 use Rattle.tree_order.proofs.Tree.{stamps_rise}
@@ -39,7 +39,7 @@ appended-front (o ∷ xs) ys site seq none =
     ap (cond (eqb o.site site && eqb o.seq seq) (appended_len o.kind)) (appended-front xs ys site seq none)
 
 module _ (ops : List Operation) (site : ℕ) (good : Good ops) (own : AreOfOneWriter ops site) where
-  -- the operation at an index has the seq behind it
+  -- the operation at an index has the seq after it
   at_index : (k : ℕ) (op : Operation) → k < length ops → get_or ops k op ≡ op
       → (op.site ≡ site) × (op.seq ≡ k + 1)
   at_index k op lt e = own k op (slice_get_read ops (length ops) k op refl lt (sym e))
@@ -84,8 +84,8 @@ module _ (ops : List Operation) (site : ℕ) (good : Good ops) (own : AreOfOneWr
         let seq : op.seq ≡ k + 1 = (at_index k op lt' at).1 in
         ((k, lt', at), omega arith)
 
-    none_behind : (op : Operation) → Contains (drop n ops) op → n < op.seq
-    none_behind op (k, lt, e) =
+    none_after : (op : Operation) → Contains (drop n ops) op → n < op.seq
+    none_after op (k, lt, e) =
         let lt' : n + k < length ops = omega (arith, length-drop n ops) in
         let at : get_or ops (n + k) op ≡ op = sym (get_or-drop n ops k op) ∙ e in
         let seq : op.seq ≡ n + k + 1 = (at_index (n + k) op lt' at).1 in
@@ -94,7 +94,7 @@ module _ (ops : List Operation) (site : ℕ) (good : Good ops) (own : AreOfOneWr
     same_appended : (s q : ℕ) → q ≤ n → appended_len_at (take n ops) s q ≡ appended_len_at ops s q
     same_appended s q le =
         sym (appended-front (take n ops) (drop n ops) s q
-        (λ op h e. let past : n < op.seq = none_behind op h in absurd (omega arith)))
+        (λ op h e. let past : n < op.seq = none_after op h in absurd (omega arith)))
         ∙ ap (λ (xs : List Operation). appended_len_at xs s q) (take-append-drop n ops)
 
     same_file : (s q : ℕ) → q ≤ n + 1 → file_before (take n ops) s q ≡ file_before ops s q
@@ -144,11 +144,11 @@ with_latest_by : (ops : List Operation) (op : Operation) → IsOneMore ops op �
 with_latest_by ops op one latest order is (insert cause at looks bytes) e =
     let at_cause : IsInsertAt op cause = subst (λ (kind : OpKind). HasCauseBy kind cause) (sym e) refl in
     let p : AtCause order cause = parts_at_cause ops op one cause at_cause order is in
-    let made : IsOrder (ops ++ op ∷ []) (p.ahead ++ run_of op ++ p.behind) =
-    behind_cause ops op cause p.ahead p.behind one latest at_cause (subst (IsOrder ops) p.parts is) p.ends in
+    let made : IsOrder (ops ++ op ∷ []) (p.before ++ run_of op ++ p.after) =
+    after_cause ops op cause p.before p.after one latest at_cause (subst (IsOrder ops) p.parts is) p.ends in
     subst (IsOrder (ops ++ op ∷ []))
-    (ap (λ (xs : List CharName). xs ++ run_of op ++ p.behind) p.is_ahead
-    ∙ ap (λ (xs : List CharName). up_to_anchor order cause ++ run_of op ++ xs) p.is_behind) made
+    (ap (λ (xs : List CharName). xs ++ run_of op ++ p.after) p.is_front
+    ∙ ap (λ (xs : List CharName). up_to_anchor order cause ++ run_of op ++ xs) p.is_after) made
 with_latest_by ops op one latest order is kind e =
     keeps_the_order ops op one.larger
     (λ c h. subst (λ (k : OpKind). InsertsBy op.site k c) e h) order is
@@ -161,7 +161,7 @@ no_order good =
           absurd (omega arith),
     )) (λ i j d lt within. absurd (omega arith))
 
-pub one_writer : OneWriterGoesBehindCauses
+pub one_writer : OneWriterGoesAfterCauses
 one_writer ops site zero good own few = no_order (front_good ops site good own zero few)
 one_writer ops site (suc n) good own few =
     let none : Operation = record { text = 0; site = 0; seq = 0; stamp = 0; kind = delete [] } in

@@ -9,7 +9,7 @@ use Rattle.std.proofs.lemmas.List.Sums.{length-filter}
 use Rattle.std.proofs.lemmas.Option.{get_or_from_slice_get, slice_get_within}
 use Rattle.char_files.specs.CharName.{CharName}
 use Rattle.char_files.specs.declared.name.Anchor.TheVariants.{Root, At}
-use Rattle.tree_order.specs.Sequential.{PlaceIsBehind, LatestIsPlainEdit}
+use Rattle.tree_order.specs.Sequential.{PlaceIsAfter, LatestIsPlainEdit}
 use Rattle.tree_order.specs.Shown.{is_visible, up_to}
 use Rattle.operations.proofs.WithName.{same_name}
 use Rattle.tree_order.proofs.ShownLatest.{shown_at_place}
@@ -55,9 +55,9 @@ length-filter-up_to p c (d ∷ order) once k at =
     (λ e h. before_members (λ (x y : CharName). x ≢ y) d order once c h e)
     (length-filter-up_to p c order (AllPairs-tail (λ (x y : CharName). x ≢ y) d order once)) at
 
-pub place_is_behind : PlaceIsBehind
-place_is_behind ops Root shown n good is behind = (is.order, is.in_order, behind)
-place_is_behind ops (At c) shown n good is (k, at, next) =
+pub place_is_after : PlaceIsAfter
+place_is_after ops Root shown n good is after = (is.order, is.in_order, after)
+place_is_after ops (At c) shown n good is (k, at, next) =
     let p : CharName → Bool = is_visible ops in
     let at' : slice_get (filter p is.order) k ≡ Some c =
     subst (λ (xs : List CharName). slice_get xs k ≡ Some c) is.visible at in
@@ -68,5 +68,5 @@ place_is_behind ops (At c) shown n good is (k, at, next) =
     (is.order, is.in_order, omega (arith, found, counted, next))
 
 pub plain_edit : LatestIsPlainEdit
-plain_edit ops i cause shown n one latest at is behind =
-    shown_at_place ops i cause shown n one latest at is (place_is_behind ops cause shown n one.good is behind)
+plain_edit ops i cause shown n one latest at is after =
+    shown_at_place ops i cause shown n one latest at is (place_is_after ops cause shown n one.good is after)

@@ -45,7 +45,7 @@ run_by_inserts site kind c = (λ h. omega arith, λ h. absurd h)
 pub run_inserts : (i : Operation) (c : CharName) → Contains (run_of i) c ↔ Inserts i c
 run_inserts i c = run_by_inserts i.site i.kind c
 
--- behind the first name each hangs on the one before
+-- after the first name each hangs on the one before
 next_parent : (site off at : ℕ) (cause : Anchor) (looks : Looks) (bytes : List ℕ) → at ≤ off
     → At (record { site = site; off = off })
     ≡ parent_by (insert cause at looks bytes) (record { site = site; off = off + 1 })

@@ -1,4 +1,4 @@
--- Where the first character of one Insert more stands: which old ones are before it, and which behind it.
+-- Where the first character of one Insert more stands: which old ones are before it, and which after it.
 use Rattle.std.proofs.Common.{◌≡◌, ◌⊎◌, inl, inr, true, List, [], ◌∷◌, ◌++◌, refl, sym, subst}
 use Rattle.std.proofs.Common.{append_assoc, Contains}
 use Rattle.std.proofs.lemmas.List.Elements.{All-contains, Contains-append_left, Contains-append_right}
@@ -9,7 +9,7 @@ use Rattle.char_files.specs.declared.name.Anchor.TheVariants.{Root, At}
 use Rattle.operations.specs.Operation.{Operation, Inserts, key_of}
 use Rattle.tree_order.specs.Insertion.{IsOneMore}
 use Rattle.tree_order.specs.Tree.{IsChar, IsInsertOf, IsParent, IsPath, Leads}
-use Rattle.tree_order.specs.Order.{Before, TurnsAhead}
+use Rattle.tree_order.specs.Order.{Before, TurnsBefore}
 use Rattle.tree_order.proofs.Ancestors.{Leads-split, Contains-path, IsUpTo, insert_up_to, below_up_to}
 use Rattle.tree_order.proofs.Before.{trail_from_Before}
 use Rattle.tree_order.proofs.OneMore.{new_insert, old_path, apart_from_path}
@@ -31,35 +31,35 @@ here_or_below ops d y common (x ∷ rest) up uq on =
     sym (append_assoc common (d ∷ []) (x ∷ rest)) in
     inr (common ++ d ∷ [], common ++ d ∷ x ∷ rest, up, uq, inl (x, rest, longer))
 
--- behind a common front the rest decides
+-- after a common front the rest decides
 Trail-rest : (ops : List Operation) (common p q : List CharName) → Trail ops (common ++ p) (common ++ q)
     → Trail ops p q
 Trail-rest ops [] p q t = t
 Trail-rest ops (c ∷ common) p q (inl (same, t)) = Trail-rest ops common p q t
 Trail-rest ops (c ∷ common) p q (inr (apart, more)) = absurd (apart refl)
 
--- An old character d at y or ahead of it, which is behind r, and whose key is smaller than that of i.
+-- An old character d at y or before it, which is after r, and whose key is smaller than that of i.
 pub record TurnsOff (ops : List Operation) (i : Operation) (r y : CharName) : Type 0 where
   pub d : CharName
   pub old : IsChar ops d
   pub up_to : (d ≡ y) ⊎ Before (ops ++ i ∷ []) d y
-  pub behind : Before (ops ++ i ∷ []) r d
+  pub after : Before (ops ++ i ∷ []) r d
   pub insert : Operation
   pub inserts : IsInsertOf (ops ++ i ∷ []) d insert
   pub smaller : is_below (key_of insert) (key_of i) ≡ true
 
 module _ (ops : List Operation) (i : Operation) (one : IsOneMore ops i) (r : CharName)
     (new : Inserts i r) where
-  -- the first of the old characters behind r that is on the path of y has a smaller key
+  -- the first of the old characters after r that is on the path of y has a smaller key
   turns_off_at : (y : CharName) (p q : List CharName) → IsChar ops y → IsPath (ops ++ i ∷ []) r p
-      → IsPath (ops ++ i ∷ []) y q → TurnsAhead (ops ++ i ∷ []) p q → TurnsOff ops i r y
+      → IsPath (ops ++ i ∷ []) y q → TurnsBefore (ops ++ i ∷ []) p q → TurnsOff ops i r y
   turns_off_at y p q is up uq (common, a, d, p', q', e, f, apart, (k, m, at_a, at_d, less)) =
       let all : List Operation = ops ++ i ∷ [] in
       let up' : IsPath all r (common ++ a ∷ p') = subst (IsPath all r) e up in
       let uq' : IsPath all y (common ++ d ∷ q') = subst (IsPath all y) f uq in
       let (to_a, from_a) = Leads-split all Root (At r) common a p' up' in
       let (to_d, from_d) = Leads-split all Root (At y) common d q' uq' in
-      let turn : TurnsAhead all p (common ++ d ∷ []) =
+      let turn : TurnsBefore all p (common ++ d ∷ []) =
       (common, a, d, p', [], e, refl, apart, (k, m, at_a, at_d, less)) in
       let ancestor : IsUpTo k i =
       insert_up_to all one.larger p' a r k i from_a at_a (new_insert ops i one r new) in
@@ -70,7 +70,7 @@ module _ (ops : List Operation) (i : Operation) (one : IsOneMore ops i) (r : Cha
         d = d;
         old = All-contains (IsChar ops) q d (old_path ops i one y q is uq) on;
         up_to = here_or_below all d y common q' to_d uq' from_d;
-        behind =
+        after =
             (p, common ++ d ∷ [], up, to_d, inr turn);
         insert = m;
         inserts = at_d;
@@ -106,13 +106,13 @@ module _ (ops : List Operation) (i : Operation) (one : IsOneMore ops i) (r : Cha
       → IsInsertOf (ops ++ i ∷ []) b m → Leads (ops ++ i ∷ []) Root front cause
       → IsParent (ops ++ i ∷ []) r cause → (q : List CharName) → IsPath (ops ++ i ∷ []) b q
       → Trail (ops ++ i ∷ []) front q → Before (ops ++ i ∷ []) b r → is_below (key_of i) (key_of m) ≡ true
-  above_between cause front b m is at_b up hung q uq ahead before =
+  above_between cause front b m is at_b up hung q uq earlier before =
       let all : List Operation = ops ++ i ∷ [] in
       let ur : IsPath all r (front ++ r ∷ []) =
       Leads-append all Root cause (At r) front (r ∷ []) up (hung, refl) in
       let t : Trail all q (front ++ r ∷ []) =
       trail_from_Before all one.larger b r q (front ++ r ∷ []) uq ur before in
-      elim (cases_longer all front q (r ∷ []) ahead) [
+      elim (cases_longer all front q (r ∷ []) earlier) [
         | inl (c, rest, e) ↦
             let uq' : IsPath all b (front ++ c ∷ rest) = subst (IsPath all b) e uq in
             let t' : Trail all (front ++ c ∷ rest) (front ++ r ∷ []) =

@@ -37,7 +37,7 @@ between ops good c d x on b b' =
     let t' : Trail ops q (p ++ d ∷ []) = trail_from_Before ops good x d q (p ++ d ∷ []) b.3 uq b' in
     elim (cases_longer ops p q (d ∷ []) t) [
       | inl begins ↦ (p, q, b.2, b.3, begins)
-      | inr ahead ↦ absurd (Trail-irreflexive ops q (Trail-transitive ops good q (p ++ d ∷ []) q t' ahead))
+      | inr before ↦ absurd (Trail-irreflexive ops q (Trail-transitive ops good q (p ++ d ∷ []) q t' before))
     ]
 
 -- a descendant doesn't stand before its ancestor
@@ -48,10 +48,10 @@ not_below ops good d x b (p, q, up, uq, begins) =
 
 -- text never splits a run
 pub runs_stay : (ops : List Operation) → Good ops → RunsStayTogether ops
-runs_stay ops good order c d x is run ahead behind =
+runs_stay ops good order c d x is run before after =
     let i = run.insert in
     let on : IsParent ops d (At c) =
     (i, run.second, next_hangs i.site i.kind c d run.first.inserts run.second.inserts run.next) in
-    let b : Before ops c x = (is.ahead c x).0 ahead in
-    let b' : Before ops x d = (is.ahead x d).0 behind in
+    let b : Before ops c x = (is.before c x).0 before in
+    let b' : Before ops x d = (is.before x d).0 after in
     (between ops good c d x on b b', not_below ops good d x b')

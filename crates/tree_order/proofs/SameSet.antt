@@ -17,7 +17,7 @@ use Rattle.char_files.specs.declared.name.Anchor.TheVariants.{At}
 use Rattle.operations.specs.Operation.{Operation, appended_len, Begins, key_of}
 use Rattle.tree_order.specs.Good.{Good, appended_len_at, file_before}
 use Rattle.tree_order.specs.Tree.{IsChar, IsInsertOf, IsParent, IsProperPrefix, Leads, HasByte}
-use Rattle.tree_order.specs.Order.{Before, HasGreaterKey, TurnsAhead, IsOrder}
+use Rattle.tree_order.specs.Order.{Before, HasGreaterKey, TurnsBefore, IsOrder}
 use Rattle.tree_order.specs.Looks.{IsLastToSet, HasLooks}
 use Rattle.tree_order.specs.Shown.{IsShown, deletes_by, restores_by, hides, is_visible}
 use Rattle.tree_order.specs.Laws.{AreSameSet, SaysTheSame}
@@ -50,15 +50,15 @@ pub greater_key : (a b : List Operation) → Within a b → (c d : CharName) →
     → HasGreaterKey b c d
 greater_key a b to c d (i, j, p, q, more) = (i, j, insert_of a b to c i p, insert_of a b to d j q, more)
 
-ahead : (a b : List Operation) → Within a b → (p q : List CharName) → IsProperPrefix p q ⊎ TurnsAhead a p q
-    → IsProperPrefix p q ⊎ TurnsAhead b p q
-ahead a b to p q (inl prefix) = inl prefix
-ahead a b to p q (inr (common, c, d, p', q', e, f, apart, more)) =
+earlier : (a b : List Operation) → Within a b → (p q : List CharName) → IsProperPrefix p q ⊎ TurnsBefore a p q
+    → IsProperPrefix p q ⊎ TurnsBefore b p q
+earlier a b to p q (inl prefix) = inl prefix
+earlier a b to p q (inr (common, c, d, p', q', e, f, apart, more)) =
     inr (common, c, d, p', q', e, f, apart, greater_key a b to c d more)
 
 pub before : (a b : List Operation) → Within a b → (c d : CharName) → Before a c d → Before b c d
 before a b to c d (p, q, up, uq, turn) =
-    (p, q, leads a b to _ (At c) p up, leads a b to _ (At d) q uq, ahead a b to p q turn)
+    (p, q, leads a b to _ (At c) p up, leads a b to _ (At d) q uq, earlier a b to p q turn)
 
 byte : (a b : List Operation) → Within a b → (c : CharName) (n : ℕ) → HasByte a c n → HasByte b c n
 byte a b to c n (i, is, e) = (i, insert_of a b to c i is, e)
@@ -69,7 +69,7 @@ order : (a b : List Operation) → Within a b → Within b a → (names : List C
 order a b to back names is = record {
   each = λ c. (λ h. char a b to c ((is.each c).0 h), λ h. (is.each c).1 (char b a back c h));
   once = is.once;
-  ahead = λ c d. (λ h. before a b to c d ((is.ahead c d).0 h), λ h. (is.ahead c d).1 (before b a back c d h));
+  before = λ c d. (λ h. before a b to c d ((is.before c d).0 h), λ h. (is.before c d).1 (before b a back c d h));
 }
 
 -- and so are the looks

@@ -13,10 +13,10 @@ use Rattle.tree_order.proofs.UpTo.{AtCause, parts_at_cause, place-up_to_anchor}
 pub shown_at_place : LatestIsShownAtPlace
 shown_at_place ops i cause shown n one latest at was (order, is, e) =
     let p : AtCause order cause = parts_at_cause ops i one cause at order is in
-    let same : p.ahead ≡ p.ahead ++ [] = sym (append-nil p.ahead) in
-    let is' : IsOrder ops (p.ahead ++ p.behind) = subst (IsOrder ops) p.parts is in
-    let count : n ≡ count_by (is_visible ops) (p.ahead ++ []) =
-    e ∙ place-up_to_anchor ops order cause ∙ ap (count_by (is_visible ops)) (sym p.is_ahead ∙ same) in
-    shown_gains_run ops i p.ahead [] p.behind shown n one
-    (subst (λ (xs : List CharName). IsOrder ops (xs ++ p.behind)) same is')
-    (latest_gap ops i cause p.ahead p.behind latest at is' p.ends) was count
+    let same : p.before ≡ p.before ++ [] = sym (append-nil p.before) in
+    let is' : IsOrder ops (p.before ++ p.after) = subst (IsOrder ops) p.parts is in
+    let count : n ≡ count_by (is_visible ops) (p.before ++ []) =
+    e ∙ place-up_to_anchor ops order cause ∙ ap (count_by (is_visible ops)) (sym p.is_front ∙ same) in
+    shown_gains_run ops i p.before [] p.after shown n one
+    (subst (λ (xs : List CharName). IsOrder ops (xs ++ p.after)) same is')
+    (latest_gap ops i cause p.before p.after latest at is' p.ends) was count

@@ -81,17 +81,17 @@ module _ (ops : List Operation) (i : Operation) (one : IsOneMore ops i) where
       (All-append P (take n shown) (chars_of_run i) (All-take P n shown old) new) (All-drop P n shown old)
 
   -- what is visible of the order with the run
-  visible_with_run : (cause : Anchor) → IsInsertAt i cause → (front behind : List CharName)
-      → filter (is_visible (ops ++ i ∷ [])) (front ++ run_of i ++ behind)
-      ≡ filter (is_visible ops) front ++ run_of i ++ filter (is_visible ops) behind
-  visible_with_run cause at front behind =
+  visible_with_run : (cause : Anchor) → IsInsertAt i cause → (front after : List CharName)
+      → filter (is_visible (ops ++ i ∷ [])) (front ++ run_of i ++ after)
+      ≡ filter (is_visible ops) front ++ run_of i ++ filter (is_visible ops) after
+  visible_with_run cause at front after =
       let p : CharName → Bool = is_visible ops in
       let run : filter p (run_of i) ≡ run_of i =
       filter_all p (run_of i) (λ c h. new_is_visible ops i one c ((run_inserts i c).0 h)) in
       filter_agree (is_visible (ops ++ i ∷ [])) p (visible_as_before ops i one cause at)
-      (front ++ run_of i ++ behind)
-      ∙ filter-append p (front ++ run_of i) behind
-      ∙ ap (λ (xs : List CharName). xs ++ filter p behind) (filter-append p front (run_of i)
+      (front ++ run_of i ++ after)
+      ∙ filter-append p (front ++ run_of i) after
+      ∙ ap (λ (xs : List CharName). xs ++ filter p after) (filter-append p front (run_of i)
       ∙ ap (λ (xs : List CharName). filter p front ++ xs) run)
 
 -- the names of the first n characters shown, and of the rest
@@ -112,19 +112,19 @@ names_with_run i shown n front rest e len =
     ∙ ap (λ (xs : List CharName). front ++ run_of i ++ xs) last
 
 pub shown_gains_run : ShownGainsRun
-shown_gains_run ops i ahead skipped behind shown n one is gap was count =
+shown_gains_run ops i before skipped after shown n one is gap was count =
     let p : CharName → Bool = is_visible ops in
-    let front : List CharName = ahead ++ skipped in
-    let names : map (λ (s : Char). s.name) shown ≡ filter p front ++ filter p behind =
-    was.visible ∙ ap (filter p) (one_order ops one.good was.order (front ++ behind) was.in_order is)
-    ∙ filter-append p front behind in
+    let front : List CharName = before ++ skipped in
+    let names : map (λ (s : Char). s.name) shown ≡ filter p front ++ filter p after =
+    was.visible ∙ ap (filter p) (one_order ops one.good was.order (front ++ after) was.in_order is)
+    ∙ filter-append p front after in
     let len : length (filter p front) ≡ n = length-filter p front ∙ sym count in
     record {
-      order = front ++ run_of i ++ behind;
-      in_order = into_gap ops i ahead skipped behind one is gap;
+      order = front ++ run_of i ++ after;
+      in_order = into_gap ops i before skipped after one is gap;
       visible =
-          names_with_run i shown n (filter p front) (filter p behind) names len
-          ∙ sym (visible_with_run ops i one gap.cause gap.of_insert front behind);
+          names_with_run i shown n (filter p front) (filter p after) names len
+          ∙ sym (visible_with_run ops i one gap.cause gap.of_insert front after);
       bytes =
           with_run ops i one (HasOwnByte (ops ++ i ∷ [])) shown n (old_bytes ops i one shown was.bytes)
           (new_bytes ops i one);

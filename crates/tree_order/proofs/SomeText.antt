@@ -99,12 +99,12 @@ module _ (Sets : Operation → Type 0) (sets_or_not : (op : Operation) → Sets 
     },
   )
   best_of (x ∷ xs) op within held sets =
-      let behind : (other : Operation) → Contains xs other → Contains ops other =
+      let after : (other : Operation) → Contains xs other → Contains ops other =
       λ other h. within other (Contains-tail x xs other h) in
       elim (sets_or_not x) [
         | inl sets_x ↦ elim (cases_Bool (is_below (key_of op) (key_of x))) [
           | inl more ↦
-              let (best, is) = best_of xs x behind (within x (Contains-head x xs)) sets_x in (
+              let (best, is) = best_of xs x after (within x (Contains-head x xs)) sets_x in (
                 best,
                 record {
                   held = is.held;
@@ -118,7 +118,7 @@ module _ (Sets : Operation → Type 0) (sets_or_not : (op : Operation) → Sets 
                 },
               )
           | inr not_more ↦
-              let (best, is) = best_of xs op behind held sets in (
+              let (best, is) = best_of xs op after held sets in (
                 best,
                 record {
                   held = is.held;
@@ -133,7 +133,7 @@ module _ (Sets : Operation → Type 0) (sets_or_not : (op : Operation) → Sets 
               )
         ]
         | inr out ↦
-            let (best, is) = best_of xs op behind held sets in (
+            let (best, is) = best_of xs op after held sets in (
               best,
               record {
                 held = is.held;

@@ -55,7 +55,7 @@ module _ {X : Type 0} (R : X → X → Type 0) where
   cons_sorted x xs before up =
       AllPairs-cons R x xs (λ k d lt. before (get_or xs k d) (Contains-get_or xs k d lt)) up
 
-  -- each member of the front of a sorted list stands before each one behind it
+  -- each member of the front of a sorted list stands before each one after it
   pub AllPairs-across : (xs ys : List X) → AllPairs R (xs ++ ys) → (x y : X) → Contains xs x → Contains ys y
       → R x y
   AllPairs-across [] ys up x y h k = absurd (omega arith)
@@ -157,7 +157,7 @@ module _ {X : Type 0} (R : X → X → Type 0) where
         cc
 
   module _ (transitive : (x y z : X) → R x y → R y z → R x z) where
-    -- y put ahead of the first element that it stands before
+    -- y put before the first element that it stands before
     pub AllPairs-insert_first : (xs : List X) (i : ℕ) (y : X) → i ≤ length xs → AllPairs R xs
         → ((k : ℕ) (d : X) → k < i → R (get_or xs k d) y) → ((d : X) → i < length xs → R y (get_or xs i d))
         → AllPairs R (insert xs i y)
@@ -199,13 +199,13 @@ module _ {X : Type 0} (R : X → X → Type 0) where
                     up,
                 λ x. (Contains-cons_cases c (y ∷ ys) x, Contains-cons c (y ∷ ys) x),
               )
-              | inr behind ↦
+              | inr after ↦
                   let (zs, uq, same) =
                   put c p ys (λ x h. all x (Contains-tail y ys x h)) (AllPairs-tail y ys up) in (
                     y ∷ zs,
                     cons_sorted y zs
                         (λ x h. elim ((same x).0 h) [
-                          | inl e ↦ rw e behind
+                          | inl e ↦ rw e after
                           | inr k ↦ before_members y ys up x
                               k
                         ]) uq,

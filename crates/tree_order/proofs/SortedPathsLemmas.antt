@@ -38,7 +38,7 @@ pub Contains-at : (paths : List Path) (n : ℕ) (path : Path) → n < length pat
 Contains-at paths n path lt is =
     (n, omega (arith, length-map paths (λ (p : Path). p.of)), names_of_paths-at paths n path path.of lt is)
 
--- of two characters that differ, the one that isn't before the other is behind it
+-- of two characters that differ, the one that isn't before the other is after it
 pub other_before : (ops : List Operation) → Good ops → (c d : CharName) → IsChar ops c → IsChar ops d
     → c ≢ d → ¬ Before ops c d → Before ops d c
 other_before ops good c d is is' apart not_before =

@@ -1,4 +1,4 @@
--- Which of two paths goes ahead, by recursion on both.
+-- Which of two paths goes first, by recursion on both.
 use Rattle.std.proofs.Common.{◌≡◌, ◌≢◌, ◌⊎◌, true, inl, inr, List, [], ◌∷◌, ◌++◌, refl, sym, ap, subst, ◌∙◌}
 use Rattle.std.proofs.Common.{arith}
 use Rattle.std.proofs.lemmas.Bool.{cases_eq}
@@ -11,7 +11,7 @@ use Rattle.char_files.specs.declared.name.Anchor.TheVariants.{At}
 use Rattle.operations.specs.Operation.{Operation, key_of}
 use Rattle.tree_order.specs.Good.{Good}
 use Rattle.tree_order.specs.Tree.{IsProperPrefix, Leads}
-use Rattle.tree_order.specs.Order.{HasGreaterKey, TurnsAhead}
+use Rattle.tree_order.specs.Order.{HasGreaterKey, TurnsBefore}
 use Rattle.operations.proofs.WithName.{same_name}
 use Rattle.tree_order.proofs.Tree.{one_insert, siblings_differ}
 
@@ -52,14 +52,14 @@ greater_transitive ops good c d e (i, j, p, q, more) (j', k, q', r, more') = (
       more') more,
 )
 
--- p goes ahead of q: it ends first, or has the greater key where they first differ
+-- p goes before q: it ends first, or has the greater key where they first differ
 abbrev pub Trail : List Operation → List CharName → List CharName → Type 0
 Trail ops [] [] = ⊥
 Trail ops [] (d ∷ q) = Unit {0}
 Trail ops (c ∷ p) [] = ⊥
 Trail ops (c ∷ p) (d ∷ q) = ((c ≡ d) × Trail ops p q) ⊎ ((c ≢ d) × HasGreaterKey ops c d)
 
--- the two ways to go ahead
+-- the two ways to go first
 pub Trail-from_prefix : (ops : List Operation) (p q : List CharName) → IsProperPrefix p q → Trail ops p q
 Trail-from_prefix ops [] [] (x, rest, e) = absurd cc
 Trail-from_prefix ops [] (d ∷ q) h = tt
@@ -67,26 +67,26 @@ Trail-from_prefix ops (c ∷ p) [] (x, rest, e) = absurd cc
 Trail-from_prefix ops (c ∷ p) (d ∷ q) (x, rest, e) = let same : d ∷ q ≡ c ∷ (p ++ x ∷ rest) = e in
     inl (cc, Trail-from_prefix ops p q (x, rest, cc))
 
--- where two lists differ behind a common front, the key decides
+-- where two lists differ after a common front, the key decides
 turned : (ops : List Operation) (common p q : List CharName) (c d : CharName) → c ≢ d
     → HasGreaterKey ops c d → Trail ops (common ++ c ∷ p) (common ++ d ∷ q)
 turned ops [] p q c d apart more = inr (apart, more)
 turned ops (x ∷ common) p q c d apart more = inl (refl, turned ops common p q c d apart more)
 
-pub Trail-from_turn : (ops : List Operation) (p q : List CharName) → TurnsAhead ops p q → Trail ops p q
+pub Trail-from_turn : (ops : List Operation) (p q : List CharName) → TurnsBefore ops p q → Trail ops p q
 Trail-from_turn ops p q (common, c, d, p', q', e, f, apart, more) =
     rw (e, f) (turned ops common p' q' c d apart more)
 
--- the same behind one more common name
+-- the same after one more common name
 longer : (ops : List Operation) (p q : List CharName) (c d : CharName) → c ≡ d → IsProperPrefix p q
-    ⊎ TurnsAhead ops p q → IsProperPrefix (c ∷ p) (d ∷ q) ⊎ TurnsAhead ops (c ∷ p) (d ∷ q)
+    ⊎ TurnsBefore ops p q → IsProperPrefix (c ∷ p) (d ∷ q) ⊎ TurnsBefore ops (c ∷ p) (d ∷ q)
 longer ops p q c d same (inl (x, rest, e)) = inl (x, rest, cc)
 longer ops p q c d same (inr (common, a, b, p', q', e, f, apart, more)) =
     inr (c ∷ common, a, b, p', q', cc, cc, apart, more)
 
--- to go ahead is one of the two
+-- to go first is one of the two
 pub cases_Trail : (ops : List Operation) (p q : List CharName) → Trail ops p q → IsProperPrefix p q
-    ⊎ TurnsAhead ops p q
+    ⊎ TurnsBefore ops p q
 cases_Trail ops [] [] h = absurd h
 cases_Trail ops [] (d ∷ q) h = inl (d, q, refl)
 cases_Trail ops (c ∷ p) [] h = absurd h
@@ -119,7 +119,7 @@ Trail-transitive ops good (c ∷ p) (d ∷ q) (e ∷ r) (inr (apart, more)) (inr
       greater_transitive ops good c d e more more',
     )
 
--- of two lists that lead down from one anchor one goes ahead, unless they are equal
+-- of two lists that lead down from one anchor one goes first, unless they are equal
 pub cases_leads : (ops : List Operation) → Good ops → (a b b' : Anchor) (p q : List CharName)
     → Leads ops a p b → Leads ops a q b' → (p ≡ q) ⊎ (Trail ops p q ⊎ Trail ops q p)
 cases_leads ops good a b b' [] [] h k = inl refl
@@ -138,7 +138,7 @@ cases_leads ops good a b b' (c ∷ p) (d ∷ q) (up, h) (uq, k) =
       ]
     ]
 
--- what goes ahead of q is the beginning of q, or goes ahead of it however it goes on
+-- what goes before q is the beginning of q, or goes before it however it goes on
 pub cases_longer : (ops : List Operation) (p q r : List CharName) → Trail ops p q
     → IsProperPrefix p q ⊎ Trail ops (p ++ r) q
 cases_longer ops [] [] r h = absurd h

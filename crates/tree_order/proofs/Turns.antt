@@ -1,4 +1,4 @@
--- Two paths, step by step: which goes ahead; and the way up from a character.
+-- Two paths, step by step: which goes first; and the way up from a character.
 use Rattle.std.proofs.Common.{◌≡◌, ◌≢◌, ℕ, zero, suc, ◌+◌, ◌-◌, ◌*◌, ◌^◌, ◌<◌, ◌≤◌, ◌⊎◌, ◌↔◌, min, false}
 use Rattle.std.proofs.Common.{true, ◌==◌, ◌&&◌, inl, inr, List, [], ◌∷◌, All, length, get_or, take, drop}
 use Rattle.std.proofs.Common.{length-drop, sym, ap, subst, ◌∙◌, arith}
@@ -15,17 +15,17 @@ use Rattle.operations.specs.Operation.{InsertsBy}
 use Rattle.operations.specs.Spelling.{HasSpelling, IsKind}
 use Rattle.tree_order.specs.Good.{Good}
 use Rattle.tree_order.specs.Tree.{IsChar, IsInsertOf, IsPath, IsProperPrefix, Leads, parent_by}
-use Rattle.tree_order.specs.Order.{HasGreaterKey, TurnsAhead, Before}
+use Rattle.tree_order.specs.Order.{HasGreaterKey, TurnsBefore, Before}
 use Rattle.tree_order.proofs.Before.{trail_from_Before}
 use Rattle.tree_order.proofs.Files.{before, hangs}
 use Rattle.tree_order.proofs.Tree.{one_insert}
 use Rattle.tree_order.proofs.Trails.{Trail, Trail-from_prefix, Trail-from_turn, cases_Trail}
 
--- p goes ahead of q
-abbrev GoesAhead : List Operation → List CharName → List CharName → Type 0
-GoesAhead ops p q = IsProperPrefix p q ⊎ TurnsAhead ops p q
+-- p goes before q
+abbrev GoesBefore : List Operation → List CharName → List CharName → Type 0
+GoesBefore ops p q = IsProperPrefix p q ⊎ TurnsBefore ops p q
 
--- behind a common beginning the rest decides
+-- after a common beginning the rest decides
 Trail-common : (ops : List Operation) (n : ℕ) (p q : List CharName) → n ≤ length p → n ≤ length q
     → take n p ≡ take n q → Trail ops p q ↔ Trail ops (drop n p) (drop n q)
 Trail-common ops zero p q in_p in_q same = (λ t. t, λ t. t)
@@ -39,7 +39,7 @@ Trail-common ops (suc n) (c ∷ p) (d ∷ q) in_p in_q same =
       λ t. inl (first, rest.1 t),
     )
 
-Trail_iff : (ops : List Operation) (p q : List CharName) → Trail ops p q ↔ GoesAhead ops p q
+Trail_iff : (ops : List Operation) (p q : List CharName) → Trail ops p q ↔ GoesBefore ops p q
 Trail_iff ops p q = (
   cases_Trail ops p q,
   λ h. elim h [
@@ -50,10 +50,10 @@ Trail_iff ops p q = (
 )
 
 -- where two paths differ first, the keys decide
-pub goes_ahead_at : (ops : List Operation) (p q : List CharName) (n : ℕ) (c d : CharName) → n < length p
+pub goes_before_at : (ops : List Operation) (p q : List CharName) (n : ℕ) (c d : CharName) → n < length p
     → n < length q → take n p ≡ take n q → c ≡ get_or p n c → d ≡ get_or q n d → c ≢ d
-    → HasGreaterKey ops c d ↔ GoesAhead ops p q
-goes_ahead_at ops p q n c d in_p in_q same at_p at_q apart =
+    → HasGreaterKey ops c d ↔ GoesBefore ops p q
+goes_before_at ops p q n c d in_p in_q same at_p at_q apart =
     let common = Trail-common ops n p q (omega arith) (omega arith) same in
     let rest_p : drop n p ≡ c ∷ drop (n + 1) p = drop_more p n c in_p ∙ rw (← at_p) in
     let rest_q : drop n q ≡ d ∷ drop (n + 1) q = drop_more q n d in_q ∙ rw (← at_q) in
@@ -64,26 +64,26 @@ goes_ahead_at ops p q n c d in_p in_q same at_p at_q apart =
           elim t [ inl k ↦ absurd (apart k.0) | inr k ↦ k.1 ],
     )
 
-none_ahead : (ops : List Operation) (p : List CharName) → Trail ops p [] → ⊥
-none_ahead ops [] t = t
-none_ahead ops (c ∷ p) t = t
+none_before : (ops : List Operation) (p : List CharName) → Trail ops p [] → ⊥
+none_before ops [] t = t
+none_before ops (c ∷ p) t = t
 
-ahead_of_some : (ops : List Operation) (q : List CharName) → 0 < length q → Trail ops [] q
-ahead_of_some ops [] some = absurd (omega arith)
-ahead_of_some ops (d ∷ q) some = tt
+before_some : (ops : List Operation) (q : List CharName) → 0 < length q → Trail ops [] q
+before_some ops [] some = absurd (omega arith)
+before_some ops (d ∷ q) some = tt
 
--- where one of two paths ends first, or both do, that one goes ahead which is shorter
-pub goes_ahead_by_length : (ops : List Operation) (p q : List CharName) (n : ℕ)
-    → n ≡ min (length p) (length q) → take n p ≡ take n q → (length p < length q) ↔ GoesAhead ops p q
-goes_ahead_by_length ops p q n at same =
+-- where one of two paths ends first, or both do, that one goes first which is shorter
+pub goes_before_by_length : (ops : List Operation) (p q : List CharName) (n : ℕ)
+    → n ≡ min (length p) (length q) → take n p ≡ take n q → (length p < length q) ↔ GoesBefore ops p q
+goes_before_by_length ops p q n at same =
     let common = Trail-common ops n p q (omega arith) (omega arith) same in
     let all = Trail_iff ops p q in (
       λ less. let ended : drop n p ≡ [] = drop_all n p (omega arith) in
-          all.0 (common.1 (rw ended (ahead_of_some ops (drop n q) (omega (arith, length-drop n q))))),
+          all.0 (common.1 (rw ended (before_some ops (drop n q) (omega (arith, length-drop n q))))),
       λ h. elim (cases_lt (length p) (length q)) [
         | inl less ↦ less
         | inr ge ↦ let ended : drop n q ≡ [] = drop_all n q (omega arith) in
-            absurd (none_ahead ops (drop n p) (rw ended at (common.0 (all.1 h))))
+            absurd (none_before ops (drop n p) (rw ended at (common.0 (all.1 h))))
       ],
     )
 
@@ -156,8 +156,8 @@ pub All-path : (ops : List Operation) (a b : Anchor) (path : List CharName) → 
 All-path ops a b [] h = All-nil (IsChar ops)
 All-path ops a b (c ∷ path) h = All-cons (IsChar ops) c path (h.0.0, h.0.1) (All-path ops (At c) b path h.1)
 
--- a character stands before another where its path goes ahead
+-- a character stands before another where its path goes first
 pub Before_iff : (ops : List Operation) → Good ops → (c d : CharName) (p q : List CharName) → IsPath ops c p
-    → IsPath ops d q → Before ops c d ↔ GoesAhead ops p q
+    → IsPath ops d q → Before ops c d ↔ GoesBefore ops p q
 Before_iff ops good c d p q up uq =
     (λ b. (Trail_iff ops p q).0 (trail_from_Before ops good c d p q up uq b), λ h. (p, q, up, uq, h))

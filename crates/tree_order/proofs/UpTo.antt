@@ -1,4 +1,4 @@
--- The names up to an anchor, and those behind it.
+-- The names up to an anchor, and those after it.
 use Rattle.std.proofs.Common.{◌≡◌, ◌<◌, inl, inr, Bool, true, false, cond, eqb, ◌==◌, ◌&&◌, List, []}
 use Rattle.std.proofs.Common.{◌∷◌, ◌++◌, length, drop, refl, sym, ap, subst, Contains, arith}
 use Rattle.std.specs.Prelude.{count_by}
@@ -74,30 +74,30 @@ cause_is_char ops i one c at =
           absurd (omega arith)
     ]
 
--- an order, up to the cause and behind it
+-- an order, up to the cause and after it
 pub record AtCause (order : List CharName) (cause : Anchor) : Type 0 where
-  pub ahead : List CharName
-  pub behind : List CharName
-  pub is_ahead : ahead ≡ up_to_anchor order cause
-  pub is_behind : behind ≡ drop (length (up_to_anchor order cause)) order
-  pub parts : order ≡ ahead ++ behind
-  pub ends : EndsAt ahead cause
+  pub before : List CharName
+  pub after : List CharName
+  pub is_front : before ≡ up_to_anchor order cause
+  pub is_after : after ≡ drop (length (up_to_anchor order cause)) order
+  pub parts : order ≡ before ++ after
+  pub ends : EndsAt before cause
 
 pub parts_at_cause : (ops : List Operation) (i : Operation) → IsOneMore ops i → (cause : Anchor)
     → IsInsertAt i cause → (order : List CharName) → IsOrder ops order → AtCause order cause
 parts_at_cause ops i one Root at order is = record {
-  ahead = [];
-  behind = order;
-  is_ahead = refl;
-  is_behind = refl;
+  before = [];
+  after = order;
+  is_front = refl;
+  is_after = refl;
   parts = refl;
   ends = refl;
 }
 parts_at_cause ops i one (At c) at order is = record {
-  ahead = up_to c order;
-  behind = drop (length (up_to c order)) order;
-  is_ahead = refl;
-  is_behind = refl;
+  before = up_to c order;
+  after = drop (length (up_to c order)) order;
+  is_front = refl;
+  is_after = refl;
   parts = up_to_begins c order;
   ends = up_to_ends c order ((is.each c).1 (cause_is_char ops i one c at));
 }

@@ -7,7 +7,7 @@ use Rattle.looks.specs.Key.{is_below}
 use Rattle.looks.specs.declared.key.Key.{Key}
 use Rattle.char_files.specs.declared.name.Anchor.{Anchor}
 use Rattle.operations.specs.Operation.{Operation, key_of}
-use Rattle.tree_order.specs.Insertion.{IsJustBehind, IsInsertAt, IsOneMore, run_of}
+use Rattle.tree_order.specs.Insertion.{IsJustAfter, IsInsertAt, IsOneMore, run_of}
 use Rattle.tree_order.specs.Registers.{Atom, AreAtoms}
 use Rattle.tree_order.specs.RegisterLaws.{first_atom}
 
@@ -21,10 +21,10 @@ pub record IsLongest (key : Key) (atoms : List Atom) (n m : ℕ) : Type 0 where
 abbrev pub atom_run : Operation → List Atom
 atom_run op = map (first_atom op) (run_of op)
 
--- i's run is put in behind the cause and the m characters of greater key that follow
-abbrev pub RunGoesBehindGreaterKeys : Type 0
-RunGoesBehindGreaterKeys =
+-- i's run is put in after the cause and the m characters of greater key that follow
+abbrev pub RunGoesAfterGreaterKeys : Type 0
+RunGoesAfterGreaterKeys =
     (ops : List Operation) (i : Operation) (cause : Anchor) (atoms : List Atom) (n m : ℕ)
     → IsOneMore ops i → IsInsertAt i cause → AreAtoms ops atoms
-    → IsJustBehind (map (λ c. c.name) atoms) cause n → IsLongest (key_of i) atoms n m
+    → IsJustAfter (map (λ c. c.name) atoms) cause n → IsLongest (key_of i) atoms n m
     → AreAtoms (ops ++ i ∷ []) (take (n + m) atoms ++ atom_run i ++ drop (n + m) atoms)

@@ -12,7 +12,7 @@ use Rattle.tree_order.specs.Good.{Good}
 use Rattle.tree_order.specs.Tree.{IsInsertOf}
 use Rattle.tree_order.specs.Order.{IsOrder}
 
--- the names that an Insert of this site inserts, one behind the other; the other kinds insert none
+-- the names that an Insert of this site inserts, one after the other; the other kinds insert none
 abbrev pub run_by : (site : ℕ) → OpKind → List CharName
 run_by site (insert cause at looks bytes) = names_of (record { site = site; at = at; len = length bytes })
 run_by site kind = []
@@ -51,42 +51,42 @@ IsNotAbove ops key c = (k : Key) × HasKey ops c k × (is_below key k ≡ false)
 -- the list is empty, or the key of its first character isn't greater than this one
 abbrev pub BeginsNotAbove : List Operation → Key → List CharName → Type 0
 BeginsNotAbove ops key [] = Unit {0}
-BeginsNotAbove ops key (c ∷ behind) = IsNotAbove ops key c
+BeginsNotAbove ops key (c ∷ after) = IsNotAbove ops key c
 
 -- the anchor is the last of the list; the root is that of the empty one
 abbrev pub EndsAt : List CharName → Anchor → Type 0
-EndsAt ahead Root = ahead ≡ []
-EndsAt ahead (At c) = (front : List CharName) × (ahead ≡ front ++ c ∷ [])
+EndsAt before Root = before ≡ []
+EndsAt before (At c) = (front : List CharName) × (before ≡ front ++ c ∷ [])
 
--- n is the index behind the anchor in the list; that behind the root is 0
-abbrev pub IsJustBehind : List CharName → Anchor → ℕ → Type 0
-IsJustBehind names Root n = n ≡ 0
-IsJustBehind names (At c) n = (k : ℕ) × (slice_get names k ≡ Some c) × (n ≡ k + 1)
+-- n is the index after the anchor in the list; that after the root is 0
+abbrev pub IsJustAfter : List CharName → Anchor → ℕ → Type 0
+IsJustAfter names Root n = n ≡ 0
+IsJustAfter names (At c) n = (k : ℕ) × (slice_get names k ≡ Some c) × (n ≡ k + 1)
 
--- The gap for i's run, where ahead, skipped and behind make up the order: skipped is the longest stretch of
+-- The gap for i's run, where before, skipped and after make up the order: skipped is the longest stretch of
 -- characters of greater key that follows the cause.
-pub record IsGap (ops : List Operation) (i : Operation) (ahead skipped behind : List CharName) : Type 0 where
+pub record IsGap (ops : List Operation) (i : Operation) (before skipped after : List CharName) : Type 0 where
   pub cause : Anchor
   pub of_insert : IsInsertAt i cause
-  pub at_cause : EndsAt ahead cause
+  pub at_cause : EndsAt before cause
   pub greater : All (IsAbove ops (key_of i)) skipped
-  pub stops : BeginsNotAbove ops (key_of i) behind
+  pub stops : BeginsNotAbove ops (key_of i) after
 
 -- i's run put into its gap makes the order of the larger set
 abbrev pub RunGoesIntoGap : Type 0
 RunGoesIntoGap =
-    (ops : List Operation) (i : Operation) (ahead skipped behind : List CharName)
-    → IsOneMore ops i → IsOrder ops (ahead ++ skipped ++ behind) → IsGap ops i ahead skipped behind
-    → IsOrder (ops ++ i ∷ []) (ahead ++ skipped ++ run_of i ++ behind)
+    (ops : List Operation) (i : Operation) (before skipped after : List CharName)
+    → IsOneMore ops i → IsOrder ops (before ++ skipped ++ after) → IsGap ops i before skipped after
+    → IsOrder (ops ++ i ∷ []) (before ++ skipped ++ run_of i ++ after)
 
 -- the larger order is the order with i's run put into its gap, in one stretch
 pub record GainsRun (ops : List Operation) (i : Operation) (order larger : List CharName) : Type 0 where
-  pub ahead : List CharName
+  pub before : List CharName
   pub skipped : List CharName
-  pub behind : List CharName
-  pub gap : IsGap ops i ahead skipped behind
-  pub old : order ≡ ahead ++ skipped ++ behind
-  pub new : larger ≡ ahead ++ skipped ++ run_of i ++ behind
+  pub after : List CharName
+  pub gap : IsGap ops i before skipped after
+  pub old : order ≡ before ++ skipped ++ after
+  pub new : larger ≡ before ++ skipped ++ run_of i ++ after
 
 -- one Insert more leaves the order as it was, but for its run in its gap
 abbrev pub OrderGainsRun : Type 0

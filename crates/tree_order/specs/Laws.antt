@@ -8,7 +8,7 @@ use Rattle.operations.specs.Operation.{Operation, key_of}
 use Rattle.tree_order.specs.Good.{Good}
 use Rattle.tree_order.specs.Tree.{IsChar, IsInsertOf, IsDescendant, HasByte}
 use Rattle.tree_order.specs.Looks.{HasLooks}
-use Rattle.tree_order.specs.Order.{Before, IsAheadIn, IsOrder}
+use Rattle.tree_order.specs.Order.{Before, IsBeforeIn, IsOrder}
 use Rattle.tree_order.specs.Shown.{is_visible, SwitchesBy, IsLastToSwitch, is_delete, IsShown, IsPlace}
 
 -- two operations have different keys
@@ -38,7 +38,7 @@ pub record IsNextByte (ops : List Operation) (c d : CharName) : Type 0 where
 abbrev pub RunsStayTogether : List Operation → Type 0
 RunsStayTogether ops =
     (order : List CharName) (c d x : CharName) → IsOrder ops order → IsNextByte ops c d
-    → IsAheadIn order c x → IsAheadIn order x d
+    → IsBeforeIn order c x → IsBeforeIn order x d
     → IsDescendant ops c x × (IsDescendant ops d x → ⊥)
 
 -- there is one list that is shown, and no other, and each anchor has one number as its place, and no other

@@ -12,23 +12,23 @@ HasGreaterKey ops c d =
     (i j : Operation) × IsInsertOf ops c i × IsInsertOf ops d j × (is_below (key_of j) (key_of i) ≡ true)
 
 -- where the two paths first differ, the key on p's side is greater
-abbrev pub TurnsAhead : List Operation → List CharName → List CharName → Type 0
-TurnsAhead ops p q =
+abbrev pub TurnsBefore : List Operation → List CharName → List CharName → Type 0
+TurnsBefore ops p q =
     (common : List CharName) × (c d : CharName) × (p' q' : List CharName)
     × (p ≡ common ++ c ∷ p') × (q ≡ common ++ d ∷ q')
     × (c ≢ d) × HasGreaterKey ops c d
 
--- c stands before d: its path is a proper prefix of d's, or turns ahead of it
+-- c stands before d: its path is a proper prefix of d's, or turns before it
 abbrev pub Before : List Operation → CharName → CharName → Type 0
 Before ops c d =
-    (p q : List CharName) × IsPath ops c p × IsPath ops d q × (IsProperPrefix p q ⊎ TurnsAhead ops p q)
+    (p q : List CharName) × IsPath ops c p × IsPath ops d q × (IsProperPrefix p q ⊎ TurnsBefore ops p q)
 
--- c stands ahead of d in the list
-abbrev pub IsAheadIn : List CharName → CharName → CharName → Type 0
-IsAheadIn order c d = (i j : ℕ) × (i < j) × (slice_get order i ≡ Some c) × (slice_get order j ≡ Some d)
+-- c stands before d in the list
+abbrev pub IsBeforeIn : List CharName → CharName → CharName → Type 0
+IsBeforeIn order c d = (i j : ℕ) × (i < j) × (slice_get order i ≡ Some c) × (slice_get order j ≡ Some d)
 
--- the list that has each character once, and in which c stands ahead of d exactly when c is before d
+-- the list that has each character once, and in which c stands before d exactly when c is before d
 pub record IsOrder (ops : List Operation) (order : List CharName) : Type 0 where
   pub each : (c : CharName) → Contains order c ↔ IsChar ops c
   pub once : AllPairs (λ c d. c ≢ d) order
-  pub ahead : (c d : CharName) → IsAheadIn order c d ↔ Before ops c d
+  pub before : (c d : CharName) → IsBeforeIn order c d ↔ Before ops c d

@@ -74,7 +74,7 @@ abbrev pub up_to : CharName → List CharName → List CharName
 up_to c [] = []
 up_to c (d ∷ order) = d ∷ (if d.site == c.site && d.off == c.off then [] else up_to c order)
 
--- how many visible characters of the list are the anchor or stand ahead of it; the root stands ahead of all
+-- how many visible characters of the list are the anchor or stand before it; the root stands before all
 abbrev pub place : List Operation → List CharName → Anchor → ℕ
 place ops order Root = 0
 place ops order (At c) = count_by (is_visible ops) (up_to c order)

@@ -10,7 +10,7 @@ use Rattle.tree_order.specs.Order.{Before}
 abbrev pub names_of_paths : List Path → List CharName
 names_of_paths paths = map (λ p. p.of) paths
 
--- each path is its character's, and each character stands before those behind it
+-- each path is its character's, and each character stands before those after it
 pub record AreSortedPaths (ops : List Operation) (paths : List Path) : Type 0 where
   pub own : All (λ p. IsPath ops p.of p.names.items) paths
   pub sorted : AllPairs (Before ops) (names_of_paths paths)

@@ -86,7 +86,7 @@ pub(crate) fn looks_of(ops: &[Op], c: Name) -> Looks
     let font = given_looks(last_to_set(ops, Attribute::Font, c));
     let colour = given_looks(last_to_set(ops, Attribute::Colour, c));
     let offset = given_looks(last_to_set(ops, Attribute::Offset, c));
-    offset.are_in_range();
+    offset.lemma_are_in_range();
     Looks {
         font: font.font.copy(),
         colour: colour.colour,

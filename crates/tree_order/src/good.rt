@@ -38,7 +38,7 @@ fn identities_agree(ops: &[Op]) -> bool
 fn is_predecessor(p: &Op, op: &Op) -> bool
     ensures { IsTrue result ↔ IsPredecessor p.now op.now }
 {
-    op.has_spelling();
+    op.lemma_has_spelling();
     p.site() == op.site() && p.seq() == op.seq() - 1
 }
 
@@ -76,7 +76,7 @@ fn appended_bytes(op: &Op) -> u64
     ensures value { result ≡ appended_len op.now.kind }
     ensures few { result ≤ MAX_INSERT }
 {
-    op.has_spelling();
+    op.lemma_has_spelling();
     match op.kind() {
         Kind::Insert { bytes, .. } => bytes.len() as u64,
         Kind::Delete { .. } | Kind::Restore { .. } | Kind::ChangeLooks { .. } => 0,

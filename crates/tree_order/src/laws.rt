@@ -42,6 +42,6 @@ pub fn there_is_one_text()
 {}
 
 /// A law: of a list of operations only the set counts, not their order, nor how often one stands in it.
-pub fn only_the_set_counts()
+pub fn lemma_only_the_set_counts()
     ensures { (a b : List Operation) → AreSameSet a b → Good a → SaysTheSame a b }
 {}

@@ -2,7 +2,7 @@ ghost use Rattle.std.specs.Prelude.{◌≡◌, ◌⊎◌, ◌↔◌, All, IfOk, 
 ghost use Rattle.looks.specs.Refusal.{RefusedForMemoryAlone};
 ghost use Rattle.tree_order.specs.Good.{Good};
 ghost use Rattle.tree_order.specs.Tree.{IsChar, IsPath, IsProperPrefix};
-ghost use Rattle.tree_order.specs.Order.{HasGreaterKey, TurnsAhead, Before};
+ghost use Rattle.tree_order.specs.Order.{HasGreaterKey, TurnsBefore, Before};
 
 use crate::lookup::{insert_of, is_key_below, parent_of};
 use char_files::{Anchor, Name};
@@ -31,7 +31,7 @@ pub(crate) fn path_of(alloc: Global, ops: &[Op], c: Name) -> Result<Path, Refusa
     while let Anchor::At(parent) = parent_of(op, name) {
         name = parent;
         op = insert_of(ops, name).unwrap();
-        op.has_spelling();
+        op.lemma_has_spelling();
         names.push(name)?;
     }
     names.reverse();
@@ -49,12 +49,12 @@ fn has_greater_key(ops: &[Op], c: Name, d: Name) -> bool
     is_key_below(second, first)
 }
 
-// Whether the path `p` ends first, or turns ahead of `q`.
+// Whether the path `p` ends first, or turns before `q`.
 fn is_path_before(ops: &[Op], p: &[Name], q: &[Name]) -> bool
     requires good { Good ops.now }
     requires first { All (IsChar ops.now) p.now }
     requires second { All (IsChar ops.now) q.now }
-    ensures { IsTrue result ↔ (IsProperPrefix p.now q.now ⊎ TurnsAhead ops.now p.now q.now) }
+    ensures { IsTrue result ↔ (IsProperPrefix p.now q.now ⊎ TurnsBefore ops.now p.now q.now) }
 {
     for i in 0..p.len().min(q.len()) {
         let (c, d) = (p[i], q[i]);

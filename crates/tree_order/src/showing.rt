@@ -109,7 +109,7 @@ pub fn slow_shown(alloc: Global, ops: &[Op]) -> Result<Vec<Char>, Refusal>
     Ok(shown)
 }
 
-/// How many visible characters are `c` or stand ahead of it. Refused `OutOfMemory` alone.
+/// How many visible characters are `c` or stand before it. Refused `OutOfMemory` alone.
 pub fn slow_place(alloc: Global, ops: &[Op], c: Name) -> Result<u64, Refusal>
     requires good { Good ops.now }
     requires character { IsChar ops.now c }

@@ -71,7 +71,7 @@ fn put_chars(alloc: Global, ops: &[Op], paths: &mut Vec<Path>, op: &Op) -> Resul
         (Gains (names_of_paths paths.old.items) (names_of_paths paths.new.items) (Inserts op.now)) }
     ensures errors { RefusedForMemoryAlone result }
 {
-    op.has_spelling();
+    op.lemma_has_spelling();
     if let Kind::Insert { at, bytes, .. } = op.kind() {
         for off in *at..*at + bytes.len() as u32 {
             let name = Name::new(op.site(), off).unwrap();

@@ -55,12 +55,12 @@ moved_lower height i row seats covers lt above below = record {
   whole = elim covers.whole [
     | inl e ↦ absurd (not_empty seats (suc i) lt e)
     | inr e ↦ inr (
-        let ahead = next_top seats i (record { number = 0; height = 0 }) (omega (arith, lt)) in
+        let before = next_top seats i (record { number = 0; height = 0 }) (omega (arith, lt)) in
         let first = rows_with seats i (row - top seats i) (omega (arith, lt)) in
         let long = length_with seats i (row - top seats i) in
         let second = rows_with (with_height seats i (row - top seats i)) (suc i) (bottom seats (suc i) - row) (omega (arith, lt, long)) in
         let same = height_below seats i (row - top seats i) in
-        omega (arith, e, ahead, first, second, same, above, below))
+        omega (arith, e, before, first, second, same, above, below))
   ];
 }
 

@@ -33,7 +33,7 @@ module _ {C : Type 0} where
   zip-push (l ∷ ks) [] k c e = absurd (omega (arith, e))
   zip-push (l ∷ ks) (d ∷ cs) k c e = ap (λ m. (l, d) ∷ m) (zip-push ks cs k c (omega (arith, e)))
 
-  -- what a list has at an index, as it is read behind a reference
+  -- what a list has at an index, as it is read after a reference
   pub read_at : {R : Type 0} (now : R → C) (o : Option R) (cs : List C) (i : ℕ) → is_some o ≡ ltb i (length cs)
       → IfSome o (λ r. now r ≡ get_or cs i (now r)) → option_map now o ≡ slice_get cs i
   read_at now None cs i some value =

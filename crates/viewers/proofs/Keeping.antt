@@ -8,10 +8,10 @@ use Rattle.std.proofs.lemmas.Bool.{lt-ltb}
 use Rattle.viewers.specs.declared.screen.Area.{Area}
 use Rattle.viewers.specs.declared.seats.Seat.{Seat}
 use Rattle.viewers.specs.Screen.{ScreenSeen, area_in, area_of, has, user_width}
-use Rattle.viewers.specs.Tracks.{bottom, closed, cut, divided, heir, height_at, moved, place, seat_at, top, with_height}
+use Rattle.viewers.specs.Tracks.{bottom, closed, cut, divided, heir, height_at, moved, seat_index, seat_at, top, with_height}
 use Rattle.viewers.proofs.Rows.{next_top}
 
--- the rows of a seat are ahead
+-- the rows of a seat are before
 abbrev pub shifted : ℕ → Option (ℕ × ℕ) → Option (ℕ × ℕ)
 shifted h found = option_map (λ r. (h + r.0, r.1)) found
 
@@ -22,11 +22,11 @@ found (s ∷ rest) w = cond (eqb s.number w) (Some (0, s.height)) (shifted s.hei
 
 -- the same by the index of its seat
 abbrev at_place : List Seat → ℕ → Option (ℕ × ℕ)
-at_place seats w = cond (has seats w) (Some (top seats (place seats w), height_at seats (place seats w))) None
+at_place seats w = cond (has seats w) (Some (top seats (seat_index seats w), height_at seats (seat_index seats w))) None
 
 shifted_place : (s : Seat) (rest : List Seat) (w : ℕ) (b : Bool)
-    → shifted s.height (cond b (Some (top rest (place rest w), height_at rest (place rest w))) None)
-    ≡ cond b (Some (top (s ∷ rest) (suc (place rest w)), height_at (s ∷ rest) (suc (place rest w)))) None
+    → shifted s.height (cond b (Some (top rest (seat_index rest w), height_at rest (seat_index rest w))) None)
+    ≡ cond b (Some (top (s ∷ rest) (suc (seat_index rest w)), height_at (s ∷ rest) (suc (seat_index rest w)))) None
 shifted_place s rest w true = refl
 shifted_place s rest w false = refl
 
@@ -36,14 +36,14 @@ found_place (s ∷ rest) w = by_test (eqb s.number w) (found_place rest w)
   where
     by_test : (b : Bool) → found rest w ≡ at_place rest w
         → cond b (Some (0, s.height)) (shifted s.height (found rest w))
-        ≡ cond (ltb (cond b 0 (suc (place rest w))) (suc (length rest)))
-        (Some (top (s ∷ rest) (cond b 0 (suc (place rest w))), height_at (s ∷ rest) (cond b 0 (suc (place rest w))))) None
+        ≡ cond (ltb (cond b 0 (suc (seat_index rest w))) (suc (length rest)))
+        (Some (top (s ∷ rest) (cond b 0 (suc (seat_index rest w))), height_at (s ∷ rest) (cond b 0 (suc (seat_index rest w))))) None
     by_test true more =
         sym (ap (λ b. cond b (Some (0, s.height)) None) (lt-ltb 0 (suc (length rest)) (omega arith)))
     by_test false more =
         ap (shifted s.height) more ∙ shifted_place s rest w (has rest w)
-        ∙ sym (ap (λ b. cond b (Some (top (s ∷ rest) (suc (place rest w)), height_at (s ∷ rest) (suc (place rest w)))) None)
-        (leb-suc-suc (suc (place rest w)) (length rest)))
+        ∙ sym (ap (λ b. cond b (Some (top (s ∷ rest) (suc (seat_index rest w)), height_at (s ∷ rest) (suc (seat_index rest w)))) None)
+        (leb-suc-suc (suc (seat_index rest w)) (length rest)))
 
 -- the cells of a viewer follow from that
 abbrev as_area : Option (ℕ × ℕ) → (col width : ℕ) → Option Area → Option Area
@@ -51,7 +51,7 @@ as_area None col width other = other
 as_area (Some r) col width other = Some (record { col = col; top = r.0; width = width; height = r.1 })
 
 area_place : (seats : List Seat) (w col width : ℕ) (other : Option Area) (b : Bool)
-    → as_area (cond b (Some (top seats (place seats w), height_at seats (place seats w))) None) col width other
+    → as_area (cond b (Some (top seats (seat_index seats w), height_at seats (seat_index seats w))) None) col width other
     ≡ cond b (Some (area_in seats w col width)) other
 area_place seats w col width other true = refl
 area_place seats w col width other false = refl
@@ -162,6 +162,6 @@ moved_found seats (suc i) row w lt some above below apart other =
     subst (λ k. top seats k + 2 ≤ row → w ≢ (seat_at seats k).number
     → found (with_height (with_height seats k (row - top seats k)) (suc i) (bottom seats (suc i) - row)) w ≡ found seats w)
     e (λ above other.
-    let ahead = next_top seats i (record { number = 0; height = 0 }) (omega (arith, lt)) in
-    border_found seats i (row - top seats i) (bottom seats (suc i) - row) w lt (omega (arith, ahead, above, below)) other apart)
+    let before = next_top seats i (record { number = 0; height = 0 }) (omega (arith, lt)) in
+    border_found seats i (row - top seats i) (bottom seats (suc i) - row) w lt (omega (arith, before, above, below)) other apart)
     above other

@@ -10,7 +10,7 @@ use Rattle.viewers.specs.declared.screen.Track.TheVariants.{User, System}
 use Rattle.viewers.specs.declared.seats.Seat.{Seat}
 use Rattle.viewers.specs.Laws.{AreUnused, ClosingKeepsOthers, MovingKeepsOthers, OpeningKeepsOthers, OpeningRises, ShowWhereTheyStand, StaysCovered, above, heir_of}
 use Rattle.viewers.specs.Screen.{ScreenSeen, after_close, after_move, after_open, area_in, area_of, has, user_width}
-use Rattle.viewers.specs.Tracks.{Covers, bottom, can_open, closed, holder, moved, opened, place, top, viewer_in}
+use Rattle.viewers.specs.Tracks.{Covers, bottom, can_open, closed, holder, moved, opened, seat_index, top, viewer_in}
 use Rattle.viewers.specs.Viewers.{ViewersSeen, content_of, has_room, numbers, times, with_viewer}
 use Rattle.viewers.proofs.Covering.{four_rows, row_there}
 use Rattle.viewers.proofs.Keeping.{closed_found, divided_found, found, moved_found, passed, system_area, user_area}
@@ -50,10 +50,10 @@ kept_by_closing : (seats : List Seat) (v w : ℕ) → w ≢ v → w ≢ heir_of 
     → found (after_close seats v) w ≡ found seats w
 kept_by_closing seats v w other apart = by_test (has seats v) refl
   where
-    by_test : (b : Bool) → has seats v ≡ b → found (cond b (closed seats (place seats v)) seats) w ≡ found seats w
+    by_test : (b : Bool) → has seats v ≡ b → found (cond b (closed seats (seat_index seats v)) seats) w ≡ found seats w
     by_test true is =
-        let lt = ltb-true (place seats v) (length seats) is in
-        closed_found seats (place seats v) w lt (λ same. other (same ∙ number_there seats v lt)) apart
+        let lt = ltb-true (seat_index seats v) (length seats) is in
+        closed_found seats (seat_index seats v) w lt (λ same. other (same ∙ number_there seats v lt)) apart
     by_test false is = refl
 
 pub closing_keeps : (s : ScreenSeen) (v : ℕ) → ClosingKeepsOthers s v
@@ -67,16 +67,16 @@ closing_keeps s v w other apart = by_test (has s.user v) apart
 kept_by_moving : (seats : List Seat) (v row w : ℕ) → w ≢ v → w ≢ above seats v
     → found (after_move seats v row) w ≡ found seats w
 kept_by_moving seats v row w other apart =
-    by_tests (has seats v) (nat_lt 0 (place seats v)) (nat_le (top seats (place seats v - 1) + 2) row)
-    (nat_le (row + 2) (bottom seats (place seats v))) refl refl refl refl
+    by_tests (has seats v) (nat_lt 0 (seat_index seats v)) (nat_le (top seats (seat_index seats v - 1) + 2) row)
+    (nat_le (row + 2) (bottom seats (seat_index seats v))) refl refl refl refl
   where
-    by_tests : (a b d e : Bool) → has seats v ≡ a → nat_lt 0 (place seats v) ≡ b
-        → nat_le (top seats (place seats v - 1) + 2) row ≡ d → nat_le (row + 2) (bottom seats (place seats v)) ≡ e
-        → found (cond (a && ((b && d) && e)) (moved seats (place seats v) row) seats) w ≡ found seats w
+    by_tests : (a b d e : Bool) → has seats v ≡ a → nat_lt 0 (seat_index seats v) ≡ b
+        → nat_le (top seats (seat_index seats v - 1) + 2) row ≡ d → nat_le (row + 2) (bottom seats (seat_index seats v)) ≡ e
+        → found (cond (a && ((b && d) && e)) (moved seats (seat_index seats v) row) seats) w ≡ found seats w
     by_tests true true true true is some high low =
-        let lt = ltb-true (place seats v) (length seats) is in
-        moved_found seats (place seats v) row w lt (ltb-true 0 (place seats v) some)
-        (leb-true (top seats (place seats v - 1) + 2) row high) (leb-true (row + 2) (bottom seats (place seats v)) low)
+        let lt = ltb-true (seat_index seats v) (length seats) is in
+        moved_found seats (seat_index seats v) row w lt (ltb-true 0 (seat_index seats v) some)
+        (leb-true (top seats (seat_index seats v - 1) + 2) row high) (leb-true (row + 2) (bottom seats (seat_index seats v)) low)
         (λ same. other (same ∙ number_there seats v lt)) apart
     by_tests false b d e is some high low = refl
     by_tests true false d e is some high low = refl

@@ -1,9 +1,9 @@
--- One more seat: of the index that a row or a number leads to, and of the rows ahead.
+-- One more seat: of the index that a row or a number leads to, and of the rows before.
 use Rattle.std.proofs.Common.{◌≡◌, ℕ, suc, ◌+◌, ◌-◌, ◌<◌, ◌≤◌, List, [], ◌∷◌, length, get_or, refl, arith, Bool, true, false, cond, nat_lt, ltb-false, zero}
 use Rattle.viewers.specs.declared.seats.Seat.{Seat}
 use Rattle.viewers.specs.Tracks.{rows, top, seat_at, holder}
 
--- the rows ahead of the next seat
+-- the rows before the next seat
 pub next_top : (seats : List Seat) (i : ℕ) (d : Seat) → i < length seats
     → top seats (suc i) ≡ top seats i + (get_or seats i d).height
 next_top [] i d lt = absurd (omega (arith, lt))
@@ -11,7 +11,7 @@ next_top (s ∷ rest) zero d lt = omega arith
 next_top (s ∷ rest) (suc i) d lt =
     let e = next_top rest i d (omega (arith, lt)) in omega (arith, e)
 
--- no more than all rows are ahead of a seat
+-- no more than all rows are before a seat
 pub top_bound : (seats : List Seat) (i : ℕ) → top seats i ≤ rows seats
 top_bound [] zero = omega arith
 top_bound [] (suc i) = omega arith

@@ -9,7 +9,7 @@ use Rattle.viewers.specs.declared.screen.Track.{Track}
 use Rattle.viewers.specs.declared.screen.Track.TheVariants.{User, System}
 use Rattle.viewers.specs.declared.seats.Seat.{Seat}
 use Rattle.viewers.specs.Screen.{ScreenSeen, after_close, after_closing, after_move, after_moving, after_open, closing, has, open_answer, seats_of, with_seats}
-use Rattle.viewers.specs.Tracks.{AreTall, Covers, bottom, can_move, can_open, closed, moved, opened, place, rows, top}
+use Rattle.viewers.specs.Tracks.{AreTall, Covers, bottom, can_move, can_open, closed, moved, opened, seat_index, rows, top}
 use Rattle.viewers.specs.Viewers.{AreNumbered, ViewersSeen, has_room, index_of, seated, times}
 use Rattle.viewers.proofs.Covering.{closed_covers, few_rows, moved_covers, one_covers, opened_covers, room_to_open}
 use Rattle.viewers.proofs.Numbers.{index_there, one_if, rising_next, rising_without, same_length, times_both, times_with_last, times_without}
@@ -29,16 +29,16 @@ open_covers height (s ∷ rest) v row covers high lt = by_test (can_open (s ∷ 
 pub close_covers : (height : ℕ) (seats : List Seat) (v : ℕ) → Covers height seats → Covers height (after_close seats v)
 close_covers height seats v covers = by_test (has seats v) refl
   where
-    by_test : (b : Bool) → has seats v ≡ b → Covers height (cond b (closed seats (place seats v)) seats)
-    by_test true is = closed_covers height (place seats v) seats covers (ltb-true (place seats v) (length seats) is)
+    by_test : (b : Bool) → has seats v ≡ b → Covers height (cond b (closed seats (seat_index seats v)) seats)
+    by_test true is = closed_covers height (seat_index seats v) seats covers (ltb-true (seat_index seats v) (length seats) is)
     by_test false is = covers
 
 -- and as a top is moved
 pub move_covers : (height : ℕ) (seats : List Seat) (v row : ℕ) → Covers height seats
     → Covers height (after_move seats v row)
 move_covers height seats v row covers =
-    by_tests (place seats v) (has seats v) (nat_lt 0 (place seats v)) (nat_le (top seats (place seats v - 1) + 2) row)
-    (nat_le (row + 2) (bottom seats (place seats v))) refl refl refl refl
+    by_tests (seat_index seats v) (has seats v) (nat_lt 0 (seat_index seats v)) (nat_le (top seats (seat_index seats v - 1) + 2) row)
+    (nat_le (row + 2) (bottom seats (seat_index seats v))) refl refl refl refl
   where
     by_tests : (i : ℕ) (a b d e : Bool) → nat_lt i (length seats) ≡ a → nat_lt 0 i ≡ b → nat_le (top seats (i - 1) + 2) row ≡ d
         → nat_le (row + 2) (bottom seats i) ≡ e → Covers height (cond (a && ((b && d) && e)) (moved seats i row) seats)
@@ -161,10 +161,10 @@ numbered_opened t next row ks System numbered few lt is =
     }
 
 seated_after_move : (seats : List Seat) (v row : ℕ) → seated (after_move seats v row) ≡ seated seats
-seated_after_move seats v row = by_test (has seats v && can_move seats (place seats v) row)
+seated_after_move seats v row = by_test (has seats v && can_move seats (seat_index seats v) row)
   where
-    by_test : (b : Bool) → seated (cond b (moved seats (place seats v) row) seats) ≡ seated seats
-    by_test true = seated_moved seats (place seats v) row
+    by_test : (b : Bool) → seated (cond b (moved seats (seat_index seats v) row) seats) ≡ seated seats
+    by_test true = seated_moved seats (seat_index seats v) row
     by_test false = refl
 
 pub numbered_moved : (t : ScreenSeen) (next v row : ℕ) (ks : List ℕ) → AreNumbered t next ks
@@ -223,8 +223,8 @@ closing_nowhere t next v ks why numbered err = by_tests (has t.user v) (has t.sy
     by_tests : (a b : Bool) → has t.user v ≡ a → has t.system v ≡ b
         → ◌≡◌ {A = Result Unit Refusal} (cond a (Ok tt) (cond b (Ok tt) (Err NoViewer))) (Err why)
         → (why ≡ NoViewer) × (times v ks ≡ 0)
-        × (cond a (record t { user = cond a (closed t.user (place t.user v)) t.user })
-        (record t { system = cond b (closed t.system (place t.system v)) t.system }) ≡ t)
+        × (cond a (record t { user = cond a (closed t.user (seat_index t.user v)) t.user })
+        (record t { system = cond b (closed t.system (seat_index t.system v)) t.system }) ≡ t)
     by_tests true b is other err = cc
     by_tests false true is other err = cc
     by_tests false false is other err =
@@ -234,10 +234,10 @@ closing_nowhere t next v ks why numbered err = by_tests (has t.user v) (has t.sy
 times_after_close : (seats : List Seat) (v w : ℕ) → has seats v ≡ true
     → times w (seated (after_close seats v)) + one_if v w ≡ times w (seated seats)
 times_after_close seats v w is =
-    let lt = ltb-true (place seats v) (length seats) is in
-    let e = times_closed seats (place seats v) w lt in
+    let lt = ltb-true (seat_index seats v) (length seats) is in
+    let e = times_closed seats (seat_index seats v) w lt in
     let n = ap (λ k. one_if k w) (number_there seats v lt) in
-    let out : after_close seats v ≡ closed seats (place seats v) = ap (λ b. cond b (closed seats (place seats v)) seats) is in
+    let out : after_close seats v ≡ closed seats (seat_index seats v) = ap (λ b. cond b (closed seats (seat_index seats v)) seats) is in
     let t = ap (λ l. times w (seated l)) out in omega (arith, e, n, t)
 
 is_there : (b : Bool) → ◌≡◌ {A = Result Unit Refusal} (cond b (Ok tt) (Err NoViewer)) (Ok tt) → b ≡ true

@@ -5,7 +5,7 @@ use Rattle.std.proofs.lemmas.List.{length-map}
 use Rattle.std.specs.List.{insert, remove}
 use Rattle.viewers.specs.declared.seats.Seat.{Seat}
 use Rattle.viewers.specs.Screen.{has}
-use Rattle.viewers.specs.Tracks.{bottom, closed, cut, heir, height_at, holder, moved, opened, place, seat_at, top, with_height}
+use Rattle.viewers.specs.Tracks.{bottom, closed, cut, heir, height_at, holder, moved, opened, seat_index, seat_at, top, with_height}
 use Rattle.viewers.specs.Viewers.{index_of, seated, times}
 use Rattle.viewers.proofs.Numbers.{index_found, index_there, one_if, times_with, times_without}
 
@@ -35,28 +35,28 @@ pub length_seated : (seats : List Seat) → length (seated seats) ≡ length sea
 length_seated seats = length-map seats (λ s. s.number)
 
 -- a viewer's seat is where its number stands
-pub place_index : (seats : List Seat) (v : ℕ) → place seats v ≡ index_of (seated seats) v
-place_index [] v = refl
-place_index (s ∷ rest) v = ap (λ n. cond (eqb s.number v) 0 (suc n)) (place_index rest v)
+pub seat_index_is : (seats : List Seat) (v : ℕ) → seat_index seats v ≡ index_of (seated seats) v
+seat_index_is [] v = refl
+seat_index_is (s ∷ rest) v = ap (λ n. cond (eqb s.number v) 0 (suc n)) (seat_index_is rest v)
 
-pub number_there : (seats : List Seat) (v : ℕ) → place seats v < length seats → (seat_at seats (place seats v)).number ≡ v
+pub number_there : (seats : List Seat) (v : ℕ) → seat_index seats v < length seats → (seat_at seats (seat_index seats v)).number ≡ v
 number_there seats v lt =
-    let i = place_index seats v in let n = length_seated seats in
+    let i = seat_index_is seats v in let n = length_seated seats in
     let there = index_there (seated seats) v (index_found (seated seats) v (omega (arith, lt, i, n))) in
-    sym (seated_at seats (place seats v) lt) ∙ ap (λ k. get_or (seated seats) k 0) i ∙ there.1
+    sym (seated_at seats (seat_index seats v) lt) ∙ ap (λ k. get_or (seated seats) k 0) i ∙ there.1
 
 -- a viewer that has a seat is among the numbers, and no other is
 pub has_times : (seats : List Seat) (v : ℕ) → has seats v ≡ true → 0 < times v (seated seats)
 has_times seats v is =
-    let lt = ltb-true (place seats v) (length seats) is in let i = place_index seats v in let n = length_seated seats in
+    let lt = ltb-true (seat_index seats v) (length seats) is in let i = seat_index_is seats v in let n = length_seated seats in
     index_found (seated seats) v (omega (arith, lt, i, n))
 
 pub has_no_times : (seats : List Seat) (v : ℕ) → has seats v ≡ false → times v (seated seats) ≡ 0
 has_no_times seats v is =
-    let le = ltb-false (place seats v) (length seats) is in let i = place_index seats v in let n = length_seated seats in
+    let le = ltb-false (seat_index seats v) (length seats) is in let i = seat_index_is seats v in let n = length_seated seats in
     by_times (times v (seated seats)) refl le i n
   where
-    by_times : (m : ℕ) → times v (seated seats) ≡ m → length seats ≤ place seats v → place seats v ≡ index_of (seated seats) v
+    by_times : (m : ℕ) → times v (seated seats) ≡ m → length seats ≤ seat_index seats v → seat_index seats v ≡ index_of (seated seats) v
         → length (seated seats) ≡ length seats → m ≡ 0
     by_times zero e le i n = refl
     by_times (suc m) e le i n =

@@ -4,7 +4,7 @@ use Rattle.viewers.specs.declared.screen.Track.{Track}
 use Rattle.viewers.specs.declared.seats.Seat.{Seat}
 use Rattle.viewers.specs.declared.seats.TheConstants.{MIN_HEIGHT}
 use Rattle.viewers.specs.Screen.{IsScreen, ScreenSeen, after_close, after_closing, after_move, after_moving, after_open, area_of, has, seats_of, with_seats}
-use Rattle.viewers.specs.Tracks.{Covers, heir, place, seat_at, viewer_in}
+use Rattle.viewers.specs.Tracks.{Covers, heir, seat_index, seat_at, viewer_in}
 use Rattle.viewers.specs.Viewers.{AreViewers, ViewersSeen, after_opening, content_of, open_result}
 
 -- a covered track stays covered as a viewer opens, as one closes, and as a top is moved
@@ -19,11 +19,11 @@ seats_with s v = if has s.user v then s.user else s.system
 
 -- the viewer that takes the rows of another as that closes
 abbrev pub heir_of : List Seat → ℕ → ℕ
-heir_of seats v = (seat_at seats (heir (place seats v))).number
+heir_of seats v = (seat_at seats (heir (seat_index seats v))).number
 
 -- the viewer above another
 abbrev pub above : List Seat → ℕ → ℕ
-above seats v = (seat_at seats (place seats v - 1)).number
+above seats v = (seat_at seats (seat_index seats v - 1)).number
 
 -- as a viewer opens, each but this one and the one that gives it rows keeps its area
 abbrev pub OpeningKeepsOthers : ScreenSeen → Track → (v row : ℕ) → Type 0

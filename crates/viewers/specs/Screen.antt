@@ -8,7 +8,7 @@ use Rattle.viewers.specs.declared.seats.TheConstants.{MIN_WIDTH, MAX_WIDTH, MIN_
 use Rattle.viewers.specs.declared.screen.Area.{Area}
 use Rattle.viewers.specs.declared.screen.Track.{Track}
 use Rattle.viewers.specs.declared.screen.Track.TheVariants.{User, System}
-use Rattle.viewers.specs.Tracks.{Covers, can_move, can_open, closed, opened, height_at, moved, place, top, viewer_in}
+use Rattle.viewers.specs.Tracks.{Covers, can_move, can_open, closed, opened, height_at, moved, seat_index, top, viewer_in}
 
 -- what a contract sees of both tracks
 pub record ScreenSeen : Type 0 where
@@ -47,12 +47,12 @@ viewer_at s col row =
 
 -- whether the viewer has a seat in the track
 abbrev pub has : List Seat → ℕ → Bool
-has seats v = nat_lt (place seats v) (length seats)
+has seats v = nat_lt (seat_index seats v) (length seats)
 
 -- the cells of the viewer of a track that has these columns
 abbrev pub area_in : List Seat → ℕ → ℕ → ℕ → Area
 area_in seats v col width =
-    record { col = col; top = top seats (place seats v); width = width; height = height_at seats (place seats v) }
+    record { col = col; top = top seats (seat_index seats v); width = width; height = height_at seats (seat_index seats v) }
 
 -- the cells of a viewer; none for a number that isn't on the screen
 abbrev pub area_of : ScreenSeen → ℕ → Option Area
@@ -69,12 +69,12 @@ with_seats s System seats = record s { system = seats }
 -- what a move of the top of a viewer of a track to a row answers
 abbrev pub move_answer : List Seat → ℕ → ℕ → Result Unit Refusal
 move_answer seats v row =
-    if has seats v then (if can_move seats (place seats v) row then Ok tt else Err NoRoom) else Err NoViewer
+    if has seats v then (if can_move seats (seat_index seats v) row then Ok tt else Err NoRoom) else Err NoViewer
 
 -- and the track then
 abbrev pub after_move : List Seat → ℕ → ℕ → List Seat
 after_move seats v row =
-    if has seats v && can_move seats (place seats v) row then moved seats (place seats v) row else seats
+    if has seats v && can_move seats (seat_index seats v) row then moved seats (seat_index seats v) row else seats
 
 -- what opening a viewer at a row of a track answers
 abbrev pub open_answer : List Seat → ℕ → Result Unit Refusal
@@ -90,7 +90,7 @@ close_answer seats v = if has seats v then Ok tt else Err NoViewer
 
 -- and the track then
 abbrev pub after_close : List Seat → ℕ → List Seat
-after_close seats v = if has seats v then closed seats (place seats v) else seats
+after_close seats v = if has seats v then closed seats (seat_index seats v) else seats
 
 -- what closing a viewer answers
 abbrev pub closing : ScreenSeen → ℕ → Result Unit Refusal

@@ -9,7 +9,7 @@ abbrev pub rows : List Seat → ℕ
 rows [] = 0
 rows (s ∷ rest) = s.height + rows rest
 
--- the first row of the seat at an index: the heights ahead of it
+-- the first row of the seat at an index: the heights before it
 abbrev pub top : List Seat → ℕ → ℕ
 top seats i = rows (take i seats)
 
@@ -19,9 +19,9 @@ holder [] row = 0
 holder (s ∷ rest) row = if nat_lt row s.height then 0 else suc (holder rest (row - s.height))
 
 -- the index of the seat of this number, or their count where none has it
-abbrev pub place : List Seat → ℕ → ℕ
-place [] v = 0
-place (s ∷ rest) v = if s.number == v then 0 else suc (place rest v)
+abbrev pub seat_index : List Seat → ℕ → ℕ
+seat_index [] v = 0
+seat_index (s ∷ rest) v = if s.number == v then 0 else suc (seat_index rest v)
 
 -- a seat of no viewer, for an index past the last
 abbrev pub no_seat : Seat
@@ -57,7 +57,7 @@ abbrev pub row_for : List Seat → Option ℕ → ℕ
 row_for seats (Some row) = row
 row_for seats None = top seats (tallest seats) + height_at seats (tallest seats) / 2
 
--- the seat at i keeps the rows ahead of the cut, and viewer v takes those from there on
+-- the seat at i keeps the rows before the cut, and viewer v takes those from there on
 abbrev pub divided : List Seat → ℕ → ℕ → ℕ → List Seat
 divided seats v i row =
     insert (with_height seats i (cut seats i row - top seats i)) (i + 1)

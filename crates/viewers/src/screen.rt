@@ -94,7 +94,7 @@ impl<C> Screen<C> {
     }
 
     /// A law: each viewer has one seat and one content, and numbers rise. A proof gets it by calling this, at no cost.
-    pub fn are_viewers(&self)
+    pub fn lemma_are_viewers(&self)
         ensures { AreViewers self.now }
     {
         let _ = &self.next;

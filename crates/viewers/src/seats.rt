@@ -1,5 +1,5 @@
 ghost use Rattle.std.specs.Prelude.{◌≡◌, ◌+◌, ◌-◌, ◌<◌, ◌≤◌, ◌⊎◌, [], IsTrue, None as Nothing, length};
-ghost use Rattle.viewers.specs.Tracks.{AreTall, bottom, can_move, can_open, closed, divided, height_at, holder, moved, place};
+ghost use Rattle.viewers.specs.Tracks.{AreTall, bottom, can_move, can_open, closed, divided, height_at, holder, moved, seat_index};
 ghost use Rattle.viewers.specs.Tracks.{row_for, rows, seat_at, tallest, top, viewer_in, with_height};
 
 use arrayvec::ArrayVec;
@@ -46,8 +46,8 @@ pub(crate) fn holder(seats: &[Seat], row: usize) -> usize
 }
 
 // The index of the viewer's seat; their count where it has none.
-pub(crate) fn place(seats: &[Seat], number: u32) -> usize
-    ensures value { result ≡ place seats.now number }
+pub(crate) fn seat_index(seats: &[Seat], number: u32) -> usize
+    ensures value { result ≡ seat_index seats.now number }
     ensures bound { result ≤ length seats.now }
 {
     for index in 0..seats.len() {

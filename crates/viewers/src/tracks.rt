@@ -2,12 +2,12 @@ ghost use Rattle.std.specs.Prelude.{◌≡◌, ◌<◌, ◌≤◌, length};
 ghost use Rattle.viewers.specs.Screen.{area_in, area_of, blank_tracks, seats_of, viewer_at};
 ghost use Rattle.viewers.specs.Screen.{after_close, after_closing, after_move, after_moving, after_open};
 ghost use Rattle.viewers.specs.Screen.{close_answer, closing, move_answer, moving, open_answer, with_seats};
-ghost use Rattle.viewers.specs.Tracks.{Covers, can_open, place, rows};
+ghost use Rattle.viewers.specs.Tracks.{Covers, can_open, seat_index, rows};
 
 use crate::screen::{Area, Track};
 use crate::seats::{
     MAX_HEIGHT, MAX_SEATS, MAX_WIDTH, MIN_HEIGHT, MIN_WIDTH, Seat, can_move, can_open, close,
-    divide, holder, move_border, place, seat_at, top, viewer_in,
+    divide, holder, move_border, seat_index, seat_at, top, viewer_in,
 };
 use arrayvec::ArrayVec;
 use looks::Refusal;
@@ -34,11 +34,11 @@ impl Model for Tracks {
 
 // The cells of the viewer of a track that has these columns.
 fn area_in(seats: &[Seat], viewer: u32, col: usize, width: usize) -> Area
-    requires there { place seats.now viewer < length seats.now }
+    requires there { seat_index seats.now viewer < length seats.now }
     requires few { rows seats.now ≤ MAX_HEIGHT }
     ensures { result ≡ area_in seats.now viewer col width }
 {
-    let index = place(seats, viewer);
+    let index = seat_index(seats, viewer);
     let height = seat_at(seats, index).height;
     Area {
         col,
@@ -63,7 +63,7 @@ fn move_in(
     ensures after { seats.new.items ≡ after_move seats.old.items viewer row }
     ensures covered { Covers height seats.new.items }
 {
-    let index = place(seats.as_slice(), viewer);
+    let index = seat_index(seats.as_slice(), viewer);
     if seats.len() <= index {
         return Err(Refusal::NoViewer);
     }
@@ -87,7 +87,7 @@ fn close_in(
     ensures after { seats.new.items ≡ after_close seats.old.items viewer }
     ensures covered { Covers height seats.new.items }
 {
-    let index = place(seats.as_slice(), viewer);
+    let index = seat_index(seats.as_slice(), viewer);
     if seats.len() <= index {
         return Err(Refusal::NoViewer);
     }
@@ -189,10 +189,10 @@ impl Tracks {
         let border = self.width / 8 * 5;
         let user = self.user.as_slice();
         let system = self.system.as_slice();
-        if place(user, viewer) < user.len() {
+        if seat_index(user, viewer) < user.len() {
             return Some(area_in(user, viewer, 0, border));
         }
-        if place(system, viewer) < system.len() {
+        if seat_index(system, viewer) < system.len() {
             return Some(area_in(system, viewer, border, self.width - border));
         }
         None
@@ -218,7 +218,7 @@ impl Tracks {
         ensures value { result ≡ closing self.old viewer }
         ensures after { self.new ≡ after_closing self.old viewer }
     {
-        if place(self.user.as_slice(), viewer) < self.user.len() {
+        if seat_index(self.user.as_slice(), viewer) < self.user.len() {
             close_in(&mut self.user, self.height, viewer)
         } else {
             close_in(&mut self.system, self.height, viewer)
@@ -234,7 +234,7 @@ impl Tracks {
         ensures value { result ≡ moving self.old viewer row }
         ensures after { self.new ≡ after_moving self.old viewer row }
     {
-        if place(self.user.as_slice(), viewer) < self.user.len() {
+        if seat_index(self.user.as_slice(), viewer) < self.user.len() {
             move_in(&mut self.user, self.height, viewer, row)
         } else {
             move_in(&mut self.system, self.height, viewer, row)

@@ -11,8 +11,8 @@ use Rattle.waiting_room.specs.Judged.{IsAboveInserts, IsAbovePredecessor}
 -- above the predecessor and an Insert of each name, it has lower stamps below it
 pub lower_stamps : (ops : List Operation) (op : Operation) → IsAbovePredecessor ops op
     → IsAboveInserts ops op → HasLowerStamps ops op
-lower_stamps ops op behind inserts = record {
-  predecessor = behind;
+lower_stamps ops op after inserts = record {
+  predecessor = after;
   mentions = λ name m. (inserts name m).1;
 }
 

@@ -74,10 +74,10 @@ by_files ops room site = (
           inr (name, m, on, λ here. omega arith)
     ],
   ),
-  λ h. let (op, held, behind) = h in (
+  λ h. let (op, held, after) = h in (
     op,
     held,
-    elim behind [
+    elim after [
       | inl own ↦ inl own
       | inr named ↦
           let (name, m, on, gone) = named in

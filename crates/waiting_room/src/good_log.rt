@@ -37,8 +37,8 @@ impl<'a> GoodLog<'a> {
 impl<'a> Held for GoodLog<'a> {
     ghost ops = { λ ops. ops };
 
-    fn are_good(&self) {
-        self.log.are_held_to_the_front();
+    fn lemma_are_good(&self) {
+        self.log.lemma_are_held_to_the_front();
     }
 
     fn front(&self, site: SiteNo) -> u32 {
@@ -50,7 +50,7 @@ impl<'a> Held for GoodLog<'a> {
     }
 
     fn op_stamp(&self, site: SiteNo, seq: u32) -> u64 {
-        self.log.are_held_to_the_front();
+        self.log.lemma_are_held_to_the_front();
         match self.log.get(site, seq) {
             Some(op) => op.stamp(),
             None => unreachable!(),

@@ -16,7 +16,7 @@ pub trait Held {
     ghost ops: { Self → List Operation };
 
     /// A law: the operations are a good set, and no two have one identity. A proof gets it by calling this.
-    fn are_good(&self)
+    fn lemma_are_good(&self)
         ensures good { Good (ops self.now) }
         ensures identified { AreIdentified (ops self.now) };
 

@@ -16,7 +16,7 @@ use operations::{Op, named};
 pub enum Verdict {
     /// It waits for its predecessor, or for the Insert of another site's name.
     Wait,
-    /// It is refused: its offset isn't the end of its site's file, or it names an own character behind that
+    /// It is refused: its offset isn't the end of its site's file, or it names an own character after that
     /// end (refusal 4).
     Misfit,
     /// It is refused: its stamp isn't above each cause's (refusal 5).
@@ -30,7 +30,7 @@ fn follows_on<H: Held>(op: &Op, held: &H) -> bool
     requires { IsNew (H.ops held.now) op.now }
     ensures { IsTrue result ↔ FollowsOn (H.ops held.now) op.now }
 {
-    held.are_good();
+    held.lemma_are_good();
     op.seq() - 1 <= held.front(op.site())
 }
 
@@ -94,7 +94,7 @@ fn is_above_causes<H: Held>(op: &Op, held: &H) -> bool
     requires here { (name : CharName) → Mentions op.now name → IsHere (H.ops held.now) name }
     ensures { IsTrue result ↔ IsAboveCauses (H.ops held.now) op.now }
 {
-    held.are_good();
+    held.lemma_are_good();
     is_above_predecessor(op, held) && is_above_inserts(op, held)
 }
 

@@ -30,7 +30,7 @@ pub enum Offered {
 fn is_new<H: Held>(op: &Op, held: &H) -> bool
     ensures { IsTrue result ↔ IsNew (H.ops held.now) op.now }
 {
-    held.are_good();
+    held.lemma_are_good();
     held.front(op.site()) < op.seq()
 }
 
@@ -95,7 +95,7 @@ impl Room {
 
     /// A law: each operation that waits has an identity of its own, and they are no more than there are places. A
     /// proof gets it by calling this, at no cost.
-    pub fn are_identified(&self)
+    pub fn lemma_are_identified(&self)
         ensures identified { AreIdentified self.now }
         ensures few { length self.now ≤ MAX_WAITING }
     {
@@ -127,7 +127,7 @@ impl Room {
         if self.ops.len() == MAX_WAITING {
             return Err(Refusal::RoomFull);
         }
-        op.has_spelling();
+        op.lemma_has_spelling();
         let key = (op.site().get(), op.seq());
         self.ops.insert(key, op)?;
         Ok(Offered::New)

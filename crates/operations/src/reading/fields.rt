@@ -1,4 +1,4 @@
-//! The fields of a message, each with the bytes behind it.
+//! The fields of a message, each with the bytes after it.
 
 ghost use Rattle.std.specs.Prelude.{◌≡◌};
 ghost use Rattle.std.specs.Int.{w16, w32, w64};

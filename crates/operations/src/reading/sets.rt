@@ -4,7 +4,7 @@ ghost use Rattle.std.specs.Prelude.{◌≡◌, ◌<◌, ◌≤◌, None, length,
 ghost use Rattle.looks.specs.Refusal.{RefusedForMemoryAlone};
 ghost use Rattle.operations.specs.NameSet.{IsSet};
 ghost use Rattle.byte_fields.specs.Fields.{Finds};
-ghost use Rattle.operations.specs.Reading.{range_at, is_behind, ranges_at, set_at};
+ghost use Rattle.operations.specs.Reading.{range_at, is_after, ranges_at, set_at};
 
 use super::fields::{positive_u16_at, positive_u32_at};
 use crate::name_set::{MAX_RANGES, NameRange, NameSet};
@@ -14,7 +14,7 @@ use looks::Refusal;
 use std::alloc::Global;
 use std::marker::Model;
 
-/// Ranges as a message spells them, each behind the one before. They are checked when they are read, and made
+/// Ranges as a message spells them, each after the one before. They are checked when they are read, and made
 /// a set when all of the message was.
 #[derive(Drop)]
 pub(super) struct Ranges<'a> {
@@ -70,18 +70,18 @@ fn range_at(bytes: &[u8]) -> Option<(NameRange, &[u8])>
     Some((NameRange::new(site, at, len), rest))
 }
 
-// Whether the range stands behind the last one, if there is one, and doesn't touch it.
-fn is_behind(last: Option<NameRange>, range: NameRange) -> bool
-    ensures { result ≡ is_behind last range }
+// Whether the range stands after the last one, if there is one, and doesn't touch it.
+fn is_after(last: Option<NameRange>, range: NameRange) -> bool
+    ensures { result ≡ is_after last range }
 {
     match last {
         None => true,
-        Some(last) => last.is_ahead(range),
+        Some(last) => last.comes_before(range),
     }
 }
 
-// The bytes behind so many ranges, each of which stands behind the one before.
-fn behind_ranges(count: u16, bytes: &[u8]) -> Option<&[u8]>
+// The bytes after so many ranges, each of which stands after the one before.
+fn after_ranges(count: u16, bytes: &[u8]) -> Option<&[u8]>
     ensures { Finds (λ rest. rest.now) result (option_map (λ x. x.1) (ranges_at None count bytes.now)) }
 {
     let mut last = None;
@@ -90,7 +90,7 @@ fn behind_ranges(count: u16, bytes: &[u8]) -> Option<&[u8]>
         let Some(next) = range_at(rest) else {
             return None;
         };
-        if !is_behind(last, next.0) {
+        if !is_after(last, next.0) {
             return None;
         }
         last = Some(next.0);
@@ -107,6 +107,6 @@ pub(super) fn set_at(bytes: &[u8]) -> Option<(Ranges<'_>, &[u8])>
     if MAX_RANGES < usize::from(count) {
         return None;
     }
-    let rest = behind_ranges(count, raw)?;
+    let rest = after_ranges(count, raw)?;
     Some((Ranges { raw, count }, rest))
 }

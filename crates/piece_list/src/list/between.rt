@@ -14,12 +14,12 @@ use crate::run::Run;
 use std::marker::Model;
 
 /// The stretches of a text that are shown between two positions, one after the other, without memory: seen as
-/// the list of the runs that are left. It reads no piece behind the last of them. This project's own.
+/// the list of the runs that are left. It reads no piece after the last of them. This project's own.
 #[derive(Drop)]
 pub struct Between<'a> {
-    // The first run, if it was read ahead: cut at its front.
+    // The first run, if it was read before: cut at its front.
     first: Option<Run>,
-    // The runs behind it.
+    // The runs after it.
     walk: Walk<'a>,
     // How many characters are wanted.
     left: u64,
@@ -73,9 +73,9 @@ fn cut_front(walk: &mut Walk<'_>, n: u64) -> Option<Run>
 }
 
 impl PieceList {
-    /// Walks the stretches that are shown from `beg` to `end`, which isn't ahead of it, in order: each a run that
+    /// Walks the stretches that are shown from `beg` to `end`, which isn't before it, in order: each a run that
     /// isn't empty. It takes no memory. It begins at the piece that is shown at `beg`, which is found without
-    /// reading those ahead of it, and then each step reads on to the next piece that is shown.
+    /// reading those before it, and then each step reads on to the next piece that is shown.
     pub fn walk_between(&self, beg: u64, end: u64) -> Between<'_>
         requires range { beg ≤ end }
         ensures shown { flat_map appearances_in result
@@ -83,8 +83,8 @@ impl PieceList {
         ensures some { All (λ run. 0 < run.len) result }
         ensures within { All (λ run. run.off + run.len ≤ MAX_FILE) result }
     {
-        let (mut walk, ahead) = self.walk_from(beg);
-        let first = cut_front(&mut walk, ahead);
+        let (mut walk, before) = self.walk_from(beg);
+        let first = cut_front(&mut walk, before);
         Between {
             first,
             walk,

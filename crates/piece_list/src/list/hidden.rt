@@ -12,7 +12,7 @@ use char_files::Name;
 use operations::{NameRange, NameSet};
 
 impl PieceList {
-    // Whether the character of this name is hidden, and the offset behind the last of its piece, up to which
+    // Whether the character of this name is hidden, and the offset after the last of its piece, up to which
     // the others are alike.
     fn hidden_from(&self, name: Name) -> (bool, u32)
         requires { HasName (spelled self.now.items) name }

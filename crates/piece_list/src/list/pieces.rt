@@ -91,7 +91,7 @@ impl Pieces {
         })
     }
 
-    // Cuts the piece of this number behind its first `n` characters. The rest gets the number that is answered.
+    // Cuts the piece of this number after its first `n` characters. The rest gets the number that is answered.
     pub(super) fn cut(&mut self, tag: u64, n: u32) -> u64
         requires some { 0 < n }
         requires place { HasPlace self.old.items (record { piece = tag; within = n }) }
@@ -107,14 +107,14 @@ impl Pieces {
         self.ring.seek(tag);
         let front = self.ring.value_mut();
         let rest = front.split_off(n);
-        let ahead = front.shown_of(n);
-        let behind = rest.shown_of(rest.len);
+        let before = front.shown_of(n);
+        let after = rest.shown_of(rest.len);
         let (site, off, len) = (rest.site, rest.off, rest.len);
         match self.ring.push_after(rest) {
             Ok(number) => {
                 self.tags.fill(site, off, len, number);
-                self.index.set_weight(tag, ahead);
-                self.index.insert_after(Some(tag), number, behind);
+                self.index.set_weight(tag, before);
+                self.index.insert_after(Some(tag), number, after);
                 number
             }
             Err(_) => unreachable!(),

@@ -1,4 +1,4 @@
-//! How a run's piece goes into the list: behind its cause and the pieces of greater key that follow.
+//! How a run's piece goes into the list: after its cause and the pieces of greater key that follow.
 
 ghost use Rattle.std.specs.Prelude.{◌≡◌, ℕ, ◌+◌, ◌-◌, ◌<◌, ◌≤◌, List, [], ◌∷◌, ◌++◌, length, OnOk, OnErr};
 ghost use Rattle.std.specs.Prelude.{IfSome, IsSome, vec_len, vec_capacity};
@@ -30,17 +30,17 @@ use list_changes::{Change, ChangeKind};
 use looks::{Key, Refusal};
 use piece_raw::Ring;
 
-// The piece directly behind this one, if its key is greater: one look, which is counted. At the front for `None`.
+// The piece directly after this one, if its key is greater: one look, which is counted. At the front for `None`.
 fn next_above(pieces: &Ring<Piece>, steps: &mut Steps, last: Option<u64>, key: Key) -> Option<u64>
     requires { HasPart pieces.now.items last }
     ensures above { IfSome result (λ next. IsNext pieces.now.items key last next) }
-    ensures stops { result ≡ Nothing → (ahead behind : List (ℕ × Piece))
-        → IsParted pieces.now.items last ahead behind → BeginNotAbove key behind }
-    ensures steps { (ahead behind : List (ℕ × Piece)) → IsParted pieces.now.items last ahead behind
-        → IsCounted steps.old (last_look behind) steps.new }
+    ensures stops { result ≡ Nothing → (before after : List (ℕ × Piece))
+        → IsParted pieces.now.items last before after → BeginNotAbove key after }
+    ensures steps { (before after : List (ℕ × Piece)) → IsParted pieces.now.items last before after
+        → IsCounted steps.old (last_look after) steps.new }
 {
-    let mut behind = pieces.behind(last);
-    let (next, piece) = behind.next()?;
+    let mut after = pieces.rest_after(last);
+    let (next, piece) = after.next()?;
     if steps.is_above(piece, key) {
         Some(next)
     } else {
@@ -64,8 +64,8 @@ impl Pieces {
     // where there are none.
     fn skip(&self, steps: &mut Steps, from: Option<u64>, key: Key) -> Option<u64>
         requires { HasPart self.now.items from }
-        ensures { (ahead behind : List (ℕ × Piece)) → IsParted self.now.items from ahead behind
-            → IsSkip key ahead behind result steps.old steps.new }
+        ensures { (before after : List (ℕ × Piece)) → IsParted self.now.items from before after
+            → IsSkip key before after result steps.old steps.new }
     {
         let mut last = from;
         while let Some(next) = next_above(&self.ring, steps, last, key) {
@@ -75,7 +75,7 @@ impl Pieces {
     }
 
     // Makes the character of this place the last of its piece, which keeps its number.
-    fn cut_behind(&mut self, place: Place)
+    fn cut_after(&mut self, place: Place)
         requires place { HasPlace self.old.items place }
         requires room { 0 < self.old.room }
         ensures parted { (cause : Anchor) → IsAnchorPlace self.old.items cause (Just place)
@@ -101,7 +101,7 @@ impl Pieces {
     {
         match place {
             Some(at) => {
-                self.cut_behind(at);
+                self.cut_after(at);
                 Some(at.piece)
             }
             None => None,
@@ -115,8 +115,8 @@ impl Pieces {
         requires new { (c : CharName) → IsIn (range_of piece) c → ¬ HasName (spelled self.old.items) c }
         requires fits { piece.off + piece.len ≤ length (table_of self.old.tables piece.site) }
         requires room { 0 < self.old.room }
-        ensures put { (ahead behind : List (ℕ × Piece)) → IsParted self.old.items last ahead behind
-            → (tag : ℕ) × (self.new.items ≡ ahead ++ (tag, piece) ∷ behind) }
+        ensures put { (before after : List (ℕ × Piece)) → IsParted self.old.items last before after
+            → (tag : ℕ) × (self.new.items ≡ before ++ (tag, piece) ∷ after) }
         ensures pieces { ArePieces self.new.items }
     {
         stand_on(&mut self.ring, last);
@@ -175,8 +175,8 @@ impl PieceList {
         let _ = &pieces.ring;
     }
 
-    /// Puts a run, as one piece, directly behind its cause and the longest stretch of characters of greater
-    /// key that follows the cause. Where the cause isn't the last of its piece, the piece is cut behind it.
+    /// Puts a run, as one piece, directly after its cause and the longest stretch of characters of greater
+    /// key that follows the cause. Where the cause isn't the last of its piece, the piece is cut after it.
     ///
     /// The run has 1 to 4,096 characters within its site's file, none of them in the list, and the cause is
     /// the root or in the list. `steps` counts one comparison that finds the cause, none for the root, and a

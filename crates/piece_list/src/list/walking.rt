@@ -64,7 +64,7 @@ impl PieceList {
         pieces.index.total()
     }
 
-    /// How many shown characters stand at or ahead of the character of this name, which may be hidden; `None`
+    /// How many shown characters stand at or before the character of this name, which may be hidden; `None`
     /// for a name that isn't here.
     pub fn shown_to(&self, name: Name) -> Option<u64>
         ensures here { IsSome result ↔ HasName (spelled self.now.items) name }
@@ -73,8 +73,8 @@ impl PieceList {
         let pieces = &self.pieces;
         let place = pieces.locate(name, &mut Steps::none())?;
         let piece = pieces.ring.value_at(place.piece);
-        let ahead = pieces.index.rank(place.piece);
-        Some(ahead + u64::from(piece.shown_of(place.within + 1)))
+        let before = pieces.index.rank(place.piece);
+        Some(before + u64::from(piece.shown_of(place.within + 1)))
     }
 
     /// The place of the character that is shown at this position, from 0. There is one.
@@ -106,8 +106,8 @@ impl PieceList {
         }
     }
 
-    // Walks on from the piece that is shown at this position, and tells how many of its characters stand ahead
-    // of the position. Behind the end there is nothing.
+    // Walks on from the piece that is shown at this position, and tells how many of its characters stand before
+    // of the position. After the end there is nothing.
     pub(super) fn walk_from(&self, pos: u64) -> (Walk<'_>, u64)
         ensures shown { drop result.1 (flat_map appearances_in result.0)
             ≡ drop pos (map appearance_of (shown_chars (spelled self.now.items))) }
@@ -119,9 +119,9 @@ impl PieceList {
             let none = pieces.ring.from(None);
             return (Walk { members: none }, 0);
         }
-        let (tag, ahead) = pieces.index.find(pos);
+        let (tag, before) = pieces.index.find(pos);
         let members = pieces.ring.from(Some(tag));
-        (Walk { members }, ahead)
+        (Walk { members }, before)
     }
 
     /// Walks the stretches that are shown, in order: each a run that isn't empty.
@@ -134,7 +134,7 @@ impl PieceList {
     {
         let pieces = &self.pieces;
         Walk {
-            members: pieces.ring.behind(None),
+            members: pieces.ring.rest_after(None),
         }
     }
 }

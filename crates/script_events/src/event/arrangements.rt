@@ -3,7 +3,7 @@ ghost use Rattle.script_events.specs.EventView.{OpensDeskText};
 ghost use Rattle.script_events.specs.Script.{cell_in, close_arrangement, move_arrangement, open_arrangement, opening_in, pair_in};
 ghost use Rattle.script_events.specs.Script.{point_arrangement, scroll_arrangement, select_arrangement, track_in};
 
-use crate::event::words::{cut_number, cut_word, number_in, text_in};
+use crate::event::words::{split_number, split_word, number_in, text_in};
 use machine::{Arrangement, Cell};
 use viewers::Track;
 
@@ -24,7 +24,7 @@ fn track_in(word: &[u8]) -> Option<Track>
 fn pair_in(rest: &[u8]) -> Option<(u32, usize)>
     ensures { result ≡ pair_in rest.now }
 {
-    let (first, second) = cut_word(rest)?;
+    let (first, second) = split_word(rest)?;
     let first = number_in(first)?;
     let second = number_in(second)? as usize;
     Some((first, second))
@@ -39,12 +39,12 @@ pub(crate) fn cell_in(rest: &[u8]) -> Option<Cell>
     Some(Cell { col, row })
 }
 
-// What `open` goes on with behind its track: a text, which ends the line or has a row behind it.
+// What `open` goes on with after its track: a text, which ends the line or has a row after it.
 fn opening_in(track: Track, rest: &[u8]) -> Option<Arrangement>
     ensures arrangement { result ≡ opening_in track rest.now }
     ensures on_desk { IfSome result (λ arrangement. OpensDeskText arrangement) }
 {
-    match cut_word(rest) {
+    match split_word(rest) {
         Some((text, row)) => {
             let text = text_in(text)?;
             let row = Some(number_in(row)? as usize);
@@ -63,7 +63,7 @@ pub(crate) fn open_arrangement(rest: &[u8]) -> Option<Arrangement>
     ensures arrangement { result ≡ open_arrangement rest.now }
     ensures on_desk { IfSome result (λ arrangement. OpensDeskText arrangement) }
 {
-    let (track, rest) = cut_word(rest)?;
+    let (track, rest) = split_word(rest)?;
     opening_in(track_in(track)?, rest)
 }
 
@@ -109,8 +109,8 @@ pub(crate) fn select_arrangement(rest: &[u8]) -> Option<Arrangement>
     ensures arrangement { result ≡ select_arrangement rest.now }
     ensures on_desk { IfSome result (λ arrangement. OpensDeskText arrangement) }
 {
-    let (col, rest) = cut_number(rest)?;
-    let (row, rest) = cut_number(rest)?;
+    let (col, rest) = split_number(rest)?;
+    let (row, rest) = split_number(rest)?;
     let beg = Cell {
         col: col as usize,
         row: row as usize,

@@ -5,14 +5,14 @@ ghost use Rattle.script_events.specs.Script.{type_edit, cut_edit, looks_edit, re
 use crate::escaped::Escaped;
 use crate::event::Edit;
 use crate::event::looks_words::change_in;
-use crate::event::words::{cut_number, number_in};
+use crate::event::words::{split_number, number_in};
 
-// What `type` goes on with behind its text: a position and the bytes.
+// What `type` goes on with after its text: a position and the bytes.
 pub(crate) fn type_edit(rest: &[u8]) -> Option<Edit<'_>>
     ensures edit { option_map edit_of result ≡ type_edit rest.now }
     ensures short { IfSome result (λ edit. (len : ℕ) → length rest.now ≤ len → TypesAtMost len edit) }
 {
-    let (pos, raw) = cut_number(rest)?;
+    let (pos, raw) = split_number(rest)?;
     Some(Edit::TypeIn {
         pos,
         bytes: Escaped::new(raw)?,
@@ -24,7 +24,7 @@ pub(crate) fn cut_edit(rest: &[u8]) -> Option<Edit<'_>>
     ensures edit { option_map edit_of result ≡ cut_edit rest.now }
     ensures short { IfSome result (λ edit. (len : ℕ) → TypesAtMost len edit) }
 {
-    let (beg, end) = cut_number(rest)?;
+    let (beg, end) = split_number(rest)?;
     let end = u64::from(number_in(end)?);
     Some(Edit::Cut { beg, end })
 }
@@ -34,8 +34,8 @@ pub(crate) fn looks_edit(rest: &[u8]) -> Option<Edit<'_>>
     ensures edit { option_map edit_of result ≡ looks_edit rest.now }
     ensures short { IfSome result (λ edit. (len : ℕ) → TypesAtMost len edit) }
 {
-    let (beg, rest) = cut_number(rest)?;
-    let (end, words) = cut_number(rest)?;
+    let (beg, rest) = split_number(rest)?;
+    let (end, words) = split_number(rest)?;
     let (sel, looks) = change_in(words)?;
     Some(Edit::Looks {
         beg,

@@ -2,7 +2,7 @@ ghost use Rattle.std.specs.Prelude.{◌≡◌, ◌≤◌, option_map, IfSome};
 ghost use Rattle.std.specs.Option.{option_copied};
 ghost use Rattle.script_events.specs.Script.{file_in, filing_in};
 
-use crate::event::words::{cut_word, text_in};
+use crate::event::words::{split_word, text_in};
 use char_files::TextNo;
 use machine::MAX_TEXT;
 use shelf::file_name;
@@ -22,7 +22,7 @@ pub(crate) fn filing_in(rest: &[u8]) -> Option<(TextNo, &str)>
     ensures filing { option_map (λ filing. (filing.0, filing.1.now)) result ≡ filing_in rest.now }
     ensures on_desk { IfSome result (λ filing. filing.0 ≤ MAX_TEXT) }
 {
-    let (text, name) = cut_word(rest)?;
+    let (text, name) = split_word(rest)?;
     let text = text_in(text)?;
     let name = file_in(name)?;
     Some((text, name))

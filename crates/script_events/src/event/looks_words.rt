@@ -1,6 +1,6 @@
 ghost use Rattle.std.specs.Prelude.{◌≡◌, option_map};
 ghost use Rattle.looks.specs.Looks.{plain_looks};
-ghost use Rattle.script_events.specs.LooksWords.{cut_value, colour_in, signed_in, offset_in};
+ghost use Rattle.script_events.specs.LooksWords.{split_value, colour_in, signed_in, offset_in};
 ghost use Rattle.script_events.specs.LooksWords.{font_in, given_or, looks_of, selection_in, change_of, change_in};
 
 use crate::event::words::{front_word, number_in};
@@ -8,9 +8,9 @@ use looks::{Colour, FontName, Looks, Sel};
 
 // The value of this key's attribute, where the words that are left begin with it; and the words that are then
 // left.
-fn cut_value<'a>(key: &[u8], left: Option<&'a [u8]>) -> (Option<&'a [u8]>, Option<&'a [u8]>)
+fn split_value<'a>(key: &[u8], left: Option<&'a [u8]>) -> (Option<&'a [u8]>, Option<&'a [u8]>)
     ensures { (option_map (λ value. value.now) result.0, option_map (λ rest. rest.now) result.1)
-        ≡ cut_value key.now (option_map (λ words. words.now) left.entry) }
+        ≡ split_value key.now (option_map (λ words. words.now) left.entry) }
 {
     let Some(words) = left else {
         return (None, None);
@@ -57,7 +57,7 @@ fn colour_or_plain(given: Option<&[u8]>) -> Option<Colour>
     }
 }
 
-// A number, perhaps behind a `-`.
+// A number, perhaps after a `-`.
 fn signed_in(word: &[u8]) -> Option<i64>
     ensures { result ≡ signed_in word.now }
 {
@@ -124,9 +124,9 @@ fn change_of(
 pub(crate) fn change_in(words: &[u8]) -> Option<(Sel, Looks)>
     ensures { result ≡ change_in words.now }
 {
-    let (font, left) = cut_value(b"font=", Some(words));
-    let (colour, left) = cut_value(b"colour=", left);
-    let (offset, left) = cut_value(b"offset=", left);
+    let (font, left) = split_value(b"font=", Some(words));
+    let (colour, left) = split_value(b"colour=", left);
+    let (offset, left) = split_value(b"offset=", left);
     match left {
         Some(_) => None,
         None => change_of(font, colour, offset),

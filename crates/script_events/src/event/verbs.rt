@@ -5,7 +5,7 @@ ghost use Rattle.script_events.specs.Script.{verb_among, verb_in};
 
 use machine::{Query, View};
 
-// A verb, by what stands behind it.
+// A verb, by what stands after it.
 #[derive(Clone, Copy, Debug)]
 pub(crate) enum Verb {
     // A text, which ends the line and is printed.

@@ -1,25 +1,25 @@
 ghost use Rattle.std.specs.Prelude.{◌≡◌, ◌<◌, ◌≤◌, length, option_map, IfSome};
 ghost use Rattle.std.specs.Str.{all_ascii_digits};
-ghost use Rattle.script_events.specs.Words.{cut_word, front_word, number_in, cut_number, desk_in, text_in};
+ghost use Rattle.script_events.specs.Words.{split_word, front_word, number_in, split_number, desk_in, text_in};
 
 use char_files::TextNo;
 use machine::MAX_TEXT;
 
-// The word up to the first blank, and what stands behind that blank.
-pub(crate) fn cut_word(bytes: &[u8]) -> Option<(&[u8], &[u8])>
-    ensures word { option_map (λ cut. (cut.0.now, cut.1.now)) result ≡ cut_word bytes.now }
+// The word up to the first blank, and what stands after that blank.
+pub(crate) fn split_word(bytes: &[u8]) -> Option<(&[u8], &[u8])>
+    ensures word { option_map (λ cut. (cut.0.now, cut.1.now)) result ≡ split_word bytes.now }
     ensures shorter { IfSome result (λ cut. length cut.1.now ≤ length bytes.now) }
 {
     let end = bytes.iter().position(|byte| *byte == b' ')?;
     Some((&bytes[..end], &bytes[end + 1..]))
 }
 
-// The word in front, and what stands behind its blank, if it isn't the last word.
+// The word in front, and what stands after its blank, if it isn't the last word.
 pub(crate) fn front_word(words: &[u8]) -> (&[u8], Option<&[u8]>)
     ensures word { (result.0.now, option_map (λ rest. rest.now) result.1) ≡ front_word words.now }
     ensures shorter { IfSome result.1 (λ rest. length rest.now ≤ length words.now) }
 {
-    match cut_word(words) {
+    match split_word(words) {
         Some((word, rest)) => (word, Some(rest)),
         None => (words, None),
     }
@@ -43,12 +43,12 @@ pub(crate) fn number_in(word: &[u8]) -> Option<u32>
     text.parse().ok()
 }
 
-// The number up to the first blank, and what stands behind that blank.
-pub(crate) fn cut_number(bytes: &[u8]) -> Option<(u64, &[u8])>
-    ensures value { option_map (λ cut. (cut.0, cut.1.now)) result ≡ cut_number bytes.now }
+// The number up to the first blank, and what stands after that blank.
+pub(crate) fn split_number(bytes: &[u8]) -> Option<(u64, &[u8])>
+    ensures value { option_map (λ cut. (cut.0, cut.1.now)) result ≡ split_number bytes.now }
     ensures shorter { IfSome result (λ cut. length cut.1.now ≤ length bytes.now) }
 {
-    let (word, rest) = cut_word(bytes)?;
+    let (word, rest) = split_word(bytes)?;
     Some((u64::from(number_in(word)?), rest))
 }
 

@@ -40,7 +40,7 @@ fn cost_of(bytes: &[u8], pos: u64) -> Option<u64> {
     }
 }
 
-// What a word of 32 bytes costs at each of its positions: itself and the blank ahead of it, and itself once more.
+// What a word of 32 bytes costs at each of its positions: itself and the blank before it, and itself once more.
 const MOST: u64 = 65;
 
 #[test]

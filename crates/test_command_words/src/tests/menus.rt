@@ -50,7 +50,7 @@ const VIEWERS: &[u32] = &[
     4_294_967_295,
 ];
 
-// Whether the row shows the text from its first byte on: cut at its width, or with blanks behind it.
+// Whether the row shows the text from its first byte on: cut at its width, or with blanks after it.
 fn shows(row: &[u8], text: &[u8]) -> bool {
     for (col, cell) in row.iter().enumerate() {
         let shown = if col < text.len() { text[col] } else { b' ' };

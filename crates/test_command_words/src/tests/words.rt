@@ -1,4 +1,4 @@
-//! The words in texts that are commands, and the tokens behind them.
+//! The words in texts that are commands, and the tokens after them.
 use super::is;
 use char_files::Plain;
 use command_words::{Command, command_at};
@@ -67,7 +67,7 @@ fn words_are_commands(_rt: HostRuntime) -> Result<(), Fail> {
 }
 
 #[test]
-fn the_token_stands_behind_the_word(_rt: HostRuntime) -> Result<(), Fail> {
+fn the_token_stands_after_the_word(_rt: HostRuntime) -> Result<(), Fail> {
     let call = command_at(&Plain(b"Edit.Search \t^ x"), 3);
     let is_caret = call.is_some_and(|call| call.token.value == TokenValue::Char(b'^')
         && call.token.beg == 13);

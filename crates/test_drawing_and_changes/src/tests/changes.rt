@@ -7,7 +7,7 @@ use std::test::Fail;
 const CASES: &[(&str, u64, &[Change], bool)] = &[
     ("no change", 3, &[], true),
     (
-        "an insert behind",
+        "an insert after",
         3,
         &[Change {
             kind: ChangeKind::Insert,
@@ -27,7 +27,7 @@ const CASES: &[(&str, u64, &[Change], bool)] = &[
         false,
     ),
     (
-        "a delete behind",
+        "a delete after",
         3,
         &[Change {
             kind: ChangeKind::Delete,
@@ -37,7 +37,7 @@ const CASES: &[(&str, u64, &[Change], bool)] = &[
         true,
     ),
     (
-        "a delete ahead",
+        "a delete before",
         3,
         &[Change {
             kind: ChangeKind::Delete,
@@ -102,18 +102,18 @@ fn quiet_changes_are_told(_rt: HostRuntime) -> Result<(), Fail> {
 
 #[test]
 fn two_rows_stay(_rt: HostRuntime) -> Result<(), Fail> {
-    // Rows 0 and 1 end at 3. A `z` at 4 comes behind them, then a `y` at 3 into the second.
-    let behind = Change {
+    // Rows 0 and 1 end at 3. A `z` at 4 comes after them, then a `y` at 3 into the second.
+    let after = Change {
         kind: ChangeKind::Insert,
         beg: 4,
         end: 5,
     };
-    is(behind.is_quiet(3), "the insert behind")?;
+    is(after.is_quiet(3), "the insert after")?;
     let into = Change {
         kind: ChangeKind::Insert,
         beg: 3,
         end: 4,
     };
     is(!into.is_quiet(3), "the insert into the row")?;
-    is(behind == behind && behind != into, "changes compare")
+    is(after == after && after != into, "changes compare")
 }

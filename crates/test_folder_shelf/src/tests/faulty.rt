@@ -19,7 +19,7 @@ pub(super) struct Faulty<'a> {
     pub(super) step: Step,
 }
 
-/// A file that fails behind its first piece.
+/// A file that fails after its first piece.
 #[derive(Drop)]
 pub(super) struct FaultyFile {
     file: File,

@@ -4,7 +4,7 @@ use op_log::Log;
 use std::alloc::Global;
 use std::test::Fail;
 
-// Three sites, one cause: sites 1 and 2 both type behind the `A` of `AC`; then site 1 deletes a character,
+// Three sites, one cause: sites 1 and 2 both type after the `A` of `AC`; then site 1 deletes a character,
 // which makes no file longer.
 const AC: Told = (1, 1, 1, Does::Insert(None, 0, b"AC"));
 

@@ -157,8 +157,8 @@ fn a_room_keeps_what_is_offered(rt: HostRuntime) -> Result<(), Fail> {
     keeps_what_is_offered(&mut room, rt.alloc())
 }
 
-// What waits, and which is the first that leaves: where nothing was taken in, behind the first Insert, and
-// behind one below it.
+// What waits, and which is the first that leaves: where nothing was taken in, after the first Insert, and
+// after one below it.
 type Leaving = (&'static str, &'static [Told], Option<usize>);
 
 const AT_FIRST: &[Leaving] = &[("no cause is here", THREE, None)];

@@ -15,7 +15,7 @@ const SAME_STAMP: Told = (2, 1, 1, Does::Insert(Some((1, 0)), 0, b"X"));
 
 const SECOND: Told = (2, 2, 2, Does::Insert(Some((2, 0)), 1, b"Y"));
 
-// What is handed in, and the verdict: where nothing was taken in, and behind the first Insert.
+// What is handed in, and the verdict: where nothing was taken in, and after the first Insert.
 type Case = (&'static str, Told, Verdict);
 
 const AT_FIRST: &[Case] = &[
@@ -62,22 +62,22 @@ const BEHIND_IT: &[Case] = &[
         Verdict::Ready,
     ),
     (
-        "deletes an own character behind the end of its file",
+        "deletes an own character after the end of its file",
         (1, 2, 2, Does::Delete(&[(1, 6)])),
         Verdict::Misfit,
     ),
     (
-        "a bad offset counts ahead of a name that isn't here",
+        "a bad offset counts before a name that isn't here",
         (1, 2, 2, Does::Insert(Some((2, 0)), 5, b"!")),
         Verdict::Misfit,
     ),
     (
-        "and that ahead of a bad stamp",
+        "and that before a bad stamp",
         (1, 2, 1, Does::Insert(Some((2, 0)), 6, b"!")),
         Verdict::Wait,
     ),
     (
-        "a missing predecessor counts ahead of a bad offset",
+        "a missing predecessor counts before a bad offset",
         (1, 3, 3, Does::Insert(None, 5, b"!")),
         Verdict::Wait,
     ),
@@ -89,7 +89,7 @@ fn verdict_on(log: &Log, op: &Op, alloc: Global) -> Result<Verdict, Fail> {
         return Err("not good".into());
     }
     let held = GoodLog::new(log);
-    op.has_spelling();
+    op.lemma_has_spelling();
     if log.get(op.site(), op.seq()).is_some() {
         return Err("not new".into());
     }

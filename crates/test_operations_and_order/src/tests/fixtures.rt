@@ -213,7 +213,7 @@ fn reserve(ops: &mut Vec<Op>, len: usize) -> Result<(), AllocError> {
     }
 }
 
-// Puts the operations behind those that are there.
+// Puts the operations after those that are there.
 pub(super) fn put_ops(ops: &mut Vec<Op>, alloc: Global, told: &[Told]) -> Result<(), Fail> {
     reserve(ops, told.len())?;
     for fields in told {

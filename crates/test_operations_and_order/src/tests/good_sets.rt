@@ -5,7 +5,7 @@ use operations::Op;
 use std::alloc::Global;
 use std::test::Fail;
 
-// Three sites, one cause: sites 1 and 2 both type behind the `A` of `AC`.
+// Three sites, one cause: sites 1 and 2 both type after the `A` of `AC`.
 const M1: Told = (1, 1, 1, Does::Insert(None, 0, b"AC"));
 
 const M2: Told = (1, 2, 2, Does::Insert(Some((1, 0)), 2, b"B"));
@@ -162,12 +162,12 @@ const BAD: &[(&str, &[Told])] = &[
     ("three sites, one cause, without the cause", &[M2, M3, M4]),
 ];
 
-// Those operations of the lists, one list behind the other, at whose places the number has a binary 1.
+// Those operations of the lists, one list after the other, at whose places the number has a binary 1.
 pub(super) type Part<'a> = (&'a [&'a [Told]], u32);
 
 pub(super) const ALL: u32 = u32::MAX;
 
-// Puts those of one list behind what is there, and answers what is left of the number.
+// Puts those of one list after what is there, and answers what is left of the number.
 fn put_some(ops: &mut Vec<Op>, alloc: Global, told: &[Told], mut number: u32) -> Result<u32, Fail> {
     for op in told {
         if number % 2 == 1 {

@@ -116,7 +116,7 @@ fn changed_messages_are_malformed(rt: HostRuntime) -> Result<(), Fail> {
 // Whole messages that spell no operation.
 const MALFORMED: &[(&str, &[u8])] = &[
     (
-        "a byte behind the end",
+        "a byte after the end",
         b"OT\x01\x01\x00\x01\x00\x01\x00\x00\x00\x01\x00\x00\x00\x00\x00\x00\x00\x01\
             \x00\x00\x00\x00\x00\x00\x00\x00\x00\x00\x10Oberon10.Scn.Fnt\x01\x00\x00\x06Oberon\x00",
     ),

@@ -28,13 +28,13 @@ const NAMES: &[Names] = &[
         out: (1, 6),
     },
     Names {
-        what: "directly behind a range",
+        what: "directly after a range",
         names: &[(1, 5), (1, 6), (1, 7)],
         ranges: &[(1, 5, 3)],
         out: (1, 8),
     },
     Names {
-        what: "directly ahead of a range",
+        what: "directly before a range",
         names: &[(1, 5), (1, 4), (1, 3)],
         ranges: &[(1, 3, 3)],
         out: (1, 2),
@@ -311,7 +311,7 @@ fn put_scattered(ranges: &mut Vec<NameRange>, len: u16) -> Result<(), Fail> {
     Ok(())
 }
 
-// So many scattered ranges, and these behind them.
+// So many scattered ranges, and these after them.
 fn scattered(alloc: Global, len: u16, given: Ranges) -> Result<Vec<NameRange>, Fail> {
     let mut ranges = room(alloc, usize::from(len) + 1)?;
     put_scattered(&mut ranges, len)?;

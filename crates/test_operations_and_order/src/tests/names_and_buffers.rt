@@ -44,7 +44,7 @@ fn numbers_of_sites_and_texts() -> Result<(), Fail> {
 #[test]
 fn names_end_with_the_file() -> Result<(), Fail> {
     let site = SiteNo::new(7).ok_or("7 is a site")?;
-    is(Name::new(site, 0x0100_0000).is_none(), "behind the last")?;
+    is(Name::new(site, 0x0100_0000).is_none(), "after the last")?;
     let last = Name::new(site, 0x00ff_ffff).ok_or("the last offset of a file")?;
     is(last.site() == site && last.off() == 0x00ff_ffff, "the last")?;
     is(Anchor::At(last) != Anchor::Root, "no root")

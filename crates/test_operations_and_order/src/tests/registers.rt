@@ -67,7 +67,7 @@ const C: Atom = Atom {
     ..A
 };
 
-// Site 2's character, typed behind the first one while site 1 went on.
+// Site 2's character, typed after the first one while site 1 went on.
 const X: Atom = Atom {
     name: (2, 0),
     byte: b'x',

@@ -76,7 +76,7 @@ enum Growth {
     Ready,
     // It isn't good, nor with any of these.
     Refused(&'static [Told]),
-    // It is good with these, which stand ahead of the operation, and not without.
+    // It is good with these, which stand before the operation, and not without.
     Waits(&'static [Told]),
 }
 
@@ -94,7 +94,7 @@ const GROWTHS: &[(&str, &[Told], &[Told], Growth)] = &[
         Growth::Ready,
     ),
     (
-        "an Insert behind another site's",
+        "an Insert after another site's",
         &[ONE, TWO],
         &[(1, 2, 2, Does::Insert(Some((2, 2)), 3, b"!"))],
         Growth::Ready,
@@ -106,7 +106,7 @@ const GROWTHS: &[(&str, &[Told], &[Told], Growth)] = &[
         Growth::Ready,
     ),
     (
-        "an Insert ahead of its file's end",
+        "an Insert before its file's end",
         &[AC, B, X],
         &[(1, 3, 4, Does::Insert(None, 2, b"Z"))],
         Growth::Refused(&[Y, (1, 4, 5, Does::Insert(None, 3, b"Z"))]),

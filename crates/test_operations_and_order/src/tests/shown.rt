@@ -72,7 +72,7 @@ const CASES: &[Case] = &[
         ..PLAIN
     },
     Case {
-        what: "typing behind a deleted character",
+        what: "typing after a deleted character",
         ops: &[
             (1, 1, 1, Does::Insert(None, 0, b"abc")),
             (1, 2, 2, Does::Delete(&[(1, 1, 1)])),
@@ -170,7 +170,7 @@ const CASES: &[Case] = &[
         ..PLAIN
     },
     Case {
-        what: "behind a deleted character, past another",
+        what: "after a deleted character, past another",
         ops: &[
             (1, 1, 1, Does::Insert(None, 0, b"abc")),
             (1, 2, 2, Does::Delete(&[(1, 1, 1)])),
@@ -184,7 +184,7 @@ const CASES: &[Case] = &[
         ..PLAIN
     },
     Case {
-        what: "the latest, behind a deleted character",
+        what: "the latest, after a deleted character",
         ops: &[
             (1, 1, 1, Does::Insert(None, 0, b"AC")),
             (2, 1, 2, Does::Insert(Some((1, 0)), 0, b"X")),
@@ -207,7 +207,7 @@ const CASES: &[Case] = &[
         ..PLAIN
     },
     Case {
-        what: "the latest behind what is shown",
+        what: "the latest after what is shown",
         ops: &[
             (1, 1, 1, Does::Insert(None, 0, b"AC")),
             (2, 1, 2, Does::Insert(Some((1, 0)), 0, b"X")),
@@ -283,7 +283,7 @@ fn is_before(alloc: Global, ops: &[Op], c: Name, d: Name) -> Result<bool, Fail>
     }
 }
 
-// The case's character of this index stands before those behind it alone.
+// The case's character of this index stands before those after it alone.
 fn stands_at(alloc: Global, ops: &[Op], case: &Case, c: Name, index: usize) -> Result<(), Fail>
     requires good { Good ops.now }
     requires character { IsChar ops.now c }
@@ -298,7 +298,7 @@ fn stands_at(alloc: Global, ops: &[Op], case: &Case, c: Name, index: usize) -> R
     Ok(())
 }
 
-// Each character has its place, and stands before those behind it alone.
+// Each character has its place, and stands before those after it alone.
 fn have_places(alloc: Global, ops: &[Op], case: &Case) -> Result<(), Fail>
     requires { Good ops.now }
 {
@@ -367,7 +367,7 @@ fn show(ops: &mut Vec<Op>, alloc: Global, parts: &[&[Told]], case: &Case) -> Res
     are_as_told(alloc, ops, case)
 }
 
-// The operations of these parts, one behind the other, have the case's order and text, and so they have backwards.
+// The operations of these parts, one after the other, have the case's order and text, and so they have backwards.
 pub(super) fn check_told(alloc: Global, parts: &[&[Told]], case: &Case) -> Result<(), Fail> {
     let mut ops = Vec::new(alloc);
     show(&mut ops, alloc, parts, case)

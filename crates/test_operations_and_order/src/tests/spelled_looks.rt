@@ -18,7 +18,7 @@ const LOOKS: &[(&str, &[u8], Found)] = &[
         Some((b"Oberon10.Scn.Fnt", 1, 0, 19)),
     ),
     (
-        "default looks with bytes behind them",
+        "default looks with bytes after them",
         b"\x10Oberon10.Scn.Fnt\x01\x00\x00\x06Oberon",
         Some((b"Oberon10.Scn.Fnt", 1, 0, 19)),
     ),

@@ -68,7 +68,7 @@ pub(super) fn add(
     let Some(_) = list.locate(name) else {
         return Err("a name that is here".into());
     };
-    names.with_name_law(name);
+    names.lemma_with_name(name);
     insert(names, name)?;
     Ok(())
 }
@@ -182,7 +182,7 @@ pub(super) fn make(
     Ok(try_step(list, alloc, step)??)
 }
 
-// Steps, each with the comparisons that a placing takes where they are told, and the pieces that stand behind it; the
+// Steps, each with the comparisons that a placing takes where they are told, and the pieces that stand after it; the
 // looks of all that is shown in the end; and sets of names, with whether one of them is hidden.
 #[derive(Clone, Copy)]
 struct Row {
@@ -279,7 +279,7 @@ const C_GOES: Step = Step::Switch(&[(1, 2, 1)], true, (2, 1));
 const ROWS: &[Row] = &[
     PLAIN,
     Row {
-        what: "behind one character two of one stamp",
+        what: "after one character two of one stamp",
         steps: &[
             (Step::Type((1, 0, 2), 1, None), Some(0), A_TO_B),
             (
@@ -330,7 +330,7 @@ const ROWS: &[Row] = &[
         ..PLAIN
     },
     // Site 1 types abc and deletes b, and shows it again under the key (3, 1). Site 2 saw only abc: it types x
-    // behind c, and deletes b under the key (3, 2), which is greater.
+    // after c, and deletes b under the key (3, 2), which is greater.
     Row {
         what: "a restore against a delete, at site 1",
         steps: &[

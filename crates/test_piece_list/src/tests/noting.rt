@@ -21,7 +21,7 @@ enum Edit {
     Paint(u8),
 }
 
-// An edit under a key of this stamp; what it shows again, and what is shown behind it.
+// An edit under a key of this stamp; what it shows again, and what is shown after it.
 #[derive(Clone, Copy)]
 struct Row {
     what: &'static str,

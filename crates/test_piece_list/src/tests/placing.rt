@@ -17,7 +17,7 @@ pub(super) fn find(list: &mut PieceList, site: u16, off: u32) -> Result<Place, F
     Ok(found.ok_or("a name that is there")?)
 }
 
-// Splits ahead of a name, and answers where it stands then. Where memory is refused, the list is as it was,
+// Splits before a name, and answers where it stands then. Where memory is refused, the list is as it was,
 // and the next try succeeds.
 fn split(list: &mut PieceList, site: u16, off: u32, before: &[Told]) -> Result<Place, Fail> {
     let place = find(list, site, off)?;
@@ -61,15 +61,15 @@ fn cuts_in_three(list: &mut PieceList, middle: Place) -> Result<(), Fail> {
     is(stays, "within the middle one")
 }
 
-fn cuts_ahead_of_names(list: &mut PieceList, alloc: Global) -> Result<(), Fail> {
+fn cuts_before_names(list: &mut PieceList, alloc: Global) -> Result<(), Fail> {
     make(list, alloc, Step::Type((1, 0, 6), 1, None), &[])?;
     let middle = cuts_in_two(list)?;
     cuts_in_three(list, middle)
 }
 
 #[test]
-fn a_piece_is_cut_ahead_of_a_name(rt: HostRuntime) -> Result<(), Fail> {
-    cuts_ahead_of_names(&mut new_list(rt.alloc())?, rt.alloc())
+fn a_piece_is_cut_before_a_name(rt: HostRuntime) -> Result<(), Fail> {
+    cuts_before_names(&mut new_list(rt.alloc())?, rt.alloc())
 }
 
 // Each of so many characters is the first of its piece, and found by one comparison.

@@ -16,7 +16,7 @@ use std::test::Fail;
 
 const EDITS: u32 = 100_000;
 
-// Behind so many edits both lists are compared.
+// After so many edits both lists are compared.
 const APART: u32 = 1_000;
 
 // Of so many characters, each time.
@@ -71,17 +71,17 @@ impl Dice {
 }
 
 // The last of the first so many characters, or the root.
-fn last_of(chars: &[Known], ahead: usize) -> Result<Anchor, Fail> {
-    let Some(last) = ahead.checked_sub(1) else {
+fn last_of(chars: &[Known], earlier: usize) -> Result<Anchor, Fail> {
+    let Some(last) = earlier.checked_sub(1) else {
         return Ok(Anchor::Root);
     };
     let known = chars.get(last).ok_or("a character")?;
     Ok(Anchor::At(name(known.site, known.off)?))
 }
 
-// Where a run of this key goes: behind so many characters, and those of greater keys that follow.
-fn gap(chars: &[Known], ahead: usize, stamp: u64, site: u16) -> usize {
-    for at in ahead..chars.len() {
+// Where a run of this key goes: after so many characters, and those of greater keys that follow.
+fn gap(chars: &[Known], earlier: usize, stamp: u64, site: u16) -> usize {
+    for at in earlier..chars.len() {
         if !chars[at].has_greater_key(stamp, site) {
             return at;
         }
@@ -94,9 +94,9 @@ fn put(
     chars: &mut Vec<Known>,
     (site, off, len): Names,
     stamp: u64,
-    ahead: usize,
+    earlier: usize,
 ) -> Result<(), Fail> {
-    let at = gap(chars, ahead, stamp, site);
+    let at = gap(chars, earlier, stamp, site);
     for i in (0..len).rev() {
         let known = Known {
             site,
@@ -118,9 +118,9 @@ fn types(list: &mut PieceList, chars: &mut Vec<Known>, dice: &mut Dice) -> Resul
     let off = u32::try_from(chars.len()).unwrap_or(u32::MAX);
     let names = (site, off, dice.below(3).saturating_add(1));
     let stamp = u64::from(dice.below(STAMPS)).saturating_add(1);
-    let ahead = dice.index_below(chars.len().saturating_add(1));
-    try_place(list, names, stamp, last_of(chars, ahead)?)??;
-    put(chars, names, stamp, ahead)
+    let earlier = dice.index_below(chars.len().saturating_add(1));
+    try_place(list, names, stamp, last_of(chars, earlier)?)??;
+    put(chars, names, stamp, earlier)
 }
 
 fn add_all(list: &mut PieceList, names: &mut NameSet, chars: &[Known]) -> Result<(), Fail>
@@ -173,7 +173,7 @@ fn switches(
     Ok(())
 }
 
-// Splits the piece of a character ahead of it.
+// Splits the piece of a character before it.
 fn splits(list: &mut PieceList, chars: &[Known], dice: &mut Dice) -> Result<(), Fail> {
     let Some(known) = chars.get(dice.index_below(chars.len())) else {
         return Ok(());
@@ -226,12 +226,12 @@ fn stands_at(list: &mut PieceList, name: Name, pos: u64) -> Result<(), Fail> {
 
 // Whether it is told where one of the characters stands.
 fn is_told(list: &mut PieceList, chars: &[Known], index: usize) -> Result<(), Fail> {
-    let (ahead, rest) = chars.split_at(index.min(chars.len()));
+    let (earlier, rest) = chars.split_at(index.min(chars.len()));
     let Some(known) = rest.first() else {
         return Ok(());
     };
     let name = name(known.site, known.off)?;
-    let before = count_shown(ahead);
+    let before = count_shown(earlier);
     let to = before.saturating_add(u64::from(!known.hidden));
     is(list.shown_to(name) == Some(to), "how many are shown")?;
     if known.hidden {

@@ -66,8 +66,8 @@ fn push(ring: &mut Ring<u32>, value: u32, members: &[(u64, u32)]) -> Result<u64,
     }
 }
 
-// What is pushed stands behind the cursor.
-fn stand_behind_the_cursor(ring: &mut Ring<u32>) -> Result<(), Fail> {
+// What is pushed stands after the cursor.
+fn stand_after_the_cursor(ring: &mut Ring<u32>) -> Result<(), Fail> {
     is(has(ring, &[]) && ring.tag().is_none(), "no members")?;
     is(push(ring, 10, &[])? == 0, "the first tag")?;
     is(push(ring, 20, &[(0, 10)])? == 1, "the second tag")?;
@@ -110,22 +110,22 @@ fn has_neighbours(ring: &Ring<u32>) -> Result<(), Fail> {
     )?;
     is(*ring.value_at(last) == 20, "the last one's value")?;
     is(
-        are_left(ring.behind(None), &[(3, 5), (0, 10), (2, 15), (1, 20)]),
+        are_left(ring.rest_after(None), &[(3, 5), (0, 10), (2, 15), (1, 20)]),
         "all",
     )?;
     is(
-        are_left(ring.behind(Some(first)), &[(0, 10), (2, 15), (1, 20)]),
-        "behind the first",
+        are_left(ring.rest_after(Some(first)), &[(0, 10), (2, 15), (1, 20)]),
+        "after the first",
     )?;
     is(
-        are_left(ring.behind(Some(last)), &[]) && are_left(ring.from(None), &[]),
+        are_left(ring.rest_after(Some(last)), &[]) && are_left(ring.from(None), &[]),
         "none",
     )?;
     is(are_left(ring.from(Some(last)), &[(1, 20)]), "from the last")
 }
 
 fn goes_as_told(ring: &mut Ring<u32>) -> Result<(), Fail> {
-    stand_behind_the_cursor(ring)?;
+    stand_after_the_cursor(ring)?;
     goes_around(ring)?;
     has_neighbours(ring)?;
     ring.reserve(4)?;

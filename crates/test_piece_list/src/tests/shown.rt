@@ -53,7 +53,7 @@ fn walks_all(list: &PieceList, runs: &[(u32, u32)]) -> bool {
     wants.next().is_none()
 }
 
-// The position tells the character of this offset, behind so many others of its piece.
+// The position tells the character of this offset, after so many others of its piece.
 fn tells(list: &PieceList, pos: u64, within: u32, off: u32) -> Result<(), Fail> {
     if list.shown_len() <= pos {
         return Err("a position".into());
@@ -68,14 +68,14 @@ fn tells(list: &PieceList, pos: u64, within: u32, off: u32) -> Result<(), Fail> 
 
 fn tells_of_five(list: &PieceList, third: Name) -> Result<(), Fail> {
     is(list.shown_len() == 5, "how many are shown")?;
-    is(list.shown_to(third) == Some(2), "how many ahead of it")?;
+    is(list.shown_to(third) == Some(2), "how many before it")?;
     for (pos, within, off) in [(1, 1, 1), (2, 0, 3), (4, 2, 5)] {
         tells(list, pos, within, off)?;
     }
     is(walks_all(list, &[(0, 2), (3, 3)]), "what is shown")
 }
 
-// Types six characters, and cuts them in two ahead of the one of this name.
+// Types six characters, and cuts them in two before the one of this name.
 fn splits_six(list: &mut PieceList, name: Name) -> Result<(), Fail> {
     try_place(list, (1, 0, 6), 1, Anchor::Root)??;
     let place = list.locate(name).ok_or("a place")?;

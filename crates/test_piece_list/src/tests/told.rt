@@ -128,7 +128,7 @@ fn is_one_piece(list: &mut PieceList, (site, off, len): Names) -> bool {
         return false;
     };
     let ends = match place_of(list, site, end) {
-        Some(behind) => behind.piece != first.piece,
+        Some(after) => after.piece != first.piece,
         None => true,
     };
     ends && first.within == 0 && last.piece == first.piece && last.within == len - 1

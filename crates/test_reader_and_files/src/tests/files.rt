@@ -46,7 +46,7 @@ const REFUSED: &[(&str, &[u8])] = &[
         b"OTF1\x00\x00\x00\x02\x01A\x01\x00\x00\x00\x00\x01\x01A\x01\x00\x00\x00\x00\x01\x00\x00\x00\x02ab",
     ),
     (
-        "a byte behind the end",
+        "a byte after the end",
         b"OTF1\x00\x00\x00\x01\x01A\x01\x00\x00\x00\x00\x01\x00\x00\x00\x01ab",
     ),
     (
@@ -123,7 +123,7 @@ fn goes_behind(file: &mut Vec<u8>) -> Result<(), Fail> {
     }
     let (before, stored) = file.as_slice().split_at(6.min(file.len()));
     is(before == b"before".as_slice(), "what was there")?;
-    is(stored == STORED.as_slice(), "the file behind it")?;
+    is(stored == STORED.as_slice(), "the file after it")?;
     file.clear();
     store(&Plain(b""), file)?;
     is(file.as_slice() == EMPTY, "of the empty text")

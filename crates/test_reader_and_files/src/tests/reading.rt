@@ -82,5 +82,5 @@ fn plain_bytes_are_read() -> Result<(), Fail> {
     let mut reader = Reader::open(&plain, 1);
     is(reader.read() == Some((b'y', Looks::plain())), "the second")?;
     is(reader.read().is_none(), "the end")?;
-    is(Reader::open(&plain, 7).read().is_none(), "behind the end")
+    is(Reader::open(&plain, 7).read().is_none(), "after the end")
 }

@@ -8,8 +8,8 @@ use std::test::Fail;
 use text_file::store;
 use texts::{Outbox, Replica};
 
-// Types a character ahead of all that is shown. Where memory is refused it answers false, and nothing changes.
-fn type_ahead(
+// Types a character before all that is shown. Where memory is refused it answers false, and nothing changes.
+fn type_before(
     replica: &mut Replica,
     outbox: &mut Outbox,
     alloc: Global,
@@ -31,8 +31,8 @@ fn types(
     byte: u8,
     looks: &Looks,
 ) -> Result<(), Fail> {
-    let done = type_ahead(replica, outbox, alloc, byte, looks.copy())
-        || type_ahead(replica, outbox, alloc, byte, looks.copy());
+    let done = type_before(replica, outbox, alloc, byte, looks.copy())
+        || type_before(replica, outbox, alloc, byte, looks.copy());
     is(done, "typed")
 }
 
@@ -57,7 +57,7 @@ fn is_read(replica: &Replica, raised: &Looks) -> Result<(), Fail> {
     )
 }
 
-// The site types a text from its last character to its first, and then `-5 ` ahead of it, the `-` raised.
+// The site types a text from its last character to its first, and then `-5 ` before it, the `-` raised.
 fn is_typed(replica: &mut Replica, outbox: &mut Outbox, alloc: Global) -> Result<(), Fail> {
     is(Reader::open(replica, 0).read().is_none(), "no character")?;
     for byte in b"s erotS.tidE" {

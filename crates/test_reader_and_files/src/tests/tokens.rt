@@ -1,6 +1,6 @@
 use super::is;
 use char_files::Plain;
-use reader_scanner::{Class, Scanner, Token, TokenValue, one_token};
+use reader_scanner::{Class, Scanner, Token, TokenValue, lemma_one_token};
 use std::test::Fail;
 
 // The class, where the token begins and ends, the bytes of a name, a string or a character, and the number.
@@ -81,7 +81,7 @@ fn is_value(value: &TokenValue, text: &[u8], number: i32) -> bool {
     }
 }
 
-// Whether it is that token, behind which the scanner goes on.
+// Whether it is that token, after which the scanner goes on.
 fn is_token(token: &Token, pos: u64, (class, beg, end, text, number): Want) -> bool {
     let Token {
         beg: from,
@@ -105,7 +105,7 @@ fn are_scanned(
 
 #[test]
 fn tokens_of_sources() -> Result<(), Fail> {
-    one_token();
+    lemma_one_token();
     for (source, wanted) in ROWS {
         are_scanned(
             &mut Scanner::open(&Plain(source.as_bytes()), 0),

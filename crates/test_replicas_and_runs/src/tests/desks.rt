@@ -80,10 +80,10 @@ fn all_go_in(desk: &mut Texts, text: TextNo, outbox: &mut Outbox) -> Result<(), 
     }
     let nothing = type_in(desk, text, (5, b""), outbox);
     is(nothing == Ok(0), "nothing typed")?;
-    let behind = type_in(desk, text, (6, b""), outbox);
+    let after = type_in(desk, text, (6, b""), outbox);
     is(
-        behind == Err(EditRefusal::Whole(Refusal::OutOfRange)),
-        "behind the end",
+        after == Err(EditRefusal::Whole(Refusal::OutOfRange)),
+        "after the end",
     )?;
     is(
         outbox.len() == 2 && outbox.message(0) == FIRST_MESSAGE,

@@ -1,6 +1,6 @@
 use std::io;
 
-// A reader that gives at most `step` bytes at a time; behind its bytes it ends, or fails.
+// A reader that gives at most `step` bytes at a time; after its bytes it ends, or fails.
 #[derive(Clone, Copy, Drop)]
 pub(super) struct Reader<'a> {
     pub bytes: &'a [u8],
@@ -29,7 +29,7 @@ pub(super) enum Fault {
     TakesNothing,
 }
 
-// A writer that takes at most `step` bytes at a time and fails behind `room` bytes, or when it was flushed
+// A writer that takes at most `step` bytes at a time and fails after `room` bytes, or when it was flushed
 // `most` times. It was flushed `flushes` times, and of its bytes `flushed` are flushed.
 #[derive(Drop)]
 pub(super) struct Limited {

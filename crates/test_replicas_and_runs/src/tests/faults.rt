@@ -38,7 +38,7 @@ const WRITE_FAULT: Ending = Ending {
     flushed: false,
 };
 
-// How a writer fails, how many bytes it takes at a time, behind how many, and when it was flushed how often.
+// How a writer fails, how many bytes it takes at a time, after how many, and when it was flushed how often.
 type How = (Fault, usize, usize, usize);
 
 // Plays a script into such a writer; what that has, and how the run ended.
@@ -100,7 +100,7 @@ const SCRIPT: &[u8] = b"1 type 1 0 Oberon\n1 text 1\n1 typo\n# a comment\n";
 const ANSWERS: &[u8] =
     b"send m1 4f5401010001000100000001000000000000000100000000000000000000104f6265726f6e31302e53636e2e466e74010000064f6265726f6e\nok\ntext 6 Oberon\nrefused 20\n";
 
-// How much of the script is given ahead of a fault, from so many bytes up to so many, and what is answered then: to the
+// How much of the script is given before a fault, from so many bytes up to so many, and what is answered then: to the
 // lines that ended, and the refusal.
 const CUT_OFF: &[(usize, usize, &[u8])] = &[
     (0, 18, b"refused 21\n"),
@@ -185,7 +185,7 @@ fn reader_and_writer_fail(rt: HostRuntime) -> Result<(), Fail> {
         fails: true,
     };
     for room in 0..want.len() {
-        // The reader is asked again behind the first answer.
+        // The reader is asked again after the first answer.
         let end = Ending {
             read_failed: 7 <= room,
             ..WRITE_FAULT
@@ -196,7 +196,7 @@ fn reader_and_writer_fail(rt: HostRuntime) -> Result<(), Fail> {
     Ok(())
 }
 
-// How a script is read: how much at a time, and whether the reader fails behind it; how often a flush goes well; what is
+// How a script is read: how much at a time, and whether the reader fails after it; how often a flush goes well; what is
 // written, how the run ends, and how often was flushed.
 type Flushing = (
     &'static [u8],
@@ -215,7 +215,7 @@ const THREE_LINES: &[u8] = b"1 text 1\n2 text 1\n1 typo\n";
 const THREE_ANSWERS: &[u8] = b"text 0\ntext 0\nrefused 20\n";
 
 const FLUSHING: &[Flushing] = &[
-    // Lines that come byte by byte: a flush ahead of each, one before the end is found, and one at the end.
+    // Lines that come byte by byte: a flush before each, one before the end is found, and one at the end.
     (TWO_LINES, 1, false, 0, b"", WRITE_FAULT, 0),
     (TWO_LINES, 1, false, 1, b"text 0\n", WRITE_FAULT, 1),
     (
@@ -237,9 +237,9 @@ const FLUSHING: &[Flushing] = &[
         3,
     ),
     (THREE_LINES, 1, false, 100, THREE_ANSWERS, WELL, 5),
-    // All lines are held but the first, and what follows the last: a flush ahead of each, and one at the end.
+    // All lines are held but the first, and what follows the last: a flush before each, and one at the end.
     (THREE_LINES, 1000, false, 100, THREE_ANSWERS, WELL, 3),
-    // One ahead of the only ask, and one behind the answer.
+    // One before the only ask, and one after the answer.
     (b"1 text 1", 1000, true, 100, b"refused 21\n", READ_FAULT, 2),
 ];
 

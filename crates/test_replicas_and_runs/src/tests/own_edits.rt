@@ -7,7 +7,7 @@ use std::alloc::Global;
 use std::test::Fail;
 use texts::{EditRefusal, Outbox, Replica, Took};
 
-// Site 1 types `Oberon`, and goes on behind the first character of site 2.
+// Site 1 types `Oberon`, and goes on after the first character of site 2.
 const OBERON: &str =
     "4f5401010001000100000001000000000000000100000000000000000000104f6265726f6e31302e53636e2e466e74010000064f6265726f6e";
 
@@ -25,7 +25,7 @@ fn is_as_it_begins(replica: &Replica, outbox: &Outbox) -> Result<(), Fail> {
 fn forgets(alloc: Global, replica: &mut Replica, outbox: &mut Outbox) -> Result<(), Fail> {
     takes(alloc, replica, BEHIND_SITE_2, Ok(Took::Waits))?;
     let behind = Err(EditRefusal::Whole(Refusal::Behind));
-    appends(alloc, replica, b"a", outbox, behind)?;
+    appends(alloc, replica, b"a", outbox, after)?;
     appends(alloc, replica, b"", outbox, Ok(0))?;
     is(replica.waiting() == 1, "one waits")?;
     is(replica.forget_waiting() == 1, "one is forgotten")?;
@@ -72,7 +72,7 @@ fn colours(replica: &mut Replica, outbox: &mut Outbox) -> Result<(), Fail> {
     is(replica.save(0, 1)?.len() == 1, "what is saved")
 }
 
-// What was forgotten may come again behind them.
+// What was forgotten may come again after them.
 fn edits(alloc: Global, replica: &mut Replica, outbox: &mut Outbox) -> Result<(), Fail> {
     is_as_it_begins(replica, outbox)?;
     forgets(alloc, replica, outbox)?;

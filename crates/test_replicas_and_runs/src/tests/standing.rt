@@ -61,7 +61,7 @@ fn anchor_at(replica: &Replica, pos: u64) -> Option<Anchor> {
     Some(replica.anchor_after(pos))
 }
 
-// Names, and how many shown characters stand at or ahead of each.
+// Names, and how many shown characters stand at or before each.
 const PLACES: &[((u16, u32), Option<u64>)] = &[
     ((2, 0), Some(1)),
     ((1, 0), Some(4)),
@@ -81,7 +81,7 @@ fn has_its_anchors(replica: &Replica) -> Result<(), Fail> {
     is(anchor_at(replica, 0) == Some(Anchor::Root), "the root")?;
     is(anchor_at(replica, 3) == Some(inside), "inside")?;
     is(anchor_at(replica, 6) == Some(end), "at the end")?;
-    is(anchor_at(replica, 7).is_none(), "behind the end")
+    is(anchor_at(replica, 7).is_none(), "after the end")
 }
 
 // Sites, and how many operations of each were taken in.

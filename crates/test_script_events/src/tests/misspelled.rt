@@ -17,7 +17,7 @@ const WRONG: &[&str] = &[
     "00000000002 views",
     "2 Views",
     "2 viewss",
-    // Prints have nothing behind the verb.
+    // Prints have nothing after the verb.
     "2  views",
     "2 views ",
     "2 views 1",
@@ -90,7 +90,7 @@ const WRONG: &[&str] = &[
     "2 select 1 2 3 4294967296",
     "2 select 1 2 00000000003 4",
     "5 select 1 2 3 4",
-    // Bytes, behind a blank.
+    // Bytes, after a blank.
     "2 key",
     "2  key a",
     "2 key\\20",

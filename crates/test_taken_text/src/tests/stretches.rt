@@ -79,7 +79,7 @@ fn add(text: &TakenText, set: &mut NameSet, parts: Parts) -> Result<(), Fail>
     let Some(_) = text.place_of(name) else {
         return Err("a character of the text".into());
     };
-    set.with_name_law(name);
+    set.lemma_with_name(name);
     set.insert(name)?;
     Ok(())
 }

@@ -29,7 +29,7 @@ pub(super) enum Does {
 // An operation on text 1: its site, its seq, its stamp, what it does.
 pub(super) type Told = (u16, u32, u64, Does);
 
-// Site 1 types `AC`; then both sites type behind the `A`, and site 2 goes ahead under the same stamp: `AXBC`.
+// Site 1 types `AC`; then both sites type after the `A`, and site 2 goes on under the same stamp: `AXBC`.
 // The `B` is deleted; the `X` is deleted and shown again; the `C` gets colour 3.
 pub(super) const TOLD: &[Told] = &[
     (1, 1, 1, Does::Insert(None, 0, b"AC")),
@@ -99,8 +99,8 @@ fn is_ready(text: &TakenText, op: &Op) -> bool
     ensures new { IsTrue result → IsNew text.now.operations op.now }
     ensures ready { IsTrue result → HasVerdict text.now.operations op.now ready }
 {
-    op.has_spelling();
-    text.is_defined();
+    op.lemma_has_spelling();
+    text.lemma_is_defined();
     let log = text.log();
     if log.get(op.site(), op.seq()).is_some() {
         return false;

@@ -28,7 +28,7 @@ fn follows(alloc: Global, replica: &mut Replica, frame: &mut Frame) -> Result<()
     is(frame.reads() >= 2, "that it read the text")?;
     shows(frame, &[b"a         ", b"b         "])?;
     types_one(alloc, replica, frame, 4, b'z')?;
-    is(frame.reads() == 0, "a change behind the rows")?;
+    is(frame.reads() == 0, "a change after the rows")?;
     shows(frame, &[b"a         ", b"b         "])?;
     types_one(alloc, replica, frame, 3, b'y')?;
     is(frame.reads() == 5, "a change in the last row")?;

@@ -45,10 +45,10 @@ fn narrow_rows_are_drawn(rt: HostRuntime) -> Result<(), Fail> {
 // Lines by their numbers, and one past the last.
 fn scrolls(replica: &Replica, frame: &mut Frame) -> Result<(), Fail> {
     frame.scroll(replica, 1);
-    is(frame.reads() == 7, "two, the one ahead, and four")?;
+    is(frame.reads() == 7, "two, the one before, and four")?;
     shows(frame, &[b"bc ", b"d  "])?;
     frame.scroll(replica, 9);
-    is(frame.reads() == 8, "six, the one ahead, and one")?;
+    is(frame.reads() == 8, "six, the one before, and one")?;
     shows(frame, &[b"d  ", b"   "])?;
     has_places(frame, &[(0, 0, 5), (1, 0, 6), (1, 1, 6)])?;
     frame.scroll(replica, 0);

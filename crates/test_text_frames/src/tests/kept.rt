@@ -140,7 +140,7 @@ fn hears(site: &mut Site, play: &mut Play, most: usize) -> Result<(), Fail> {
     Ok(())
 }
 
-// Hands in any message, ahead of its turn or again; one for which there is no place is refused.
+// Hands in any message, before its turn or again; one for which there is no place is refused.
 fn hears_any(site: &mut Site, play: &mut Play) -> Result<(), Fail> {
     let sent = play.outbox.len();
     let index = play.index_below(sent);
@@ -250,7 +250,7 @@ fn plays(
     for _ in 0..STEPS {
         step(alloc, sites, frames, play)?;
     }
-    is(play.still > 2_000, "changes behind a frame")?;
+    is(play.still > 2_000, "changes after a frame")?;
     is(play.drawn > 2_000, "changes in a frame")
 }
 

@@ -1,4 +1,4 @@
-//! What an edit of a long text makes a frame read: where it shows, behind the frame and ahead of it.
+//! What an edit of a long text makes a frame read: where it shows, after the frame and before it.
 use super::{frame, is, text};
 use char_files::Buffer;
 use looks::Looks;
@@ -36,7 +36,7 @@ fn reads(
     is(frame.reads() == count, "how many characters are read")
 }
 
-// The frame's 24 lines begin at 500,000, with the end of a line ahead of them, and a character comes in among them.
+// The frame's 24 lines begin at 500,000, with the end of a line before them, and a character comes in among them.
 fn follows(alloc: Global, replica: &mut Replica, frame: &mut Frame) -> Result<(), Fail> {
     replica.changes();
     frame.scroll(replica, 10_000);

@@ -42,7 +42,7 @@ fn split(bytes: &[u8], lines: &mut Vec<(usize, usize)>) -> Result<(), Fail> {
     Ok(())
 }
 
-// The number of the line on which a position stands: so many end ahead of it.
+// The number of the line on which a position stands: so many end before it.
 fn number_at(lines: &[(usize, usize)], place: u64) -> usize {
     lines.iter().filter(|line| (line.1 as u64) < place).count()
 }
@@ -55,7 +55,7 @@ fn sign(byte: u8) -> u8 {
     }
 }
 
-// The sign in a column of a line, or the blank behind its end.
+// The sign in a column of a line, or the blank after its end.
 fn cell(bytes: &[u8], line: (usize, usize), col: usize) -> u8 {
     let pos = line.0.saturating_add(col);
     match bytes.get(pos) {

@@ -8,8 +8,8 @@ use std::alloc::Global;
 use std::test::Fail;
 use texts::{EditRefusal, Outbox, Took};
 
-// Site 1 types `abcd`, and behind its `b` site 2 types `X`; site 1, who hasn't heard of that, deletes `bc`.
-fn writes_ahead(alloc: Global, site: &mut Site, outbox: &mut Outbox) -> Result<(), Fail> {
+// Site 1 types `abcd`, and after its `b` site 2 types `X`; site 1, who hasn't heard of that, deletes `bc`.
+fn writes_before(alloc: Global, site: &mut Site, outbox: &mut Outbox) -> Result<(), Fail> {
     let abcd = letters(alloc, b"abcd")?;
     is(site.replica.append(&abcd, outbox) == Ok(1), "abcd")?;
     ask(site)?;
@@ -36,7 +36,7 @@ fn deletes_bc(site: &mut Site, outbox: &mut Outbox) -> Result<(), Fail> {
     is(spells(&site.list, b"ad"), "ad")
 }
 
-// Takes a message in, behind which so many are that waited.
+// Takes a message in, after which so many are that waited.
 fn hears(site: &mut Site, outbox: &Outbox, index: usize, drained: u32) -> Result<(), Fail> {
     let took = Ok(Took::Taken {
         drained,
@@ -81,7 +81,7 @@ fn is_behind(alloc: Global, site: &mut Site, outbox: &mut Outbox) -> Result<(), 
 fn go_on(alloc: Global, sites: &mut [Site], outbox: &mut Outbox) -> Result<(), Fail> {
     let (one, others) = sites.split_first_mut().ok_or("site 1")?;
     let (two, others) = others.split_first_mut().ok_or("site 2")?;
-    writes_ahead(alloc, one, outbox)?;
+    writes_before(alloc, one, outbox)?;
     writes_between(alloc, two, outbox)?;
     deletes_bc(one, outbox)?;
     deletes_around(two, outbox)?;

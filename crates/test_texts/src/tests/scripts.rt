@@ -15,7 +15,7 @@ const STEPS: u32 = 400;
 // So many scripts are played.
 const SCRIPTS: u64 = 8;
 
-// Behind a call on its replica a site asks for changes, if it is its turn.
+// After a call on its replica a site asks for changes, if it is its turn.
 fn called(site: &mut Site, play: &mut Play) -> Result<(), Fail> {
     count(&mut site.calls);
     if site.calls.checked_rem(play.every) == Some(0) {
@@ -102,7 +102,7 @@ fn catches_up(site: &mut Site, play: &mut Play, most: usize) -> Result<(), Fail>
     Ok(())
 }
 
-// Hands in any message, ahead of its turn or again.
+// Hands in any message, before its turn or again.
 fn hears_any(site: &mut Site, play: &mut Play) -> Result<(), Fail> {
     let index = play.dice.index_below(play.outbox.len());
     if play.outbox.len() <= index {
@@ -180,9 +180,9 @@ fn merges(sites: &mut [Site], play: &mut Play) -> Result<(), Fail> {
     if one == other || sites.len() <= cut {
         return Ok(());
     }
-    let (ahead, behind) = sites.split_at_mut(cut);
-    let first = ahead.get_mut(one.min(other)).ok_or("a site")?;
-    let second = behind.first_mut().ok_or("a site")?;
+    let (before, after) = sites.split_at_mut(cut);
+    let first = before.get_mut(one.min(other)).ok_or("a site")?;
+    let second = after.first_mut().ok_or("a site")?;
     if one < other {
         takes_over(first, second, play)
     } else {
@@ -247,13 +247,13 @@ fn asks_always(alloc: Global, play: &mut Play) -> Result<(), Fail> {
     play.tally.has_all_single_ones()
 }
 
-// Asked for behind each call, changes lead a plain list to what is shown.
+// Asked for after each call, changes lead a plain list to what is shown.
 #[test]
 fn changes_lead_to_what_is_shown(rt: HostRuntime) -> Result<(), Fail> {
     asks_always(rt.alloc(), &mut new_play(rt.alloc(), 1))
 }
 
-// They do, too, where they are asked for behind each tenth call alone.
+// They do, too, where they are asked for after each tenth call alone.
 #[test]
 fn changes_gather(rt: HostRuntime) -> Result<(), Fail> {
     plays_all(rt.alloc(), &mut new_play(rt.alloc(), 10))

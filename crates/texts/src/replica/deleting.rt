@@ -7,7 +7,7 @@ ghost use Rattle.texts.specs.Own.{SendsOne};
 ghost use Rattle.texts.specs.TextState.{shown_of};
 
 use super::Replica;
-use super::own::may_be_named;
+use super::own::lemma_may_be_named;
 use crate::outbox::Outbox;
 use looks::Refusal;
 use operations::Kind;
@@ -26,14 +26,14 @@ impl Replica {
         ensures { SendsOne self.old (own_op self.old (delete (names_shown self.old beg end))) result self.new
             outbox.old outbox.new }
     {
-        self.is_text();
+        self.lemma_is_text();
         if let Some(why) = self.refusal_for(end - beg) {
             return Err(why);
         }
         // What takes memory comes first: a refused Delete leaves what the one before it kept.
         let names = self.taken.names_shown(beg, end)?;
         let stretch = self.taken.stretch(beg, end)?;
-        may_be_named(&names);
+        lemma_may_be_named(&names);
         let set = names.copy()?;
         self.make(Kind::Delete { names }, outbox)?;
         self.stretch = stretch;

@@ -10,7 +10,7 @@ ghost use Rattle.texts.specs.Own.{SendsOne};
 ghost use Rattle.texts.specs.TextState.{shown_of};
 
 use super::Replica;
-use super::own::may_be_named;
+use super::own::lemma_may_be_named;
 use crate::outbox::Outbox;
 use looks::{Looks, Refusal, Sel};
 use operations::Kind;
@@ -51,15 +51,15 @@ impl Replica {
             (change_looks sel (with_selected sel looks.now plain_looks) (names_shown self.old beg end)))
             result self.new outbox.old outbox.new }
     {
-        self.is_text();
+        self.lemma_is_text();
         if let Some(why) = self.refusal_for(0) {
             return Err(why);
         }
         let names = self.taken.names_shown(beg, end)?;
-        may_be_named(&names);
+        lemma_may_be_named(&names);
         let looks = selected(sel, looks);
         // The looks and the selection are in range by their types.
-        looks.are_in_range();
+        looks.lemma_are_in_range();
         let _ = sel.bits();
         self.make(Kind::ChangeLooks { sel, looks, names }, outbox)
     }
@@ -70,12 +70,12 @@ impl Replica {
         ensures { SendsOne self.old (own_op self.old (restore self.old.last_set)) result self.new
             outbox.old outbox.new }
     {
-        self.is_text();
+        self.lemma_is_text();
         if let Some(why) = self.refusal_for(0) {
             return Err(why);
         }
         let names = self.set.copy()?;
-        may_be_named(&names);
+        lemma_may_be_named(&names);
         self.make(Kind::Restore { names }, outbox)
     }
 }

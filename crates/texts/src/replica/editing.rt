@@ -21,14 +21,14 @@ impl Replica {
     ///
     /// Answers how many messages it added to the Outbox. Refused, in this order, `Behind`, `SeqSpent` and
     /// `StampsSpent` as in `insert`, `FileSpent` where the stretch has more than 2^24 characters, `Scattered` where
-    /// its names make more than 1,024 ranges, and `OutOfMemory`, which may come ahead of `Scattered`. An empty
+    /// its names make more than 1,024 ranges, and `OutOfMemory`, which may come before `Scattered`. An empty
     /// stretch sends nothing and is never refused.
     pub fn delete(&mut self, beg: u64, end: u64, outbox: &mut Outbox) -> Result<u32, EditRefusal>
         requires range { beg ≤ end }
         requires in_text { end ≤ length (shown_of self.old) }
         ensures { EditsSending self.old (deletion beg end) result self.new outbox.old outbox.new }
     {
-        self.is_text();
+        self.lemma_is_text();
         if beg == end {
             return Ok(0);
         }
@@ -39,7 +39,7 @@ impl Replica {
     ///
     /// Answers how many messages it added to the Outbox. Refused, in this order, `Behind`, `SeqSpent` and
     /// `StampsSpent` as in `insert`, `Scattered` where the names make more than 1,024 ranges, and `OutOfMemory`,
-    /// which may come ahead of `Scattered`. An empty stretch sends nothing and is never refused.
+    /// which may come before `Scattered`. An empty stretch sends nothing and is never refused.
     pub fn change_looks(
         &mut self,
         beg: u64,
@@ -52,7 +52,7 @@ impl Replica {
         requires in_text { end ≤ length (shown_of self.old) }
         ensures { EditsSending self.old (looks_change beg end sel looks.now) result self.new outbox.old outbox.new }
     {
-        self.is_text();
+        self.lemma_is_text();
         if beg == end {
             return Ok(0);
         }
@@ -67,7 +67,7 @@ impl Replica {
     pub fn restore(&mut self, outbox: &mut Outbox) -> Result<u32, EditRefusal>
         ensures { EditsSending self.old restoration result self.new outbox.old outbox.new }
     {
-        self.is_text();
+        self.lemma_is_text();
         if self.taken.are_shown(&self.set) {
             return Ok(0);
         }

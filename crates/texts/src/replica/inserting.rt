@@ -11,7 +11,7 @@ ghost use Rattle.texts.specs.Own.{SendsOne};
 ghost use Rattle.texts.specs.TextState.{shown_of};
 
 use super::Replica;
-use super::own::refused_behind;
+use super::own::refused_after;
 use super::pieces::{Piece, Pieces};
 use crate::edit_refusal::EditRefusal;
 use crate::outbox::Outbox;
@@ -21,13 +21,13 @@ use operations::{Kind, MAX_INSERT};
 use std::alloc::AllocError;
 
 impl Replica {
-    // The cause of an own Insert behind the first `pos` characters shown.
+    // The cause of an own Insert after the first `pos` characters shown.
     fn own_cause(&self, pos: u64) -> Anchor
         requires in_text { pos ≤ length (shown_of self.now) }
         ensures value { result ≡ anchor_before (shown_of self.now) pos }
         ensures cause { IsCause self.now.site (file_len self.now.operations self.now.site) result }
     {
-        self.is_text();
+        self.lemma_is_text();
         let cause = self.anchor_after(pos);
         if let Anchor::At(name) = cause {
             // The numbers are in range by their types.
@@ -46,7 +46,7 @@ impl Replica {
         self.refusal_for(u64::from(old) + len as u64)
     }
 
-    // The Insert of a run behind the first `pos` characters shown.
+    // The Insert of a run after the first `pos` characters shown.
     fn own_insert(&self, pos: u64, looks: &Looks, bytes: &[u8]) -> Result<Kind, AllocError>
         requires in_text { pos ≤ length (shown_of self.now) }
         requires some { 0 < length bytes.now }
@@ -56,7 +56,7 @@ impl Replica {
             × IsKind self.now.site (kind_of kind)) }
     {
         // The looks are in range by their types.
-        looks.are_in_range();
+        looks.lemma_are_in_range();
         Ok(Kind::Insert {
             cause: self.own_cause(pos),
             at: self.taken.log().file_len(self.site),
@@ -65,7 +65,7 @@ impl Replica {
         })
     }
 
-    // Puts a piece behind the first `pos` characters shown, by one Insert. An `Err` changes nothing.
+    // Puts a piece after the first `pos` characters shown, by one Insert. An `Err` changes nothing.
     fn insert_piece(
         &mut self,
         pos: u64,
@@ -78,7 +78,7 @@ impl Replica {
         ensures longer { OnOk result
             (length (shown_of self.new) ≡ length (shown_of self.old) + length piece.now.bytes) }
     {
-        self.is_text();
+        self.lemma_is_text();
         if let Some(why) = self.insert_refusal(piece.bytes.len()) {
             return Err(why);
         }
@@ -86,8 +86,8 @@ impl Replica {
         self.make(kind, outbox)
     }
 
-    /// Puts a stretch behind the first `pos` characters shown: an Insert for each stretch of equal looks, and for
-    /// each 4,096 bytes of it, each later one behind the one before it.
+    /// Puts a stretch after the first `pos` characters shown: an Insert for each stretch of equal looks, and for
+    /// each 4,096 bytes of it, each later one after the one before it.
     ///
     /// Answers how many messages it added to the Outbox. Each Insert is refused, in this order, `Behind` where an
     /// operation that waits shows that the site has gone further elsewhere, `SeqSpent` after the site's last seq,
@@ -102,13 +102,13 @@ impl Replica {
         requires in_text { pos ≤ length (shown_of self.old) }
         ensures { EditsSending self.old (insertion pos buffer.now) result self.new outbox.old outbox.new }
     {
-        self.is_text();
+        self.lemma_is_text();
         // No buffer has more than 2^24 characters, and each piece has one at least.
         let _ = buffer.len();
         let (mut at, mut done) = (pos, 0);
         for piece in Pieces::of(buffer) {
             if let Err(why) = self.insert_piece(at, &piece, outbox) {
-                return Err(refused_behind(done, why));
+                return Err(refused_after(done, why));
             }
             // No text shows more characters than a `u64` counts.
             let _ = self.shown_len();

@@ -18,8 +18,8 @@ impl Replica {
         ensures { MatchBool result (AreIdentified (self.now.operations ++ op.now ∷ []))
             (IsInConflict self.now.operations op.now) }
     {
-        self.is_text();
-        op.has_spelling();
+        self.lemma_is_text();
+        op.lemma_has_spelling();
         match self.taken.log().get(op.site(), op.seq()) {
             Some(held) => held.is_same(op),
             None => true,
@@ -31,8 +31,8 @@ impl Replica {
         ensures { MatchBool result (AreIdentified (self.now.operations ++ other.now.operations))
             (AreInConflict self.now other.now) }
     {
-        self.is_text();
-        other.is_text();
+        self.lemma_is_text();
+        other.lemma_is_text();
         other.taken.log().ops().iter().all(|op| self.agrees_on(op))
     }
 
@@ -45,7 +45,7 @@ impl Replica {
     {
         let op = op.copy()?;
         self.taken.add(op)?;
-        self.is_text();
+        self.lemma_is_text();
         Ok(())
     }
 
@@ -54,9 +54,9 @@ impl Replica {
         requires { CanMerge self.old other.now }
         ensures { Merges self.old other.now result self.new ⊎ MergesShort self.old other.now result self.new }
     {
-        self.is_text();
-        other.is_text();
-        other.taken.log().are_held_to_the_front();
+        self.lemma_is_text();
+        other.lemma_is_text();
+        other.taken.log().lemma_are_held_to_the_front();
         let mut done = 0;
         for op in other.taken.log().ops() {
             if self.front(op.site()) < op.seq() {
@@ -85,8 +85,8 @@ impl Replica {
         if !self.agrees_with(other) {
             return Err(MergeRefusal::Whole(Refusal::Conflict));
         }
-        self.is_text();
-        other.is_text();
+        self.lemma_is_text();
+        other.lemma_is_text();
         self.take_news(other)
     }
 }

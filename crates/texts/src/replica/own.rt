@@ -12,7 +12,7 @@ ghost use Rattle.set_laws.specs.Verdict.{ready};
 ghost use Rattle.waiting_room.specs.Room.{is_behind};
 ghost use Rattle.texts.specs.Edit.{own_op};
 ghost use Rattle.texts.specs.Outcome.{is_scattered, passes_file, refusal_for};
-ghost use Rattle.texts.specs.Own.{answer_of_one, refused_behind};
+ghost use Rattle.texts.specs.Own.{answer_of_one, refused_after};
 ghost use Rattle.texts.specs.Taking.{HasTaken, IsJudged};
 
 use super::Replica;
@@ -38,8 +38,8 @@ pub(crate) fn answer_of_one(made: Result<(), Refusal>) -> Result<u32, EditRefusa
 }
 
 // What an edit answers of whose operations so many stand, and the next one was refused.
-pub(crate) fn refused_behind(done: u32, why: Refusal) -> EditRefusal
-    ensures { result ≡ refused_behind done why }
+pub(crate) fn refused_after(done: u32, why: Refusal) -> EditRefusal
+    ensures { result ≡ refused_after done why }
 {
     if done == 0 {
         EditRefusal::Whole(why)
@@ -49,7 +49,7 @@ pub(crate) fn refused_behind(done: u32, why: Refusal) -> EditRefusal
 }
 
 // A law: a set with a name at least is one that a message may name. A proof gets it by calling this, at no cost.
-pub(crate) fn may_be_named(names: &NameSet)
+pub(crate) fn lemma_may_be_named(names: &NameSet)
     ensures few { length names.now ≤ MAX_RANGES }
     ensures some { 0 < length names.now → IsNamed names.now }
 {
@@ -61,7 +61,7 @@ impl Replica {
     fn is_behind(&self) -> bool
         ensures { result ≡ is_behind self.now.operations self.now.waiting_room self.now.site }
     {
-        self.is_text();
+        self.lemma_is_text();
         self.room.behind(self.site, &GoodLog::new(self.taken.log()))
     }
 
@@ -118,7 +118,7 @@ impl Replica {
             outbox.take_back();
             return Err(why);
         }
-        self.is_text();
+        self.lemma_is_text();
         Ok(())
     }
 }

@@ -69,10 +69,10 @@ impl<'a> Iterator for Pieces<'a> {
     ghost remaining = { item_count (λ pieces. pieces) };
 
     fn next(&mut self) -> Option<Piece<'a>> {
-        let (run, behind) = self.runs.split_first()?;
+        let (run, after) = self.runs.split_first()?;
         let (_, bytes) = run.bytes().split_at(self.read);
         if bytes.len() <= MAX_INSERT {
-            self.runs = behind;
+            self.runs = after;
             self.read = 0;
             return Some(Piece {
                 looks: run.looks(),

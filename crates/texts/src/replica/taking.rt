@@ -22,7 +22,7 @@ impl Replica {
         requires unheard { ¬ IsHeld self.now.waiting_room op.now.site op.now.seq }
         ensures { HasFate self.now op.now result }
     {
-        self.taken.is_defined();
+        self.taken.lemma_is_defined();
         match judge(op, &GoodLog::new(self.taken.log())) {
             Verdict::Wait => Fate::Wait,
             Verdict::Misfit => Fate::Misfit,
@@ -48,7 +48,7 @@ impl Replica {
     fn fate_of(&self, op: &Op) -> Fate
         ensures { HasFate self.now op.now result }
     {
-        op.has_spelling();
+        op.lemma_has_spelling();
         if op.text() != self.text {
             return Fate::OtherText;
         }
@@ -76,7 +76,7 @@ impl Replica {
             ⊎ Stays self.old (Err Refusal.OutOfMemory) result self.new) }
     {
         self.taken.add(op)?;
-        self.is_text();
+        self.lemma_is_text();
         let Settled {
             drained,
             dropped,
@@ -89,7 +89,7 @@ impl Replica {
         })
     }
 
-    /// Takes in an operation of any site, or lets it wait for its causes. What waited for it is taken in behind it.
+    /// Takes in an operation of any site, or lets it wait for its causes. What waited for it is taken in after it.
     ///
     /// Refused, in this order, `WrongText`, `Conflict` where another operation is held or waits under its identity;
     /// then, by the verdict, `RoomFull` where it would have to wait and 64 wait already, `BadOffset`, `BadStamp`. A
@@ -112,13 +112,13 @@ impl Replica {
 
     /// Takes in the operation that a message tells, as `take_op` does.
     ///
-    /// Refused `Malformed` where it tells none, ahead of all other refusals; and `OutOfMemory`, also where there is
+    /// Refused `Malformed` where it tells none, before all other refusals; and `OutOfMemory`, also where there is
     /// no memory to read it.
     pub fn take(&mut self, message: &[u8]) -> Result<Took, Refusal>
         ensures { Takes self.old message.now result self.new ⊎ TakesShort self.old message.now result self.new }
     {
         let op = decode(self.alloc, message)?;
-        op.has_spelling();
+        op.lemma_has_spelling();
         self.take_op(op)
     }
 }

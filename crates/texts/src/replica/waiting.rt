@@ -16,7 +16,7 @@ impl Replica {
         ensures none { IfNone result (AllStay self.now) }
         ensures some { IfSome result (IsFirstToLeave self.now.operations self.now.waiting_room) }
     {
-        self.taken.is_defined();
+        self.taken.lemma_is_defined();
         self.room.first_ready(&GoodLog::new(self.taken.log()))
     }
 
@@ -25,9 +25,9 @@ impl Replica {
         requires { IsFirstToLeave self.now.operations self.now.waiting_room index }
         ensures { IsReadyAt self.now index result }
     {
-        self.is_text();
+        self.lemma_is_text();
         let op = self.room.get(index);
-        op.has_spelling();
+        op.lemma_has_spelling();
         let log = self.taken.log();
         log.get(op.site(), op.seq()).is_none()
             && matches!(judge(op, &GoodLog::new(log)), Verdict::Ready)
@@ -46,9 +46,9 @@ impl Replica {
         // It stays where memory is refused.
         let op = self.room.get(index).copy()?;
         self.taken.add(op)?;
-        self.is_text();
+        self.lemma_is_text();
         let _ = self.room.remove(index);
-        self.is_text();
+        self.lemma_is_text();
         Ok(true)
     }
 
@@ -58,7 +58,7 @@ impl Replica {
     pub fn settle(&mut self) -> Settled
         ensures { Drains self.old result.drained result.dropped result.stopped self.new }
     {
-        self.is_text();
+        self.lemma_is_text();
         let (mut drained, mut dropped) = (0, 0);
         while let Some(index) = self.first_out() {
             match self.take_out(index) {

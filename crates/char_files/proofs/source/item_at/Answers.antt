@@ -6,6 +6,6 @@ pub returns : goal.returns
 returns c =
     item_of_run c.args.runs.now c.loop-within.index c.loop-within.within c.args.pos
     c.index-runs-index.result c.index-runs-index-2.result c.bytes.result.now c.bytes-2.result.now
-    c.copy.result c.loop-within.invariant.ahead c.requires c.index-runs-index.is c.bytes.ensures.value
+    c.copy.result c.loop-within.invariant.before c.requires c.index-runs-index.is c.bytes.ensures.value
     c.loop-within-test.false c.index-runs-index-2.is c.bytes-2.ensures.value
     (c.copy.ensures ∙ c.looks.ensures)

@@ -2,10 +2,10 @@ use Rattle.std.proofs.Common.{◌≡◌, ◌+◌, ◌-◌, ◌≤◌, length, ta
 use Rattle.char_files.specs.Stretch.{items_of}
 use Rattle.char_files.proofs.source.item_at.Given as goal
 
--- the runs ahead have the characters ahead
+-- the runs before have the characters before
 abbrev pub invariant-loop-within : goal.invariant-loop-within
 invariant-loop-within l = record {
-  ahead : length (items_of (take l.index l.runs)) + l.within ≡ l.fn.pos;
+  before : length (items_of (take l.index l.runs)) + l.within ≡ l.fn.pos;
   inside : l.index ≤ length l.runs;
 }
 

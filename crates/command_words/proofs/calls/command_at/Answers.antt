@@ -1,8 +1,8 @@
 use Rattle.std.proofs.Common.{◌≡◌, ◌-◌, ◌<◌, take, drop, sym, ◌∙◌, subst, arith}
-use Rattle.reader_scanner.specs.Place.{Place, bytes_of}
+use Rattle.reader_scanner.specs.ReaderState.{ReaderState, bytes_of}
 use Rattle.reader_scanner.specs.Tokens.{IsTokenAt}
 use Rattle.command_words.specs.Commands.{name_of}
-use Rattle.command_words.proofs.Words.{IsNear, is_near, word_is, word_of_call, ends_behind, named_short}
+use Rattle.command_words.proofs.Words.{IsNear, is_near, word_is, word_of_call, ends_after, named_short}
 use Rattle.command_words.proofs.calls.command_at.Goals as goal
 
 pub returns-then-end-pos-clause-none : goal.returns-then-end-pos-clause-none
@@ -12,10 +12,10 @@ returns-then-end-pos-clause-none g c =
     is_near (g.S.Source.items c.args.source.now) c.args.pos c.word_begin-beg.result c.word_end-end.result
     c.word_begin-beg.ensures.order c.word_end-end.ensures.order c.word_end-end.ensures.within
     c.word_begin-beg.ensures.each c.word_end-end.ensures.each c.word_begin-beg.ensures.before
-    c.word_end-end.ensures.behind in
+    c.word_end-end.ensures.after in
     λ _ call is.
     let some : c.args.pos < c.word_end-end.result =
-    ends_behind bytes c.args.pos c.word_begin-beg.result c.word_end-end.result near call is in
+    ends_after bytes c.args.pos c.word_begin-beg.result c.word_end-end.result near call is in
     absurd (omega (arith, some, c.if-end-pos.true))
 
 pub returns-in_err-command-clause-none : goal.returns-in_err-command-clause-none
@@ -27,7 +27,7 @@ returns-in_err-command-clause-none g c =
     is_near (g.S.Source.items c.args.source.now) c.args.pos c.word_begin-beg.result c.word_end-end.result
     c.word_begin-beg.ensures.order c.word_end-end.ensures.order c.word_end-end.ensures.within
     c.word_begin-beg.ensures.each c.word_end-end.ensures.each c.word_begin-beg.ensures.before
-    c.word_end-end.ensures.behind in
+    c.word_end-end.ensures.after in
     λ _ call is.
     let word : name_of call.command ≡ take (end - beg) (drop beg bytes) =
     word_of_call bytes c.args.pos beg end near call is in
@@ -44,7 +44,7 @@ returns-clause-some g c =
     is_near (g.S.Source.items c.args.source.now) c.args.pos c.word_begin-beg.result c.word_end-end.result
     c.word_begin-beg.ensures.order c.word_end-end.ensures.order c.word_end-end.ensures.within
     c.word_begin-beg.ensures.each c.word_end-end.ensures.each c.word_begin-beg.ensures.before
-    c.word_end-end.ensures.behind in
+    c.word_end-end.ensures.after in
     let looked : c.as_slice.result.now ≡ take (end - beg) (drop beg bytes) =
     c.as_slice.ensures.value ∙ c.word_between.ensures in
     let named : take (end - beg) (drop beg bytes) ≡ name_of c.in_ok-command.command =
@@ -56,6 +56,6 @@ returns-clause-some g c =
       end = end;
       word = word_is bytes c.args.pos beg end near some short;
       named = named;
-      token = subst (λ (p : Place). IsTokenAt (bytes_of p.items) p.pos c.scan-token.result) c.open.ensures
+      token = subst (λ (p : ReaderState). IsTokenAt (bytes_of p.items) p.pos c.scan-token.result) c.open.ensures
           c.scan-token.ensures.token;
     }

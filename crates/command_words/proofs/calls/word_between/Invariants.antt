@@ -1,5 +1,5 @@
 use Rattle.std.proofs.Common.{◌≡◌}
-use Rattle.reader_scanner.specs.Place.{bytes_between}
+use Rattle.reader_scanner.specs.ReaderState.{bytes_between}
 use Rattle.command_words.proofs.calls.word_between.Given as goal
 
 -- the bytes so far

@@ -1,5 +1,5 @@
 use Rattle.std.proofs.Common.{◌≡◌, ℕ, ◌-◌, ◌<◌, ◌≤◌, true, get_or}
-use Rattle.reader_scanner.specs.Place.{bytes_of}
+use Rattle.reader_scanner.specs.ReaderState.{bytes_of}
 use Rattle.reader_scanner.specs.Tokens.{is_name_byte}
 use Rattle.command_words.proofs.calls.word_end.Given as goal
 

@@ -1,8 +1,8 @@
 use Rattle.std.proofs.Common.{List, sym, subst}
 use Rattle.list_changes.specs.declared.change.Change.{Change}
-use Rattle.machine.specs.DeskState.{InText}
+use Rattle.machine.specs.SiteTexts.{InText}
 use Rattle.desk_windows.specs.Windows.{Follows}
-use Rattle.commands.proofs.Following.{desk_follows, desk_is_told}
+use Rattle.commands.proofs.Following.{site_follows, desk_is_told}
 use Rattle.commands.proofs.telling.tell.Goals as goal
 
 -- src/telling.rt:16:1
@@ -12,7 +12,7 @@ returns-clause-shown c = λ d are told grown.
     let new = c.changes-changes.new.self in (
       c.tell.ensures.of d are
           (subst (λ (changes : List Change). InText (Follows changes) d c.args.text new) (sym c.deref.ensures.value)
-          (desk_follows d c.args.texts.now new c.args.text told grown asked c.changes-changes.result.items
+          (site_follows d c.args.texts.now new c.args.text told grown asked c.changes-changes.result.items
           c.changes-changes.ensures.told)),
       desk_is_told d c.args.texts.now new c.args.text told grown asked,
     )

@@ -9,13 +9,13 @@ fit-requires-clause-on_desk c =
 
 pub fit-requires-clause-low : goal.fit-requires-clause-low
 fit-requires-clause-low c =
-    let fits = area_fits c.args.viewers.now.tracks c.args.number c.in-Some.area c.are_viewers.ensures.divided
+    let fits = area_fits c.args.viewers.now.tracks c.args.number c.in-Some.area c.lemma_are_viewers.ensures.divided
     (sym c.in-Some.ensures) in
     let few = fits.1 in omega (arith, few)
 
 pub returns-in-Some-content-clause-same : goal.returns-in-Some-content-clause-same
 returns-in-Some-content-clause-same c =
-    fit_same c.args.viewers.now c.args.number c.in-Some-content.window.now c.fit.new.self c.are_viewers.ensures
+    fit_same c.args.viewers.now c.args.number c.in-Some-content.window.now c.fit.new.self c.lemma_are_viewers.ensures
     (sym c.in-Some-content.ensures.value) c.fit.ensures.text c.fit.ensures.anchor
 
 pub returns-in-Some-content-clause-shown : goal.returns-in-Some-content-clause-shown
@@ -25,7 +25,7 @@ returns-in-Some-content-clause-shown c =
 
 pub returns-in-Some-content-clause-fitted : goal.returns-in-Some-content-clause-fitted
 returns-in-Some-content-clause-fitted c =
-    let fits = area_fits c.args.viewers.now.tracks c.args.number c.in-Some.area c.are_viewers.ensures.divided
+    let fits = area_fits c.args.viewers.now.tracks c.args.number c.in-Some.area c.lemma_are_viewers.ensures.divided
     (sym c.in-Some.ensures) in
     let some = fits.0 in
     fit_rows c.args.viewers.now c.args.number c.in-Some-content.window.now c.fit.new.self c.in-Some.area
@@ -33,7 +33,7 @@ returns-in-Some-content-clause-fitted c =
 
 pub returns-in-Some-content-clause-kept : goal.returns-in-Some-content-clause-kept
 returns-in-Some-content-clause-kept c =
-    let fits = area_fits c.args.viewers.now.tracks c.args.number c.in-Some.area c.are_viewers.ensures.divided
+    let fits = area_fits c.args.viewers.now.tracks c.args.number c.in-Some.area c.lemma_are_viewers.ensures.divided
     (sym c.in-Some.ensures) in
     let some = fits.0 in
     set_rows c.args.viewers.now c.args.number c.in-Some-content.window.now c.fit.new.self

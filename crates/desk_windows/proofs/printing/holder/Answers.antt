@@ -11,7 +11,7 @@ returns-in_default-area c =
     ap (λ (w : ℕ). viewer_at c.args.viewers.now.tracks (column_of w c.args.track) c.args.row) (sym c.width.ensures)
     ∙ ap (λ (n : ℕ). viewer_at c.args.viewers.now.tracks n c.args.row) (sym c.first_column-col.ensures)
     ∙ sym c.at.ensures ∙ c.in-Some.is in
-    absurd (has_area c.args.viewers.now c.args.track c.args.row c.in-Some.number c.are_viewers.ensures c.requires at
+    absurd (has_area c.args.viewers.now c.args.track c.args.row c.in-Some.number c.lemma_are_viewers.ensures c.requires at
     (sym c.area.ensures ∙ c.in_default-area.is))
 
 pub overflow_sub-result : goal.overflow_sub-result
@@ -21,7 +21,7 @@ overflow_sub-result c =
     ap (λ (w : ℕ). viewer_at c.args.viewers.now.tracks (column_of w c.args.track) c.args.row) (sym c.width.ensures)
     ∙ ap (λ (n : ℕ). viewer_at c.args.viewers.now.tracks n c.args.row) (sym c.first_column-col.ensures)
     ∙ sym c.at.ensures ∙ c.in-Some.is in
-    (holds c.args.viewers.now c.args.track c.args.row c.in-Some.number c.in-Some-area.area c.are_viewers.ensures c.requires at
+    (holds c.args.viewers.now c.args.track c.args.row c.in-Some.number c.in-Some-area.area c.lemma_are_viewers.ensures c.requires at
     (sym c.area.ensures ∙ c.in-Some-area.is)).0
 
 pub returns : goal.returns
@@ -31,5 +31,5 @@ returns c =
     ap (λ (w : ℕ). viewer_at c.args.viewers.now.tracks (column_of w c.args.track) c.args.row) (sym c.width.ensures)
     ∙ ap (λ (n : ℕ). viewer_at c.args.viewers.now.tracks n c.args.row) (sym c.first_column-col.ensures)
     ∙ sym c.at.ensures ∙ c.in-Some.is in
-    (holds c.args.viewers.now c.args.track c.args.row c.in-Some.number c.in-Some-area.area c.are_viewers.ensures c.requires at
+    (holds c.args.viewers.now c.args.track c.args.row c.in-Some.number c.in-Some-area.area c.lemma_are_viewers.ensures c.requires at
     (sym c.area.ensures ∙ c.in-Some-area.is)).1

@@ -6,7 +6,7 @@ use Rattle.desk_windows.proofs.printing.put_track.Goals as goal
 pub overflow_add-top : goal.overflow_add-top
 overflow_add-top c =
     let low = rows_fit c.args.viewers.now c.args.track c.seats-seat-items.result.now c.loop-seat.top c.loop-seat.seat-index
-    (record { number = 0; height = 0 }) c.are_viewers.ensures c.loop-seat.invariant.seats c.loop-seat.invariant.top
+    (record { number = 0; height = 0 }) c.lemma_are_viewers.ensures c.loop-seat.invariant.seats c.loop-seat.invariant.top
     c.loop-seat-test.true in
     omega (arith, low)
 

@@ -1,7 +1,7 @@
 use Rattle.std.proofs.Common.{◌≡◌, ◌<◌, ◌-◌, ◌⊎◌, inl, inr, get_or, arith}
 use Rattle.operations.specs.NameSet.{Range}
 use Rattle.std.proofs.lemmas.Bool.{both_ways}
-use Rattle.operations.proofs.Joins.{Reaches, all_ahead, appended_set, appended_starts, appended_names}
+use Rattle.operations.proofs.Joins.{Reaches, all_before, appended_set, appended_starts, appended_names}
 use Rattle.operations.proofs.Joins.{joined_set, joined_starts, joined_names}
 use Rattle.operations.proofs.joining.keep.Goals.{else-kept-gt0-via-then-kept-gt0+else-reaches}
 use Rattle.operations.proofs.joining.keep.Goals.{else-kept-gt0-via-else-kept-gt0}
@@ -39,7 +39,7 @@ returns-clause-set c =
       | else-kept-gt0-via-else-kept-gt0 w ↦ inl (omega arith)
     ] in
     appended_set c.args.ranges.now.items c.args.kept c.args.range c.requires.within c.requires.set
-    c.len.ensures.range (all_ahead c.args.ranges.now.items c.args.kept c.args.range c.requires.within
+    c.len.ensures.range (all_before c.args.ranges.now.items c.args.kept c.args.range c.requires.within
     c.requires.set c.requires.rising none_or_apart)
 
 pub returns-clause-rising : goal.returns-clause-rising

@@ -1,6 +1,6 @@
 use Rattle.std.proofs.Common.{◌<◌, ◌-◌, length, refl, sym, ◌∙◌, arith}
 use Rattle.rank_index.proofs.ChunkPlace.{has_place}
-use Rattle.rank_index.proofs.ChunkRank.{none_behind, place_at}
+use Rattle.rank_index.proofs.ChunkRank.{none_after, place_at}
 use Rattle.rank_index.proofs.chunk.place_in.Goals as goal
 
 pub returns-then-from-tag-clause-place : goal.returns-then-from-tag-clause-place
@@ -20,6 +20,6 @@ returns-then-from-tag-clause-here c = (
 pub returns-clause-here : goal.returns-clause-here
 returns-clause-here c = (
   λ some. absurd cc,
-  λ here. absurd (none_behind c.args.members.now c.loop-left.left c.args.tag
+  λ here. absurd (none_after c.args.members.now c.loop-left.left c.args.tag
       (omega (arith, c.loop-left-test.false)) c.loop-left.invariant.others here),
 )

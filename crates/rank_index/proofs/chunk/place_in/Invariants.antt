@@ -1,7 +1,7 @@
 use Rattle.std.proofs.Common.{◌≢◌, ◌≤◌, All, drop, length}
 use Rattle.rank_index.proofs.chunk.place_in.Given as goal
 
--- the members behind have other tags
+-- the members after have other tags
 abbrev pub invariant-loop-left : goal.invariant-loop-left
 invariant-loop-left l = record {
   some : l.left ≤ length l.members;

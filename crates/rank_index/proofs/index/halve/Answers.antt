@@ -6,11 +6,11 @@ use Rattle.std.proofs.lemmas.Option.{slice_get_read}
 use Rattle.rank_index.specs.Chunks.{ChunkSeen, AreTied, IsHalved}
 use Rattle.rank_index.proofs.Halved.{full_within, halved_here, tied_here}
 use Rattle.rank_index.proofs.Homes.{part_within}
-use Rattle.rank_index.proofs.Placed.{IsToldTo, told_behind}
+use Rattle.rank_index.proofs.Placed.{IsToldTo, told_after}
 use Rattle.rank_index.proofs.index.halve.Goals as goal
 use Rattle.rank_index.proofs.index.halve.Goals.{After-halve}
 
--- the table is told up to the new chunk, which stands behind the other under the next home
+-- the table is told up to the new chunk, which stands after the other under the next home
 told : (c : After-halve) → IsToldTo (c.args.places.now.items ++ c.len-home.result ∷ [])
     (insert (set c.args.chunks.now.items c.args.place c.halve.new.self) (c.args.place + 1) c.halve.new.rest)
     (c.args.place + 1)
@@ -18,7 +18,7 @@ told c =
     let chunks : List ChunkSeen = c.args.chunks.now.items in
     let fresh : c.halve.new.rest.home ≡ length c.args.places.now.items =
     omega (arith, c.halve.ensures.homes.1, c.move_to.ensures.home, c.len-home.ensures, c.args.places.now.ok.0) in
-    told_behind c.args.places.now.items chunks c.requires.placed c.args.place c.index_mut.result.now c.halve.new.self
+    told_after c.args.places.now.items chunks c.requires.placed c.args.place c.index_mut.result.now c.halve.new.self
     c.halve.new.rest (full_within chunks c.args.place c.requires.full) c.index_mut.ensures.value
     c.halve.ensures.homes.0 fresh c.len-home.result
 
@@ -42,10 +42,10 @@ insert-requires c =
     let chunks = c.args.chunks.now in
     omega (arith, full_within chunks.items c.args.place c.requires.full, chunks.ok.0)
 
-pub renumber-requires-clause-ahead : goal.renumber-requires-clause-ahead
-renumber-requires-clause-ahead c =
+pub renumber-requires-clause-before : goal.renumber-requires-clause-before
+renumber-requires-clause-before c =
     rw (c.deref_mut.ensures.value, c.push_reserved.ensures.items, c.deref.ensures.value, c.in-Ok.ensures.items)
-    (told (goal.at.renumber-requires-clause-ahead c).After-halve).ahead
+    (told (goal.at.renumber-requires-clause-before c).After-halve).before
 
 pub renumber-requires-clause-homes : goal.renumber-requires-clause-homes
 renumber-requires-clause-homes c =

@@ -1,7 +1,7 @@
 use Rattle.std.proofs.Common.{◌≡◌, ◌+◌, sym, ap, ◌∙◌, arith}
 use Rattle.std.specs.List.{prefix_len}
 use Rattle.reader_scanner.specs.Lexeme.{Lexeme}
-use Rattle.reader_scanner.specs.Place.{bytes_from}
+use Rattle.reader_scanner.specs.ReaderState.{bytes_from}
 use Rattle.reader_scanner.specs.Tokens.{is_hex_digit}
 use Rattle.reader_scanner.proofs.Scanning.{hex_is, decimal_is, item_within}
 use Rattle.reader_scanner.proofs.scanner.int_at.Goals as goal

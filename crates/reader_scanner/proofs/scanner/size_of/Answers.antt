@@ -1,7 +1,7 @@
 use Rattle.std.proofs.Common.{◌≡◌, ℕ, ◌+◌, ◌*◌, ◌<◌, refl, sym, subst, arith, rules}
 use Rattle.std.specs.Prelude.{false}
 use Rattle.std.specs.Char.{digit_value}
-use Rattle.reader_scanner.specs.Place.{bytes_between}
+use Rattle.reader_scanner.specs.ReaderState.{bytes_between}
 use Rattle.reader_scanner.specs.Tokens.{is_size}
 use Rattle.reader_scanner.proofs.Numbers.{no_digit, too_large, size_goes_on, next_is}
 use Rattle.reader_scanner.proofs.scanner.size_of.Goals as goal

@@ -1,4 +1,4 @@
-use Rattle.reader_scanner.specs.Place.{bytes_between}
+use Rattle.reader_scanner.specs.ReaderState.{bytes_between}
 use Rattle.reader_scanner.proofs.Numbers.{IsSizeSoFar}
 use Rattle.reader_scanner.proofs.scanner.size_of.Given as goal
 

@@ -1,7 +1,7 @@
 use Rattle.std.proofs.Common.{◌≡◌, ◌+◌}
 use Rattle.std.specs.List.{prefix_len}
 use Rattle.reader_scanner.specs.Lexeme.{has_byte}
-use Rattle.reader_scanner.specs.Place.{bytes_from}
+use Rattle.reader_scanner.specs.ReaderState.{bytes_from}
 use Rattle.reader_scanner.proofs.scanner.stretch_end.Given as goal
 
 -- the stretch goes on from here as far as from its begin

@@ -2,7 +2,7 @@ use Rattle.std.proofs.Common.{◌≡◌, ◌≤◌, ◌+◌, length, sym, ap, �
 use Rattle.std.specs.List.{prefix_len}
 use Rattle.reader_scanner.specs.declared.token.TokenValue.TheVariants as value
 use Rattle.reader_scanner.specs.Lexeme.{Lexeme}
-use Rattle.reader_scanner.specs.Place.{bytes_from, bytes_between}
+use Rattle.reader_scanner.specs.ReaderState.{bytes_from, bytes_between}
 use Rattle.reader_scanner.specs.Tokens.{is_string_byte, if_short}
 use Rattle.reader_scanner.proofs.Scanning.{short_is, long_is, string_is, open_is, item_within}
 use Rattle.reader_scanner.proofs.Stretches.{stretch_within}

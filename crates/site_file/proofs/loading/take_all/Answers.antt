@@ -7,7 +7,7 @@ use Rattle.site_file.proofs.Loaded.{all_read, found_next, none_found, none_yet, 
 use Rattle.site_file.proofs.loading.take_all.Goals as goal
 
 pub loop-init : goal.loop-init
-loop-init c = none_yet c.args.replica.now c.args.entries.now c.is_text.ensures
+loop-init c = none_yet c.args.replica.now c.args.entries.now c.lemma_is_text.ensures
 
 pub take_next-requires : goal.take_next-requires
 take_next-requires c =
@@ -25,14 +25,14 @@ returns-in_err-take_next-clause-refused c = λ bad ops tells are.
     let is : c.in_err-take_next.field-0.0 ≡ BadFile = cc (bad, given.1, given.2) in
     let next =
     found_next c.args.replica.now c.loop.replica c.args.entries.now c.loop.counter c.loop.rest.now c.loop.invariant
-    c.requires ops tells c.args.count are c.in-Some.message.now c.in-Some.behind.now c.loop-test.true
+    c.requires ops tells c.args.count are c.in-Some.message.now c.in-Some.after.now c.loop-test.true
     c.in-Some.ensures.found in
     c.in_err-take_next.ensures.refused (ap Err is) next.0 next.1 next.2
 
 pub loop-preserved : goal.loop-preserved
 loop-preserved c =
     one_more c.args.replica.now c.loop.replica c.take_next.new.replica c.args.entries.now c.loop.counter
-    c.loop.rest.now c.in-Some.message.now c.in-Some.behind.now c.loop.invariant c.in-Some.ensures.parts
+    c.loop.rest.now c.in-Some.message.now c.in-Some.after.now c.loop.invariant c.in-Some.ensures.parts
     c.in_ok-take_next.ensures.ok
 
 pub returns-then-not-is_empty-clause-refused : goal.returns-then-not-is_empty-clause-refused

@@ -13,7 +13,7 @@ pub overflow_cast-len : goal.overflow_cast-len
 overflow_cast-len c =
     let whole : c.encode.new.out.items ≡ spelling c.args.op.now =
     c.in_ok-encode.ensures.ok ∙ ap (λ l. l ++ spelling c.args.op.now) c.clear.ensures.items in
-    omega (arith, ap length whole, c.len.ensures, spelling_fits c.args.op.now c.has_spelling.ensures)
+    omega (arith, ap length whole, c.len.ensures, spelling_fits c.args.op.now c.lemma_has_spelling.ensures)
 
 pub returns-in_err-encode-clause-entry : goal.returns-in_err-encode-clause-entry
 returns-in_err-encode-clause-entry c =

@@ -14,15 +14,15 @@ returns-in_err-count-clause-none c =
 pub returns-in_err-sum-clause-none : goal.returns-in_err-sum-clause-none
 returns-in_err-sum-clause-none c =
     let count = c.in_ok-count.ensures.parts in
-    rw c.from_residual-in_err-sum.ensures (no_heads c.one_spelling.ensures.looks c.args.bytes.now
+    rw c.from_residual-in_err-sum.ensures (no_heads c.lemma_one_spelling.ensures.looks c.args.bytes.now
     c.in_ok-count.count c.in_ok-count.rest.now count.0 count.1 c.in_err-sum.ensures.none)
 
 pub returns-in_err-total-clause-none : goal.returns-in_err-total-clause-none
 returns-in_err-total-clause-none c =
     let count = c.in_ok-count.ensures.parts in
     let done = c.in_ok-sum.ensures.some in
-    rw c.from_residual-in_err-total.ensures (no_total c.one_spelling.ensures.looks c.args.bytes.now
-    c.in_ok-count.count c.in_ok-count.rest.now count.0 count.1 done.0 c.in_ok-sum.behind.now done.1 done.2
+    rw c.from_residual-in_err-total.ensures (no_total c.lemma_one_spelling.ensures.looks c.args.bytes.now
+    c.in_ok-count.count c.in_ok-count.rest.now count.0 count.1 done.0 c.in_ok-sum.after.now done.1 done.2
     done.5 (number_missing _ c.in_err-total.ensures.found))
 
 pub returns-then-from-sum-clause-none : goal.returns-then-from-sum-clause-none
@@ -30,8 +30,8 @@ returns-then-from-sum-clause-none c =
     let count = c.in_ok-count.ensures.parts in
     let done = c.in_ok-sum.ensures.some in
     let total = c.in_ok-total.ensures.parts in
-    other_total c.one_spelling.ensures.looks c.args.bytes.now c.in_ok-count.count c.in_ok-count.rest.now
-    count.0 count.1 done.0 c.in_ok-sum.behind.now c.in_ok-sum.sum c.in_ok-total.total c.in_ok-total.chars.now
+    other_total c.lemma_one_spelling.ensures.looks c.args.bytes.now c.in_ok-count.count c.in_ok-count.rest.now
+    count.0 count.1 done.0 c.in_ok-sum.after.now c.in_ok-sum.sum c.in_ok-total.total c.in_ok-total.chars.now
     done.1 done.2 done.3 done.5 total.0 total.1
     (inl (λ e. absurd (omega (arith, e, c.if-from-sum.true, c.from.ensures))))
 
@@ -40,7 +40,7 @@ returns-then-chars-sum-clause-none c =
     let count = c.in_ok-count.ensures.parts in
     let done = c.in_ok-sum.ensures.some in
     let total = c.in_ok-total.ensures.parts in
-    other_total c.one_spelling.ensures.looks c.args.bytes.now c.in_ok-count.count c.in_ok-count.rest.now
-    count.0 count.1 done.0 c.in_ok-sum.behind.now c.in_ok-sum.sum c.in_ok-total.total c.in_ok-total.chars.now
+    other_total c.lemma_one_spelling.ensures.looks c.args.bytes.now c.in_ok-count.count c.in_ok-count.rest.now
+    count.0 count.1 done.0 c.in_ok-sum.after.now c.in_ok-sum.sum c.in_ok-total.total c.in_ok-total.chars.now
     done.1 done.2 done.3 done.5 total.0 total.1
     (inr (λ e. absurd (omega (arith, e, c.if-chars-sum.true))))

@@ -11,8 +11,8 @@ loop-head-init c = record {
 
 pub split_at-requires : goal.split_at-requires
 split_at-requires c =
-    todo_fits c.one_spelling.ensures.looks _ c.loop-head.text c.loop-head.rest.now c.loop-head.left.now
-    c.in-Some.head c.in-Some.behind.now c.in-Some.ensures.some.0 c.in-Some.ensures.some.1
+    todo_fits c.lemma_one_spelling.ensures.looks _ c.loop-head.text c.loop-head.rest.now c.loop-head.left.now
+    c.in-Some.head c.in-Some.after.now c.in-Some.ensures.some.0 c.in-Some.ensures.some.1
     (c.loop-head.invariant.goes c.requires.spelled.0 c.requires.spelled.1)
 
 pub push_all-requires : goal.push_all-requires
@@ -37,15 +37,15 @@ loop-head-preserved c = record {
         c.split_at.ensures.back_len,
       );
   goes = λ runs s.
-      todo_more c.one_spelling.ensures.looks _ c.loop-head.text c.loop-head.rest.now c.loop-head.left.now
-      c.in-Some.head c.in-Some.behind.now c.in-Some.ensures.some.0 c.in-Some.ensures.some.1
+      todo_more c.lemma_one_spelling.ensures.looks _ c.loop-head.text c.loop-head.rest.now c.loop-head.left.now
+      c.in-Some.head c.in-Some.after.now c.in-Some.ensures.some.0 c.in-Some.ensures.some.1
       c.push_all.new.text c.split_at.result.0.now c.split_at.result.1.now c.split_at.ensures.front
       c.split_at.ensures.back (c.loop-head.invariant.goes runs s) c.in_ok-push_all.ensures.ok;
 }
 
 pub loop-head-smaller : goal.loop-head-smaller
 loop-head-smaller c =
-    omega (arith, head_longer c.in-Some.head c.in-Some.behind.now, ap length c.in-Some.ensures.some.1)
+    omega (arith, head_longer c.in-Some.head c.in-Some.after.now, ap length c.in-Some.ensures.some.1)
 
 pub returns-clause-ok : goal.returns-clause-ok
 returns-clause-ok c = λ runs s.

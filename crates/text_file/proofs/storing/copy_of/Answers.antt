@@ -9,5 +9,5 @@ loop-pos-preserved g c = record {
       c.at-byte.result (omega (arith, c.loop-pos-test.true, c.len-pos-end.ensures)) c.loop-pos.invariant.so_far
       c.at-byte.ensures c.in_ok-push_char.ensures.ok;
   looks = in_looks_more c.loop-pos.text c.push_char.new.text c.at-byte.result c.in_ok-push_char.ensures.ok
-      c.loop-pos.invariant.looks c.are_in_range.ensures;
+      c.loop-pos.invariant.looks c.lemma_are_in_range.ensures;
 }

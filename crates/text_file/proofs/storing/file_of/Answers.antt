@@ -15,7 +15,7 @@ overflow_cast-runs c =
 
 pub returns-clause-ok : goal.returns-clause-ok
 returns-clause-ok c =
-    stored c.runs_are_maximal.ensures.only c.args.text.now c.runs-runs.result.now
+    stored c.lemma_runs_are_maximal.ensures.only c.args.text.now c.runs-runs.result.now
     c.in_ok-file.file.items c.put_u32.new.out.items c.put_runs.new.out.items c.put_u32-2.new.out.items
     c.put_chars.new.out.items c.runs-runs.ensures.maximal c.runs-runs.ensures.value
     c.in_ok-file.ensures.items c.in_ok-put_u32.ensures c.in_ok-put_runs.ensures.ok

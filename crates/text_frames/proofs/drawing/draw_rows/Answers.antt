@@ -4,7 +4,7 @@ use Rattle.char_files.specs.declared.character.Char.{Char}
 use Rattle.line_drawing.specs.Rows.{Row}
 use Rattle.texts.specs.TextState.{shown_of}
 use Rattle.machine.specs.Windows.{bytes_shown}
-use Rattle.text_frames.proofs.Lines.{rows_ahead, rows_are}
+use Rattle.text_frames.proofs.Lines.{rows_before, rows_are}
 use Rattle.text_frames.proofs.Walks.{DrawsRows, rows_begin, rows_counted, rows_drawn, rows_more}
 use Rattle.text_frames.proofs.drawing.draw_rows.Goals as goal
 
@@ -80,7 +80,7 @@ returns-clause-rows c = λ j at.
     rows_drawn (shown_of c.args.replica.now) c.args.width c.args.from c.args.reads.now c.args.count c.loop-walk.rows.items
     c.loop-walk.walk c.loop-walk.beg c.loop-walk.reads c.loop-walk.invariant.drawn
     (omega (arith, c.len.ensures, c.loop-walk.rows.ok.0, c.loop-walk-test.false))
-    ∙ ap (λ (n : ℕ). rows_ahead c.args.width n (drop n bytes) c.args.count) at
+    ∙ ap (λ (n : ℕ). rows_before c.args.width n (drop n bytes) c.args.count) at
     ∙ rows_are bytes c.args.width j c.args.count
 
 pub returns-clause-len : goal.returns-clause-len

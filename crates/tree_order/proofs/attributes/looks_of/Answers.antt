@@ -22,6 +22,6 @@ returns c = record {
     c.last_to_set-3.result.now,
     c.last_to_set-3.ensures,
     to_z-of_z w8 _
-        c.are_in_range.ensures.offset ∙ ap (λ (l : Looks). l.offset) c.given_looks-offset.ensures,
+        c.lemma_are_in_range.ensures.offset ∙ ap (λ (l : Looks). l.offset) c.given_looks-offset.ensures,
   );
 }

@@ -17,7 +17,7 @@ returns c =
     let ops = c.args.ops.now in
     let p = c.args.p.now in
     let q = c.args.q.now in
-    let ahead = Before_iff ops c.requires.good p.of q.of p.names.items q.names.items c.requires.first
+    let before = Before_iff ops c.requires.good p.of q.of p.names.items q.names.items c.requires.first
     c.requires.second in
     let told = rw (c.deref.ensures.value, c.deref-2.ensures.value) at c.is_path_before.ensures in
-    (λ h. ahead.1 (told.0 h), λ b. told.1 (ahead.0 b))
+    (λ h. before.1 (told.0 h), λ b. told.1 (before.0 b))

@@ -18,7 +18,7 @@ loop-parent-smaller c =
     let up : IsInsertOf c.args.ops.now c.in-At.parent c.unwrap-op-in-At.result.now = search rules in
     climbs c.args.ops.now c.requires.good c.loop-parent.name c.in-At.parent c.loop-parent.op.now
     c.unwrap-op-in-At.result.now c.loop-parent.invariant.insert up c.in-At.ensures
-    c.has_spelling.ensures
+    c.lemma_has_spelling.ensures
 
 pub loop-parent-preserved : goal.loop-parent-preserved
 loop-parent-preserved c = record {

@@ -35,10 +35,10 @@ loop-at-preserved c =
     c.index-paths-at.is) in
     let apart : path.of ≢ other.of =
     λ e. c.requires.new (rw e (Contains-at paths n other lt c.index-paths-at.is)) in
-    let behind =
+    let after =
     other_before ops c.requires.good path.of other.of is is' apart (iff_false c.is_before.ensures
     c.if-is_before.false) in
-    paths_more (λ d. Before ops d path.of) paths n other lt c.index-paths-at.is c.loop-at.invariant behind
+    paths_more (λ d. Before ops d path.of) paths n other lt c.index-paths-at.is c.loop-at.invariant after
 
 pub returns-clause-sorted : goal.returns-clause-sorted
 returns-clause-sorted c =

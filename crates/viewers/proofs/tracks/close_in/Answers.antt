@@ -6,4 +6,4 @@ use Rattle.viewers.proofs.tracks.close_in.Goals as goal
 pub returns-clause-covered : goal.returns-clause-covered
 returns-clause-covered c =
     subst (Covers c.args.height) (sym c.close.ensures)
-    (closed_covers c.args.height c.place-index.result c.args.seats.now.items c.requires.covered (grind arith))
+    (closed_covers c.args.height c.seat_index-index.result c.args.seats.now.items c.requires.covered (grind arith))

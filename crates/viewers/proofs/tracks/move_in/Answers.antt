@@ -8,7 +8,7 @@ returns-clause-covered c =
     let slice = c.as_slice-2.ensures.value in
     let h = c.can_move.ensures.room (search rules) in
     subst (Covers c.args.height) (sym c.move_border.ensures)
-    (moved_covers c.args.height c.place-index.result c.args.row c.args.seats.now.items c.requires.covered
+    (moved_covers c.args.height c.seat_index-index.result c.args.row c.args.seats.now.items c.requires.covered
     (grind arith) h.0
-    (subst (λ s. top s (c.place-index.result - 1) + 2 ≤ c.args.row) slice h.1)
-    (subst (λ s. c.args.row + 2 ≤ bottom s c.place-index.result) slice h.2))
+    (subst (λ s. top s (c.seat_index-index.result - 1) + 2 ≤ c.args.row) slice h.1)
+    (subst (λ s. c.args.row + 2 ≤ bottom s c.seat_index-index.result) slice h.2))

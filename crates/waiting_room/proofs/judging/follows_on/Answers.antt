@@ -8,8 +8,8 @@ pub returns : goal.returns
 returns g c =
     let ops = g.H.Held.ops c.args.held.now in
     let op = c.args.op.now in
-    let told = told_by_counts ops op c.are_good.ensures.good
-    c.are_good.ensures.identified c.requires in
+    let told = told_by_counts ops op c.lemma_are_good.ensures.good
+    c.lemma_are_good.ensures.identified c.requires in
     let front : c.front.result ≡ front_of ops op.site = c.front.ensures ∙ ap (front_of ops) c.site.ensures in
     let seq = c.seq.ensures in
     let counted = c.requires.counted in (

@@ -7,8 +7,8 @@ pub returns-then-is_above_predecessor : goal.returns-then-is_above_predecessor
 returns-then-is_above_predecessor g c =
     let ops = g.H.Held.ops c.args.held.now in
     let op = c.args.op.now in
-    let good = c.are_good.ensures.good in
-    let known = c.are_good.ensures.identified in
+    let good = c.lemma_are_good.ensures.good in
+    let known = c.lemma_are_good.ensures.identified in
     let told = told_by_counts ops op good known c.requires.new in (
       λ e. above_causes ops op good known
           (lower_stamps ops op (c.is_above_predecessor.ensures.0 c.if-is_above_predecessor.true)

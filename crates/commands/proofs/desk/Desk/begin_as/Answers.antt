@@ -1,6 +1,6 @@
 use Rattle.std.proofs.Common.{◌≡◌, false, Ok, subst, sym}
 use Rattle.texts.specs.TextState.{TextState, all_told}
-use Rattle.machine.specs.DeskState.{IsTextOf, with_text}
+use Rattle.machine.specs.SiteTexts.{IsTextOf, with_text}
 use Rattle.machine.specs.Tasks.{has_begun}
 use Rattle.desk_windows.specs.Windows.{screened}
 use Rattle.commands.proofs.Reopening.{begins_apart, begins_its_own, replaced_grows, replaced_now}
@@ -22,7 +22,7 @@ invariant_of-self c =
     subst (λ (x : DeskSeen). (t : TextState) → IsTextOf x.texts c.args.text t → has_begun t ≡ false) (sym c.self.view_is)
     c.requires.fresh in
     c.tell.ensures.shown d c.self.invariant.0 c.self.invariant.1
-    (replaced_grows d c.replace.new.self c.args.text c.args.kept c.has_text.ensures c.self.invariant.1 fresh c.requires.kept
+    (replaced_grows d c.replace.new.self c.args.text c.args.kept c.lemma_has_text.ensures c.self.invariant.1 fresh c.requires.kept
     c.replace.ensures)
 
 pub returns : goal.returns
@@ -32,7 +32,7 @@ returns c =
     subst (λ (x : DeskSeen). (t : TextState) → IsTextOf x.texts c.args.text t → has_begun t ≡ false) (sym c.self.view_is)
     c.requires.fresh in
     let now : c.tell.new.texts ≡ with_text d c.args.text (all_told kept) =
-    replaced_now d c.replace.new.self c.tell.new.texts c.args.text kept c.has_text.ensures c.self.invariant.1 fresh
+    replaced_now d c.replace.new.self c.tell.new.texts c.args.text kept c.lemma_has_text.ensures c.self.invariant.1 fresh
     c.requires.kept c.replace.ensures c.tell.ensures.told in
     subst (λ (x : DeskSeen). BeginsSo x c.args.text kept (Ok Done)
     (record { texts = c.tell.new.texts; screen = screened c.tell.new.windows })) c.self.view_is

@@ -1,9 +1,9 @@
 use Rattle.std.proofs.Common.{◌≡◌, List, ℕ, ap, subst, ◌∙◌}
 use Rattle.char_files.specs.Plain.{plain_items}
-use Rattle.reader_scanner.specs.Place.{bytes_of}
+use Rattle.reader_scanner.specs.ReaderState.{bytes_of}
 use Rattle.command_words.specs.Commands.{menu_of}
 use Rattle.texts.specs.TextState.{TextState, shown_items}
-use Rattle.machine.specs.DeskState.{IsTextOf}
+use Rattle.machine.specs.SiteTexts.{IsTextOf}
 use Rattle.commands.proofs.Clicks.{calls_none, calls_there, in_menu, in_text}
 use Rattle.commands.specs.Steps.{DeskSeen}
 use Rattle.commands.proofs.desk.Desk.call_at.Goals as goal

@@ -5,7 +5,7 @@ use Rattle.commands.proofs.desk.Desk.forget.Goals as goal
 pub invariant_of-self : goal.invariant_of-self
 invariant_of-self c =
     c.tell.ensures.shown c.self.inside.texts c.self.invariant.0 c.self.invariant.1
-    (forgets_grow c.self.inside.texts c.forget-count.new.self c.args.text c.forget-count.result c.has_text.ensures
+    (forgets_grow c.self.inside.texts c.forget-count.new.self c.args.text c.forget-count.result c.lemma_has_text.ensures
     c.forget-count.ensures)
 
 pub returns : goal.returns

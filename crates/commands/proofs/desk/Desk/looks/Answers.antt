@@ -8,7 +8,7 @@ pub invariant_of-self : goal.invariant_of-self
 invariant_of-self c =
     c.tell.ensures.shown c.self.inside.texts c.self.invariant.0 c.self.invariant.1
     (edit_grows c.self.inside.texts c.change_looks-outcome.new.self c.args.text (looks_change c.args.beg c.args.end c.args.sel c.args.looks.now) c.change_looks-outcome.result
-    c.args.outbox.now c.change_looks-outcome.new.outbox c.has_text.ensures c.change_looks-outcome.ensures)
+    c.args.outbox.now c.change_looks-outcome.new.outbox c.lemma_has_text.ensures c.change_looks-outcome.ensures)
 
 pub returns : goal.returns
 returns c =

@@ -21,14 +21,14 @@ returns-in-SystemOpen-clause-step g c =
     commanded (λ (task : Task). IsShelfStep seen (λ i. ask i task) c.open_told.result c.open_told.new.self sent sent told told) seen.texts seen.screen
     c.args.command command.SystemOpen c.args.value.now c.args.viewer c.args.text c.in-SystemOpen.is
     (subst (λ (o : Option ℕ). IsShelfStep seen (λ i. ask i (with_told o (λ n. arrange (Open System n None)))) c.open_told.result c.open_told.new.self sent sent told told)
-    c.text_told.ensures.told
-    (task_over seen c.open_told.new.self (with_told c.text_told.result (λ n. arrange (Open System n None))) told c.open_told.result sent c.open_told.ensures))
+    c.text_parameter.ensures.told
+    (task_over seen c.open_told.new.self (with_told c.text_parameter.result (λ n. arrange (Open System n None))) told c.open_told.result sent c.open_told.ensures))
 
 pub returns-in-SystemOpen-clause-fault : goal.returns-in-SystemOpen-clause-fault
 returns-in-SystemOpen-clause-fault g c = λ fault.
     let seen : DeskSeen = c.args.self.now in
-    absurd (task_sound seen c.open_told.new.self (with_told c.text_told.result (λ n. arrange (Open System n None))) c.open_told.result
-    (told_sound c.text_told.result (λ n. arrange (Open System n None)) (λ n. tt)) c.open_told.ensures fault)
+    absurd (task_sound seen c.open_told.new.self (with_told c.text_parameter.result (λ n. arrange (Open System n None))) c.open_told.result
+    (told_sound c.text_parameter.result (λ n. arrange (Open System n None)) (λ n. tt)) c.open_told.ensures fault)
 
 pub returns-in-EditOpen-clause-step : goal.returns-in-EditOpen-clause-step
 returns-in-EditOpen-clause-step g c =
@@ -37,14 +37,14 @@ returns-in-EditOpen-clause-step g c =
     commanded (λ (task : Task). IsShelfStep seen (λ i. ask i task) c.open_told-in-EditOpen.result c.open_told-in-EditOpen.new.self sent sent told told) seen.texts seen.screen
     c.args.command command.EditOpen c.args.value.now c.args.viewer c.args.text c.in-EditOpen.is
     (subst (λ (o : Option ℕ). IsShelfStep seen (λ i. ask i (with_told o (λ n. arrange (Open User n None)))) c.open_told-in-EditOpen.result c.open_told-in-EditOpen.new.self sent sent told told)
-    c.text_told-in-EditOpen.ensures.told
-    (task_over seen c.open_told-in-EditOpen.new.self (with_told c.text_told-in-EditOpen.result (λ n. arrange (Open User n None))) told c.open_told-in-EditOpen.result sent c.open_told-in-EditOpen.ensures))
+    c.text_parameter-in-EditOpen.ensures.told
+    (task_over seen c.open_told-in-EditOpen.new.self (with_told c.text_parameter-in-EditOpen.result (λ n. arrange (Open User n None))) told c.open_told-in-EditOpen.result sent c.open_told-in-EditOpen.ensures))
 
 pub returns-in-EditOpen-clause-fault : goal.returns-in-EditOpen-clause-fault
 returns-in-EditOpen-clause-fault g c = λ fault.
     let seen : DeskSeen = c.args.self.now in
-    absurd (task_sound seen c.open_told-in-EditOpen.new.self (with_told c.text_told-in-EditOpen.result (λ n. arrange (Open User n None))) c.open_told-in-EditOpen.result
-    (told_sound c.text_told-in-EditOpen.result (λ n. arrange (Open User n None)) (λ n. tt)) c.open_told-in-EditOpen.ensures fault)
+    absurd (task_sound seen c.open_told-in-EditOpen.new.self (with_told c.text_parameter-in-EditOpen.result (λ n. arrange (Open User n None))) c.open_told-in-EditOpen.result
+    (told_sound c.text_parameter-in-EditOpen.result (λ n. arrange (Open User n None)) (λ n. tt)) c.open_told-in-EditOpen.ensures fault)
 
 pub returns-in-SystemClose-clause-step : goal.returns-in-SystemClose-clause-step
 returns-in-SystemClose-clause-step g c =
@@ -68,7 +68,7 @@ returns-in-EditLoad-clause-step g c =
     commanded (λ (task : Task). IsShelfStep seen (λ i. ask i task) c.load.result c.load.new.self sent c.load.new.outbox told (g.S.Shelf.files c.load.new.shelf)) seen.texts seen.screen
     c.args.command command.EditLoad c.args.value.now c.args.viewer c.args.text c.in-EditLoad.is
     (subst (λ (o : Option (List ℕ)). IsShelfStep seen (λ i. ask i (with_told o load)) c.load.result c.load.new.self sent c.load.new.outbox
-    told (g.S.Shelf.files c.load.new.shelf)) c.file_told.ensures c.load.ensures.step)
+    told (g.S.Shelf.files c.load.new.shelf)) c.file_parameter.ensures c.load.ensures.step)
 
 pub returns-in-EditStore-clause-step : goal.returns-in-EditStore-clause-step
 returns-in-EditStore-clause-step g c =
@@ -77,7 +77,7 @@ returns-in-EditStore-clause-step g c =
     commanded (λ (task : Task). IsShelfStep seen (λ i. ask i task) c.store.result seen sent sent told (g.S.Shelf.files c.store.new.shelf)) seen.texts seen.screen
     c.args.command command.EditStore c.args.value.now c.args.viewer c.args.text c.in-EditStore.is
     (subst (λ (o : Option (List ℕ)). IsShelfStep seen (λ i. ask i (with_told o (store c.args.text))) c.store.result seen sent sent
-    told (g.S.Shelf.files c.store.new.shelf)) c.file_told-in-EditStore.ensures (c.store.ensures.step sent))
+    told (g.S.Shelf.files c.store.new.shelf)) c.file_parameter-in-EditStore.ensures (c.store.ensures.step sent))
 
 pub returns-in-EditRecall-clause-step : goal.returns-in-EditRecall-clause-step
 returns-in-EditRecall-clause-step g c =
@@ -122,18 +122,18 @@ returns-in-EditChangeFont-clause-step g c =
     commanded (λ (task : Task). IsShelfStep seen (λ i. ask i task) c.sent-in-EditChangeFont.result c.dress.new.self sent c.dress.new.outbox told told) seen.texts seen.screen
     c.args.command command.EditChangeFont c.args.value.now c.args.viewer c.args.text c.in-EditChangeFont.is
     (subst (λ (o : Option Change). IsShelfStep seen (λ i. ask i (with_told o (dress_marked seen.texts seen.screen))) c.sent-in-EditChangeFont.result c.dress.new.self
-    sent c.dress.new.outbox told told) c.font_told.ensures
-    (subst (λ (r : Result Answer EditRefusal). IsShelfStep seen (λ i. ask i (with_told c.font_told.result (dress_marked seen.texts seen.screen))) r c.dress.new.self sent c.dress.new.outbox told told)
+    sent c.dress.new.outbox told told) c.font_parameter.ensures
+    (subst (λ (r : Result Answer EditRefusal). IsShelfStep seen (λ i. ask i (with_told c.font_parameter.result (dress_marked seen.texts seen.screen))) r c.dress.new.self sent c.dress.new.outbox told told)
     (sym c.sent-in-EditChangeFont.ensures)
-    (edit_over seen c.dress.new.self (with_told c.font_told.result (dress_marked seen.texts seen.screen)) told c.dress.result sent c.dress.new.outbox
+    (edit_over seen c.dress.new.self (with_told c.font_parameter.result (dress_marked seen.texts seen.screen)) told c.dress.result sent c.dress.new.outbox
     c.dress.ensures)))
 
 pub returns-in-EditChangeFont-clause-fault : goal.returns-in-EditChangeFont-clause-fault
 returns-in-EditChangeFont-clause-fault g c = λ fault.
     let seen : DeskSeen = c.args.self.now in
-    absurd (edit_step_sound seen c.dress.new.self (with_told c.font_told.result (dress_marked seen.texts seen.screen)) c.dress.result
+    absurd (edit_step_sound seen c.dress.new.self (with_told c.font_parameter.result (dress_marked seen.texts seen.screen)) c.dress.result
     c.args.outbox.now c.dress.new.outbox
-    (told_sound c.font_told.result (dress_marked seen.texts seen.screen) (dressed_sound seen.texts seen.screen)) c.dress.ensures
+    (told_sound c.font_parameter.result (dress_marked seen.texts seen.screen) (dressed_sound seen.texts seen.screen)) c.dress.ensures
     (subst IsFault c.sent-in-EditChangeFont.ensures fault))
 
 pub returns-in-EditChangeColor-clause-step : goal.returns-in-EditChangeColor-clause-step
@@ -143,18 +143,18 @@ returns-in-EditChangeColor-clause-step g c =
     commanded (λ (task : Task). IsShelfStep seen (λ i. ask i task) c.sent-in-EditChangeColor.result c.dress-in-EditChangeColor.new.self sent c.dress-in-EditChangeColor.new.outbox told told) seen.texts seen.screen
     c.args.command command.EditChangeColor c.args.value.now c.args.viewer c.args.text c.in-EditChangeColor.is
     (subst (λ (o : Option Change). IsShelfStep seen (λ i. ask i (with_told o (dress_marked seen.texts seen.screen))) c.sent-in-EditChangeColor.result c.dress-in-EditChangeColor.new.self
-    sent c.dress-in-EditChangeColor.new.outbox told told) c.colour_told.ensures
-    (subst (λ (r : Result Answer EditRefusal). IsShelfStep seen (λ i. ask i (with_told c.colour_told.result (dress_marked seen.texts seen.screen))) r c.dress-in-EditChangeColor.new.self sent c.dress-in-EditChangeColor.new.outbox told told)
+    sent c.dress-in-EditChangeColor.new.outbox told told) c.colour_parameter.ensures
+    (subst (λ (r : Result Answer EditRefusal). IsShelfStep seen (λ i. ask i (with_told c.colour_parameter.result (dress_marked seen.texts seen.screen))) r c.dress-in-EditChangeColor.new.self sent c.dress-in-EditChangeColor.new.outbox told told)
     (sym c.sent-in-EditChangeColor.ensures)
-    (edit_over seen c.dress-in-EditChangeColor.new.self (with_told c.colour_told.result (dress_marked seen.texts seen.screen)) told c.dress-in-EditChangeColor.result sent c.dress-in-EditChangeColor.new.outbox
+    (edit_over seen c.dress-in-EditChangeColor.new.self (with_told c.colour_parameter.result (dress_marked seen.texts seen.screen)) told c.dress-in-EditChangeColor.result sent c.dress-in-EditChangeColor.new.outbox
     c.dress-in-EditChangeColor.ensures)))
 
 pub returns-in-EditChangeColor-clause-fault : goal.returns-in-EditChangeColor-clause-fault
 returns-in-EditChangeColor-clause-fault g c = λ fault.
     let seen : DeskSeen = c.args.self.now in
-    absurd (edit_step_sound seen c.dress-in-EditChangeColor.new.self (with_told c.colour_told.result (dress_marked seen.texts seen.screen)) c.dress-in-EditChangeColor.result
+    absurd (edit_step_sound seen c.dress-in-EditChangeColor.new.self (with_told c.colour_parameter.result (dress_marked seen.texts seen.screen)) c.dress-in-EditChangeColor.result
     c.args.outbox.now c.dress-in-EditChangeColor.new.outbox
-    (told_sound c.colour_told.result (dress_marked seen.texts seen.screen) (dressed_sound seen.texts seen.screen)) c.dress-in-EditChangeColor.ensures
+    (told_sound c.colour_parameter.result (dress_marked seen.texts seen.screen) (dressed_sound seen.texts seen.screen)) c.dress-in-EditChangeColor.ensures
     (subst IsFault c.sent-in-EditChangeColor.ensures fault))
 
 pub returns-in-EditChangeOffset-clause-step : goal.returns-in-EditChangeOffset-clause-step
@@ -164,18 +164,18 @@ returns-in-EditChangeOffset-clause-step g c =
     commanded (λ (task : Task). IsShelfStep seen (λ i. ask i task) c.sent-in-EditChangeOffset.result c.dress-in-EditChangeOffset.new.self sent c.dress-in-EditChangeOffset.new.outbox told told) seen.texts seen.screen
     c.args.command command.EditChangeOffset c.args.value.now c.args.viewer c.args.text c.in-EditChangeOffset.is
     (subst (λ (o : Option Change). IsShelfStep seen (λ i. ask i (with_told o (dress_marked seen.texts seen.screen))) c.sent-in-EditChangeOffset.result c.dress-in-EditChangeOffset.new.self
-    sent c.dress-in-EditChangeOffset.new.outbox told told) c.offset_told.ensures
-    (subst (λ (r : Result Answer EditRefusal). IsShelfStep seen (λ i. ask i (with_told c.offset_told.result (dress_marked seen.texts seen.screen))) r c.dress-in-EditChangeOffset.new.self sent c.dress-in-EditChangeOffset.new.outbox told told)
+    sent c.dress-in-EditChangeOffset.new.outbox told told) c.offset_parameter.ensures
+    (subst (λ (r : Result Answer EditRefusal). IsShelfStep seen (λ i. ask i (with_told c.offset_parameter.result (dress_marked seen.texts seen.screen))) r c.dress-in-EditChangeOffset.new.self sent c.dress-in-EditChangeOffset.new.outbox told told)
     (sym c.sent-in-EditChangeOffset.ensures)
-    (edit_over seen c.dress-in-EditChangeOffset.new.self (with_told c.offset_told.result (dress_marked seen.texts seen.screen)) told c.dress-in-EditChangeOffset.result sent c.dress-in-EditChangeOffset.new.outbox
+    (edit_over seen c.dress-in-EditChangeOffset.new.self (with_told c.offset_parameter.result (dress_marked seen.texts seen.screen)) told c.dress-in-EditChangeOffset.result sent c.dress-in-EditChangeOffset.new.outbox
     c.dress-in-EditChangeOffset.ensures)))
 
 pub returns-in-EditChangeOffset-clause-fault : goal.returns-in-EditChangeOffset-clause-fault
 returns-in-EditChangeOffset-clause-fault g c = λ fault.
     let seen : DeskSeen = c.args.self.now in
-    absurd (edit_step_sound seen c.dress-in-EditChangeOffset.new.self (with_told c.offset_told.result (dress_marked seen.texts seen.screen)) c.dress-in-EditChangeOffset.result
+    absurd (edit_step_sound seen c.dress-in-EditChangeOffset.new.self (with_told c.offset_parameter.result (dress_marked seen.texts seen.screen)) c.dress-in-EditChangeOffset.result
     c.args.outbox.now c.dress-in-EditChangeOffset.new.outbox
-    (told_sound c.offset_told.result (dress_marked seen.texts seen.screen) (dressed_sound seen.texts seen.screen)) c.dress-in-EditChangeOffset.ensures
+    (told_sound c.offset_parameter.result (dress_marked seen.texts seen.screen) (dressed_sound seen.texts seen.screen)) c.dress-in-EditChangeOffset.ensures
     (subst IsFault c.sent-in-EditChangeOffset.ensures fault))
 
 pub returns-in-EditSearch-clause-step : goal.returns-in-EditSearch-clause-step
@@ -185,15 +185,15 @@ returns-in-EditSearch-clause-step g c =
     commanded (λ (task : Task). IsShelfStep seen (λ i. ask i task) c.search.result c.search.new.self sent sent told told) seen.texts seen.screen
     c.args.command command.EditSearch c.args.value.now c.args.viewer c.args.text c.in-EditSearch.is
     (subst (λ (o : Option (List ℕ)). IsShelfStep seen (λ i. ask i (with_told o search)) c.search.result c.search.new.self sent sent told
-    told) c.bytes_told.ensures
-    (task_over seen c.search.new.self (with_told (option_copied c.bytes_told.result) search) told c.search.result sent
+    told) c.bytes_parameter.ensures
+    (task_over seen c.search.new.self (with_told (option_copied c.bytes_parameter.result) search) told c.search.result sent
     c.search.ensures))
 
 pub returns-in-EditSearch-clause-fault : goal.returns-in-EditSearch-clause-fault
 returns-in-EditSearch-clause-fault g c = λ fault.
     let seen : DeskSeen = c.args.self.now in
-    absurd (task_sound seen c.search.new.self (with_told (option_copied c.bytes_told.result) search) c.search.result
-    (told_sound (option_copied c.bytes_told.result) search (λ n. tt)) c.search.ensures fault)
+    absurd (task_sound seen c.search.new.self (with_told (option_copied c.bytes_parameter.result) search) c.search.result
+    (told_sound (option_copied c.bytes_parameter.result) search (λ n. tt)) c.search.ensures fault)
 
 pub returns-in-ShareForget-clause-step : goal.returns-in-ShareForget-clause-step
 returns-in-ShareForget-clause-step g c =

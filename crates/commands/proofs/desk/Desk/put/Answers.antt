@@ -15,7 +15,7 @@ overflow_add-pos c =
     let put_so =
     put_at c.self.inside.texts c.put_into-outcome.new.texts c.tell.new.texts c.self.inside.windows c.tell.new.windows
     c.in-Some.place (items_in c.args.what) c.put_into-outcome.result c.args.outbox.now
-    c.put_into-outcome.new.outbox c.self.invariant.0 c.in-Some.ensures.place c.has_text.ensures c.put_into-outcome.ensures
+    c.put_into-outcome.new.outbox c.self.invariant.0 c.in-Some.ensures.place c.lemma_has_text.ensures c.put_into-outcome.ensures
     c.tell.ensures.told c.tell.ensures.screen in
     let room = room_then put_so c.shown_len-before.result c.shown_len-after.result
     (was_long put_so c.replica.result.now c.shown_len-before.result c.replica.ensures c.shown_len-before.ensures)
@@ -27,14 +27,14 @@ move_caret-requires-clause-of c =
     (c.tell.ensures.shown c.self.inside.texts c.self.invariant.0 c.self.invariant.1
     (edit_grows c.self.inside.texts c.put_into-outcome.new.texts c.in-Some.place.0
     (edit_of (items_in c.args.what) c.in-Some.place.1) c.put_into-outcome.result
-    c.args.outbox.now c.put_into-outcome.new.outbox c.has_text.ensures c.put_into-outcome.ensures)).0
+    c.args.outbox.now c.put_into-outcome.new.outbox c.lemma_has_text.ensures c.put_into-outcome.ensures)).0
 
 pub move_caret-requires-clause-in_text : goal.move_caret-requires-clause-in_text
 move_caret-requires-clause-in_text c =
     let put_so =
     put_at c.self.inside.texts c.put_into-outcome.new.texts c.tell.new.texts c.self.inside.windows c.tell.new.windows
     c.in-Some.place (items_in c.args.what) c.put_into-outcome.result c.args.outbox.now
-    c.put_into-outcome.new.outbox c.self.invariant.0 c.in-Some.ensures.place c.has_text.ensures c.put_into-outcome.ensures
+    c.put_into-outcome.new.outbox c.self.invariant.0 c.in-Some.ensures.place c.lemma_has_text.ensures c.put_into-outcome.ensures
     c.tell.ensures.told c.tell.ensures.screen in
     in_text put_so c.shown_len-before.result c.shown_len-after.result
     (was_long put_so c.replica.result.now c.shown_len-before.result c.replica.ensures c.shown_len-before.ensures)
@@ -46,7 +46,7 @@ invariant_of-self c = (
   (c.tell.ensures.shown c.self.inside.texts c.self.invariant.0 c.self.invariant.1
       (edit_grows c.self.inside.texts c.put_into-outcome.new.texts c.in-Some.place.0
       (edit_of (items_in c.args.what) c.in-Some.place.1) c.put_into-outcome.result
-      c.args.outbox.now c.put_into-outcome.new.outbox c.has_text.ensures c.put_into-outcome.ensures)).1,
+      c.args.outbox.now c.put_into-outcome.new.outbox c.lemma_has_text.ensures c.put_into-outcome.ensures)).1,
 )
 
 pub invariant_of-self-else-before-after : goal.invariant_of-self-else-before-after
@@ -54,14 +54,14 @@ invariant_of-self-else-before-after c =
     c.tell.ensures.shown c.self.inside.texts c.self.invariant.0 c.self.invariant.1
     (edit_grows c.self.inside.texts c.put_into-outcome.new.texts c.in-Some.place.0
     (edit_of (items_in c.args.what) c.in-Some.place.1) c.put_into-outcome.result
-    c.args.outbox.now c.put_into-outcome.new.outbox c.has_text.ensures c.put_into-outcome.ensures)
+    c.args.outbox.now c.put_into-outcome.new.outbox c.lemma_has_text.ensures c.put_into-outcome.ensures)
 
 pub returns-then-before-after : goal.returns-then-before-after
 returns-then-before-after c =
     let put_so =
     put_at c.self.inside.texts c.put_into-outcome.new.texts c.tell.new.texts c.self.inside.windows c.tell.new.windows
     c.in-Some.place (items_in c.args.what) c.put_into-outcome.result c.args.outbox.now
-    c.put_into-outcome.new.outbox c.self.invariant.0 c.in-Some.ensures.place c.has_text.ensures c.put_into-outcome.ensures
+    c.put_into-outcome.new.outbox c.self.invariant.0 c.in-Some.ensures.place c.lemma_has_text.ensures c.put_into-outcome.ensures
     c.tell.ensures.told c.tell.ensures.screen in
     moved_step put_so c.shown_len-before.result c.shown_len-after.result
     (was_long put_so c.replica.result.now c.shown_len-before.result c.replica.ensures c.shown_len-before.ensures)
@@ -73,7 +73,7 @@ returns-else-before-after c =
     let put_so =
     put_at c.self.inside.texts c.put_into-outcome.new.texts c.tell.new.texts c.self.inside.windows c.tell.new.windows
     c.in-Some.place (items_in c.args.what) c.put_into-outcome.result c.args.outbox.now
-    c.put_into-outcome.new.outbox c.self.invariant.0 c.in-Some.ensures.place c.has_text.ensures c.put_into-outcome.ensures
+    c.put_into-outcome.new.outbox c.self.invariant.0 c.in-Some.ensures.place c.lemma_has_text.ensures c.put_into-outcome.ensures
     c.tell.ensures.told c.tell.ensures.screen in
     stayed_step put_so c.shown_len-before.result c.shown_len-after.result
     (was_long put_so c.replica.result.now c.shown_len-before.result c.replica.ensures c.shown_len-before.ensures)

@@ -8,7 +8,7 @@ pub invariant_of-self : goal.invariant_of-self
 invariant_of-self c =
     c.tell.ensures.shown c.self.inside.texts c.self.invariant.0 c.self.invariant.1
     (edit_grows c.self.inside.texts c.recall-outcome.new.self c.args.text (recalling c.args.pos) c.recall-outcome.result
-    c.args.outbox.now c.recall-outcome.new.outbox c.has_text.ensures c.recall-outcome.ensures)
+    c.args.outbox.now c.recall-outcome.new.outbox c.lemma_has_text.ensures c.recall-outcome.ensures)
 
 pub returns : goal.returns
 returns c =

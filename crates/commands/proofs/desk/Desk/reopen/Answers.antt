@@ -1,7 +1,7 @@
 use Rattle.std.proofs.Common.{◌≡◌, ◌-◌, false, sym, subst, ◌∙◌}
 use Rattle.std.specs.Prelude.{slice_get}
 use Rattle.texts.specs.TextState.{TextState}
-use Rattle.machine.specs.DeskState.{IsTextOf}
+use Rattle.machine.specs.SiteTexts.{IsTextOf}
 use Rattle.machine.specs.Tasks.{has_begun}
 use Rattle.machine_laws.proofs.OneOfTexts.{one_element}
 use Rattle.commands.proofs.Reopening.{begun_as, begun_step, unread_step}

@@ -7,7 +7,7 @@ pub invariant_of-self : goal.invariant_of-self
 invariant_of-self c =
     c.tell.ensures.shown c.self.inside.texts c.self.invariant.0 c.self.invariant.1
     (copy_grows c.self.inside.texts c.save-outcome.new.self c.args.text c.args.beg c.args.end c.args.other c.args.pos
-    c.save-outcome.result c.args.outbox.now c.save-outcome.new.outbox c.has_text.ensures c.save-outcome.ensures)
+    c.save-outcome.result c.args.outbox.now c.save-outcome.new.outbox c.lemma_has_text.ensures c.save-outcome.ensures)
 
 pub returns : goal.returns
 returns c =

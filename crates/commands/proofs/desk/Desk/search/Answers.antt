@@ -27,7 +27,7 @@ pub find-requires : goal.find-requires
 find-requires c =
     place_within_text c.args.self.now c.self.inside.texts c.self.inside.windows c.self.view_is c.in-Some.bytes.now
     c.in-Some-caret_place.place c.replica-replica.result.now c.in-Some-caret_place.ensures.place c.replica-replica.ensures
-    c.self.invariant.0 c.is_text.ensures
+    c.self.invariant.0 c.lemma_is_text.ensures
 
 pub returns-in_default-find : goal.returns-in_default-find
 returns-in_default-find c =

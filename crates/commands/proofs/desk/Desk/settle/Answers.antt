@@ -7,7 +7,7 @@ pub invariant_of-self : goal.invariant_of-self
 invariant_of-self c =
     c.tell.ensures.shown c.self.inside.texts c.self.invariant.0 c.self.invariant.1
     (settle_grows c.self.inside.texts c.settle-outcome.new.self c.args.text c.settle-outcome.result.drained
-    c.settle-outcome.result.dropped c.settle-outcome.result.stopped c.has_text.ensures c.settle-outcome.ensures)
+    c.settle-outcome.result.dropped c.settle-outcome.result.stopped c.lemma_has_text.ensures c.settle-outcome.ensures)
 
 pub returns : goal.returns
 returns c =

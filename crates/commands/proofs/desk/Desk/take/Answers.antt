@@ -7,7 +7,7 @@ pub invariant_of-self : goal.invariant_of-self
 invariant_of-self c =
     c.tell.ensures.shown c.self.inside.texts c.self.invariant.0 c.self.invariant.1
     (take_grows c.self.inside.texts c.take-outcome.new.self c.args.text c.args.message.now c.take-outcome.result
-    c.has_text.ensures c.take-outcome.ensures)
+    c.lemma_has_text.ensures c.take-outcome.ensures)
 
 pub returns : goal.returns
 returns c =

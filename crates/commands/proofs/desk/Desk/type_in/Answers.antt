@@ -10,7 +10,7 @@ pub invariant_of-self : goal.invariant_of-self
 invariant_of-self c =
     c.tell.ensures.shown c.self.inside.texts c.self.invariant.0 c.self.invariant.1
     (edit_grows c.self.inside.texts c.type_in-outcome.new.self c.args.text (insertion c.args.pos (map (λ b. (b, plain_looks)) c.args.bytes.now)) c.type_in-outcome.result
-    c.args.outbox.now c.type_in-outcome.new.outbox c.has_text.ensures c.type_in-outcome.ensures)
+    c.args.outbox.now c.type_in-outcome.new.outbox c.lemma_has_text.ensures c.type_in-outcome.ensures)
 
 pub returns-clause-step : goal.returns-clause-step
 returns-clause-step c = λ short.

@@ -23,7 +23,7 @@ returns-in_err-_window-clause-comes c =
     (comes_refused (closed_at (screened old) c.args.viewer) old new (λ _. None) c.from_residual.result why
     (p.1 ∙ ap Err p.2)
     (λ t. record { viewers = kept t; caret = i.caret; selected = i.selected })
-    (closed_not old c.args.viewer (open_is i.viewers c.args.viewer c.are_viewers.ensures ∙ none.0) ∙ ap Err none.1))
+    (closed_not old c.args.viewer (open_is i.viewers c.args.viewer c.lemma_are_viewers.ensures ∙ none.0) ∙ ap Err none.1))
 
 pub fit_all-requires : goal.fit_all-requires
 fit_all-requires c =
@@ -46,7 +46,7 @@ returns-clause-comes c =
     rw (← c.self.view_is)
     (comes_done (closed_at (screened old) c.args.viewer) old new (λ _. None) (Ok tt) tt refl
     (closed_comes old c.args.viewer c.close.new.self c.fit_all.new.viewers c.caret_without-self-inside.result
-    c.selection_without-self-inside.result c.are_viewers.ensures some c.close.ensures.after c.fit_all.ensures.same
+    c.selection_without-self-inside.result c.lemma_are_viewers.ensures some c.close.ensures.after c.fit_all.ensures.same
     c.caret_without-self-inside.ensures c.selection_without-self-inside.ensures))
 
 pub returns-clause-of : goal.returns-clause-of

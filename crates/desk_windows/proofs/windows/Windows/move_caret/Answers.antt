@@ -2,7 +2,7 @@ use Rattle.std.proofs.Common.{sym, subst, Some}
 use Rattle.char_files.specs.declared.name.Anchor.{Anchor}
 use Rattle.texts.specs.Text.{IsAnchor}
 use Rattle.texts.specs.TextState.{TextState}
-use Rattle.text_frames.proofs.Ahead.{ahead_is_anchor}
+use Rattle.text_frames.proofs.Preceding.{before_is_anchor}
 use Rattle.desk_windows.specs.Pointing.{IsCaretSpot, ShowsThis}
 use Rattle.desk_windows.specs.Windows.{AreOf, WindowsSeen}
 use Rattle.desk_windows.proofs.Pointed.{caret_set, same_text}
@@ -21,5 +21,5 @@ returns-clause-of c =
     (same_text d spot.text there.1.1 now there.7.text c.replica-replica.ensures) there.7 in
     let anchor : Anchor = c.anchor_after-anchor.result in
     let char : IsAnchor now.operations anchor =
-    subst (IsAnchor now.operations) (sym c.anchor_after-anchor.ensures) (ahead_is_anchor now c.is_text.ensures c.args.pos) in
+    subst (IsAnchor now.operations) (sym c.anchor_after-anchor.ensures) (before_is_anchor now c.lemma_is_text.ensures c.args.pos) in
     caret_set d old spot.viewer spot.text now anchor are shows char

@@ -12,7 +12,7 @@ fit_all-requires c =
     let window : WindowSeen = record { text = c.args.text; frame = c.in_ok-frame.frame } in
     let wide = c.in_ok-frame.ensures.width ∙ c.track_width-width.ensures ∙ ap (λ n. width_of n c.args.track) c.width.ensures in
     subst (λ (s : ViewersSeen WindowSeen). AllShow d s) (sym c.open_at.ensures.after)
-    (all_after d s c.args.track c.args.row window c.replica.result.now c.are_viewers.ensures all c.requires.on_desk
+    (all_after d s c.args.track c.args.row window c.replica.result.now c.lemma_are_viewers.ensures all c.requires.on_desk
     c.replica.ensures c.in_ok-frame.ensures.drawn wide)
 
 pub returns-clause-of : goal.returns-clause-of

@@ -2,7 +2,7 @@ use Rattle.std.proofs.Common.{sym, subst, Some}
 use Rattle.char_files.specs.declared.name.Anchor.{Anchor}
 use Rattle.texts.specs.Text.{IsAnchor}
 use Rattle.texts.specs.TextState.{TextState}
-use Rattle.text_frames.proofs.Ahead.{ahead_is_anchor}
+use Rattle.text_frames.proofs.Preceding.{before_is_anchor}
 use Rattle.desk_windows.specs.Pointing.{IsPointed}
 use Rattle.desk_windows.specs.Windows.{AreOf, WindowsSeen}
 use Rattle.desk_windows.proofs.Pointed.{caret_set, shows_it}
@@ -18,6 +18,6 @@ returns-clause-of c =
     subst (λ (w : WindowsSeen). IsPointed d w c.args.col c.args.row (Some spot)) (sym c.self.view_is) c.in-Some.ensures in
     let anchor : Anchor = c.anchor_after-anchor.result in
     let char : IsAnchor now.operations anchor =
-    subst (IsAnchor now.operations) (sym c.anchor_after-anchor.ensures) (ahead_is_anchor now c.is_text.ensures spot.pos) in
+    subst (IsAnchor now.operations) (sym c.anchor_after-anchor.ensures) (before_is_anchor now c.lemma_is_text.ensures spot.pos) in
     caret_set d old spot.viewer spot.text now anchor are
     (shows_it d old spot there.0 there.2 now c.replica-replica.ensures) char

@@ -36,5 +36,5 @@ returns-clause-of c =
     subst (λ (w : WindowsSeen). IsPointed d w c.args.beg.0 c.args.beg.1 (Some from)) (sym c.self.view_is) c.in-Some.ensures in
     let to = c.in-Some-pointed.to in
     selection_spot d old from there.0 there.2 now c.replica-replica.ensures (min from.pos to.pos)
-    (min (max from.pos to.pos + 1) (length (shown_of now))) c.in-Some-between.selection are c.is_text.ensures
+    (min (max from.pos to.pos + 1) (length (shown_of now))) c.in-Some-between.selection are c.lemma_is_text.ensures
     (sym c.in-Some-between.ensures)

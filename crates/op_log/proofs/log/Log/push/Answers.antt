@@ -23,7 +23,7 @@ push-requires-clause-end c =
     subst (λ (seen : LogSeen). Begins op.kind (file_len seen.ops op.site)) (sym c.self.view_is)
     c.requires.begins in
     let fits = fits_by_table c.self.invariant op c.site-site.result c.file_len.result c.site-site.ensures
-    c.file_len.ensures.value c.has_spelling.ensures.kind begins c.file_len.ensures.bound in
+    c.file_len.ensures.value c.lemma_has_spelling.ensures.kind begins c.file_len.ensures.bound in
     let len = c.appended_bytes.ensures.value in
     omega arith
 
@@ -49,5 +49,5 @@ invariant_of-self c =
       index = c.len.result;
       end = c.file_len.result + c.appended_bytes.result;
       stamp = c.stamp.result;
-    }) next begins c.has_spelling.ensures.stamp.1 c.site-site.ensures c.stamp.ensures
+    }) next begins c.lemma_has_spelling.ensures.stamp.1 c.site-site.ensures c.stamp.ensures
     index ends c.push.ensures.entries c.push.ensures.others))

@@ -2,7 +2,7 @@ use Rattle.std.proofs.Common.{rules, ◌≡◌, ℕ, List, IsPermutation, ap, su
 use Rattle.std.specs.List.Sorted.{IsNonDecreasing}
 use Rattle.std.proofs.lemmas.List.Sorted.{IsNonDecreasingBy-from_sort_by_key}
 use Rattle.op_log.specs.Logged.{first_sites}
-use Rattle.op_log.proofs.Logged.{are_held_to_the_front}
+use Rattle.op_log.proofs.Logged.{lemma_are_held_to_the_front}
 use Rattle.op_log.proofs.Sites.{sites_sorted}
 use Rattle.op_log.proofs.log.Log.sites.Goals as goal
 
@@ -18,5 +18,5 @@ returns-clause-ok c =
     IsNonDecreasingBy-from_sort_by_key (λ (site : ℕ). site) sites c.sort_unstable_by_key.ensures.sorted
     (λ a r q k. search rules) in
     rw (← c.self.view_is)
-    (sites_sorted l.ops.items sites perm c.self.invariant.once (are_held_to_the_front c.self.invariant)
+    (sites_sorted l.ops.items sites perm c.self.invariant.once (lemma_are_held_to_the_front c.self.invariant)
     sorted)

@@ -15,7 +15,7 @@ returns-then-hidden c =
     ap (λ (d : CharName). d.site) c.in-Some.ensures.value ∙ c.site.ensures in
     let off : name.off ≡ c.loop-at.at = ap (λ (d : CharName). d.off) c.in-Some.ensures.value in
     let held : IsIn c.args.range name =
-    (site, omega (arith, c.loop-at.invariant.low), omega (arith, c.loop-at.invariant.behind, c.loop-at-test.true)) in (
+    (site, omega (arith, c.loop-at.invariant.low), omega (arith, c.loop-at.invariant.after, c.loop-at-test.true)) in (
       λ hidden. one_hidden ks c.args.range name (c.requires name (0, c.args.range, omega arith, refl, held)) held
           (λ k has named.
           let own : IsIn (range name.site name.off (c.hidden_from.result.1 - name.off)) name =

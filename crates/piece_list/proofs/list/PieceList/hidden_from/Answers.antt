@@ -3,7 +3,7 @@ use Rattle.char_files.specs.declared.TheConstants.{MAX_FILE}
 use Rattle.piece_list.specs.declared.piece.Piece.{Piece}
 use Rattle.piece_list.specs.Held.{HeldPieces, PiecesSeen, IsPlaceOf}
 use Rattle.piece_list.specs.Spelled.{spelled}
-use Rattle.piece_list.proofs.HiddenNames.{ends_behind, end_fits, alike}
+use Rattle.piece_list.proofs.HiddenNames.{ends_after, end_fits, alike}
 use Rattle.piece_list.proofs.Positions.{Items}
 use Rattle.piece_list.proofs.list.PieceList.hidden_from.Goals as goal
 use Rattle.piece_list.proofs.list.PieceList.hidden_from.Goals.{In-Some}
@@ -23,7 +23,7 @@ overflow_add-result c =
 
 pub returns-clause-some : goal.returns-clause-some
 returns-clause-some c =
-    ends_behind c.pieces.inside.ring.items c.pieces.inside.tags c.pieces.invariant.numbered c.pieces.invariant.entered
+    ends_after c.pieces.inside.ring.items c.pieces.inside.tags c.pieces.invariant.numbered c.pieces.invariant.entered
     c.in-Some.place c.args.name c.value_at-piece.result.now (at (goal.at.returns-clause-some c).In-Some)
     c.value_at-piece.ensures
 

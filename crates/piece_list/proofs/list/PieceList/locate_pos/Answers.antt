@@ -35,5 +35,5 @@ returns c =
     c.find-piece.ensures.found in
     subst (λ (l : Items). IfSome (slice_get (shown_chars (spelled l)) c.args.pos)
     (λ k. IsPlaceOf l place k.name)) seen
-    (position items found.front found.behind place.piece found.piece found.whole c.args.pos place.within
+    (position items found.front found.after place.piece found.piece found.whole c.args.pos place.within
     found.at found.inside)

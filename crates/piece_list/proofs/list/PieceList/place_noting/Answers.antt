@@ -59,10 +59,10 @@ put_is c parted =
     let last : Option ℕ = c.skip-last.result in
     put_in_gap old items c.put.new.self.items c.args.cause (piece_of c.args.run) c.end_at-end.result last
     c.skip-last.new.steps parted
-    (subst (λ (n : ℕ). (ahead behind : Items) → IsParted items c.end_at-end.result ahead behind
-    → IsSkip c.args.run.key ahead behind last n c.skip-last.new.steps) steps c.skip-last.ensures)
-    (subst (λ (p : Piece). (ahead behind : Items) → IsParted items last ahead behind
-    → (tag : ℕ) × (c.put.new.self.items ≡ ahead ++ (tag, p) ∷ behind)) c.of_run.ensures c.put.ensures.put)
+    (subst (λ (n : ℕ). (before after : Items) → IsParted items c.end_at-end.result before after
+    → IsSkip c.args.run.key before after last n c.skip-last.new.steps) steps c.skip-last.ensures)
+    (subst (λ (p : Piece). (before after : Items) → IsParted items last before after
+    → (tag : ℕ) × (c.put.new.self.items ≡ before ++ (tag, p) ∷ after)) c.of_run.ensures c.put.ensures.put)
 
 -- what is answered for the run's first name
 count : (c : After-shown_to) → IfSome c.shown_to.result

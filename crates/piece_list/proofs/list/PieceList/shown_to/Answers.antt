@@ -11,10 +11,10 @@ overflow_add-result c =
     let items : Items = c.pieces.inside.ring.items in
     let at : IsPlaceOf items c.in_ok-place.place c.args.name =
     rw (← c.pieces.view_is) at c.in_ok-place.ensures.place in
-    let fits : c.rank-ahead.result + c.shown_of.result < 2 ^ 64 =
+    let fits : c.rank-before.result + c.shown_of.result < 2 ^ 64 =
     rank_fits items c.pieces.inside.tags c.pieces.inside.index.items c.in_ok-place.place c.args.name
-    c.value_at-piece.result.now c.rank-ahead.result c.shown_of.result c.pieces.invariant.numbered
-    c.pieces.invariant.entered c.pieces.invariant.indexed at c.value_at-piece.ensures c.rank-ahead.ensures.rank
+    c.value_at-piece.result.now c.rank-before.result c.shown_of.result c.pieces.invariant.numbered
+    c.pieces.invariant.entered c.pieces.invariant.indexed at c.value_at-piece.ensures c.rank-before.ensures.rank
     c.shown_of.ensures in
     omega (arith, fits, c.from.ensures)
 
@@ -24,10 +24,10 @@ returns-clause-count c =
     let seen : items ≡ c.args.self.now.items = ap (λ (v : HeldPieces). v.items) c.pieces.view_is ∙ ap (λ (v : PiecesSeen). v.items) c.self.view_is in
     let at : IsPlaceOf items c.in_ok-place.place c.args.name =
     rw (← c.pieces.view_is) at c.in_ok-place.ensures.place in
-    subst (λ (n : ℕ). AreShownTo (spelled c.args.self.now.items) c.args.name (c.rank-ahead.result + n))
+    subst (λ (n : ℕ). AreShownTo (spelled c.args.self.now.items) c.args.name (c.rank-before.result + n))
     (sym c.from.ensures)
-    (subst (λ (l : Items). AreShownTo (spelled l) c.args.name (c.rank-ahead.result + c.shown_of.result)) seen
+    (subst (λ (l : Items). AreShownTo (spelled l) c.args.name (c.rank-before.result + c.shown_of.result)) seen
     (rank_counts items c.pieces.inside.tags c.pieces.inside.index.items c.in_ok-place.place c.args.name
-    c.value_at-piece.result.now c.rank-ahead.result c.shown_of.result c.pieces.invariant.numbered
-    c.pieces.invariant.entered c.pieces.invariant.indexed at c.value_at-piece.ensures c.rank-ahead.ensures.rank
+    c.value_at-piece.result.now c.rank-before.result c.shown_of.result c.pieces.invariant.numbered
+    c.pieces.invariant.entered c.pieces.invariant.indexed at c.value_at-piece.ensures c.rank-before.ensures.rank
     c.shown_of.ensures))

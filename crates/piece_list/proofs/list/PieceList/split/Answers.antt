@@ -24,6 +24,6 @@ pub returns-clause-others : goal.returns-clause-others
 returns-clause-others c =
     let same : c.reserve.new.self.items ≡ c.args.self.now.items =
     c.reserve.ensures.items ∙ ap (λ (v : PiecesSeen). v.items) c.self.view_is in
-    λ other d is ahead.
+    λ other d is before.
     let at : List (ℕ × Piece) → Type 0 = λ (l : List (ℕ × Piece)). IsPlaceOf l other d in
-    c.cut-piece.ensures.others other d (subst at (sym same) is) ahead
+    c.cut-piece.ensures.others other d (subst at (sym same) is) before

@@ -10,24 +10,24 @@ use Rattle.piece_list.proofs.list.PieceList.walk.Goals as goal
 
 pub returns-clause-runs : goal.returns-clause-runs
 returns-clause-runs c =
-    ap shown_runs (c.behind.ensures [] c.pieces.inside.ring.items refl refl)
+    ap shown_runs (c.rest_after.ensures [] c.pieces.inside.ring.items refl refl)
     ∙ ap (λ (v : HeldPieces). shown_runs v.items) c.pieces.view_is ∙ ap (λ (v : PiecesSeen). shown_runs v.items) c.self.view_is
 
 pub returns-clause-shown : goal.returns-clause-shown
 returns-clause-shown c =
     let items : List (ℕ × Piece) = c.pieces.inside.ring.items in
     let seen : items ≡ c.args.self.now.items = ap (λ (v : HeldPieces). v.items) c.pieces.view_is ∙ ap (λ (v : PiecesSeen). v.items) c.self.view_is in
-    ap (λ (l : List (ℕ × Piece)). flat_map appearances_in (shown_runs l)) (c.behind.ensures [] c.pieces.inside.ring.items refl refl ∙ seen)
+    ap (λ (l : List (ℕ × Piece)). flat_map appearances_in (shown_runs l)) (c.rest_after.ensures [] c.pieces.inside.ring.items refl refl ∙ seen)
     ∙ runs_tell c.args.self.now.items
 
 pub returns-clause-some : goal.returns-clause-some
 returns-clause-some c =
     let Some : Run → Type 0 = λ (run : Run). 0 < run.len in
-    subst (λ (l : List (ℕ × Piece)). All Some (shown_runs l)) (sym (c.behind.ensures [] c.pieces.inside.ring.items refl refl))
+    subst (λ (l : List (ℕ × Piece)). All Some (shown_runs l)) (sym (c.rest_after.ensures [] c.pieces.inside.ring.items refl refl))
     (runs_are Some (λ p is. is.0) c.pieces.inside.ring.items c.pieces.invariant.entered.pieces)
 
 pub returns-clause-within : goal.returns-clause-within
 returns-clause-within c =
     let Within : Run → Type 0 = λ (run : Run). run.off + run.len ≤ MAX_FILE in
-    subst (λ (l : List (ℕ × Piece)). All Within (shown_runs l)) (sym (c.behind.ensures [] c.pieces.inside.ring.items refl refl))
+    subst (λ (l : List (ℕ × Piece)). All Within (shown_runs l)) (sym (c.rest_after.ensures [] c.pieces.inside.ring.items refl refl))
     (runs_are Within (λ p is. is.2) c.pieces.inside.ring.items c.pieces.invariant.entered.pieces)

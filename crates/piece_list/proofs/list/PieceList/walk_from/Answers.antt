@@ -37,18 +37,18 @@ found c =
 pub from-members-requires : goal.from-members-requires
 from-members-requires c =
     let at = found (goal.at.from-members-requires c).After-find-tag in
-    (at.piece, (at.front, at.behind, at.whole))
+    (at.piece, (at.front, at.after, at.whole))
 
 -- the members from the piece on
 left : (c : After-from-members) (at : IsFoundAt c.pieces.inside.ring.items c.args.pos c.find-tag.result.0 c.find-tag.result.1)
-    → c.from-members.result ≡ (c.find-tag.result.0, at.piece) ∷ at.behind
-left c at = c.from-members.ensures at.front ((c.find-tag.result.0, at.piece) ∷ at.behind) at.whole refl
+    → c.from-members.result ≡ (c.find-tag.result.0, at.piece) ∷ at.after
+left c at = c.from-members.ensures at.front ((c.find-tag.result.0, at.piece) ∷ at.after) at.whole refl
 
 pub returns-clause-shown : goal.returns-clause-shown
 returns-clause-shown c =
     let at = found (goal.at.returns-clause-shown c).After-find-tag in
     ap (λ (l : Items). drop c.find-tag.result.1 (told (shown_runs l))) (left (goal.at.returns-clause-shown c).After-from-members at)
-    ∙ tells_from c.pieces.inside.ring.items at.front at.behind c.find-tag.result.0 at.piece at.whole
+    ∙ tells_from c.pieces.inside.ring.items at.front at.after c.find-tag.result.0 at.piece at.whole
     c.args.pos c.find-tag.result.1 at.at
     ∙ ap (λ (v : HeldPieces). drop c.args.pos (map appearance_of (shown_chars (spelled v.items)))) c.pieces.view_is
     ∙ ap (λ (v : PiecesSeen). drop c.args.pos (map appearance_of (shown_chars (spelled v.items)))) c.self.view_is
@@ -58,14 +58,14 @@ returns-clause-front c =
     let at = found (goal.at.returns-clause-front c).After-find-tag in
     subst (λ (l : Items). HasFront c.find-tag.result.1 (shown_runs l))
     (sym (left (goal.at.returns-clause-front c).After-from-members at))
-    (front_from c.pieces.inside.ring.items at.front at.behind c.find-tag.result.0 at.piece at.whole
+    (front_from c.pieces.inside.ring.items at.front at.after c.find-tag.result.0 at.piece at.whole
     c.find-tag.result.1 at.inside)
 
 pub returns-clause-within : goal.returns-clause-within
 returns-clause-within c =
     let at = found (goal.at.returns-clause-within c).After-find-tag in
     subst (λ (l : Items). AreWithin (shown_runs l)) (sym (left (goal.at.returns-clause-within c).After-from-members at))
-    (within_from c.pieces.inside.ring.items at.front at.behind c.find-tag.result.0 at.piece at.whole
+    (within_from c.pieces.inside.ring.items at.front at.after c.find-tag.result.0 at.piece at.whole
     c.pieces.invariant.entered.pieces)
 
 pub returns-then-shown_len-pos-clause-shown : goal.returns-then-shown_len-pos-clause-shown

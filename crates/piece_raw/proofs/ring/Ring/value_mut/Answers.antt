@@ -14,14 +14,14 @@ value_mut-requires g c =
     let n = c.self.inside.nodes in let at = some_of c.self.inside.cursor (rw (← c.self.view_is) at c.requires) in
     let on = of_stop n c.self.invariant.0 at.0 (subst (IsStop (all_nodes n)) at.1 c.self.invariant.1) in
     let ptr = c.find-node.ensures on.node (among n at.0 on) (stops n at.0 on ∙ sym at.1) in
-    (on.ahead, on.node, on.behind, on.cut, sym ptr)
+    (on.before, on.node, on.after, on.cut, sym ptr)
 
 pub unreachable-requires : goal.unreachable-requires
 unreachable-requires g c =
     let n = c.self.inside.nodes in let at = some_of c.self.inside.cursor (rw (← c.self.view_is) at c.requires) in
     let on = of_stop n c.self.invariant.0 at.0 (subst (IsStop (all_nodes n)) at.1 c.self.invariant.1) in
     let ptr = c.find-node.ensures on.node (among n at.0 on) (stops n at.0 on ∙ sym at.1) in
-    let read = sym on.held ∙ sym (c.value_mut.ensures.value on.ahead on.node on.behind on.cut (sym ptr)) ∙
+    let read = sym on.held ∙ sym (c.value_mut.ensures.value on.before on.node on.after on.cut (sym ptr)) ∙
     c.in-None.is in cc
 
 pub invariant_of-self-lent : goal.invariant_of-self-lent
@@ -31,14 +31,14 @@ invariant_of-self-lent g c =
     let at = some_of c.self.inside.cursor (rw (← c.self.view_is) at c.requires) in
     let on = of_stop n tied at.0 (subst (IsStop (all_nodes n)) at.1 c.self.invariant.1) in
     let ptr = c.find-node.ensures on.node (among n at.0 on) (stops n at.0 on ∙ sym at.1) in
-    let is : on.node.value ≡ Some m = sym (c.value_mut.ensures.value on.ahead on.node on.behind on.cut (sym ptr)) ∙
+    let is : on.node.value ≡ Some m = sym (c.value_mut.ensures.value on.before on.node on.after on.cut (sym ptr)) ∙
     c.in-Some.is in
     let apart = apart_places l.trailer.at l.nodes l.apart in
     let matched = subst (λ (p : Ptr). Matches ps (set_value p (written m w) l.nodes)) (sym ptr)
-    (Matches-kept ps l.nodes on.ahead on.node on.behind m tied.matches apart on.cut is w) in
+    (Matches-kept ps l.nodes on.before on.node on.after m tied.matches apart on.cut is w) in
     let stopped = subst (λ (p : Ptr). IsStop (l.trailer ∷ set_value p (written m w) l.nodes)
     c.self.inside.cursor) (sym ptr)
-    (stop-kept ps l.nodes on.ahead on.node on.behind m tied.matches apart on.cut is w l.trailer c.self.inside.cursor
+    (stop-kept ps l.nodes on.before on.node on.after m tied.matches apart on.cut is w l.trailer c.self.inside.cursor
     c.self.invariant.1) in
     rw c.in-Some.is (
       record {
@@ -59,13 +59,13 @@ returns g c =
     let at = some_of c.self.inside.cursor (rw (← c.self.view_is) at c.requires) in
     let on = of_stop n tied at.0 (subst (IsStop (all_nodes n)) at.1 c.self.invariant.1) in
     let ptr = c.find-node.ensures on.node (among n at.0 on) (stops n at.0 on ∙ sym at.1) in
-    let is : on.node.value ≡ Some m = sym (c.value_mut.ensures.value on.ahead on.node on.behind on.cut (sym ptr)) ∙
+    let is : on.node.value ≡ Some m = sym (c.value_mut.ensures.value on.before on.node on.after on.cut (sym ptr)) ∙
     c.in-Some.is in
     let both : Some m ≡ Some on.member = sym is ∙ on.held in
     let same : m ≡ on.member = cc in
     let tag = ap (λ k. k.tag) same ∙ on.tagged in
     let put = λ (w : g.row.T.Denot). ap (λ (p : Ptr). members (set_value p (written m w) l.nodes)) ptr ∙
-    members-kept (spots n.table.items) l.nodes on.ahead on.node on.behind m tied.matches
+    members-kept (spots n.table.items) l.nodes on.before on.node on.after m tied.matches
     (apart_places l.trailer.at l.nodes l.apart) on.cut is w
     ∙ ap (λ k. with_value k w (members l.nodes)) tag ∙ ap (λ s. with_value_at s w (members l.nodes))
     (sym at.1) in

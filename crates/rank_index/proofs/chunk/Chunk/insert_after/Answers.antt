@@ -8,7 +8,7 @@ use Rattle.rank_index.proofs.chunk.Chunk.insert_after.Goals as goal
 pub invariant_of-self : goal.invariant_of-self
 invariant_of-self c =
     let items = c.self.inside.members.items in
-    let place = c.place_behind-place.result in
+    let place = c.place_after-place.result in
     let put : c.insert.new.self.items ≡ insert items place (c.args.tag, c.args.weight) = c.in-Ok.ensures.items in
     let more = weight_of-insert items place (c.args.tag, c.args.weight) in (
       omega (arith, more, ap weight_of put, c.self.invariant.0),

@@ -5,6 +5,6 @@ use Rattle.rank_index.proofs.chunk.Chunk.rank.Given as goal
 abbrev pub invariant-loop-member : goal.invariant-loop-member
 invariant-loop-member l = record {
   whole : l.member-items ≡ l.self.members;
-  ahead : l.ahead ≡ weight_of (take l.member-index l.member-items);
+  before : l.before ≡ weight_of (take l.member-index l.member-items);
   others : All (λ m. m.0 ≢ l.tag) (take l.member-index l.member-items);
 }

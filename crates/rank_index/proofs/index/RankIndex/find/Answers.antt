@@ -4,7 +4,7 @@ use Rattle.rank_index.specs.Chunks.{ChunkSeen, members_of}
 use Rattle.rank_index.specs.Groups.{weight_to}
 use Rattle.rank_index.specs.Ranked.{Ranked, weight_of, IsFound}
 use Rattle.rank_index.proofs.Tagged.{Members}
-use Rattle.rank_index.proofs.Weights.{found_behind, weight_parts}
+use Rattle.rank_index.proofs.Weights.{found_after, weight_parts}
 use Rattle.rank_index.proofs.index.RankIndex.find.Goals as goal
 use Rattle.rank_index.proofs.index.RankIndex.find.Goals.{After-deref-3}
 
@@ -17,7 +17,7 @@ rest c =
     take_rest c.deref-3.result.now c.group_at-place.result.0
     ∙ ap (drop c.group_at-place.result.0) c.deref-3.ensures.value
 
--- and what stands ahead of them is passed
+-- and what stands before them is passed
 passed : (c : After-deref-3)
     → c.args.pos ≡ weight_to c.self.inside.chunks.items c.group_at-place.result.0 + c.group_at-place.result.1
 passed c =
@@ -45,6 +45,6 @@ returns c =
     record {
       found = subst (λ (l : Members). IsFound l c.args.pos c.found_in.result.0 c.found_in.result.1)
           (ap (λ (r : Ranked). r.items) c.self.view_is)
-          (found_behind c.self.inside.chunks.items c.group_at-place.result.0 c.args.pos c.group_at-place.result.1
+          (found_after c.self.inside.chunks.items c.group_at-place.result.0 c.args.pos c.group_at-place.result.1
           c.found_in.result.0 c.found_in.result.1 (passed at) in_rest);
     }

@@ -16,52 +16,52 @@ use Rattle.rank_index.proofs.index.RankIndex.insert_after.Goals as goal
 use Rattle.rank_index.proofs.index.RankIndex.insert_after.Goals.{After-regroup_if_grown, After-index_mut-chunk, After-insert_after, After-index_mut-group}
 
 -- the chunk's place is that of one of the chunks
-within : (c : After-index_mut-chunk) → c.place_behind-place.result < length c.place_behind-place.new.chunks.items
+within : (c : After-index_mut-chunk) → c.place_after-place.result < length c.place_after-place.new.chunks.items
 within c =
-    let (there, at, room) = c.place_behind-place.ensures.room in
-    slice_get_within c.place_behind-place.new.chunks.items c.place_behind-place.result there at
+    let (there, at, room) = c.place_after-place.ensures.room in
+    slice_get_within c.place_after-place.new.chunks.items c.place_after-place.result there at
 
 -- these have the members that were there
-same : (c : After-index_mut-chunk) → members_of c.place_behind-place.new.chunks.items ≡ c.args.self.now.items
-same c = c.place_behind-place.ensures.members ∙ ap (λ (r : Ranked). r.items) c.self.view_is
+same : (c : After-index_mut-chunk) → members_of c.place_after-place.new.chunks.items ≡ c.args.self.now.items
+same c = c.place_after-place.ensures.members ∙ ap (λ (r : Ranked). r.items) c.self.view_is
 
 -- what was put into the chunk was put among all members
-put : (c : After-insert_after) → c.place_behind-place.result < length c.place_behind-place.new.chunks.items
-    → IsPushed (members_of c.place_behind-place.new.chunks.items) c.args.after c.args.tag c.args.weight
-    (members_of (set c.place_behind-place.new.chunks.items c.place_behind-place.result c.insert_after.new.self))
+put : (c : After-insert_after) → c.place_after-place.result < length c.place_after-place.new.chunks.items
+    → IsPushed (members_of c.place_after-place.new.chunks.items) c.args.after c.args.tag c.args.weight
+    (members_of (set c.place_after-place.new.chunks.items c.place_after-place.result c.insert_after.new.self))
 put c lt =
-    pushed_here c.place_behind-place.new.chunks.items c.place_behind-place.result c.index_mut-chunk.result.now
+    pushed_here c.place_after-place.new.chunks.items c.place_after-place.result c.index_mut-chunk.result.now
     c.insert_after.new.self lt c.index_mut-chunk.ensures.value c.args.after c.args.tag c.args.weight
-    c.place_behind-place.ensures.place c.insert_after.ensures.inserted
+    c.place_after-place.ensures.place c.insert_after.ensures.inserted
 
 pub regroup_if_grown-requires-clause-same : goal.regroup_if_grown-requires-clause-same
 regroup_if_grown-requires-clause-same c few =
-    let no_more : c.place_behind-place.new.chunks.len ≤ c.self.inside.chunks.len =
+    let no_more : c.place_after-place.new.chunks.len ≤ c.self.inside.chunks.len =
     omega (arith, few, c.deref.ensures.len, c.len-before.ensures) in
-    rw (c.deref.ensures.value, c.place_behind-place.ensures.same no_more) c.self.invariant.7
+    rw (c.deref.ensures.value, c.place_after-place.ensures.same no_more) c.self.invariant.7
 
 pub regroup_if_grown-requires-clause-room : goal.regroup_if_grown-requires-clause-room
 regroup_if_grown-requires-clause-room c =
-    omega (arith, c.deref.ensures.len, c.place_behind-place.ensures.count, c.self.invariant.8)
+    omega (arith, c.deref.ensures.len, c.place_after-place.ensures.count, c.self.invariant.8)
 
 pub regroup_if_grown-requires-clause-total : goal.regroup_if_grown-requires-clause-total
 regroup_if_grown-requires-clause-total c =
     omega (
       arith,
       ap (λ (l : List ChunkSeen). weight_of (members_of l)) c.deref.ensures.value,
-      ap weight_of c.place_behind-place.ensures.members,
+      ap weight_of c.place_after-place.ensures.members,
       c.self.invariant.4,
     )
 
 -- the groups are those of the chunks that are there now
 grouped : (c : After-regroup_if_grown)
-    → AreGroups c.regroup_if_grown.new.groups.items c.place_behind-place.new.chunks.items
+    → AreGroups c.regroup_if_grown.new.groups.items c.place_after-place.new.chunks.items
 grouped c = subst (AreGroups c.regroup_if_grown.new.groups.items) c.deref.ensures.value c.regroup_if_grown.ensures.groups
 
 -- the chunk's group has a sum
 there : (c : After-index_mut-chunk)
-    → AreGroups c.regroup_if_grown.new.groups.items c.place_behind-place.new.chunks.items
-    → c.place_behind-place.result / GROUP < length c.regroup_if_grown.new.groups.items
+    → AreGroups c.regroup_if_grown.new.groups.items c.place_after-place.new.chunks.items
+    → c.place_after-place.result / GROUP < length c.regroup_if_grown.new.groups.items
 there c are = omega (arith, within c, are.all)
 
 pub index_mut-group-requires : goal.index_mut-group-requires
@@ -71,11 +71,11 @@ index_mut-group-requires c =
 
 -- and it is read
 sum_is : (c : After-index_mut-group)
-    → c.place_behind-place.result / GROUP < length c.regroup_if_grown.new.groups.items
+    → c.place_after-place.result / GROUP < length c.regroup_if_grown.new.groups.items
     → c.index_mut-group.result.now
-    ≡ get_or c.regroup_if_grown.new.groups.items (c.place_behind-place.result / GROUP) 0
+    ≡ get_or c.regroup_if_grown.new.groups.items (c.place_after-place.result / GROUP) 0
 sum_is c lt =
-    get_or_read c.regroup_if_grown.new.groups.items (c.place_behind-place.result / GROUP)
+    get_or_read c.regroup_if_grown.new.groups.items (c.place_after-place.result / GROUP)
     c.index_mut-group.result.now lt c.index_mut-group.ensures.value 0
 
 pub overflow_add-group : goal.overflow_add-group
@@ -86,8 +86,8 @@ overflow_add-group c =
     omega (
       arith,
       sum_is at.After-index_mut-group lt,
-      group_among c.regroup_if_grown.new.groups.items c.place_behind-place.new.chunks.items
-          (c.place_behind-place.result / GROUP) are lt,
+      group_among c.regroup_if_grown.new.groups.items c.place_after-place.new.chunks.items
+          (c.place_after-place.result / GROUP) are lt,
       ap weight_of (same at.After-index_mut-chunk),
       c.from.ensures,
       c.requires.total,
@@ -98,7 +98,7 @@ insert_after-requires-clause-total c =
     let at = (goal.at.insert_after-requires-clause-total c).After-index_mut-chunk in
     omega (
       arith,
-      weight_within c.place_behind-place.new.chunks.items c.place_behind-place.result c.index_mut-chunk.result.now
+      weight_within c.place_after-place.new.chunks.items c.place_after-place.result c.index_mut-chunk.result.now
           (within at) c.index_mut-chunk.ensures.value,
       ap weight_of (same at),
       c.requires.total,
@@ -107,9 +107,9 @@ insert_after-requires-clause-total c =
 pub invariant_of-self : goal.invariant_of-self
 invariant_of-self c =
     let at = goal.at.invariant_of-self c in
-    let chunks : List ChunkSeen = c.place_behind-place.new.chunks.items in
-    let homes : List ℕ = c.place_behind-place.new.homes in
-    let place : ℕ = c.place_behind-place.result in
+    let chunks : List ChunkSeen = c.place_after-place.new.chunks.items in
+    let homes : List ℕ = c.place_after-place.new.homes in
+    let place : ℕ = c.place_after-place.result in
     let chunk : ChunkSeen = c.insert_after.new.self in
     let lt : place < length chunks = within at.After-index_mut-chunk in
     let are = grouped at.After-regroup_if_grown in
@@ -118,7 +118,7 @@ invariant_of-self c =
     weight_pushed (members_of chunks) (members_of (set chunks place chunk)) c.args.after c.args.tag c.args.weight
     (put at.After-insert_after lt) in
     let count : length homes ≡ c.self.inside.homes.len =
-    omega (arith, c.place_behind-place.auto.homes, c.deref_mut.ensures.len) in
+    omega (arith, c.place_after-place.auto.homes, c.deref_mut.ensures.len) in
     let entered : c.push_reserved.new.self.items ≡ homes ++ chunk.home ∷ [] =
     c.push_reserved.ensures.items
     ∙ ap (λ (l : List ℕ). l ++ c.home.result ∷ [])
@@ -126,18 +126,18 @@ invariant_of-self c =
     ∙ ap (λ (n : ℕ). homes ++ n ∷ []) c.home.ensures in (
       subst (λ (l : List ℕ). AreTied l (set chunks place chunk)) (sym entered) (tied_pushed_here chunks place
           c.index_mut-chunk.result.now chunk lt c.index_mut-chunk.ensures.value c.args.after c.args.tag
-          c.args.weight c.place_behind-place.ensures.place c.insert_after.ensures.inserted homes
-          c.insert_after.ensures.home (c.requires.tag ∙ sym (ap length is_same)) c.place_behind-place.ensures.tied),
-      c.place_behind-place.ensures.empty,
-      omega (arith, c.place_behind-place.ensures.count, c.place_behind-place.ensures.chunks_room, c.self.invariant.2),
-      omega (arith, weight, ap weight_of c.place_behind-place.ensures.members, c.self.invariant.3),
+          c.args.weight c.place_after-place.ensures.place c.insert_after.ensures.inserted homes
+          c.insert_after.ensures.home (c.requires.tag ∙ sym (ap length is_same)) c.place_after-place.ensures.tied),
+      c.place_after-place.ensures.empty,
+      omega (arith, c.place_after-place.ensures.count, c.place_after-place.ensures.chunks_room, c.self.invariant.2),
+      omega (arith, weight, ap weight_of c.place_after-place.ensures.members, c.self.invariant.3),
       omega (arith, weight, ap weight_of is_same, c.requires.total),
-      placed_set c.place_behind-place.new.places.items chunks place c.index_mut-chunk.result.now chunk lt
-          c.index_mut-chunk.ensures.value c.insert_after.ensures.home c.place_behind-place.ensures.placed,
+      placed_set c.place_after-place.new.places.items chunks place c.index_mut-chunk.result.now chunk lt
+          c.index_mut-chunk.ensures.value c.insert_after.ensures.home c.place_after-place.ensures.placed,
       omega (
         arith,
-        c.place_behind-place.ensures.count,
-        c.place_behind-place.ensures.places_room,
+        c.place_after-place.ensures.count,
+        c.place_after-place.ensures.places_room,
         c.self.invariant.6,
       ),
       groups_set c.regroup_if_grown.new.groups.items chunks place c.index_mut-chunk.result.now chunk
@@ -148,12 +148,12 @@ invariant_of-self c =
             weight_pushed c.index_mut-chunk.result.now.members chunk.members c.args.after c.args.tag c.args.weight
                 c.insert_after.ensures.inserted,
           )),
-      omega (arith, c.place_behind-place.ensures.count, c.regroup_if_grown.ensures.room, c.self.invariant.8),
+      omega (arith, c.place_after-place.ensures.count, c.regroup_if_grown.ensures.room, c.self.invariant.8),
     )
 
 pub returns-clause-inserted : goal.returns-clause-inserted
 returns-clause-inserted c =
     let at = goal.at.returns-clause-inserted c in
     subst (λ (l : Members). IsPushed l c.args.after c.args.tag c.args.weight
-    (members_of (set c.place_behind-place.new.chunks.items c.place_behind-place.result c.insert_after.new.self)))
+    (members_of (set c.place_after-place.new.chunks.items c.place_after-place.result c.insert_after.new.self)))
     (same at.After-index_mut-chunk) (put at.After-insert_after (within at.After-index_mut-chunk))

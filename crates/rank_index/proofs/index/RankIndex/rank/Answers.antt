@@ -15,20 +15,20 @@ is_read c =
     read_for c.deref.result.now c.self.inside.chunks.items c.chunk_of-place.result c.args.tag c.index.result.now
     c.deref.ensures.value c.chunk_of-place.ensures c.index.ensures
 
--- what was added up is what stands in the chunks ahead of it
-ahead : (c : After-index) → c.weight_ahead.result ≡ weight_to c.self.inside.chunks.items c.chunk_of-place.result
-ahead c =
-    c.weight_ahead.ensures
+-- what was added up is what stands in the chunks before it
+before : (c : After-index) → c.weight_before.result ≡ weight_to c.self.inside.chunks.items c.chunk_of-place.result
+before c =
+    c.weight_before.ensures
     ∙ ap (λ (l : List ChunkSeen). weight_to l c.chunk_of-place.result) c.deref-5.ensures.value
 
-pub weight_ahead-requires-clause-groups : goal.weight_ahead-requires-clause-groups
-weight_ahead-requires-clause-groups c = rw (c.deref-4.ensures.value, c.deref-5.ensures.value) c.self.invariant.7
+pub weight_before-requires-clause-groups : goal.weight_before-requires-clause-groups
+weight_before-requires-clause-groups c = rw (c.deref-4.ensures.value, c.deref-5.ensures.value) c.self.invariant.7
 
-pub weight_ahead-requires-clause-total : goal.weight_ahead-requires-clause-total
-weight_ahead-requires-clause-total c = rw c.deref-5.ensures.value c.self.invariant.4
+pub weight_before-requires-clause-total : goal.weight_before-requires-clause-total
+weight_before-requires-clause-total c = rw c.deref-5.ensures.value c.self.invariant.4
 
-pub weight_ahead-requires-clause-place : goal.weight_ahead-requires-clause-place
-weight_ahead-requires-clause-place c =
+pub weight_before-requires-clause-place : goal.weight_before-requires-clause-place
+weight_before-requires-clause-place c =
     omega (
       arith,
       is_within c.deref.result.now c.chunk_of-place.result c.args.tag c.chunk_of-place.ensures,
@@ -53,7 +53,7 @@ overflow_add-result c =
     let read = is_read at in
     omega (
       arith,
-      ahead at,
+      before at,
       rank_within c.index.result.now.members c.args.tag c.rank.result c.rank.ensures,
       weight_within
           c.self.inside.chunks.items c.chunk_of-place.result c.index.result.now read.within read.is,
@@ -70,7 +70,7 @@ returns c =
     (weight_to chunks place + c.rank.result) =
     rank_here chunks place c.index.result.now read.within read.is c.args.tag c.rank.result c.rank.ensures in
     record {
-      rank = subst (λ (l : Members). IsRank l c.args.tag (c.weight_ahead.result + c.rank.result))
+      rank = subst (λ (l : Members). IsRank l c.args.tag (c.weight_before.result + c.rank.result))
           (ap (λ (r : Ranked). r.items) c.self.view_is)
-          (subst (λ (n : ℕ). IsRank (members_of chunks) c.args.tag (n + c.rank.result)) (sym (ahead at)) in_chunks);
+          (subst (λ (n : ℕ). IsRank (members_of chunks) c.args.tag (n + c.rank.result)) (sym (before at)) in_chunks);
     }

@@ -3,7 +3,7 @@ use Rattle.std.specs.List.{prefix_len}
 use Rattle.std.proofs.lemmas.List.{length-map}
 use Rattle.char_files.specs.Stretch.{Item}
 use Rattle.reader_scanner.specs.declared.token.Token.{Token}
-use Rattle.reader_scanner.specs.Place.{Place, bytes_of, bytes_from}
+use Rattle.reader_scanner.specs.ReaderState.{ReaderState, bytes_of, bytes_from}
 use Rattle.reader_scanner.specs.Tokens.{IsTokenAt, is_blank}
 use Rattle.reader_scanner.proofs.OneToken.{scanned}
 use Rattle.reader_scanner.proofs.Stretches.{stretch_within}
@@ -33,4 +33,4 @@ returns-clause-token g c =
     let inner : IsTokenAt (bytes_of items) c.self.inside.pos token =
     scanned (bytes_of items) c.self.inside.pos c.min-from.result token from c.stretch_end-beg.ensures.end
     c.lexeme_at-lexeme.ensures.value c.lexeme_at-lexeme.ensures.end in
-    subst (λ (p : Place). IsTokenAt (bytes_of p.items) p.pos token) c.self.view_is inner
+    subst (λ (p : ReaderState). IsTokenAt (bytes_of p.items) p.pos token) c.self.view_is inner

@@ -6,7 +6,7 @@ use Rattle.script_events.proofs.escaped.Escaped.new.Goals as goal
 
 pub returns-in_err-rest-clause-bytes : goal.returns-in_err-rest-clause-bytes
 returns-in_err-rest-clause-bytes c =
-    c.from_residual.ensures ∙ sym (IsCounted-wrong c.in-Some.first.now c.in-Some.behind.now c.loop-first.invariant c.in-Some.ensures.cases.0 c.in_err-rest.ensures.value)
+    c.from_residual.ensures ∙ sym (IsCounted-wrong c.in-Some.first.now c.in-Some.after.now c.loop-first.invariant c.in-Some.ensures.cases.0 c.in_err-rest.ensures.value)
 
 pub overflow_add-len : goal.overflow_add-len
 overflow_add-len c = omega (arith, ap length c.in-Some.ensures.cases.0)
@@ -16,7 +16,7 @@ loop-first-init c = IsCounted-none c.args.raw.now
 
 pub loop-first-preserved : goal.loop-first-preserved
 loop-first-preserved c =
-    IsCounted-more c.in-Some.first.now c.in-Some.behind.now _ _ c.loop-first.invariant c.in-Some.ensures.cases.0 c.in_ok-rest.ensures.value c.in_ok-rest.ensures.shorter
+    IsCounted-more c.in-Some.first.now c.in-Some.after.now _ _ c.loop-first.invariant c.in-Some.ensures.cases.0 c.in_ok-rest.ensures.value c.in_ok-rest.ensures.shorter
 
 pub invariant_of-result : goal.invariant_of-result
 invariant_of-result c =

@@ -20,8 +20,8 @@ returns-in-Some g c =
     let count : c.len.result ≡ length s.desks = omega (arith, c.len.ensures, c.self.inside.desks.ok, ap (λ (x : SitesSeen). length x.desks) c.self.view_is) in
     let asked : event_of c.in-Some.event ≡ event_in s.first (length s.desks) line = rw (first, count) at c.in-Some.ensures.event in
     let before : c.len-sent.result ≡ length s.sent = c.len-sent.ensures ∙ ap (λ (x : SitesSeen). length x.sent) c.self.view_is in
-    let behind : c.self-in-Some.inside.outbox ≡ new.sent = ap (λ (x : SitesSeen). x.sent) c.self-in-Some.view_is in
-    let written = rw (before, behind) at c.put_reply.ensures in
+    let after : c.self-in-Some.inside.outbox ≡ new.sent = ap (λ (x : SitesSeen). x.sent) c.self-in-Some.view_is in
+    let written = rw (before, after) at c.put_reply.ensures in
     (_, written, line_over (g.S.Shelf.files c.args.shelf.now) (g.S.Shelf.files c.step-reply.new.shelf) s new line _ (event_of c.in-Some.event) heard asked c.step-reply.ensures)
 
 pub returns-in-None : goal.returns-in-None

@@ -54,6 +54,6 @@ returns-else-desk-other c =
     let s : SitesSeen = record { first = c.self.inside.first; desks = c.self.inside.desks.items; sent = c.self.inside.outbox } in
     let in_run = rw (← c.self.view_is) at c.requires.in_run in
     let at = desk_read s c.args.desk c.index.result.now in_run c.index.ensures in
-    let (t, there, is, told) = c.has_text.ensures in
+    let (t, there, is, told) = c.lemma_has_text.ensures in
     let same : c.args.other ≡ c.args.desk = omega (arith, c.if-other-desk.false, c.if-desk-other.false) in
     rw (← c.self.view_is, same) (merged_still s c.args.desk c.args.text c.index.result.now t at there is told)

@@ -79,9 +79,9 @@ pub returns-in-Arranges : goal.returns-in-Arranges
 returns-in-Arranges g c =
     let s = c.args.self.now in
     let new = c.arrange.new.self in
-    let behind = drop (length s.sent) new.sent in
+    let after = drop (length s.sent) new.sent in
     let asked = ask c.in-Arranges.desk (arrange c.in-Arranges.arrangement) in
-    rw c.in-Arranges.is (stepped_over (g.S.Shelf.files c.args.shelf.now) s new asked _ (other_step s new asked (reply_of c.arrange.result behind) (c.arrange.ensures behind)))
+    rw c.in-Arranges.is (stepped_over (g.S.Shelf.files c.args.shelf.now) s new asked _ (other_step s new asked (reply_of c.arrange.result after) (c.arrange.ensures after)))
 
 pub returns-in-Prints : goal.returns-in-Prints
 returns-in-Prints g c =

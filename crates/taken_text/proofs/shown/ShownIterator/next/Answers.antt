@@ -48,15 +48,15 @@ returns-clause-steps c =
     let files : Files = c.self.inside.files.now in
     let rest : List Run = c.self.inside.walk in
     let next : Option Run = c.if-run-gt0.self in
-    let behind : List Run = c.if-run-gt0.self-inside.walk in
+    let after : List Run = c.if-run-gt0.self-inside.walk in
     let all : AreInFiles files (c.in_ok-run.run' ∷ rest) =
     subst (λ (o : Option Run). AreInFiles files (runs_left o rest)) (was c) c.self.invariant in
     let here : IsInFile files c.in_ok-run.run' = All-head (IsInFile files) c.in_ok-run.run' rest all in
     sym c.self.view_is
     ∙ ap (λ (o : Option Run). chars_of_runs files (runs_left o rest)) (was c)
-    ∙ first_and_rest files c.in_ok-run.run' rest next behind here.some (reads_on c)
-    ∙ ap (λ (a : Char). a ∷ chars_of_runs files (runs_left next behind)) (sym c.first_of-char.ensures)
-    ∙ ap (λ (f : Files). c.first_of-char.result ∷ chars_of_runs f (runs_left next behind)) (sym (files_stay c))
+    ∙ first_and_rest files c.in_ok-run.run' rest next after here.some (reads_on c)
+    ∙ ap (λ (a : Char). a ∷ chars_of_runs files (runs_left next after)) (sym c.first_of-char.ensures)
+    ∙ ap (λ (f : Files). c.first_of-char.result ∷ chars_of_runs f (runs_left next after)) (sym (files_stay c))
 
 pub returns-clause-goes : goal.returns-clause-goes
 returns-clause-goes c =

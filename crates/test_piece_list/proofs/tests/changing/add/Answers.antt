@@ -10,7 +10,7 @@ returns c = λ d is.
     let items : List (ℕ × Piece) = c.args.list.now.items in
     let here : HasName (spelled items) c.in_ok-name.name = c.in-Some.ensures.here.0 refl in
     let all : HasName (spelled items) d =
-    elim ((c.with_name_law.ensures.names d).0
+    elim ((c.lemma_with_name.ensures.names d).0
     (subst (λ (rs : List Range). IsAmong rs d) c.in_ok-insert.ensures is)) [
       | inl before ↦ c.requires d before
       | inr e ↦ subst (λ (x : CharName). HasName (spelled items) x) (sym e) here

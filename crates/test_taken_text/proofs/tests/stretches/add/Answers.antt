@@ -8,7 +8,7 @@ pub returns : goal.returns
 returns c = λ d is.
     let ops = c.args.text.now.operations in
     let here : IsChar ops c.in_ok-name.name = c.in-Some.ensures.here.0 refl in
-    elim ((c.with_name_law.ensures.names d).0
+    elim ((c.lemma_with_name.ensures.names d).0
     (subst (λ (rs : List Range). IsAmong rs d) c.in_ok-insert.ensures.ok is)) [
       | inl before ↦ c.requires d before
       | inr e ↦ subst (λ (x : CharName). IsChar ops x) (sym e) here

@@ -6,7 +6,7 @@ use Rattle.texts.specs.TextState.{TextState, shown_of}
 use Rattle.machine.specs.Windows.{bytes_shown, place_in}
 use Rattle.text_frames.specs.Frames.{reads_of, rows_in}
 use Rattle.text_frames.specs.Reading.{counted}
-use Rattle.text_frames.proofs.Ahead.{ahead_is_anchor}
+use Rattle.text_frames.proofs.Preceding.{before_is_anchor}
 use Rattle.text_frames.proofs.OneLine.{counted_on}
 use Rattle.text_frames.proofs.frame.Frame.scroll.Goals as goal
 
@@ -16,7 +16,7 @@ returns-clause-drawn c =
     let anchor : Anchor = c.anchor_after-self-inside.result in
     let char : IsAnchor now.operations anchor =
     subst (IsAnchor now.operations) (sym c.anchor_after-self-inside.ensures)
-    (ahead_is_anchor now c.is_text.ensures c.begin_of_line-beg.result) in
+    (before_is_anchor now c.lemma_is_text.ensures c.begin_of_line-beg.result) in
     record {
       anchored = char;
       rows =
@@ -31,7 +31,7 @@ returns-clause-reads c =
     let anchor : Anchor = c.anchor_after-self-inside.result in
     let char : IsAnchor now.operations anchor =
     subst (IsAnchor now.operations) (sym c.anchor_after-self-inside.ensures)
-    (ahead_is_anchor now c.is_text.ensures c.begin_of_line-beg.result) in
+    (before_is_anchor now c.lemma_is_text.ensures c.begin_of_line-beg.result) in
     let seek : ℕ = beg_of (bytes_shown now) c.args.line in
     let draw : ℕ = reads_of (length (shown_of now)) (place_in now anchor) c.draw-full.new.rows.items in
     let none : 0 + (seek + draw) ≡ seek + draw = omega arith in

@@ -17,4 +17,4 @@ returns-then-leave_rows-clause-drawn c = λ t is drawn keeps char leads.
     ∙ c.leave_rows.ensures.0 c.if-leave_rows.true k d lt in
     subst (λ (g : FrameSeen). IsDrawn g c.args.replica.now)
     (sym (ap (λ (g : FrameSeen). record g { reads = 0 }) c.self.view_is))
-    (quiet_drawn f t c.args.replica.now is c.is_text.ensures drawn keeps char some c.args.changes.now leads all 0)
+    (quiet_drawn f t c.args.replica.now is c.lemma_is_text.ensures drawn keeps char some c.args.changes.now leads all 0)

@@ -12,6 +12,6 @@ returns c =
     let b : List Operation = c.args.other.now.operations in
     let items = YieldsList-from_slice b (c.iter.ensures.rest ∙ c.ops.ensures ∙ c.log.ensures
     ∙ ap (λ (t : TextState). t.operations) c.other.view_is) in
-    agree_or_not a b c.all.result c.is_text.ensures.identified c.is_text-2.ensures.identified
+    agree_or_not a b c.all.result c.lemma_is_text.ensures.identified c.lemma_is_text-2.ensures.identified
     (cases_from_all _ _ _ (λ op. AreIdentified (a ++ op ∷ [])) (IsInConflict a) c.all.ensures.ran items
     (λ x q k. search rules) (λ x q k. search rules))

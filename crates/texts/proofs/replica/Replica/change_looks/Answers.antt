@@ -15,7 +15,7 @@ returns-then-beg-end c =
     let t = c.args.self.now in
     let beg = c.args.beg in
     let end = c.args.end in
-    none_sent t (looks_change beg end c.args.sel c.args.looks.now) c.is_text.ensures
+    none_sent t (looks_change beg end c.args.sel c.args.looks.now) c.lemma_is_text.ensures
     (in_range beg end (length (shown_of t)) c.requires.range c.requires.in_text) c.args.outbox.now
     (cond-false _ _ _ (le-ltb beg end (omega (arith, c.if-beg-end.true))))
 
@@ -29,7 +29,7 @@ returns c =
     let some : beg < end = omega (arith, c.requires.range, c.if-beg-end.false) in
     subst (λ (a : Result ℕ EditRefusal). EditsSending t e a c.dress_some.new.self c.args.outbox.now c.dress_some.new.outbox)
     (sym c.answer_of_one.ensures)
-    (one_sent t e c.is_text.ensures
+    (one_sent t e c.lemma_is_text.ensures
     (in_range beg end (length (shown_of t)) c.requires.range c.requires.in_text) c.args.outbox.now op
     (cond-true _ _ _ (lt-ltb beg end some)) c.dress_some.result c.dress_some.new.self c.dress_some.new.outbox
     c.dress_some.ensures)

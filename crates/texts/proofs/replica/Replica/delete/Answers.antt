@@ -17,7 +17,7 @@ returns c =
     let some : beg < end = omega (arith, c.requires.range, c.if-beg-end.false) in
     subst (λ (a : Result ℕ EditRefusal). EditsSending t (deletion beg end) a c.delete_some.new.self c.args.outbox.now c.delete_some.new.outbox)
     (sym c.answer_of_one.ensures)
-    (one_sent t (deletion beg end) c.is_text.ensures
+    (one_sent t (deletion beg end) c.lemma_is_text.ensures
     (in_range beg end (length (shown_of t)) c.requires.range c.requires.in_text) c.args.outbox.now op
     (cond-true _ _ _ (lt-ltb beg end some)) c.delete_some.result c.delete_some.new.self c.delete_some.new.outbox
     c.delete_some.ensures)

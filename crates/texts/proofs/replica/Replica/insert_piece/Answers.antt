@@ -15,14 +15,14 @@ use Rattle.texts.specs.TextState.{shown_of}
 use Rattle.texts.proofs.OwnInsert.{insert_is_plain}
 use Rattle.texts.proofs.Made.{longer, made, not_made}
 use Rattle.texts.proofs.replica.Replica.insert_piece.Goals as goal
-use Rattle.texts.proofs.replica.Replica.insert_piece.Goals.{After-insert_refusal, After-is_text, After-piece}
+use Rattle.texts.proofs.replica.Replica.insert_piece.Goals.{After-insert_refusal, After-lemma_is_text, After-piece}
 
 -- the Insert of the piece is a plain edit
-is_plain : (c : After-is_text)
+is_plain : (c : After-lemma_is_text)
     → IsPlainEdit c.args.self.now c.args.pos c.args.piece.now.looks c.args.piece.now.bytes
 is_plain c =
     insert_is_plain c.args.self.now c.args.pos c.args.piece.now.looks c.args.piece.now.bytes
-    c.is_text.ensures c.requires.in_text
+    c.lemma_is_text.ensures c.requires.in_text
 
 -- what its length tells is why it is refused
 refused_so : (c : After-insert_refusal)
@@ -71,7 +71,7 @@ make-requires-clause-allowed c =
 pub make-requires-clause-ready : goal.make-requires-clause-ready
 make-requires-clause-ready c =
     let at = goal.at.make-requires-clause-ready c in
-    let plain = is_plain at.After-is_text in
+    let plain = is_plain at.After-lemma_is_text in
     subst (λ (k : OpKind). IsJudged c.args.self.now (own_op c.args.self.now k) ready)
     (sym (kind_is at.After-piece (kind_of c.in_ok-kind.kind) c.in_ok-kind.ensures.0)) (refl, plain.new, plain.ready)
 
@@ -84,8 +84,8 @@ returns-clause-sends c =
     let ok = subst (λ (k : OpKind). OnOk c.make.result (HasTaken t (own_op t k) c.make.new.self
     × (c.make.new.outbox ≡ sent ++ spelling (own_op t k) ∷ [])))
     (kind_is at.After-piece (kind_of c.in_ok-kind.kind) c.in_ok-kind.ensures.0) c.make.ensures.ok in
-    made t (own_insert t c.args.pos p.looks p.bytes) c.is_text.ensures refl
-    (is_plain at.After-is_text).text c.make.result c.make.new.self sent c.make.new.outbox
+    made t (own_insert t c.args.pos p.looks p.bytes) c.lemma_is_text.ensures refl
+    (is_plain at.After-lemma_is_text).text c.make.result c.make.new.self sent c.make.new.outbox
     (refused_so at.After-insert_refusal ∙ c.in_default.is) ok c.make.ensures.errors c.make.ensures.err refl
 
 pub returns-clause-longer : goal.returns-clause-longer
@@ -94,4 +94,4 @@ returns-clause-longer c =
     let p = c.args.piece.now in
     longer t (own_insert t c.args.pos p.looks p.bytes) c.args.pos (file_len t.operations t.site) p.looks p.bytes
     c.make.result c.make.new.self c.args.outbox.now c.make.new.outbox
-    (is_plain (goal.at.returns-clause-longer c).After-is_text).shown (returns-clause-sends c)
+    (is_plain (goal.at.returns-clause-longer c).After-lemma_is_text).shown (returns-clause-sends c)

@@ -19,7 +19,7 @@ get-op-requires c =
 pub judge-requires : goal.judge-requires
 judge-requires c =
     is_new c.log-log.result.now.ops c.new.result c.get-op.result.now c.site.result c.seq.result
-    (is_some c.get.result) (sym c.new.ensures) c.site.ensures c.seq.ensures c.has_spelling.ensures.seq.0
+    (is_some c.get.result) (sym c.new.ensures) c.site.ensures c.seq.ensures c.lemma_has_spelling.ensures.seq.0
     c.get.ensures.here.1 c.if-is_none.ensures
 
 pub returns-in-Ready : goal.returns-in-Ready
@@ -31,9 +31,9 @@ returns-in-Ready c =
     let there = subst (λ (ops : List Operation). slice_get ops i ≡ Some op) room c.get-op.ensures in
     let same = c.log-log.ensures ∙ ap (λ (u : TextState). u.operations) c.self.view_is in
     let new = is_new c.log-log.result.now.ops t.operations op c.site.result c.seq.result (is_some c.get.result) same
-    c.site.ensures c.seq.ensures c.has_spelling.ensures.seq.0 c.get.ensures.here.1 c.if-is_none.ensures in
+    c.site.ensures c.seq.ensures c.lemma_has_spelling.ensures.seq.0 c.get.ensures.here.1 c.if-is_none.ensures in
     let has = subst (λ (ops : List Operation). HasVerdict ops op ready) (c.new.ensures ∙ same) c.in-Ready.ensures in
-    (op, there, ((is_leaving t i op c.is_text.ensures c.requires there).0, new, has))
+    (op, there, ((is_leaving t i op c.lemma_is_text.ensures c.requires there).0, new, has))
 
 pub returns-in_default : goal.returns-in_default
 returns-in_default c =
@@ -45,10 +45,10 @@ returns-in_default c =
     let there = subst (λ (ops : List Operation). slice_get ops i ≡ Some op) room c.get-op.ensures in
     let same = c.log-log.ensures ∙ ap (λ (u : TextState). u.operations) c.self.view_is in
     let new = is_new c.log-log.result.now.ops t.operations op c.site.result c.seq.result (is_some c.get.result) same
-    c.site.ensures c.seq.ensures c.has_spelling.ensures.seq.0 c.get.ensures.here.1 c.if-is_none.ensures in
+    c.site.ensures c.seq.ensures c.lemma_has_spelling.ensures.seq.0 c.get.ensures.here.1 c.if-is_none.ensures in
     let has = subst (λ (ops : List Operation). HasVerdict ops op (verdict_of v)) (c.new.ensures ∙ same)
     c.judge.ensures in
-    let (own, leaves) = is_leaving t i op c.is_text.ensures c.requires there in
+    let (own, leaves) = is_leaving t i op c.lemma_is_text.ensures c.requires there in
     (op, there, thrown_away t op v c.in_default.not-Ready own leaves new has)
 
 pub returns-else-is_none : goal.returns-else-is_none

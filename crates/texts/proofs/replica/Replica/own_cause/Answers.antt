@@ -16,7 +16,7 @@ returns-in-At-clause-cause c =
     let name = c.in-At.name in
     let is : anchor_before (shown_of t) c.args.pos ≡ At name = sym c.anchor_after-cause.ensures ∙ c.in-At.is in
     let mentioned = subst (λ (a : Anchor). MentionsBy (insert a at plain_looks []) name) (sym is) refl in
-    let plain = insert_is_plain t c.args.pos plain_looks [] c.is_text.ensures c.requires.in_text in (
+    let plain = insert_is_plain t c.args.pos plain_looks [] c.lemma_is_text.ensures c.requires.in_text in (
       omega arith,
       omega arith,
       omega arith,

@@ -23,7 +23,7 @@ returns c =
       same_insert _ _ _ _ _ _ _ _ c.own_cause.ensures.value at c.copy.ensures c.in_ok-from_slice.ensures.items,
       record {
         caused = subst (λ (k : ℕ). IsCause t.site k c.own_cause.result) (sym at) c.own_cause.ensures.cause;
-        valid_looks = rw c.copy.ensures c.are_in_range.ensures;
+        valid_looks = rw c.copy.ensures c.lemma_are_in_range.ensures;
         some = omega (arith, len, c.requires.some);
         few = omega (arith, len, c.requires.few);
         in_file = omega (arith, len, at, room);

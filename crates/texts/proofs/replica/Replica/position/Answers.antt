@@ -8,4 +8,4 @@ use Rattle.texts.proofs.replica.Replica.position.Goals as goal
 pub returns-in-Root-clause-place : goal.returns-in-Root-clause-place
 returns-in-Root-clause-place c =
     rw c.in-Root.is (subst (λ (t : TextState). IsPlace t.operations Root 0) c.self.view_is
-    (map (λ (x : Char). x.name) c.self.inside.taken.chars, c.is_defined.ensures.chars.order, refl))
+    (map (λ (x : Char). x.name) c.self.inside.taken.chars, c.lemma_is_defined.ensures.chars.order, refl))

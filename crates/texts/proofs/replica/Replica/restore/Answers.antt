@@ -17,7 +17,7 @@ returns-then-are_shown c =
     let each = c.are_shown.ensures.0 c.if-are_shown.true in
     let restored : is_restored t ≡ true =
     subst (λ (t : TextState). is_restored t ≡ true) c.self.view_is (all_pass (is_visible r.taken.operations) r.set each) in
-    none_sent t restoration c.is_text.ensures refl c.args.outbox.now (cond-true _ _ _ restored)
+    none_sent t restoration c.lemma_is_text.ensures refl c.args.outbox.now (cond-true _ _ _ restored)
 
 pub returns : goal.returns
 returns c =
@@ -29,5 +29,5 @@ returns c =
     false≢true (sym c.if-are_shown.false ∙ c.are_shown.ensures.1 each)) in
     subst (λ (a : Result ℕ EditRefusal). EditsSending t restoration a c.show_again.new.self c.args.outbox.now c.show_again.new.outbox)
     (sym c.answer_of_one.ensures)
-    (one_sent t restoration c.is_text.ensures refl c.args.outbox.now (own_op t (restore t.last_set))
+    (one_sent t restoration c.lemma_is_text.ensures refl c.args.outbox.now (own_op t (restore t.last_set))
     (cond-false _ _ _ hidden) c.show_again.result c.show_again.new.self c.show_again.new.outbox c.show_again.ensures)

@@ -4,7 +4,7 @@ use Rattle.texts.proofs.Draining.{begins, ended, fewer_wait, one_taken, one_thro
 use Rattle.texts.proofs.replica.Replica.settle.Goals as goal
 
 pub loop-index-init : goal.loop-index-init
-loop-index-init c = (begins c.args.self.now, omega (arith, c.is_text.ensures.waiting.few))
+loop-index-init c = (begins c.args.self.now, omega (arith, c.lemma_is_text.ensures.waiting.few))
 
 pub overflow_add-drained : goal.overflow_add-drained
 overflow_add-drained c =

@@ -33,12 +33,12 @@ pub make-requires-clause-valid : goal.make-requires-clause-valid
 make-requires-clause-valid c =
     let t = c.args.self.now in
     let names_are : c.in_ok-names.names ≡ t.last_set = c.in_ok-names.ensures.ok ∙ ap (λ (t : TextState). t.last_set) c.self.view_is in
-    c.may_be_named.ensures.some (omega (arith, c.requires.some, ap (length {A = Range}) names_are))
+    c.lemma_may_be_named.ensures.some (omega (arith, c.requires.some, ap (length {A = Range}) names_are))
 
 pub make-requires-clause-ready : goal.make-requires-clause-ready
 make-requires-clause-ready c =
     let t = c.args.self.now in
-    let plain = restore_shows t t.last_set c.is_text.ensures c.is_text.ensures.deleted in
+    let plain = restore_shows t t.last_set c.lemma_is_text.ensures c.lemma_is_text.ensures.deleted in
     let names_are : c.in_ok-names.names ≡ t.last_set = c.in_ok-names.ensures.ok ∙ ap (λ (t : TextState). t.last_set) c.self.view_is in
     subst (λ (names : List Range). IsJudged t (own_op t (restore names)) ready) (sym names_are)
     (refl, plain.new, plain.ready)
@@ -46,11 +46,11 @@ make-requires-clause-ready c =
 pub returns : goal.returns
 returns c =
     let t = c.args.self.now in
-    let plain = restore_shows t t.last_set c.is_text.ensures c.is_text.ensures.deleted in
+    let plain = restore_shows t t.last_set c.lemma_is_text.ensures c.lemma_is_text.ensures.deleted in
     let allowed : refusal_for t (restore t.last_set) ≡ None = c.in_default.ensures.none (restore t.last_set) refl in
     let names_are : c.in_ok-names.names ≡ t.last_set = c.in_ok-names.ensures.ok ∙ ap (λ (t : TextState). t.last_set) c.self.view_is in
     let sent = c.args.outbox.now in
     let ok = subst (λ (names : List Range). OnOk c.make.result (HasTaken t (own_op t (restore names)) c.make.new.self × (c.make.new.outbox ≡ sent ++ spelling (own_op t (restore names)) ∷ [])))
     names_are c.make.ensures.ok in
-    made t (own_op t (restore t.last_set)) c.is_text.ensures refl plain.text
+    made t (own_op t (restore t.last_set)) c.lemma_is_text.ensures refl plain.text
     c.make.result c.make.new.self sent c.make.new.outbox allowed ok c.make.ensures.errors c.make.ensures.err refl

@@ -44,6 +44,6 @@ returns c =
     let settled = c.settle-drained.result in
     let taken = grown_by_one r.text r.site r.taken.operations added.operations r.taken.chars added.chars r.room r.stretch
     r.set r.taken.asked added.asked c.args.op c.args.self.now c.self.view_is c.in_ok-add.ensures.ok c.add.ensures.asked
-    c.is_text.ensures in
+    c.lemma_is_text.ensures in
     taken_and_drained c.args.self.now _ c.args.op settled.drained settled.dropped settled.stopped
     c.settle-drained.new.self taken c.settle-drained.ensures

@@ -5,7 +5,7 @@ use Rattle.set_laws.specs.Fronts.{front_of}
 use Rattle.texts.specs.Merge.{MergesShort}
 use Rattle.texts.specs.TextState.{TextState}
 use Rattle.texts.specs.declared.merge_refusal.MergeRefusal.TheVariants.{Stopped}
-use Rattle.set_laws.proofs.Ahead.{causes_ahead}
+use Rattle.set_laws.proofs.Preceding.{causes_before}
 use Rattle.texts.proofs.Merging.{all_taken, begun, few, is_ready, one_passed, one_taken, standing_at, stopped}
 use Rattle.texts.proofs.Merging.{when_err, when_ok}
 use Rattle.texts.proofs.replica.Replica.take_news.Goals as goal
@@ -15,12 +15,12 @@ pub loop-op-init : goal.loop-op-init
 loop-op-init c =
     let held = c.log.ensures ∙ ap (λ (t : TextState). t.operations) c.other.view_is in
     begun c.args.self.now c.args.other.now (record {
-      is = c.is_text.ensures;
-      is_other = c.is_text-2.ensures;
+      is = c.lemma_is_text.ensures;
+      is_other = c.lemma_is_text-2.ensures;
       can = c.requires;
-      once = subst (λ (ops : List Operation). AllPairs (λ a b. a ≢ b) ops) held c.are_held_to_the_front.ensures.once;
-      ahead = causes_ahead c.args.other.now.operations c.is_text-2.ensures.in_order
-          c.is_text-2.ensures.identified;
+      once = subst (λ (ops : List Operation). AllPairs (λ a b. a ≢ b) ops) held c.lemma_are_held_to_the_front.ensures.once;
+      before = causes_before c.args.other.now.operations c.lemma_is_text-2.ensures.in_order
+          c.lemma_is_text-2.ensures.identified;
     })
 
 pub take_over-requires : goal.take_over-requires

@@ -16,6 +16,6 @@ returns c = λ p held on at.
     let there = subst (λ (xs : List Operation). Contains xs p) (sym c.self.view_is) held in
     let found = c.in-Some.ensures.value in
     let same : c.in-Some.op.now ≡ p =
-    c.are_held_to_the_front.ensures.identified.unique c.in-Some.op.now p found.0 there (found.1 ∙ sym on)
+    c.lemma_are_held_to_the_front.ensures.identified.unique c.in-Some.op.now p found.0 there (found.1 ∙ sym on)
     (found.2 ∙ sym at) in
     c.stamp.ensures ∙ ap (λ (o : Operation). o.stamp) same

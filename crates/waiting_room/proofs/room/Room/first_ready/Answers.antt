@@ -11,7 +11,7 @@ returns-then-not-stays_waiting-clause-some g c = record {
   op = c.get.result.now;
   there = c.get.ensures;
   leaves = λ stays. both_ways c.stays_waiting.result c.if-not-stays_waiting.true (c.stays_waiting.ensures.1 stays);
-  ahead = c.loop-index.invariant;
+  before = c.loop-index.invariant;
 }
 
 pub loop-index-preserved : goal.loop-index-preserved

@@ -30,7 +30,7 @@ few c =
 
 pub invariant_of-self-2 : goal.invariant_of-self-2
 invariant_of-self-2 c =
-    let seq = c.has_spelling.ensures.seq in
+    let seq = c.lemma_has_spelling.ensures.seq in
     subst AreInRoom (sym (last c))
     (entered c.self.inside.ops.entries c.self.invariant c.args.op (omega arith) (few c))
 

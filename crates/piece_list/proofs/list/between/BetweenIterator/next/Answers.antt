@@ -62,12 +62,12 @@ pub returns-clause-steps : goal.returns-clause-steps
 returns-clause-steps c =
     let left : ℕ = c.self.inside.left in
     let q : Run = c.if-self-from.run in
-    let behind : List Run = runs_of c.match-take.self-inside in
+    let after : List Run = runs_of c.match-take.self-inside in
     let some : 0 < left = omega (arith, c.if-self-eq0.false) in
     sym c.self.view_is
-    ∙ reads_one left (runs_of c.self.inside) behind c.match-take.run q some (is_first c) (is_what_is_wanted c)
-    ∙ ap (λ (n : ℕ). q ∷ first_chars (n - q.len) behind) (sym (left_stays c))
-    ∙ ap (λ (n : ℕ). q ∷ first_chars (c.match-take.self-inside.left - n) behind) (sym c.from-2.ensures)
+    ∙ reads_one left (runs_of c.self.inside) after c.match-take.run q some (is_first c) (is_what_is_wanted c)
+    ∙ ap (λ (n : ℕ). q ∷ first_chars (n - q.len) after) (sym (left_stays c))
+    ∙ ap (λ (n : ℕ). q ∷ first_chars (c.match-take.self-inside.left - n) after) (sym c.from-2.ensures)
 
 pub returns-clause-goes : goal.returns-clause-goes
 returns-clause-goes c =

@@ -5,7 +5,7 @@ use Rattle.rank_index.proofs.Tagged.{tags_pushed}
 use Rattle.piece_list.specs.declared.piece.Piece.{Piece}
 use Rattle.piece_list.specs.Held.{IsCut}
 use Rattle.piece_list.specs.Pieces.{range_of, front_of, rest_of}
-use Rattle.piece_list.proofs.CutList.{at_cursor, put_behind, next_number, is_piece, is_within, rest_fits, cut_made}
+use Rattle.piece_list.proofs.CutList.{at_cursor, put_after, next_number, is_piece, is_within, rest_fits, cut_made}
 use Rattle.piece_list.proofs.CutList.{cut_entered, cut_place}
 use Rattle.piece_list.proofs.Cutting.{written_tags}
 use Rattle.piece_list.proofs.Entered.{filled_inside, filled_outside}
@@ -27,12 +27,12 @@ within c =
     is_within c.self.inside.ring.items c.self.invariant.numbered c.args.tag c.args.n c.value_mut-front.result.now (member c)
     (rw (← c.self.view_is) at c.requires.place)
 
--- the rest is put behind the front
+-- the rest is put after the front
 put : (c : In-Ok) → IsPushed (with_value c.args.tag (front_of c.args.n c.value_mut-front.result.now) c.self.inside.ring.items)
     (Some c.args.tag) c.in-Ok.number (rest_of c.args.n c.value_mut-front.result.now) c.push_after.new.self.items
 put c =
     let v : Piece = c.value_mut-front.result.now in
-    put_behind c.seek.new.self c.self.inside.ring.items c.push_after.new.self.items c.args.tag c.self.inside.ring.room
+    put_after c.seek.new.self c.self.inside.ring.items c.push_after.new.self.items c.args.tag c.self.inside.ring.room
     c.in-Ok.number c.split_off-rest.new.self (front_of c.args.n v) c.split_off-rest.result (rest_of c.args.n v)
     c.seek.ensures c.split_off-rest.ensures.front c.split_off-rest.ensures.rest c.in-Ok.ensures.pushed
 
@@ -62,20 +62,20 @@ pub set_weight-requires-clause-total : goal.set_weight-requires-clause-total
 set_weight-requires-clause-total c =
     let at : After-value_mut-front = (goal.at.set_weight-requires-clause-total c).After-value_mut-front in
     let fits = cut_fits c.self.inside.ring.items c.self.inside.tags c.self.inside.index.items c.args.tag c.args.n
-    c.shown_of-ahead.result c.shown_of-behind.result c.value_mut-front.result.now c.split_off-rest.new.self
+    c.shown_of-before.result c.shown_of-after.result c.value_mut-front.result.now c.split_off-rest.new.self
     c.split_off-rest.result c.self.invariant.numbered c.self.invariant.entered c.self.invariant.indexed (member at)
-    (within at) c.split_off-rest.ensures.front c.split_off-rest.ensures.rest c.shown_of-ahead.ensures
-    c.shown_of-behind.ensures in
+    (within at) c.split_off-rest.ensures.front c.split_off-rest.ensures.rest c.shown_of-before.ensures
+    c.shown_of-after.ensures in
     omega (arith, fits)
 
 pub insert_after-requires-clause-total : goal.insert_after-requires-clause-total
 insert_after-requires-clause-total c =
     let at : After-value_mut-front = (goal.at.insert_after-requires-clause-total c).After-value_mut-front in
     let fits = cut_rest_fits c.self.inside.ring.items c.self.inside.tags c.self.inside.index.items c.args.tag c.args.n
-    c.shown_of-ahead.result c.shown_of-behind.result c.value_mut-front.result.now c.split_off-rest.new.self
+    c.shown_of-before.result c.shown_of-after.result c.value_mut-front.result.now c.split_off-rest.new.self
     c.split_off-rest.result c.self.invariant.numbered c.self.invariant.entered c.self.invariant.indexed (member at)
-    (within at) c.split_off-rest.ensures.front c.split_off-rest.ensures.rest c.shown_of-ahead.ensures
-    c.shown_of-behind.ensures in
+    (within at) c.split_off-rest.ensures.front c.split_off-rest.ensures.rest c.shown_of-before.ensures
+    c.shown_of-after.ensures in
     omega (arith, ap weight_of c.set_weight.ensures.items, fits)
 
 pub invariant_of-self : goal.invariant_of-self
@@ -96,14 +96,14 @@ invariant_of-self c =
           c.self.invariant.numbered c.self.invariant.entered c.requires.some (within at) (member at) put_in
           c.split_off-rest.ensures.rest
           (filled_inside (range_of rest) c.in-Ok.number c.self.inside.tags c.fill.new.self c.fill.ensures.inside
-          c.fill.ensures.ahead c.fill.ensures.behind c.fill.ensures.others)
+          c.fill.ensures.before c.fill.ensures.after c.fill.ensures.others)
           (filled_outside (range_of rest) c.in-Ok.number c.self.inside.tags c.fill.new.self c.fill.ensures.inside
-          c.fill.ensures.ahead c.fill.ensures.behind c.fill.ensures.others);
+          c.fill.ensures.before c.fill.ensures.after c.fill.ensures.others);
       indexed = cut_weighed items c.self.inside.tags c.self.inside.index.items c.args.tag c.args.n
-          c.shown_of-ahead.result c.shown_of-behind.result v c.split_off-rest.new.self rest
+          c.shown_of-before.result c.shown_of-after.result v c.split_off-rest.new.self rest
           c.self.invariant.numbered c.self.invariant.entered c.self.invariant.indexed (member at) (within at)
-          c.split_off-rest.ensures.front c.split_off-rest.ensures.rest c.shown_of-ahead.ensures
-          c.shown_of-behind.ensures new c.set_weight.new.self.items c.insert_after.new.self.items c.in-Ok.number put_in
+          c.split_off-rest.ensures.front c.split_off-rest.ensures.rest c.shown_of-before.ensures
+          c.shown_of-after.ensures new c.set_weight.new.self.items c.insert_after.new.self.items c.in-Ok.number put_in
           c.set_weight.ensures.items c.insert_after.ensures.inserted;
     }
 

@@ -38,9 +38,9 @@ invariant_of-self c =
           c.self.invariant.entered c.requires.piece
           (rw (← c.self.view_is) at c.requires.new)
           (filled_inside (range_of v) c.in-Ok.number c.self.inside.tags c.fill.new.self c.fill.ensures.inside
-          c.fill.ensures.ahead c.fill.ensures.behind c.fill.ensures.others)
+          c.fill.ensures.before c.fill.ensures.after c.fill.ensures.others)
           (filled_outside (range_of v) c.in-Ok.number c.self.inside.tags c.fill.new.self c.fill.ensures.inside
-          c.fill.ensures.ahead c.fill.ensures.behind c.fill.ensures.others);
+          c.fill.ensures.before c.fill.ensures.after c.fill.ensures.others);
       indexed = pushed_weighed items new c.self.inside.index.items c.insert_after.new.self.items c.args.last
           c.in-Ok.number c.shown_of-weight.result v c.self.invariant.numbered c.self.invariant.indexed
           c.shown_of-weight.ensures put c.insert_after.ensures.inserted;

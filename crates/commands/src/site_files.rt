@@ -1,0 +1,124 @@
+//! A text kept in its site's file, and begun anew as that tells.
+
+ghost use Rattle.std.specs.Prelude.{◌≡◌, ◌≤◌, ◌==◌, ◌&&◌, ℕ, List, IsErrOf, IsFalse};
+ghost use Rattle.shelf.specs.Files.{Counts, SameFiles};
+ghost use Rattle.texts.specs.Taking.{HasTakenAll};
+ghost use Rattle.texts.specs.TextState.{TextState, empty_text};
+ghost use Rattle.machine.specs.SiteTexts.{IsTextOf};
+ghost use Rattle.machine.specs.Events.{ask, keep, reopen};
+ghost use Rattle.machine.specs.Tasks.{has_begun};
+ghost use Rattle.machine.specs.declared.TheConstants.{MAX_TEXT};
+ghost use Rattle.commands.specs.Filing.{BeginsSo, ReadsSite, WritesSite};
+ghost use Rattle.commands.specs.Steps.{IsFault, IsShelfStep};
+
+use crate::answer::Answer;
+use crate::desk::Desk;
+use crate::executing::written;
+use crate::telling::tell;
+use char_files::TextNo;
+use looks::Refusal;
+use shelf::Shelf;
+use std::alloc::Global;
+use texts::{EditRefusal, Replica};
+
+// Whether a text has taken something in, or something waits for it.
+fn has_begun(replica: &Replica) -> bool
+    ensures { result ≡ has_begun replica.now }
+{
+    0 < replica.taken_len() || 0 < replica.waiting()
+}
+
+// Whether both are copies of one site, of one text.
+fn is_same_copy(kept: &Replica, replica: &Replica) -> bool
+    ensures { result ≡ (kept.now.text == replica.now.text && kept.now.site == replica.now.site) }
+{
+    kept.text() == replica.text() && kept.site() == replica.site()
+}
+
+// The text of a site's file.
+fn read_site<S: Shelf>(alloc: Global, name: &str, shelf: &mut S) -> Result<Replica, Refusal>
+    ensures reads { ReadsSite (S.files shelf.old) name.now result }
+    ensures files { SameFiles (S.files shelf.old) (S.files shelf.new) }
+    ensures fault { IsErrOf result Refusal.ReadFault → Counts (S.faults shelf.old) (S.faults shelf.new) }
+{
+    let file = shelf.read(alloc, name)?;
+    site_file::load_site(alloc, file.as_slice())
+}
+
+// Writes all that a text has taken in.
+fn write_site<S: Shelf>(
+    alloc: Global,
+    replica: &Replica,
+    name: &str,
+    shelf: &mut S,
+) -> Result<(), Refusal>
+    ensures writes { WritesSite replica.now name.now (S.files shelf.old) (S.files shelf.new) result }
+    ensures fault { IsErrOf result Refusal.WriteFault → Counts (S.faults shelf.old) (S.faults shelf.new) }
+{
+    let mut file = Vec::new(alloc);
+    site_file::store_site(replica, &mut file)?;
+    shelf.write(name, file.as_slice())
+}
+
+impl Desk {
+    /// Keeps a text in its site's file of this name: all that it has taken in, so that the site can go on from there.
+    ///
+    /// Refused, in this order, `BadFile` where this is more than 2^32 - 1 operations, `OutOfMemory`, and `WriteFault` where the
+    /// shelf fails: then nothing is said of that file.
+    pub fn keep<S: Shelf>(
+        &self,
+        text: TextNo,
+        name: &str,
+        shelf: &mut S,
+    ) -> Result<Answer, EditRefusal>
+        requires on_desk { text ≤ MAX_TEXT }
+        ensures step { (sent : List (List ℕ)) → IsShelfStep self.now (λ i. ask i (keep text name.now)) result self.now sent sent
+            (S.files shelf.old) (S.files shelf.new) }
+        ensures fault { IsFault result → Counts (S.faults shelf.old) (S.faults shelf.new) }
+    {
+        written(write_site(self.alloc, self.texts.replica(text), name, shelf))
+    }
+
+    /// Begins a text, in which nothing was done yet, as its site's file of this name tells.
+    ///
+    /// Refused, in this order, `Conflict` where the text has taken something in or something waits for it; `ReadFault` where the
+    /// shelf fails; `BadFile` where the file is no site's file; `WrongText` where it is another text's, or another site's.
+    /// `OutOfMemory` may come in the place of any from `ReadFault` on. Nothing is changed then.
+    ///
+    /// No own operation may have been made since the file was kept: the next one gets the number of that again.
+    pub fn reopen<S: Shelf>(
+        &mut self,
+        text: TextNo,
+        name: &str,
+        shelf: &mut S,
+    ) -> Result<Answer, EditRefusal>
+        requires on_desk { text ≤ MAX_TEXT }
+        ensures step { (sent : List (List ℕ)) → IsShelfStep self.old (λ i. ask i (reopen text name.now)) result self.new sent sent
+            (S.files shelf.old) (S.files shelf.new) }
+        ensures fault { IsFault result → Counts (S.faults shelf.old) (S.faults shelf.new) }
+    {
+        if has_begun(self.texts.replica(text)) {
+            return Err(EditRefusal::Whole(Refusal::Conflict));
+        }
+        match read_site(self.alloc, name, shelf) {
+            Ok(kept) => self.begin_as(text, kept),
+            Err(why) => Err(EditRefusal::Whole(why)),
+        }
+    }
+
+    // Begins a text, in which nothing was done yet, as it was kept, if it is this site's copy of this text.
+    fn begin_as(&mut self, text: TextNo, kept: Replica) -> Result<Answer, EditRefusal>
+        requires on_desk { text ≤ MAX_TEXT }
+        requires fresh { (t : TextState) → IsTextOf self.old.texts text t → IsFalse (has_begun t) }
+        requires kept { HasTakenAll (empty_text kept.text kept.site) kept.operations kept }
+        ensures { BeginsSo self.old text kept result self.new }
+    {
+        if !is_same_copy(&kept, self.texts.replica(text)) {
+            return Err(EditRefusal::Whole(Refusal::WrongText));
+        }
+        self.texts.lemma_has_text(text);
+        self.texts.replace(text, kept);
+        tell(&mut self.texts, &mut self.windows, text);
+        Ok(Answer::Done)
+    }
+}

@@ -1,6 +1,0 @@
-use Rattle.convergence.proofs.Alike.{merges_alike}
-use Rattle.convergence.proofs.headline.merges_are_alike_either_way.Goals as goal
-
-pub returns : goal.returns
-returns c =
-    merges_alike c.merges_show_the_union.ensures c.unions_are_sets.ensures c.the_operations_tell_the_text.ensures

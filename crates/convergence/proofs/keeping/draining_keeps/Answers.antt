@@ -1,6 +1,0 @@
-use Rattle.convergence.proofs.Kept.{kept_draining}
-use Rattle.convergence.proofs.keeping.draining_keeps.Goals as goal
-
-pub returns : goal.returns
-returns c = λ t new drained dropped stopped all text keeps drains.
-    kept_draining all text keeps drains

@@ -1,5 +1,0 @@
-use Rattle.convergence.proofs.OneEdit.{edit_one_way}
-use Rattle.convergence.proofs.outcomes.edits_end_one_way.Goals as goal
-
-pub returns : goal.returns
-returns c = edit_one_way

@@ -1,5 +1,0 @@
-use Rattle.convergence.proofs.OneMerge.{merge_one_way}
-use Rattle.convergence.proofs.outcomes.merges_end_one_way.Goals as goal
-
-pub returns : goal.returns
-returns c = merge_one_way

@@ -1,0 +1,27 @@
+use Rattle.std.proofs.Common.{refl, sym, ◌∙◌}
+use Rattle.std.proofs.lemmas.Bool.{false≢true}
+use Rattle.texts.specs.Edit.{recalling}
+use Rattle.desk_texts.proofs.TextEdits.{text_edited, text_outside, text_short}
+use Rattle.desk_texts.proofs.site_texts.Texts.recall.Goals as goal
+
+pub returns-then-not-has_position : goal.returns-then-not-has_position
+returns-then-not-has_position c =
+    let t = c.replica_mut-replica.result.now in
+    let outside = sym c.has_position.ensures ∙ c.if-not-has_position.true in
+    (t, t, c.replica_mut-replica.ensures.value, text_outside t (recalling c.args.pos) c.args.outbox.now outside, refl)
+
+pub returns-in-Ok : goal.returns-in-Ok
+returns-in-Ok c =
+    let t = c.replica_mut-replica.result.now in
+    let edits = rw c.in-Ok.ensures.ok at c.insert.ensures in
+    let in_text = sym c.has_position.ensures ∙ c.if-not-has_position.false in
+    let edited = text_edited t (recalling c.args.pos) c.args.outbox.now in_text c.insert.result c.insert.new.self c.insert.new.outbox edits in
+    (t, c.insert.new.self, c.replica_mut-replica.ensures.value, edited, refl)
+
+pub returns-in-Err : goal.returns-in-Err
+returns-in-Err c =
+    let t = c.replica_mut-replica.result.now in
+    let in_text = sym c.has_position.ensures ∙ c.if-not-has_position.false in
+    let short = text_short t (recalling c.args.pos) c.args.outbox.now in_text c.in-Err.why c.in-Err.ensures.errors
+    (λ none. false≢true (c.in-Err.ensures.empty none)) in
+    (t, t, c.replica_mut-replica.ensures.value, short, refl)

@@ -1,6 +1,0 @@
-use Rattle.machine_laws.proofs.ShownLines.{prints-shown}
-use Rattle.machine_laws.proofs.the_same_operations_print_the_same.Goals as goal
-
-pub returns : goal.returns
-returns c = λ t u is_t is_u same.
-    prints-shown c.runs_are_maximal.ensures.only t u (c.the_operations_tell_the_text.ensures t u is_t is_u same).shown

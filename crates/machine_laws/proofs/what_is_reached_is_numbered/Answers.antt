@@ -1,5 +1,0 @@
-use Rattle.machine_laws.proofs.Numbered.{reached-numbered}
-use Rattle.machine_laws.proofs.what_is_reached_is_numbered.Goals as goal
-
-pub returns : goal.returns
-returns c = reached-numbered

@@ -1,5 +1,0 @@
-use Rattle.set_laws.proofs.Closing.{one_closure}
-use Rattle.set_laws.proofs.closures.there_is_one_closure.Goals as goal
-
-pub returns : goal.returns
-returns c = one_closure

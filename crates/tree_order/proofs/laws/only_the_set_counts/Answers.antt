@@ -1,5 +1,0 @@
-use Rattle.tree_order.proofs.SameSet.{says_the_same}
-use Rattle.tree_order.proofs.laws.only_the_set_counts.Goals as goal
-
-pub returns : goal.returns
-returns c = says_the_same

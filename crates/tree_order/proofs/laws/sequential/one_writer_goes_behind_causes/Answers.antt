@@ -1,5 +1,0 @@
-use Rattle.tree_order.proofs.OneWriter.{one_writer}
-use Rattle.tree_order.proofs.laws.sequential.one_writer_goes_behind_causes.Goals as goal
-
-pub returns : goal.returns
-returns c = one_writer
