@@ -80,7 +80,7 @@ pub record IsPieceAt (items : Items) (tag weight before : ℕ) : Type 0 where
   pub front : Items
   pub after : Items
   pub piece : Piece
-  pub whole : items ≡ front ++ (tag, piece) ∷ later
+  pub whole : items ≡ front ++ (tag, piece) ∷ after
   pub weight_is : weight ≡ own piece piece.len
   pub before_is : before ≡ shown_in front
 
