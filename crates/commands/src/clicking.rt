@@ -19,12 +19,13 @@ use crate::answer::Answer;
 use crate::desk::Desk;
 use crate::executing::sent;
 use crate::parameters::{
-    bytes_parameter, colour_parameter, file_parameter, font_parameter, is_caret_sign, offset_parameter, text_parameter,
+    bytes_parameter, colour_parameter, file_parameter, font_parameter, is_caret_sign,
+    offset_parameter, text_parameter,
 };
 use crate::putting::Insertion;
 use char_files::{Plain, TextNo};
 use command_words::{Call, Command, command_at, menu_text};
-use desk_windows::{Clicked, CellTarget};
+use desk_windows::{CellTarget, Clicked};
 use looks::Refusal;
 use reader_scanner::{Scanner, TokenValue};
 use shelf::Shelf;

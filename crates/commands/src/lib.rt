@@ -6,10 +6,10 @@ mod clicking;
 mod desk;
 mod executing;
 mod filing;
-mod site_files;
 mod parameters;
 mod putting;
 mod searching;
+mod site_files;
 mod telling;
 
 pub use answer::Answer;

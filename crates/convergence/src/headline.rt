@@ -4,12 +4,14 @@ ghost use Rattle.convergence.specs.Headline.{Headline, KeptTextsAreAlike, Merges
 ghost use Rattle.convergence.specs.Headline.{WhatWaitsShowsNothing};
 
 use crate::handed_in::{
-    lemma_nothing_is_kept, lemma_taking_keeps, lemma_what_is_kept_is_closed, lemma_what_waits_stays_waiting,
+    lemma_nothing_is_kept, lemma_taking_keeps, lemma_what_is_kept_is_closed,
+    lemma_what_waits_stays_waiting,
 };
 use set_laws::closures::{lemma_nothing_is_good, lemma_there_is_one_closure};
 use set_laws::unions::lemma_unions_are_sets;
 use texts::laws::{
-    lemma_a_text_shows_the_definition, lemma_merges_show_the_union, lemma_the_operations_tell_the_text,
+    lemma_a_text_shows_the_definition, lemma_merges_show_the_union,
+    lemma_the_operations_tell_the_text,
 };
 
 /// A law: two texts that keep the same operations, and in which all that waits waits for a cause, are alike.

@@ -2,6 +2,6 @@
 //! order of taking; what waits is taken in once its causes are; and each call has one outcome.
 #![tactic(auto)]
 
-pub mod headline;
 pub mod handed_in;
+pub mod headline;
 pub mod outcomes;

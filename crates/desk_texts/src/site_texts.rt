@@ -12,9 +12,9 @@ ghost use Rattle.machine.specs.OnTexts.{CopiesSite, EditsSite, MergesSite, Queri
 ghost use Rattle.desk_texts.specs.contracts.site_texts.Texts.{the_row};
 
 use crate::editing::{copy_out_of, has_position, has_range, plain_buffer};
-use crate::where_shown::where_lines;
 use crate::printing::{front_lines, text_lines};
 use crate::runs::run_lines;
+use crate::where_shown::where_lines;
 use char_files::{Buffer, MAX_FILE, SiteNo, TextNo};
 use list_changes::Change;
 use looks::{Looks, Refusal, Sel};

@@ -10,5 +10,5 @@ mod window;
 mod windows;
 
 pub use marks::Stretch;
-pub use pointing::{Clicked, CellTarget};
+pub use pointing::{CellTarget, Clicked};
 pub use windows::Windows;

@@ -136,9 +136,12 @@ module _ (now : Files) where
   does_over s (edit i text e) r new (free, does) = (free, edits_over s i text e r new does)
   does_over s (copy i text beg end other pos) r new (free, (t, there, does)) =
       (free, (t, there, at_text_over (CopiesText t beg end pos r) s new i other (messages_of r) does))
-  does_over s (take i text d) r new (free, does) = (free, subst (λ (m : Option (List ℕ)). MatchOption m
-      (Refuses (over s) BadEvent r (over new)) (λ message. AtText (TakesText message r) (over s) i text [] (over new)))
-      (message_over s d) (taken_over s new i text (message_in s d) r does))
+  does_over s (take i text d) r new (free, does) = (
+    free,
+    subst (λ (m : Option (List ℕ)). MatchOption m
+        (Refuses (over s) BadEvent r (over new)) (λ message. AtText (TakesText message r) (over s) i text [] (over new)))
+        (message_over s d) (taken_over s new i text (message_in s d) r does),
+  )
   does_over s (settle i text) r new (free, does) = (free, at_text_over (SettlesText false r) s new i text [] does)
   does_over s (merge i text j) r new (free, (u, there, does)) = (free, (u, there, at_text_over (MergesText u r) s new i text [] does))
   does_over s (query i text q) r new (free, same, asked) = (free, ap over same, asked)

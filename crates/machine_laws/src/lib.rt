@@ -9,12 +9,15 @@ ghost use Rattle.machine_laws.specs.Laws.{TheSameOverAnyFiles, WhatARunReachesIs
 
 use char_files::lemma_runs_are_maximal;
 use convergence::outcomes::{
-    lemma_drainings_end_one_way, lemma_edits_end_one_way, lemma_merges_end_one_way, lemma_takings_end_one_way,
+    lemma_drainings_end_one_way, lemma_edits_end_one_way, lemma_merges_end_one_way,
+    lemma_takings_end_one_way,
 };
 use set_laws::closures::lemma_nothing_is_good;
 use site_file::lemma_one_site;
 use text_file::lemma_one_text;
-use texts::laws::{lemma_own_edits_are_plain, lemma_the_fronts_tell_the_text, lemma_the_operations_tell_the_text};
+use texts::laws::{
+    lemma_own_edits_are_plain, lemma_the_fronts_tell_the_text, lemma_the_operations_tell_the_text,
+};
 use tree_order::laws::sequential::lemma_one_writer_goes_after_causes;
 
 /// A law: two texts, of one run or of two, that have taken in the same operations print the same lines of

@@ -7,7 +7,6 @@ ghost use Rattle.run_laws.specs.Laws.{EachTraceIsReached, TheSameFrontsAreAnswer
 ghost use Rattle.run_laws.specs.Laws.{TheSameViewsAreAnswered, WithoutFilesAllIsTold};
 
 pub use folder::run_over_a_folder;
-
 use machine_laws::{
     any_files_will_do, lemma_front_lines_tell_the_fronts, lemma_the_same_fronts_print_the_same,
     lemma_the_same_operations_print_the_same, lemma_the_same_texts_show_the_same_screen,

@@ -19,7 +19,7 @@ use crate::event::arrangements::{
 use crate::event::edits::{cut_edit, looks_edit, recall_edit, type_edit};
 use crate::event::filings::filing_in;
 use crate::event::verbs::{ArrangeVerb, DeskVerb, EditVerb, LongVerb, ShortVerb, Verb};
-use crate::event::words::{split_number, split_word, desk_in, front_word, number_in, text_in};
+use crate::event::words::{desk_in, front_word, number_in, split_number, split_word, text_in};
 use crate::hex_bytes::Hex;
 use char_files::{MAX_FILE, SiteNo, TextNo};
 use looks::{Looks, Sel};

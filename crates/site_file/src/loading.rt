@@ -7,7 +7,7 @@ ghost use Rattle.texts.specs.Taking.{HasTaken, HasTakenAll, IsJudged};
 ghost use Rattle.texts.specs.TextState.{empty_text};
 ghost use Rattle.site_file.specs.Parts.{AreEntries, IsTaken};
 
-use crate::reading::{Head, rest_of_tag, head_at, message_at};
+use crate::reading::{Head, head_at, message_at, rest_of_tag};
 use looks::Refusal;
 use std::alloc::Global;
 use texts::{Replica, Took};

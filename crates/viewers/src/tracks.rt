@@ -7,7 +7,7 @@ ghost use Rattle.viewers.specs.Tracks.{Covers, can_open, seat_index, rows};
 use crate::screen::{Area, Track};
 use crate::seats::{
     MAX_HEIGHT, MAX_SEATS, MAX_WIDTH, MIN_HEIGHT, MIN_WIDTH, Seat, can_move, can_open, close,
-    divide, holder, move_border, seat_index, seat_at, top, viewer_in,
+    divide, holder, move_border, seat_at, seat_index, top, viewer_in,
 };
 use arrayvec::ArrayVec;
 use looks::Refusal;

@@ -3,7 +3,7 @@ ghost use Rattle.script_events.specs.EventView.{OpensDeskText};
 ghost use Rattle.script_events.specs.Script.{cell_in, close_arrangement, move_arrangement, open_arrangement, opening_in, pair_in};
 ghost use Rattle.script_events.specs.Script.{point_arrangement, scroll_arrangement, select_arrangement, track_in};
 
-use crate::event::words::{split_number, split_word, number_in, text_in};
+use crate::event::words::{number_in, split_number, split_word, text_in};
 use machine::{Arrangement, Cell};
 use viewers::Track;
 

@@ -5,7 +5,7 @@ ghost use Rattle.script_events.specs.Script.{type_edit, cut_edit, looks_edit, re
 use crate::escaped::Escaped;
 use crate::event::Edit;
 use crate::event::looks_words::change_in;
-use crate::event::words::{split_number, number_in};
+use crate::event::words::{number_in, split_number};
 
 // What `type` goes on with after its text: a position and the bytes.
 pub(crate) fn type_edit(rest: &[u8]) -> Option<Edit<'_>>
