@@ -25,7 +25,7 @@ fn is_as_it_begins(replica: &Replica, outbox: &Outbox) -> Result<(), Fail> {
 fn forgets(alloc: Global, replica: &mut Replica, outbox: &mut Outbox) -> Result<(), Fail> {
     takes(alloc, replica, BEHIND_SITE_2, Ok(Took::Waits))?;
     let behind = Err(EditRefusal::Whole(Refusal::Behind));
-    appends(alloc, replica, b"a", outbox, after)?;
+    appends(alloc, replica, b"a", outbox, behind)?;
     appends(alloc, replica, b"", outbox, Ok(0))?;
     is(replica.waiting() == 1, "one waits")?;
     is(replica.forget_waiting() == 1, "one is forgotten")?;
