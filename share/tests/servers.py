@@ -8,7 +8,7 @@ import threading
 import time
 from collections.abc import Callable
 
-PATIENCE = 30
+PATIENCE = 120
 
 
 def wait_for(condition: Callable[[], object], what: str) -> None:

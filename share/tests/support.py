@@ -28,7 +28,7 @@ from share.site import Edited, Site, Told
 
 TOP = pathlib.Path(__file__).resolve().parents[2]
 NOTE = str(TOP / "bin" / "note")
-PATIENCE = 30
+PATIENCE = 120
 ALPHABET = "abcdefgh  \r\t\\é߀ñ漢字🎉👍"
 
 
