@@ -5,19 +5,9 @@ import socket
 import ssl
 import subprocess
 import threading
-import time
 from collections.abc import Callable
 
-PATIENCE = 120
-
-
-def wait_for(condition: Callable[[], object], what: str) -> None:
-    """Returns as soon as the condition is true."""
-    end = time.monotonic() + PATIENCE
-    while not condition():
-        if time.monotonic() > end:
-            raise AssertionError(f"waited {PATIENCE} seconds for {what}")
-        time.sleep(0.02)
+from share.tests.support import PATIENCE, wait_for
 
 
 def free_port() -> int:
