@@ -239,11 +239,11 @@ class Courier:
 
     def _lacks(self) -> list[Place]:
         """What the log is to be given. Where somebody else writes under a number of this person, nothing more is
-        sent under it, but what may have been sent."""
+        sent under it, but what may have been sent, and that it was made anew."""
         with self._finding:
             self._pending = {one.place: one for one in self._pending.values() if not self._carrying.has(one.hash)}
             return [one for one in self._pending.values()
-                    if not one.made or one.offered or one.author not in self._shared][:BATCH]
+                    if not one.made or one.offered or one.kind is Kind.ANEW or one.author not in self._shared][:BATCH]
 
     def _give(self, disk: Disk, log: Log, lacks: list[Place]) -> None:
         """Gives the log some of what it lacks."""

@@ -1,21 +1,22 @@
-"""Entries: what a log carries and each person's disk keeps. An entry is a claim of a site's number, or some
-messages of a site that follow one another.
+"""Entries: what a log carries and each person's disk keeps. An entry is a claim of a site's number, some messages of a
+site that follow one another, or a word that messages were made anew.
 
 All numbers are big-endian. An entry has this head:
 
     form      1      1 plain, 2 sealed
-    kind      1      1 a claim, 2 messages, 3 messages that say what they build on
+    kind      1      1 a claim, 2 messages, 3 messages that say what they build on, 4 made anew
     note      16     the note's identity
     site      2      1 to 65,528
-    first     4      the seq of its first message; 0 in a claim
-    count     2      how many messages; 0 in a claim
+    first     4      the seq of its first message; 0 without messages
+    count     2      how many messages
     before    32     the hash of this site's entry before it; zeros in a claim
     author    16/32  who claims or writes: 128 random bits where plain, an Ed25519 public key where sealed
 
 Then, in kind 3, 32 bytes that say what the messages build on, and the messages, each after its length in two
 bytes: as they are, where the form is plain, with a digest of all before it; else sealed, with the head as what is
 authenticated beside them, and signed.
-The hash of an entry is that of all its bytes. So the entries of a site make a chain that begins with its claim.
+The hash of an entry is that of all its bytes. So the entries of a site make a chain that begins with its claim. What
+says that messages were made anew is in no chain: it names the last entry of those that it speaks of.
 
 What messages build on is said where they mention characters of other sites: of each of these sites, in the order of
 their numbers, the entry in which the last mentioned one of its characters was inserted; 32 bytes are the hash of
@@ -53,6 +54,7 @@ class Kind(IntEnum):
     CLAIM = 1
     MESSAGES = 2
     BUILDING = 3
+    ANEW = 4
 
 
 KINDS = {int(kind): kind for kind in Kind}
@@ -79,7 +81,7 @@ class Entry(NamedTuple):
 
     @property
     def last(self) -> int:
-        """The seq of the last message, 0 in a claim."""
+        """The seq of the last message, 0 without messages."""
         return self.first + len(self.messages) - 1 if self.messages else 0
 
     @property
@@ -138,6 +140,11 @@ class Form(ABC):
         fit one."""
         kind = Kind.BUILDING if on else Kind.MESSAGES
         return self._made(kind, before.site, messages[0].seq, before.hash, author, on, tuple(messages))
+
+    def made_anew(self, last: Entry, author: Author) -> Entry:
+        """The entry with which an author says that of his entries up to this one all that doesn't count was made
+        anew."""
+        return self._made(Kind.ANEW, last.site, 0, last.hash, author, b"", ())
 
     def open(self, raw: bytes) -> Entry:
         """The entry that has these bytes; Bad where they are none of this note's."""
@@ -280,6 +287,9 @@ def _check(entry: Entry) -> None:
     if entry.kind is Kind.CLAIM:
         if entry.first or entry.messages or entry.before != NO_HASH:
             raise Bad("is a claim with more in it than a claim has")
+    elif entry.kind is Kind.ANEW:
+        if entry.first or entry.messages or entry.before == NO_HASH:
+            raise Bad("says of nothing that it was made anew, or has more in it")
     elif not entry.messages or entry.before == NO_HASH:
         raise Bad("has no messages, or nothing before it")
     for seq, message in enumerate(entry.messages, entry.first):

@@ -2,6 +2,7 @@
 import gc
 from collections.abc import Callable, Collection, Iterable, Iterator, Sequence
 from contextlib import contextmanager
+from itertools import takewhile
 
 from share.disk import Anew, Client, Disk, Row
 from share.entry import Entry, Kind
@@ -61,7 +62,7 @@ class Holdings:
         return len(self._unsent)
 
     def _is_edit(self, row: Row) -> bool:
-        return row.made and row.entry.kind is not Kind.CLAIM
+        return row.made and bool(row.entry.messages)
 
     def read(self, disk: Disk) -> list[Row]:
         """Reads what the file has more; the rows that weren't known."""
@@ -126,6 +127,22 @@ class Holdings:
                     if (not self.judge.is_let_through(message)
                             and (row.entry.author, message.site, message.seq) not in self.anew):
                         yield row.entry.author, message
+
+    def waited_for(self) -> list[tuple[Client, Entry]]:
+        """The numbers that were given up and of which others wait for what never comes, since it was made anew; and the
+        last entries of it."""
+        found = []
+        for one in self.clients.values():
+            if one.retired and self.judge.holder(one.site) == one.author.name:
+                done = [*takewhile(self._was_made_anew, self.judge.held_up(one.site))]
+                found += [(one, last) for last in done[-1:]]
+        return found
+
+    def _was_made_anew(self, entry: Entry) -> bool:
+        """Whether an entry was made here, and what doesn't count of it was made anew."""
+        return self.rows[entry.hash].made and all(
+            self.judge.is_let_through(message) or (entry.author, message.site, message.seq) in self.anew
+            for message in entry.messages)
 
     def reread_anew(self, disk: Disk) -> None:
         """Looks which numbers were given up, and which edits made anew, by other editors of this person."""

@@ -16,6 +16,9 @@ messages through, in an order in which each is after its causes:
   of other sites was there before its first message.
 - **Stamps.** A message whose stamp is over `LEAP` above the greatest that was let through is held back, and is
   asked again when that has risen. To spend all stamps so takes 2^28 messages.
+- **Made anew.** An author who knows that his messages will never count, since what they build on was never sent,
+  makes them anew under another number, and says so of the first ones: of those up to an entry of his. They aren't
+  waited for then. It is nothing but a word: where they do count they go on counting.
 
 More entries can end the count of a message only where a smaller hash came: of a claim, or of two entries of one
 place. Then all is let through anew. What was left out for a smaller hash stays so.
@@ -130,6 +133,8 @@ class Judge:
         self._outside: dict[bytes, Entry] = {}
         # The hashes that entries name as the one before them, and that didn't come.
         self._missing: set[bytes] = set()
+        # The hashes of entries up to which their authors say that what doesn't count was made anew, by site and author.
+        self._made_anew: dict[tuple[int, bytes], set[bytes]] = {}
         # Whether something can perhaps be let through that couldn't when this was last looked at.
         self._stirred = False
         # What was let through since that was last asked for, and whether it is all anew.
@@ -149,6 +154,8 @@ class Judge:
         self._missing.discard(entry.hash)
         if entry.kind is Kind.CLAIM:
             self._claimed(entry)
+        elif entry.kind is Kind.ANEW:
+            self._made_anew.setdefault((entry.site, entry.author), set()).add(entry.before)
         else:
             if entry.before not in self.known:
                 self._missing.add(entry.before)
@@ -233,9 +240,21 @@ class Judge:
             loose = self.loose()
             blocked = {site: chain for site, chain in self._chains.items() if chain.next()}
             left_out = self._left_out(blocked, {entry.hash for entry in loose}) if blocked else set()
-            held = [len(chain.messages) - chain.front for site, chain in blocked.items() if site not in left_out]
+            held = [entry.last - max(entry.first - 1, self._chains[site].front)
+                    for site in blocked.keys() - left_out for entry in self.held_up(site)]
             self._incomplete = sum(held) + sum(len(entry.messages) for entry in loose)
         return self._incomplete
+
+    def held_up(self, site: int) -> list[Entry]:
+        """The entries of a site's chain that aren't let through as a whole, without what is wrong, and without those
+        whose author says that they were made anew."""
+        self._let_through()
+        chain = self._chains.get(site)
+        if chain is None or not chain.next():
+            return []
+        said = [self._at[of] + 1 for of in self._made_anew.get((site, chain.entries[0].author), ())
+                if of in self._at and self.known[of].site == site]
+        return chain.entries[max([self._at[chain.entry_of[chain.front].hash], *said]):]
 
     def _left_out(self, blocked: dict[int, _Chain], loose: set[bytes]) -> set[int]:
         """The sites whose next message mentions what was left out. What is loose may yet count."""

@@ -11,7 +11,7 @@ from share.anew import make_anew
 from share.courier import Courier
 from share.disk import Anew, Client, Damaged, Disk, Overtaken, Row, Unkept, inode_of, make, set_aside
 from share.entry import GREATEST_SITE, Entry, Kind, in_entries
-from share.holdings import Holdings, uncollected, who
+from share.holdings import Holdings, Who, uncollected, who
 from share.judging import Counted
 from share.log import is_network, open_log
 from share.message import Message, Names
@@ -159,7 +159,9 @@ class Session:
         self._look_at_claims()
         if self._is_stale:
             found, self._is_stale = Counted(holdings.judge.let_through_in_order(), True), False
-        if self._settle(found.messages if found.anew else None, has_read):
+        is_other = self._settle(found.messages if found.anew else None, has_read)
+        self._say_what_was_made_anew()
+        if is_other:
             return self.site.text()
         if self._lacks or holdings.judge.loose():
             self._lacks = False
@@ -419,8 +421,7 @@ class Session:
             return []
         self._is_settled = True
         try:
-            broken = [one for one in holdings.broken() if who(one) == who(self._client) or self._disk.lock(one.site)]
-            if broken:
+            if broken := self._broken():
                 self._mended(lambda: holdings.withdraw(self._disk.withdraw(holdings.made_by(broken))))
             if self._is_taken or who(self._client) in map(who, broken):
                 self._client = self._claim()
@@ -429,6 +430,19 @@ class Session:
         except Unkept as why:
             self._later(why)
             return []
+
+    def _broken(self) -> list[Client]:
+        """The numbers that can't be gone on with and that no other editor has, with all that was written under them."""
+        held: set[Who] = set()
+        while True:
+            broken = [one for one in self._holdings.broken()
+                      if who(one) == who(self._client) or self._disk.lock(one.site)]
+            if held.issuperset(map(who, broken)):
+                return broken
+            # Who had one may have written more under it, or given it up, since the file was read.
+            held |= {*map(who, broken)}
+            self._read()
+            self._holdings.reread_anew(self._disk)
 
     def _later(self, why: Unkept) -> None:
         """Has what couldn't be made anew be tried again."""
@@ -469,6 +483,15 @@ class Session:
         else:
             self._notices.append("You typed after something that doesn't count any more, since two clients wrote it "
                                  f"under one number. So you go on as site {self.number}. {made}")
+
+    def _say_what_was_made_anew(self) -> None:
+        """Says so of what others would wait for. It is sent after what was made anew."""
+        if made := [self._form.made_anew(last, one.author) for one, last in self._holdings.waited_for()]:
+            with suppress(Unkept):
+                # Where there is no room now it is said later.
+                self._mended(lambda: self._disk.keep(made, True))
+                self._holdings.add(made)
+                self._courier.made()
 
     def _drop_what_is_too_much(self) -> None:
         if dropped := self._holdings.is_too_much():

@@ -7,7 +7,8 @@ import subprocess
 import time
 
 from share.mirror import Line, Mirror
-from share.tests.support import NOTE, PATIENCE, Case, engine_of, wait_for
+from share.tests.support import NOTE, Case, engine_of
+from share.tests.waiting import PATIENCE, wait_for
 
 
 class Editor:

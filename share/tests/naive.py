@@ -176,7 +176,19 @@ class Answer:
             for site in gone:
                 del blocked[site]
                 further[site] = 1 << 32
-        return sum(map(len, blocked.values())) + sum(len(entry.messages) for entry in at_hand)
+        waiting = [one for site in blocked for one in self.held_up(site, entries)]
+        return len(waiting) + sum(len(entry.messages) for entry in at_hand)
+
+    def held_up(self, site: int, entries: list[Entry]) -> list[Message]:
+        """The messages of a site that aren't let through and aren't wrong, but those of which one of these entries says
+        that they were made anew."""
+        messages, chain = self.following.get(site, []), self.chains.get(site, [])
+        if not messages or self.is_wrong(messages[0]):
+            return []
+        said = {entry.before for entry in entries
+                if entry.kind is Kind.ANEW and (entry.site, entry.author) == (site, chain[0].author)}
+        up_to = max([one.messages[-1].seq for one in chain if one.messages and one.hash in said], default=0)
+        return [one for one in messages if one.seq > up_to]
 
     def _builds_on(self, message: Message, ends: dict[int, int], further: dict[int, int]) -> bool:
         """Whether a message builds on characters that were left out: they aren't there, or others are in their
@@ -251,12 +263,13 @@ def ended(entries: Iterable[Entry]) -> set[bytes]:
 
 
 def loose(entries: Iterable[Entry]) -> list[Entry]:
-    """The entries from which no walk to what came before them ends at a claim that is there."""
+    """The entries from which no walk to what came before them ends at a claim that is there. What says that something
+    was made anew waits for nothing."""
     known = {entry.hash: entry for entry in entries}
     found = []
     for entry in known.values():
         at: Entry | None = entry
-        while at is not None and at.kind is not Kind.CLAIM:
+        while at is not None and at.kind not in (Kind.CLAIM, Kind.ANEW):
             at = known.get(at.before)
         if at is None:
             found.append(entry)

@@ -14,7 +14,8 @@ from typing import Any
 
 import aiohttp
 
-from share.tests.support import NOTE, PATIENCE
+from share.tests.support import NOTE
+from share.tests.waiting import PATIENCE
 
 Line = dict[str, Any]
 FOUND = re.compile(r'url=(http://127\.0\.0\.1:(\d+)/#([0-9a-f]+))"')

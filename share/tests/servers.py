@@ -1,13 +1,14 @@
 """Redis servers for tests, each in a folder of its own: by a port, with TLS, or by a Unix socket."""
 import contextlib
 import pathlib
+import shutil
 import socket
 import ssl
 import subprocess
 import threading
 from collections.abc import Callable
 
-from share.tests.support import PATIENCE, wait_for
+from share.tests.waiting import PATIENCE, wait_for
 
 
 def free_port() -> int:
@@ -61,6 +62,12 @@ class RedisServer:
         """Kills the server without a word."""
         self.process.kill()
         self.process.wait()
+
+    def lose_all(self) -> None:
+        """Kills the server, and takes its files away."""
+        self.kill()
+        shutil.rmtree(self.folder)
+        self.folder.mkdir()
 
 
 class SocketServer(RedisServer):

@@ -1,16 +1,14 @@
-"""What tests stand on: folders of their own, a Redis server of their own, and people who share a note."""
+"""What tests stand on: folders of their own, and people who share a note."""
 import contextlib
 import os
 import pathlib
 import random
 import re
 import shutil
-import socket
 import sqlite3
 import subprocess
 import sys
 import tempfile
-import time
 import unittest
 
 from share import link as links
@@ -20,64 +18,17 @@ from share.entry import Form, Plain, in_entries
 from share.judging import Judge
 from share.log import START, Log, open_log
 from share.message import Names
-from share.tests.note import Note
 from share.program import Program
 from share.reading import found_in, shown
 from share.session import Session, Status
 from share.site import Edited, Site, Told
+from share.tests.note import Note
+from share.tests.servers import RedisServer
+from share.tests.waiting import wait_for
 
 TOP = pathlib.Path(__file__).resolve().parents[2]
 NOTE = str(TOP / "bin" / "note")
-PATIENCE = 120
 ALPHABET = "abcdefgh  \r\t\\é߀ñ漢字🎉👍"
-
-
-def wait_for(condition, what: str, patience: float = PATIENCE):
-    """The condition's value, as soon as it is a true one."""
-    end = time.monotonic() + patience
-    while not (value := condition()):
-        if time.monotonic() > end:
-            raise AssertionError(f"waited {patience} seconds for {what}")
-        time.sleep(0.02)
-    return value
-
-
-class RedisServer:
-    """A server on the loopback with a folder of its own, which keeps each append on the disk before it
-    answers."""
-
-    def __init__(self, folder: pathlib.Path):
-        self.folder = folder
-        folder.mkdir(exist_ok=True)
-        with socket.socket() as free:
-            free.bind(("127.0.0.1", 0))
-            self.port = free.getsockname()[1]
-        self.url = f"redis://127.0.0.1:{self.port}"
-        self.start()
-
-    def start(self) -> None:
-        """Starts the server, with what its folder has."""
-        words = ["redis-server", "--port", str(self.port), "--bind", "127.0.0.1", "--dir", str(self.folder),
-                 "--appendonly", "yes", "--appendfsync", "always", "--save", ""]
-        self.process = subprocess.Popen(words, stdout=subprocess.DEVNULL, stderr=subprocess.DEVNULL)
-        wait_for(self._answers, "a Redis server to answer")
-
-    def _answers(self) -> bool:
-        with contextlib.suppress(OSError), socket.create_connection(("127.0.0.1", self.port), 1) as line:
-            line.sendall(b"PING\r\n")
-            return line.recv(16).startswith(b"+PONG")
-        return False
-
-    def kill(self) -> None:
-        """Kills the server without a word."""
-        self.process.kill()
-        self.process.wait()
-
-    def lose_all(self) -> None:
-        """Kills the server, and takes its files away."""
-        self.kill()
-        shutil.rmtree(self.folder)
-        self.folder.mkdir()
 
 
 class Person:

@@ -15,7 +15,8 @@ from concurrent.futures import ThreadPoolExecutor
 from dataclasses import dataclass
 from functools import partial
 
-from share.tests.support import NOTE, Case, RedisServer, wait_for, written
+from share.tests.servers import RedisServer
+from share.tests.support import NOTE, Case, wait_for, written
 from share.tests.writers import PATIENCE, Cut, Emacs, Neovim, OwnEditor, PageInChromium, Writer, kill_editor, kill_engine
 
 SECONDS = float(os.environ.get("SHARE_SECONDS", "0"))

@@ -11,6 +11,7 @@ import threading
 import unittest
 from unittest import mock
 
+from share.entry import HEAD, NO_HASH
 from share.log import Unreachable
 from share.sqlite_log import SqliteLog
 from share.tests.servers import Hostile
@@ -182,6 +183,17 @@ class BadInput(Case):
             self.assertEqual(note.session.status().unsent, 1)
         wait_for(lambda: not note.session.status().unsent, "the log to have room again")
         wait_for(lambda: not note.session.status().offline, "it to be said")
+
+    def test_an_entry_of_a_kind_that_a_later_version_has(self) -> None:
+        with contextlib.closing(self.ann.disk()) as disk, contextlib.closing(self.ann.log()) as log:
+            form, author = disk.form, disk.form.new_author()
+            head = HEAD.pack(form.number, 5, form.note, 7, 0, 0, NO_HASH) + author.name
+            log.append([form._closed(head, b"", author)])
+        ann, bob = self.opened(self.ann), self.opened(self.person("bob"), link=self.ann.link())
+        for note, words in (ann, "four "), (bob, "five "):
+            wait_for(lambda one=note: (one.take_in(), "doesn't know and was left" in one.notice)[1], "it to be told")
+            written(note, words)
+        self.assertEqual(sorted(self.assert_meet(ann, bob).split()), sorted(b"one two three four five".split()))
 
     def test_a_server_that_goes_away_while_it_appends(self) -> None:
         server = self.redis()

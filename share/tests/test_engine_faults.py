@@ -21,7 +21,8 @@ from share.program import Ended
 from share.scripts import differences
 from share.session import Session
 from share.tests.editors import Engines
-from share.tests.support import NOTE, PATIENCE, Case, type_at_the_end, wait_for
+from share.tests.support import NOTE, Case, type_at_the_end
+from share.tests.waiting import PATIENCE, wait_for
 from share.units import UNITS
 
 

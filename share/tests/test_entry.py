@@ -46,19 +46,20 @@ def samples() -> list[Entry]:
     first = FORM.entry(entries[0], typed(1), ANNE)
     second = FORM.entry(first, [*typed(2, first=2), about(DELETE, 7, 4, 9, [(1, 0, 3), (1, 5, 1)])], ANNE)
     third = FORM.entry(second, [about(DELETE, 7, 5, 10, [(1, 0, 3)])], ANNE, b"on" * 16)
-    return [*entries, first, second, third]
+    return [*entries, first, second, third, FORM.made_anew(third, ANNE)]
 
 
 class Spelling(unittest.TestCase):
     """An entry has one spelling, and what is spelled otherwise is none."""
 
     def test_the_bytes_are_those_of_the_table(self) -> None:
-        claim, _, first, second, third = samples()
+        claim, _, first, second, third, anew = samples()
         self.assertEqual(claim.raw, spelled(kind=1, first=0, before=NO_HASH))
         self.assertEqual(first.raw, spelled(before=claim.hash, messages=first.messages))
         self.assertEqual(second.raw, spelled(first=2, before=first.hash, messages=second.messages))
         self.assertEqual(third.raw, spelled(kind=3, first=5, before=second.hash, count=1,
                                             body=b"on" * 16 + body_of(third.messages)))
+        self.assertEqual(anew.raw, spelled(kind=4, first=0, before=third.hash))
         self.assertEqual(first.raw[74:76], len(first.messages[0].data).to_bytes(2, "big"))
         self.assertEqual(first.hash, hashlib.blake2b(first.raw, digest_size=32).digest())
 
@@ -68,7 +69,7 @@ class Spelling(unittest.TestCase):
             self.assertEqual(FORM.reopened(entry.raw, FORM.body(entry.raw), entry.hash), entry)
         self.assertEqual([(entry.kind, entry.first, entry.last) for entry in samples()],
                          [(Kind.CLAIM, 0, 0), (Kind.CLAIM, 0, 0), (Kind.MESSAGES, 1, 1), (Kind.MESSAGES, 2, 4),
-                          (Kind.BUILDING, 5, 5)])
+                          (Kind.BUILDING, 5, 5), (Kind.ANEW, 0, 0)])
         self.assertEqual({entry.author for entry in samples()}, {ANNE.name})
 
     def test_each_prefix_and_each_bit(self) -> None:
@@ -108,7 +109,7 @@ class Wrong(unittest.TestCase):
         self.assert_bad("isn't spelled", spelled(form=0, messages=one))
         self.assert_bad("isn't spelled", spelled(form=2, messages=one))
         self.assert_bad("another note", spelled(note=bytes(16), messages=one))
-        for kind in 0, 4, 255:
+        for kind in 0, 5, 255:
             self.assert_bad("of a kind", spelled(kind=kind, messages=one))
         for site in 0, GREATEST_SITE + 1, 65_535:
             self.assert_bad("a site that can't be", spelled(kind=1, site=site, first=0, before=NO_HASH))
@@ -119,6 +120,12 @@ class Wrong(unittest.TestCase):
         for raw in (spelled(kind=1, first=1, before=NO_HASH), spelled(kind=1, first=0),
                     spelled(kind=1, first=0, before=NO_HASH, messages=typed(1))):
             self.assert_bad("more in it", raw)
+
+    def test_what_was_made_anew_has_nothing_else(self) -> None:
+        FORM.open(spelled(kind=4, first=0))
+        for raw in (spelled(kind=4, first=1), spelled(kind=4, first=0, before=NO_HASH),
+                    spelled(kind=4, first=0, messages=typed(1)), spelled(kind=4, messages=typed(1))):
+            self.assert_bad("says of nothing", raw)
 
     def test_messages_of_another_place(self) -> None:
         self.assert_bad("no messages", spelled())

@@ -138,6 +138,17 @@ class History:
         else:
             self._follow(before, skipped=self._chance.choice([1, 2]))
 
+    def say_made_anew(self) -> None:
+        """Someone says that entries up to one were made anew: mostly their author, of the last of a branch."""
+        if (last := self._chance.choice([self._leaf, self._leaf, self._any])()) is None:
+            return
+        author = self._chance.choice(AUTHORS) if self._chance.random() < 0.2 else Author(last.author, b"")
+        site = self._chance.choice(SITES) if self._chance.random() < 0.3 else last.site
+        said = FORM.made_anew(last._replace(site=site), author)
+        self._add(said, self._ends[last.hash])
+        # Only what is forged goes on from it.
+        self._followed.add(said.hash)
+
     def _leaf(self) -> Entry | None:
         leaves = [entry for entry in self.entries if entry.hash not in self._followed]
         return self._chance.choice(leaves) if leaves else None
@@ -212,7 +223,7 @@ class History:
 
 
 # A step that does nothing stands first, so that what fails is told with few others.
-RIGHT = ["rest", "claim", "write", "write", "write", "write", "fork", "walk_up"]
+RIGHT = ["rest", "claim", "write", "write", "write", "write", "fork", "walk_up", "say_made_anew"]
 STEPS = RIGHT * 2 + ["leap", "put_wrong", "stamp_wrong", "mention_nobody", "build_wrong", "forge"]
 SEEDS = st.integers(0, 2**16 - 1)
 
@@ -312,6 +323,8 @@ class Follower:
             chain, through = answer.chains.get(site), answer.through.get(site, [])
             case.assertEqual(judge.holder(site), chain[0].author if chain else None)
             case.assertEqual((judge.front(site), judge.length(site)), (len(through), answer.length(site)))
+            case.assertEqual([one for entry in judge.held_up(site) for one in entry.messages if one not in through],
+                             answer.held_up(site, self.came))
         for message in chained.from_iterable(entry.messages for entry in self.came):
             case.assertEqual(judge.is_let_through(message), answer.is_let_through(message))
         in_order = judge.let_through_in_order()
@@ -469,6 +482,19 @@ class AnyOrder(unittest.TestCase):
         self.assertLessEqual(seen, after.chains())
         self.assertLessEqual(set(before.judge.let_through()), set(after.judge.let_through()))
 
+    @tries(80)
+    @given(histories(), SEEDS)
+    def test_a_word_that_something_was_made_anew_takes_no_text_away(self, history: History, seed: int) -> None:
+        chance, judge, without = random.Random(seed), Judge(), Judge()
+        for entry in handed(history.entries, chance):
+            judge.add(entry)
+            if entry.kind is not Kind.ANEW:
+                without.add(entry)
+            if chance.random() < 0.2:
+                self.assertEqual(judge.count(), without.count())
+        self.assertEqual(judge.let_through_in_order(), without.let_through_in_order())
+        self.assertLessEqual(judge.incomplete(), without.incomplete())
+
     @tries(50)
     @given(histories(), SEEDS)
     def test_what_is_no_entry_changes_nothing(self, history: History, seed: int) -> None:
@@ -479,6 +505,63 @@ class AnyOrder(unittest.TestCase):
             follower.add(entry)
         follower.count()
         follower.agrees()
+
+
+class MadeAnew(unittest.TestCase):
+    """A disk that was put back has two numbers of one author, and what was typed under the second one stands after what
+    was typed under the first one and was never sent: others have the log's branch of that."""
+
+    def setUp(self) -> None:
+        FORM.salt = 0
+        self.first, self.second, self.third, _ = AUTHORS
+        claims = [FORM.claim(site, author) for site, author in zip(SITES, AUTHORS)]
+        self.sent = FORM.entry(claims[0], [inserting(1, 1, 1, None, 0, b"sent")], self.first)
+        self.unsent = FORM.entry(claims[0], [inserting(1, 1, 1, None, 0, b"kept")], self.first)
+        after = [inserting(2, 1, 2, (1, 3), 0, b"after")]
+        self.typed = FORM.entry(claims[1], after, self.second, naive.built_on(after, {(1, 3): self.unsent.hash}))
+        self.more = FORM.entry(self.typed, [inserting(2, 2, 3, (2, 4), 5, b"more")], self.second)
+        anew = FORM.entry(claims[2], [inserting(3, 1, 2, (1, 3), 0, b"kept after more")], self.third)
+        self.all = [*claims[:3], self.sent, self.typed, self.more, anew]
+
+    def incomplete(self, *said: Entry, without: Sequence[Entry] = ()) -> int:
+        """How many messages wait of all entries and these, in a few orders, in each of which it is as the rules have
+        it."""
+        found = set()
+        for seed in range(20):
+            chance, follower = random.Random(seed), Follower(self)
+            coming = [one for one in [*self.all, *said] if one not in without]
+            for entry in chance.sample(coming, len(coming)):
+                follower.add(entry)
+                if chance.random() < 0.3:
+                    follower.agrees()
+            follower.count()
+            follower.agrees()
+            found.add(follower.judge.incomplete())
+        self.assertEqual(len(found), 1)
+        return found.pop()
+
+    def test_nobody_waits_once_the_author_says_so(self) -> None:
+        self.assertEqual(self.incomplete(), 2)
+        self.assertEqual(self.incomplete(FORM.made_anew(self.more, self.second)), 0)
+
+    def test_what_follows_waits(self) -> None:
+        self.assertEqual(self.incomplete(FORM.made_anew(self.typed, self.second)), 1)
+
+    def test_no_other_can_say_so(self) -> None:
+        for author in self.first, self.third:
+            self.assertEqual(self.incomplete(FORM.made_anew(self.more, author)), 2)
+        # An entry of another site is none of those that wait.
+        for last, site in (self.more, 3), (self.sent, 2):
+            self.assertEqual(self.incomplete(FORM.made_anew(last._replace(site=site), self.second)), 2)
+
+    def test_nothing_that_is_lacking_is_hidden(self) -> None:
+        self.assertEqual(self.incomplete(FORM.made_anew(self.more, self.second), without=[self.typed]), 1)
+        self.assertEqual(self.incomplete(FORM.made_anew(self.typed, self.second), without=[self.typed]), 1)
+
+    def test_what_counts_after_all_goes_on_counting(self) -> None:
+        came = [self.unsent if one == self.sent else one for one in self.all]
+        judge = Judge([*came, FORM.made_anew(self.more, self.second)])
+        self.assertEqual((judge.front(2), judge.incomplete()), (2, 0))
 
 
 if __name__ == "__main__":

@@ -6,14 +6,14 @@ nothing that was shown or said to be sent is lost, nothing is there twice, and a
 import contextlib
 import os
 import random
-import re
 import shutil
 import subprocess
 import threading
 import time
 
 from share.tests.note import Note
-from share.tests.support import TOP, Case, Person, RedisServer, are_alike, python, type_at_the_end, wait_for, written
+from share.tests.servers import RedisServer
+from share.tests.support import TOP, Case, Person, are_alike, python, type_at_the_end, wait_for, written
 
 ROUNDS = int(os.environ.get("SHARE_ROUNDS", "6"))
 SEED = int(os.environ.get("SHARE_SEED", "1"))
@@ -119,11 +119,13 @@ class Killed(Case):
         for word in text.decode().split():
             found[word] = found.get(word, 0) + 1
         self.assertEqual([word for word, count in found.items() if count > 1], [])
+        numbers: dict[str, list[int]] = {life.tag: [] for life in self.lives}
+        for word in found.keys() - {"begin"}:
+            tag, _, number = word.rpartition(".")
+            numbers[tag].append(int(number))
         for life in self.lives:
-            numbers = sorted(int(one[1]) for word in found
-                             if (one := re.fullmatch(rf"{life.tag}\.(\d+)", word)))
             # The last word of a life may be on the disk, and not have been told any more.
-            self.assertIn(numbers, [list(range(life.typed + 1)), list(range(life.typed + 2))], life.tag)
+            self.assertIn(sorted(numbers[life.tag]), [list(range(life.typed + 1)), list(range(life.typed + 2))], life.tag)
 
     def disturb(self, number: int) -> None:
         """Does to a server or a disk what people do. All have all at this moment."""

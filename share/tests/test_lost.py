@@ -6,7 +6,8 @@ import pathlib
 import shutil
 import subprocess
 
-from share.tests.support import Case, RedisServer, change, raws_of, type_at_the_end, wait_for, written
+from share.tests.servers import RedisServer
+from share.tests.support import Case, change, raws_of, type_at_the_end, wait_for, written
 
 
 class InAFile(Case):

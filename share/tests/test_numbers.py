@@ -8,13 +8,14 @@ import time
 from unittest import mock
 
 from share.disk import Client, Disk
-from share.entry import Form
+from share.entry import LENGTH, Entry, Form
 from share.judging import rank
 from share.log import Log
 from share.message import Message, naming
 from share.tests.note import Note
 from share.program import Program
 from share.session import Session
+from share.tests.servers import RedisServer
 from share.tests.support import Case, Person, type_at_the_end, wait_for, written
 
 
@@ -108,20 +109,33 @@ class Numbers(Case):
         first.session.close()
         third.session.close()
         # The other copy never met what was written under its number, and its entry of the same place holds.
-        for number in range(50):
-            for name, now in ("older", "shared"), ("copied", "other"):
-                shutil.rmtree(self.folder / now, ignore_errors=True)
-                shutil.copytree(self.folder / name, self.folder / now)
-            note = self.person("other").open()
-            written(note, f"another-word-{number} ")
-            note.session.close()
-            if note.session.last().hash < last.hash:
-                break
-        notes = [self.opened(person) for person in (self.person("other"), self.anna, self.person("third"))]
+        word = self.word_that_holds_against(last, "long-word ")
+        shutil.rmtree(self.folder / "shared")
+        shutil.copytree(self.folder / "older", self.folder / "shared")
+        other = self.person("copied")
+        note = other.open()
+        written(note, word)
+        note.session.close()
+        self.assertLess(note.session.last().hash, last.hash)
+        notes = [self.opened(person) for person in (other, self.anna, self.person("third"))]
         text = self.assert_meet(*notes).decode()
-        self.assertEqual(sorted(text.split()), sorted(f"one two three long-word third another-word-{number}".split()))
+        self.assertEqual(sorted(text.split()), sorted(f"one two three long-word third {word}".split()))
         told = {note.notice.split(",")[0] for note in notes}
         self.assertIn("You typed after something that doesn't count any more", told)
+
+    def word_that_holds_against(self, entry: Entry, typed: str) -> str:
+        """A word that makes an entry of a smaller hash than what was typed, where it is typed in its place."""
+        (message,) = entry.messages
+        head = message.data[:-LENGTH.size - len(typed)]
+        with contextlib.closing(self.anna.disk()) as disk:
+            (before,) = [row.entry for row in disk.rows() if row.entry.hash == entry.before]
+            (author,) = [one.author for one in disk.clients() if one.site == entry.site]
+            for number in range(100_000):
+                word = f"another-word-{number} "
+                other = Message.read(head + LENGTH.pack(len(word)) + word.encode())
+                if disk.form.entry(before, [other], author, entry.on).hash < entry.hash:
+                    return word
+        raise AssertionError("no word does")
 
     def test_what_came_apart_is_made_anew(self) -> None:
         self.begun()
@@ -328,6 +342,76 @@ class OnAServer(Case):
         type_at_the_end(third, "third ")
         self.assertEqual(self.assert_meet(first, second, third), b"first second third ")
         self.assertEqual(len({note.session.number for note in (first, second, third)}), 3)
+
+    def put_back(self, server: RedisServer) -> tuple[Note, Note, Note]:
+        """A note of a person whose folder was put back, to before the last word, in two editors while the server is
+        away, and in one of another person."""
+        anna = self.person("anna")
+        first = self.opened(anna, url=server.url)
+        written(first, "first ")
+        wait_for(lambda: (first.take_in(), len(self.stood(anna)))[1] > 1, "a number in advance")
+        first.session.close()
+        shutil.copytree(anna.data, self.folder / "backup")
+        berta = self.opened(self.person("berta"), link=anna.link())
+        first = self.opened(anna)
+        written(first, "sent ")
+        first.session.close()
+        self.assert_comes_to(berta, b"first sent ")
+        shutil.rmtree(anna.data)
+        shutil.copytree(self.folder / "backup", anna.data)
+        server.kill()
+        return self.opened(anna), self.opened(anna), berta
+
+    def typed_after_what_isnt_sent(self) -> tuple[Note, Note]:
+        """The two that are left, where one has sent what she typed after a word that nobody else ever gets."""
+        server = self.redis()
+        again, other, berta = self.put_back(server)
+        type_at_the_end(again, "lost ")
+        again.session.close()
+        self.assert_comes_to(other, b"first lost ")
+        other.moved_to(len(other.text))
+        other.type("after ")
+        server.start()
+        wait_for(lambda: other.session.has_sent(other.session.last()), "to be sent what stands after what isn't")
+        return other, berta
+
+    def test_what_was_made_anew_is_waited_for_until_that_is_said(self) -> None:
+        other, berta = self.typed_after_what_isnt_sent()
+        with mock.patch.object(Session, "_say_what_was_made_anew"):
+            # As if she were killed before she says so.
+            wait_for(lambda: (other.take_in(), berta.take_in(), b"after" in berta.text)[2], "it to come")
+            self.assertEqual((other.text, berta.session.status().waiting), (berta.text, 1))
+            other.session.close()
+        self.assert_meet(self.opened(self.person("anna")), berta)
+
+    def test_what_was_typed_after_what_isnt_sent(self) -> None:
+        other, berta = self.typed_after_what_isnt_sent()
+        text = self.assert_meet(other, berta)
+        self.assertEqual(sorted(text.split()), sorted(b"first sent lost after".split()))
+        other.session.close()
+        berta.session.close()
+        for name in "anna", "berta":
+            with self.person(name).here():
+                run = self.note("note", "--print")
+            self.assertEqual((run.returncode, run.stderr, run.stdout), (0, "", text.decode()))
+
+    def test_what_is_typed_under_a_number_that_another_editor_gives_up(self) -> None:
+        server, give_up = self.redis(), Session._given_up
+        again, other, berta = self.put_back(server)
+
+        def given_up(session: Session) -> list[Client]:
+            # The file was read, and the number is locked no more.
+            if session is other.session and again.text == b"first ":
+                again.moved_to(len(again.text))
+                again.type("late ")
+                again.session.close()
+            return give_up(session)
+
+        server.start()
+        wait_for(lambda: other.session._courier.has_read(), "the log to be read")
+        with mock.patch.object(Session, "_given_up", given_up):
+            text = self.assert_meet(other, berta)
+        self.assertEqual(sorted(text.split()), sorted(b"first sent late".split()))
 
     def stood(self, person: Person) -> list[int]:
         """The numbers of a person that can be typed under."""

@@ -46,7 +46,9 @@ class Opened(unittest.TestCase):
 
     def test_what_was_made_is_opened(self) -> None:
         for form in (self.form, Plain(bytes(16))):
-            for entry in chain(form, form.new_author()):
+            author = form.new_author()
+            made = chain(form, author)
+            for entry in *made, form.made_anew(made[-1], author):
                 self.assertEqual(form.open(entry.raw), entry)
 
     def test_the_longest_entry_fits(self) -> None:
@@ -59,6 +61,8 @@ class Opened(unittest.TestCase):
 
     def test_the_same_entry_is_made_twice_with_the_same_bytes(self) -> None:
         self.assertEqual([one.raw for one in chain(Sealed(KEY), self.author)], [one.raw for one in self.made])
+        anew = [form.made_anew(self.made[-1], self.author).raw for form in (self.form, Sealed(KEY))]
+        self.assertEqual(*anew)
 
     def test_other_messages_for_the_same_place_have_another_nonce(self) -> None:
         other = self.form.entry(self.made[0], [deletion(7, 1, at=5)], self.author)
