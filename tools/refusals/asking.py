@@ -3,12 +3,19 @@ from __future__ import annotations
 
 from collections.abc import Sequence
 
-QUERIES = {"text", "runs", "front", "where", "views", "marks", "show"}
+QUERIES = {"text", "runs", "front", "where", "names", "views", "marks", "show"}
 EDITS = {"type", "cut", "looks", "recall", "restore", "save", "key", "click"}
 # Events whose line names no text after its verb.
 OF_THE_SCREEN = {"close", "move", "scroll", "point", "select", "key", "views", "marks", "show", "click"}
 # How the lines of an answer begin that others follow, by the verb; those of an edit are messages.
-FOLLOWED = {"runs": "run ", "front": "front ", "where": "shown ", "views": "viewer ", **dict.fromkeys(EDITS, "send ")}
+FOLLOWED = {
+    "runs": "run ",
+    "front": "front ",
+    "where": "shown ",
+    "names": "name ",
+    "views": "viewer ",
+    **dict.fromkeys(EDITS, "send "),
+}
 LINES_OF_MARKS = 2
 TEXTS = range(1, 17)
 

@@ -76,7 +76,7 @@ def of_texts() -> Sequence[Script]:
         events(
             "where-names-are-shown",
             "1 type 1 0 Hello; 2 take 1 m1; 2 type 1 2 xyz; 1 take 1 m2; 1 where 1 1 0 5; 1 cut 1 1 4; 1 where 1 1 0 5;"
-            "1 where 1 2 0 3",
+            "1 where 1 2 0 3; 1 names 1 0 5; 1 names 1 0 6",
         ),
     ]
 

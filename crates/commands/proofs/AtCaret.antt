@@ -10,7 +10,7 @@ use Rattle.char_files.specs.declared.character.Char.{Char}
 use Rattle.char_files.specs.declared.name.Anchor.{Anchor}
 use Rattle.text_frames.proofs.Places.{place_within}
 use Rattle.texts.specs.Edit.{anchor_before, is_in_text}
-use Rattle.texts.specs.Order.{put}
+use Rattle.texts.specs.Order.{insert_at}
 use Rattle.texts.specs.Outcome.{Shows}
 use Rattle.texts.specs.Text.{IsAnchor, IsText}
 use Rattle.texts.specs.TextState.{TextState, all_told, shown_of}
@@ -33,12 +33,12 @@ use Rattle.desk_windows.specs.Windows.{AreOf, HasMovedTo, IsCaretPlace, WindowsS
 use Rattle.desk_windows.specs.Windows.{window_of as seen_as}
 use Rattle.commands.proofs.Lifting.{HasText}
 use Rattle.commands.proofs.Steps.{Asked, at_text, run_stays}
-use Rattle.commands.specs.Putting.{edit_of, task_of_put}
+use Rattle.commands.specs.Inserting.{edit_of, task_of_insertion}
 use Rattle.commands.specs.Steps.{DeskSeen, IsEditStep, StandsIn, with_desk}
 
 -- what puts characters in shows no less
 
-put_not_shorter : (xs : List Char) (n : ℕ) (run : List Char) → length xs ≤ length (put xs n run)
+put_not_shorter : (xs : List Char) (n : ℕ) (run : List Char) → length xs ≤ length (insert_at xs n run)
 put_not_shorter xs n run =
     let all = length-append (take n xs ++ run) (drop n xs) in
     let before = length-append (take n xs) run in
@@ -73,9 +73,8 @@ inserts_no_less t u pos what r (inl does) =
       | inl done ↦ let (result, messages, edits, shows, replied) = done.1 in shows_no_less t u pos what result shows
       | inr left ↦ stays_as_long t u left.1.1
     ]
-inserts_no_less t u pos what r (inr (within, inl (result, messages, edits, shows, replied))) =
+inserts_no_less t u pos what r (inr (within, (result, messages, edits, shows, replied))) =
     shows_no_less t u pos what result shows
-inserts_no_less t u pos what r (inr (within, inr (some, replied, same))) = stays_as_long t u same
 
 equal_is : (a b : ℕ) → a ≡ b → (a == b) ≡ true
 equal_is a b same = (Decides-eqb a b).1 same
@@ -104,25 +103,25 @@ caret_moves t u was old more =
 module _ (s : State) (i : ℕ) (d : SiteTexts) (w : Screened) (c : Caret) (shown : Window × TextState) where
   put_does : (what : Option (List Item)) (r : Reply) (new : State) → w.caret ≡ Some c
       → window_of d w c.viewer ≡ Some shown → AtCaret EditsAt s i w c shown.0 shown.1 (edit_of what) r new
-      → DoesTask s i d w (task_of_put what) untouched r new
+      → DoesTask s i d w (task_of_insertion what) untouched r new
   put_does (Some items) r new caret at does = inr (c, shown, caret, at, (refl, does))
   put_does None r new caret at does = inr (c, shown, caret, at, (refl, does))
 
   put_short : (what : Option (List Item)) (r : Reply) (new : State) → w.caret ≡ Some c
       → window_of d w c.viewer ≡ Some shown → AtCaret EditsShortAt s i w c shown.0 shown.1 (edit_of what) r new
-      → ShortTask s i d w (task_of_put what) untouched r new
+      → ShortTask s i d w (task_of_insertion what) untouched r new
   put_short (Some items) r new caret at short = (refl, (c, shown, caret, at, short))
   put_short None r new caret at short = (refl, (c, shown, caret, at, short))
 
 -- without a caret it is refused
 put_without_caret : (s : State) (i : ℕ) (d : SiteTexts) (w : Screened) (what : Option (List Item)) (r : Reply)
-    (new : State) → w.caret ≡ None → Refuses s NoCaret r new → DoesTask s i d w (task_of_put what) untouched r new
+    (new : State) → w.caret ≡ None → Refuses s NoCaret r new → DoesTask s i d w (task_of_insertion what) untouched r new
 put_without_caret s i d w (Some items) r new none refused = inl (none, refl, refused)
 put_without_caret s i d w None r new none refused = inl (none, refl, refused)
 
 -- The caret stands in a viewer of a text of the desk, at a position of that, where characters were put in; and the windows
 -- were told.
-pub record IsPutIn (d d' new : SiteTexts) (old mid : WindowsSeen) (place : ℕ × ℕ) (what : Option (List Item))
+pub record IsInsertedIn (d d' new : SiteTexts) (old mid : WindowsSeen) (place : ℕ × ℕ) (what : Option (List Item))
     (result : Result ℕ EditRefusal) (before after : List (List ℕ)) : Type 0 where
   pub c : Caret
   pub window : Window
@@ -155,7 +154,7 @@ anchored d w c shown are is_caret shows =
 pub put_at : (d d' new : SiteTexts) (old mid : WindowsSeen) (place : ℕ × ℕ) (what : Option (List Item)) (result : Result ℕ EditRefusal)
     (before after : List (List ℕ)) → AreOf d old → IsCaretPlace d old (Some place) → HasText d place.0
     → EditsSite d place.0 (edit_of what place.1) result d' before after → Asked d' place.0 new
-    → screened mid ≡ screened old → IsPutIn d d' new old mid place what result before after
+    → screened mid ≡ screened old → IsInsertedIn d d' new old mid place what result before after
 put_at d d' new old mid place what result before after are (c, shown, caret, shows, text, pos) (t, at, is) edited told same =
     let one : t ≡ shown.1 = one_element (slice_get d.texts (shown.0.text - 1)) t shown.1
     (subst (λ (n : ℕ). IsTextOf d n t) text at) (shown_parts d (screened old) c.viewer shown shows).1 in
@@ -177,7 +176,7 @@ put_at d d' new old mid place what result before after are (c, shown, caret, sho
 
 module _ {d d' new : SiteTexts} {old mid : WindowsSeen} {place : ℕ × ℕ} {what : Option (List Item)}
     {result : Result ℕ EditRefusal} {before after : List (List ℕ)}
-    (k : IsPutIn d d' new old mid place what result before after) where
+    (k : IsInsertedIn d d' new old mid place what result before after) where
   open k use {c, window, t, caret, shown, edited, told, same}
 
   parts : (shown_by c.viewer (screened old).windows ≡ Some window) × IsTextOf d window.text t
@@ -268,9 +267,9 @@ module _ {d d' new : SiteTexts} {old mid : WindowsSeen} {place : ℕ × ℕ} {wh
 
   -- so what is put in is one step of every run in which the desk stands
   put_step : (seen : DeskSeen) (w : Screened) → record { texts = d; screen = screened old } ≡ seen → CaretIsSet w
-      → IsEditStep seen (λ i. ask i (task_of_put what)) result (record { texts = new; screen = w }) before after
+      → IsEditStep seen (λ i. ask i (task_of_insertion what)) result (record { texts = new; screen = w }) before after
   put_step seen w is set =
-      subst (λ (x : DeskSeen). IsEditStep x (λ i. ask i (task_of_put what)) result (record { texts = new; screen = w }) before after) is
+      subst (λ (x : DeskSeen). IsEditStep x (λ i. ask i (task_of_insertion what)) result (record { texts = new; screen = w }) before after) is
       (messages, edited.3.1, steps)
     where
       there_in_mid : (s : State) (i : ℕ) → StandsIn s i (record { texts = d; screen = screened old })
@@ -288,7 +287,7 @@ module _ {d d' new : SiteTexts} {old mid : WindowsSeen} {place : ℕ × ℕ} {wh
       }
 
       steps : (s : State) (i : ℕ) → StandsIn s i (record { texts = d; screen = screened old }) → s.sent ≡ before
-          → Replies s (ask i (task_of_put what)) untouched (edit_reply result messages)
+          → Replies s (ask i (task_of_insertion what)) untouched (edit_reply result messages)
           (with_desk s i (record { texts = new; screen = w }) after)
       steps s i stands sent =
           let more : after ≡ s.sent ++ messages_of (edit_reply result messages) =
@@ -357,7 +356,7 @@ module _ {d d' new : SiteTexts} {old mid : WindowsSeen} {place : ℕ × ℕ} {wh
     -- the caret moves where the text has become longer
     pub moved_step : (seen : DeskSeen) (end : WindowsSeen) → record { texts = d; screen = screened old } ≡ seen → n < m
         → HasMovedTo new mid (place.1 + (m - n)) end
-        → IsEditStep seen (λ i. ask i (task_of_put what)) result (record { texts = new; screen = screened end }) before after
+        → IsEditStep seen (λ i. ask i (task_of_insertion what)) result (record { texts = new; screen = screened end }) before after
     moved_step seen end is more moved =
         put_step seen (screened end) is (set_by_move end (omega arith)
         (moved c (window, all_told text_then) caret_there shows_then ∙ (λ j. record (screened mid) {
@@ -366,15 +365,15 @@ module _ {d d' new : SiteTexts} {old mid : WindowsSeen} {place : ℕ × ℕ} {wh
 
     -- and else it stays
     pub stayed_step : (seen : DeskSeen) → record { texts = d; screen = screened old } ≡ seen → m ≤ n
-        → IsEditStep seen (λ i. ask i (task_of_put what)) result (record { texts = new; screen = screened mid }) before after
+        → IsEditStep seen (λ i. ask i (task_of_insertion what)) result (record { texts = new; screen = screened mid }) before after
     stayed_step seen is no_more = put_step seen (screened mid) is (set_by_none (omega arith))
 
 -- without a caret nothing is put in
 pub no_caret_step : (seen : DeskSeen) (d : SiteTexts) (w : Screened) → record { texts = d; screen = w } ≡ seen
     → w.caret ≡ None → (what : Option (List Item)) (sent : List (List ℕ))
-    → IsEditStep seen (λ i. ask i (task_of_put what)) (Err (Whole NoCaret)) seen sent sent
+    → IsEditStep seen (λ i. ask i (task_of_insertion what)) (Err (Whole NoCaret)) seen sent sent
 no_caret_step seen d w is none what sent =
-    subst (λ (x : DeskSeen). IsEditStep x (λ i. ask i (task_of_put what)) (Err (Whole NoCaret)) x sent sent) is (
+    subst (λ (x : DeskSeen). IsEditStep x (λ i. ask i (task_of_insertion what)) (Err (Whole NoCaret)) x sent sent) is (
       [],
       tt,
       λ s i stands same. inl (

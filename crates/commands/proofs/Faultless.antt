@@ -13,9 +13,9 @@ use Rattle.texts.specs.declared.edit_refusal.EditRefusal.{EditRefusal}
 use Rattle.texts.specs.declared.edit_refusal.EditRefusal.TheVariants.{Whole, Partial}
 use Rattle.viewers.specs.declared.screen.Track.{Track}
 use Rattle.machine.specs.SiteTexts.{SiteTexts}
-use Rattle.machine.specs.Commands.{Change, dress_marked, with_told}
+use Rattle.machine.specs.Commands.{Change, dress_marked, with_value}
 use Rattle.machine.specs.Events.{Reply, Task, arrange, ask, change, done, edit_reply, forget, keep, load, opens, print}
-use Rattle.machine.specs.Events.{put, put_recalled, refuse, refuses, reopen, search, store, untouched}
+use Rattle.machine.specs.Events.{insert_at_caret, recall_at_caret, refuse, refuses, reopen, search, store, untouched}
 use Rattle.machine.specs.Machine.{Replies}
 use Rattle.machine.specs.OnTexts.{EditsText, EditsTextShort}
 use Rattle.machine.specs.State.{Refuses, State, with_screen_at}
@@ -96,9 +96,8 @@ text_sound e r t new does =
     ]
 
 text_sound_short : (e : Edit) (r : Reply) (t new : TextState) → EditsTextShort e r t new → IsSoundReply r
-text_sound_short e r t new (within, inl (result, messages, edits, shows, replied)) =
+text_sound_short e r t new (within, (result, messages, edits, shows, replied)) =
     subst IsSoundReply (sym replied) (edit_sound_short t (plan t e) result new messages edits)
-text_sound_short e r t new (within, inr (some, replied, same)) = subst IsSoundReply (sym replied) refl
 
 -- an edit of a run's text
 run_sound : (s : State) (i text : ℕ) (e : Edit) (r : Reply) (mid : State) → EditsAt s i text e r mid → IsSoundReply r
@@ -143,8 +142,8 @@ arranged_sound (Err why) s i r new sound (is, is_new) = subst IsSoundReply (sym 
 -- a refusal is for another reason, and no more is arranged or filed than a command asks for
 abbrev IsSoundTask : Task → Type 0
 IsSoundTask (refuse why) = IsSound why
-IsSoundTask (put items) = ⊤
-IsSoundTask put_recalled = ⊤
+IsSoundTask (insert_at_caret items) = ⊤
+IsSoundTask recall_at_caret = ⊤
 IsSoundTask (load name) = ⊤
 IsSoundTask (store text name) = ⊤
 IsSoundTask (search bytes) = ⊤
@@ -164,11 +163,11 @@ module _ (s : State) (i : ℕ) (d : SiteTexts) (w : Screened) where
   does_sound : (task : Task) (r : Reply) (new : State) → IsSoundTask task → DoesTask s i d w task untouched r new
       → IsSoundReply r
   does_sound (refuse why) r new sound (part, (is, same)) = subst IsSoundReply (sym is) sound
-  does_sound (put items) r new sound (inl (none, part, (is, same))) = subst IsSoundReply (sym is) refl
-  does_sound (put items) r new sound (inr (c, shown, caret, at, (part, (mid, t', does, there, is_new)))) =
+  does_sound (insert_at_caret items) r new sound (inl (none, part, (is, same))) = subst IsSoundReply (sym is) refl
+  does_sound (insert_at_caret items) r new sound (inr (c, shown, caret, at, (part, (mid, t', does, there, is_new)))) =
       run_sound s i shown.0.text (insertion (place_in shown.1 c.anchor) items) r mid does
-  does_sound put_recalled r new sound (inl (none, part, (is, same))) = subst IsSoundReply (sym is) refl
-  does_sound put_recalled r new sound (inr (c, shown, caret, at, (part, (mid, t', does, there, is_new)))) =
+  does_sound recall_at_caret r new sound (inl (none, part, (is, same))) = subst IsSoundReply (sym is) refl
+  does_sound recall_at_caret r new sound (inr (c, shown, caret, at, (part, (mid, t', does, there, is_new)))) =
       run_sound s i shown.0.text (recalling (place_in shown.1 c.anchor)) r mid does
   does_sound (load name) r new sound (inl (none, part, (is, same))) = subst IsSoundReply (sym is) refl
   does_sound (load name) r new sound (inr (c, shown, caret, at, loads)) = absurd loads
@@ -195,11 +194,11 @@ module _ (s : State) (i : ℕ) (d : SiteTexts) (w : Screened) where
 
   short_sound : (task : Task) (r : Reply) (new : State) → ShortTask s i d w task untouched r new → IsSoundReply r
   short_sound (refuse why) r new short = absurd short
-  short_sound (put items) r new (part, (c, shown, caret, at, (mid, t', does, there, is_new))) =
+  short_sound (insert_at_caret items) r new (part, (c, shown, caret, at, (mid, t', does, there, is_new))) =
       run_sound_short s i shown.0.text (insertion (place_in shown.1 c.anchor) items) r mid does
-  short_sound put_recalled r new (part, (c, shown, caret, at, (mid, t', does, there, is_new))) =
+  short_sound recall_at_caret r new (part, (c, shown, caret, at, (mid, t', does, there, is_new))) =
       run_sound_short s i shown.0.text (recalling (place_in shown.1 c.anchor)) r mid does
-  short_sound (load name) r new (c, shown, caret, at, (is, same)) = subst IsSoundReply (sym is) refl
+  short_sound (load name) r new (c, shown, caret, at, does) = absurd does
   short_sound (store text name) r new (part, long, (is, same)) = subst IsSoundReply (sym is) refl
   short_sound (search bytes) r new short = absurd short
   short_sound (change text e) r new (part, does) = run_sound_short s i text e r new does
@@ -212,7 +211,7 @@ module _ (s : State) (i : ℕ) (d : SiteTexts) (w : Screened) where
   short_sound (arrange (Select beg end)) r new short = absurd short
   short_sound (print v) r new (part, (is, same)) = subst IsSoundReply (sym is) refl
   short_sound (keep text name) r new (part, few, (is, same)) = subst IsSoundReply (sym is) refl
-  short_sound (reopen text name) r new (fresh, (is, same)) = subst IsSoundReply (sym is) refl
+  short_sound (reopen text name) r new (fresh, does) = absurd does
 
 replies_sound : (s : State) (i : ℕ) (task : Task) (r : Reply) (new : State) → IsSoundTask task
     → Replies s (ask i task) untouched r new → IsSoundReply r
@@ -262,7 +261,7 @@ edit_step_sound seen new task result before after sound (messages, counts, steps
 -- ---- the tasks of commands
 
 pub told_sound : {X : Type 0} (told : Option X) (task : X → Task) → ((x : X) → IsSoundTask (task x))
-    → IsSoundTask (with_told told task)
+    → IsSoundTask (with_value told task)
 told_sound None task sound = refl
 told_sound (Some x) task sound = sound x
 

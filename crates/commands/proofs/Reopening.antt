@@ -5,7 +5,7 @@ use Rattle.std.proofs.lemmas.Bool.{and_parts}
 use Rattle.looks.specs.declared.refusal.Refusal.{Refusal}
 use Rattle.looks.specs.declared.refusal.Refusal.TheVariants.{BadFile, Conflict, OutOfMemory, ReadFault, WrongText}
 use Rattle.operations.specs.Operation.{Operation}
-use Rattle.shelf.specs.Files.{Files, HasFile, SameFiles}
+use Rattle.shelf.specs.Files.{Counts, Files, HasFile, IsThere, SameFiles}
 use Rattle.texts.specs.SiteFiles.{IsNoSiteFile, IsSiteFileOf}
 use Rattle.texts.specs.Taking.{HasTakenAll}
 use Rattle.texts.specs.Text.{IsText}
@@ -22,11 +22,11 @@ use Rattle.machine_laws.proofs.Telling.{put_back}
 use Rattle.machine_laws.specs.Growing.{Grows}
 use Rattle.commands.proofs.Following.{is_new}
 use Rattle.commands.proofs.Lifting.{HasText}
-use Rattle.commands.proofs.Shelves.{files_of, files_read, files_same, refused_over, same_of}
+use Rattle.commands.proofs.Shelves.{files_of, files_read, files_same, files_there, refused_over, same_of}
 use Rattle.commands.specs.Filing.{BeginsSo, ReadsNot}
 use Rattle.commands.specs.declared.answer.Answer.{Answer}
 use Rattle.commands.specs.declared.answer.Answer.TheVariants.{Done}
-use Rattle.commands.specs.Steps.{AreTold, DeskSeen, IsShelfStep, StandsIn, with_desk}
+use Rattle.commands.specs.Steps.{AreTold, DeskSeen, IsShelfStep, ShelfSeen, StandsIn, with_desk}
 
 -- a text in which nothing was done yet has no operations
 pub none_taken : (ops waiting : List Operation) → nat_lt 0 (length ops + length waiting) ≡ false → ops ≡ []
@@ -50,12 +50,12 @@ pub replaced_grows : (d d' : SiteTexts) (text : ℕ) (kept : TextState) → HasT
     → ((t : TextState) → IsTextOf d text t → has_begun t ≡ false)
     → HasTakenAll (empty_text kept.text kept.site) kept.operations kept → InText (λ _ u. u ≡ kept) d text d'
     → InText Grows d text d'
-replaced_grows d d' text kept (t, at, is) told fresh taken (u, v, there, put, changed) =
+replaced_grows d d' text kept (t, at, is) told fresh taken (u, v, there, insert_at_caret, changed) =
     let same : t ≡ u = one_element (slice_get d.texts (text - 1)) t u at there in (
       u,
       v,
       there,
-      subst (Grows u) (sym put) (kept_grows u kept (subst IsText same is) (fresh u there) (told text u there) taken),
+      subst (Grows u) (sym insert_at_caret) (kept_grows u kept (subst IsText same is) (fresh u there) (told text u there) taken),
       changed,
     )
 
@@ -65,9 +65,9 @@ pub replaced_now : (d d' new : SiteTexts) (text : ℕ) (kept : TextState) → Ha
     → HasTakenAll (empty_text kept.text kept.site) kept.operations kept → InText (λ _ u. u ≡ kept) d text d'
     → InText (λ t u. u ≡ all_told t) d' text new → new ≡ with_text d text (all_told kept)
 unfolding replaced_grows
-replaced_now d d' new text kept (t, at, is) told fresh taken (u, v, there, put, changed) asked =
-    is_new d d' new text told (replaced_grows d d' text kept (t, at, is) told fresh taken (u, v, there, put, changed)) asked
-    ∙ ap (λ (x : TextState). with_text d text (all_told x)) put
+replaced_now d d' new text kept (t, at, is) told fresh taken (u, v, there, insert_at_caret, changed) asked =
+    is_new d d' new text told (replaced_grows d d' text kept (t, at, is) told fresh taken (u, v, there, insert_at_caret, changed)) asked
+    ∙ ap (λ (x : TextState). with_text d text (all_told x)) insert_at_caret
 
 -- what becomes of it
 pub begins_apart : (seen : DeskSeen) (text : ℕ) (t kept : TextState) (told : Bool) → IsTextOf seen.texts text t
@@ -87,59 +87,64 @@ module _ (d : SiteTexts) (w : Screened) (text : ℕ) (t : TextState) (there : Is
   abbrev pub seen : DeskSeen
   seen = record { texts = d; screen = w }
 
-  abbrev ReopensSo : Result Answer EditRefusal → DeskSeen → (sent : List (List ℕ)) → (told told' : Option Files) → Type 0
+  abbrev ReopensSo : Result Answer EditRefusal → DeskSeen → (sent : List (List ℕ)) → (told told' : ShelfSeen) → Type 0
   ReopensSo result new sent told told' = IsShelfStep seen (λ i. ask i (reopen text name)) result new sent sent told told'
 
   -- one in which something was done isn't reopened, and no file is read
-  pub begun_step : (told : Option Files) (sent : List (List ℕ)) → has_begun t ≡ true
+  pub begun_step : (told : ShelfSeen) (sent : List (List ℕ)) → has_begun t ≡ true
       → ReopensSo (Err (Whole Conflict)) seen sent told told
   begun_step told sent begun =
-      refused_over d w (reopen text name) told told untouched Conflict (files_of told) (files_of told) sent (same_of told) refl
+      refused_over d w (reopen text name) told told untouched Conflict (files_of told.files) (files_of told.files) sent
+      (same_of told.files) refl refl
       (λ s i new stands is refused. inl (t, (d, stands.texts, there), rw begun (refl, refused)))
 
-  module _ (fresh : has_begun t ≡ false) (told told' : Option Files) (same : SameFiles told told') (sent : List (List ℕ)) where
+  module _ (fresh : has_begun t ≡ false) (told told' : ShelfSeen) (same : SameFiles told.files told'.files) (sent : List (List ℕ)) where
     -- what it begins with
     reopens : (s : State) (i : ℕ) (part : Part) (r : Reply) (new : State) → IsDeskAt s i d w
         → Reopens s i text t name part r new → DoesTask s i d w (reopen text name) part r new
     reopens s i part r new stands goes = (t, (d, stands.texts, there), rw fresh goes)
 
     -- the shelf fails
-    unread : ReopensSo (Err (Whole ReadFault)) seen sent told told'
-    unread =
-        let (files, files', are, stay) = files_same told told' same in
-        refused_over d w (reopen text name) told told' (failed None) ReadFault files files' sent are stay
+    unread : Counts told.faults told'.faults → ReopensSo (Err (Whole ReadFault)) seen sent told told'
+    unread counted =
+        let (files, files', are, stay) = files_same told.files told'.files same in
+        refused_over d w (reopen text name) told told' (failed None) ReadFault files files' sent are counted stay
         (λ s i new stands is refused. inl (reopens s i (failed None) (refuses ReadFault) new stands refused))
 
     -- memory is short
-    short : ReopensSo (Err (Whole OutOfMemory)) seen sent told told'
-    short =
-        let (files, files', are, stay) = files_same told told' same in
-        refused_over d w (reopen text name) told told' untouched OutOfMemory files files' sent are stay
-        (λ s i new stands is refused. inr ((t, (d, stands.texts, there), fresh), refused))
+    short : IsThere told.files name → told'.faults ≡ told.faults → ReopensSo (Err (Whole OutOfMemory)) seen sent told told'
+    short has unfailed =
+        let (files, files', are, stay, (file, read)) = files_there told.files told'.files name same has in
+        refused_over d w (reopen text name) told told' went_well OutOfMemory files files' sent are unfailed stay
+        (λ s i new stands is refused.
+        inr ((t, (d, stands.texts, there), fresh), (file, ap (λ (f : Files). f name) is ∙ read, refused)))
 
     -- the file is no site's
-    bad : (file : List ℕ) → HasFile told name file → IsNoSiteFile file → ReopensSo (Err (Whole BadFile)) seen sent told told'
-    bad file has none =
-        let (files, files', are, stay, read) = files_read told told' name file same has in
-        refused_over d w (reopen text name) told told' went_well BadFile files files' sent are stay
+    bad : (file : List ℕ) → told'.faults ≡ told.faults → HasFile told.files name file → IsNoSiteFile file
+        → ReopensSo (Err (Whole BadFile)) seen sent told told'
+    bad file unfailed has none =
+        let (files, files', are, stay, read) = files_read told.files told'.files name file same has in
+        refused_over d w (reopen text name) told told' went_well BadFile files files' sent are unfailed stay
         (λ s i new stands is refused. inl (reopens s i went_well (refuses BadFile) new stands
         (file, ap (λ (f : Files). f name) is ∙ read, inl (none, refused))))
 
-    pub unread_step : (why : Refusal) → ReadsNot IsNoSiteFile told name why → ReopensSo (Err (Whole why)) seen sent told told'
-    unread_step why (inl fault) = subst (λ (e : Refusal). ReopensSo (Err (Whole e)) seen sent told told') (sym fault) unread
-    unread_step why (inr (inl memory)) =
-        subst (λ (e : Refusal). ReopensSo (Err (Whole e)) seen sent told told') (sym memory) short
-    unread_step why (inr (inr (is_bad, (file, has, none)))) =
-        subst (λ (e : Refusal). ReopensSo (Err (Whole e)) seen sent told told') (sym is_bad) (bad file has none)
+    pub unread_step : (why : Refusal) → ReadsNot IsNoSiteFile told told' name why → ReopensSo (Err (Whole why)) seen sent told told'
+    unread_step why (inl (fault, counted)) =
+        subst (λ (e : Refusal). ReopensSo (Err (Whole e)) seen sent told told') (sym fault) (unread counted)
+    unread_step why (inr (inl (memory, has, unfailed))) =
+        subst (λ (e : Refusal). ReopensSo (Err (Whole e)) seen sent told told') (sym memory) (short has unfailed)
+    unread_step why (inr (inr (is_bad, unfailed, (file, has, none)))) =
+        subst (λ (e : Refusal). ReopensSo (Err (Whole e)) seen sent told told') (sym is_bad) (bad file unfailed has none)
 
-    module _ (kept : TextState) (file : List ℕ) (has : HasFile told name file)
+    module _ (kept : TextState) (file : List ℕ) (has : HasFile told.files name file)
         (of : IsSiteFileOf kept.text kept.site kept.operations file)
-        (taken : HasTakenAll (empty_text kept.text kept.site) kept.operations kept) where
+        (taken : HasTakenAll (empty_text kept.text kept.site) kept.operations kept)
+        (unfailed : told'.faults ≡ told.faults) where
       -- it is another text's, or another site's
       other : (kept.text == t.text && kept.site == t.site) ≡ false → ReopensSo (Err (Whole WrongText)) seen sent told told'
       other apart =
-          let (files, files', are, stay, read) = files_read told told' name file same has in
-          refused_over d w (reopen text name) told told' went_well WrongText files files' sent are stay
+          let (files, files', are, stay, read) = files_read told.files told'.files name file same has in
+          refused_over d w (reopen text name) told told' went_well WrongText files files' sent are unfailed stay
           (λ s i new stands is refused. inl (reopens s i went_well (refuses WrongText) new stands
           (file, ap (λ (f : Files). f name) is ∙ read, inr (kept.text, kept.site, kept.operations, of, rw apart refused))))
 
@@ -175,13 +180,14 @@ module _ (d : SiteTexts) (w : Screened) (text : ℕ) (t : TextState) (there : Is
 
       begins : (kept.text == t.text && kept.site == t.site) ≡ true → ReopensSo (Ok Done) now sent told told'
       begins same_copy =
-          let (files, files', are, stay, read) = files_read told told' name file same has in (
+          let (files, files', are, stay, read) = files_read told.files told'.files name file same has in (
             [],
             went_well,
             files,
             files',
             tt,
             are,
+            unfailed,
             λ s i stands is_sent is. inl (
               d,
               w,

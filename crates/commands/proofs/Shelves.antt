@@ -1,6 +1,7 @@
 -- Steps of the run over the files that a shelf tells.
 use Rattle.std.proofs.Common.{◌≡◌, ◌≢◌, ◌⊎◌, ℕ, ◌≤◌, List, [], length, Option, Some, None, Result, Ok, Err, refl, sym, ap, subst, ◌∙◌, inl, inr}
-use Rattle.std.specs.Prelude.{IfOk, slice_get}
+use Rattle.std.specs.Prelude.{IfOk, IsSome, slice_get}
+use Rattle.std.proofs.lemmas.Bool.{false≢true}
 use Rattle.looks.specs.declared.refusal.Refusal.{Refusal}
 use Rattle.looks.specs.declared.refusal.Refusal.TheVariants.{BadFile, NoCaret, OutOfMemory, ReadFault, WriteFault}
 use Rattle.char_files.specs.Stretch.{Item}
@@ -8,7 +9,7 @@ use Rattle.text_file.specs.Files.{IsFileOf, IsNoFile, formatted}
 use Rattle.text_file.specs.declared.TheConstants.{MAX_TEXT as MAX_STORED}
 use Rattle.command_words.specs.declared.command.Command.{Command}
 use Rattle.reader_scanner.specs.declared.token.TokenValue.{TokenValue}
-use Rattle.shelf.specs.Files.{Files, HasFile, OthersStay, SameFiles}
+use Rattle.shelf.specs.Files.{Counts, Files, HasFile, IsThere, OthersStay, SameFiles}
 use Rattle.texts.specs.SiteFiles.{site_bytes}
 use Rattle.texts.specs.TextState.{TextState, shown_items}
 use Rattle.texts.specs.declared.TheConstants.{MAX_KEPT}
@@ -16,7 +17,7 @@ use Rattle.texts.specs.declared.edit_refusal.EditRefusal.{EditRefusal}
 use Rattle.texts.specs.declared.edit_refusal.EditRefusal.TheVariants.{Whole}
 use Rattle.machine.specs.SiteTexts.{SiteTexts, IsTextOf}
 use Rattle.machine.specs.Commands.{IsTaskAt, task_of}
-use Rattle.machine.specs.Events.{Part, Reply, Task, ask, click, done, edit_reply, failed, keep, load, put, refuses, store}
+use Rattle.machine.specs.Events.{Part, Reply, Task, ask, click, done, edit_reply, failed, keep, load, insert_at_caret, refuses, store}
 use Rattle.machine.specs.Events.{untouched, went_well}
 use Rattle.machine.specs.Machine.{Replies}
 use Rattle.machine.specs.State.{IsDeskAt, Refuses, State}
@@ -27,7 +28,7 @@ use Rattle.commands.proofs.Steps.{run_stays}
 use Rattle.commands.specs.Filing.{ReadsText, WritesFile, WritesNot, WritesSite, WritesText}
 use Rattle.commands.specs.declared.answer.Answer.{Answer}
 use Rattle.commands.specs.declared.answer.Answer.TheVariants.{Done}
-use Rattle.commands.specs.Steps.{AreFilesOf, CountsSent, DeskSeen, IsEditStep, IsShelfStep, IsTaskStep, StandsIn, answer_reply, sent_answer}
+use Rattle.commands.specs.Steps.{AreFilesOf, Counted, CountsSent, DeskSeen, IsEditStep, IsShelfStep, IsTaskStep, ShelfSeen, StandsIn, answer_reply, sent_answer}
 use Rattle.commands.specs.Steps.{with_desk, written_answer}
 
 -- some files that a shelf tells
@@ -63,18 +64,19 @@ sent_replies (Ok count) messages = refl
 sent_replies (Err why) messages = refl
 
 -- a task that asks for no file is a step over any
-module _ (seen new : DeskSeen) (task : Task) (told : Option Files) where
+module _ (seen new : DeskSeen) (task : Task) (told : ShelfSeen) where
   pub task_over : (result : Result Answer EditRefusal) (sent : List (List ℕ)) → IsTaskStep seen task result new
       → IsShelfStep seen (λ i. ask i task) result new sent sent told told
   task_over result sent (counts, steps) = (
     [],
     untouched,
-    files_of told,
-    files_of told,
+    files_of told.files,
+    files_of told.files,
     counts,
-    same_of told,
+    same_of told.files,
+    refl,
     λ s i stands same is. subst (Replies s (ask i task) untouched (answer_reply result []))
-        ((λ k. with_desk s i new (same k)) ∙ over_files s i new sent (files_of told) (files_of told) is refl)
+        ((λ k. with_desk s i new (same k)) ∙ over_files s i new sent (files_of told.files) (files_of told.files) is refl)
         (steps s i stands),
   )
 
@@ -85,15 +87,16 @@ module _ (seen new : DeskSeen) (task : Task) (told : Option Files) where
   edit_over result before after (messages, counts, steps) = (
     messages,
     untouched,
-    files_of told,
-    files_of told,
+    files_of told.files,
+    files_of told.files,
     sent_counts result messages counts,
-    same_of told,
+    same_of told.files,
+    refl,
     λ s i stands same is.
-        subst (λ (r : Reply). Replies s (ask i task) untouched r (record (with_desk s i new after) { files = files_of told }))
+        subst (λ (r : Reply). Replies s (ask i task) untouched r (record (with_desk s i new after) { files = files_of told.files }))
         (sent_replies result messages)
         (subst (Replies s (ask i task) untouched (edit_reply result messages))
-        (over_files s i new after (files_of told) (files_of told) is refl) (steps s i stands same)),
+        (over_files s i new after (files_of told.files) (files_of told.files) is refl) (steps s i stands same)),
   )
 
 -- files of a shelf from which this one was read
@@ -112,6 +115,20 @@ files_same None None same = (λ _. None, λ _. None, tt, refl)
 files_same None (Some now) same = absurd same
 files_same (Some was) None same = absurd same
 files_same (Some was) (Some now) same = (was, now, (refl, refl), λ k. λ other. same other k)
+
+value_of : (x : Option (List ℕ)) → IsSome x → (file : List ℕ) × (x ≡ Some file)
+value_of None none = absurd (false≢true none)
+value_of (Some file) some = (file, refl)
+
+-- or memory was refused to one that is there
+pub files_there : (told told' : Option Files) (name : List ℕ) → SameFiles told told' → IsThere told name
+    → (files files' : Files) × AreFilesOf told told' files files' × (files' ≡ files)
+    × ((file : List ℕ) × (files name ≡ Some file))
+files_there None None name same there = (λ _. Some [], λ _. Some [], tt, refl, ([], refl))
+files_there None (Some now) name same there = absurd same
+files_there (Some was) None name same there = absurd same
+files_there (Some was) (Some now) name same there =
+    (was, now, (refl, refl), λ k. λ other. same other k, value_of (was name) there)
 
 -- files of a shelf to which this one was written
 pub files_written : (told told' : Option Files) (name file : List ℕ) → OthersStay told told' name → HasFile told' name file
@@ -132,7 +149,7 @@ files_failed (Some was) None name stay = absurd stay
 files_failed (Some was) (Some now) name stay = (was, now, (refl, refl), stay)
 
 -- a task of a desk that is refused, over the files that the shelf tells
-module _ (d : SiteTexts) (w : Screened) (task : Task) (told told' : Option Files) where
+module _ (d : SiteTexts) (w : Screened) (task : Task) (told told' : ShelfSeen) where
   abbrev its_desk : DeskSeen
   its_desk = record { texts = d; screen = w }
 
@@ -148,15 +165,16 @@ module _ (d : SiteTexts) (w : Screened) (task : Task) (told told' : Option Files
   replies_so s i part r new stands (inr short) = inr (d, w, stands, short)
 
   pub refused_over : (part : Part) (why : Refusal) (files files' : Files) (sent : List (List ℕ))
-      → AreFilesOf told told' files files' → files' ≡ files → GoesSo part why files
+      → AreFilesOf told.files told'.files files files' → Counted part told.faults told'.faults → files' ≡ files → GoesSo part why files
       → IsShelfStep its_desk (λ i. ask i task) (Err (Whole why)) its_desk sent sent told told'
-  refused_over part why files files' sent are stay goes = (
+  refused_over part why files files' sent are counted stay goes = (
     [],
     part,
     files,
     files',
     tt,
     are,
+    counted,
     λ s i stands same is. replies_so s i part (refuses why) (record (with_desk s i its_desk sent) { files = files' })
         stands
         (goes s i (record (with_desk s i its_desk sent) { files = files' }) stands is
@@ -164,49 +182,54 @@ module _ (d : SiteTexts) (w : Screened) (task : Task) (told told' : Option Files
   )
 
 -- a load at the caret
-module _ (d : SiteTexts) (w : Screened) (name : List ℕ) (told told' : Option Files) (same : SameFiles told told') where
+module _ (d : SiteTexts) (w : Screened) (name : List ℕ) (told told' : ShelfSeen) (same : SameFiles told.files told'.files) where
   abbrev LoadsSo : Result Answer EditRefusal → DeskSeen → (before after : List (List ℕ)) → Type 0
   LoadsSo result new before after =
       IsShelfStep (record { texts = d; screen = w }) (λ i. ask i (load name)) result new before after told told'
 
   module _ (c : Caret) (shown : Window × TextState) (caret : w.caret ≡ Some c) (at : window_of d w c.viewer ≡ Some shown) where
     -- the shelf fails
-    load_unread : (sent : List (List ℕ)) → LoadsSo (Err (Whole ReadFault)) (record { texts = d; screen = w }) sent sent
-    load_unread sent =
-        let (files, files', are, stay) = files_same told told' same in
-        refused_over d w (load name) told told' (failed None) ReadFault files files' sent are stay
+    load_unread : (sent : List (List ℕ)) → Counts told.faults told'.faults
+        → LoadsSo (Err (Whole ReadFault)) (record { texts = d; screen = w }) sent sent
+    load_unread sent counted =
+        let (files, files', are, stay) = files_same told.files told'.files same in
+        refused_over d w (load name) told told' (failed None) ReadFault files files' sent are counted stay
         (λ s i new stands is refused. inl (inr (c, shown, caret, at, refused)))
 
     -- memory is short
-    load_short : (sent : List (List ℕ)) → LoadsSo (Err (Whole OutOfMemory)) (record { texts = d; screen = w }) sent sent
-    load_short sent =
-        let (files, files', are, stay) = files_same told told' same in
-        refused_over d w (load name) told told' untouched OutOfMemory files files' sent are stay
-        (λ s i new stands is refused. inr (c, shown, caret, at, refused))
+    load_short : (sent : List (List ℕ)) → IsThere told.files name → told'.faults ≡ told.faults
+        → LoadsSo (Err (Whole OutOfMemory)) (record { texts = d; screen = w }) sent sent
+    load_short sent there unfailed =
+        let (files, files', are, stay, (file, has)) = files_there told.files told'.files name same there in
+        refused_over d w (load name) told told' went_well OutOfMemory files files' sent are unfailed stay
+        (λ s i new stands is refused.
+        inr (c, shown, caret, at, (file, ap (λ (f : Files). f name) is ∙ has, inl refused)))
 
     -- the file is no text's
-    load_bad : (file : List ℕ) (sent : List (List ℕ)) → HasFile told name file → IsNoFile file
+    load_bad : (file : List ℕ) (sent : List (List ℕ)) → told'.faults ≡ told.faults → HasFile told.files name file → IsNoFile file
         → LoadsSo (Err (Whole BadFile)) (record { texts = d; screen = w }) sent sent
-    load_bad file sent has no_file =
-        let (files, files', are, stay, there) = files_read told told' name file same has in
-        refused_over d w (load name) told told' went_well BadFile files files' sent are stay
+    load_bad file sent unfailed has no_file =
+        let (files, files', are, stay, there) = files_read told.files told'.files name file same has in
+        refused_over d w (load name) told told' went_well BadFile files files' sent are unfailed stay
         (λ s i new stands is refused.
         inl (inr (c, shown, caret, at, (file, ap (λ (f : Files). f name) is ∙ there, inl (no_file, refused)))))
 
-    pub load_fails : (why : Refusal) (sent : List (List ℕ)) → ReadsText told name (Err why)
+    pub load_fails : (why : Refusal) (sent : List (List ℕ)) → ReadsText told told' name (Err why)
         → LoadsSo (Err (Whole why)) (record { texts = d; screen = w }) sent sent
-    load_fails why sent (inl fault) =
-        subst (λ (e : Refusal). LoadsSo (Err (Whole e)) (record { texts = d; screen = w }) sent sent) (sym fault) (load_unread sent)
-    load_fails why sent (inr (inl short)) =
-        subst (λ (e : Refusal). LoadsSo (Err (Whole e)) (record { texts = d; screen = w }) sent sent) (sym short) (load_short sent)
-    load_fails why sent (inr (inr (bad, (file, has, no_file)))) =
+    load_fails why sent (inl (fault, counted)) =
+        subst (λ (e : Refusal). LoadsSo (Err (Whole e)) (record { texts = d; screen = w }) sent sent) (sym fault)
+        (load_unread sent counted)
+    load_fails why sent (inr (inl (short, there, unfailed))) =
+        subst (λ (e : Refusal). LoadsSo (Err (Whole e)) (record { texts = d; screen = w }) sent sent) (sym short)
+        (load_short sent there unfailed)
+    load_fails why sent (inr (inr (bad, unfailed, (file, has, no_file)))) =
         subst (λ (e : Refusal). LoadsSo (Err (Whole e)) (record { texts = d; screen = w }) sent sent) (sym bad)
-        (load_bad file sent has no_file)
+        (load_bad file sent unfailed has no_file)
 
     -- the file's characters are put in
     module _ (file : List ℕ) (items : List Item) (of : IsFileOf items file) where
       put_loads : (s : State) (i : ℕ) (r : Reply) (new : State) → IsDeskAt s i d w → s.files name ≡ Some file
-          → Replies s (ask i (put items)) untouched r new → Replies s (ask i (load name)) went_well r new
+          → Replies s (ask i (insert_at_caret items)) untouched r new → Replies s (ask i (load name)) went_well r new
       put_loads s i r new stands there (inl (d', w', stands', inl (none, part, refused))) =
           let one : w' ≡ w = one_element (slice_get s.screens i) w' w stands'.screen stands.screen in
           let lost : w.caret ≡ None = ap (λ (x : Screened). x.caret) (sym one) ∙ none in
@@ -216,37 +239,38 @@ module _ (d : SiteTexts) (w : Screened) (name : List ℕ) (told told' : Option F
       put_loads s i r new stands there (inr (d', w', stands', (part, (c', shown', caret', at', short)))) =
           inr (d', w', stands', (c', shown', caret', at', (file, there, inr (items, of, short))))
 
-      pub load_puts : (new : DeskSeen) (result : Result ℕ EditRefusal) (before after : List (List ℕ)) → HasFile told name file
-          → IsEditStep (record { texts = d; screen = w }) (λ i. ask i (put items)) result new before after
+      pub load_puts : (new : DeskSeen) (result : Result ℕ EditRefusal) (before after : List (List ℕ)) → HasFile told.files name file
+          → told'.faults ≡ told.faults → IsEditStep (record { texts = d; screen = w }) (λ i. ask i (insert_at_caret items)) result new before after
           → LoadsSo (sent_answer result) new before after
-      load_puts new result before after has (messages, counts, steps) =
-          let (files, files', are, stay, there) = files_read told told' name file same has in (
+      load_puts new result before after has unfailed (messages, counts, steps) =
+          let (files, files', are, stay, there) = files_read told.files told'.files name file same has in (
             messages,
             went_well,
             files,
             files',
             sent_counts result messages counts,
             are,
+            unfailed,
             λ s i stands sent is.
                 put_loads s i (answer_reply (sent_answer result) messages) (record (with_desk s i new after) { files = files' }) stands
                 (ap (λ (f : Files). f name) is ∙ there)
-                (subst (λ (r : Reply). Replies s (ask i (put items)) untouched r (record (with_desk s i new after) { files = files' }))
+                (subst (λ (r : Reply). Replies s (ask i (insert_at_caret items)) untouched r (record (with_desk s i new after) { files = files' }))
                 (sent_replies result messages)
-                (subst (Replies s (ask i (put items)) untouched (edit_reply result messages))
+                (subst (Replies s (ask i (insert_at_caret items)) untouched (edit_reply result messages))
                 (over_files s i new after files files' is stay) (steps s i stands sent))),
           )
 
 -- without a caret nothing is read
-pub load_without_caret : (d : SiteTexts) (w : Screened) (name : List ℕ) (told : Option Files) (sent : List (List ℕ))
+pub load_without_caret : (d : SiteTexts) (w : Screened) (name : List ℕ) (told : ShelfSeen) (sent : List (List ℕ))
     → w.caret ≡ None
     → IsShelfStep (record { texts = d; screen = w }) (λ i. ask i (load name)) (Err (Whole NoCaret))
     (record { texts = d; screen = w }) sent sent told told
 load_without_caret d w name told sent none =
-    refused_over d w (load name) told told untouched NoCaret (files_of told) (files_of told) sent (same_of told) refl
+    refused_over d w (load name) told told untouched NoCaret (files_of told.files) (files_of told.files) sent (same_of told.files) refl refl
     (λ s i new stands is refused. inl (inl (none, refl, refused)))
 
 -- a task that writes a file, if there isn't too much for one
-module _ (d : SiteTexts) (w : Screened) (task : Task) (much most : ℕ) (name file : List ℕ) (told told' : Option Files)
+module _ (d : SiteTexts) (w : Screened) (task : Task) (much most : ℕ) (name file : List ℕ) (told told' : ShelfSeen)
     (sent : List (List ℕ))
     (does : (s : State) (i : ℕ) (part : Part) (r : Reply) (new : State) → IsDeskAt s i d w
     → Writes s much most name file part r new → DoesTask s i d w task part r new)
@@ -257,8 +281,9 @@ module _ (d : SiteTexts) (w : Screened) (task : Task) (much most : ℕ) (name fi
       (record { texts = d; screen = w }) sent sent told told'
 
   -- where no file changed
-  kept : told' ≡ told → AreFilesOf told told' (files_of told) (files_of told)
-  kept same = subst (λ (o : Option Files). AreFilesOf told o (files_of told) (files_of told)) (sym same) (same_of told)
+  kept : told' ≡ told → AreFilesOf told.files told'.files (files_of told.files) (files_of told.files)
+  kept same =
+      subst (λ (o : ShelfSeen). AreFilesOf told.files o.files (files_of told.files) (files_of told.files)) (sym same) (same_of told.files)
 
   -- the run with other files
   becomes : (s : State) (i : ℕ) (files files' : Files) (its : Option (List ℕ))
@@ -274,15 +299,17 @@ module _ (d : SiteTexts) (w : Screened) (task : Task) (much most : ℕ) (name fi
         λ k. record (stays k) { files = files' },
       )
 
-  writes_well : much ≤ most → HasFile told' name file → OthersStay told told' name → WritesSo (Ok Done)
-  writes_well few has stay =
-      let (files, files', are, there, others) = files_written told told' name file stay has in (
+  writes_well : much ≤ most → HasFile told'.files name file → OthersStay told.files told'.files name → told'.faults ≡ told.faults
+      → WritesSo (Ok Done)
+  writes_well few has stay unfailed =
+      let (files, files', are, there, others) = files_written told.files told'.files name file stay has in (
         [],
         went_well,
         files,
         files',
         tt,
         are,
+        unfailed,
         λ s i stands same is. inl (
           d,
           w,
@@ -295,14 +322,16 @@ module _ (d : SiteTexts) (w : Screened) (task : Task) (much most : ℕ) (name fi
   writes_not : (why : Refusal) → WritesNot much most name told told' why → WritesSo (Err (Whole why))
   writes_not why (inl (bad, long, same)) =
       subst (λ (e : Refusal). WritesSo (Err (Whole e))) (sym bad)
-      (refused_over d w task told told' untouched BadFile (files_of told) (files_of told) sent (kept same) refl
+      (refused_over d w task told told' untouched BadFile (files_of told.files) (files_of told.files) sent (kept same)
+      (ap (λ (o : ShelfSeen). o.faults) same) refl
       (λ s i new stands is refused. inl (does s i untouched (refuses BadFile) new stands (long, refused))))
   writes_not why (inr (inl (memory, few, same))) =
       subst (λ (e : Refusal). WritesSo (Err (Whole e))) (sym memory)
-      (refused_over d w task told told' untouched OutOfMemory (files_of told) (files_of told) sent (kept same) refl
+      (refused_over d w task told told' untouched OutOfMemory (files_of told.files) (files_of told.files) sent (kept same)
+      (ap (λ (o : ShelfSeen). o.faults) same) refl
       (λ s i new stands is refused. inr (short s i (refuses OutOfMemory) new stands few refused)))
-  writes_not why (inr (inr (fault, few, stay))) =
-      let (files, files', are, others) = files_failed told told' name stay in
+  writes_not why (inr (inr (fault, few, stay, counted))) =
+      let (files, files', are, others) = files_failed told.files told'.files name stay in
       subst (λ (e : Refusal). WritesSo (Err (Whole e))) (sym fault) (
         [],
         failed (files' name),
@@ -310,6 +339,7 @@ module _ (d : SiteTexts) (w : Screened) (task : Task) (much most : ℕ) (name fi
         files',
         tt,
         are,
+        counted,
         λ s i stands same is. inl (
           d,
           w,
@@ -322,12 +352,12 @@ module _ (d : SiteTexts) (w : Screened) (task : Task) (much most : ℕ) (name fi
 
   writes_step : (result : Result (Unit {0}) Refusal) → WritesFile much most name file told told' result
       → WritesSo (written_answer result)
-  writes_step (Ok _) (few, has, stay) = writes_well few has stay
+  writes_step (Ok _) (few, has, stay, unfailed) = writes_well few has stay unfailed
   writes_step (Err why) not = writes_not why not
 
 -- a store of what a text shows, and a keeping of all that it has taken in
 module _ (d : SiteTexts) (w : Screened) (text : ℕ) (t : TextState) (there : IsTextOf d text t) (name : List ℕ)
-    (told told' : Option Files) (sent : List (List ℕ)) (result : Result (Unit {0}) Refusal) where
+    (told told' : ShelfSeen) (sent : List (List ℕ)) (result : Result (Unit {0}) Refusal) where
   pub store_step : WritesText t name told told' result
       → IsShelfStep (record { texts = d; screen = w }) (λ i. ask i (store text name)) (written_answer result)
       (record { texts = d; screen = w }) sent sent told told'
@@ -368,16 +398,17 @@ pub commanded : (Goes : Task → Type 0) (d : SiteTexts) (w : Screened) (c c' : 
 commanded Goes d w c c' told v text is goes = subst (λ (x : Command). Goes (task_of d w x told v text)) (sym is) goes
 
 pub click_step : (seen new : DeskSeen) (col row : ℕ) (task : Task) (result : Result Answer EditRefusal)
-    (before after : List (List ℕ)) (told told' : Option Files) → IsTaskAt seen.texts seen.screen col row task
+    (before after : List (List ℕ)) (told told' : ShelfSeen) → IsTaskAt seen.texts seen.screen col row task
     → IsShelfStep seen (λ i. ask i task) result new before after told told'
     → IsShelfStep seen (λ i. click i col row) result new before after told told'
-click_step seen new col row task result before after told told' is (messages, part, files, files', counts, are, steps) = (
+click_step seen new col row task result before after told told' is (messages, part, files, files', counts, are, counted, steps) = (
   messages,
   part,
   files,
   files',
   counts,
   are,
+  counted,
   λ s i stands same over. click_does seen s i col row task part (answer_reply result messages)
       (record (with_desk s i new after) { files = files' }) stands is (steps s i stands same over),
 )

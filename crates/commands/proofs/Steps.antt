@@ -1,9 +1,10 @@
 -- One call of a desk is one step of every run in which the desk stands.
 use Rattle.std.proofs.Common.{◌≡◌, ℕ, List, [], ◌++◌, Option, Result, Ok, Err, Some, IfOk, ap, sym, subst, refl, ◌∙◌, inl, inr}
 use Rattle.std.proofs.Common.{append-nil, true, false}
-use Rattle.std.specs.Prelude.{◌⊎◌, Bool, MatchResult, length, slice_set}
+use Rattle.std.specs.Prelude.{◌⊎◌, Bool, IfErr, IsTrue, MatchBool, MatchResult, if◌then◌else◌, length, slice_set}
 use Rattle.std.specs.Option.{option_map_or}
 use Rattle.looks.specs.declared.refusal.Refusal.{Refusal}
+use Rattle.looks.specs.declared.refusal.Refusal.TheVariants.{OutOfMemory, OutOfRange}
 use Rattle.looks.specs.Refusal.{RefusedForMemoryAlone}
 use Rattle.viewers.specs.declared.screen.Track.{Track}
 use Rattle.texts.specs.Edit.{Edit}
@@ -14,11 +15,12 @@ use Rattle.texts.specs.declared.edit_refusal.EditRefusal.{EditRefusal}
 use Rattle.texts.specs.declared.merge_refusal.MergeRefusal.{MergeRefusal}
 use Rattle.machine.specs.SiteTexts.{SiteTexts, InText}
 use Rattle.machine.specs.Events.{Reply, arrange, ask, copy, done, edit, edit_reply, merge_reply, messages_of}
-use Rattle.machine.specs.Events.{opens, print, prints, query, refuses, settle, settles, take_reply}
+use Rattle.machine.specs.Events.{opens, print, prints, query, refuses, settle, settles, take_reply, untouched}
+use Rattle.machine.specs.Machine.{Replies}
 use Rattle.machine.specs.OnTexts.{CopiesSite, CopiesText, CopiesTextShort, EditsSite, EditsText, EditsTextShort, MergesSite}
 use Rattle.machine.specs.OnTexts.{MergesText, MergesTextShort, QueriesSite, SettlesSite, SettlesText, TakesSite, TakesText}
-use Rattle.machine.specs.OnTexts.{Sending, TakesTextShort}
-use Rattle.machine.specs.State.{AtText, Refuses, State, with_screen_at}
+use Rattle.machine.specs.OnTexts.{Prints, QueriesText, RefusesQuery, Sending, TakesTextShort, is_asked_in, query_refusal}
+use Rattle.machine.specs.State.{AtText, IsTextAt, Refuses, State, with_screen_at}
 use Rattle.machine.specs.Tasks.{lines_of_view}
 use Rattle.machine.specs.Windows.{Arranged, Screened, arranged}
 use Rattle.machine.specs.declared.asked.Arrangement.{Arrangement}
@@ -206,20 +208,48 @@ module _ (seen : DeskSeen) (d d' new : SiteTexts) (w w' : Screened) (is : record
         )
       ])
 
--- an answer with bytes, or refused for memory alone
+-- a query whose positions lie in the text prints its lines
+printed : (t : TextState) (q : Query) (lines : List ℕ) → IsTrue (is_asked_in t q) → Prints q t lines
+    → QueriesText q (prints lines) t
+printed t q lines inside prints_so =
+    subst (λ (b : Bool). MatchBool b ((x : List ℕ) × Prints q t x × (prints lines ≡ prints x)) (prints lines ≡ refuses OutOfRange))
+    (sym inside) (lines, prints_so, refl)
+
+-- and it is refused for its positions, or else for memory
+refused : (s : State) (i text : ℕ) (q : Query) (t : TextState) (why : Refusal) (new : State) → IsTextAt s i text t
+    → why ≡ query_refusal t q → new ≡ s → Replies s (query i text q) untouched (refuses why) new
+refused s i text q t why new there is same = go (is_asked_in t q) refl is
+  where
+    go : (inside : Bool) → is_asked_in t q ≡ inside → why ≡ (if inside then OutOfMemory else OutOfRange)
+        → Replies s (query i text q) untouched (refuses why) new
+    go true inside is = inr (refl, (t, there, inside), (ap refuses is, same))
+    go false outside is = inl (
+      refl,
+      same,
+      (
+        t,
+        there,
+        subst (λ (b : Bool). MatchBool b ((x : List ℕ) × Prints q t x × (refuses why ≡ prints x))
+            (refuses why ≡ refuses OutOfRange)) (sym outside) (ap refuses is),
+      ),
+    )
+
+-- an answer with bytes, or refused
 module _ {X : Type 0} (seen : DeskSeen) (d : SiteTexts) (w : Screened) (is : record { texts = d; screen = w } ≡ seen)
     (bytes_of : X → List ℕ) where
   -- to a query, which changes nothing
   queried : (text : ℕ) (q : Query) (result : Result X Refusal)
-      → IfOk result (λ x. QueriesSite d text q (bytes_of x)) → RefusedForMemoryAlone result
+      → IfOk result (λ x. QueriesSite d text q (bytes_of x)) → IfErr result (λ why. RefusesQuery d text q why)
       → IsStep (record { texts = d; screen = w }) (λ i. query i text q) (print_reply result bytes_of)
       (record { texts = d; screen = w })
-  queried text q (Ok x) (t, at, prints_so) short = λ s i stands.
-      inl (refl, sym (run_stays s i d w stands), (t, bytes_of x, (d, stands.texts, at), prints_so, refl))
-  queried text q (Err why) ok short = λ s i stands. inr (refl, (ap refuses short, sym (run_stays s i d w stands)))
+  queried text q (Ok x) (t, at, inside, prints_so) short = λ s i stands.
+      inl (refl, sym (run_stays s i d w stands), (t, (d, stands.texts, at), printed t q (bytes_of x) inside prints_so))
+  queried text q (Err why) ok (t, at, is) = λ s i stands.
+      refused s i text q t why (with_desk s i (record { texts = d; screen = w }) s.sent) (d, stands.texts, at) is
+      (sym (run_stays s i d w stands))
 
   pub query_step : (text : ℕ) (q : Query) (result : Result X Refusal)
-      → IfOk result (λ x. QueriesSite d text q (bytes_of x)) → RefusedForMemoryAlone result
+      → IfOk result (λ x. QueriesSite d text q (bytes_of x)) → IfErr result (λ why. RefusesQuery d text q why)
       → IsStep seen (λ i. query i text q) (print_reply result bytes_of) seen
   query_step text q result ok short =
       subst (λ (x : DeskSeen). IsStep x (λ i. query i text q) (print_reply result bytes_of) x) is (queried text q result ok short)

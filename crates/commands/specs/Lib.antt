@@ -1,3 +1,3 @@
 pub mod Filing
-pub mod Putting
+pub mod Inserting
 pub mod Steps

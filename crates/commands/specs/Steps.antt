@@ -4,7 +4,7 @@ use Rattle.looks.specs.declared.refusal.Refusal.{Refusal}
 use Rattle.looks.specs.declared.refusal.Refusal.TheVariants.{ReadFault, WriteFault}
 use Rattle.reader_scanner.specs.declared.token.TokenValue.{TokenValue}
 use Rattle.command_words.specs.declared.command.Command.{Command}
-use Rattle.shelf.specs.Files.{Files}
+use Rattle.shelf.specs.Files.{Counts, Files}
 use Rattle.texts.specs.TextState.{TextState}
 use Rattle.texts.specs.declared.edit_refusal.EditRefusal.{EditRefusal}
 use Rattle.texts.specs.declared.edit_refusal.EditRefusal.TheVariants.{Whole}
@@ -13,7 +13,7 @@ use Rattle.texts.specs.declared.took.Took.{Took}
 use Rattle.machine.specs.SiteTexts.{SiteTexts, IsTextOf}
 use Rattle.machine.specs.Commands.{task_of}
 use Rattle.machine.specs.Events.{Delivery, Event, Part, Reply, Task, ask, done, edit_reply, forgot, found, merge}
-use Rattle.machine.specs.Events.{merge_reply, not_found, opens, prints, refuse, refuses, sends, take, take_reply, untouched}
+use Rattle.machine.specs.Events.{failed, merge_reply, not_found, opens, prints, refuse, refuses, sends, take, take_reply, untouched, went_well}
 use Rattle.machine.specs.Machine.{Replies, message_in}
 use Rattle.machine.specs.State.{IsDeskAt, State}
 use Rattle.machine.specs.Windows.{Screened}
@@ -56,17 +56,31 @@ IsEditStep d event result new before after = (messages : List (List ℕ)) × IfO
 
 -- the same of a message for one of its texts, however it is told
 abbrev pub IsTakeStep : DeskSeen → (text : ℕ) → (message : List ℕ) → Result Took Refusal → DeskSeen → Type 0
-IsTakeStep d text message result new = (s : State) (i : ℕ) (told : Delivery) → StandsIn s i d
-    → message_in s told ≡ Some message
-    → Replies s (take i text told) untouched (take_reply result) (with_desk s i new s.sent)
+IsTakeStep d text message result new = (s : State) (i : ℕ) (delivery : Delivery) → StandsIn s i d
+    → message_in s delivery ≡ Some message
+    → Replies s (take i text delivery) untouched (take_reply result) (with_desk s i new s.sent)
 
 -- the same of a merge of another desk's text of this number, wherever that stands
 abbrev pub IsMergeStep : DeskSeen → (text : ℕ) → (other : DeskSeen) → Result ℕ MergeRefusal → DeskSeen → Type 0
 IsMergeStep d text other result new = (s : State) (i j : ℕ) → StandsIn s i d → StandsIn s j other
     → Replies s (merge i text j) untouched (merge_reply result) (with_desk s i new s.sent)
 
+-- what a shelf tells before a call, or after it: its files, if it tells them, and how many calls have failed
+pub record ShelfSeen : Type 0 where
+  pub files : Option Files
+  pub faults : ℕ
+
+abbrev pub shelf_seen : Option Files → ℕ → ShelfSeen
+shelf_seen files faults = record { files = files; faults = faults }
+
+-- in a call in which the files failed a failure was counted, and in no other
+abbrev pub Counted : Part → (faults faults' : ℕ) → Type 0
+Counted untouched faults faults' = faults' ≡ faults
+Counted went_well faults faults' = faults' ≡ faults
+Counted (failed left) faults faults' = Counts faults faults'
+
 -- The files that a shelf tells before a call and after it: these; any, where it tells none.
-abbrev pub AreFilesOf : (told told' : Option Files) → (files files' : Files) → Type 0
+abbrev pub AreFilesOf : (reported reported' : Option Files) → (files files' : Files) → Type 0
 AreFilesOf None None files files' = ⊤
 AreFilesOf None (Some now) files files' = ⊥
 AreFilesOf (Some was) None files files' = ⊥
@@ -99,12 +113,12 @@ CountsSent other messages = ⊤
 
 -- Wherever the desk stands in a run, over the files that the shelf tells, this event is replied to so, with some part of the
 -- files in it, and goes on to the run with the new desk, over the files that the shelf tells after. Of a shelf that tells
--- none this holds over some files.
+-- none this holds over some files. Where the files failed, the shelf counted it.
 abbrev pub IsShelfStep : DeskSeen → (ℕ → Event) → Result Answer EditRefusal → DeskSeen
-    → (before after : List (List ℕ)) → (told told' : Option Files) → Type 0
-IsShelfStep d event result new before after told told' =
+    → (before after : List (List ℕ)) → (reported reported' : ShelfSeen) → Type 0
+IsShelfStep d event result new before after reported reported' =
     (messages : List (List ℕ)) × (part : Part) × (files files' : Files) × CountsSent result messages
-    × AreFilesOf told told' files files'
+    × AreFilesOf reported.files reported'.files files files' × Counted part reported.faults reported'.faults
     × ((s : State) (i : ℕ) → StandsIn s i d → s.sent ≡ before → s.files ≡ files
     → Replies s (event i) part (answer_reply result messages) (record (with_desk s i new after) { files = files' }))
 

@@ -13,16 +13,17 @@ ghost use Rattle.machine.specs.Events.{Task, ask, click};
 ghost use Rattle.machine.specs.Windows.{Window, bytes_shown, marked, window_of};
 ghost use Rattle.machine.specs.declared.TheConstants.{MAX_TEXT};
 ghost use Rattle.desk_windows.specs.Pointing.{IsClick};
-ghost use Rattle.commands.specs.Steps.{IsFault, IsShelfStep, task_told};
+ghost use Rattle.commands.specs.Filing.{WritesOnceAtMost};
+ghost use Rattle.commands.specs.Steps.{IsFault, IsShelfStep, shelf_seen, task_told};
 
 use crate::answer::Answer;
 use crate::desk::Desk;
 use crate::executing::sent;
+use crate::inserting::Insertion;
 use crate::parameters::{
     bytes_parameter, colour_parameter, file_parameter, font_parameter, is_caret_sign,
     offset_parameter, text_parameter,
 };
-use crate::putting::Insertion;
 use char_files::{Plain, TextNo};
 use command_words::{Call, Command, command_at, menu_text};
 use desk_windows::{CellTarget, Clicked};
@@ -95,16 +96,17 @@ impl Desk {
         requires on_desk { text ≤ MAX_TEXT }
         ensures step { IsShelfStep self.old
             (λ i. ask i (task_of self.old.texts self.old.screen command value.now viewer text)) result self.new
-            outbox.old outbox.new (S.files shelf.old) (S.files shelf.new) }
+            outbox.old outbox.new (shelf_seen (S.files shelf.old) (S.faults shelf.old)) (shelf_seen (S.files shelf.new) (S.faults shelf.new)) }
+        ensures once { WritesOnceAtMost (S.writes shelf.old) (S.writes shelf.new) }
         ensures fault { IsFault result → Counts (S.faults shelf.old) (S.faults shelf.new) }
     {
         match command {
-            Command::SystemOpen => self.open_told(Track::System, text_parameter(value)),
+            Command::SystemOpen => self.open_given(Track::System, text_parameter(value)),
             Command::SystemClose => self.close_clicked(viewer),
-            Command::EditOpen => self.open_told(Track::User, text_parameter(value)),
+            Command::EditOpen => self.open_given(Track::User, text_parameter(value)),
             Command::EditLoad => self.load(file_parameter(value), shelf, outbox),
             Command::EditStore => self.store(text, file_parameter(value), shelf),
-            Command::EditRecall => sent(self.put(Insertion::Recalled, outbox)),
+            Command::EditRecall => sent(self.insert_at_caret(Insertion::Recalled, outbox)),
             Command::EditRestore => sent(self.restore(text, outbox)),
             Command::EditChangeFont => sent(self.dress(font_parameter(value), outbox)),
             Command::EditChangeColor => sent(self.dress(colour_parameter(value), outbox)),
@@ -129,7 +131,8 @@ impl Desk {
         requires on_screen { IsSome (window_of self.old.texts self.old.screen viewer) }
         ensures step { (shown : Window × TextState) → window_of self.old.texts self.old.screen viewer ≡ Just shown
             → (task : Task) × IsTaskOfCall self.old.texts self.old.screen call viewer shown.0.text task
-            × IsShelfStep self.old (λ i. ask i task) result self.new outbox.old outbox.new (S.files shelf.old) (S.files shelf.new) }
+            × IsShelfStep self.old (λ i. ask i task) result self.new outbox.old outbox.new (shelf_seen (S.files shelf.old) (S.faults shelf.old)) (shelf_seen (S.files shelf.new) (S.faults shelf.new)) }
+        ensures once { WritesOnceAtMost (S.writes shelf.old) (S.writes shelf.new) }
         ensures fault { IsFault result → Counts (S.faults shelf.old) (S.faults shelf.new) }
     {
         let text = self.windows.text_of(viewer).unwrap();
@@ -152,7 +155,8 @@ impl Desk {
         outbox: &mut Outbox,
     ) -> Result<Answer, EditRefusal>
         ensures step { IsShelfStep self.old (λ i. click i col row) result self.new outbox.old outbox.new
-            (S.files shelf.old) (S.files shelf.new) }
+            (shelf_seen (S.files shelf.old) (S.faults shelf.old)) (shelf_seen (S.files shelf.new) (S.faults shelf.new)) }
+        ensures once { WritesOnceAtMost (S.writes shelf.old) (S.writes shelf.new) }
         ensures fault { IsFault result → Counts (S.faults shelf.old) (S.faults shelf.new) }
     {
         let Some(at) = self.windows.clicked(&self.texts, col, row) else {

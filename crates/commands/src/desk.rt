@@ -1,4 +1,4 @@
-ghost use Rattle.std.specs.Prelude.{◌≡◌, ◌<◌, ◌≤◌, map, length, nat_le, is_none, IfOk, if◌then◌else◌};
+ghost use Rattle.std.specs.Prelude.{◌≡◌, ◌<◌, ◌≤◌, map, length, nat_le, is_none, IfErr, IfOk, if◌then◌else◌};
 ghost use Rattle.looks.specs.Looks.{plain_looks};
 ghost use Rattle.looks.specs.Refusal.{RefusedForMemoryAlone};
 ghost use Rattle.looks.specs.declared.refusal.Refusal.TheVariants.{FileSpent, NoCaret, OutOfRange};
@@ -7,12 +7,13 @@ ghost use Rattle.texts.specs.Text.{IsText};
 ghost use Rattle.texts.specs.TextState.{TextState, shown_of};
 ghost use Rattle.texts.specs.declared.edit_refusal.EditRefusal.TheVariants.{Whole};
 ghost use Rattle.machine.specs.SiteTexts.{IsTextOf, fresh_texts};
-ghost use Rattle.machine.specs.Events.{arrange, ask, copy, edit, print, put, query, settle, settles};
+ghost use Rattle.machine.specs.Events.{arrange, ask, copy, edit, print, insert_at_caret, query, settle, settles};
+ghost use Rattle.machine.specs.OnTexts.{RefusesQuery};
 ghost use Rattle.machine.specs.Windows.{blank_screen};
 ghost use Rattle.machine.specs.declared.asked.Arrangement.TheVariants.{Close, Move, Open, Point, Scroll, Select};
 ghost use Rattle.commands.specs.Steps.{IsEditStep, IsMergeStep, IsStep, IsTakeStep, done_reply, open_reply, print_reply};
 
-use crate::putting::Insertion;
+use crate::inserting::Insertion;
 use crate::telling::tell;
 use char_files::{MAX_FILE, SiteNo, TextNo};
 use desk_texts::Texts;
@@ -236,11 +237,12 @@ impl Desk {
         self.texts.lemma_has_text(text);
     }
 
-    /// The lines that a query prints of a text. Refused `OutOfMemory` alone.
+    /// The lines that a query prints of a text. Refused `OutOfRange` for positions outside the text, and else `OutOfMemory`
+    /// alone.
     pub fn query(&self, text: TextNo, asked: Query) -> Result<Vec<u8>, Refusal>
         requires { text ≤ MAX_TEXT }
         ensures step { IsStep self.now (λ i. query i text asked) (print_reply result (λ lines. lines.items)) self.now }
-        ensures errors { RefusedForMemoryAlone result }
+        ensures errors { IfErr result (λ why. RefusesQuery self.now.texts text asked why) }
     {
         self.texts.query(text, asked)
     }
@@ -362,7 +364,7 @@ impl Desk {
     /// Refused `NoCaret` where there is none, else as `type_in` is. More than 2^24 bytes are refused alike.
     pub fn key(&mut self, bytes: &[u8], outbox: &mut Outbox) -> Result<u32, EditRefusal>
         ensures step { length bytes.now ≤ MAX_FILE → IsEditStep self.old
-            (λ i. ask i (put (map (λ b. (b, plain_looks)) bytes.now))) result self.new outbox.old outbox.new }
+            (λ i. ask i (insert_at_caret (map (λ b. (b, plain_looks)) bytes.now))) result self.new outbox.old outbox.new }
         ensures long { MAX_FILE < length bytes.now
             → (result ≡ Err (Whole (if is_none self.old.screen.caret then NoCaret else FileSpent)))
             × (self.new ≡ self.old) × (outbox.new ≡ outbox.old) }
@@ -370,7 +372,7 @@ impl Desk {
         if MAX_FILE < bytes.len() as u64 {
             return Err(EditRefusal::Whole(self.too_long_to_key()));
         }
-        self.put(Insertion::Bytes(bytes), outbox)
+        self.insert_at_caret(Insertion::Bytes(bytes), outbox)
     }
 
     // Why more bytes than a file has room for aren't typed at the caret.

@@ -1,18 +1,21 @@
 //! Commands that read or write a file: a load at the caret, and a store of a text.
 
-ghost use Rattle.std.specs.Prelude.{◌≡◌, ◌≤◌, ℕ, List, IsErrOf};
+ghost use Rattle.std.specs.Prelude.{◌≡◌, ◌≤◌, ℕ, List, IfSome, IsErrOf, None as Nothing};
 ghost use Rattle.std.specs.Option.{option_copied};
 ghost use Rattle.shelf.specs.Files.{Counts, SameFiles};
-ghost use Rattle.machine.specs.Commands.{with_told};
+ghost use Rattle.text_file.specs.Files.{formatted};
+ghost use Rattle.texts.specs.TextState.{TextState, shown_items};
+ghost use Rattle.machine.specs.SiteTexts.{IsTextOf};
+ghost use Rattle.machine.specs.Commands.{with_value};
 ghost use Rattle.machine.specs.Events.{ask, load, store};
 ghost use Rattle.machine.specs.declared.TheConstants.{MAX_TEXT};
-ghost use Rattle.commands.specs.Filing.{ReadsText, WritesText};
-ghost use Rattle.commands.specs.Steps.{IsFault, IsShelfStep};
+ghost use Rattle.commands.specs.Filing.{ReadsText, StoresOnce, WritesOnce, WritesText};
+ghost use Rattle.commands.specs.Steps.{IsFault, IsShelfStep, shelf_seen};
 
 use crate::answer::Answer;
 use crate::desk::Desk;
 use crate::executing::{sent, written};
-use crate::putting::Insertion;
+use crate::inserting::Insertion;
 use char_files::{Buffer, TextNo};
 use looks::Refusal;
 use shelf::Shelf;
@@ -21,9 +24,10 @@ use texts::{EditRefusal, Outbox, Replica};
 
 // The characters of a file.
 fn read_text<S: Shelf>(alloc: Global, name: &str, shelf: &mut S) -> Result<Buffer, Refusal>
-    ensures reads { ReadsText (S.files shelf.old) name.now result }
+    ensures reads { ReadsText (shelf_seen (S.files shelf.old) (S.faults shelf.old)) (shelf_seen (S.files shelf.new) (S.faults shelf.new)) name.now result }
     ensures files { SameFiles (S.files shelf.old) (S.files shelf.new) }
     ensures fault { IsErrOf result Refusal.ReadFault → Counts (S.faults shelf.old) (S.faults shelf.new) }
+    ensures writes { S.writes shelf.new ≡ S.writes shelf.old }
 {
     let file = shelf.read(alloc, name)?;
     text_file::load(alloc, file.as_slice())
@@ -36,7 +40,9 @@ fn write_text<S: Shelf>(
     name: &str,
     shelf: &mut S,
 ) -> Result<(), Refusal>
-    ensures writes { WritesText replica.now name.now (S.files shelf.old) (S.files shelf.new) result }
+    ensures writes { WritesText replica.now name.now (shelf_seen (S.files shelf.old) (S.faults shelf.old)) (shelf_seen (S.files shelf.new) (S.faults shelf.new)) result }
+    ensures once { WritesOnce Refusal.WriteFault Refusal.BadFile name.now (formatted (shown_items replica.now))
+        (S.writes shelf.old) (S.writes shelf.new) result }
     ensures fault { IsErrOf result Refusal.WriteFault → Counts (S.faults shelf.old) (S.faults shelf.new) }
 {
     let mut file = Vec::new(alloc);
@@ -52,8 +58,9 @@ impl Desk {
         shelf: &mut S,
         outbox: &mut Outbox,
     ) -> Result<Answer, EditRefusal>
-        ensures step { IsShelfStep self.old (λ i. ask i (with_told (option_copied name.entry) load)) result self.new
-            outbox.old outbox.new (S.files shelf.old) (S.files shelf.new) }
+        ensures step { IsShelfStep self.old (λ i. ask i (with_value (option_copied name.entry) load)) result self.new
+            outbox.old outbox.new (shelf_seen (S.files shelf.old) (S.faults shelf.old)) (shelf_seen (S.files shelf.new) (S.faults shelf.new)) }
+        ensures writes { S.writes shelf.new ≡ S.writes shelf.old }
         ensures fault { IsFault result → Counts (S.faults shelf.old) (S.faults shelf.new) }
     {
         let Some(name) = name else {
@@ -63,7 +70,7 @@ impl Desk {
             return Err(EditRefusal::Whole(Refusal::NoCaret));
         };
         match read_text(self.alloc, name, shelf) {
-            Ok(items) => sent(self.put(Insertion::Items(&items), outbox)),
+            Ok(items) => sent(self.insert_at_caret(Insertion::Items(&items), outbox)),
             Err(why) => Err(EditRefusal::Whole(why)),
         }
     }
@@ -77,8 +84,11 @@ impl Desk {
     ) -> Result<Answer, EditRefusal>
         requires { text ≤ MAX_TEXT }
         ensures step { (sent : List (List ℕ)) → IsShelfStep self.now
-            (λ i. ask i (with_told (option_copied name.entry) (store text))) result self.now sent sent
-            (S.files shelf.old) (S.files shelf.new) }
+            (λ i. ask i (with_value (option_copied name.entry) (store text))) result self.now sent sent
+            (shelf_seen (S.files shelf.old) (S.faults shelf.old)) (shelf_seen (S.files shelf.new) (S.faults shelf.new)) }
+        ensures once { IfSome (option_copied name.entry) (λ n. (t : TextState) × IsTextOf self.now.texts text t
+            × StoresOnce t n (S.writes shelf.old) (S.writes shelf.new) result) }
+        ensures unnamed { option_copied name.entry ≡ Nothing → S.writes shelf.new ≡ S.writes shelf.old }
         ensures fault { IsFault result → Counts (S.faults shelf.old) (S.faults shelf.new) }
     {
         let Some(name) = name else {

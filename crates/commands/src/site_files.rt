@@ -2,14 +2,15 @@
 
 ghost use Rattle.std.specs.Prelude.{◌≡◌, ◌≤◌, ◌==◌, ◌&&◌, ℕ, List, IsErrOf, IsFalse};
 ghost use Rattle.shelf.specs.Files.{Counts, SameFiles};
+ghost use Rattle.texts.specs.SiteFiles.{site_bytes};
 ghost use Rattle.texts.specs.Taking.{HasTakenAll};
 ghost use Rattle.texts.specs.TextState.{TextState, empty_text};
 ghost use Rattle.machine.specs.SiteTexts.{IsTextOf};
 ghost use Rattle.machine.specs.Events.{ask, keep, reopen};
 ghost use Rattle.machine.specs.Tasks.{has_begun};
 ghost use Rattle.machine.specs.declared.TheConstants.{MAX_TEXT};
-ghost use Rattle.commands.specs.Filing.{BeginsSo, ReadsSite, WritesSite};
-ghost use Rattle.commands.specs.Steps.{IsFault, IsShelfStep};
+ghost use Rattle.commands.specs.Filing.{BeginsSo, KeepsOnce, ReadsSite, WritesOnce, WritesSite};
+ghost use Rattle.commands.specs.Steps.{IsFault, IsShelfStep, shelf_seen};
 
 use crate::answer::Answer;
 use crate::desk::Desk;
@@ -37,9 +38,10 @@ fn is_same_copy(kept: &Replica, replica: &Replica) -> bool
 
 // The text of a site's file.
 fn read_site<S: Shelf>(alloc: Global, name: &str, shelf: &mut S) -> Result<Replica, Refusal>
-    ensures reads { ReadsSite (S.files shelf.old) name.now result }
+    ensures reads { ReadsSite (shelf_seen (S.files shelf.old) (S.faults shelf.old)) (shelf_seen (S.files shelf.new) (S.faults shelf.new)) name.now result }
     ensures files { SameFiles (S.files shelf.old) (S.files shelf.new) }
     ensures fault { IsErrOf result Refusal.ReadFault → Counts (S.faults shelf.old) (S.faults shelf.new) }
+    ensures writes { S.writes shelf.new ≡ S.writes shelf.old }
 {
     let file = shelf.read(alloc, name)?;
     site_file::load_site(alloc, file.as_slice())
@@ -52,7 +54,9 @@ fn write_site<S: Shelf>(
     name: &str,
     shelf: &mut S,
 ) -> Result<(), Refusal>
-    ensures writes { WritesSite replica.now name.now (S.files shelf.old) (S.files shelf.new) result }
+    ensures writes { WritesSite replica.now name.now (shelf_seen (S.files shelf.old) (S.faults shelf.old)) (shelf_seen (S.files shelf.new) (S.faults shelf.new)) result }
+    ensures once { WritesOnce Refusal.WriteFault Refusal.BadFile name.now
+        (site_bytes replica.now.text replica.now.site replica.now.operations) (S.writes shelf.old) (S.writes shelf.new) result }
     ensures fault { IsErrOf result Refusal.WriteFault → Counts (S.faults shelf.old) (S.faults shelf.new) }
 {
     let mut file = Vec::new(alloc);
@@ -73,7 +77,9 @@ impl Desk {
     ) -> Result<Answer, EditRefusal>
         requires on_desk { text ≤ MAX_TEXT }
         ensures step { (sent : List (List ℕ)) → IsShelfStep self.now (λ i. ask i (keep text name.now)) result self.now sent sent
-            (S.files shelf.old) (S.files shelf.new) }
+            (shelf_seen (S.files shelf.old) (S.faults shelf.old)) (shelf_seen (S.files shelf.new) (S.faults shelf.new)) }
+        ensures once { (t : TextState) × IsTextOf self.now.texts text t
+            × KeepsOnce t name.now (S.writes shelf.old) (S.writes shelf.new) result }
         ensures fault { IsFault result → Counts (S.faults shelf.old) (S.faults shelf.new) }
     {
         written(write_site(self.alloc, self.texts.replica(text), name, shelf))
@@ -94,7 +100,8 @@ impl Desk {
     ) -> Result<Answer, EditRefusal>
         requires on_desk { text ≤ MAX_TEXT }
         ensures step { (sent : List (List ℕ)) → IsShelfStep self.old (λ i. ask i (reopen text name.now)) result self.new sent sent
-            (S.files shelf.old) (S.files shelf.new) }
+            (shelf_seen (S.files shelf.old) (S.faults shelf.old)) (shelf_seen (S.files shelf.new) (S.faults shelf.new)) }
+        ensures writes { S.writes shelf.new ≡ S.writes shelf.old }
         ensures fault { IsFault result → Counts (S.faults shelf.old) (S.faults shelf.new) }
     {
         if has_begun(self.texts.replica(text)) {

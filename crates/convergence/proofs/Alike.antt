@@ -7,7 +7,7 @@ use Rattle.operations.specs.Operation.{Operation}
 use Rattle.set_laws.specs.Closure.{HasOneClosure}
 use Rattle.set_laws.specs.Sets.{AreIdentified, UnionsAreSets}
 use Rattle.waiting_room.specs.declared.room.TheConstants.{MAX_WAITING}
-use Rattle.texts.specs.Laws.{MergesShowTheUnion, OperationsTellTheText}
+use Rattle.texts.specs.Laws.{MergesShowTheUnion, OperationsDetermineTheText}
 use Rattle.texts.specs.Take.{Becomes, Stays, TakesIn}
 use Rattle.texts.specs.TextState.{TextState, shown_of, with_room}
 use Rattle.texts.specs.declared.fate.Fate.{Fate}
@@ -20,7 +20,7 @@ use Rattle.convergence.specs.HandedIn.{WhatIsKeptIsClosed}
 
 -- both have taken in the one closure
 pub kept_alike : WhatIsKeptIsClosed → ((all : List Operation) → AreIdentified all → HasOneClosure all)
-    → OperationsTellTheText → KeptTextsAreAlike
+    → OperationsDetermineTheText → KeptTextsAreAlike
 kept_alike closed one told t u all is is' keeps keeps' stay stay' =
     let closure = one all keeps.identified in
     let same = closure.only t.operations (closed t all is keeps stay) in
@@ -28,7 +28,7 @@ kept_alike closed one told t u all is is' keeps keeps' stay stay' =
     told t u is is' (λ op. (λ held. (same' op).1 ((same op).0 held), λ held. (same op).1 ((same' op).0 held)))
 
 -- both have taken in the union
-pub merges_alike : MergesShowTheUnion → ((a b c : List Operation) → UnionsAreSets a b c) → OperationsTellTheText
+pub merges_alike : MergesShowTheUnion → ((a b c : List Operation) → UnionsAreSets a b c) → OperationsDetermineTheText
     → MergesAreAlike
 merges_alike shows sets told t u t' u' n m is is' merges merges' =
     let union = shows t u t' n is is' merges in

@@ -9,7 +9,7 @@ use Rattle.set_laws.specs.Sets.{AreIdentified, IsInConflict}
 use Rattle.set_laws.specs.Verdict.{Verdict, wait, misfit, low_stamp, ready, HasVerdict, IsNew}
 use Rattle.waiting_room.specs.declared.room.TheConstants.{MAX_WAITING}
 use Rattle.texts.specs.Draining.{Drains}
-use Rattle.texts.specs.Take.{Becomes, HasFate, Stays, Takes, TakesIn, TakesShort, Tells}
+use Rattle.texts.specs.Take.{Becomes, HasFate, Stays, Takes, TakesIn, TakesShort, Encodes}
 use Rattle.texts.specs.Text.{IsText}
 use Rattle.texts.specs.TextState.{TextState}
 use Rattle.texts.specs.declared.fate.Fate.{Fate}
@@ -241,7 +241,7 @@ one_becoming t op LowStamp result result' new new' is has = same_stays t _ resul
 one_becoming t op Ready result result' new new' is has = one_taking t op result result' new new' is has.1.0
 
 -- a message tells one operation
-pub one_told : (message : List ℕ) (a b : Operation) → Tells message a → Tells message b → a ≡ b
+pub one_told : (message : List ℕ) (a b : Operation) → Encodes message a → Encodes message b → a ≡ b
 one_told message a b tells tells' = same_operation a b tells.valid tells'.valid (sym tells.spelled ∙ tells'.spelled)
 
 whole : (t new new' : TextState) (message : List ℕ) (result result' : Result Took Refusal) → IsText t

@@ -14,7 +14,7 @@ use Rattle.tree_order.specs.Tree.{IsPath}
 use Rattle.set_laws.specs.Sets.{AreIdentified, IsPartOf}
 use Rattle.waiting_room.specs.declared.room.TheConstants.{MAX_WAITING}
 use Rattle.texts.specs.Draining.{AllStay, Drains, ends, stops, takes_in, throws_away}
-use Rattle.texts.specs.Take.{Becomes, HasFate, IsConflicting, Stays, Takes, Tells}
+use Rattle.texts.specs.Take.{Becomes, HasFate, IsConflicting, Stays, Takes, Encodes}
 use Rattle.texts.specs.Text.{IsText}
 use Rattle.texts.specs.TextState.{TextState, empty_text, with_room}
 use Rattle.texts.specs.declared.fate.Fate.{Fate}
@@ -144,14 +144,14 @@ module _ (messages : List (List ℕ)) (message : List ℕ) (op : Operation) wher
   told_before : IsTold messages op → IsTold (messages ++ message ∷ []) op
   told_before (m, held, tells) = (m, Contains-append_left messages (message ∷ []) m held, tells)
 
-  told_last : Tells message op → IsTold (messages ++ message ∷ []) op
+  told_last : Encodes message op → IsTold (messages ++ message ∷ []) op
   told_last tells = (message, Contains-push messages message, tells)
 
-  told_cases : IsTold (messages ++ message ∷ []) op → IsTold messages op ⊎ Tells message op
+  told_cases : IsTold (messages ++ message ∷ []) op → IsTold messages op ⊎ Encodes message op
   told_cases (m, held, tells) =
       elim (Contains-push_cases messages message m held) [
         | inl old ↦ inl (m, old, tells)
-        | inr same ↦ inr (subst (λ (x : List ℕ). Tells x op) (sym same) tells)
+        | inr same ↦ inr (subst (λ (x : List ℕ). Encodes x op) (sym same) tells)
       ]
 
 identified_told : (text : ℕ) (messages : List (List ℕ)) (all : List Operation) → TellNoConflict text messages
@@ -176,7 +176,7 @@ record Reached (text : ℕ) (messages : List (List ℕ)) (t : TextState) : Type 
 module _ (taking : KeptByTaking) (waiting : StayWaiting) (text : ℕ) where
   -- a message that tells no operation of this text leaves it
   unmoved : (messages : List (List ℕ)) (message : List ℕ) (t new : TextState) → Reached text messages t
-      → ((op : Operation) → Tells message op → op.text ≢ text) → new ≡ t
+      → ((op : Operation) → Encodes message op → op.text ≢ text) → new ≡ t
       → Reached text (messages ++ message ∷ []) new
   unmoved messages message t new r elsewhere stays =
       subst (Reached text (messages ++ message ∷ [])) (sym stays) (record {
@@ -196,7 +196,7 @@ module _ (taking : KeptByTaking) (waiting : StayWaiting) (text : ℕ) where
 
   module _ (messages : List (List ℕ)) (message : List ℕ) (t new : TextState) (result : Result Took Refusal)
       (op : Operation) (r : Reached text messages t) (calm : TellNoConflict text (messages ++ message ∷ []))
-      (tells : Tells message op) (here : op.text ≡ t.text) where
+      (tells : Encodes message op) (here : op.text ≡ t.text) where
     -- it is told with those before it
     told_with : (x : Operation)
         → Contains (r.all ++ op ∷ []) x ↔ IsToldOf text (messages ++ message ∷ []) x
@@ -240,7 +240,7 @@ module _ (taking : KeptByTaking) (waiting : StayWaiting) (text : ℕ) where
         (with_it t.waiting_room r.keeps.kept.kept_waiting) known_with in
         let end = next_text t new op result r.is here room_known f becomes in
         let kept = subst (λ (b : Bool). MatchBool b
-        ((x : Operation) → Tells message x → AreIdentified (r.all ++ x ∷ []) → AccountsFor new (r.all ++ x ∷ []))
+        ((x : Operation) → Encodes message x → AreIdentified (r.all ++ x ∷ []) → AccountsFor new (r.all ++ x ∷ []))
         (AccountsFor new r.all)) counts (taking t new message result r.all r.is r.keeps (inl takes)) in
         record {
           all = r.all ++ op ∷ [];
@@ -253,7 +253,7 @@ module _ (taking : KeptByTaking) (waiting : StayWaiting) (text : ℕ) where
 
   one_fate : (messages : List (List ℕ)) (message : List ℕ) (t new : TextState) (result : Result Took Refusal)
       (op : Operation) (f : Fate) → Reached text messages t → TellNoConflict text (messages ++ message ∷ [])
-      → Takes t message result new → result ≢ Err RoomFull → Tells message op → HasFate t op f
+      → Takes t message result new → result ≢ Err RoomFull → Encodes message op → HasFate t op f
       → Becomes t op f result new → Reached text (messages ++ message ∷ []) new
   one_fate messages message t new result op OtherText r calm takes fits tells has stays =
       unmoved messages message t new r

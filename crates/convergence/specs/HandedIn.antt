@@ -10,7 +10,7 @@ use Rattle.texts.specs.Draining.{AllStay, Drains}
 use Rattle.texts.specs.Edit.{Edit, after, is_in_text, plan}
 use Rattle.texts.specs.Outcome.{count_standing}
 use Rattle.texts.specs.Merge.{Merges, MergesShort, news}
-use Rattle.texts.specs.Take.{Takes, TakesShort, Tells}
+use Rattle.texts.specs.Take.{Takes, TakesShort, Encodes}
 use Rattle.texts.specs.Taking.{HasTakenAll}
 use Rattle.texts.specs.Text.{IsText}
 use Rattle.texts.specs.TextState.{TextState, empty_text, with_room}
@@ -47,7 +47,7 @@ abbrev pub KeptByTaking : Type 0
 KeptByTaking = (t new : TextState) (message : List ℕ) (result : Result Took Refusal) (all : List Operation)
     → IsText t → AccountsFor t all → (Takes t message result new ⊎ TakesShort t message result new)
     → MatchBool (is_handed_in result)
-    ((op : Operation) → Tells message op → AreIdentified (all ++ op ∷ []) → AccountsFor new (all ++ op ∷ []))
+    ((op : Operation) → Encodes message op → AreIdentified (all ++ op ∷ []) → AccountsFor new (all ++ op ∷ []))
     (AccountsFor new all)
 
 -- draining leaves all kept

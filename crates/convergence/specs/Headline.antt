@@ -4,9 +4,9 @@ use Rattle.looks.specs.declared.refusal.Refusal.{Refusal}
 use Rattle.looks.specs.declared.refusal.Refusal.TheVariants.{RoomFull}
 use Rattle.operations.specs.Operation.{Operation}
 use Rattle.texts.specs.Draining.{AllStay}
-use Rattle.texts.specs.Laws.{AreAlike, MergesShowTheUnion, OperationsTellTheText, ShowsTheDefinition}
+use Rattle.texts.specs.Laws.{AreAlike, MergesShowTheUnion, OperationsDetermineTheText, ShowsTheDefinition}
 use Rattle.texts.specs.Merge.{Merges}
-use Rattle.texts.specs.Take.{Takes, TakesShort, Tells}
+use Rattle.texts.specs.Take.{Takes, TakesShort, Encodes}
 use Rattle.texts.specs.Text.{IsText}
 use Rattle.texts.specs.TextState.{TextState, empty_text, shown_of}
 use Rattle.texts.specs.declared.took.Took.{Took}
@@ -28,7 +28,7 @@ pub data HasTakenMessages (t : TextState) : List (List ℕ) → TextState → Ty
 
 -- one of the messages tells this operation
 abbrev pub IsTold : List (List ℕ) → Operation → Type 0
-IsTold messages op = (message : List ℕ) × Contains messages message × Tells message op
+IsTold messages op = (message : List ℕ) × Contains messages message × Encodes message op
 
 -- no two operations of this text that the messages tell have one identity
 abbrev pub TellNoConflict : (text : ℕ) → List (List ℕ) → Type 0
@@ -65,7 +65,7 @@ WhatWaitsShowsNothing = (t new : TextState) (message : List ℕ) (result : Resul
 -- show what the definition gives from the set alone; so are two to which the same messages were handed, in any order
 -- at all; a merge shows the text of the union, either way; and what waits or is refused changes nothing shown.
 pub record Headline : Type 0 where
-  pub same_operations : OperationsTellTheText
+  pub same_operations : OperationsDetermineTheText
   pub by_definition : ShowsTheDefinition
   pub same_kept : KeptTextsAreAlike
   pub same_messages : SameMessagesEndAlike

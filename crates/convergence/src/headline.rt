@@ -11,7 +11,7 @@ use set_laws::closures::{lemma_nothing_is_good, lemma_there_is_one_closure};
 use set_laws::unions::lemma_unions_are_sets;
 use texts::laws::{
     lemma_a_text_shows_the_definition, lemma_merges_show_the_union,
-    lemma_the_operations_tell_the_text,
+    lemma_the_operations_determine_the_text,
 };
 
 /// A law: two texts that keep the same operations, and in which all that waits waits for a cause, are alike.
@@ -20,7 +20,7 @@ pub fn lemma_kept_texts_are_alike()
 {
     lemma_what_is_kept_is_closed();
     lemma_there_is_one_closure();
-    lemma_the_operations_tell_the_text();
+    lemma_the_operations_determine_the_text();
 }
 
 /// A law: two new texts to which the same messages were handed, in any orders and with any repeats, end alike: where
@@ -40,7 +40,7 @@ pub fn lemma_merges_are_alike_either_way()
     ensures { MergesAreAlike }
 {
     lemma_merges_show_the_union();
-    lemma_the_operations_tell_the_text();
+    lemma_the_operations_determine_the_text();
     lemma_unions_are_sets();
 }
 
@@ -53,7 +53,7 @@ pub fn lemma_what_waits_shows_nothing()
 pub fn the_headline()
     ensures { Headline }
 {
-    lemma_the_operations_tell_the_text();
+    lemma_the_operations_determine_the_text();
     lemma_a_text_shows_the_definition();
     lemma_kept_texts_are_alike();
     lemma_the_same_messages_end_alike();

@@ -1,7 +1,9 @@
 pub mod Counted
 pub mod CountingRuns
+pub mod GivenBack
 pub mod Lifting
 pub mod Longest
+pub mod NameRanges
 pub mod Standing
 pub mod Stands
 pub mod TextEdits

@@ -69,13 +69,13 @@ next_at {X = X} (suc n) (y ∷ xs) rest x at =
     (here, ap (λ (k : ℕ). drop k (y ∷ xs)) next ∙ left)
 
 -- what stands in a part of a list stands in the list
-of_front : {X : Type 0} (n k : ℕ) (xs : List X) (x : X) → slice_get (take n xs) k ≡ Some x → slice_get xs k ≡ Some x
+pub of_front : {X : Type 0} (n k : ℕ) (xs : List X) (x : X) → slice_get (take n xs) k ≡ Some x → slice_get xs k ≡ Some x
 of_front zero k xs x at = absurd cc
 of_front (suc n) k [] x at = at
 of_front (suc n) zero (y ∷ xs) x at = at
 of_front (suc n) (suc k) (y ∷ xs) x at = of_front n k xs x at
 
-of_back : {X : Type 0} (n k : ℕ) (xs : List X) (x : X) → slice_get (drop n xs) k ≡ Some x → slice_get xs (n + k) ≡ Some x
+pub of_back : {X : Type 0} (n k : ℕ) (xs : List X) (x : X) → slice_get (drop n xs) k ≡ Some x → slice_get xs (n + k) ≡ Some x
 of_back {X = X} zero k xs x at =
     let here : k ≡ 0 + k = omega arith in subst (λ (i : ℕ). slice_get xs i ≡ Some x) here at
 of_back (suc n) k [] x at = absurd cc

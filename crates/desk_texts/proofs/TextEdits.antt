@@ -1,10 +1,9 @@
 -- From an edit of a replica to one of a desk's text.
-use Rattle.std.proofs.Common.{◌≡◌, ◌≢◌, ℕ, ◌<◌, ◌≤◌, ◌-◌, true, false, List, [], ◌∷◌, ◌++◌, length, map, take, drop}
-use Rattle.std.proofs.Common.{Result, Ok, Err, refl, sym, ap, ◌∙◌, append-nil, inl, inr, arith, length-drop}
-use Rattle.std.proofs.Common.{length-take}
+use Rattle.std.proofs.Common.{◌≡◌, ℕ, ◌<◌, ◌≤◌, ◌-◌, true, false, List, [], ◌++◌, length, map, take}
+use Rattle.std.proofs.Common.{Result, Ok, Err, refl, sym, ap, ◌∙◌, append-nil, inl, inr, arith}
 use Rattle.std.specs.Prelude.{◌⊎◌, ◌↔◌, IfErr, IfOk, IsErrOf, IsOk, IsTrue, nat_le, nat_lt, slice_range}
 use Rattle.std.proofs.lemmas.Bool.{and_from, and_parts, false_from_ne_true, le-ltb, leb-true, lt-ltb, ltb-false}
-use Rattle.std.proofs.lemmas.Bool.{ltb-true}
+use Rattle.std.proofs.lemmas.Bool.{ltb-true, true_from_ne_false}
 use Rattle.std.proofs.lemmas.List.{length-map, take_all}
 use Rattle.looks.specs.declared.refusal.Refusal.{Refusal}
 use Rattle.looks.specs.declared.refusal.Refusal.TheVariants.{FileSpent, OutOfMemory, OutOfRange}
@@ -19,12 +18,7 @@ use Rattle.texts.specs.declared.edit_refusal.EditRefusal.{EditRefusal}
 use Rattle.texts.specs.declared.edit_refusal.EditRefusal.TheVariants.{Whole, Partial}
 use Rattle.machine.specs.Events.{Reply, edit_reply, refuses}
 use Rattle.machine.specs.OnTexts.{CopiesText, CopiesTextSending, EditsText, EditsTextSending, EditsTextShort, copied, is_copy_in}
-use Rattle.machine.specs.OnTexts.{stretch_of}
 use Rattle.desk_texts.specs.TextStep.{CopiesOut}
-
-pub mapped_some : {A B : Type 0} (f : A → B) (xs : List A) → xs ≢ [] → map f xs ≢ []
-mapped_some f [] some = λ e. some refl
-mapped_some f (x ∷ xs) some = λ e. cc
 
 -- ---- from a replica's edit to a text's
 
@@ -48,7 +42,7 @@ short_in_text : (t : TextState) (e : Edit) (result : Result ℕ EditRefusal) (ne
     (messages : List (List ℕ)) → is_in_text t e ≡ true → EditsShort t (plan t e) result new messages
     → Shows t e result new → EditsTextShort e (edit_reply result messages) t new
 short_in_text t e result new messages in_text short shows =
-    (in_text, inl (result, messages, short, shows, refl))
+    (in_text, (result, messages, short, shows, refl))
 
 -- where nothing was done, nothing was sent
 none_sent : (sent sent' messages : List (List ℕ)) → sent' ≡ sent ++ messages → messages ≡ [] → sent' ≡ sent ++ []
@@ -87,24 +81,7 @@ module _ (t : TextState) (e : Edit) (sent : List (List ℕ)) where
   pub text_outside : is_in_text t e ≡ false → EditsTextSending t e (Err (Whole OutOfRange)) t sent sent
   text_outside out = ([], tt, sym (append-nil sent), inl (rw out (refl, refl)))
 
-  -- memory was refused to the stretch, before the replica's edit
-  pub text_short : is_in_text t e ≡ true → (why : Refusal) → why ≡ OutOfMemory → stretch_of t e ≢ []
-      → EditsTextSending t e (Err (Whole why)) t sent sent
-  text_short in_text why is some = ([], tt, sym (append-nil sent), inr (in_text, inr (some, ap refuses is, refl)))
-
 -- ---- copies
-
--- a stretch that lies in a list has as many elements as positions
-length-slice_range : {A : Type 0} (xs : List A) (beg end : ℕ) → end ≤ length xs
-    → length (slice_range xs beg end) ≡ end - beg
-length-slice_range xs beg end within =
-    omega (arith, length-take (end - beg) (drop beg xs), length-drop beg xs, within)
-
--- one without any begins where it ends
-slice_range_none : {A : Type 0} (xs : List A) (beg end : ℕ) → beg ≤ end → end ≤ length xs
-    → slice_range xs beg end ≡ [] → beg ≡ end
-slice_range_none xs beg end le within none =
-    omega (arith, le, length-slice_range xs beg end within, ap length none)
 
 -- what a replica saves is what a copy is to put in
 module _ (t u : TextState) (beg end pos : ℕ) (in_range : is_range_in t beg end ≡ true) (in_text : nat_le pos (length
@@ -126,18 +103,16 @@ module _ (t u : TextState) (beg end pos : ℕ) (in_range : is_range_in t beg end
       inl (rw (in_both, lt) (ap refuses spent, refl))
   copied_out (Err why) is long (inr short) empty =
       let (le, within) = and_parts (nat_le beg end) _ in_range in
-      let shown : length (shown_items t) ≡ length (shown_of t) = length-map (shown_of t) (λ c. (c.byte, c.looks)) in
-      let in_items : end ≤ length (shown_items t) = omega (arith, leb-true _ _ within, shown) in
-      let some : slice_range (shown_items t) beg end ≢ [] = λ none. (
-      let ok = empty (slice_range_none (shown_items t) beg end (leb-true _ _ le) in_items none) in
+      let some : nat_lt beg end ≡ true = true_from_ne_false _ (λ none. (
+      let ok = empty (omega (arith, leb-true _ _ le, ltb-false beg end none)) in
       cc
-      ) in
+      )) in
       let few : end - beg ≤ MAX_FILE = ltb-false MAX_FILE (end - beg) (false_from_ne_true _ (λ lt. (
       let spent = long.1 (ltb-true _ _ lt) in
       let same : why ≡ FileSpent = cc in
       cc
       ))) in
-      inr (in_both, few, (in_text, inr (some, ap refuses short, refl)))
+      inr (in_both, few, inr (ltb-true _ _ some, ap refuses short, refl))
 
 -- the other text's edit is what is left of a copy
 module _ (t u : TextState) (beg end pos : ℕ) (sent : List (List ℕ)) (in_texts : is_copy_in t u beg end pos ≡ true)
@@ -153,7 +128,7 @@ module _ (t u : TextState) (beg end pos : ℕ) (sent : List (List ℕ)) (in_text
   of_edit result new sent' (messages, count, sent_is, inl does) =
       (messages, count, sent_is, inl (copies (edit_reply result messages) new does))
   of_edit result new sent' (messages, count, sent_is, inr short) =
-      (messages, count, sent_is, inr (in_texts, few, short))
+      (messages, count, sent_is, inr (in_texts, few, inl short))
 
   pub text_copied : (result : Result ℕ EditRefusal) (new : TextState) (sent' : List (List ℕ))
       → EditsSending u (copied t beg end pos) result new sent sent'

@@ -1,2 +1,3 @@
+pub mod Laws
 pub mod RunSoFar
 pub mod TextStep

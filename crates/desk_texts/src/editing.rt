@@ -1,30 +1,13 @@
-//! What an edit of a text begins with: its positions are tested, and what it puts in is made.
+//! What an edit of a text begins with: its positions are tested, and what a copy puts in is made.
 
-ghost use Rattle.std.specs.Prelude.{◌≡◌, ◌≤◌, [], length, map, nat_le, IfOk, IsOk};
-ghost use Rattle.looks.specs.Looks.{plain_looks};
-ghost use Rattle.looks.specs.Refusal.{RefusedForMemoryAlone};
+ghost use Rattle.std.specs.Prelude.{◌≡◌, length, nat_le};
 ghost use Rattle.texts.specs.Edit.{is_range_in};
 ghost use Rattle.texts.specs.TextState.{shown_of};
 ghost use Rattle.desk_texts.specs.TextStep.{CopiesOut};
 
-use char_files::{Buffer, MAX_FILE};
-use looks::{Looks, Refusal};
-use std::alloc::Global;
+use char_files::Buffer;
+use looks::Refusal;
 use texts::Replica;
-
-// These bytes in default looks. No bytes take no memory.
-pub(crate) fn plain_buffer(alloc: Global, bytes: &[u8]) -> Result<Buffer, Refusal>
-    requires { length bytes.now ≤ MAX_FILE }
-    ensures ok { IfOk result (λ buffer. buffer ≡ map (λ b. (b, plain_looks)) bytes.now) }
-    ensures errors { RefusedForMemoryAlone result }
-    ensures empty { bytes.now ≡ [] → IsOk result }
-{
-    let mut buffer = Buffer::new(alloc);
-    if !bytes.is_empty() {
-        buffer.push_all(bytes, &Looks::plain())?;
-    }
-    Ok(buffer)
-}
 
 // Whether `beg` to `end` lie in the text.
 pub(crate) fn has_range(replica: &Replica, beg: u64, end: u64) -> bool

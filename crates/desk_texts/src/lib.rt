@@ -2,9 +2,12 @@
 #![tactic(auto)]
 
 mod editing;
+mod laws;
+mod names_shown;
 mod printing;
 mod runs;
 mod site_texts;
 mod where_shown;
 
+pub use laws::where_gives_names_back;
 pub use site_texts::Texts;

@@ -1,5 +1,5 @@
 ghost use Rattle.std.specs.Borrow.{Lends, sem};
-ghost use Rattle.std.specs.Prelude.{◌≡◌, ◌≤◌, [], map, length, IfOk};
+ghost use Rattle.std.specs.Prelude.{◌≡◌, ◌≤◌, [], map, length, IfErr, IfOk};
 ghost use Rattle.looks.specs.Looks.{plain_looks};
 ghost use Rattle.looks.specs.Refusal.{RefusedForMemoryAlone};
 ghost use Rattle.taken_text.specs.Noted.{AreChangesSince};
@@ -8,10 +8,11 @@ ghost use Rattle.texts.specs.Text.{IsText};
 ghost use Rattle.texts.specs.TextState.{TextState, all_told, shown_of, with_room};
 ghost use Rattle.texts.specs.contracts.replica.Replica.{the_row as replica_row};
 ghost use Rattle.machine.specs.SiteTexts.{InText, IsTextOf, fresh_texts, with_text};
-ghost use Rattle.machine.specs.OnTexts.{CopiesSite, EditsSite, MergesSite, QueriesSite, SettlesSite, TakesSite};
+ghost use Rattle.machine.specs.OnTexts.{CopiesSite, EditsSite, MergesSite, QueriesSite, RefusesQuery, SettlesSite, TakesSite};
 ghost use Rattle.desk_texts.specs.contracts.site_texts.Texts.{the_row};
 
-use crate::editing::{copy_out_of, has_position, has_range, plain_buffer};
+use crate::editing::{copy_out_of, has_position, has_range};
+use crate::names_shown::names_lines;
 use crate::printing::{front_lines, text_lines};
 use crate::runs::run_lines;
 use crate::where_shown::where_lines;
@@ -60,7 +61,7 @@ impl Texts {
     ///
     /// This and the other edits answer how many messages they added to the Outbox. They are refused
     /// `OutOfRange` where a position lies outside the text, else as the replica refuses them; an empty edit is
-    /// refused for its positions alone. Want of memory may come before the replica's other refusals.
+    /// refused for its positions alone.
     pub fn type_in(
         &mut self,
         text: TextNo,
@@ -73,15 +74,11 @@ impl Texts {
         ensures { EditsSite self.old text (insertion pos (map (λ b. (b, plain_looks)) bytes.now))
             result self.new outbox.old outbox.new }
     {
-        let alloc = *self.texts.allocator();
         let replica = self.replica_mut(text);
         if !has_position(replica, pos) {
             return Err(EditRefusal::Whole(Refusal::OutOfRange));
         }
-        match plain_buffer(alloc, bytes) {
-            Ok(buffer) => replica.insert(pos, &buffer, outbox),
-            Err(why) => Err(EditRefusal::Whole(why)),
-        }
+        replica.type_in(pos, bytes, outbox)
     }
 
     /// Puts a stretch in at a position of a text.
@@ -156,10 +153,7 @@ impl Texts {
         if !has_position(replica, pos) {
             return Err(EditRefusal::Whole(Refusal::OutOfRange));
         }
-        match replica.recall() {
-            Ok(stretch) => replica.insert(pos, &stretch, outbox),
-            Err(why) => Err(EditRefusal::Whole(why)),
-        }
+        replica.insert_recalled(pos, outbox)
     }
 
     /// Shows again what was cut last out of a text.
@@ -171,7 +165,8 @@ impl Texts {
     }
 
     /// Puts a copy of the characters from `beg` to `end` of a text into another one, or into itself, at a
-    /// position. Refused `FileSpent`, after `OutOfRange`, where there are more than 2^24.
+    /// position. Refused `FileSpent`, after `OutOfRange`, where there are more than 2^24, and `OutOfMemory` where memory
+    /// is refused to the copy, before what the other text's replica refuses.
     pub fn save(
         &mut self,
         text: TextNo,
@@ -250,11 +245,12 @@ impl Texts {
         self.replica(text).lemma_is_text();
     }
 
-    /// The lines that a query prints of a text: a row for each query. Refused `OutOfMemory` alone.
+    /// The lines that a query prints of a text: a row for each query. Refused `OutOfRange` for positions outside the text, and
+    /// else `OutOfMemory` alone.
     pub fn query(&self, text: TextNo, asked: Query) -> Result<Vec<u8>, Refusal>
         requires { text ≤ MAX_TEXT }
         ensures ok { IfOk result (λ lines. QueriesSite self.now text asked lines.items) }
-        ensures errors { RefusedForMemoryAlone result }
+        ensures errors { IfErr result (λ why. RefusesQuery self.now text asked why) }
     {
         let (alloc, replica) = (*self.texts.allocator(), self.replica(text));
         match asked {
@@ -262,6 +258,7 @@ impl Texts {
             Query::Front => front_lines(alloc, replica),
             Query::Runs => run_lines(alloc, replica),
             Query::WhereShown(names) => where_lines(alloc, replica, names),
+            Query::Names { beg, end } => names_lines(alloc, replica, beg, end),
         }
     }
 

@@ -1,7 +1,6 @@
 //! Where the characters of a site's names are shown.
 
 ghost use Rattle.std.specs.Prelude.{◌≡◌, ◌+◌, ◌-◌, ◌<◌, ◌≤◌, ◌↔◌, [], ◌∷◌, ◌++◌, length, Some, OnOk, IfOk, IsTrue};
-ghost use Rattle.std.specs.Fmt.{decimal};
 ghost use Rattle.looks.specs.Refusal.{RefusedForMemoryAlone};
 ghost use Rattle.operations.specs.NameSet.{names_of};
 ghost use Rattle.machine.specs.OnTexts.{Prints};
@@ -9,7 +8,7 @@ ghost use Rattle.machine.specs.declared.asked.Query.TheVariants.{WhereShown};
 ghost use Rattle.machine.specs.WhereShown.{shown_at, shown_line, shown_lines, shown_ranges};
 ghost use Rattle.texts.specs.TextState.{shown_of};
 
-use crate::printing::{put_number, put_shown};
+use crate::printing::{put_shown, put_word};
 use char_files::{Anchor, Name};
 use looks::Refusal;
 use operations::NameRange;
@@ -69,16 +68,8 @@ fn run_len(replica: &Replica, names: NameRange, pos: u64) -> u32
     len
 }
 
-// Appends a number and a blank. After an `Err` of this and of the others that append, some of it may stand there.
-fn put_word(out: &mut Vec<u8>, number: u64) -> Result<(), AllocError>
-    ensures { OnOk result (out.new.items ≡ out.old.items ++ decimal number ++ 32 ∷ []) }
-{
-    put_number(out, number)?;
-    out.push(b' ')?;
-    Ok(())
-}
-
-// Appends the line of names that stand so.
+// Appends the line of names that stand so. After an `Err` of this and of the other that appends, some of it may stand
+// there.
 fn put_shown_range(
     out: &mut Vec<u8>,
     replica: &Replica,

@@ -12,7 +12,7 @@ use Rattle.viewers.specs.Viewers.{ViewersSeen, content_of, numbers, with_content
 use Rattle.texts.specs.TextState.{TextState}
 use Rattle.machine.specs.SiteTexts.{SiteTexts, InText, IsTextOf, with_text}
 use Rattle.text_frames.specs.Frames.{IsDrawn}
-use Rattle.desk_windows.specs.Windows.{AreLeft, Follows, ShowTexts, ShowsText, Told, WindowSeen, windows_of}
+use Rattle.desk_windows.specs.Windows.{AreToldOnce, Follows, ShowTexts, ShowsText, Told, WindowSeen, windows_of}
 
 take_front : {X : Type 0} (ws xs : List X) → take (length ws) (ws ++ xs) ≡ ws
 take_front [] xs = refl
@@ -134,10 +134,10 @@ module _ (number : ℕ) (changes : List Change) (now : TextState) where
         shown_alike (Told number changes now) s.contents ws u x each_told
         (subst (λ (l : List (ℕ × WindowSeen)). content_of l u ≡ Some x) contents_are e)
 
-    pub all_left : AreLeft number changes s (with_contents s ws)
-    all_left u x e =
+    pub told_once : AreToldOnce number changes now s (with_contents s ws)
+    told_once u x e =
         let f = found u x e in
-        (f.0, f.1, record { other = λ apart. (f.2.other apart).0; quiet = f.2.quiet })
+        (f.0, f.1, record { other = λ apart. (f.2.other apart).0; reads = f.2.reads })
 
     pub all_told : (d d' : SiteTexts) → IsTextOf d' number now → ShowTexts d s → InText (Follows changes) d number d'
         → ShowTexts d' (with_contents s ws)

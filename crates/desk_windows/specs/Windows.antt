@@ -12,7 +12,7 @@ use Rattle.char_files.specs.declared.name.Anchor.{Anchor}
 use Rattle.tree_order.specs.Tree.{IsChar}
 use Rattle.list_changes.specs.Changes.{Leads}
 use Rattle.list_changes.specs.declared.change.Change.{Change}
-use Rattle.taken_text.specs.Noted.{SameChar}
+use Rattle.taken_text.specs.Noted.{AreChangesSince, SameChar}
 use Rattle.texts.specs.Edit.{anchor_before}
 use Rattle.texts.specs.Laws.{KeepsTheOrder}
 use Rattle.texts.specs.Text.{IsAnchor, IsText}
@@ -20,7 +20,7 @@ use Rattle.texts.specs.TextState.{TextState, shown_of}
 use Rattle.machine.specs.SiteTexts.{SiteTexts, IsTextOf}
 use Rattle.machine.specs.Windows.{Arranged, Caret, Screened, Selected, Window, place_in, window_of as shown_in}
 use Rattle.machine.specs.declared.TheConstants.{MAX_TEXT}
-use Rattle.text_frames.specs.Frames.{FrameSeen, IsDrawn, is_quiet_for}
+use Rattle.text_frames.specs.Frames.{FrameSeen, IsDrawn, ReadsOnce, is_quiet_for}
 
 -- what a viewer shows: a text, by a frame
 pub record WindowSeen : Type 0 where
@@ -125,6 +125,12 @@ pub record Follows (changes : List Change) (t now : TextState) : Type 0 where
   pub kept : (anchor : Anchor) → IsAnchor t.operations anchor → IsAnchor now.operations anchor
   pub leads : Leads SameChar changes (shown_of t) (shown_of now)
 
+-- A frame that all changes are quiet for keeps its rows, and nothing is read for it; for any other a text is read as often as
+-- it takes to draw it once.
+pub record ReadsAsAsked (changes : List Change) (now : TextState) (old new : FrameSeen) : Type 0 where
+  pub quiet : AllPass (is_quiet_for old) changes → new ≡ record old { reads = 0 }
+  pub anew : (AllPass (is_quiet_for old) changes → ⊥) → IsAnchor now.operations old.anchor → ReadsOnce now old new
+
 -- a window of the text of this number is told of its changes; a window of another text stays
 pub record Told (number : ℕ) (changes : List Change) (now : TextState) (old new : WindowSeen) : Type 0 where
   pub text : new.text ≡ old.text
@@ -133,26 +139,31 @@ pub record Told (number : ℕ) (changes : List Change) (now : TextState) (old ne
   pub rows : length new.frame.rows ≡ length old.frame.rows
   pub other : (old.text ≡ number → ⊥) → (new ≡ old) × (old.text - 1 ≡ number - 1 → ⊥)
   pub drawn : old.text ≡ number → (t : TextState) → Follows changes t now → IsDrawn old.frame t → IsDrawn new.frame now
-  pub quiet : old.text ≡ number → AllPass (is_quiet_for old.frame) changes → new.frame ≡ record old.frame { reads = 0 }
+  pub reads : old.text ≡ number → ReadsAsAsked changes now old.frame new.frame
 
--- a window of another text stays, and one of this text whose frame all changes are quiet for keeps its rows and reads
--- nothing
-pub record IsLeft (number : ℕ) (changes : List Change) (old new : WindowSeen) : Type 0 where
+-- a window of another text stays, and one of this text reads what the changes ask of its frame
+pub record IsToldOnce (number : ℕ) (changes : List Change) (now : TextState) (old new : WindowSeen) : Type 0 where
   pub other : (old.text ≡ number → ⊥) → new ≡ old
-  pub quiet : old.text ≡ number → AllPass (is_quiet_for old.frame) changes → new.frame ≡ record old.frame { reads = 0 }
+  pub reads : old.text ≡ number → ReadsAsAsked changes now old.frame new.frame
 
 -- so it is with what each viewer shows
-abbrev pub AreLeft : (number : ℕ) → List Change → (old new : ViewersSeen WindowSeen) → Type 0
-AreLeft number changes old new = (v : ℕ) (x : WindowSeen) → content_of new.contents v ≡ Some x
-    → (w : WindowSeen) × (content_of old.contents v ≡ Some w) × IsLeft number changes w x
+abbrev pub AreToldOnce : (number : ℕ) → List Change → (now : TextState) → (old new : ViewersSeen WindowSeen) → Type 0
+AreToldOnce number changes now old new = (v : ℕ) (x : WindowSeen) → content_of new.contents v ≡ Some x
+    → (w : WindowSeen) × (content_of old.contents v ≡ Some w) × IsToldOnce number changes now w x
+
+-- the windows are told once of what changed of a text since its changes were last asked for
+abbrev pub AreToldOfText : (d : SiteTexts) → (number : ℕ) → (d' : SiteTexts) → (old new : ViewersSeen WindowSeen) → Type 0
+AreToldOfText d number d' old new = (changes : List Change) × (t now : TextState) × IsTextOf d number t
+    × AreChangesSince t.asked t.operations changes (shown_of t) × IsTextOf d' number now
+    × AreToldOnce number changes now old new
 
 -- a call comes to what the machine says: its answer, and the screen then; a refusal leaves all as it was
-pub record ComesTo {R : Type 0} (out : Arranged) (old : WindowsSeen) (told : R → Option ℕ) (result : Result R Refusal) (new : WindowsSeen) : Type 0 where
+pub record ComesTo {R : Type 0} (out : Arranged) (old : WindowsSeen) (number : R → Option ℕ) (result : Result R Refusal) (new : WindowsSeen) : Type 0 where
   pub done : (s : Screened) (v : Option ℕ) → out ≡ Ok (s, v)
-      → (r : R) × (result ≡ Ok r) × (told r ≡ v) × (screened new ≡ s)
+      → (r : R) × (result ≡ Ok r) × (number r ≡ v) × (screened new ≡ s)
   pub refused : (why : Refusal) → out ≡ Err why → (result ≡ Err why) × (new ≡ old)
 
 -- or, where the machine doesn't refuse it, memory is short, and all is as it was
-abbrev pub ComesToOrShort : {R : Type 0} (out : Arranged) (old : WindowsSeen) (told : R → Option ℕ) (result : Result R Refusal) (new : WindowsSeen) → Type 0
-ComesToOrShort out old told result new =
-    ComesTo out old told result new ⊎ (IsOk out × (result ≡ Err OutOfMemory) × (new ≡ old))
+abbrev pub ComesToOrShort : {R : Type 0} (out : Arranged) (old : WindowsSeen) (number : R → Option ℕ) (result : Result R Refusal) (new : WindowsSeen) → Type 0
+ComesToOrShort out old number result new =
+    ComesTo out old number result new ⊎ (IsOk out × (result ≡ Err OutOfMemory) × (new ≡ old))

@@ -3,10 +3,11 @@ ghost use Rattle.std.specs.Option.{option_and_then};
 ghost use Rattle.looks.specs.Refusal.{RefusedForMemoryAlone};
 ghost use Rattle.looks.specs.declared.refusal.Refusal.TheVariants.{NoRoom};
 ghost use Rattle.viewers.specs.Viewers.{after_opening, has_room};
-ghost use Rattle.machine.specs.SiteTexts.{SiteTexts, InText};
+ghost use Rattle.machine.specs.SiteTexts.{SiteTexts, InText, IsTextOf};
 ghost use Rattle.machine.specs.Windows.{arranged, blank_screen, is_open, is_row_below};
 ghost use Rattle.machine.specs.declared.asked.Arrangement.TheVariants.{Close, Move, Open, Scroll};
-ghost use Rattle.desk_windows.specs.Windows.{AreLeft, AreOf, ComesTo, ComesToOrShort, Follows, IsTextShown, screened, width_of};
+ghost use Rattle.texts.specs.TextState.{TextState};
+ghost use Rattle.desk_windows.specs.Windows.{AreOf, AreToldOnce, ComesTo, ComesToOrShort, Follows, IsTextShown, screened, width_of};
 
 use crate::fitting::fit_all;
 use crate::telling::tell_each;
@@ -224,13 +225,15 @@ impl Windows {
     }
 
     /// Tells each window of a text of what changed in it. Where the windows showed a site's texts, of which this one alone
-    /// has changed since, and so, they show them as they are now. A window that only quiet changes reach reads nothing.
+    /// has changed since, and so, they show them as they are now. A window that only quiet changes reach reads nothing, and any
+    /// other of the text reads what it takes to draw it once.
     pub fn tell(&mut self, texts: &Texts, text: TextNo, changes: &[Change])
         requires { text ≤ MAX_TEXT }
         ensures screen { screened self.new ≡ screened self.old }
         ensures of { (d : SiteTexts) → AreOf d self.old → InText (Follows changes.now) d text texts.now
             → AreOf texts.now self.new }
-        ensures left { AreLeft text changes.now self.old.viewers self.new.viewers }
+        ensures once { (now : TextState) × IsTextOf texts.now text now
+            × AreToldOnce text changes.now now self.old.viewers self.new.viewers }
     {
         let replica = texts.replica(text);
         tell_each(self.viewers.contents_mut(), replica, text, changes);

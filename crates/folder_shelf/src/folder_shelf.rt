@@ -1,34 +1,43 @@
-ghost use Rattle.std.specs.Prelude.{◌≡◌, ◌<◌, ◌≤◌, ◌+◌, ◌⊎◌, length, IfErr, IfOk, IsErr, IsFalse, IsErrOf, None, OnErr, OnOk};
+ghost use Rattle.std.specs.Prelude.{◌≡◌, ◌<◌, ◌≤◌, ◌+◌, ◌⊎◌, length, IfErr, IfOk, IsErr, IsFalse, IsTrue, IsErrOf, None, OnErr, OnOk};
 ghost use Rattle.shelf.specs.Files.{Counts};
 ghost use Rattle.shelf.specs.Names.{is_file_name};
+ghost use Rattle.folder_shelf.specs.Calls.{IsFault, NoFault, Same};
+ghost use Rattle.folder_shelf.specs.Moments.{Anything, Since};
+ghost use Rattle.folder_shelf.specs.Whole.{BeforeOrAfter, HasNoPlain, IsRead, Replaced};
 ghost use Rattle.folder_shelf.specs.declared.whole_files.TheConstants.{MAX_FILE_LEN};
 
+use crate::folder::Folder;
 use crate::host_folder::HostFolder;
 use crate::whole_files::{MAX_FILE_LEN, read_whole, replace};
 use looks::Refusal;
 use shelf::{Shelf, is_file_name};
 use std::alloc::Global;
-use std::fs::Files;
 
-/// The files of the program's current folder. This project's own.
+/// The files of a folder. This project's own.
 ///
-/// Others may write to the folder, so the shelf tells no files: what it reads is believed of the file system.
+/// Others may write there between two calls, so the shelf tells no files; what a call finds and leaves, the folder's
+/// history says, where the folder tells one.
 #[derive(Drop)]
-pub struct FolderShelf<R> {
-    folder: HostFolder<R>,
+pub struct FolderShelf<F> {
+    /// The folder.
+    pub folder: F,
     // Of which the names of files that aren't whole yet take their memory.
     alloc: Global,
     /// How many calls failed.
     pub failures: u64,
 }
 
-impl<R: Files + Drop> FolderShelf<R> {
-    /// The current folder of this system.
-    pub fn new(host: R, alloc: Global) -> FolderShelf<R>
+/// The files of the program's current folder: what it reads is believed of the file system.
+pub type HostShelf<R> = FolderShelf<HostFolder<R>>;
+
+impl<F: Folder + Drop> FolderShelf<F> {
+    /// The files of this folder.
+    pub fn new(folder: F, alloc: Global) -> FolderShelf<F>
+        ensures folder { result.folder ≡ folder }
         ensures failures { result.failures ≡ 0 }
     {
         FolderShelf {
-            folder: HostFolder { host },
+            folder,
             alloc,
             failures: 0,
         }
@@ -36,6 +45,7 @@ impl<R: Files + Drop> FolderShelf<R> {
 
     // Counts a failure.
     fn count(&mut self)
+        ensures folder { self.new.folder ≡ self.old.folder }
         ensures failures { Counts self.old.failures self.new.failures }
         ensures once { self.new.failures ≤ self.old.failures + 1 }
     {
@@ -43,12 +53,15 @@ impl<R: Files + Drop> FolderShelf<R> {
     }
 }
 
-impl<R: Files + Drop> Shelf for FolderShelf<R> {
+impl<F: Folder + Drop> Shelf for FolderShelf<F> {
     ghost files = { λ shelf. None };
 
     ghost faults = { λ shelf. shelf.failures };
 
-    // As each shelf does; and a name of no file of the folder itself is a failure, as is a file that is too long.
+    ghost writes = { λ shelf. None };
+
+    // As each shelf does; and what is read is all that the plain file of the name has. A name of no file of the folder
+    // itself is a failure, and the folder isn't asked then; so is a file that is too long.
     fn read(&mut self, alloc: Global, name: &str) -> Result<Vec<u8>, Refusal>
         ensures errors { IfErr result (λ e. (e ≡ Refusal.ReadFault) ⊎ (e ≡ Refusal.OutOfMemory)) }
         ensures fault { IsErrOf result Refusal.ReadFault → Counts self.old.failures self.new.failures }
@@ -57,6 +70,11 @@ impl<R: Files + Drop> Shelf for FolderShelf<R> {
         ensures rises { self.old.failures ≤ self.new.failures }
         ensures named { IsFalse (is_file_name name.now) → IsErrOf result Refusal.ReadFault }
         ensures limit { IfOk result (λ bytes. length bytes.items ≤ MAX_FILE_LEN) }
+        ensures reads { IfOk result (λ bytes. Since Same (IsRead name.now bytes.items) (F.history self.old.folder) (F.history self.new.folder)) }
+        ensures cause { IsErrOf result Refusal.ReadFault → IsTrue (is_file_name name.now)
+            → Since Same (λ old now. IsFault old now ⊎ HasNoPlain old name.now) (F.history self.old.folder) (F.history self.new.folder) }
+        ensures memory { IsErrOf result Refusal.OutOfMemory → Since Same NoFault (F.history self.old.folder) (F.history self.new.folder) }
+        ensures unasked { IsFalse (is_file_name name.now) → F.history self.new.folder ≡ F.history self.old.folder }
     {
         if is_file_name(name.as_bytes()) {
             match read_whole(&mut self.folder, alloc, name) {
@@ -68,7 +86,9 @@ impl<R: Files + Drop> Shelf for FolderShelf<R> {
         Err(Refusal::ReadFault)
     }
 
-    // As each shelf does; and a name of no file of the folder itself is a failure, as are more bytes than it reads.
+    // As each shelf does; and at each moment the name has the bytes of before or the new ones, whole, whatever a crash makes
+    // of the folder; once it is done, the new ones, and no other name has changed. A name of no file of the folder itself is
+    // a failure, as are more bytes than are read, and the folder isn't asked then.
     fn write(&mut self, name: &str, bytes: &[u8]) -> Result<(), Refusal>
         ensures errors { IfErr result (λ e. e ≡ Refusal.WriteFault) }
         ensures fault { OnErr result (Counts self.old.failures self.new.failures) }
@@ -77,6 +97,10 @@ impl<R: Files + Drop> Shelf for FolderShelf<R> {
         ensures rises { self.old.failures ≤ self.new.failures }
         ensures named { IsFalse (is_file_name name.now) → IsErr result }
         ensures limit { MAX_FILE_LEN < length bytes.now → IsErr result }
+        ensures any_moment { Since (BeforeOrAfter name.now bytes.now) Anything (F.history self.old.folder) (F.history self.new.folder) }
+        ensures done { OnOk result (Since Anything (Replaced name.now bytes.now) (F.history self.old.folder) (F.history self.new.folder)) }
+        ensures unasked { IsFalse (is_file_name name.now) ⊎ (MAX_FILE_LEN < length bytes.now)
+            → F.history self.new.folder ≡ F.history self.old.folder }
     {
         if is_file_name(name.as_bytes())
             && bytes.len() <= MAX_FILE_LEN

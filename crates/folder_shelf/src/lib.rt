@@ -8,6 +8,7 @@ mod limits;
 mod whole_files;
 
 pub use folder::{Folder, MAX_PIECE};
-pub use folder_shelf::FolderShelf;
+pub use folder_shelf::{FolderShelf, HostShelf};
+pub use host_folder::HostFolder;
 pub use limits::the_limits;
 pub use whole_files::{MAX_FILE_LEN, read_whole, replace};

@@ -24,8 +24,8 @@ all_taken (l ∷ ls) (suc k) le = let more : extent (take k ls) ≡ extent ls = 
     omega (arith, more)
 
 -- what stands in a cut piece of some bytes
-cut_at : (bytes : List ℕ) (beg n col : ℕ) → col < n → get_or (take n (drop beg bytes)) col 0 ≡ get_or bytes (beg + col) 0
-cut_at bytes beg n col lt = get_or-take n (drop beg bytes) col 0 lt ∙ get_or-drop beg bytes col 0
+split_across : (bytes : List ℕ) (beg n col : ℕ) → col < n → get_or (take n (drop beg bytes)) col 0 ≡ get_or bytes (beg + col) 0
+split_across bytes beg n col lt = get_or-take n (drop beg bytes) col 0 lt ∙ get_or-drop beg bytes col 0
 
 -- the last line ends with the bytes
 last_end : (bytes : List ℕ) (k : ℕ) → length (lines bytes) ≤ suc k → end_of bytes k ≡ length bytes
@@ -56,7 +56,7 @@ on_line bytes k col on =
     let end : ℕ = end_of bytes k in
     let at : place_of beg end col ≡ beg + col = omega (arith, on) in
     let cut : line_at bytes k ≡ take (end - beg) (drop beg bytes) = (stands_between bytes k (there_is bytes k col on)).1 in
-    ap (λ (n : ℕ). get_or bytes n 0) at ∙ sym (cut_at bytes beg (end - beg) col (omega (arith, on)))
+    ap (λ (n : ℕ). get_or bytes n 0) at ∙ sym (split_across bytes beg (end - beg) col (omega (arith, on)))
     ∙ ap (λ (l : List ℕ). get_or l col 0) (sym cut)
 
 pub is_located : (bytes : List ℕ) (width k col : ℕ) → IsLocated bytes width k col

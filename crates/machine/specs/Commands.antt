@@ -27,7 +27,7 @@ use Rattle.command_words.specs.declared.command.Command.{Command}
 use Rattle.command_words.specs.declared.command.Command.TheVariants as command
 use Rattle.shelf.specs.Names.{is_file_name}
 use Rattle.machine.specs.SiteTexts.{SiteTexts}
-use Rattle.machine.specs.Events.{Task, arrange, change, forget, load, put_recalled, refuse, search, store}
+use Rattle.machine.specs.Events.{Task, arrange, change, forget, load, recall_at_caret, refuse, search, store}
 use Rattle.machine.specs.Windows.{Screened, Window, bytes_shown, marked, position_in, viewer_with, window_of}
 use Rattle.machine.specs.declared.TheConstants.{MAX_TEXT}
 use Rattle.machine.specs.declared.asked.Arrangement.TheVariants.{Close, Open}
@@ -90,16 +90,16 @@ is_caret_sign other = false
 -- The parameter of a call: the value after the word; or, where that is the sign, the value of the first token from the
 -- selection's begin on, which isn't limited by its end and isn't followed again.
 abbrev pub IsParameter : SiteTexts → Screened → Token → Result TokenValue Refusal → Type 0
-IsParameter d w token told =
+IsParameter d w token given =
     MatchBool (is_caret_sign token.value)
-    (MatchOption (marked d w) (told ≡ Err NoSelection)
-    (λ m. (there : Token) × IsTokenAt (bytes_shown m.text) m.beg there × (told ≡ Ok there.value)))
-    (told ≡ Ok token.value)
+    (MatchOption (marked d w) (given ≡ Err NoSelection)
+    (λ m. (there : Token) × IsTokenAt (bytes_shown m.text) m.beg there × (given ≡ Ok there.value)))
+    (given ≡ Ok token.value)
 
 -- the task, or a refusal of a parameter that tells none
-abbrev pub with_told : {X : Type 0} → Option X → (X → Task) → Task
-with_told None task = refuse BadParameter
-with_told (Some x) task = task x
+abbrev pub with_value : {X : Type 0} → Option X → (X → Task) → Task
+with_value None task = refuse BadParameter
+with_value (Some x) task = task x
 
 -- a change of the looks of the selection
 abbrev pub dress_marked : SiteTexts → Screened → Change → Task
@@ -109,25 +109,25 @@ dress_marked d w change_to =
 
 -- what a command does with its parameter, in the viewer that was clicked, on this text: a row each
 abbrev pub task_of : SiteTexts → Screened → Command → TokenValue → (viewer text : ℕ) → Task
-task_of d w command.SystemOpen told v text = with_told (text_parameter told) (λ n. arrange (Open System n None))
-task_of d w command.SystemClose told v text = arrange (Close v)
-task_of d w command.EditOpen told v text = with_told (text_parameter told) (λ n. arrange (Open User n None))
-task_of d w command.EditLoad told v text = with_told (file_parameter told) load
-task_of d w command.EditStore told v text = with_told (file_parameter told) (store text)
-task_of d w command.EditRecall told v text = put_recalled
-task_of d w command.EditRestore told v text = change text restoration
-task_of d w command.EditChangeFont told v text = with_told (font_parameter told) (dress_marked d w)
-task_of d w command.EditChangeColor told v text = with_told (colour_parameter told) (dress_marked d w)
-task_of d w command.EditChangeOffset told v text = with_told (offset_parameter told) (dress_marked d w)
-task_of d w command.EditSearch told v text = with_told (bytes_parameter told) search
-task_of d w command.ShareForget told v text = forget text
+task_of d w command.SystemOpen given v text = with_value (text_parameter given) (λ n. arrange (Open System n None))
+task_of d w command.SystemClose given v text = arrange (Close v)
+task_of d w command.EditOpen given v text = with_value (text_parameter given) (λ n. arrange (Open User n None))
+task_of d w command.EditLoad given v text = with_value (file_parameter given) load
+task_of d w command.EditStore given v text = with_value (file_parameter given) (store text)
+task_of d w command.EditRecall given v text = recall_at_caret
+task_of d w command.EditRestore given v text = change text restoration
+task_of d w command.EditChangeFont given v text = with_value (font_parameter given) (dress_marked d w)
+task_of d w command.EditChangeColor given v text = with_value (colour_parameter given) (dress_marked d w)
+task_of d w command.EditChangeOffset given v text = with_value (offset_parameter given) (dress_marked d w)
+task_of d w command.EditSearch given v text = with_value (bytes_parameter given) search
+task_of d w command.ShareForget given v text = forget text
 
 -- the task of a call, whose parameter is looked for where the command asks for one
 abbrev pub IsTaskOfCall : SiteTexts → Screened → Call → (viewer text : ℕ) → Task → Type 0
 IsTaskOfCall d w call v text task =
     MatchBool (has_parameter call.command)
-    ((told : Result TokenValue Refusal) × IsParameter d w call.token told
-    × MatchResult told (λ value. task ≡ task_of d w call.command value v text) (λ why. task ≡ refuse why))
+    ((given : Result TokenValue Refusal) × IsParameter d w call.token given
+    × MatchResult given (λ value. task ≡ task_of d w call.command value v text) (λ why. task ≡ refuse why))
     (task ≡ task_of d w call.command call.token.value v text)
 
 -- the bytes in which a cell of a viewer stands, and its position there: those of the menu, or those that are shown

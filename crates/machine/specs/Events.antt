@@ -23,8 +23,8 @@ pub data Delivery : Type 0 where
 -- in, and a text in which nothing was done yet begins as such a file tells; a command that can't be done is refused for this.
 pub data Task : Type 0 where
   refuse : (why : Refusal) → Task
-  put : (items : List Item) → Task
-  put_recalled : Task
+  insert_at_caret : (items : List Item) → Task
+  recall_at_caret : Task
   load : (name : List ℕ) → Task
   store : (text : ℕ) (name : List ℕ) → Task
   search : (bytes : List ℕ) → Task

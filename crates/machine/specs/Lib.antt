@@ -3,6 +3,7 @@ pub mod SiteTexts
 pub mod Events
 pub mod Machine
 pub mod OnTexts
+pub mod NamesShown
 pub mod WhereShown
 pub mod Printing
 pub mod ScreenPrinting

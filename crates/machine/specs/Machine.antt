@@ -1,14 +1,14 @@
 -- The machine of events: what a run's sites may reply to an event, and how the run goes on.
 use Rattle.std.specs.Prelude.{◌≡◌, ℕ, ◌-◌, ◌⊎◌, ◌==◌, if◌then◌else◌, List, [], Option, Some, None, MatchOption, slice_get}
-use Rattle.std.specs.Prelude.{false, true}
+use Rattle.std.specs.Prelude.{IsTrue, false, true}
 use Rattle.looks.specs.declared.refusal.Refusal.TheVariants.{BadEvent, OutOfMemory}
 use Rattle.texts.specs.TextState.{TextState}
 use Rattle.machine.specs.Commands.{IsTaskAt}
 use Rattle.machine.specs.SiteTexts.{SiteTexts}
-use Rattle.machine.specs.Events.{Delivery, Event, Part, Reply, Task, ask, bytes, click, copy, edit, merge, messages_of, prints}
+use Rattle.machine.specs.Events.{Delivery, Event, Part, Reply, Task, ask, bytes, click, copy, edit, merge, messages_of}
 use Rattle.machine.specs.Events.{query, sent, settle, take, unknown, untouched}
-use Rattle.machine.specs.OnTexts.{CopiesText, CopiesTextShort, MergesText, MergesTextShort, Prints, SettlesText, TakesText}
-use Rattle.machine.specs.OnTexts.{TakesTextShort}
+use Rattle.machine.specs.OnTexts.{CopiesText, CopiesTextShort, MergesText, MergesTextShort, QueriesText, SettlesText, TakesText}
+use Rattle.machine.specs.OnTexts.{TakesTextShort, is_asked_in}
 use Rattle.machine.specs.State.{AtText, IsDeskAt, IsTextAt, Refuses, State}
 use Rattle.machine.specs.Tasks.{DoesTask, EditsAt, EditsShortAt, ShortTask}
 use Rattle.machine.specs.Windows.{Screened}
@@ -31,8 +31,7 @@ Does s (settle i text) part r new = (part ≡ untouched) × AtText (SettlesText 
 Does s (merge i text j) part r new =
     (part ≡ untouched) × ((u : TextState) × IsTextAt s j text u × AtText (MergesText u r) s i text [] new)
 Does s (query i text q) part r new =
-    (part ≡ untouched) × (new ≡ s)
-    × ((t : TextState) × (lines : List ℕ) × IsTextAt s i text t × Prints q t lines × (r ≡ prints lines))
+    (part ≡ untouched) × (new ≡ s) × ((t : TextState) × IsTextAt s i text t × QueriesText q r t)
 Does s (ask i t) part r new =
     (d : SiteTexts) × (w : Screened) × IsDeskAt s i d w × DoesTask s i d w t part r new
 Does s (click i col row) part r new =
@@ -52,7 +51,8 @@ Short s (take i text d) part r new =
 Short s (settle i text) part r new = (part ≡ untouched) × AtText (SettlesText true r) s i text [] new
 Short s (merge i text j) part r new =
     (part ≡ untouched) × ((u : TextState) × IsTextAt s j text u × AtText (MergesTextShort u r) s i text [] new)
-Short s (query i text q) part r new = (part ≡ untouched) × Refuses s OutOfMemory r new
+Short s (query i text q) part r new =
+    (part ≡ untouched) × ((t : TextState) × IsTextAt s i text t × IsTrue (is_asked_in t q)) × Refuses s OutOfMemory r new
 Short s (ask i t) part r new =
     (d : SiteTexts) × (w : Screened) × IsDeskAt s i d w × ShortTask s i d w t part r new
 Short s (click i col row) part r new =

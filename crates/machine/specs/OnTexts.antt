@@ -1,15 +1,15 @@
 -- What an event does to a text, and what a desk's texts answer.
-use Rattle.std.specs.Prelude.{◌≡◌, ◌≢◌, ℕ, ◌-◌, ◌⊎◌, List, [], ◌++◌, Result, IfOk}
+use Rattle.std.specs.Prelude.{◌≡◌, ℕ, ◌-◌, ◌<◌, ◌⊎◌, List, ◌++◌, Result, IfOk}
 use Rattle.std.specs.Prelude.{MatchBool, IsTrue, length}
-use Rattle.std.specs.Prelude.{◌≤◌, ◌&&◌, Bool, nat_lt, slice_range}
+use Rattle.std.specs.Prelude.{◌≤◌, ◌&&◌, Bool, true, if◌then◌else◌, nat_lt, slice_range}
 use Rattle.looks.specs.declared.refusal.Refusal.{Refusal}
 use Rattle.looks.specs.declared.refusal.Refusal.TheVariants.{FileSpent, OutOfMemory, OutOfRange}
-use Rattle.char_files.specs.Stretch.{Item, Stretch}
+use Rattle.char_files.specs.Stretch.{Stretch}
 use Rattle.char_files.specs.declared.TheConstants.{MAX_FILE}
 use Rattle.operations.specs.NameSet.{names_of}
 use Rattle.set_laws.specs.Fronts.{AreSites}
 use Rattle.texts.specs.Draining.{Drains}
-use Rattle.texts.specs.Edit.{Edit, insertion, deletion, looks_change, restoration, recalling, is_in_text}
+use Rattle.texts.specs.Edit.{Edit, insertion, is_in_text}
 use Rattle.texts.specs.Edit.{is_range_in, plan}
 use Rattle.texts.specs.Merge.{Merges, MergesShort}
 use Rattle.texts.specs.Outcome.{Edits, EditsShort, Shows}
@@ -19,11 +19,12 @@ use Rattle.texts.specs.declared.edit_refusal.EditRefusal.{EditRefusal}
 use Rattle.texts.specs.declared.merge_refusal.MergeRefusal.{MergeRefusal}
 use Rattle.texts.specs.declared.took.Took.{Took}
 use Rattle.machine.specs.SiteTexts.{SiteTexts, InText, IsTextOf}
-use Rattle.machine.specs.Events.{Reply, edit_reply, merge_reply, messages_of, refuses, settles, take_reply}
+use Rattle.machine.specs.Events.{Reply, edit_reply, merge_reply, messages_of, prints, refuses, settles, take_reply}
+use Rattle.machine.specs.NamesShown.{names_lines}
 use Rattle.machine.specs.WhereShown.{where_lines}
 use Rattle.machine.specs.Printing.{AreRunsOf, text_lines, front_lines, run_lines}
 use Rattle.machine.specs.declared.asked.Query.{Query}
-use Rattle.machine.specs.declared.asked.Query.TheVariants.{Text, Front, Runs, WhereShown}
+use Rattle.machine.specs.declared.asked.Query.TheVariants.{Text, Front, Runs, WhereShown, Names}
 
 -- An edit of a text, where memory is there: one whose positions lie outside the text is refused for that
 -- alone, and any other does what its operations do, and where all was done shows what it is to show.
@@ -34,23 +35,12 @@ EditsText e r t new =
     × Shows t e result new × (r ≡ edit_reply result messages))
     ((r ≡ refuses OutOfRange) × (new ≡ t))
 
--- The stretch that an edit puts in, which is made outside the text first, and takes memory where it isn't empty;
--- other edits make none.
-abbrev pub stretch_of : TextState → Edit → List Item
-stretch_of t (insertion pos items) = items
-stretch_of t (deletion beg end) = []
-stretch_of t (looks_change beg end sel looks) = []
-stretch_of t restoration = []
-stretch_of t (recalling pos) = t.last_stretch
-
--- The same where memory was refused: to one of its operations, and those before it stand; or to its stretch, and
--- nothing was done.
+-- The same where memory was refused to one of its operations, which would stand else; those before it stand.
 abbrev pub EditsTextShort : Edit → Reply → TextState → TextState → Type 0
 EditsTextShort e r t new =
     IsTrue (is_in_text t e)
-    × (((result : Result ℕ EditRefusal) × (messages : List (List ℕ)) × EditsShort t (plan t e) result new messages
+    × ((result : Result ℕ EditRefusal) × (messages : List (List ℕ)) × EditsShort t (plan t e) result new messages
     × Shows t e result new × (r ≡ edit_reply result messages))
-    ⊎ ((stretch_of t e ≢ []) × (r ≡ refuses OutOfMemory) × (new ≡ t)))
 
 -- what a copy puts in, after the first pos characters shown: what t shows from beg to end
 abbrev pub copied : TextState → (beg end pos : ℕ) → Edit
@@ -69,10 +59,12 @@ CopiesText t beg end pos r u new =
     (EditsText (copied t beg end pos) r u new))
     ((r ≡ refuses OutOfRange) × (new ≡ u))
 
--- The same where memory was refused.
+-- The same where memory was refused: to the edit; or to the copy, which is made before the edit is begun, where it isn't
+-- empty.
 abbrev pub CopiesTextShort : TextState → (beg end pos : ℕ) → Reply → TextState → TextState → Type 0
 CopiesTextShort t beg end pos r u new =
-    IsTrue (is_copy_in t u beg end pos) × (end - beg ≤ MAX_FILE) × EditsTextShort (copied t beg end pos) r u new
+    IsTrue (is_copy_in t u beg end pos) × (end - beg ≤ MAX_FILE)
+    × (EditsTextShort (copied t beg end pos) r u new ⊎ ((beg < end) × (r ≡ refuses OutOfMemory) × (new ≡ u)))
 
 -- a message for a text, where memory is there
 abbrev pub TakesText : List ℕ → Reply → TextState → TextState → Type 0
@@ -106,6 +98,22 @@ Prints Front t lines =
 Prints Runs t lines =
     (runs : List Stretch) × AreRunsOf (shown_items t) runs × (lines ≡ run_lines runs)
 Prints (WhereShown names) t lines = lines ≡ where_lines (shown_of t) (names_of names)
+Prints (Names beg end) t lines = lines ≡ names_lines (shown_of t) beg end
+
+-- whether the positions of a query lie in the text
+abbrev pub is_asked_in : TextState → Query → Bool
+is_asked_in t (Names beg end) = is_range_in t beg end
+is_asked_in t q = true
+
+-- A query of a text, where memory is there: one whose positions lie outside the text is refused for that alone, and any other
+-- prints its lines.
+abbrev pub QueriesText : Query → Reply → TextState → Type 0
+QueriesText q r t =
+    MatchBool (is_asked_in t q) ((lines : List ℕ) × Prints q t lines × (r ≡ prints lines)) (r ≡ refuses OutOfRange)
+
+-- why a query of a text is refused: for its positions, or else for memory
+abbrev pub query_refusal : TextState → Query → Refusal
+query_refusal t q = if is_asked_in t q then OutOfMemory else OutOfRange
 
 -- A text is changed in either way, with memory or without, and answers so, with the count of its messages where all was done;
 -- these were put after those that were sent.
@@ -155,4 +163,8 @@ MergesSite d text other result new =
 
 -- a query: these are its lines
 abbrev pub QueriesSite : SiteTexts → ℕ → Query → List ℕ → Type 0
-QueriesSite d text q lines = (t : TextState) × IsTextOf d text t × Prints q t lines
+QueriesSite d text q lines = (t : TextState) × IsTextOf d text t × IsTrue (is_asked_in t q) × Prints q t lines
+
+-- a query is refused for this
+abbrev pub RefusesQuery : SiteTexts → ℕ → Query → Refusal → Type 0
+RefusesQuery d text q why = (t : TextState) × IsTextOf d text t × (why ≡ query_refusal t q)

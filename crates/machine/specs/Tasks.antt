@@ -19,7 +19,7 @@ use Rattle.texts.specs.TextState.{TextState, empty_text, shown_items, shown_of, 
 use Rattle.texts.specs.declared.TheConstants.{MAX_KEPT}
 use Rattle.machine.specs.SiteTexts.{SiteTexts}
 use Rattle.machine.specs.Events.{Part, Reply, Task, arrange, change, done, failed, forget, forgot, found, keep, load, messages_of}
-use Rattle.machine.specs.Events.{not_found, opens, print, prints, put, put_recalled, refuse, refuses, reopen, search, store}
+use Rattle.machine.specs.Events.{not_found, opens, print, prints, insert_at_caret, recall_at_caret, refuse, refuses, reopen, search, store}
 use Rattle.machine.specs.Events.{untouched, went_well}
 use Rattle.machine.specs.OnTexts.{EditsText, EditsTextShort}
 use Rattle.machine.specs.ScreenPrinting.{marks_lines, screen_lines, views_lines}
@@ -104,14 +104,15 @@ Loads s i w name went_well c window t r new =
     × ((IsNoFile file × Refuses s BadFile r new)
     ⊎ ((items : List Item) × IsFileOf items file × AtCaret EditsAt s i w c window t (λ p. insertion p items) r new))
 
--- the same where memory was refused: nothing was read; or a text's file was, of which nothing was put in, or a part
+-- The same where memory was refused: to the bytes of a file that is there, or to the characters that they tell, and nothing was
+-- put in; or a text's file was read, and of its characters a part was put in, or none.
 abbrev pub LoadsShort : State → (i : ℕ) → Screened → (name : List ℕ) → Part → Caret → Window → TextState
     → Reply → State → Type 0
-LoadsShort s i w name untouched c window t r new = Refuses s OutOfMemory r new
+LoadsShort s i w name untouched c window t r new = ⊥
 LoadsShort s i w name (failed left) c window t r new = ⊥
 LoadsShort s i w name went_well c window t r new =
     (file : List ℕ) × (s.files name ≡ Some file)
-    × (((¬ IsNoFile file) × Refuses s OutOfMemory r new)
+    × (Refuses s OutOfMemory r new
     ⊎ ((items : List Item) × IsFileOf items file × AtCaret EditsShortAt s i w c window t (λ p. insertion p items) r new))
 
 -- a file is written: there is more than the most that one may tell; or it is so then; or it wasn't written
@@ -153,9 +154,9 @@ Reopens s i text t name (failed left) r new = Refuses s ReadFault r new
 Reopens s i text t name went_well r new =
     (file : List ℕ) × (s.files name ≡ Some file) × BeginsAs s i text t file r new
 
--- the same where memory was refused: nothing was read, or a file was
+-- the same where memory was refused, to the bytes of a file that is there, or to what they tell
 abbrev pub ReopensShort : State → (name : List ℕ) → Part → Reply → State → Type 0
-ReopensShort s name untouched r new = Refuses s OutOfMemory r new
+ReopensShort s name untouched r new = ⊥
 ReopensShort s name (failed left) r new = ⊥
 ReopensShort s name went_well r new =
     (file : List ℕ) × (s.files name ≡ Some file) × Refuses s OutOfMemory r new
@@ -181,10 +182,10 @@ lines_of_view d w Show = screen_lines d w
 -- a keeping write one.
 abbrev pub DoesTask : State → (i : ℕ) → SiteTexts → Screened → Task → Part → Reply → State → Type 0
 DoesTask s i d w (refuse why) part r new = (part ≡ untouched) × Refuses s why r new
-DoesTask s i d w (put items) part r new =
+DoesTask s i d w (insert_at_caret items) part r new =
     IfCaret s d w part r new (λ c window t.
     (part ≡ untouched) × AtCaret EditsAt s i w c window t (λ p. insertion p items) r new)
-DoesTask s i d w put_recalled part r new =
+DoesTask s i d w recall_at_caret part r new =
     IfCaret s d w part r new (λ c window t. (part ≡ untouched) × AtCaret EditsAt s i w c window t recalling r new)
 DoesTask s i d w (load name) part r new =
     IfCaret s d w part r new (λ c window t. Loads s i w name part c window t r new)
@@ -207,10 +208,10 @@ DoesTask s i d w (reopen text name) part r new =
 -- none.
 abbrev pub ShortTask : State → (i : ℕ) → SiteTexts → Screened → Task → Part → Reply → State → Type 0
 ShortTask s i d w (refuse why) part r new = ⊥
-ShortTask s i d w (put items) part r new =
+ShortTask s i d w (insert_at_caret items) part r new =
     (part ≡ untouched)
     × WithCaret d w (λ c window t. AtCaret EditsShortAt s i w c window t (λ p. insertion p items) r new)
-ShortTask s i d w put_recalled part r new =
+ShortTask s i d w recall_at_caret part r new =
     (part ≡ untouched) × WithCaret d w (λ c window t. AtCaret EditsShortAt s i w c window t recalling r new)
 ShortTask s i d w (load name) part r new =
     WithCaret d w (λ c window t. LoadsShort s i w name part c window t r new)

@@ -15,6 +15,8 @@ pub enum Query {
     Runs,
     /// Where the characters of these names are shown.
     WhereShown(NameRange),
+    /// The names of what is shown from one position to another.
+    Names { beg: u64, end: u64 },
 }
 
 /// What is to be printed of a screen.

@@ -40,10 +40,10 @@ use Rattle.viewers.specs.Screen.{area_of}
 use Rattle.viewers.specs.declared.screen.Area.{Area}
 use Rattle.machine.specs.Commands.{Change, Clicked, IsParameter, IsTaskAt, IsTaskOfCall, bytes_parameter, clicked, clicked_in}
 use Rattle.machine.specs.Commands.{colour_parameter, dress_marked, file_parameter, font_parameter, is_caret_sign, offset_parameter, task_of}
-use Rattle.machine.specs.Commands.{text_parameter, with_told}
+use Rattle.machine.specs.Commands.{text_parameter, with_value}
 use Rattle.machine.specs.SiteTexts.{SiteTexts, with_text}
 use Rattle.machine.specs.Events.{Part, Reply, Task, arrange, change, done, edit_reply, failed, forget, forgot, found, keep}
-use Rattle.machine.specs.Events.{load, messages_of, not_found, opens, print, prints, put, put_recalled, refuse, refuses}
+use Rattle.machine.specs.Events.{load, messages_of, not_found, opens, print, prints, insert_at_caret, recall_at_caret, refuse, refuses}
 use Rattle.machine.specs.Events.{reopen, search, store, untouched, went_well}
 use Rattle.machine.specs.OnTexts.{EditsText}
 use Rattle.machine.specs.State.{AtText, IsDeskAt, IsTextAt, Refuses, State, with_screen_at}
@@ -52,7 +52,7 @@ use Rattle.machine.specs.Tasks.{Loads, Searches, StandsAt, has_begun, lines_of_v
 use Rattle.machine.specs.Windows.{Arranged, Caret, Marked, Screened, Window, arranged, bytes_shown, marked, marked_as}
 use Rattle.machine.specs.Windows.{place_in, stretch_in, viewer_with, window_of}
 use Rattle.machine_laws.proofs.OneOfTexts.{lemma_one_text}
-use Rattle.machine_laws.proofs.OneReply.{BeginsOf, ComesTo, IsParameterBy, IsTaskBy, IsTaskIn, IsTaskTold, ReopensBy}
+use Rattle.machine_laws.proofs.OneReply.{BeginsOf, ComesTo, IsParameterBy, IsTaskBy, IsTaskIn, IsTaskFor, ReopensBy}
 use Rattle.machine_laws.proofs.OneReply.{shown_parts}
 use Rattle.machine_laws.proofs.Reopening.{some_begun}
 use Rattle.machine_laws.proofs.Telling.{put_there}
@@ -302,10 +302,10 @@ module _ (plain : OwnEditsArePlain) (s : State) (i : ℕ) (d : SiteTexts) (w : S
 
   tasks : (t : Task) (part : Part) → HasText s i t → MayHavePart s i w t part → Answers s i d w t part
   tasks (refuse why) part text free = ((refuses why), s, (free, (refl, refl)))
-  tasks (put items) part text free = with_caret part _
+  tasks (insert_at_caret items) part text free = with_caret part _
       (λ c window t is here. let (r, new, g) = at_caret c window t (λ p. insertion p items) here in (r, new, (free, g)))
       w.caret refl (λ e. free)
-  tasks put_recalled part text free = with_caret part _
+  tasks recall_at_caret part text free = with_caret part _
       (λ c window t is here. let (r, new, g) = at_caret c window t recalling here in (r, new, (free, g)))
       w.caret refl (λ e. free)
   tasks (load name) untouched text free = ((refuses NoCaret), s, inl (free, refl, (refl, refl)))
@@ -349,8 +349,8 @@ module _ (plain : OwnEditsArePlain) (s : State) (i : ℕ) (d : SiteTexts) (w : S
   -- a part that may be
   parts : (t : Task) → HasText s i t → (part : Part) × MayHavePart s i w t part
   parts (refuse why) text = (untouched, refl)
-  parts (put items) text = (untouched, refl)
-  parts put_recalled text = (untouched, refl)
+  parts (insert_at_caret items) text = (untouched, refl)
+  parts recall_at_caret text = (untouched, refl)
   parts (load name) text = by w.caret refl
     where
       by : (o : Option Caret) → w.caret ≡ o → (part : Part) × MayHavePart s i w (load name) part
@@ -389,7 +389,7 @@ module _ (plain : OwnEditsArePlain) (s : State) (i : ℕ) (d : SiteTexts) (w : S
   call_task : (call : Call) (v text : ℕ) → (t : Task) × IsTaskOfCall d w call v text t
   call_task call v text = by (has_parameter call.command)
     where
-      of_told : (told : Result TokenValue Refusal) → (t : Task) × IsTaskTold d w call v text t told
+      of_told : (told : Result TokenValue Refusal) → (t : Task) × IsTaskFor d w call v text t told
       of_told (Ok value) = (task_of d w call.command value v text, refl)
       of_told (Err why) = (refuse why, refl)
 
@@ -410,7 +410,7 @@ module _ (plain : OwnEditsArePlain) (s : State) (i : ℕ) (d : SiteTexts) (w : S
       (shown_at selected.viewer shown.0 shown.1 shows)))
 
   told_text : {X : Type 0} (o : Option X) (task : X → Task) → ((x : X) → HasText s i (task x))
-      → HasText s i (with_told o task)
+      → HasText s i (with_value o task)
   told_text None task lemma_has_text = tt
   told_text (Some x) task lemma_has_text = lemma_has_text x
 
@@ -443,7 +443,7 @@ module _ (plain : OwnEditsArePlain) (s : State) (i : ℕ) (d : SiteTexts) (w : S
       → IsTaskOfCall d w call v text task → HasText s i task
   call_text call v text t task there is = by (has_parameter call.command) is
     where
-      of_told : (told : Result TokenValue Refusal) → IsTaskTold d w call v text task told → HasText s i task
+      of_told : (told : Result TokenValue Refusal) → IsTaskFor d w call v text task told → HasText s i task
       of_told (Ok value) e = subst (HasText s i) (sym e) (command_text call.command value v text t there)
       of_told (Err why) e = subst (HasText s i) (sym e) tt
 

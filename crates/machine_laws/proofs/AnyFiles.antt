@@ -8,7 +8,7 @@ use Rattle.texts.specs.Edit.{Edit, insertion, recalling}
 use Rattle.texts.specs.TextState.{TextState}
 use Rattle.machine.specs.SiteTexts.{SiteTexts}
 use Rattle.machine.specs.Events.{Delivery, Event, Part, Reply, Task, arrange, ask, bytes, change, click, copy, edit, forget}
-use Rattle.machine.specs.Events.{keep, load, merge, messages_of, print, put, put_recalled, query, refuse, reopen, search, sent, settle}
+use Rattle.machine.specs.Events.{keep, load, merge, messages_of, print, insert_at_caret, recall_at_caret, query, refuse, reopen, search, sent, settle}
 use Rattle.machine.specs.Events.{store, take, unknown, untouched}
 use Rattle.machine.specs.Machine.{Does, Replies, Short, message_in}
 use Rattle.machine.specs.OnTexts.{CopiesText, CopiesTextShort, EditsText, EditsTextShort, MergesText, MergesTextShort}
@@ -79,9 +79,9 @@ module _ (now : Files) where
     task_over : (t : Task) (r : Reply) (new : State) → DoesTask s i d w t untouched r new
         → DoesTask (over s) i d w t untouched r (over new)
     task_over (refuse why) r new (free, refused) = (free, refused_over s new why r refused)
-    task_over (put items) r new does = if_caret_over r new _ _
+    task_over (insert_at_caret items) r new does = if_caret_over r new _ _
         (λ c window t goes. (goes.0, at_caret_over EditsAt edits_over c window t (λ p. insertion p items) r new goes.1)) does
-    task_over put_recalled r new does = if_caret_over r new _ _
+    task_over recall_at_caret r new does = if_caret_over r new _ _
         (λ c window t goes. (goes.0, at_caret_over EditsAt edits_over c window t recalling r new goes.1)) does
     task_over (load name) r new does = if_caret_over r new _ _ (λ c window t goes. absurd goes) does
     task_over (store text name) r new (t, there, does) = (t, there, written_over _ _ name [] r new does)
@@ -97,12 +97,11 @@ module _ (now : Files) where
     short_over : (t : Task) (r : Reply) (new : State) → ShortTask s i d w t untouched r new
         → ShortTask (over s) i d w t untouched r (over new)
     short_over (refuse why) r new does = absurd does
-    short_over (put items) r new (free, (c, shown, is_c, shows, goes)) =
+    short_over (insert_at_caret items) r new (free, (c, shown, is_c, shows, goes)) =
         (free, (c, shown, is_c, shows, at_caret_over EditsShortAt edits_short_over c shown.0 shown.1 (λ p. insertion p items) r new goes))
-    short_over put_recalled r new (free, (c, shown, is_c, shows, goes)) =
+    short_over recall_at_caret r new (free, (c, shown, is_c, shows, goes)) =
         (free, (c, shown, is_c, shows, at_caret_over EditsShortAt edits_short_over c shown.0 shown.1 recalling r new goes))
-    short_over (load name) r new (c, shown, is_c, shows, refused) =
-        (c, shown, is_c, shows, refused_over s new OutOfMemory r refused)
+    short_over (load name) r new (c, shown, is_c, shows, does) = absurd does
     short_over (store text name) r new (free, there, refused) = (free, there, refused_over s new OutOfMemory r refused)
     short_over (search sought) r new does = absurd does
     short_over (change text e) r new (free, does) = (free, edits_short_over s i text e r new does)
@@ -116,7 +115,7 @@ module _ (now : Files) where
     short_over (arrange (Select beg end)) r new does = absurd does
     short_over (print v) r new (free, refused) = (free, refused_over s new OutOfMemory r refused)
     short_over (keep text name) r new (free, there, refused) = (free, there, refused_over s new OutOfMemory r refused)
-    short_over (reopen text name) r new (there, refused) = (there, refused_over s new OutOfMemory r refused)
+    short_over (reopen text name) r new (there, does) = absurd does
 
   at_over : (s : State) (i : ℕ) (d : SiteTexts) (w : Screened) → IsDeskAt s i d w → IsDeskAt (over s) i d w
   at_over s i d w at = record { texts = at.texts; screen = at.screen }
@@ -159,7 +158,8 @@ module _ (now : Files) where
   falls_short_over s (settle i text) r new (free, does) = (free, at_text_over (SettlesText true r) s new i text [] does)
   falls_short_over s (merge i text j) r new (free, (u, there, does)) =
       (free, (u, there, at_text_over (MergesTextShort u r) s new i text [] does))
-  falls_short_over s (query i text q) r new (free, refused) = (free, refused_over s new OutOfMemory r refused)
+  falls_short_over s (query i text q) r new (free, inside, refused) =
+      (free, inside, refused_over s new OutOfMemory r refused)
   falls_short_over s (ask i t) r new (d, w, at, does) = (d, w, at_over s i d w at, short_over s i d w t r new does)
   falls_short_over s (click i col row) r new (d, w, t, at, is, does) =
       (d, w, t, at_over s i d w at, is, short_over s i d w t r new does)
@@ -173,8 +173,8 @@ if_caret_asks_for_none s new d w part r Goes (inr (c, shown, is_c, shows, (free,
 task_asks_for_none : (s : State) (i : ℕ) (d : SiteTexts) (w : Screened) (t : Task) (part : Part) (r : Reply) (new : State)
     → AsksForNoFile (ask i t) → DoesTask s i d w t part r new → part ≡ untouched
 task_asks_for_none s i d w (refuse why) part r new none does = does.0
-task_asks_for_none s i d w (put items) part r new none does = if_caret_asks_for_none s new d w part r _ does
-task_asks_for_none s i d w put_recalled part r new none does = if_caret_asks_for_none s new d w part r _ does
+task_asks_for_none s i d w (insert_at_caret items) part r new none does = if_caret_asks_for_none s new d w part r _ does
+task_asks_for_none s i d w recall_at_caret part r new none does = if_caret_asks_for_none s new d w part r _ does
 task_asks_for_none s i d w (load name) part r new none does = absurd none
 task_asks_for_none s i d w (store text name) part r new none does = absurd none
 task_asks_for_none s i d w (search sought) part r new none does = if_caret_asks_for_none s new d w part r _ does
@@ -188,8 +188,8 @@ task_asks_for_none s i d w (reopen text name) part r new none does = absurd none
 short_task_asks_for_none : (s : State) (i : ℕ) (d : SiteTexts) (w : Screened) (t : Task) (part : Part) (r : Reply) (new : State)
     → AsksForNoFile (ask i t) → ShortTask s i d w t part r new → part ≡ untouched
 short_task_asks_for_none s i d w (refuse why) part r new none does = absurd does
-short_task_asks_for_none s i d w (put items) part r new none does = does.0
-short_task_asks_for_none s i d w put_recalled part r new none does = does.0
+short_task_asks_for_none s i d w (insert_at_caret items) part r new none does = does.0
+short_task_asks_for_none s i d w recall_at_caret part r new none does = does.0
 short_task_asks_for_none s i d w (load name) part r new none does = absurd none
 short_task_asks_for_none s i d w (store text name) part r new none does = absurd none
 short_task_asks_for_none s i d w (search sought) part r new none does = absurd does

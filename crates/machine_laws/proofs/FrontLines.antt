@@ -12,7 +12,7 @@ use Rattle.std.proofs.lemmas.Str.Parse.{numerals_by_value, tells_all_ascii_digit
 use Rattle.operations.specs.Operation.{Operation}
 use Rattle.set_laws.specs.Fronts.{AreSites, front_of, of_site}
 use Rattle.texts.specs.TextState.{TextState}
-use Rattle.machine_laws.specs.Laws.{AreNumbered, FrontLinesTellFronts}
+use Rattle.machine_laws.specs.Laws.{AreNumbered, FrontLinesDetermineFronts}
 use Rattle.machine_laws.proofs.RisingSites.{here, there}
 use Rattle.machine.specs.Printing.{front_line, front_lines, waiting_line}
 
@@ -151,7 +151,7 @@ before t text sites is =
     append_cancel_right text (flat_map (λ site. front_line site (front_of t.operations site)) sites)
     (waiting_line (length t.waiting_room)) is
 
-pub fronts-lines : FrontLinesTellFronts
+pub fronts-lines : FrontLinesDetermineFronts
 fronts-lines t u text numbered numbered' (sites, are, is) (sites', are', is') s =
     let small = small_sites t.operations sites numbered are in
     let small' = small_sites u.operations sites' numbered' are' in

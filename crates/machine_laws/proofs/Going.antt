@@ -4,9 +4,9 @@ use Rattle.std.proofs.Common.{◌∙◌, inl, inr, length}
 use Rattle.std.proofs.lemmas.List.{append-nil}
 use Rattle.std.specs.Option.{option_map_or}
 use Rattle.looks.specs.declared.refusal.Refusal.{Refusal}
-use Rattle.looks.specs.declared.refusal.Refusal.TheVariants.{BadEvent, BadFile, Conflict, NoCaret, OutOfMemory, ReadFault}
-use Rattle.looks.specs.declared.refusal.Refusal.TheVariants.{WriteFault, WrongText}
-use Rattle.std.specs.Prelude.{◌⊎◌, ◌==◌, ◌&&◌, MatchOption, slice_get, slice_set}
+use Rattle.looks.specs.declared.refusal.Refusal.TheVariants.{BadEvent, BadFile, Conflict, NoCaret, OutOfMemory, OutOfRange}
+use Rattle.looks.specs.declared.refusal.Refusal.TheVariants.{ReadFault, WriteFault, WrongText}
+use Rattle.std.specs.Prelude.{◌⊎◌, ◌==◌, ◌&&◌, MatchBool, MatchOption, slice_get, slice_set}
 use Rattle.std.proofs.lemmas.Bool.{cond_both}
 use Rattle.char_files.specs.declared.name.Anchor.{Anchor}
 use Rattle.operations.specs.Operation.{Operation}
@@ -20,11 +20,11 @@ use Rattle.texts.specs.TextState.{TextState, empty_text, shown_of, with_room}
 use Rattle.machine.specs.SiteTexts.{SiteTexts, InText}
 use Rattle.machine.specs.Events.{Event, Part, Reply, Task, arrange, ask, change, click, copy, done, edit, failed, forget}
 use Rattle.machine.specs.Events.{forgot, found, keep, load, merge, merge_reply, messages_of, not_found, opens, print, prints}
-use Rattle.machine.specs.Events.{put, put_recalled, query, refuse, refuses, reopen, search, settle, store, take, take_reply}
+use Rattle.machine.specs.Events.{insert_at_caret, recall_at_caret, query, refuse, refuses, reopen, search, settle, store, take, take_reply}
 use Rattle.machine.specs.Events.{unknown, untouched, went_well}
 use Rattle.machine.specs.Machine.{Does, Replies, Short, message_in}
 use Rattle.machine.specs.OnTexts.{CopiesText, CopiesTextShort, EditsText, EditsTextShort, MergesText, MergesTextShort}
-use Rattle.machine.specs.OnTexts.{SettlesText, TakesText, TakesTextShort}
+use Rattle.machine.specs.OnTexts.{Prints, SettlesText, TakesText, TakesTextShort, is_asked_in}
 use Rattle.machine.specs.State.{AtText, IsDeskAt, IsTextAt, Refuses, State, Tells}
 use Rattle.machine.specs.Tasks.{AtCaret, BeginsAs, BeginsWith, DoesTask, EditSteps, EditsAt, EditsShortAt, FileBecomes}
 use Rattle.machine.specs.Tasks.{Forgets, IfCaret, Loads, LoadsShort, Reopens, ReopensShort, Searches, ShortTask, Writes}
@@ -32,6 +32,7 @@ use Rattle.machine.specs.Tasks.{caret_after, has_begun, lines_of_view}
 use Rattle.machine.specs.Windows.{Arranged, Caret, Screened, Window, arranged, place_in, window_of}
 use Rattle.machine.specs.declared.asked.Arrangement.{Arrangement}
 use Rattle.machine.specs.declared.asked.Arrangement.TheVariants.{Close, Move, Open, Point, Scroll, Select}
+use Rattle.machine.specs.declared.asked.Query.{Query}
 use Rattle.machine_laws.proofs.OneOfTexts.{lemma_one_text}
 use Rattle.machine_laws.proofs.OneReply.{ComesTo, shown_parts}
 use Rattle.machine_laws.proofs.Reopening.{Begins}
@@ -215,9 +216,9 @@ module _ (s : State) (i : ℕ) (d : SiteTexts) (w : Screened) (at : IsDeskAt s i
   loaded_short : (name : List ℕ) (part : Part) (c : Caret) (shown : Window × TextState) (r : Reply) (new : State)
       → w.caret ≡ Some c → window_of d w c.viewer ≡ Some shown → LoadsShort s i w name part c shown.0 shown.1 r new
       → Goes s r new
-  loaded_short name untouched c shown r new is_c shows does = refused_goes s new OutOfMemory r does
+  loaded_short name untouched c shown r new is_c shows does = absurd does
   loaded_short name (failed left) c shown r new is_c shows does = absurd does
-  loaded_short name went_well c shown r new is_c shows (file, there, inl (some, refused)) = refused_goes s new OutOfMemory r refused
+  loaded_short name went_well c shown r new is_c shows (file, there, inl refused) = refused_goes s new OutOfMemory r refused
   loaded_short name went_well c shown r new is_c shows (file, there, inr (items, is, goes)) =
       at_caret_short c shown (λ p. insertion p items) r new is_c shows goes
 
@@ -261,7 +262,7 @@ module _ (s : State) (i : ℕ) (d : SiteTexts) (w : Screened) (at : IsDeskAt s i
 
   reopened_short : (name : List ℕ) (part : Part) (r : Reply) (new : State) → ReopensShort s name part r new
       → Goes s r new
-  reopened_short name untouched r new short = refused_goes s new OutOfMemory r short
+  reopened_short name untouched r new short = absurd short
   reopened_short name (failed left) r new short = absurd short
   reopened_short name went_well r new (file, there, refused) = refused_goes s new OutOfMemory r refused
 
@@ -287,9 +288,9 @@ module _ (s : State) (i : ℕ) (d : SiteTexts) (w : Screened) (at : IsDeskAt s i
 
   task_goes : (t : Task) (part : Part) (r : Reply) (new : State) → DoesTask s i d w t part r new → Goes s r new
   task_goes (refuse why) part r new does = refused_goes s new why r does.1
-  task_goes (put items) part r new does = if_caret part r new _
+  task_goes (insert_at_caret items) part r new does = if_caret part r new _
       (λ c shown is_c shows goes. at_caret_whole c shown (λ p. insertion p items) r new is_c shows goes.1) does
-  task_goes put_recalled part r new does = if_caret part r new _
+  task_goes recall_at_caret part r new does = if_caret part r new _
       (λ c shown is_c shows goes. at_caret_whole c shown recalling r new is_c shows goes.1) does
   task_goes (load name) part r new does = if_caret part r new _
       (λ c shown is_c shows goes. loaded name part c shown r new is_c shows goes) does
@@ -308,9 +309,9 @@ module _ (s : State) (i : ℕ) (d : SiteTexts) (w : Screened) (at : IsDeskAt s i
 
   task_goes_short : (t : Task) (part : Part) (r : Reply) (new : State) → ShortTask s i d w t part r new → Goes s r new
   task_goes_short (refuse why) part r new does = absurd does
-  task_goes_short (put items) part r new (free, (c, shown, is_c, shows, goes)) =
+  task_goes_short (insert_at_caret items) part r new (free, (c, shown, is_c, shows, goes)) =
       at_caret_short c shown (λ p. insertion p items) r new is_c shows goes
-  task_goes_short put_recalled part r new (free, (c, shown, is_c, shows, goes)) =
+  task_goes_short recall_at_caret part r new (free, (c, shown, is_c, shows, goes)) =
       at_caret_short c shown recalling r new is_c shows goes
   task_goes_short (load name) part r new (c, shown, is_c, shows, goes) =
       loaded_short name part c shown r new is_c shows goes
@@ -335,6 +336,13 @@ taken_goes s new i text None r refused = refused_goes s new BadEvent r refused
 taken_goes s new i text (Some bytes) r does = silent_goes (TakesText bytes r) s new i text r
     (λ t u there taken. (takes bytes r taken, ap messages_of taken.2 ∙ take_tells taken.0)) does
 
+-- a query, of which the positions lie in the text, or not
+query_goes : (s new : State) (r : Reply) (t : TextState) (q : Query) (inside : Bool)
+    → MatchBool inside ((lines : List ℕ) × Prints q t lines × (r ≡ prints lines)) (r ≡ refuses OutOfRange) → new ≡ s
+    → Goes s r new
+query_goes s new r t q true (lines, prints_so, is) same = same_goes s new r (prints lines) is refl same
+query_goes s new r t q false is same = refused_goes s new OutOfRange r (is, same)
+
 does_go : (s : State) (e : Event) (part : Part) (r : Reply) (new : State) → Does s e part r new → Goes s r new
 does_go s (edit i text e) part r new does = edit_goes s i text e r new does.1
 does_go s (copy i text beg end other pos) part r new (free, (t, there, does)) =
@@ -344,8 +352,7 @@ does_go s (settle i text) part r new does = silent_goes (SettlesText false r) s 
     (λ t u there settled. (settles_so false r settled, ap messages_of settled.3)) does.1
 does_go s (merge i text j) part r new (free, (other, there, does)) = silent_goes (MergesText other r) s new i text r
     (λ t u here merged. (merges_so j text other r there merged, ap messages_of merged.2 ∙ merge_tells merged.0)) does
-does_go s (query i text q) part r new (free, same, (t, lines, there, prints_so, is)) =
-    same_goes s new r (prints lines) is refl same
+does_go s (query i text q) part r new (free, same, (t, there, asks)) = query_goes s new r t q (is_asked_in t q) asks same
 does_go s (ask i t) part r new (d, w, at, does) = task_goes s i d w at t part r new does
 does_go s (click i col row) part r new (d, w, t, at, is, does) = task_goes s i d w at t part r new does
 does_go s unknown part r new does = refused_goes s new BadEvent r does.1
@@ -360,7 +367,7 @@ short_goes s (settle i text) part r new short = silent_goes (SettlesText true r)
     (λ t u there settled. (settles_so true r settled, ap messages_of settled.3)) short.1
 short_goes s (merge i text j) part r new (free, (other, there, short)) = silent_goes (MergesTextShort other r) s new i text r
     (λ t u here merged. (merges_short j text other r there merged, ap messages_of merged.2 ∙ merge_tells merged.0)) short
-short_goes s (query i text q) part r new short = refused_goes s new OutOfMemory r short.1
+short_goes s (query i text q) part r new (free, inside, refused) = refused_goes s new OutOfMemory r refused
 short_goes s (ask i t) part r new (d, w, at, does) = task_goes_short s i d w at t part r new does
 short_goes s (click i col row) part r new (d, w, t, at, is, does) = task_goes_short s i d w at t part r new does
 short_goes s unknown part r new short = absurd short

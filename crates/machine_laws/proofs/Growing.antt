@@ -92,9 +92,8 @@ edits_add e r t new does =
     ]
 
 edits_add_short : (e : Edit) (r : Reply) (t new : TextState) → EditsTextShort e r t new → Adds t new
-edits_add_short e r t new (within, inl (result, messages, edits, shows, replied)) =
+edits_add_short e r t new (within, (result, messages, edits, shows, replied)) =
     edit_adds_short t (plan t e) result new messages edits
-edits_add_short e r t new (within, inr (some, replied, same)) = adds_none t new same
 
 copies_add : (t : TextState) (beg end pos : ℕ) (r : Reply) (u new : TextState) → CopiesText t beg end pos r u new → Adds u new
 copies_add t beg end pos r u new does =
@@ -105,6 +104,11 @@ copies_add t beg end pos r u new does =
       ]
       | inr left ↦ adds_none u new left.1.1
     ]
+
+copies_add_short : (t : TextState) (beg end pos : ℕ) (r : Reply) (u new : TextState) → CopiesTextShort t beg end pos r u new
+    → Adds u new
+copies_add_short t beg end pos r u new (positions, few, inl short) = edits_add_short (copied t beg end pos) r u new short
+copies_add_short t beg end pos r u new (positions, few, inr (some, replied, same)) = adds_none u new same
 
 -- messages of others
 
@@ -200,6 +204,4 @@ module _ (plain : OwnEditsArePlain) where
   pub copies_short_grow : (t : TextState) (beg end pos : ℕ) (r : Reply) (u new : TextState)
       → CopiesTextShort t beg end pos r u new → IsText u → Grows u new
   copies_short_grow t beg end pos r u new does is =
-      let (positions, few, short) = does in
-      grown u new is (copies_text_short plain t beg end pos r u new does is)
-      (edits_add_short (copied t beg end pos) r u new short)
+      grown u new is (copies_text_short plain t beg end pos r u new does is) (copies_add_short t beg end pos r u new does)

@@ -1,3 +1,4 @@
+pub mod AfterTheLast
 pub mod Answered
 pub mod AnyFiles
 pub mod Arranging

@@ -35,7 +35,7 @@ use Rattle.texts.specs.declared.took.Took.{Took}
 use Rattle.texts.specs.declared.took.Took.TheVariants.{Waits}
 use Rattle.machine.specs.SiteTexts.{SiteTexts, IsTextOf, fresh_texts}
 use Rattle.machine.specs.Events.{Reply}
-use Rattle.machine.specs.OnTexts.{CopiesText, EditsText, EditsTextShort, MergesText, MergesTextShort, SettlesText, TakesText}
+use Rattle.machine.specs.OnTexts.{CopiesText, CopiesTextShort, EditsText, EditsTextShort, MergesText, MergesTextShort, SettlesText, TakesText}
 use Rattle.machine.specs.OnTexts.{TakesTextShort, copied, is_copy_in}
 use Rattle.machine.specs.State.{IsTextAt, State, new_state}
 use Rattle.machine_laws.proofs.FrontLines.{small_front}
@@ -271,9 +271,8 @@ edits_text e r t new does is = elim (by_test (is_in_text t e) _ _ does) [
 ]
 
 edits_short : (e : Edit) (r : Reply) (t new : TextState) → EditsTextShort e r t new → HasNumbers t → HasNumbers new
-edits_short e r t new (within, inl (result, messages, done, shows, replied)) is =
+edits_short e r t new (within, (result, messages, done, shows, replied)) is =
     edits_in_part t e result new messages done is
-edits_short e r t new (within, inr (some, replied, stays)) is = subst HasNumbers (sym stays) is
 
 copies_text : (t : TextState) (beg end pos : ℕ) (r : Reply) (u new : TextState) → CopiesText t beg end pos r u new
     → HasNumbers u → HasNumbers new
@@ -284,6 +283,11 @@ copies_text t beg end pos r u new does is = elim (by_test (is_copy_in t u beg en
   ]
   | inr stays ↦ subst HasNumbers (sym stays.1) is
 ]
+
+copies_in_part : (t : TextState) (beg end pos : ℕ) (r : Reply) (u new : TextState) → CopiesTextShort t beg end pos r u new
+    → HasNumbers u → HasNumbers new
+copies_in_part t beg end pos r u new (positions, few, inl short) is = edits_short (copied t beg end pos) r u new short is
+copies_in_part t beg end pos r u new (positions, few, inr (some, replied, stays)) is = subst HasNumbers (sym stays) is
 
 settles_text : (stopped : Bool) (r : Reply) (t new : TextState) → SettlesText stopped r t new → HasNumbers t
     → HasNumbers new
@@ -299,8 +303,7 @@ text_goes_so : (s : State) → AllHaveNumbers s → (t u : TextState) → TextGo
 text_goes_so s all t u (edited e r does) is = edits_text e r t u does is
 text_goes_so s all t u (in_part e r does) is = edits_short e r t u does is
 text_goes_so s all t u (copies from beg end pos r does) is = copies_text from beg end pos r t u does is
-text_goes_so s all t u (copies_short from beg end pos r does) is =
-    edits_short (copied from beg end pos) r t u does.2 is
+text_goes_so s all t u (copies_short from beg end pos r does) is = copies_in_part from beg end pos r t u does is
 text_goes_so s all t u (takes message r does) is = takes_text message r t u does is
 text_goes_so s all t u (taken_short message r does) is = takes_short message r t u does is
 text_goes_so s all t u (settles_so stopped r does) is = settles_text stopped r t u does is

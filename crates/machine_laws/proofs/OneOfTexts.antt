@@ -24,16 +24,16 @@ use Rattle.texts.specs.declared.merge_refusal.MergeRefusal.TheVariants.{Whole as
 use Rattle.texts.specs.declared.took.Took.{Took}
 use Rattle.texts.specs.declared.took.Took.TheVariants.{Taken}
 use Rattle.machine.specs.SiteTexts.{SiteTexts, InText, IsTextOf}
-use Rattle.machine.specs.Events.{Delivery, Part, Reply, copy, edit_reply, merge, merge_reply, messages_of, prints}
+use Rattle.machine.specs.Events.{Delivery, Part, Reply, copy, edit_reply, merge, merge_reply, messages_of}
 use Rattle.machine.specs.Events.{query, refuses, settle, settles, stops, take as taking, take_reply, takes}
 use Rattle.machine.specs.Machine.{Does, Short, message_in}
-use Rattle.machine.specs.OnTexts.{CopiesText, CopiesTextShort, EditsText, EditsTextShort, MergesText, MergesTextShort, Prints}
-use Rattle.machine.specs.OnTexts.{SettlesText, TakesText, TakesTextShort, copied, is_copy_in}
+use Rattle.machine.specs.OnTexts.{CopiesText, CopiesTextShort, EditsText, EditsTextShort, MergesText, MergesTextShort}
+use Rattle.machine.specs.OnTexts.{QueriesText, SettlesText, TakesText, TakesTextShort, copied, is_copy_in}
 use Rattle.machine.specs.State.{AtText, IsTextAt, Refuses, State, Tells}
 use Rattle.machine.specs.Tasks.{EditsAt, EditsShortAt}
 use Rattle.machine.specs.declared.asked.Query.{Query}
 use Rattle.machine_laws.specs.Laws.{AreTexts, HaveOneShape}
-use Rattle.machine_laws.proofs.ShownLines.{one_print}
+use Rattle.machine_laws.proofs.ShownLines.{one_answer}
 
 -- an index has one element
 pub one_element : {A : Type 0} (o : Option A) (x y : A) → o ≡ Some x → o ≡ Some y → x ≡ y
@@ -165,10 +165,9 @@ module _ (edits_so : EditsOneWay) (takes_so : TakesOneWay) (drains_so : DrainsOn
 
   pub one_query : (i text : ℕ) (q : Query) → Does s (query i text q) part r new → Does s (query i text q) part r' new'
       → (r ≡ r') × (new ≡ new')
-  one_query i text q (free, stay, (t, a, there, lines, replied)) (free', stay', (t', b, there', lines', replied')) =
+  one_query i text q (free, stay, (t, there, asks)) (free', stay', (t', there', asks')) =
       let same : t' ≡ t = lemma_one_text s i text t' t there' there in
-      let one : a ≡ b = one_print only q t a b lines (subst (λ (x : TextState). Prints q x b) same lines') in
-      (replied ∙ ap prints one ∙ sym replied', stay ∙ sym stay')
+      (one_answer only q t r r' asks (subst (λ (x : TextState). QueriesText q r' x) same asks'), stay ∙ sym stay')
 
 -- where memory was refused
 
@@ -187,9 +186,13 @@ of_part t ops (Err (Partial n why)) new messages r (is, some, more, stand) repli
     inr (n, replied ∙ (λ i. stops (stand.told i) n (is i)), stand.text)
 
 pub part_of_edit : (e : Edit) (r : Reply) (t new : TextState) → EditsTextShort e r t new → IsPartOfEdit t (plan t e) r new
-part_of_edit e r t new (within, inl (result, messages, short, shows, replied)) =
+part_of_edit e r t new (within, (result, messages, short, shows, replied)) =
     of_part t (plan t e) result new messages r short replied
-part_of_edit e r t new (within, inr (some, replied, stayed)) = inl (replied, stayed)
+
+part_of_copy : (t : TextState) (beg end pos : ℕ) (r : Reply) (u new : TextState) → CopiesTextShort t beg end pos r u new
+    → IsPartOfEdit u (plan u (copied t beg end pos)) r new
+part_of_copy t beg end pos r u new (positions, few, inl short) = part_of_edit (copied t beg end pos) r u new short
+part_of_copy t beg end pos r u new (positions, few, inr (some, replied, stayed)) = inl (replied, stayed)
 
 shape_of : (q q' r r' : Reply) → r ≡ q → r' ≡ q' → HaveOneShape r r' → HaveOneShape q q'
 shape_of q q' r r' is is' shape =
@@ -296,8 +299,8 @@ module _ (takes_so : TakesOneWay) (drains_so : DrainsOneWay) (merges_so : Merges
       let same : t' ≡ t = lemma_one_text s i text t' t there' there in
       at_text (CopiesTextShort t beg end pos r) (CopiesTextShort t' beg end pos r') (r ≡ r') s new new' i other
       (messages_of r) (messages_of r') are (ap messages_of)
-      (λ u v w is short short'. edits_short (copied t beg end pos) r r' u v w shape short.2
-      (subst (λ (x : TextState). CopiesTextShort x beg end pos r' u w) same short').2) short short'
+      (λ u v w is short short'. one_part u (plan u (copied t beg end pos)) r r' v w shape (part_of_copy t beg end pos r u v short)
+      (part_of_copy t beg end pos r' u w (subst (λ (x : TextState). CopiesTextShort x beg end pos r' u w) same short'))) short short'
 
   pub one_take_short : (i text : ℕ) (d : Delivery) → Short s (taking i text d) part r new
       → Short s (taking i text d) part r' new' → (r ≡ r') × (new ≡ new')

@@ -34,8 +34,8 @@ use Rattle.char_files.specs.Runs.{NoOtherRuns}
 use Rattle.machine.specs.Commands.{Clicked, IsParameter, IsTaskAt, IsTaskOfCall, clicked, is_caret_sign, task_of}
 use Rattle.machine.specs.SiteTexts.{SiteTexts, InText, IsTextOf}
 use Rattle.machine.specs.Events.{Event, Part, Reply, Task, arrange, ask, change, click, copy, done, edit, failed, forget}
-use Rattle.machine.specs.Events.{forgot, found, keep, load, merge, merges, messages_of, not_found, opens, print, prints, put}
-use Rattle.machine.specs.Events.{put_recalled, query, refuse, refuses, reopen, search, sends, settle, settles, stops, store}
+use Rattle.machine.specs.Events.{forgot, found, keep, load, merge, merges, messages_of, not_found, opens, print, prints, insert_at_caret}
+use Rattle.machine.specs.Events.{recall_at_caret, query, refuse, refuses, reopen, search, sends, settle, settles, stops, store}
 use Rattle.machine.specs.Events.{take as taking, takes, unknown, untouched, went_well}
 use Rattle.machine.specs.Machine.{Does, Short}
 use Rattle.machine.specs.State.{AtText, IsDeskAt, IsTextAt, Refuses, State, Tells, with_screen_at}
@@ -270,7 +270,7 @@ reopens_by sites_so s i text t name part r r' new new' = by_case (has_begun t) _
 
 reopens_short : (s : State) (name : List ℕ) (part : Part) (r r' : Reply) (new new' : State)
     → ReopensShort s name part r new → ReopensShort s name part r' new' → AreSame r r' new new'
-reopens_short s name untouched r r' new new' a b = refuses_one s OutOfMemory r r' new new' a b
+reopens_short s name untouched r r' new new' a b = absurd a
 reopens_short s name (failed left) r r' new new' a b = absurd a
 reopens_short s name went_well r r' new new' (file, at, a) (file', at', b) = refuses_one s OutOfMemory r r' new new' a b
 
@@ -298,9 +298,9 @@ tasks : OneText → OneSite → (s : State) (i : ℕ) (d : SiteTexts) (w : Scree
     (new new' : State) → EditsOne EditsAt s r r' → DoesTask s i d w t part r new → DoesTask s i d w t part r' new'
     → AreSame r r' new new'
 tasks file_so sites_so s i d w (refuse why) part r r' new new' one a b = refuses_one s why r r' new new' a.1 b.1
-tasks file_so sites_so s i d w (put items) part r r' new new' one a b = if_caret s d w part r r' new new' _ _
+tasks file_so sites_so s i d w (insert_at_caret items) part r r' new new' one a b = if_caret s d w part r r' new new' _ _
     (λ c window t x y. at_caret EditsAt s i w c window t (λ p. insertion p items) r r' new new' one x.1 y.1) a b
-tasks file_so sites_so s i d w put_recalled part r r' new new' one a b = if_caret s d w part r r' new new' _ _
+tasks file_so sites_so s i d w recall_at_caret part r r' new new' one a b = if_caret s d w part r r' new new' _ _
     (λ c window t x y. at_caret EditsAt s i w c window t recalling r r' new new' one x.1 y.1) a b
 tasks file_so sites_so s i d w (load name) part r r' new new' one a b = if_caret s d w part r r' new new' _ _
     (λ c window t x y. loads file_so s i w name part c window t r r' new new' one x y) a b
@@ -341,27 +341,27 @@ parameter d w token told told' a b = by (is_caret_sign token.value) (marked d w)
         is ∙ (λ k. Ok ((lemma_one_token (bytes_shown m.text) m.beg there there' at at' k).value)) ∙ sym is'
     by false m a b = a ∙ sym b
 
-abbrev pub IsTaskTold : SiteTexts → Screened → Call → ℕ → ℕ → Task → Result TokenValue Refusal → Type 0
-IsTaskTold d w call v text x told =
+abbrev pub IsTaskFor : SiteTexts → Screened → Call → ℕ → ℕ → Task → Result TokenValue Refusal → Type 0
+IsTaskFor d w call v text x told =
     MatchResult told (λ value. x ≡ task_of d w call.command value v text) (λ why. x ≡ refuse why)
 
 abbrev pub IsTaskBy : SiteTexts → Screened → Call → ℕ → ℕ → Bool → Task → Type 0
 IsTaskBy d w call v text has x = MatchBool has
-    ((told : Result TokenValue Refusal) × IsParameter d w call.token told × IsTaskTold d w call v text x told)
+    ((told : Result TokenValue Refusal) × IsParameter d w call.token told × IsTaskFor d w call v text x told)
     (x ≡ task_of d w call.command call.token.value v text)
 
 call_task : (d : SiteTexts) (w : Screened) (call : Call) (v text : ℕ) (t t' : Task) → IsTaskOfCall d w call v text t
     → IsTaskOfCall d w call v text t' → t ≡ t'
 call_task d w call v text t t' a b = by (has_parameter call.command) a b
   where
-    both : (told : Result TokenValue Refusal) → IsTaskTold d w call v text t told → IsTaskTold d w call v text t' told
+    both : (told : Result TokenValue Refusal) → IsTaskFor d w call v text t told → IsTaskFor d w call v text t' told
         → t ≡ t'
     both (Ok value) a b = a ∙ sym b
     both (Err why) a b = a ∙ sym b
 
     by : (has : Bool) → IsTaskBy d w call v text has t → IsTaskBy d w call v text has t' → t ≡ t'
     by true (told, is, a) (told', is', b) =
-        both told a (subst (λ (x : Result TokenValue Refusal). IsTaskTold d w call v text t' x)
+        both told a (subst (λ (x : Result TokenValue Refusal). IsTaskFor d w call v text t' x)
         (parameter d w call.token told' told is' is) b)
     by false a b = a ∙ sym b
 
@@ -504,21 +504,20 @@ loads_short : OneText → (s : State) → HaveTold s → (i : ℕ) (w : Screened
     → w.caret ≡ Some c → IsTextAt s i window.text t → HaveOneShape r r' → EditsOne EditsShortAt s r r'
     → LoadsShort s i w name part c window t r new → LoadsShort s i w name part c window t r' new'
     → AreSame r r' new new'
-loads_short file_so s told_all i w name untouched c window t r r' new new' screen caret here shape one a b =
-    refuses_one s OutOfMemory r r' new new' a b
+loads_short file_so s told_all i w name untouched c window t r r' new new' screen caret here shape one a b = absurd a
 loads_short file_so s told_all i w name (failed left) c window t r r' new new' screen caret here shape one a b = absurd a
 loads_short file_so s told_all i w name went_well c window t r r' new new' screen caret here shape one (file, at, inl a)
-    (file', at', inl b) = refuses_one s OutOfMemory r r' new new' a.1 b.1
+    (file', at', inl b) = refuses_one s OutOfMemory r r' new new' a b
 loads_short file_so s told_all i w name went_well c window t r r' new new' screen caret here shape one (file, at, inl a)
     (file', at', inr (items, is, goes)) =
-    refuses_one s OutOfMemory r r' new new' a.1
+    refuses_one s OutOfMemory r r' new new' a
     (caret_stays s told_all i w c window t (λ p. insertion p items) r' new' screen caret here
-    (refused_second r r' OutOfMemory a.1.0 shape) goes)
+    (refused_second r r' OutOfMemory a.0 shape) goes)
 loads_short file_so s told_all i w name went_well c window t r r' new new' screen caret here shape one
     (file, at, inr (items, is, goes)) (file', at', inl b) =
     refuses_one s OutOfMemory r r' new new'
     (caret_stays s told_all i w c window t (λ p. insertion p items) r new screen caret here
-    (refused_first r r' OutOfMemory b.1.0 shape) goes) b.1
+    (refused_first r r' OutOfMemory b.0 shape) goes) b
 loads_short file_so s told_all i w name went_well c window t r r' new new' screen caret here shape one
     (file, at, inr (items, is, goes)) (file', at', inr (items', is', goes')) =
     at_caret EditsShortAt s i w c window t (λ p. insertion p items) r r' new new' one goes
@@ -530,9 +529,9 @@ tasks_short : OneText → (s : State) (i : ℕ) (d : SiteTexts) (w : Screened) (
     (new new' : State) → IsDeskAt s i d w → HaveOneShape r r' → EditsOne EditsShortAt s r r'
     → ShortTask s i d w t part r new → ShortTask s i d w t part r' new' → AreSame r r' new new'
 tasks_short file_so s i d w (refuse why) told part r r' new new' at shape one a b = absurd a
-tasks_short file_so s i d w (put items) told part r r' new new' at shape one a b = with_caret d w _ _ _
+tasks_short file_so s i d w (insert_at_caret items) told part r r' new new' at shape one a b = with_caret d w _ _ _
     (λ c window t caret shows x y. at_caret EditsShortAt s i w c window t (λ p. insertion p items) r r' new new' one x y) a.1 b.1
-tasks_short file_so s i d w put_recalled told part r r' new new' at shape one a b = with_caret d w _ _ _
+tasks_short file_so s i d w recall_at_caret told part r r' new new' at shape one a b = with_caret d w _ _ _
     (λ c window t caret shows x y. at_caret EditsShortAt s i w c window t recalling r r' new new' one x y) a.1 b.1
 tasks_short file_so s i d w (load name) told part r r' new new' at shape one a b = with_caret d w _ _ _
     (λ c window t caret shows x y. loads_short file_so s (told tt) i w name part c window t r r' new new' at.screen caret
@@ -571,7 +570,7 @@ module _ (edits_so : EditsOneWay) (takes_so : TakesOneWay) (drains_so : DrainsOn
       one_settling_short takes_so drains_so merges_so s are part r r' new new' shape i text a b
   one_short (merge i text j) told a b =
       one_merge_short takes_so drains_so merges_so s are part r r' new new' shape i text j a b
-  one_short (query i text q) told a b = refuses_one s OutOfMemory r r' new new' a.1 b.1
+  one_short (query i text q) told (free, inside, a) (free', inside', b) = refuses_one s OutOfMemory r r' new new' a b
   one_short (ask i t) told (d, w, at, does) (d', w', at', does') =
       tasks_short file_so s i d w t told part r r' new new' at shape
       (λ i text e mid mid'. one_edit_short s i text e are r r' mid mid' shape) does

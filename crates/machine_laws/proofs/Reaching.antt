@@ -222,9 +222,8 @@ module _ (plain : OwnEditsArePlain) where
       ]
 
   pub edits_text_short : (e : Edit) (r : Reply) (t new : TextState) → EditsTextShort e r t new → IsText t → IsText new
-  edits_text_short e r t new (within, inl (result, messages, edits, shows, replied)) is =
+  edits_text_short e r t new (within, (result, messages, edits, shows, replied)) is =
       edited_short t e result new messages within edits is
-  edits_text_short e r t new (within, inr (some, replied, same)) is = subst IsText (sym same) is
 
   pub copies_text : (t : TextState) (beg end pos : ℕ) (r : Reply) (u new : TextState) → CopiesText t beg end pos r u new
       → IsText u → IsText new
@@ -239,5 +238,6 @@ module _ (plain : OwnEditsArePlain) where
 
   pub copies_text_short : (t : TextState) (beg end pos : ℕ) (r : Reply) (u new : TextState)
       → CopiesTextShort t beg end pos r u new → IsText u → IsText new
-  copies_text_short t beg end pos r u new (positions, few, short) is =
+  copies_text_short t beg end pos r u new (positions, few, inl short) is =
       edits_text_short (copied t beg end pos) r u new short is
+  copies_text_short t beg end pos r u new (positions, few, inr (some, replied, same)) is = subst IsText (sym same) is

@@ -16,7 +16,7 @@ use Rattle.operations.specs.Operation.{Operation, key_of}
 use Rattle.tree_order.specs.Laws.{AreSameSet}
 use Rattle.tree_order.specs.Shown.{deletes_by, hides, is_visible, restores_by, up_to}
 use Rattle.tree_order.proofs.ShownLemmas.{any_agree}
-use Rattle.texts.specs.Laws.{AreAlike, OperationsTellTheText}
+use Rattle.texts.specs.Laws.{AreAlike, OperationsDetermineTheText}
 use Rattle.texts.specs.Text.{IsText}
 use Rattle.texts.specs.TextState.{TextState}
 use Rattle.viewers.specs.Screen.{user_width}
@@ -34,7 +34,7 @@ use Rattle.machine.specs.Windows.{Caret, Marked, Screened, Selected, Window, byt
 use Rattle.machine.specs.Windows.{shown_by, stretch_in, text_of, window_of}
 use Rattle.machine.specs.declared.asked.View.{View}
 use Rattle.machine.specs.declared.asked.View.TheVariants.{Marks, Show, Views}
-use Rattle.machine_laws.specs.Laws.{HoldTheSame, TextsTellTheScreen}
+use Rattle.machine_laws.specs.Laws.{HoldTheSame, TextsDetermineTheScreen}
 
 -- lists of the same operations pass a test alike
 
@@ -66,7 +66,7 @@ record LookAlike (t u : TextState) : Type 0 where
   places : (a : Anchor) → place_in t a ≡ place_in u a
   before : (c : CharName) → place_before t c ≡ place_before u c
 
-look_alike : OperationsTellTheText → (t u : TextState) → IsText t → IsText u → AreSameSet t.operations u.operations
+look_alike : OperationsDetermineTheText → (t u : TextState) → IsText t → IsText u → AreSameSet t.operations u.operations
     → LookAlike t u
 look_alike tell t u is_t is_u same = record {
   bytes = ap (map (λ (c : Char). c.byte)) alike.shown;
@@ -150,7 +150,7 @@ marked_alike x window t u alike =
     marked_by x window t ∙ (λ k. stretch_line x window (alike.before x.first k, alike.places (At x.last) k))
     ∙ sym (marked_by x window u)
 
-module _ (tell : OperationsTellTheText) (d e : SiteTexts) (same : HoldTheSame d e) (w : Screened) where
+module _ (tell : OperationsDetermineTheText) (d e : SiteTexts) (same : HoldTheSame d e) (w : Screened) where
   -- what is told of what a viewer shows is told alike at both desks
   windows_alike : {B : Type 0} (v : ℕ) (f : Window × TextState → B) (z : B)
       → ((window : Window) (t u : TextState) → LookAlike t u → f (window, t) ≡ f (window, u))
@@ -225,5 +225,5 @@ module _ (tell : OperationsTellTheText) (d e : SiteTexts) (same : HoldTheSame d 
   printed Show = λ k. flat_map (λ row. rows_alike row k) (range_with_len 0 w.tracks.height)
 
 -- two desks that hold the same print one screen alike
-pub printed_alike : OperationsTellTheText → TextsTellTheScreen
+pub printed_alike : OperationsDetermineTheText → TextsDetermineTheScreen
 printed_alike tell d e w same = printed tell d e same w

@@ -1,16 +1,19 @@
 -- What a query prints of a text is one thing, and what is shown tells it.
-use Rattle.std.proofs.Common.{◌≡◌, ℕ, List, refl, sym, ap, subst, ◌∙◌, inl, inr}
-use Rattle.std.specs.Prelude.{◌⊎◌}
+use Rattle.std.proofs.Common.{◌≡◌, ℕ, Bool, true, false, List, refl, sym, ap, subst, ◌∙◌, inl, inr}
+use Rattle.std.specs.Prelude.{◌⊎◌, MatchBool}
+use Rattle.looks.specs.declared.refusal.Refusal.TheVariants.{OutOfRange}
 use Rattle.char_files.specs.Runs.{NoOtherRuns, maximal_runs}
 use Rattle.char_files.specs.Stretch.{Item, Stretch}
 use Rattle.char_files.specs.declared.character.Char.{Char}
 use Rattle.operations.specs.NameSet.{names_of}
 use Rattle.set_laws.specs.Fronts.{AreSites}
 use Rattle.texts.specs.TextState.{TextState, shown_items, shown_of}
-use Rattle.machine_laws.specs.Laws.{IsOfWhatIsShown, PrintTheSame}
+use Rattle.machine_laws.specs.Laws.{AnswerTheSame, IsOfWhatIsShown}
 use Rattle.machine.specs.declared.asked.Query.{Query}
-use Rattle.machine.specs.declared.asked.Query.TheVariants.{Front, WhereShown, Runs, Text}
-use Rattle.machine.specs.OnTexts.{Prints}
+use Rattle.machine.specs.declared.asked.Query.TheVariants.{Front, Names, WhereShown, Runs, Text}
+use Rattle.machine.specs.Events.{Reply, prints, refuses}
+use Rattle.machine.specs.NamesShown.{names_lines}
+use Rattle.machine.specs.OnTexts.{Prints, QueriesText, is_asked_in}
 use Rattle.machine.specs.WhereShown.{where_lines}
 use Rattle.machine.specs.Printing.{AreRunsOf, front_lines, run_lines, text_lines}
 use Rattle.machine_laws.proofs.RisingSites.{one_sites}
@@ -54,11 +57,32 @@ prints_one only (WhereShown names) t u a b alike prints_a prints_b =
     prints_a
     ∙ ap (λ (chars : List Char). where_lines chars (names_of names)) (alike-shown (WhereShown names) t u alike)
     ∙ sym prints_b
+prints_one only (Names beg end) t u a b alike prints_a prints_b =
+    prints_a ∙ ap (λ (chars : List Char). names_lines chars beg end) (alike-shown (Names beg end) t u alike) ∙ sym prints_b
 
--- a query prints one thing of a text
-pub one_print : NoOtherRuns → (q : Query) (t : TextState) (a b : List ℕ) → Prints q t a → Prints q t b → a ≡ b
-one_print only q t a b = prints_one only q t t a b (inl refl)
+-- and its positions lie in both, or in neither
+asked_alike : (q : Query) (t u : TextState) → shown_of t ≡ shown_of u → is_asked_in t q ≡ is_asked_in u q
+asked_alike Text t u same = refl
+asked_alike Front t u same = refl
+asked_alike Runs t u same = refl
+asked_alike (WhereShown names) t u same = refl
+asked_alike (Names beg end) t u same = rw same refl
 
--- texts that show the same print the same of it
-pub prints-shown : NoOtherRuns → (t u : TextState) → shown_of t ≡ shown_of u → PrintTheSame t u
-prints-shown only t u same q a b is = prints_one only q t u a b (inr (is, same))
+-- so it is answered in one way
+answers_one : NoOtherRuns → (q : Query) (t u : TextState) (r r' : Reply) (inside : Bool) → PrintAlike q t u
+    → MatchBool inside ((a : List ℕ) × Prints q t a × (r ≡ prints a)) (r ≡ refuses OutOfRange)
+    → MatchBool inside ((b : List ℕ) × Prints q u b × (r' ≡ prints b)) (r' ≡ refuses OutOfRange) → r ≡ r'
+answers_one only q t u r r' true alike (a, prints_a, is) (b, prints_b, is') =
+    is ∙ ap prints (prints_one only q t u a b alike prints_a prints_b) ∙ sym is'
+answers_one only q t u r r' false alike is is' = is ∙ sym is'
+
+-- a query is answered in one way of a text
+pub one_answer : NoOtherRuns → (q : Query) (t : TextState) (r r' : Reply) → QueriesText q r t → QueriesText q r' t → r ≡ r'
+one_answer only q t r r' = answers_one only q t t r r' (is_asked_in t q) (inl refl)
+
+-- texts that show the same answer the same of it
+pub answers-shown : NoOtherRuns → (t u : TextState) → shown_of t ≡ shown_of u → AnswerTheSame t u
+answers-shown only t u same q r r' is asks asks' =
+    answers_one only q t u r r' (is_asked_in t q) (inr (is, same)) asks
+    (subst (λ (inside : Bool). MatchBool inside ((b : List ℕ) × Prints q u b × (r' ≡ prints b)) (r' ≡ refuses OutOfRange))
+    (sym (asked_alike q t u same)) asks')

@@ -1,18 +1,22 @@
 -- What runs can come to, and the laws of it: each text is what its operations define, and these tell what is
 -- printed; an event has one reply, and none lacks a rule.
-use Rattle.std.specs.Prelude.{◌≡◌, ◌≢◌, ◌⊎◌, ℕ, ◌+◌, ◌^◌, ◌<◌, ◌≤◌, List, ◌++◌, length, All, Some, None, slice_get}
+use Rattle.std.specs.Prelude.{◌≡◌, ◌≢◌, ◌⊎◌, ℕ, ◌+◌, ◌-◌, ◌^◌, ◌<◌, ◌≤◌, List, [], ◌++◌, length, All, Some, None, slice_get}
 use Rattle.std.specs.Prelude.{IsFalse, IsTrue}
 use Rattle.char_files.specs.Stretch.{Item}
+use Rattle.char_files.specs.declared.name.Anchor.{Anchor}
+use Rattle.char_files.specs.declared.name.Anchor.TheVariants.{At}
 use Rattle.operations.specs.Operation.{Operation}
 use Rattle.tree_order.specs.Laws.{AreSameSet}
 use Rattle.tree_order.specs.Tree.{IsChar}
+use Rattle.set_laws.specs.Fronts.{file_len}
 use Rattle.set_laws.specs.Sets.{AreIdentified, HaveEqualFronts}
 use Rattle.shelf.specs.Files.{Files}
 use Rattle.text_file.specs.Files.{IsFileOf, IsNoFile}
 use Rattle.text_file.specs.declared.TheConstants.{MAX_TEXT as MAX_STORED}
+use Rattle.texts.specs.Edit.{Edit, insertion, recalling, shown_with}
 use Rattle.texts.specs.SiteFiles.{IsNoSiteFile, IsSiteFileOf}
 use Rattle.texts.specs.Text.{IsAnchor, IsText}
-use Rattle.texts.specs.TextState.{TextState, shown_items}
+use Rattle.texts.specs.TextState.{TextState, shown_items, shown_of}
 use Rattle.texts.specs.declared.TheConstants.{MAX_KEPT}
 use Rattle.texts.specs.declared.took.Took.TheVariants.{Taken}
 use Rattle.machine.specs.SiteTexts.{SiteTexts, IsTextOf}
@@ -20,9 +24,9 @@ use Rattle.machine.specs.Commands.{IsTaskAt}
 use Rattle.machine.specs.Events.{Event, Part, Reply, Task, ask, change, click, failed, forget, keep, load, refuses, reopen}
 use Rattle.machine.specs.Events.{settles, stops, store, takes, untouched, went_well}
 use Rattle.machine.specs.Machine.{Does, Replies, Short}
-use Rattle.machine.specs.OnTexts.{Prints}
+use Rattle.machine.specs.OnTexts.{EditsText, EditsTextShort, Prints, QueriesText}
 use Rattle.machine.specs.State.{IsDeskAt, IsTextAt, State, new_state}
-use Rattle.machine.specs.Tasks.{has_begun, lines_of_view}
+use Rattle.machine.specs.Tasks.{caret_after, has_begun, lines_of_view}
 use Rattle.machine.specs.Windows.{Caret, Screened, Selected, Window, window_of}
 use Rattle.machine.specs.declared.asked.Query.{Query}
 use Rattle.machine.specs.declared.asked.Query.TheVariants.{Front}
@@ -52,20 +56,21 @@ abbrev pub IsOfWhatIsShown : Query → Type 0
 IsOfWhatIsShown Front = ⊥
 IsOfWhatIsShown q = Unit {0}
 
--- a query of what is shown prints the same lines of two texts, of one run or of two
-abbrev pub PrintTheSame : TextState → TextState → Type 0
-PrintTheSame t u = (q : Query) (a b : List ℕ) → IsOfWhatIsShown q → Prints q t a → Prints q u b → a ≡ b
+-- a query of what is shown is answered the same of two texts, of one run or of two, by its lines or by a refusal
+abbrev pub AnswerTheSame : TextState → TextState → Type 0
+AnswerTheSame t u =
+    (q : Query) (r r' : Reply) → IsOfWhatIsShown q → QueriesText q r t → QueriesText q r' u → r ≡ r'
 
--- two texts, of one run or of two, that have taken in the same operations print the same lines
-abbrev pub OperationsTellWhatIsPrinted : Type 0
-OperationsTellWhatIsPrinted =
-    (t u : TextState) → IsText t → IsText u → AreSameSet t.operations u.operations → PrintTheSame t u
+-- two texts, of one run or of two, that have taken in the same operations answer the same
+abbrev pub OperationsDetermineWhatIsPrinted : Type 0
+OperationsDetermineWhatIsPrinted =
+    (t u : TextState) → IsText t → IsText u → AreSameSet t.operations u.operations → AnswerTheSame t u
 
--- two texts of equal fronts print the same lines, if no identity is used twice
-abbrev pub FrontsTellWhatIsPrinted : Type 0
-FrontsTellWhatIsPrinted =
+-- two texts of equal fronts answer the same, if no identity is used twice
+abbrev pub FrontsDetermineWhatIsPrinted : Type 0
+FrontsDetermineWhatIsPrinted =
     (t u : TextState) → IsText t → IsText u → AreIdentified (t.operations ++ u.operations)
-    → HaveEqualFronts t.operations u.operations → PrintTheSame t u
+    → HaveEqualFronts t.operations u.operations → AnswerTheSame t u
 
 -- the sites and the seqs are numbers that a message has places for
 abbrev pub AreNumbered : List Operation → Type 0
@@ -82,8 +87,8 @@ abbrev pub PrintsFronts : TextState → List ℕ → Type 0
 PrintsFronts t lines = Prints Front t (lines ++ waiting_line (length t.waiting_room))
 
 -- texts whose lines of fronts are the same, byte for byte, have equal fronts, however many operations wait
-abbrev pub FrontLinesTellFronts : Type 0
-FrontLinesTellFronts = (t u : TextState) (lines : List ℕ) → AreNumbered t.operations → AreNumbered u.operations
+abbrev pub FrontLinesDetermineFronts : Type 0
+FrontLinesDetermineFronts = (t u : TextState) (lines : List ℕ) → AreNumbered t.operations → AreNumbered u.operations
     → PrintsFronts t lines → PrintsFronts u lines → HaveEqualFronts t.operations u.operations
 
 -- what two replies tell of refused memory is one: the same shape, with the same counts
@@ -107,7 +112,7 @@ MayLoad e = ⊥
 
 -- An event, with this part of the files, has at most one reply and next state where memory is there; and at most one of each
 -- shape, with its counts, where memory was refused, if each text had told its changes before an event that may be a load.
--- (Else a refused load would end in two ways: it reads nothing, and nothing changes; or its edit is refused, and the text tells
+-- (Else a refused load would end in two ways: nothing is put in, and nothing changes; or its edit is refused, and the text tells
 -- its changes.)
 pub record HasOneReply (s : State) (e : Event) (part : Part) : Type 0 where
   pub whole : (r r' : Reply) (new new' : State) → Does s e part r new → Does s e part r' new' → (r ≡ r') × (new ≡ new')
@@ -131,6 +136,22 @@ AsksForNoFile e = Unit {0}
 abbrev pub TheSameOverAnyFiles : Type 0
 TheSameOverAnyFiles = (s : State) (e : Event) (r : Reply) (new : State) (files : Files)
     → Replies s e untouched r new → Replies (record s { files = files }) e untouched r (record new { files = files })
+
+-- an edit that puts characters in after the first pos shown
+abbrev pub PutsIn : Edit → (pos : ℕ) → Type 0
+PutsIn (insertion at items) pos = at ≡ pos
+PutsIn (recalling at) pos = at ≡ pos
+PutsIn e pos = ⊥
+
+-- After an edit that puts characters in at the caret, whether memory was there or not, either no character came in, and the
+-- caret stands where it stood; or these came in there, those of the site's file after all that it had, and the caret stands
+-- after the last of them.
+abbrev pub TheCaretStandsAfterTheLast : Type 0
+TheCaretStandsAfterTheLast = (t new : TextState) (pos : ℕ) (e : Edit) (r : Reply) (was : Anchor) → PutsIn e pos
+    → EditsText e r t new ⊎ EditsTextShort e r t new
+    → ((shown_of new ≡ shown_of t) × (caret_after t new pos was ≡ was))
+    ⊎ ((items : List Item) × (items ≢ []) × (shown_of new ≡ shown_with t pos items)
+    × (caret_after t new pos was ≡ At (record { site = t.site; off = file_len t.operations t.site + (length items - 1) })))
 
 -- the text whose number a task names is there
 abbrev pub HasText : State → (i : ℕ) → Task → Type 0
@@ -232,6 +253,6 @@ pub record HoldTheSame (d e : SiteTexts) : Type 0 where
       → IsText t × IsText u × AreSameSet t.operations u.operations
 
 -- over such desks one screen is printed alike: its caret and its selection, its viewers, and its cells
-abbrev pub TextsTellTheScreen : Type 0
-TextsTellTheScreen = (d e : SiteTexts) (w : Screened) → HoldTheSame d e
+abbrev pub TextsDetermineTheScreen : Type 0
+TextsDetermineTheScreen = (d e : SiteTexts) (w : Screened) → HoldTheSame d e
     → (v : View) → lines_of_view d w v ≡ lines_of_view e w v

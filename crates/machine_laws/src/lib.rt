@@ -2,10 +2,10 @@
 //! over the definitions alone.
 #![tactic(auto)]
 
-ghost use Rattle.machine_laws.specs.Laws.{OperationsTellWhatIsPrinted, WhatIsReachedIsNumbered};
-ghost use Rattle.machine_laws.specs.Laws.{EachEventHasOneReply, FrontLinesTellFronts};
-ghost use Rattle.machine_laws.specs.Laws.{EachTaskIsAnswered, FrontsTellWhatIsPrinted, TextsTellTheScreen};
-ghost use Rattle.machine_laws.specs.Laws.{TheSameOverAnyFiles, WhatARunReachesIsSound};
+ghost use Rattle.machine_laws.specs.Laws.{OperationsDetermineWhatIsPrinted, WhatIsReachedIsNumbered};
+ghost use Rattle.machine_laws.specs.Laws.{EachEventHasOneReply, FrontLinesDetermineFronts};
+ghost use Rattle.machine_laws.specs.Laws.{EachTaskIsAnswered, FrontsDetermineWhatIsPrinted, TextsDetermineTheScreen};
+ghost use Rattle.machine_laws.specs.Laws.{TheCaretStandsAfterTheLast, TheSameOverAnyFiles, WhatARunReachesIsSound};
 
 use char_files::lemma_runs_are_maximal;
 use convergence::outcomes::{
@@ -16,25 +16,26 @@ use set_laws::closures::lemma_nothing_is_good;
 use site_file::lemma_one_site;
 use text_file::lemma_one_text;
 use texts::laws::{
-    lemma_own_edits_are_plain, lemma_the_fronts_tell_the_text, lemma_the_operations_tell_the_text,
+    lemma_own_edits_are_plain, lemma_the_fronts_determine_the_text,
+    lemma_the_operations_determine_the_text,
 };
 use tree_order::laws::sequential::lemma_one_writer_goes_after_causes;
 
-/// A law: two texts, of one run or of two, that have taken in the same operations print the same lines of
-/// what they show.
+/// A law: two texts, of one run or of two, that have taken in the same operations answer the same of what they show, be
+/// it lines or a refusal.
 pub fn lemma_the_same_operations_print_the_same()
-    ensures { OperationsTellWhatIsPrinted }
+    ensures { OperationsDetermineWhatIsPrinted }
 {
-    lemma_the_operations_tell_the_text();
+    lemma_the_operations_determine_the_text();
     lemma_runs_are_maximal();
 }
 
-/// A law: two texts, of one run or of two, that have equal fronts print the same lines of what they show,
-/// if no identity is used twice.
+/// A law: two texts, of one run or of two, that have equal fronts answer the same of what they show, be it lines or a
+/// refusal, if no identity is used twice.
 pub fn lemma_the_same_fronts_print_the_same()
-    ensures { FrontsTellWhatIsPrinted }
+    ensures { FrontsDetermineWhatIsPrinted }
 {
-    lemma_the_fronts_tell_the_text();
+    lemma_the_fronts_determine_the_text();
     lemma_runs_are_maximal();
 }
 
@@ -46,8 +47,8 @@ pub fn lemma_what_is_reached_is_numbered()
 
 /// A law: texts of which `front` prints the same lines of fronts, however many operations wait, have equal fronts, if
 /// their sites and seqs are numbers that a message has places for.
-pub fn lemma_front_lines_tell_the_fronts()
-    ensures { FrontLinesTellFronts }
+pub fn lemma_front_lines_determine_the_fronts()
+    ensures { FrontLinesDetermineFronts }
 {}
 
 /// A law: an event has one reply and one next state for each part that the files have in it, where memory is there; where it
@@ -68,6 +69,11 @@ pub fn each_event_has_one_reply()
 /// A law: an event that asks for no file is answered the same over any files, and leaves them as they are.
 pub fn any_files_will_do()
     ensures { TheSameOverAnyFiles }
+{}
+
+/// A law: after what is put in at the caret it stands after the last character that came in, or where it stood if none did.
+pub fn lemma_the_caret_stands_after_the_last()
+    ensures { TheCaretStandsAfterTheLast }
 {}
 
 /// A law: no task and no click lacks a rule. Where the texts that it names are there, and the caret's viewer shows a
@@ -92,7 +98,7 @@ pub fn lemma_what_a_run_reaches_is_sound()
 /// A law: what is printed of a screen follows from which operations each of its site's texts has taken in, in whatever
 /// order, and from what the screen points at: two desks that hold the same print one screen alike.
 pub fn lemma_the_same_texts_show_the_same_screen()
-    ensures { TextsTellTheScreen }
+    ensures { TextsDetermineTheScreen }
 {
-    lemma_the_operations_tell_the_text();
+    lemma_the_operations_determine_the_text();
 }

@@ -39,7 +39,7 @@ others_appended (o ∷ ops) op site seq apart =
     ap (λ (n : ℕ). cond (eqb o.site site && eqb o.seq seq) (appended_len o.kind) n)
     (others_appended ops op site seq apart)
 
--- and the files up to its own place
+-- and the files up to its own slot
 pub same_before : (ops : List Operation) (op : Operation) (site n : ℕ) → (op.site ≡ site → n ≤ op.seq)
     → file_before (ops ++ op ∷ []) site n ≡ file_before ops site n
 same_before ops op site zero below = refl

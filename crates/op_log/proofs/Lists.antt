@@ -4,7 +4,7 @@ use Rattle.std.proofs.Common.{slice_get, Contains, refl, ap, arith}
 use Rattle.std.proofs.lemmas.Option.{none-some, same_Some}
 
 module _ {X : Type 0} where
-  -- what stands at a place is an element
+  -- what stands at a slot is an element
   pub Contains-slice_get : (xs : List X) (k : ℕ) (x : X) → slice_get xs k ≡ Some x → Contains xs x
   Contains-slice_get [] k x is = absurd (none-some x is)
   Contains-slice_get (y ∷ ys) zero x is = (0, omega arith, same_Some y x is)
@@ -29,7 +29,7 @@ module _ {X : Type 0} where
   slice_get-push [] y = refl
   slice_get-push (x ∷ xs) y = slice_get-push xs y
 
-  -- what stands at a place stood there, or is the new element
+  -- what stands at a slot stood there, or is the new element
   pub slice_get-push_cases : (xs : List X) (y : X) (k : ℕ) (x : X) → slice_get (xs ++ y ∷ []) k ≡ Some x
       → (slice_get xs k ≡ Some x) ⊎ ((k ≡ length xs) × (y ≡ x))
   slice_get-push_cases [] y zero x is = inr (refl, same_Some y x is)

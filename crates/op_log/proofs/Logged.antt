@@ -78,11 +78,11 @@ module _ {ops : List Operation} (known : AreIdentified ops) {site : ℕ} {t : Si
   -- after the entries before the first one past an offset, the file is no longer than that
   before_ends : (off : ℕ) (e : Entry) (first : IsFirstPast t.entries off e)
       → file_before ops site (suc first.at) ≤ off
-  before_ends off e first = by_place first.at refl
+  before_ends off e first = by_slot first.at refl
     where
-      by_place : (k : ℕ) → first.at ≡ k → file_before ops site (suc k) ≤ off
-      by_place zero is = let none = starts_empty ops known site in omega arith
-      by_place (suc k) is =
+      by_slot : (k : ℕ) → first.at ≡ k → file_before ops site (suc k) ≤ off
+      by_slot zero is = let none = starts_empty ops known site in omega arith
+      by_slot (suc k) is =
           let there : first.at < length t.entries = slice_get_within t.entries first.at e first.there in
           let (d, at) = slice_get-some t.entries k (omega arith) in
           let le : d.end ≤ off = first.before k d (omega arith) at in

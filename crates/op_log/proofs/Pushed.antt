@@ -142,7 +142,7 @@ module _ (ops : List Operation) (op : Operation) (next : op.seq ≡ front_of ops
                 kept_entry op.site k e (λ on. omega arith) (table.entries k e here)
             | inr last ↦
                 let front = table.front in
-                let at : op.seq ≡ suc k = let place = last.0 in omega arith in
+                let at : op.seq ≡ suc k = let slot = last.0 in omega arith in
                 subst (λ (d : Entry). IsEntryOf (with_one ops op) op.site (suc k) d) last.1
                 (new_entry (suc k) at)
           ];

@@ -24,9 +24,9 @@ pub record IsFirstPast (entries : List Entry) (off : ℕ) (e : Entry) : Type 0 w
 abbrev pub EndBy : List Entry → ℕ → ℕ → Type 0
 EndBy entries off n = (k : ℕ) (d : Entry) → k < n → (get_or entries k d).end ≤ off
 
--- the entry at this place ends its site's file after the offset
+-- the entry at this slot ends its site's file after the offset
 abbrev pub EndsPast : List Entry → ℕ → ℕ → Type 0
-EndsPast entries off place = (place < length entries) × ((d : Entry) → off < (get_or entries place d).end)
+EndsPast entries off slot = (slot < length entries) × ((d : Entry) → off < (get_or entries slot d).end)
 
 -- tables by their sites' numbers
 abbrev pub Tables : Type 0

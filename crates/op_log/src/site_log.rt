@@ -50,23 +50,23 @@ fn guess(entries: &[Entry], off: u32, end: u32) -> usize
     last.min(scaled as usize)
 }
 
-// A place up to which all entries end by this offset: this one, or one before it. Each step is twice the one before.
+// A slot up to which all entries end by this offset: this one, or one before it. Each step is twice the one before.
 fn low_index(entries: &[Entry], from: usize, off: u32) -> usize
     requires rising { IsNonDecreasingBy (λ e. e.end) entries.now }
     requires within { from < length entries.now }
     ensures low { EndBy entries.now off result }
     ensures within { result ≤ from }
 {
-    let mut place = from;
+    let mut slot = from;
     let mut step = 1;
-    while 0 < place && off < entries[place - 1].end {
-        place = place.saturating_sub(step);
+    while 0 < slot && off < entries[slot - 1].end {
+        slot = slot.saturating_sub(step);
         step = step.saturating_mul(2);
     }
-    place
+    slot
 }
 
-// The place of an entry that ends past this offset: this one, or one after it. Each step is twice the one before.
+// The slot of an entry that ends past this offset: this one, or one after it. Each step is twice the one before.
 fn high_index(entries: &[Entry], from: usize, off: u32) -> usize
     requires past { off < end_of entries.now }
     requires within { from < length entries.now }
@@ -74,13 +74,13 @@ fn high_index(entries: &[Entry], from: usize, off: u32) -> usize
     ensures within { from ≤ result }
 {
     let last = entries.len() - 1;
-    let mut place = from;
+    let mut slot = from;
     let mut step = 1;
-    while entries[place].end <= off {
-        place = last.min(place.saturating_add(step));
+    while entries[slot].end <= off {
+        slot = last.min(slot.saturating_add(step));
         step = step.saturating_mul(2);
     }
-    place
+    slot
 }
 
 impl SiteLog {

@@ -20,7 +20,7 @@ use Rattle.char_files.specs.CharName.{CharName}
 use Rattle.operations.specs.NameSet.{Range, IsIn, IsAmong, IsRange, IsBefore, IsSet, IsFileName, StartsNoLater}
 use Rattle.operations.specs.NameSet.{names_in, set_of}
 use Rattle.operations.proofs.NamesOf.{Contains-names_in}
-use Rattle.operations.proofs.SetOf.{names_tell_the_set, IsSet-set_of, IsAmong-set_of}
+use Rattle.operations.proofs.SetOf.{names_determine_the_set, IsSet-set_of, IsAmong-set_of}
 use Rattle.operations.proofs.WithName.{Among, among, is_among, IsBefore-trans}
 
 -- what a sort by site and first offset leaves
@@ -317,7 +317,7 @@ is_set_of old sorted new moved set is =
     (names (get_or (names_in old) k d)).1 (k, l, get_or_default (names_in old) k (get_or (names_in old) k d) d l) in
     file_name among.1 (get_or (names_in old) k d)
     (subst IsRange among.3 (set.ranges among.0 among.1 among.2)) among.4 in
-    names_tell_the_set new (set_of (names_in old)) set (IsSet-set_of (names_in old) of_files)
+    names_determine_the_set new (set_of (names_in old)) set (IsSet-set_of (names_in old) of_files)
     (λ c. (
       λ h. (IsAmong-set_of (names_in old) c).1 ((names c).0 h),
       λ h. (names c).1 ((IsAmong-set_of (names_in old) c).0 h),

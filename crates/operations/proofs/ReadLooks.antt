@@ -102,9 +102,9 @@ looks_reads = record {
       ) refl;
 }
 
-pub looks_are_told : (a b : Looks) (x y : List ℕ) → IsLooks a → IsLooks b
+pub looks_are_determined : (a b : Looks) (x y : List ℕ) → IsLooks a → IsLooks b
     → looks_spelling a ++ x ≡ looks_spelling b ++ y → (a ≡ b) × (x ≡ y)
-looks_are_told a b x y a_is b_is e =
+looks_are_determined a b x y a_is b_is e =
     let same : ◌≡◌ {A = Option (Looks × List ℕ)} (Some (a, x)) (Some (b, y)) =
     sym (looks_reads.again a x a_is) ∙ ap looks_at e ∙ looks_reads.again b y b_is in
     let both : ◌≡◌ {A = Looks × List ℕ} (a, x) (b, y) = some_is _ _ same in (

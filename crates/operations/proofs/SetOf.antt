@@ -110,9 +110,9 @@ same_ranges (r ∷ xs) (s ∷ ys) up up' is =
     )) in
     ap (λ (x : Range). x ∷ xs) e ∙ ap (λ (zs : List Range). s ∷ zs) rest
 
-pub names_tell_the_set : (xs ys : List Range) → IsSet xs → IsSet ys
+pub names_determine_the_set : (xs ys : List Range) → IsSet xs → IsSet ys
     → ((c : CharName) → IsAmong xs c ↔ IsAmong ys c) → xs ≡ ys
-names_tell_the_set xs ys set set' is =
+names_determine_the_set xs ys set set' is =
     same_ranges xs ys (rising xs set.ranges set.rising) (rising ys set'.ranges set'.rising) (λ c. (
       λ h. among ys c ((is c).0 (is_among xs c h)),
       λ h. among xs c ((is c).1 (is_among ys c h)),

@@ -106,8 +106,8 @@ SetOfHasTheNames =
     × ((c : CharName) → IsAmong (set_of names) c ↔ Contains names c)
 
 -- sets that have the same names are one
-abbrev pub NamesTellTheSet : Type 0
-NamesTellTheSet =
+abbrev pub NamesDetermineTheSet : Type 0
+NamesDetermineTheSet =
     (xs ys : List Range) → IsSet xs → IsSet ys → ((c : CharName) → IsAmong xs c ↔ IsAmong ys c) → xs ≡ ys
 
 -- r's first name is no later than that of s

@@ -250,8 +250,8 @@ NoneBeginsAnother =
 
 -- no two looks share a spelling, and no looks' spelling begins another's: what looks are spelled at the front of
 -- bytes, and what follows them, is told by the bytes
-abbrev pub LooksAreTold : Type 0
-LooksAreTold =
+abbrev pub LooksAreDetermined : Type 0
+LooksAreDetermined =
     (a b : Looks) (x y : List ℕ) → IsLooks a → IsLooks b → looks_spelling a ++ x ≡ looks_spelling b ++ y
     → (a ≡ b) × (x ≡ y)
 

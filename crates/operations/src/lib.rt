@@ -12,7 +12,7 @@ mod reading;
 mod writing;
 
 pub use kind::{Kind, MAX_INSERT};
-pub use laws::sets_are_told_by_their_names;
+pub use laws::sets_are_determined_by_their_names;
 pub use limits::the_limits;
 pub use name_set::{MAX_RANGES, NameRange, NameSet};
 pub use name_walk::{NameWalk, named};

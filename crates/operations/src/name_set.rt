@@ -211,7 +211,7 @@ fn replace(ranges: &mut Vec<NameRange>, at: usize, range: NameRange)
 }
 
 // Puts a name into a set's ranges at its insertion point. An `Err` changes nothing.
-fn put(ranges: &mut Vec<NameRange>, at: usize, name: Name) -> Result<(), Refusal>
+fn insert_name(ranges: &mut Vec<NameRange>, at: usize, name: Name) -> Result<(), Refusal>
     requires set { IsSet ranges.old.items }
     requires within { at ≤ length ranges.old.items }
     requires point { IsInsertionPoint ranges.old.items at (of_name name) }
@@ -322,7 +322,7 @@ impl NameSet {
         ensures held { IsAmong self.old name → IsOk result × (self.new ≡ self.old) }
     {
         let at = insertion_point(&self.ranges, NameRange::of(name));
-        put(&mut self.ranges, at, name)
+        insert_name(&mut self.ranges, at, name)
     }
 
     /// The set of all names of these ranges, which may stand in any order, touch and overlap. It takes no memory.

@@ -9,7 +9,7 @@ ghost use Rattle.byte_fields.specs.Fields.{Finds};
 ghost use Rattle.operations.specs.Reading.{Makes, looks_len_at, fits_in_file, is_cause, insert_at};
 ghost use Rattle.operations.specs.Reading.{delete_at, restore_at, change_at, kind_at, tag_at, stamp_at};
 ghost use Rattle.operations.specs.Reading.{header_at, operation_of, operation_at, message_of, SpellsNone};
-ghost use Rattle.operations.specs.Reading.{NoneBeginsAnother, LooksAreTold, NoneIsShared};
+ghost use Rattle.operations.specs.Reading.{NoneBeginsAnother, LooksAreDetermined, NoneIsShared};
 ghost use Rattle.operations.specs.Parts.{view_header, view_parts, NamesFew};
 ghost use Rattle.operations.specs.Seen.{kind_of};
 
@@ -297,5 +297,5 @@ pub fn read_looks(bytes: &[u8]) -> Option<(Looks, usize)>
 pub fn lemma_one_spelling()
     ensures prefix { NoneBeginsAnother }
     ensures one { NoneIsShared }
-    ensures looks { LooksAreTold }
+    ensures looks { LooksAreDetermined }
 {}

@@ -171,16 +171,16 @@ fn put_op(out: &mut Vec<u8>, op: &Op) -> Result<(), AllocError>
 
 // Takes back what was appended from `start` on, where memory was refused.
 fn all_or_nothing(
-    put: Result<(), AllocError>,
+    written: Result<(), AllocError>,
     out: &mut Vec<u8>,
     start: usize,
 ) -> Result<(), Refusal>
-    ensures ok { IsOk result ↔ IsOk put }
+    ensures ok { IsOk result ↔ IsOk written }
     ensures errors { RefusedForMemoryAlone result }
     ensures kept { OnOk result (out.new.items ≡ out.old.items) }
     ensures taken_back { OnErr result (out.new.items ≡ take start out.old.items) }
 {
-    if let Err(refused) = put {
+    if let Err(refused) = written {
         out.truncate(start);
         return Err(refused.into());
     }
@@ -195,8 +195,8 @@ pub fn write_looks(looks: &Looks, out: &mut Vec<u8>) -> Result<(), Refusal>
     ensures err { OnErr result (out.new.items ≡ out.old.items) }
 {
     let start = out.len();
-    let put = put_looks(out, looks);
-    all_or_nothing(put, out, start)
+    let written = put_looks(out, looks);
+    all_or_nothing(written, out, start)
 }
 
 /// Appends the operation's message. Refused `OutOfMemory` alone, and then the vector is as it was.
@@ -207,6 +207,6 @@ pub fn encode(op: &Op, out: &mut Vec<u8>) -> Result<(), Refusal>
 {
     op.lemma_has_spelling();
     let start = out.len();
-    let put = put_op(out, op);
-    all_or_nothing(put, out, start)
+    let written = put_op(out, op);
+    all_or_nothing(written, out, start)
 }

@@ -13,18 +13,18 @@ use Rattle.tree_order.specs.Registers.{Atom, if_named}
 use Rattle.piece_list.specs.declared.list.changing.Setting.{Setting}
 use Rattle.piece_list.specs.declared.list.changing.Setting.TheVariants.{Switch, Relook}
 use Rattle.piece_list.specs.declared.piece.Piece.{Piece}
-use Rattle.piece_list.specs.declared.place.Place.{Place}
+use Rattle.piece_list.specs.declared.spot.Spot.{Spot}
 use Rattle.piece_list.specs.Changing.{IsEdge, changed_piece, changed_char}
-use Rattle.piece_list.specs.Held.{AreEntered, IsPlaceOf}
+use Rattle.piece_list.specs.Held.{AreEntered, IsSpotOf}
 use Rattle.piece_list.specs.Laws.{Avoid, ChangesEach}
 use Rattle.piece_list.specs.Pieces.{range_of, IsPiece}
 use Rattle.piece_list.specs.Spelled.{spelled, HasName}
 use Rattle.piece_list.specs.Tables.{Tables, tag_at}
 use Rattle.piece_list.proofs.Changes.{of_its_names}
-use Rattle.piece_list.proofs.Cutting.{before_others, after_others, written}
-use Rattle.piece_list.proofs.CutList.{at_cursor, is_piece}
+use Rattle.piece_list.proofs.Splitting.{before_others, after_others, written}
+use Rattle.piece_list.proofs.SplitList.{at_cursor, is_piece}
 use Rattle.piece_list.proofs.Edges.{entered_holds, begins_there}
-use Rattle.piece_list.proofs.Found.{some_is, one_value, name_has_place, place_has_name}
+use Rattle.piece_list.proofs.Found.{some_is, one_value, name_has_spot, spot_has_name}
 use Rattle.piece_list.proofs.Gap.{all_left, all_right}
 
 abbrev Items : Type 0
@@ -44,9 +44,9 @@ keeps_name (Switch hidden key) k = refl
 keeps_name (Relook sel looks key) k = refl
 
 -- the ring's write
-pub put_at_cursor : (r : Ring Piece) (items : Items) (tag room : ℕ) (w : Piece)
+pub insert_at_cursor : (r : Ring Piece) (items : Items) (tag room : ℕ) (w : Piece)
     → r ≡ ring items (Some tag) room → with_value_at r.cursor w r.items ≡ with_value tag w items
-put_at_cursor r items tag room w e = ap (λ (s : Ring Piece). with_value_at s.cursor w s.items) e
+insert_at_cursor r items tag room w e = ap (λ (s : Ring Piece). with_value_at s.cursor w s.items) e
 
 -- what the answer of the step says of the names
 pub same_names : (p w : Piece) (name : CharName) → range_of w ≡ range_of p → IsIn (range_of p) name
@@ -66,7 +66,7 @@ avoids : (tables : Tables) (tag : ℕ) (p : Piece) (zs : Items) → Entered tabl
 avoids tables tag p zs own entered others = λ i d lt c is held.
     others i d lt (some_is _ _ (sym (entered i d lt c is) ∙ own c held))
 
--- a piece of the same names in the place of another
+-- a piece of the same names in the spot of another
 module _ (tag : ℕ) (p w : Piece) (same : range_of w ≡ range_of p) where
   edges_stay : (xs ys : Items) (site off : ℕ) → IsEdge site off (xs ++ (tag, p) ∷ ys)
       → IsEdge site off (xs ++ (tag, w) ∷ ys)
@@ -103,8 +103,8 @@ module _ (tag : ℕ) (p w : Piece) (same : range_of w ≡ range_of p) where
 -- the numbers stay
 has_tag : (items : Items) (tag s : ℕ) (w : Piece) → HasTag items s → HasTag (with_value tag w items) s
 has_tag items tag s w (v, (xs, ys, is)) =
-    let put : ℕ × Piece → ℕ × Piece = λ (m : ℕ × Piece). (m.0, cond (m.0 == tag) w m.1) in
-    (cond (s == tag) w v, (map put xs, map put ys, ap (map put) is ∙ map-append put xs ((s, v) ∷ ys)))
+    let insert : ℕ × Piece → ℕ × Piece = λ (m : ℕ × Piece). (m.0, cond (m.0 == tag) w m.1) in
+    (cond (s == tag) w v, (map insert xs, map insert ys, ap (map insert) is ∙ map-append insert xs ((s, v) ∷ ys)))
 
 module _ (setting : Setting) (old : Items) (tables : Tables) (tag : ℕ) (p w : Piece) (tags : AreTags old)
     (are : AreEntered old tables) (member : IsMember old tag p) (is_w : w ≡ changed_piece setting p)
@@ -134,17 +134,17 @@ module _ (setting : Setting) (old : Items) (tables : Tables) (tag : ℕ) (p w : 
       | inr differs ↦ ap (λ (b : Bool). range_of (cond b w q)) (ne_eqb s tag differs)
     ]
 
-    -- each place stays
-    pub place_stays : (place : Place) (c : CharName) → IsPlaceOf old place c → IsPlaceOf new place c
-    place_stays place c (q, (xs, ys, is), within, site, off) =
-        let s : ℕ = place.piece in
+    -- each spot stays
+    pub spot_stays : (spot : Spot) (c : CharName) → IsSpotOf old spot c → IsSpotOf new spot c
+    spot_stays spot c (q, (xs, ys, is), within, site, off) =
+        let s : ℕ = spot.piece in
         let v : Piece = cond (s == tag) w q in
-        let put : ℕ × Piece → ℕ × Piece = λ (m : ℕ × Piece). (m.0, cond (m.0 == tag) w m.1) in
+        let insert : ℕ × Piece → ℕ × Piece = λ (m : ℕ × Piece). (m.0, cond (m.0 == tag) w m.1) in
         let range : range_of v ≡ range_of q = alike s q (xs, ys, is) in
         let len : v.len ≡ q.len = ap (λ (r : Range). r.len) range in
         let first : v.off ≡ q.off = ap (λ (r : Range). r.at) range in (
           v,
-          (map put xs, map put ys, ap (map put) is ∙ map-append put xs ((s, q) ∷ ys)),
+          (map insert xs, map insert ys, ap (map insert) is ∙ map-append insert xs ((s, q) ∷ ys)),
           omega arith,
           site ∙ sym (ap (λ (r : Range). r.site) range),
           omega arith,
@@ -162,8 +162,8 @@ module _ (setting : Setting) (old : Items) (tables : Tables) (tag : ℕ) (p w : 
               (entered_stay tag p w same_range tables xs ys whole.entered);
           held = λ c s e. has_tag old tag s w (are.held c s e);
           known = λ c s e.
-              let (place, is) = name_has_place old c (are.known c s e) in
-              place_has_name new place c (place_stays place c is);
+              let (spot, is) = name_has_spot old c (are.known c s e) in
+              spot_has_name new spot c (spot_stays spot c is);
         }
 
     pub changed_there : spelled new ≡ map (if_named (range_of p ∷ []) (changed_char setting)) (spelled old)

@@ -7,9 +7,9 @@ use Rattle.operations.specs.NameSet.{IsIn}
 use Rattle.piece_raw.specs.Ring.{IsMember, AreTags}
 use Rattle.tree_order.specs.Registers.{Atom}
 use Rattle.piece_list.specs.declared.piece.Piece.{Piece}
-use Rattle.piece_list.specs.declared.place.Place.{Place}
+use Rattle.piece_list.specs.declared.spot.Spot.{Spot}
 use Rattle.piece_list.specs.Pieces.{range_of, char_of, chars_of}
-use Rattle.piece_list.specs.Held.{IsPlaceOf, AreEntered}
+use Rattle.piece_list.specs.Held.{IsSpotOf, AreEntered}
 use Rattle.piece_list.specs.Spelled.{spelled}
 use Rattle.piece_list.specs.Tables.{Tables, tag_at}
 use Rattle.piece_list.proofs.Found.{one_value, entry_of, some_is}
@@ -53,18 +53,18 @@ is_of_piece (m ∷ items) k has =
           }
     ]
 
-pub char_of_place : (items : Items) (tables : Tables) → AreTags items → AreEntered items tables
-    → (place : Place) (c : CharName) (p : Piece) → IsPlaceOf items place c → IsMember items place.piece p
+pub char_of_spot : (items : Items) (tables : Tables) → AreTags items → AreEntered items tables
+    → (spot : Spot) (c : CharName) (p : Piece) → IsSpotOf items spot c → IsMember items spot.piece p
     → (k : Atom) → Contains (spelled items) k → k.name ≡ c → k ≡ char_of p c
-char_of_place items tables are entered place c p at held k has same =
+char_of_spot items tables are entered spot c p at held k has same =
     let of : IsOfPiece items k = is_of_piece items k has in
     let (site, from, to) = subst (IsIn (range_of of.piece)) same of.name in
-    let other : Place = record { piece = of.tag; within = c.off - of.piece.off } in
-    let mine : tag_at tables c ≡ Some place.piece = entry_of items tables entered place c at in
+    let other : Spot = record { piece = of.tag; within = c.off - of.piece.off } in
+    let mine : tag_at tables c ≡ Some spot.piece = entry_of items tables entered spot c at in
     let theirs : tag_at tables c ≡ Some of.tag =
     entry_of items tables entered other c (of.piece, of.member, omega arith, site, omega arith) in
-    let one : of.tag ≡ place.piece = some_is of.tag place.piece (sym theirs ∙ mine) in
+    let one : of.tag ≡ spot.piece = some_is of.tag spot.piece (sym theirs ∙ mine) in
     let piece : of.piece ≡ p =
-    one_value items are place.piece of.piece p (subst (λ (t : ℕ). IsMember items t of.piece) one of.member)
+    one_value items are spot.piece of.piece p (subst (λ (t : ℕ). IsMember items t of.piece) one of.member)
     held in
     of.same ∙ ap (char_of of.piece) same ∙ ap (λ (q : Piece). char_of q c) piece

@@ -7,17 +7,17 @@ use Rattle.char_files.specs.CharName.{CharName}
 use Rattle.operations.specs.NameSet.{IsIn}
 use Rattle.piece_raw.specs.Ring.{AreTags, IsMember}
 use Rattle.piece_list.specs.declared.piece.Piece.{Piece}
-use Rattle.piece_list.specs.declared.place.Place.{Place}
-use Rattle.piece_list.specs.Changing.{AreCutOnce, IsEdge}
-use Rattle.piece_list.specs.Held.{AreEntered, IsCut}
+use Rattle.piece_list.specs.declared.spot.Spot.{Spot}
+use Rattle.piece_list.specs.Changing.{AreSplitOnce, IsEdge}
+use Rattle.piece_list.specs.Held.{AreEntered, IsSplit}
 use Rattle.piece_list.specs.Pieces.{range_of, front_of, rest_of}
 use Rattle.piece_list.specs.Spelled.{spelled, HasName}
 use Rattle.piece_list.specs.Tables.{Tables, tag_at}
-use Rattle.piece_list.proofs.Cutting.{before_others, after_others}
-use Rattle.piece_list.proofs.CutList.{is_piece, cut_spells, cut_counts}
-use Rattle.piece_list.proofs.Found.{member_at, one_value, entry_of, some_is, name_has_place}
+use Rattle.piece_list.proofs.Splitting.{before_others, after_others}
+use Rattle.piece_list.proofs.SplitList.{is_piece, split_spells, split_counts}
+use Rattle.piece_list.proofs.Found.{member_at, one_value, entry_of, some_is, name_has_spot}
 use Rattle.piece_list.proofs.Gap.{all_left, all_right}
-use Rattle.piece_list.proofs.Placing.{cut_others}
+use Rattle.piece_list.proofs.Placing.{split_others}
 
 abbrev Items : Type 0
 Items = List (ℕ × Piece)
@@ -46,9 +46,9 @@ pub entered_holds : (items : Items) (tables : Tables) → AreTags items → AreE
     → (c : CharName) → HasName (spelled items) c → (tag : ℕ) (p : Piece) → IsMember items tag p
     → tag_at tables c ≡ Some tag → IsIn (range_of p) c
 entered_holds items tables tags are c here tag p is entry =
-    let (place, there) = name_has_place items c here in
-    let at : tag_at tables c ≡ Some place.piece = entry_of items tables are place c there in
-    let same : place.piece ≡ tag = some_is place.piece tag (sym at ∙ entry) in
+    let (spot, there) = name_has_spot items c here in
+    let at : tag_at tables c ≡ Some spot.piece = entry_of items tables are spot c there in
+    let same : spot.piece ≡ tag = some_is spot.piece tag (sym at ∙ entry) in
     let (q, held, within, site, off) = there in
     let e : q ≡ p =
     one_value items tags tag q p (subst (λ (t : ℕ). IsMember items t q) same held) is in
@@ -58,8 +58,8 @@ entered_holds items tables tags are c here tag p is entry =
 pub is_entered : (items : Items) (tables : Tables) → AreEntered items tables → (c : CharName)
     → HasName (spelled items) c → (tag : ℕ) × (tag_at tables c ≡ Some tag)
 is_entered items tables are c here =
-    let (place, there) = name_has_place items c here in
-    (place.piece, entry_of items tables are place c there)
+    let (spot, there) = name_has_spot items c here in
+    (spot.piece, entry_of items tables are spot c there)
 
 -- there is an edge where the piece that is entered doesn't begin earlier
 pub edge_there : (items : Items) (tables : Tables) → AreTags items → AreEntered items tables → (tag : ℕ)
@@ -84,9 +84,9 @@ edge_after items tables tags are tag p is = λ k d lt site from.
     let m : ℕ × Piece = get_or items k d in
     let some : 0 < p.len = (is_piece items tag p are.pieces is).0 in
     let last : CharName = record { site = p.site; off = p.off + (p.len - 1) } in
-    let place : Place = record { piece = tag; within = p.len - 1 } in
+    let spot : Spot = record { piece = tag; within = p.len - 1 } in
     let entry : tag_at tables last ≡ Some tag =
-    entry_of items tables are place last (p, is, omega arith, refl, refl) in
+    entry_of items tables are spot last (p, is, omega arith, refl, refl) in
     elim (cases_lt (p.off + p.len) (m.1.off + m.1.len)) [
       | inl to ↦
           let held : IsIn (range_of m.1) last = (sym site, omega arith, omega arith) in
@@ -132,69 +132,69 @@ ends_there tables tag site off zs entry all others = λ k d lt own from.
       | inr past ↦ past
     ]
 
--- a cut leaves the edges
-pub edges_after_cut : (old new : Items) (tag n u : ℕ) → IsCut tag n u old new → (site off : ℕ)
+-- a split leaves the edges
+pub edges_after_split : (old new : Items) (tag n u : ℕ) → IsSplit tag n u old new → (site off : ℕ)
     → IsEdge site off old → IsEdge site off new
-edges_after_cut old new tag n u cut site off edge =
+edges_after_split old new tag n u split site off edge =
     let E : ℕ × Piece → Type 0 =
     λ (m : ℕ × Piece). m.1.site ≡ site → m.1.off < off → m.1.off + m.1.len ≤ off in
-    let p : Piece = cut.piece in
+    let p : Piece = split.piece in
     let front : ℕ × Piece = (tag, front_of n p) in
     let rest : ℕ × Piece = (u, rest_of n p) in
-    let within : n < p.len = cut.within in
-    let whole : All E (cut.before ++ (tag, p) ∷ cut.after) = subst (All E) cut.whole edge in
-    let here : All E ((tag, p) ∷ cut.after) = all_right E cut.before ((tag, p) ∷ cut.after) whole in
-    let own : E (tag, p) = All-head E (tag, p) cut.after here in
+    let within : n < p.len = split.within in
+    let whole : All E (split.before ++ (tag, p) ∷ split.after) = subst (All E) split.whole edge in
+    let here : All E ((tag, p) ∷ split.after) = all_right E split.before ((tag, p) ∷ split.after) whole in
+    let own : E (tag, p) = All-head E (tag, p) split.after here in
     let is_front : E front = λ s from. let past : p.off + p.len ≤ off = own s from in omega arith in
     let is_rest : E rest = λ s from. let past : p.off + p.len ≤ off = own s (omega arith) in omega arith in
-    subst (All E) (sym cut.parts)
-    (All-append E cut.before (front ∷ rest ∷ cut.after) (all_left E cut.before ((tag, p) ∷ cut.after) whole)
-    (All-cons E front (rest ∷ cut.after) is_front
-    (All-cons E rest cut.after is_rest (All-tail E (tag, p) cut.after here))))
+    subst (All E) (sym split.parts)
+    (All-append E split.before (front ∷ rest ∷ split.after) (all_left E split.before ((tag, p) ∷ split.after) whole)
+    (All-cons E front (rest ∷ split.after) is_front
+    (All-cons E rest split.after is_rest (All-tail E (tag, p) split.after here))))
 
 -- and makes one: of the other pieces none has the name that the rest begins with
-pub edge_after_cut : (old new : Items) (tables : Tables) → AreTags old → AreEntered old tables → (tag u : ℕ) (p : Piece)
+pub edge_after_split : (old new : Items) (tables : Tables) → AreTags old → AreEntered old tables → (tag u : ℕ) (p : Piece)
     (name : CharName) (site off : ℕ) → name ≡ record { site = site; off = off } → IsMember old tag p
-    → IsIn (range_of p) name → IsCut tag (off - p.off) u old new → IsEdge site off new
-edge_after_cut old new tables tags are tag u p name site off is_name is held cut =
+    → IsIn (range_of p) name → IsSplit tag (off - p.off) u old new → IsEdge site off new
+edge_after_split old new tables tags are tag u p name site off is_name is held split =
     let E : ℕ × Piece → Type 0 =
     λ (m : ℕ × Piece). m.1.site ≡ site → m.1.off < off → m.1.off + m.1.len ≤ off in
-    let q : Piece = cut.piece in
+    let q : Piece = split.piece in
     let front : ℕ × Piece = (tag, front_of (off - p.off) q) in
     let rest : ℕ × Piece = (u, rest_of (off - p.off) q) in
-    let one : q ≡ p = one_value old tags tag q p (cut.before, cut.after, cut.whole) is in
+    let one : q ≡ p = one_value old tags tag q p (split.before, split.after, split.whole) is in
     let first : q.off ≡ p.off = ap (λ (r : Piece). r.off) one in
     let c : CharName = record { site = site; off = off } in
     let (own, from, to) = subst (IsIn (range_of p)) is_name held in
-    let here : AreTags (cut.before ++ (tag, q) ∷ cut.after) = subst AreTags cut.whole tags in
-    let all : All (Holds tables) (cut.before ++ (tag, q) ∷ cut.after) = subst (All (Holds tables)) cut.whole are.entered in
-    let after : All (Holds tables) ((tag, q) ∷ cut.after) = all_right (Holds tables) cut.before ((tag, q) ∷ cut.after) all in
+    let here : AreTags (split.before ++ (tag, q) ∷ split.after) = subst AreTags split.whole tags in
+    let all : All (Holds tables) (split.before ++ (tag, q) ∷ split.after) = subst (All (Holds tables)) split.whole are.entered in
+    let after : All (Holds tables) ((tag, q) ∷ split.after) = all_right (Holds tables) split.before ((tag, q) ∷ split.after) all in
     let entry : tag_at tables c ≡ Some tag =
-    All-head (Holds tables) (tag, q) cut.after after c (subst (λ (r : Piece). IsIn (range_of r) c) (sym one) (own, from, to)) in
+    All-head (Holds tables) (tag, q) split.after after c (subst (λ (r : Piece). IsIn (range_of r) c) (sym one) (own, from, to)) in
     let is_front : E front = λ s lt. omega (arith, first, from) in
     let is_rest : E rest = λ s lt. absurd (omega (arith, first, from, lt)) in
-    subst (All E) (sym cut.parts)
-    (All-append E cut.before (front ∷ rest ∷ cut.after)
-    (ends_there tables tag site off cut.before entry (all_left (Holds tables) cut.before ((tag, q) ∷ cut.after) all)
-    (before_others cut.before cut.after tag q here))
-    (All-cons E front (rest ∷ cut.after) is_front
-    (All-cons E rest cut.after is_rest
-    (ends_there tables tag site off cut.after entry (All-tail (Holds tables) (tag, q) cut.after after)
-    (after_others cut.before cut.after tag q here)))))
+    subst (All E) (sym split.parts)
+    (All-append E split.before (front ∷ rest ∷ split.after)
+    (ends_there tables tag site off split.before entry (all_left (Holds tables) split.before ((tag, q) ∷ split.after) all)
+    (before_others split.before split.after tag q here))
+    (All-cons E front (rest ∷ split.after) is_front
+    (All-cons E rest split.after is_rest
+    (ends_there tables tag site off split.after entry (All-tail (Holds tables) (tag, q) split.after after)
+    (after_others split.before split.after tag q here)))))
 
--- what a cut makes of the pieces, and what none makes of them
-pub cut_once : (old new : Items) (tag n u : ℕ) → AreTags old → 0 < n → IsCut tag n u old new → AreCutOnce old new
-cut_once old new tag n u tags some cut =
-    let more : length new ≡ length old + 1 = cut_counts old new tag n u cut in
+-- what a split makes of the pieces, and what none makes of them
+pub split_once : (old new : Items) (tag n u : ℕ) → AreTags old → 0 < n → IsSplit tag n u old new → AreSplitOnce old new
+split_once old new tag n u tags some split =
+    let more : length new ≡ length old + 1 = split_counts old new tag n u split in
     record {
-      spells = cut_spells old new tag n u cut;
+      spells = split_spells old new tag n u split;
       few = omega (arith, more);
-      edges = edges_after_cut old new tag n u cut;
-      firsts = λ t d is. cut_others old new tag n u tags cut (record { piece = t; within = 0 }) d is (inr some);
+      edges = edges_after_split old new tag n u split;
+      firsts = λ t d is. split_others old new tag n u tags split (record { piece = t; within = 0 }) d is (inr some);
     }
 
-pub not_cut : (items : Items) → AreCutOnce items items
-not_cut items = record {
+pub not_split : (items : Items) → AreSplitOnce items items
+not_split items = record {
   spells = refl;
   few = omega arith;
   edges = λ site off edge. edge;

@@ -1,4 +1,4 @@
--- The tables after a piece was cut.
+-- The tables after a piece was split.
 use Rattle.std.proofs.Common.{◌≡◌, ◌≢◌, ℕ, ◌+◌, ◌-◌, ◌<◌, ◌≤◌, ◌⊎◌, Bool, true, false, inl, inr}
 use Rattle.std.proofs.Common.{List, [], ◌∷◌}
 use Rattle.std.proofs.Common.{◌++◌, Option, Some, All, get_or, refl, sym, ap, subst, ◌∙◌, arith}
@@ -14,9 +14,9 @@ use Rattle.piece_list.specs.Held.{AreEntered}
 use Rattle.piece_list.specs.Spelled.{spelled, HasName}
 use Rattle.piece_list.specs.Tables.{Tables, tag_in, table_of, tag_at}
 use Rattle.piece_list.proofs.Changes.{contained, is_contained}
-use Rattle.piece_list.proofs.Cut.{cut_spells_the_same}
-use Rattle.piece_list.proofs.Cutting.{before_others, after_others}
-use Rattle.piece_list.proofs.Found.{place_has_name}
+use Rattle.piece_list.proofs.Split.{split_spells_the_same}
+use Rattle.piece_list.proofs.Splitting.{before_others, after_others}
+use Rattle.piece_list.proofs.Found.{spot_has_name}
 use Rattle.piece_list.proofs.Gap.{all_left, all_right}
 
 abbrev Items : Type 0
@@ -139,14 +139,14 @@ module _ (xs ys : Items) (tag u n : ℕ) (p : Piece) (old new : Tables)
     spelled_after : (c : CharName) (s : ℕ) → tag_at new c ≡ Some s
         → HasName (spelled (xs ++ (tag, front_of n p) ∷ (u, rest_of n p) ∷ ys)) c
     spelled_after c s e = subst (λ (l : List Atom). HasName l c)
-        (sym (cut_spells_the_same xs ys tag u n p (omega (arith, within))))
+        (sym (split_spells_the_same xs ys tag u n p (omega (arith, within))))
         (go (range_contains (range_of (rest_of n p)) c) refl)
       where
         go : (b : Bool) → range_contains (range_of (rest_of n p)) c ≡ b
             → HasName (spelled (xs ++ (tag, p) ∷ ys)) c
         go true is =
             let (site, from, to) = is_contained (range_of (rest_of n p)) c is in
-            place_has_name (xs ++ (tag, p) ∷ ys) (record { piece = tag; within = c.off - p.off }) c
+            spot_has_name (xs ++ (tag, p) ∷ ys) (record { piece = tag; within = c.off - p.off }) c
             (p, (xs, ys, refl), omega arith, site, omega arith)
         go false out =
             let at : tag_at new c ≡ tag_at old c = outside c (λ held.

@@ -37,13 +37,13 @@ entries_on setting r name to old mid new was between now site from on ends one t
   capacity = omega (arith, one.capacity, two.capacity);
 }
 
--- one range more of a set, of pieces that are cut first
+-- one range more of a set, of pieces that are split first
 pub entries_more : (setting : Setting) (ranges : List Range) (i : ℕ) (r : Range) (old mid new : Note)
-    (was between cut now : Items) → i < length ranges → r ≡ get_or ranges i r → spelled cut ≡ spelled between
+    (was between split now : Items) → i < length ranges → r ≡ get_or ranges i r → spelled split ≡ spelled between
     → AreNoted setting ranges (name_count (take i ranges)) old mid was between
-    → AreNoted setting (r ∷ []) r.len mid new cut now
+    → AreNoted setting (r ∷ []) r.len mid new split now
     → AreNoted setting ranges (name_count (take (i + 1) ranges)) old new was now
-entries_more setting ranges i r old mid new was between cut now lt at spells one two =
+entries_more setting ranges i r old mid new was between split now lt at spells one two =
     let more : name_count (take (i + 1) ranges) ≡ name_count (take i ranges) + r.len =
     one_range_more ranges i r lt at in
     record {
@@ -52,7 +52,7 @@ entries_more setting ranges i r old mid new was between cut now lt at spells one
           (one.told (omega (arith, room, more)))
           (noted_wider setting (r ∷ []) ranges mid.items new.items between now
           (λ d. range_among ranges i r d lt at)
-          (noted_along setting (r ∷ []) mid.items new.items between cut now spells
+          (noted_along setting (r ∷ []) mid.items new.items between split now spells
           (two.told (omega (arith, room, more, one.few, one.capacity)))));
       few = omega (arith, more, one.few, two.few);
       capacity = omega (arith, one.capacity, two.capacity);

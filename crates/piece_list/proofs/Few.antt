@@ -19,7 +19,7 @@ use Rattle.piece_list.specs.Spelled.{spelled, names_of_atoms, ArePieces}
 use Rattle.piece_list.specs.Held.{AreEntered}
 use Rattle.piece_list.specs.Tables.{Tables, tag_at}
 use Rattle.tree_order.proofs.RunNames.{in_names}
-use Rattle.piece_list.proofs.Found.{apart, member_at, name_has_place}
+use Rattle.piece_list.proofs.Found.{apart, member_at, name_has_spot}
 use Rattle.piece_list.proofs.Gap.{name_only, names_of_chars}
 
 abbrev Items : Type 0
@@ -70,13 +70,13 @@ once_by tables (m ∷ items) numbers entered =
     let mine : tag_at tables c ≡ Some m.0 =
     All-head (Entered tables) m items entered c (in_names (range_of m.1) c has) in
     let there : Contains rest c = (k, lt, get_or_default rest k c d lt ∙ sym same) in
-    let (place, (p, is, within, site, off)) = name_has_place items c there in
-    let (j, lt_j, at) = member_at items place.piece p is in
-    let n : ℕ × Piece = (place.piece, p) in
-    let theirs : tag_at tables c ≡ Some place.piece =
+    let (spot, (p, is, within, site, off)) = name_has_spot items c there in
+    let (j, lt_j, at) = member_at items spot.piece p is in
+    let n : ℕ × Piece = (spot.piece, p) in
+    let theirs : tag_at tables c ≡ Some spot.piece =
     subst (λ (o : ℕ × Piece). Entered tables o) (at n) (All-tail (Entered tables) m items entered j n lt_j) c
     (site, omega arith, omega arith) in
-    let one : m.0 ≡ place.piece = cc in
+    let one : m.0 ≡ spot.piece = cc in
     pairs_head (λ (a b : ℕ × Piece). a.0 ≢ b.0) m items numbers j n lt_j
     (one ∙ sym (ap (λ (o : ℕ × Piece). o.0) (at n))) in
     subst (AllPairs R) (sym parts)
@@ -107,10 +107,10 @@ fit : (items : Items) → ArePieces items → All Fits (names_of_atoms (spelled 
 fit items pieces = λ k d lt.
     let names : List CharName = names_of_atoms (spelled items) in
     let c : CharName = get_or names k d in
-    let (place, (p, is, within, site, off)) =
-    name_has_place items c (k, lt, get_or_default names k c d lt) in
-    let (j, lt_j, at) = member_at items place.piece p is in
-    let n : ℕ × Piece = (place.piece, p) in
+    let (spot, (p, is, within, site, off)) =
+    name_has_spot items c (k, lt, get_or_default names k c d lt) in
+    let (j, lt_j, at) = member_at items spot.piece p is in
+    let n : ℕ × Piece = (spot.piece, p) in
     let piece : IsPiece p = subst (λ (o : ℕ × Piece). IsPiece o.1) (at n) (pieces j n lt_j) in
     let small : p.site < 2 ^ 16 = piece.3 in
     let end : p.off + p.len ≤ 16777216 = piece.2 in

@@ -14,9 +14,9 @@ use Rattle.char_files.specs.CharName.{CharName}
 use Rattle.operations.specs.NameSet.{IsIn, names_of}
 use Rattle.piece_raw.specs.Ring.{IsMember, AreTags, tags}
 use Rattle.piece_list.specs.declared.piece.Piece.{Piece}
-use Rattle.piece_list.specs.declared.place.Place.{Place}
+use Rattle.piece_list.specs.declared.spot.Spot.{Spot}
 use Rattle.piece_list.specs.Pieces.{range_of, chars_of}
-use Rattle.piece_list.specs.Held.{IsPlaceOf, AreEntered}
+use Rattle.piece_list.specs.Held.{IsSpotOf, AreEntered}
 use Rattle.piece_list.specs.Spelled.{spelled, names_of_atoms, HasName}
 use Rattle.piece_list.specs.Tables.{Tables, tag_at}
 use Rattle.tree_order.proofs.RunNames.{in_names, names_have}
@@ -72,24 +72,24 @@ one_value items are tag p q a b =
       ]
     ]
 
--- a place's name is spelled
-pub place_has_name : (items : List (ℕ × Piece)) (place : Place) (c : CharName) → IsPlaceOf items place c
+-- a spot's name is spelled
+pub spot_has_name : (items : List (ℕ × Piece)) (spot : Spot) (c : CharName) → IsSpotOf items spot c
     → HasName (spelled items) c
-place_has_name items place c (p, (xs, ys, is), within, site, off) =
+spot_has_name items spot c (p, (xs, ys, is), within, site, off) =
     let own : List CharName = names_of (range_of p) in
     let rest : List CharName = names_of_atoms (spelled ys) in
     let before : List CharName = names_of_atoms (spelled xs) in
     let held : Contains own c = names_have (range_of p) c (site, omega arith, omega arith) in
     let names : before ++ (own ++ rest) ≡ names_of_atoms (spelled items) =
-    sym (ap (λ (l : List (ℕ × Piece)). names_of_atoms (spelled l)) is ∙ names_around xs ys place.piece p) in
+    sym (ap (λ (l : List (ℕ × Piece)). names_of_atoms (spelled l)) is ∙ names_around xs ys spot.piece p) in
     subst (λ (cs : List CharName). Contains cs c) names
     (Contains-append_right before (own ++ rest) c (Contains-append_left own rest c held))
 
--- and each name that is spelled has a place
-pub name_has_place : (items : List (ℕ × Piece)) (c : CharName) → HasName (spelled items) c
-    → (place : Place) × IsPlaceOf items place c
-name_has_place [] c (k, lt, e) = absurd (omega arith)
-name_has_place (m ∷ items) c held =
+-- and each name that is spelled has a spot
+pub name_has_spot : (items : List (ℕ × Piece)) (c : CharName) → HasName (spelled items) c
+    → (spot : Spot) × IsSpotOf items spot c
+name_has_spot [] c (k, lt, e) = absurd (omega arith)
+name_has_spot (m ∷ items) c held =
     let own : List CharName = names_of_atoms (chars_of m.1) in
     let rest : List CharName = names_of_atoms (spelled items) in
     let parts : Contains (own ++ rest) c =
@@ -111,16 +111,16 @@ name_has_place (m ∷ items) c held =
             ),
           )
       | inr later ↦
-          let (place, (p, (xs, ys, is), within, site, off)) = name_has_place items c later in
-          (place, (p, (m ∷ xs, ys, ap (λ (l : List (ℕ × Piece)). m ∷ l) is), within, site, off))
+          let (spot, (p, (xs, ys, is), within, site, off)) = name_has_spot items c later in
+          (spot, (p, (m ∷ xs, ys, ap (λ (l : List (ℕ × Piece)). m ∷ l) is), within, site, off))
     ]
 
--- the tables have the number of each place
-pub entry_of : (items : List (ℕ × Piece)) (tables : Tables) → AreEntered items tables → (place : Place)
-    (c : CharName) → IsPlaceOf items place c → tag_at tables c ≡ Some place.piece
-entry_of items tables are place c (p, held, within, site, off) =
-    let m : ℕ × Piece = (place.piece, p) in
-    let (k, lt, at) = member_at items place.piece p held in
+-- the tables have the number of each spot
+pub entry_of : (items : List (ℕ × Piece)) (tables : Tables) → AreEntered items tables → (spot : Spot)
+    (c : CharName) → IsSpotOf items spot c → tag_at tables c ≡ Some spot.piece
+entry_of items tables are spot c (p, held, within, site, off) =
+    let m : ℕ × Piece = (spot.piece, p) in
+    let (k, lt, at) = member_at items spot.piece p held in
     subst (λ (n : ℕ × Piece). (d : CharName) → IsIn (range_of n.1) d → tag_at tables d ≡ Some n.0) (at m)
     (are.entered k m lt) c (site, omega arith, omega arith)
 
@@ -128,5 +128,5 @@ entry_of items tables are place c (p, held, within, site, off) =
 pub not_entered : (items : List (ℕ × Piece)) (tables : Tables) → AreEntered items tables → (c : CharName)
     → tag_at tables c ≡ None → HasName (spelled items) c → ⊥
 not_entered items tables are c none here =
-    let (place, is) = name_has_place items c here in
-    none_is_not place.piece (sym none ∙ entry_of items tables are place c is)
+    let (spot, is) = name_has_spot items c here in
+    none_is_not spot.piece (sym none ∙ entry_of items tables are spot c is)

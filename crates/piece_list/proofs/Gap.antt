@@ -1,4 +1,4 @@
--- A piece put after its cause and the pieces of greater key goes where the insertion law puts its run.
+-- A piece inserted after its cause and the pieces of greater key goes where the insertion law inserts its run.
 use Rattle.std.proofs.Common.{◌≡◌, ℕ, suc, ◌+◌, ◌-◌, ◌<◌, true, false, List, [], ◌∷◌, ◌++◌, Some, length}
 use Rattle.std.proofs.Common.{get_or, take, drop, map, All, refl, sym, ap, subst, ◌∙◌, arith, append_assoc}
 use Rattle.std.specs.List.{range_with_len}

@@ -10,25 +10,25 @@ use Rattle.operations.specs.NameSet.{Range, IsIn, IsAmong}
 use Rattle.piece_raw.specs.Ring.{IsMember, AreTags}
 use Rattle.tree_order.specs.Registers.{Atom}
 use Rattle.piece_list.specs.declared.piece.Piece.{Piece}
-use Rattle.piece_list.specs.declared.place.Place.{Place}
-use Rattle.piece_list.specs.Held.{IsPlaceOf, AreEntered}
+use Rattle.piece_list.specs.declared.spot.Spot.{Spot}
+use Rattle.piece_list.specs.Held.{IsSpotOf, AreEntered}
 use Rattle.piece_list.specs.Pieces.{IsPiece}
 use Rattle.piece_list.specs.Spelled.{spelled, HasName}
 use Rattle.piece_list.specs.Tables.{Tables}
-use Rattle.piece_list.proofs.CharOf.{char_of_place}
+use Rattle.piece_list.proofs.CharOf.{char_of_spot}
 use Rattle.piece_list.proofs.ChangedNames.{range}
 use Rattle.piece_list.proofs.Found.{one_value, member_at}
 use Rattle.piece_list.proofs.Positions.{Items}
 
--- a piece that holds a name, from the name's place on
+-- a piece that holds a name, from the name's spot on
 module _ (items : Items) (tables : Tables) (are : AreTags items) (entered : AreEntered items tables)
-    (place : Place) (c : CharName) (p : Piece) (at : IsPlaceOf items place c)
-    (held : IsMember items place.piece p) where
-  is_inside : (place.within < p.len) × (c.site ≡ p.site) × (c.off ≡ p.off + place.within)
+    (spot : Spot) (c : CharName) (p : Piece) (at : IsSpotOf items spot c)
+    (held : IsMember items spot.piece p) where
+  is_inside : (spot.within < p.len) × (c.site ≡ p.site) × (c.off ≡ p.off + spot.within)
   is_inside =
       let (q, member, within, site, off) = at in
-      let one : q ≡ p = one_value items are place.piece q p member held in
-      subst (λ (r : Piece). (place.within < r.len) × (c.site ≡ r.site) × (c.off ≡ r.off + place.within)) one
+      let one : q ≡ p = one_value items are spot.piece q p member held in
+      subst (λ (r : Piece). (spot.within < r.len) × (c.site ≡ r.site) × (c.off ≡ r.off + spot.within)) one
       (within, site, off)
 
   pub ends_after : c.off < p.off + p.len
@@ -36,8 +36,8 @@ module _ (items : Items) (tables : Tables) (are : AreTags items) (entered : AreE
 
   pub end_fits : p.off + p.len ≤ MAX_FILE
   end_fits =
-      let m : ℕ × Piece = (place.piece, p) in
-      let (i, lt, is) = member_at items place.piece p held in
+      let m : ℕ × Piece = (spot.piece, p) in
+      let (i, lt, is) = member_at items spot.piece p held in
       let piece : IsPiece p = subst (λ (n : ℕ × Piece). IsPiece n.1) (is m) (entered.pieces i m lt) in
       piece.2
 
@@ -45,11 +45,11 @@ module _ (items : Items) (tables : Tables) (are : AreTags items) (entered : AreE
   pub alike : (k : Atom) → Contains (spelled items) k → IsIn (range c.site c.off (p.off + p.len - c.off)) k.name
       → k.hidden.value ≡ p.hidden.value
   alike k has (site, from, to) =
-      let there : Place = record { piece = place.piece; within = k.name.off - p.off } in
+      let there : Spot = record { piece = spot.piece; within = k.name.off - p.off } in
       let low : p.off ≤ k.name.off = omega (arith, is_inside.2) in
       let high : k.name.off < p.off + p.len = omega (arith, is_inside.2) in
-      let is : IsPlaceOf items there k.name = (p, held, omega arith, site ∙ is_inside.1, omega arith) in
-      ap (λ (o : Atom). o.hidden.value) (char_of_place items tables are entered there k.name p is held k has refl)
+      let is : IsSpotOf items there k.name = (p, held, omega arith, site ∙ is_inside.1, omega arith) in
+      ap (λ (o : Atom). o.hidden.value) (char_of_spot items tables are entered there k.name p is held k has refl)
 
 -- a name that is here is that of a character
 pub char_named : (ks : List Atom) (c : CharName) → HasName ks c → (k : Atom) × Contains ks k × (k.name ≡ c)

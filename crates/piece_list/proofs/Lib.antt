@@ -2,9 +2,9 @@ pub mod ChangedNames
 pub mod ChangedPiece
 pub mod Changes
 pub mod CharOf
-pub mod Cut
-pub mod CutList
-pub mod Cutting
+pub mod Split
+pub mod SplitList
+pub mod Splitting
 pub mod Edges
 pub mod Entered
 pub mod Entries
@@ -20,7 +20,7 @@ pub mod Placing
 pub mod Positions
 pub mod Ranks
 pub mod Rooms
-pub mod RunCuts
+pub mod RunSplits
 pub mod Shown
 pub mod ShownAt
 pub mod ShownTo

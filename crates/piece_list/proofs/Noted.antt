@@ -30,7 +30,7 @@ use Rattle.piece_list.specs.Spelled.{spelled, shown_chars}
 use Rattle.piece_list.proofs.ChangedPiece.{changes_each}
 use Rattle.piece_list.proofs.ChangedNames.{only_range}
 use Rattle.piece_list.proofs.Changes.{in_range}
-use Rattle.piece_list.proofs.Cutting.{written}
+use Rattle.piece_list.proofs.Splitting.{written}
 use Rattle.piece_list.proofs.Found.{one_value}
 use Rattle.piece_list.proofs.Weighed.{Weights, ranked_piece}
 use Rattle.piece_list.proofs.Positions.{Items, shown_in}
@@ -100,7 +100,7 @@ trades (Relook sel looks key) beg p w same (shown, is) =
       omega (arith, count_tells p shown, len),
     )
 
--- of a piece that is set, at its place
+-- of a piece that is set, at its spot
 module _ (setting : Setting) (xs ys : Items) (tag : ℕ) (p w : Piece) (same : range_of w ≡ range_of p) where
   abbrev entry : ℕ → Change
   entry beg = record { kind = kind_of setting; beg = beg; end = beg + w.len }
@@ -165,13 +165,13 @@ pub noted_one : (setting : Setting) (xs ys : Items) (tag beg : ℕ) (p w : Piece
     → range_of w ≡ range_of p → 0 < w.len → beg ≡ shown_in xs → ShowsOther setting p w
     → new ≡ old ++ record { kind = kind_of setting; beg = beg; end = beg + w.len } ∷ []
     → IsNoted setting (range_of p ∷ []) old new (xs ++ (tag, p) ∷ ys) (xs ++ (tag, w) ∷ ys)
-noted_one setting xs ys tag beg p w old new same some at other put =
+noted_one setting xs ys tag beg p w old new same some at other insert =
     let was : List Appearance = appearances (xs ++ (tag, p) ∷ ys) in
     let entry : Change = record { kind = kind_of setting; beg = beg; end = beg + w.len } in
     let Is : Change → Type 0 = λ (change : Change). IsOf setting (range_of p ∷ []) was change in
     record {
       gained = entry ∷ [];
-      kept = put;
+      kept = insert;
       each = All-cons Is entry [] (of_sort setting xs ys tag beg p w same some at other) (All-nil Is);
       leads = (appearances (xs ++ (tag, w) ∷ ys), made setting xs ys tag p w same beg at other, refl);
     }
@@ -225,7 +225,7 @@ module _ (setting : Setting) (items : Items) (tag : ℕ) (p w : Piece) (are : Ar
       → IsMember items tag p → 0 < p.len → ShowsOther setting p w → IsRank index tag beg
       → new ≡ old ++ record { kind = kind_of setting; beg = beg; end = beg + w.len } ∷ []
       → IsNoted setting (range_of p ∷ []) old new items (with_value tag w items)
-  noted_turn index beg old new same member some other rank put =
+  noted_turn index beg old new same member some other rank insert =
       let (weight, found) = ranked_piece items index tag beg same rank in
       let one : found.piece ≡ p =
       one_value items are tag found.piece p (found.front, found.after, found.whole) member in
@@ -235,7 +235,7 @@ module _ (setting : Setting) (items : Items) (tag : ℕ) (p w : Piece) (are : Ar
       (subst (λ (l : Items). IsNoted setting (range_of p ∷ []) old new (found.front ++ (tag, p) ∷ found.after) l)
       (sym (set_there found.front found.after is))
       (noted_one setting found.front found.after tag beg p w old new range_stays
-      (omega (arith, some, ap (λ (r : Range). r.len) range_stays)) found.before_is other put))
+      (omega (arith, some, ap (λ (r : Range). r.len) range_stays)) found.before_is other insert))
 
   pub noted_still : (names : List Range) (old : List Change) → IsMember items tag p → ShowsTheSame p w
       → IsNoted setting names old old items (with_value tag w items)

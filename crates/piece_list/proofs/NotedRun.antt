@@ -1,4 +1,4 @@
--- The entry that tells of a run put into its gap.
+-- The entry that tells of a run inserted into its gap.
 use Rattle.std.proofs.Common.{◌≡◌, ℕ, ◌+◌, ◌-◌, ◌<◌, ◌≤◌, ◌^◌, false, cond, List, [], ◌∷◌, ◌++◌, Option, Some, None, length, get_or, take, map}
 use Rattle.std.proofs.Common.{refl, sym, ap, ◌∙◌, arith}
 use Rattle.std.specs.Prelude.{slice_get, IfSome, IsSome}
@@ -15,7 +15,7 @@ use Rattle.tree_order.specs.Registers.{Atom}
 use Rattle.piece_list.specs.declared.piece.Piece.{Piece}
 use Rattle.piece_list.specs.Noted.{appearances, SameName, Notes}
 use Rattle.piece_list.specs.Pieces.{chars_of}
-use Rattle.piece_list.specs.Placing.{IsPutInGap}
+use Rattle.piece_list.specs.Placing.{IsInsertedInGap}
 use Rattle.piece_list.specs.Shown.{AreShownTo, appearance_of}
 use Rattle.piece_list.specs.Spelled.{spelled, names_of_atoms, shown_chars, HasName}
 use Rattle.piece_list.proofs.Gap.{name_only}
@@ -27,10 +27,10 @@ use Rattle.piece_list.proofs.ShownTo.{name_at, up_to}
 abbrev chars : ℕ × Piece → List Atom
 chars m = chars_of m.1
 
-module _ (cause : Anchor) (p : Piece) (old new : Items) (steps : ℕ) (put : IsPutInGap cause p old new steps)
+module _ (cause : Anchor) (p : Piece) (old new : Items) (steps : ℕ) (insert : IsInsertedInGap cause p old new steps)
     (some : 0 < p.len) (shown : p.hidden.value ≡ false) where
   abbrev front : Items
-  front = put.before ++ put.skipped
+  front = insert.before ++ insert.skipped
 
   abbrev first : CharName
   first = record { site = p.site; off = p.off }
@@ -38,18 +38,18 @@ module _ (cause : Anchor) (p : Piece) (old new : Items) (steps : ℕ) (put : IsP
   -- where the first of its names stands among all
   at : (d : CharName) → get_or (names_of_atoms (spelled new)) (length (spelled front) + 0) d ≡ first
   at d =
-      ap (λ (l : Items). get_or (names_of_atoms (spelled l)) (length (spelled front) + 0) d) put.put
-      ∙ name_at front put.after put.tag p first 0 some refl (omega arith) d
+      ap (λ (l : Items). get_or (names_of_atoms (spelled l)) (length (spelled front) + 0) d) insert.insert
+      ∙ name_at front insert.after insert.tag p first 0 some refl (omega arith) d
 
   within : length (spelled front) + 0 < length (names_of_atoms (spelled new))
   within =
       omega (
         arith,
         length-map (spelled new) name_only,
-        ap (λ (l : Items). length (spelled l)) put.put,
-        ap length (flat_map-append chars front ((put.tag, p) ∷ put.after)),
-        length-append (spelled front) (spelled ((put.tag, p) ∷ put.after)),
-        length-append (chars_of p) (spelled put.after),
+        ap (λ (l : Items). length (spelled l)) insert.insert,
+        ap length (flat_map-append chars front ((insert.tag, p) ∷ insert.after)),
+        length-append (spelled front) (spelled ((insert.tag, p) ∷ insert.after)),
+        length-append (chars_of p) (spelled insert.after),
         count_chars p,
       )
 
@@ -63,9 +63,9 @@ module _ (cause : Anchor) (p : Piece) (old new : Items) (steps : ℕ) (put : IsP
       let found : slice_get (names_of_atoms (spelled new)) k ≡ Some first =
       slice_get-get_or (names_of_atoms (spelled new)) k first within ∙ ap (λ (c : CharName). Some c) (at first) in
       count k found
-      ∙ ap (λ (l : Items). length (shown_chars (take (k + 1) (spelled l)))) put.put
-      ∙ ap (λ (ks : List Atom). length (shown_chars ks)) (up_to front put.after put.tag p 0 some)
-      ∙ count_more front (put.tag, record p { len = 0 + 1 })
+      ∙ ap (λ (l : Items). length (shown_chars (take (k + 1) (spelled l)))) insert.insert
+      ∙ ap (λ (ks : List Atom). length (shown_chars ks)) (up_to front insert.after insert.tag p 0 some)
+      ∙ count_more front (insert.tag, record p { len = 0 + 1 })
       ∙ omega (arith, ap (λ b. cond b 0 (0 + 1)) shown)
 
   -- and its end is within what is shown
@@ -74,17 +74,17 @@ module _ (cause : Anchor) (p : Piece) (old new : Items) (steps : ℕ) (put : IsP
       omega (
         arith,
         count_to_first n count,
-        ap shown_in put.put,
-        count_both front ((put.tag, p) ∷ put.after),
-        count_cons (put.tag, p) put.after,
+        ap shown_in insert.insert,
+        count_both front ((insert.tag, p) ∷ insert.after),
+        count_cons (insert.tag, p) insert.after,
         ap (λ b. cond b 0 p.len) shown,
       )
 
-  was : appearances old ≡ appearances front ++ ([] ++ appearances put.after)
+  was : appearances old ≡ appearances front ++ ([] ++ appearances insert.after)
   was =
-      ap (λ (ks : List Atom). map appearance_of (shown_chars ks)) (sym put.spells)
-      ∙ ap (map appearance_of) (shown_both front put.after)
-      ∙ map-append appearance_of (shown_chars (spelled front)) (shown_chars (spelled put.after))
+      ap (λ (ks : List Atom). map appearance_of (shown_chars ks)) (sym insert.spells)
+      ∙ ap (map appearance_of) (shown_both front insert.after)
+      ∙ map-append appearance_of (shown_chars (spelled front)) (shown_chars (spelled insert.after))
 
   run_noted : (n : ℕ) (note note' : List Change) → AreShownTo (spelled new) first n
       → note' ≡ note ++ record { kind = Insert; beg = n - 1; end = n - 1 + p.len } ∷ []
@@ -95,9 +95,9 @@ module _ (cause : Anchor) (p : Piece) (old new : Items) (steps : ℕ) (put : IsP
         front = appearances front;
         gone = [];
         come = told_by p;
-        back = appearances put.after;
+        back = appearances insert.after;
         before = was;
-        after = ap appearances put.put ∙ parts front put.after put.tag p;
+        after = ap appearances insert.insert ∙ parts front insert.after insert.tag p;
         at = length-map (shown_chars (spelled front)) appearance_of ∙ omega (arith, count_to_first n count);
         trades = (refl, omega (arith, count_tells p shown));
       } in

@@ -1,4 +1,4 @@
--- A run that is put where it belongs makes all characters of the larger set in order, each with its
+-- A run that is inserted where it belongs makes all characters of the larger set in order, each with its
 -- registers.
 use Rattle.std.proofs.Common.{ℕ, false, List, [], ◌∷◌, ◌++◌, length, map, sym, ap, subst, ◌∙◌}
 use Rattle.looks.specs.declared.key.Key.{Key}

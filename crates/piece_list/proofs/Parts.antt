@@ -7,7 +7,7 @@ use Rattle.std.proofs.lemmas.List.Elements.{All-head, All-tail}
 use Rattle.piece_raw.specs.Ring.{AreTags, HasTag, tags, last_tag}
 use Rattle.piece_list.specs.declared.piece.Piece.{Piece}
 use Rattle.piece_list.specs.Placing.{IsParted, HasPart}
-use Rattle.piece_list.proofs.Cutting.{before_others, ends_with}
+use Rattle.piece_list.proofs.Splitting.{before_others, ends_with}
 
 abbrev Items : Type 0
 Items = List (ℕ × Piece)

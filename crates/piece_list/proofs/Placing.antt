@@ -1,4 +1,4 @@
--- A piece is put into its gap: the walk to it, the cut before it, and the tables afterwards.
+-- A piece is inserted into its gap: the walk to it, the split before it, and the tables afterwards.
 use Rattle.std.proofs.Common.{◌≡◌, ◌≢◌, ℕ, ◌+◌, ◌-◌, ◌<◌, ◌≤◌, ◌⊎◌, Bool, true, false, inl, inr, List, [], ◌∷◌}
 use Rattle.std.proofs.Common.{◌++◌, Option, Some, length, All, Contains, refl, sym, ap, subst, ◌∙◌, arith}
 use Rattle.std.proofs.Common.{append_assoc}
@@ -15,20 +15,20 @@ use Rattle.operations.specs.NameSet.{Range, IsIn, range_contains, names_of}
 use Rattle.tree_order.specs.Registers.{Atom}
 use Rattle.piece_raw.specs.Ring.{Ring, ring, AreTags, HasTag, IsMember, IsPushed, last_tag}
 use Rattle.piece_list.specs.declared.piece.Piece.{Piece}
-use Rattle.piece_list.specs.declared.place.Place.{Place}
+use Rattle.piece_list.specs.declared.spot.Spot.{Spot}
 use Rattle.piece_list.specs.Pieces.{range_of, chars_of, front_of, rest_of, IsPiece}
-use Rattle.piece_list.specs.Held.{AreEntered, IsPlaceOf, IsCut}
+use Rattle.piece_list.specs.Held.{AreEntered, IsSpotOf, IsSplit}
 use Rattle.piece_list.specs.Laws.{Avoid, BeginNotAbove}
 use Rattle.piece_list.specs.Placed.{IsPlaced}
-use Rattle.piece_list.specs.Placing.{compared, IsAnchorPlace, IsParted, HasPart, IsPartedAt, IsCutAt, IsCutThere}
-use Rattle.piece_list.specs.Placing.{IsCounted, IsNext, IsSkip, IsPutInGap, last_look}
+use Rattle.piece_list.specs.Placing.{compared, IsAnchorSpot, IsParted, HasPart, IsPartedAt, IsSplitAt, IsSplitThere}
+use Rattle.piece_list.specs.Placing.{IsCounted, IsNext, IsSkip, IsInsertedInGap, last_look}
 use Rattle.piece_list.specs.Spelled.{spelled, names_of_atoms, HasName, ArePieces}
 use Rattle.piece_list.specs.Tables.{Tables, table_of, tag_at}
 use Rattle.tree_order.proofs.RunNames.{names_have}
 use Rattle.piece_list.proofs.Changes.{contained, is_contained}
-use Rattle.piece_list.proofs.Cut.{cut_spells_the_same}
+use Rattle.piece_list.proofs.Split.{split_spells_the_same}
 use Rattle.piece_list.proofs.Entered.{Held, held, has_tag}
-use Rattle.piece_list.proofs.Found.{one_value, some_is, name_has_place, place_has_name}
+use Rattle.piece_list.proofs.Found.{one_value, some_is, name_has_spot, spot_has_name}
 use Rattle.piece_list.proofs.Gap.{all_left, all_right, into_gap, name_only, names_of_chars}
 use Rattle.piece_list.proofs.Parts.{one_part, last_tag-push, count_part, count_after}
 
@@ -140,11 +140,11 @@ walk_ends items key first last from steps more walked stops looks before after p
           (looks (before ++ w.skipped) w.rest (w.part items parted.0));
     }
 
--- the cut after the cause
+-- the split after the cause
 
 -- the pieces that end with this one are parted after its last character
 parted_at : (old xs ys : Items) (tag : ℕ) (p : Piece) (c : CharName) → c.site ≡ p.site
-    → c.off + 1 ≡ p.off + p.len → IsCutThere old (xs ++ (tag, p) ∷ []) ys
+    → c.off + 1 ≡ p.off + p.len → IsSplitThere old (xs ++ (tag, p) ∷ []) ys
     → IsPartedAt old (xs ++ (tag, p) ∷ ys) (Some tag) (At c)
 parted_at old xs ys tag p c site off there = (
   xs ++ (tag, p) ∷ [],
@@ -155,75 +155,75 @@ parted_at old xs ys tag p c site off there = (
 )
 
 -- the cause is the last of its piece
-pub parted_there : (items : Items) → AreTags items → (place : Place) (v : Piece)
-    → IsMember items place.piece v → v.len ≤ place.within + 1 → (cause : Anchor)
-    → IsAnchorPlace items cause (Some place) → IsPartedAt items items (Some place.piece) cause
-parted_there items are place v member le Root is = absurd cc
-parted_there items are place v member le (At c) (at, same, (q, (xs, ys, is), within, site, off)) =
-    let here : at ≡ place = sym (some_is place at same) in
-    let tag : at.piece ≡ place.piece = ap (λ (s : Place). s.piece) here in
-    let index : at.within ≡ place.within = ap (λ (s : Place). s.within) here in
-    let whole : items ≡ xs ++ (place.piece, q) ∷ ys = is ∙ ap (λ (t : ℕ). xs ++ (t, q) ∷ ys) tag in
-    let value : q ≡ v = one_value items are place.piece q v (xs, ys, whole) member in
+pub parted_there : (items : Items) → AreTags items → (spot : Spot) (v : Piece)
+    → IsMember items spot.piece v → v.len ≤ spot.within + 1 → (cause : Anchor)
+    → IsAnchorSpot items cause (Some spot) → IsPartedAt items items (Some spot.piece) cause
+parted_there items are spot v member le Root is = absurd cc
+parted_there items are spot v member le (At c) (at, same, (q, (xs, ys, is), within, site, off)) =
+    let here : at ≡ spot = sym (some_is spot at same) in
+    let tag : at.piece ≡ spot.piece = ap (λ (s : Spot). s.piece) here in
+    let index : at.within ≡ spot.within = ap (λ (s : Spot). s.within) here in
+    let whole : items ≡ xs ++ (spot.piece, q) ∷ ys = is ∙ ap (λ (t : ℕ). xs ++ (t, q) ∷ ys) tag in
+    let value : q ≡ v = one_value items are spot.piece q v (xs, ys, whole) member in
     let len : q.len ≡ v.len = ap (λ (p : Piece). p.len) value in
     let last : c.off + 1 ≡ q.off + q.len = omega (arith, off, within, le, len, index) in
-    let joined : items ≡ (xs ++ (place.piece, q) ∷ []) ++ ys =
-    whole ∙ sym (append_assoc xs ((place.piece, q) ∷ []) ys) in
-    subst (λ (l : Items). IsPartedAt items l (Some place.piece) (At c)) (sym whole)
-    (parted_at items xs ys place.piece q c site last (inl joined))
+    let joined : items ≡ (xs ++ (spot.piece, q) ∷ []) ++ ys =
+    whole ∙ sym (append_assoc xs ((spot.piece, q) ∷ []) ys) in
+    subst (λ (l : Items). IsPartedAt items l (Some spot.piece) (At c)) (sym whole)
+    (parted_at items xs ys spot.piece q c site last (inl joined))
 
--- the piece is cut after the cause
-pub parted_cut : (old new : Items) → AreTags old → (place : Place) (u : ℕ)
-    → IsCut place.piece (place.within + 1) u old new → (cause : Anchor)
-    → IsAnchorPlace old cause (Some place) → IsPartedAt old new (Some place.piece) cause
-parted_cut old new are place u cut Root is = absurd cc
-parted_cut old new are place u cut (At c) (at, same, (q, member, within, site, off)) =
-    let here : at ≡ place = sym (some_is place at same) in
-    let tag : at.piece ≡ place.piece = ap (λ (s : Place). s.piece) here in
-    let index : at.within ≡ place.within = ap (λ (s : Place). s.within) here in
-    let p : Piece = cut.piece in
-    let n : ℕ = place.within + 1 in
-    let held' : IsMember old place.piece q = subst (λ (t : ℕ). IsMember old t q) tag member in
-    let value : q ≡ p = one_value old are place.piece q p held' (cut.before, cut.after, cut.whole) in
+-- the piece is split after the cause
+pub parted_split : (old new : Items) → AreTags old → (spot : Spot) (u : ℕ)
+    → IsSplit spot.piece (spot.within + 1) u old new → (cause : Anchor)
+    → IsAnchorSpot old cause (Some spot) → IsPartedAt old new (Some spot.piece) cause
+parted_split old new are spot u split Root is = absurd cc
+parted_split old new are spot u split (At c) (at, same, (q, member, within, site, off)) =
+    let here : at ≡ spot = sym (some_is spot at same) in
+    let tag : at.piece ≡ spot.piece = ap (λ (s : Spot). s.piece) here in
+    let index : at.within ≡ spot.within = ap (λ (s : Spot). s.within) here in
+    let p : Piece = split.piece in
+    let n : ℕ = spot.within + 1 in
+    let held' : IsMember old spot.piece q = subst (λ (t : ℕ). IsMember old t q) tag member in
+    let value : q ≡ p = one_value old are spot.piece q p held' (split.before, split.after, split.whole) in
     let site' : c.site ≡ p.site = site ∙ ap (λ (r : Piece). r.site) value in
     let first : q.off ≡ p.off = ap (λ (r : Piece). r.off) value in
     let last : c.off + 1 ≡ p.off + n = omega (arith, off, first, index) in
-    let there : IsCutAt old (cut.before ++ (place.piece, front_of n p) ∷ []) ((u, rest_of n p) ∷ cut.after) =
+    let there : IsSplitAt old (split.before ++ (spot.piece, front_of n p) ∷ []) ((u, rest_of n p) ∷ split.after) =
     record {
-      front = cut.before;
-      rest = cut.after;
-      tag = place.piece;
+      front = split.before;
+      rest = split.after;
+      tag = spot.piece;
       other = u;
       n = n;
       piece = p;
-      within = cut.within;
-      whole = cut.whole;
+      within = split.within;
+      whole = split.whole;
       ends = refl;
       begins = refl;
     } in
-    subst (λ (l : Items). IsPartedAt old l (Some place.piece) (At c)) (sym cut.parts)
-    (parted_at old cut.before ((u, rest_of n p) ∷ cut.after) place.piece (front_of n p) c site' last
+    subst (λ (l : Items). IsPartedAt old l (Some spot.piece) (At c)) (sym split.parts)
+    (parted_at old split.before ((u, rest_of n p) ∷ split.after) spot.piece (front_of n p) c site' last
     (inr there))
 
-cut_there_spells : (old before after : Items) → IsCutThere old before after
+split_there_spells : (old before after : Items) → IsSplitThere old before after
     → spelled (before ++ after) ≡ spelled old
-cut_there_spells old before after (inl same) = ap spelled (sym same)
-cut_there_spells old before after (inr cut) =
-    let p : Piece = cut.piece in
-    let front : Items = (cut.tag, front_of cut.n p) ∷ [] in
-    let rest : Items = (cut.other, rest_of cut.n p) ∷ cut.rest in
-    let le : cut.n ≤ p.len = omega (arith, cut.within) in
-    ap (λ (l : Items). spelled (l ++ after)) cut.ends
-    ∙ ap (λ (l : Items). spelled ((cut.front ++ front) ++ l)) cut.begins
-    ∙ ap spelled (append_assoc cut.front front rest)
-    ∙ cut_spells_the_same cut.front cut.rest cut.tag cut.other cut.n p le ∙ sym (ap spelled cut.whole)
+split_there_spells old before after (inl same) = ap spelled (sym same)
+split_there_spells old before after (inr split) =
+    let p : Piece = split.piece in
+    let front : Items = (split.tag, front_of split.n p) ∷ [] in
+    let rest : Items = (split.other, rest_of split.n p) ∷ split.rest in
+    let le : split.n ≤ p.len = omega (arith, split.within) in
+    ap (λ (l : Items). spelled (l ++ after)) split.ends
+    ∙ ap (λ (l : Items). spelled ((split.front ++ front) ++ l)) split.begins
+    ∙ ap spelled (append_assoc split.front front rest)
+    ∙ split_spells_the_same split.front split.rest split.tag split.other split.n p le ∙ sym (ap spelled split.whole)
 
 pub parted_spells : (old items : Items) (last : Option ℕ) (cause : Anchor) → IsPartedAt old items last cause
     → spelled items ≡ spelled old
 parted_spells old items last cause (before, after, parted, at, there) =
-    ap spelled parted.0 ∙ cut_there_spells old before after there
+    ap spelled parted.0 ∙ split_there_spells old before after there
 
--- a place in another piece, or before the cut, stays
+-- a spot in another piece, or before the split, stays
 abbrev Among : Items → ℕ → Piece → Type 0
 Among [] t p = ⊥
 Among (m ∷ ms) t p = (m ≡ (t, p)) ⊎ Among ms t p
@@ -247,19 +247,19 @@ among_stays [] ys tag u t v a b p differs (inr h) = inr (inr h)
 among_stays (m ∷ xs) ys tag u t v a b p differs (inl e) = inl e
 among_stays (m ∷ xs) ys tag u t v a b p differs (inr h) = inr (among_stays xs ys tag u t v a b p differs h)
 
-pub cut_others : (old new : Items) (tag n u : ℕ) → AreTags old → IsCut tag n u old new → (other : Place)
-    (c : CharName) → IsPlaceOf old other c → (other.piece ≢ tag) ⊎ (other.within < n) → IsPlaceOf new other c
-cut_others old new tag n u are cut other c (p, (xs, ys, is), within, site, off) before =
-    let v : Piece = cut.piece in
+pub split_others : (old new : Items) (tag n u : ℕ) → AreTags old → IsSplit tag n u old new → (other : Spot)
+    (c : CharName) → IsSpotOf old other c → (other.piece ≢ tag) ⊎ (other.within < n) → IsSpotOf new other c
+split_others old new tag n u are split other c (p, (xs, ys, is), within, site, off) before =
+    let v : Piece = split.piece in
     let t : ℕ = other.piece in
     let here : IsMember old t p = (xs, ys, is) in
-    let there : Among (cut.before ++ (tag, v) ∷ cut.after) t p =
-    subst (λ (l : Items). Among l t p) (sym is ∙ cut.whole) (among_there xs ys t p) in
-    let moved : t ≢ tag → IsPlaceOf new other c = λ (differs : t ≢ tag). (
+    let there : Among (split.before ++ (tag, v) ∷ split.after) t p =
+    subst (λ (l : Items). Among l t p) (sym is ∙ split.whole) (among_there xs ys t p) in
+    let moved : t ≢ tag → IsSpotOf new other c = λ (differs : t ≢ tag). (
       p,
-      subst (λ (l : Items). IsMember l t p) (sym cut.parts)
-          (member (cut.before ++ (tag, front_of n v) ∷ (u, rest_of n v) ∷ cut.after) t p
-          (among_stays cut.before cut.after tag u t v (front_of n v) (rest_of n v) p differs there)),
+      subst (λ (l : Items). IsMember l t p) (sym split.parts)
+          (member (split.before ++ (tag, front_of n v) ∷ (u, rest_of n v) ∷ split.after) t p
+          (among_stays split.before split.after tag u t v (front_of n v) (rest_of n v) p differs there)),
       within,
       site,
       off,
@@ -270,14 +270,14 @@ cut_others old new tag n u are cut other c (p, (xs, ys, is), within, site, off) 
         | inr differs ↦ moved differs
         | inl same ↦
             let value : p ≡ v = one_value old are t p v here
-            (cut.before, cut.after, cut.whole ∙ ap (λ (k : ℕ). cut.before ++ (k, v) ∷ cut.after) (sym same)) in
+            (split.before, split.after, split.whole ∙ ap (λ (k : ℕ). split.before ++ (k, v) ∷ split.after) (sym same)) in
             let site' : c.site ≡ v.site = site ∙ ap (λ (r : Piece). r.site) value in
             let first : p.off ≡ v.off = ap (λ (r : Piece). r.off) value in (
               front_of n v,
               (
-                cut.before,
-                (u, rest_of n v) ∷ cut.after,
-                cut.parts ∙ ap (λ (k : ℕ). cut.before ++ (k, front_of n v) ∷ (u, rest_of n v) ∷ cut.after) (sym same),
+                split.before,
+                (u, rest_of n v) ∷ split.after,
+                split.parts ∙ ap (λ (k : ℕ). split.before ++ (k, front_of n v) ∷ (u, rest_of n v) ∷ split.after) (sym same),
               ),
               lt,
               site',
@@ -316,16 +316,16 @@ avoids r (m ∷ ms) new =
     (Contains-append_right own rest c has)) in
     All-cons P m ms here (avoids r ms later)
 
--- a place stays where a piece is put in
+-- a spot stays where a piece is inserted
 among_with : (xs ys : Items) (u t : ℕ) (v p : Piece) → Among (xs ++ ys) t p → Among (xs ++ (u, v) ∷ ys) t p
 among_with [] ys u t v p h = inr h
 among_with (m ∷ xs) ys u t v p (inl e) = inl e
 among_with (m ∷ xs) ys u t v p (inr h) = inr (among_with xs ys u t v p h)
 
-place_stays : (xs ys : Items) (u : ℕ) (v : Piece) (place : Place) (c : CharName) → IsPlaceOf (xs ++ ys) place c
-    → IsPlaceOf (xs ++ (u, v) ∷ ys) place c
-place_stays xs ys u v place c (p, (front, back, is), within, site, off) =
-    let t : ℕ = place.piece in
+spot_stays : (xs ys : Items) (u : ℕ) (v : Piece) (spot : Spot) (c : CharName) → IsSpotOf (xs ++ ys) spot c
+    → IsSpotOf (xs ++ (u, v) ∷ ys) spot c
+spot_stays xs ys u v spot c (p, (front, back, is), within, site, off) =
+    let t : ℕ = spot.piece in
     let there : Among (xs ++ ys) t p = subst (λ (l : Items). Among l t p) (sym is) (among_there front back t p) in
     (p, member (xs ++ (u, v) ∷ ys) t p (among_with xs ys u t v p there), within, site, off)
 
@@ -372,14 +372,14 @@ module _ (xs ys : Items) (u : ℕ) (v : Piece) (old new : Tables) (are : AreEnte
       go : (b : Bool) → range_contains (range_of v) c ≡ b → HasName (spelled (xs ++ (u, v) ∷ ys)) c
       go true is =
           let (site, from, to) = is_contained (range_of v) c is in
-          place_has_name (xs ++ (u, v) ∷ ys) (record { piece = u; within = c.off - v.off }) c
+          spot_has_name (xs ++ (u, v) ∷ ys) (record { piece = u; within = c.off - v.off }) c
           (v, (xs, ys, refl), omega arith, site, omega arith)
       go false out =
           let at : tag_at new c ≡ tag_at old c = outside c (λ has.
           let yes : range_contains (range_of v) c ≡ true = contained (range_of v) c has in
           absurd cc) in
-          let (place, is) = name_has_place (xs ++ ys) c (are.known c s (sym at ∙ e)) in
-          place_has_name (xs ++ (u, v) ∷ ys) place c (place_stays xs ys u v place c is)
+          let (spot, is) = name_has_spot (xs ++ ys) c (are.known c s (sym at ∙ e)) in
+          spot_has_name (xs ++ (u, v) ∷ ys) spot c (spot_stays xs ys u v spot c is)
 
   pub entered_with : AreEntered (xs ++ (u, v) ∷ ys) new
   entered_with =
@@ -408,7 +408,7 @@ pushed_entered old new last u v before after (xs, ys, is, at, new_is) are piece 
 -- where the cursor stands
 pub stood : (r : Ring Piece) (items new : Items) (last : Option ℕ) (room u : ℕ) (v : Piece)
     → r ≡ ring items last room → IsPushed r.items r.cursor u v new → IsPushed items last u v new
-stood r items new last room u v e put = subst (λ (s : Ring Piece). IsPushed s.items s.cursor u v new) e put
+stood r items new last room u v e insert = subst (λ (s : Ring Piece). IsPushed s.items s.cursor u v new) e insert
 
 pub stood_next : (r : Ring Piece) (items : Items) (last : Option ℕ) (room u : ℕ) → r ≡ ring items last room
     → u ≡ length r.items → u ≡ length items
@@ -425,8 +425,8 @@ pushed_there old new are last u v (xs, ys, is, at, new_is) before after parted =
 pub pushed_part : (old new : Items) → AreTags old → (last : Option ℕ) (u : ℕ) (v : Piece)
     → IsPushed old last u v new → (before after : Items) → IsParted old last before after
     → (tag : ℕ) × (new ≡ before ++ (tag, v) ∷ after)
-pushed_part old new are last u v put before after parted =
-    (u, pushed_there old new are last u v put before after parted)
+pushed_part old new are last u v insert before after parted =
+    (u, pushed_there old new are last u v insert before after parted)
 
 -- the whole
 
@@ -444,37 +444,37 @@ skip_part old items key end last from steps cause (before, after, parted, at, th
       ),
     )
 
-pub put_in_gap : (old items new : Items) (cause : Anchor) (p : Piece) (end last : Option ℕ) (steps : ℕ)
+pub insert_in_gap : (old items new : Items) (cause : Anchor) (p : Piece) (end last : Option ℕ) (steps : ℕ)
     → IsPartedAt old items end cause
     → ((before after : Items) → IsParted items end before after
     → IsSkip p.key before after last (compared cause) steps)
     → ((before after : Items) → IsParted items last before after
     → (tag : ℕ) × (new ≡ before ++ (tag, p) ∷ after))
-    → IsPutInGap cause p old new steps
-put_in_gap old items new cause p end last steps (before, after, parted, at, there) skips put =
+    → IsInsertedInGap cause p old new steps
+insert_in_gap old items new cause p end last steps (before, after, parted, at, there) skips insert =
     let s : IsSkip p.key before after last (compared cause) steps = skips before after parted in
     let whole : items ≡ (before ++ s.skipped) ++ s.rest =
     parted.0 ∙ ap (λ (l : Items). before ++ l) s.whole ∙ sym (append_assoc before s.skipped s.rest) in
-    let (tag, is) = put (before ++ s.skipped) s.rest (whole, s.last_is) in
+    let (tag, is) = insert (before ++ s.skipped) s.rest (whole, s.last_is) in
     record {
       before = before;
       skipped = s.skipped;
       after = s.rest;
       tag = tag;
       gap = record { at_cause = at; greater = s.greater; stops = s.stops };
-      cut = subst (IsCutThere old before) s.whole there;
-      spells = ap spelled (sym whole) ∙ ap spelled parted.0 ∙ cut_there_spells old before after there;
-      put = is;
+      split = subst (IsSplitThere old before) s.whole there;
+      spells = ap spelled (sym whole) ∙ ap spelled parted.0 ∙ split_there_spells old before after there;
+      insert = is;
       counts = s.counts;
     }
 
 pub placed_in_gap : (old new : Items) (cause : Anchor) (p : Piece) (steps : ℕ) → ArePieces new
-    → IsPutInGap cause p old new steps
+    → IsInsertedInGap cause p old new steps
     → IsPlaced p.key cause (chars_of p) (spelled old) (spelled new)
 placed_in_gap old new cause p steps pieces g =
     let Is : ℕ × Piece → Type 0 = λ (m : ℕ × Piece). IsPiece m.1 in
     let front : Items = g.before ++ g.skipped in
-    let here : ArePieces (front ++ (g.tag, p) ∷ g.after) = subst ArePieces g.put pieces in
+    let here : ArePieces (front ++ (g.tag, p) ∷ g.after) = subst ArePieces g.insert pieces in
     let others : ArePieces (front ++ g.after) =
     All-append Is front g.after (all_left Is front ((g.tag, p) ∷ g.after) here)
     (all_right Is (front ++ (g.tag, p) ∷ []) g.after
@@ -482,6 +482,6 @@ placed_in_gap old new cause p steps pieces g =
     let law : IsPlaced p.key cause (chars_of p) (spelled (front ++ g.after))
     (spelled (front ++ (g.tag, p) ∷ g.after)) =
     into_gap g.before g.skipped g.after cause g.tag p others g.gap in
-    subst (λ (l : Items). IsPlaced p.key cause (chars_of p) (spelled old) (spelled l)) (sym g.put)
+    subst (λ (l : Items). IsPlaced p.key cause (chars_of p) (spelled old) (spelled l)) (sym g.insert)
     (subst (λ (ks : List Atom). IsPlaced p.key cause (chars_of p) ks
     (spelled (front ++ (g.tag, p) ∷ g.after))) g.spells law)

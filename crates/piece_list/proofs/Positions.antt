@@ -5,14 +5,14 @@ use Rattle.std.specs.Prelude.{IfSome, slice_get}
 use Rattle.char_files.specs.CharName.{CharName}
 use Rattle.piece_raw.specs.Ring.{AreTags, IsMember}
 use Rattle.piece_list.specs.declared.piece.Piece.{Piece}
-use Rattle.piece_list.specs.declared.place.Place.{Place}
-use Rattle.piece_list.specs.Held.{AreEntered, IsPlaceOf}
+use Rattle.piece_list.specs.declared.spot.Spot.{Spot}
+use Rattle.piece_list.specs.Held.{AreEntered, IsSpotOf}
 use Rattle.piece_list.specs.Shown.{AreShownTo}
 use Rattle.piece_list.specs.Spelled.{spelled, shown_chars}
 use Rattle.piece_list.specs.Tables.{Tables}
 use Rattle.piece_list.proofs.Few.{few, names_once}
 use Rattle.piece_list.proofs.Found.{one_value}
-use Rattle.piece_list.proofs.Shown.{count_both, count_cons, shown_at_most, place_at}
+use Rattle.piece_list.proofs.Shown.{count_both, count_cons, shown_at_most, spot_at}
 use Rattle.piece_list.proofs.ShownTo.{shown_up_to}
 
 abbrev pub Items : Type 0
@@ -38,13 +38,13 @@ pub small_count : (items : Items) (tables : Tables) → AreTags items → AreEnt
     → shown_in items ≤ 2 ^ 40
 small_count items tables are entered = omega (arith, shown_at_most items, few items tables are entered)
 
--- a place of a piece's number lies in it
-pub is_inside : (items : Items) (place : Place) (c : CharName) (p : Piece) → AreTags items
-    → IsMember items place.piece p → IsPlaceOf items place c
-    → (place.within < p.len) × (c.site ≡ p.site) × (c.off ≡ p.off + place.within)
-is_inside items place c p are here (q, held, within, site, off) =
-    subst (λ (r : Piece). (place.within < r.len) × (c.site ≡ r.site) × (c.off ≡ r.off + place.within))
-    (one_value items are place.piece q p held here) (within, site, off)
+-- a spot of a piece's number lies in it
+pub is_inside : (items : Items) (spot : Spot) (c : CharName) (p : Piece) → AreTags items
+    → IsMember items spot.piece p → IsSpotOf items spot c
+    → (spot.within < p.len) × (c.site ≡ p.site) × (c.off ≡ p.off + spot.within)
+is_inside items spot c p are here (q, held, within, site, off) =
+    subst (λ (r : Piece). (spot.within < r.len) × (c.site ≡ r.site) × (c.off ≡ r.off + spot.within))
+    (one_value items are spot.piece q p held here) (within, site, off)
 
 -- a position that lies in a piece
 in_piece : (p : Piece) (i : ℕ) (hidden : Bool) → p.hidden.value ≡ hidden → i < cond hidden 0 p.len
@@ -89,7 +89,7 @@ module _ (items xs ys : Items) (tag : ℕ) (p : Piece) (is : items ≡ xs ++ (ta
   -- a position that lies in the piece
   pub position : (pos i : ℕ) → pos ≡ shown_in xs + i → i < own p p.len
       → IfSome (slice_get (shown_chars (spelled items)) pos)
-      (λ k. IsPlaceOf items (record { piece = tag; within = i }) k.name)
+      (λ k. IsSpotOf items (record { piece = tag; within = i }) k.name)
   position pos i at lt =
       let (shown, small) = is_visible p i lt in
-      place_at items xs ys tag p pos i is (sym at) shown small
+      spot_at items xs ys tag p pos i is (sym at) shown small

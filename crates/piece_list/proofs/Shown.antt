@@ -13,9 +13,9 @@ use Rattle.char_files.specs.CharName.{CharName}
 use Rattle.operations.specs.NameSet.{names_of}
 use Rattle.tree_order.specs.Registers.{Atom}
 use Rattle.piece_list.specs.declared.piece.Piece.{Piece}
-use Rattle.piece_list.specs.declared.place.Place.{Place}
+use Rattle.piece_list.specs.declared.spot.Spot.{Spot}
 use Rattle.piece_list.specs.declared.run.Run.{Run}
-use Rattle.piece_list.specs.Held.{IsPlaceOf}
+use Rattle.piece_list.specs.Held.{IsSpotOf}
 use Rattle.piece_list.specs.Pieces.{range_of, char_of, chars_of, IsPiece}
 use Rattle.piece_list.specs.Shown.{Appearance, appearance_of, appearance_in, appearances_in, run_of}
 use Rattle.piece_list.specs.Shown.{shown_runs}
@@ -147,19 +147,19 @@ shown_at xs ys tag p i shown lt =
     ∙ get_or_append_left (chars_of p) after k i few
     ∙ char_at p i k lt)
 
--- and so its place is told
-pub place_at : (items xs ys : Items) (tag : ℕ) (p : Piece) (pos i : ℕ) → items ≡ xs ++ (tag, p) ∷ ys
+-- and so its spot is told
+pub spot_at : (items xs ys : Items) (tag : ℕ) (p : Piece) (pos i : ℕ) → items ≡ xs ++ (tag, p) ∷ ys
     → length (shown_chars (spelled xs)) + i ≡ pos → p.hidden.value ≡ false → i < p.len
     → IfSome (slice_get (shown_chars (spelled items)) pos)
-    (λ k. IsPlaceOf items (record { piece = tag; within = i }) k.name)
-place_at items xs ys tag p pos i is at shown lt =
-    let place : Place = record { piece = tag; within = i } in
+    (λ k. IsSpotOf items (record { piece = tag; within = i }) k.name)
+spot_at items xs ys tag p pos i is at shown lt =
+    let spot : Spot = record { piece = tag; within = i } in
     let k : Atom = char_of p (record { site = p.site; off = p.off + i }) in
     let found : slice_get (shown_chars (spelled items)) pos ≡ Some k =
     ap (λ (l : Items). slice_get (shown_chars (spelled l)) pos) is
     ∙ ap (λ (n : ℕ). slice_get (shown_chars (spelled (xs ++ (tag, p) ∷ ys))) n) (sym at)
     ∙ shown_at xs ys tag p i shown lt in
-    subst (λ (o : Option Atom). IfSome o (λ (c : Atom). IsPlaceOf items place c.name)) (sym found)
+    subst (λ (o : Option Atom). IfSome o (λ (c : Atom). IsSpotOf items spot c.name)) (sym found)
     (p, (xs, ys, is), lt, refl, refl)
 
 -- the runs of a list tell of the characters that it shows

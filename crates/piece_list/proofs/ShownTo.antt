@@ -14,7 +14,7 @@ use Rattle.piece_list.specs.declared.piece.Piece.{Piece}
 use Rattle.piece_list.specs.Pieces.{range_of, chars_of, front_of, rest_of}
 use Rattle.piece_list.specs.Shown.{AreShownTo}
 use Rattle.piece_list.specs.Spelled.{spelled, names_of_atoms, shown_chars}
-use Rattle.piece_list.proofs.Cut.{cut_spells_the_same}
+use Rattle.piece_list.proofs.Split.{split_spells_the_same}
 use Rattle.piece_list.proofs.Gap.{name_only, names_around}
 use Rattle.piece_list.proofs.Shown.{count_chars, count_more}
 
@@ -65,7 +65,7 @@ up_to xs ys tag p i lt =
     let before : Items = xs ++ front ∷ [] in
     let after : Items = rest ∷ ys in
     let parts : spelled (xs ++ (tag, p) ∷ ys) ≡ spelled before ++ spelled after =
-    sym (cut_spells_the_same xs ys tag tag (i + 1) p le)
+    sym (split_spells_the_same xs ys tag tag (i + 1) p le)
     ∙ ap spelled (sym (append_assoc xs (front ∷ []) after))
     ∙ flat_map-append chars before after in
     let none : length (spelled []) ≡ 0 = refl in

@@ -11,9 +11,9 @@ use Rattle.piece_list.specs.Changing.{AreTheSame, IsEdge, IsNextEdge, changed_ch
 use Rattle.piece_list.specs.Held.{AreHeld}
 use Rattle.piece_list.specs.Spelled.{spelled}
 use Rattle.piece_list.specs.Tables.{Tables}
-use Rattle.piece_list.proofs.ChangedPiece.{IsTurn, same_names, edges_after, entered_after, changed_there, place_stays}
-use Rattle.piece_list.proofs.Cutting.{as_many, written_tags}
-use Rattle.piece_list.proofs.CutList.{is_piece}
+use Rattle.piece_list.proofs.ChangedPiece.{IsTurn, same_names, edges_after, entered_after, changed_there, spot_stays}
+use Rattle.piece_list.proofs.Splitting.{as_many, written_tags}
+use Rattle.piece_list.proofs.SplitList.{is_piece}
 use Rattle.piece_list.proofs.Edges.{edge_after, edge_of}
 use Rattle.piece_list.proofs.Positions.{Items, own, small_count}
 use Rattle.piece_list.proofs.Weighed.{Weights, has_weight, set_fits, set_weighed, total_is_shown}
@@ -88,7 +88,7 @@ module _ (setting : Setting) (items : Items) (tables : Tables) (weights : Weight
     are_the_same = record {
       many = as_many tag w items;
       edges = edges_after setting items tables tag p w held.numbered held.entered t.member is_w;
-      firsts = λ s d is. place_stays setting items tables tag p w held.numbered held.entered t.member is_w
+      firsts = λ s d is. spot_stays setting items tables tag p w held.numbered held.entered t.member is_w
           (record { piece = s; within = 0 }) d is;
     }
 

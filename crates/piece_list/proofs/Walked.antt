@@ -8,12 +8,12 @@ use Rattle.char_files.specs.declared.TheConstants.{MAX_FILE}
 use Rattle.piece_list.specs.declared.piece.Piece.{Piece}
 use Rattle.piece_list.specs.declared.run.Run.{Run}
 use Rattle.piece_list.specs.Pieces.{IsPiece}
-use Rattle.piece_list.specs.RunCuts.{AreWithin, HasFront}
+use Rattle.piece_list.specs.RunSplits.{AreWithin, HasFront}
 use Rattle.piece_list.specs.Shown.{Appearance, appearance_of, run_of, shown_runs}
 use Rattle.piece_list.specs.Spelled.{spelled, shown_chars, ArePieces}
 use Rattle.piece_list.proofs.Gap.{all_right}
 use Rattle.piece_list.proofs.Positions.{Items, shown_in, own, is_visible}
-use Rattle.piece_list.proofs.RunCuts.{told}
+use Rattle.piece_list.proofs.RunSplits.{told}
 use Rattle.piece_list.proofs.Shown.{runs_are, runs_tell, shown_both}
 
 -- what the characters tell that are shown

@@ -11,8 +11,8 @@ use Rattle.piece_list.specs.Held.{AreEntered, shown_weight, weighed}
 use Rattle.piece_list.specs.Pieces.{front_of, rest_of}
 use Rattle.piece_list.specs.Placing.{HasPart}
 use Rattle.piece_list.specs.Tables.{Tables}
-use Rattle.piece_list.proofs.CutList.{is_piece}
-use Rattle.piece_list.proofs.Cutting.{written, written_tags}
+use Rattle.piece_list.proofs.SplitList.{is_piece}
+use Rattle.piece_list.proofs.Splitting.{written, written_tags}
 use Rattle.piece_list.proofs.Parts.{part_has_tag}
 use Rattle.piece_list.proofs.Placing.{pushed_there}
 use Rattle.piece_list.proofs.Positions.{Items, shown_in, own, own_le, small_count}
@@ -109,7 +109,7 @@ pub found_piece : (items : Items) (index : Weights) (pos tag within : ℕ) → i
 found_piece items index pos tag within same (before, later, weight, is, at, lt) =
     (weight, weight_of before, is_piece_at items index before later tag weight same is, at, lt)
 
--- a piece that is put in
+-- a piece that is inserted
 last_weight : (xs : Items) → last_tag (weighed xs) ≡ last_tag xs
 last_weight [] = refl
 last_weight (m ∷ []) = refl
@@ -118,20 +118,20 @@ last_weight (m ∷ n ∷ xs) = last_weight (n ∷ xs)
 pub pushed_weighed : (old new : Items) (index after : Weights) (last : Option ℕ) (tag weight : ℕ) (p : Piece)
     → AreTags old → index ≡ weighed old → weight ≡ own p p.len → IsPushed old last tag p new
     → IsPushed index last tag weight after → after ≡ weighed new
-pushed_weighed old new index after last tag weight p are same by put (fronts, bs, is, at, put_in) =
+pushed_weighed old new index after last tag weight p are same by insert (fronts, bs, is, at, insert_in) =
     let (xs, ys, whole, front, back) = parted weigh old fronts bs (sym same ∙ is) in
     let last_is : last_tag xs ≡ last = sym (last_weight xs) ∙ ap last_tag front ∙ at in
-    put_in
+    insert_in
     ∙ ap (λ (n : ℕ). fronts ++ (tag, n) ∷ bs) by
     ∙ ap (λ (l : Weights). l ++ weigh (tag, p) ∷ bs) (sym front)
     ∙ ap (λ (l : Weights). map weigh xs ++ weigh (tag, p) ∷ l) (sym back)
     ∙ sym (map-append weigh xs ((tag, p) ∷ ys))
-    ∙ ap weighed (sym (pushed_there old new are last tag p put xs ys (whole, last_is)))
+    ∙ ap weighed (sym (pushed_there old new are last tag p insert xs ys (whole, last_is)))
 
-pub put_fits : (items : Items) (tables : Tables) (index : Weights) (weight : ℕ) (p : Piece) → AreTags items
+pub insert_fits : (items : Items) (tables : Tables) (index : Weights) (weight : ℕ) (p : Piece) → AreTags items
     → AreEntered items tables → index ≡ weighed items → weight ≡ own p p.len → p.len ≤ 4096
     → weight_of index + weight < 2 ^ 64
-put_fits items tables index weight p are entered same by few =
+insert_fits items tables index weight p are entered same by few =
     omega (
       arith,
       total_is_shown items index same,
@@ -151,7 +151,7 @@ written_weighed tag w (m ∷ items) =
     go true = refl
     go false = refl
 
--- of a piece that is written, in the place of another one
+-- of a piece that is written, in the spot of another one
 module _ (items : Items) (index : Weights) (tag weight : ℕ) (p w : Piece) (same : index ≡ weighed items)
     (member : IsMember items tag p) (by : weight ≡ own w w.len) where
   pub set_weighed : with_value tag weight index ≡ weighed (with_value tag w items)
@@ -179,7 +179,7 @@ module _ (items : Items) (index : Weights) (tag weight : ℕ) (p w : Piece) (sam
         small_count items tables are entered,
       )
 
--- of a piece that is cut: its front keeps its number, and the rest is put after it
+-- of a piece that is split: its front keeps its number, and the rest is inserted after it
 module _ (items : Items) (tables : Tables) (index : Weights) (tag n before later : ℕ) (v front rest : Piece)
     (are : AreTags items) (entered : AreEntered items tables) (same : index ≡ weighed items)
     (member : IsMember items tag v) (lt : n < v.len) (is_front : front ≡ front_of n v)
@@ -197,20 +197,20 @@ module _ (items : Items) (tables : Tables) (index : Weights) (tag n before later
     short : v.len ≤ 4096
     short = (is_piece items tag v entered.pieces member).1
 
-    pub cut_fits : weight_of (with_value tag before index) ≤ 2 ^ 40 + 4096
-    cut_fits =
+    pub split_fits : weight_of (with_value tag before index) ≤ 2 ^ 40 + 4096
+    split_fits =
         let few : n ≤ 4096 = omega (arith, short) in
         set_fits items index tag before v w same member weight_is tables are entered few
 
-    pub cut_rest_fits : weight_of (with_value tag before index) + later < 2 ^ 64
-    cut_rest_fits =
+    pub split_rest_fits : weight_of (with_value tag before index) + later < 2 ^ 64
+    split_rest_fits =
         let few : v.len - n ≤ 4096 = omega (arith, short) in
-        omega (arith, cut_fits, rest_is, own_le (rest_of n v) (v.len - n) 4096 few)
+        omega (arith, split_fits, rest_is, own_le (rest_of n v) (v.len - n) 4096 few)
 
-    pub cut_weighed : (new : Items) (set after : Weights) (u : ℕ)
+    pub split_weighed : (new : Items) (set after : Weights) (u : ℕ)
         → IsPushed (with_value tag w items) (Some tag) u (rest_of n v) new → set ≡ with_value tag before index
         → IsPushed set (Some tag) u later after → after ≡ weighed new
-    cut_weighed new set after u put is put_in =
+    split_weighed new set after u insert is insert_in =
         pushed_weighed (with_value tag w items) new set after (Some tag) u later (rest_of n v)
         (written_tags tag w items are) (is ∙ set_weighed items index tag before v w same member weight_is) rest_is
-        put put_in
+        insert insert_in

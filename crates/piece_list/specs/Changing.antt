@@ -40,8 +40,8 @@ pub record AreTheSame (old new : List (ℕ × Piece)) : Type 0 where
   pub edges : (site off : ℕ) → IsEdge site off old → IsEdge site off new
   pub firsts : KeepFirsts old new
 
--- the same characters in the same pieces, one of which may be cut in two
-pub record AreCutOnce (old new : List (ℕ × Piece)) : Type 0 where
+-- the same characters in the same pieces, one of which may be split in two
+pub record AreSplitOnce (old new : List (ℕ × Piece)) : Type 0 where
   pub spells : spelled new ≡ spelled old
   pub few : length new ≤ length old + 1
   pub edges : (site off : ℕ) → IsEdge site off old → IsEdge site off new

@@ -4,7 +4,7 @@ use Rattle.char_files.specs.CharName.{CharName}
 use Rattle.operations.specs.NameSet.{IsIn}
 use Rattle.piece_raw.specs.Ring.{AreTags, IsMember, HasTag}
 use Rattle.piece_list.specs.declared.piece.Piece.{Piece}
-use Rattle.piece_list.specs.declared.place.Place.{Place}
+use Rattle.piece_list.specs.declared.spot.Spot.{Spot}
 use Rattle.piece_list.specs.Pieces.{range_of, front_of, rest_of}
 use Rattle.piece_list.specs.Spelled.{spelled, ArePieces, HasName}
 use Rattle.piece_list.specs.Tables.{Tables, tag_at}
@@ -19,14 +19,14 @@ pub record PiecesSeen : Type 0 where
   pub steps : ℕ
 
 -- the piece of this number holds the character of this name, after so many others
-abbrev pub IsPlaceOf : List (ℕ × Piece) → Place → CharName → Type 0
-IsPlaceOf items place c = (p : Piece) × IsMember items place.piece p × (place.within < p.len)
-    × (c.site ≡ p.site) × (c.off ≡ p.off + place.within)
+abbrev pub IsSpotOf : List (ℕ × Piece) → Spot → CharName → Type 0
+IsSpotOf items spot c = (p : Piece) × IsMember items spot.piece p × (spot.within < p.len)
+    × (c.site ≡ p.site) × (c.off ≡ p.off + spot.within)
 
 -- each piece keeps its number and the first of its characters
 abbrev pub KeepFirsts : (old new : List (ℕ × Piece)) → Type 0
-KeepFirsts old new = (tag : ℕ) (c : CharName) → IsPlaceOf old (record { piece = tag; within = 0 }) c
-    → IsPlaceOf new (record { piece = tag; within = 0 }) c
+KeepFirsts old new = (tag : ℕ) (c : CharName) → IsSpotOf old (record { piece = tag; within = 0 }) c
+    → IsSpotOf new (record { piece = tag; within = 0 }) c
 
 -- each piece's names are entered under its number, and each entry is the number of a piece, and of a name that is
 -- spelled
@@ -54,11 +54,11 @@ pub record AreHeld (items : List (ℕ × Piece)) (tables : Tables) (weights : Li
   pub indexed : weights ≡ weighed items
 
 -- there is a piece of this number, with more characters than so many
-abbrev pub HasPlace : List (ℕ × Piece) → Place → Type 0
-HasPlace items place = (p : Piece) × IsMember items place.piece p × (place.within < p.len)
+abbrev pub HasSpot : List (ℕ × Piece) → Spot → Type 0
+HasSpot items spot = (p : Piece) × IsMember items spot.piece p × (spot.within < p.len)
 
--- new is old with the piece of this number cut after its first n characters; the rest has the other number
-pub record IsCut (tag n rest : ℕ) (old new : List (ℕ × Piece)) : Type 0 where
+-- new is old with the piece of this number split after its first n characters; the rest has the other number
+pub record IsSplit (tag n rest : ℕ) (old new : List (ℕ × Piece)) : Type 0 where
   pub before : List (ℕ × Piece)
   pub after : List (ℕ × Piece)
   pub piece : Piece

@@ -1,4 +1,4 @@
--- What lists of numbered pieces spell, before and after one is cut, put in, or changed.
+-- What lists of numbered pieces spell, before and after one is split, inserted, or changed.
 use Rattle.std.specs.Prelude.{◌≡◌, ℕ, ◌+◌, ◌≤◌, true, false, List, [], ◌∷◌, ◌++◌, length, map, All}
 use Rattle.looks.specs.Key.{is_below}
 use Rattle.looks.specs.declared.key.Key.{Key}
@@ -16,9 +16,9 @@ use Rattle.piece_list.specs.Pieces.{range_of, char_of, chars_of, piece_of, front
 use Rattle.piece_list.specs.Placed.{IsPlaced}
 use Rattle.piece_list.specs.Spelled.{spelled, ArePieces}
 
--- a piece cut in two, the rest under any number, spells the same
-abbrev pub CutSpellsTheSame : Type 0
-CutSpellsTheSame =
+-- a piece split in two, the rest under any number, spells the same
+abbrev pub SplitSpellsTheSame : Type 0
+SplitSpellsTheSame =
     (before after : List (ℕ × Piece)) (tag rest n : ℕ) (p : Piece) → n ≤ p.len
     → spelled (before ++ (tag, front_of n p) ∷ (rest, rest_of n p) ∷ after) ≡ spelled (before ++
     (tag, p) ∷ after)
@@ -40,7 +40,7 @@ pub record IsPieceGap (key : Key) (cause : Anchor) (before skipped after : List 
   pub greater : All (λ m. is_below key m.1.key ≡ true) skipped
   pub stops : BeginNotAbove key after
 
--- a piece put into this gap stands, character by character, where the insertion law puts its run
+-- a piece inserted into this gap stands, character by character, where the insertion law inserts its run
 abbrev pub PieceGoesIntoGap : Type 0
 PieceGoesIntoGap =
     (before skipped after : List (ℕ × Piece)) (cause : Anchor) (tag : ℕ) (p : Piece)
@@ -48,7 +48,7 @@ PieceGoesIntoGap =
     → IsPlaced p.key cause (chars_of p) (spelled (before ++ skipped ++ after))
     (spelled (before ++ skipped ++ (tag, p) ∷ after))
 
--- a run that is put there makes all characters of the larger set in order, each with its registers
+-- a run that is inserted there makes all characters of the larger set in order, each with its registers
 abbrev pub PlacedAreAtoms : Type 0
 PlacedAreAtoms =
     (ops : List Operation) (i : Operation) (cause : Anchor) (old new : List Atom)

@@ -5,7 +5,7 @@ pub mod Noted
 pub mod Pieces
 pub mod Placed
 pub mod Placing
-pub mod RunCuts
+pub mod RunSplits
 pub mod Shown
 pub mod Spelled
 pub mod Tables

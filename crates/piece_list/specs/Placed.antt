@@ -1,4 +1,4 @@
--- Where a run is put.
+-- Where a run is inserted.
 use Rattle.std.specs.Prelude.{◌≡◌, ℕ, ◌+◌, List, ◌++◌, take, drop}
 use Rattle.looks.specs.declared.key.Key.{Key}
 use Rattle.char_files.specs.declared.name.Anchor.{Anchor}
@@ -7,7 +7,7 @@ use Rattle.tree_order.specs.AtomInsertion.{IsLongest}
 use Rattle.tree_order.specs.Registers.{Atom}
 use Rattle.piece_list.specs.Spelled.{names_of_atoms}
 
--- new is old with this run put in directly after the cause and the longest stretch of characters of greater
+-- new is old with this run inserted directly after the cause and the longest stretch of characters of greater
 -- key that follows it
 pub record IsPlaced (key : Key) (cause : Anchor) (run old new : List Atom) : Type 0 where
   pub before : ℕ

@@ -1,4 +1,4 @@
--- How a run's piece is put into the list.
+-- How a run's piece is inserted into the list.
 use Rattle.std.specs.Prelude.{◌≡◌, ℕ, ◌+◌, ◌-◌, ◌^◌, ◌<◌, ◌≤◌, ◌⊎◌, min, true, List, [], ◌∷◌, ◌++◌, length, All}
 use Rattle.std.specs.Prelude.{Option, Some, None}
 use Rattle.looks.specs.Key.{is_below}
@@ -8,8 +8,8 @@ use Rattle.char_files.specs.declared.name.Anchor.TheVariants.{Root, At}
 use Rattle.piece_raw.specs.Ring.{last_tag}
 use Rattle.tree_order.specs.Registers.{Atom}
 use Rattle.piece_list.specs.declared.piece.Piece.{Piece}
-use Rattle.piece_list.specs.declared.place.Place.{Place}
-use Rattle.piece_list.specs.Held.{IsPlaceOf}
+use Rattle.piece_list.specs.declared.spot.Spot.{Spot}
+use Rattle.piece_list.specs.Held.{IsSpotOf}
 use Rattle.piece_list.specs.Pieces.{front_of, rest_of}
 use Rattle.piece_list.specs.Laws.{EndAt, BeginNotAbove, IsPieceGap}
 use Rattle.piece_list.specs.Spelled.{spelled, HasName}
@@ -25,9 +25,9 @@ compared Root = 0
 compared (At c) = 1
 
 -- this is where the anchor's character stands; none for the root
-abbrev pub IsAnchorPlace : List (ℕ × Piece) → Anchor → Option Place → Type 0
-IsAnchorPlace items Root place = place ≡ None
-IsAnchorPlace items (At c) place = (at : Place) × (place ≡ Some at) × IsPlaceOf items at c
+abbrev pub IsAnchorSpot : List (ℕ × Piece) → Anchor → Option Spot → Type 0
+IsAnchorSpot items Root spot = spot ≡ None
+IsAnchorSpot items (At c) spot = (at : Spot) × (spot ≡ Some at) × IsSpotOf items at c
 
 -- the pieces are those before, of which the last has this number (none where there are none), and those after
 abbrev pub IsParted : List (ℕ × Piece) → Option ℕ → List (ℕ × Piece) → List (ℕ × Piece) → Type 0
@@ -37,9 +37,9 @@ IsParted items last before after = (items ≡ before ++ after) × (last_tag befo
 abbrev pub HasPart : List (ℕ × Piece) → Option ℕ → Type 0
 HasPart items last = (before : List (ℕ × Piece)) × (after : List (ℕ × Piece)) × IsParted items last before after
 
--- one piece of old is cut in two: its first n characters are the last of those before, and the others the
+-- one piece of old is split in two: its first n characters are the last of those before, and the others the
 -- first of those after
-pub record IsCutAt (old before after : List (ℕ × Piece)) : Type 0 where
+pub record IsSplitAt (old before after : List (ℕ × Piece)) : Type 0 where
   pub front : List (ℕ × Piece)
   pub rest : List (ℕ × Piece)
   pub tag : ℕ
@@ -51,15 +51,15 @@ pub record IsCutAt (old before after : List (ℕ × Piece)) : Type 0 where
   pub ends : before ≡ front ++ (tag, front_of n piece) ∷ []
   pub begins : after ≡ (other, rest_of n piece) ∷ rest
 
--- old's pieces are those before and those after, or are once one piece is cut there
-abbrev pub IsCutThere : List (ℕ × Piece) → List (ℕ × Piece) → List (ℕ × Piece) → Type 0
-IsCutThere old before after = (old ≡ before ++ after) ⊎ IsCutAt old before after
+-- old's pieces are those before and those after, or are once one piece is split there
+abbrev pub IsSplitThere : List (ℕ × Piece) → List (ℕ × Piece) → List (ℕ × Piece) → Type 0
+IsSplitThere old before after = (old ≡ before ++ after) ⊎ IsSplitAt old before after
 
--- the pieces are parted after this number, directly after the anchor; for this one of old's was cut there at
+-- the pieces are parted after this number, directly after the anchor; for this one of old's was split there at
 -- most
 abbrev pub IsPartedAt : List (ℕ × Piece) → List (ℕ × Piece) → Option ℕ → Anchor → Type 0
 IsPartedAt old items last cause = (before : List (ℕ × Piece)) × (after : List (ℕ × Piece))
-    × IsParted items last before after × EndAt before cause × IsCutThere old before after
+    × IsParted items last before after × EndAt before cause × IsSplitThere old before after
 
 -- the piece of this number follows directly, and its key is greater
 abbrev pub IsNext : List (ℕ × Piece) → Key → Option ℕ → ℕ → Type 0
@@ -86,15 +86,15 @@ pub record IsSkip (key : Key) (before after : List (ℕ × Piece)) (last : Optio
   pub last_is : last_tag (before ++ skipped) ≡ last
   pub counts : IsCounted from (length skipped + last_look rest) steps
 
--- new is old, cut after the anchor where that is needed, with this piece in its gap; the steps are the comparisons that find the
+-- new is old, split after the anchor where that is needed, with this piece in its gap; the steps are the comparisons that find the
 -- anchor, and one look at the key of each piece skipped and of the next one
-pub record IsPutInGap (cause : Anchor) (p : Piece) (old new : List (ℕ × Piece)) (steps : ℕ) : Type 0 where
+pub record IsInsertedInGap (cause : Anchor) (p : Piece) (old new : List (ℕ × Piece)) (steps : ℕ) : Type 0 where
   pub before : List (ℕ × Piece)
   pub skipped : List (ℕ × Piece)
   pub after : List (ℕ × Piece)
   pub tag : ℕ
   pub gap : IsPieceGap p.key cause before skipped after
-  pub cut : IsCutThere old before (skipped ++ after)
+  pub split : IsSplitThere old before (skipped ++ after)
   pub spells : spelled (before ++ skipped ++ after) ≡ spelled old
-  pub put : new ≡ before ++ skipped ++ (tag, p) ∷ after
+  pub insert : new ≡ before ++ skipped ++ (tag, p) ∷ after
   pub counts : IsCounted (compared cause) (length skipped + last_look after) steps

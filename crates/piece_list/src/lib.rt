@@ -4,13 +4,13 @@
 mod limits;
 mod list;
 mod piece;
-mod place;
 mod run;
+mod spot;
 mod steps;
 mod tags;
 
 pub use limits::the_limits;
 pub use list::{Between, PieceList, Walk};
 pub use piece::{MAX_PIECE, Piece};
-pub use place::Place;
 pub use run::Run;
+pub use spot::Spot;

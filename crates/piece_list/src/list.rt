@@ -3,7 +3,7 @@ ghost use Rattle.std.specs.Prelude.{IfSome, IsSome};
 ghost use Rattle.looks.specs.Refusal.{RefusedForMemoryAlone};
 ghost use Rattle.piece_raw.specs.Ring.{AreTags};
 ghost use Rattle.char_files.specs.CharName.{CharName};
-ghost use Rattle.piece_list.specs.Held.{IsPlaceOf, HasPlace, IsCut};
+ghost use Rattle.piece_list.specs.Held.{IsSpotOf, HasSpot, IsSplit};
 ghost use Rattle.piece_list.specs.Spelled.{spelled, HasName};
 
 mod between;
@@ -13,7 +13,7 @@ mod pieces;
 mod placing;
 mod walking;
 
-use crate::place::Place;
+use crate::spot::Spot;
 use crate::steps::Steps;
 pub use between::Between;
 use char_files::Name;
@@ -65,8 +65,8 @@ impl PieceList {
     /// Where the character of this name stands; `None` for a name that isn't here.
     ///
     /// It reads one entry of a table, and compares the name with the piece that holds it.
-    pub fn locate(&mut self, name: Name) -> Option<Place>
-        ensures place { IfSome result (λ place. IsPlaceOf self.old.items place name) }
+    pub fn locate(&mut self, name: Name) -> Option<Spot>
+        ensures spot { IfSome result (λ spot. IsSpotOf self.old.items spot name) }
         ensures here { IsSome result ↔ HasName (spelled self.old.items) name }
         ensures items { self.new.items ≡ self.old.items }
         ensures counted { IsSome result → self.new.steps ≡ 1 }
@@ -76,31 +76,31 @@ impl PieceList {
         self.pieces.locate(name, &mut self.steps)
     }
 
-    /// Cuts a piece in two before this place, which is in the list, and answers the place of the same character
+    /// Splits a piece in two before this spot, which is in the list, and answers the spot of the same character
     /// afterwards. The piece keeps its number and what stands before, and every other piece stays. Nothing changes
     /// at a piece's first character.
     ///
     /// Refused `OutOfMemory` alone.
-    pub fn split(&mut self, place: Place) -> Result<Place, Refusal>
-        requires { HasPlace self.old.items place }
-        ensures first { place.within ≡ 0 → (result ≡ Ok place) × (self.new ≡ self.old) }
+    pub fn split(&mut self, spot: Spot) -> Result<Spot, Refusal>
+        requires { HasSpot self.old.items spot }
+        ensures first { spot.within ≡ 0 → (result ≡ Ok spot) × (self.new ≡ self.old) }
         ensures spells { spelled self.new.items ≡ spelled self.old.items }
-        ensures place { IfOk result (λ rest. (rest.within ≡ 0)
-            × ((c : CharName) → IsPlaceOf self.old.items place c → IsPlaceOf self.new.items rest c)) }
-        ensures others { (other : Place) (c : CharName) → IsPlaceOf self.old.items other c
-            → (other.piece ≢ place.piece) ⊎ (other.within < place.within) → IsPlaceOf self.new.items other c }
-        ensures cut { 0 < place.within → IfOk result
-            (λ rest. IsCut place.piece place.within rest.piece self.old.items self.new.items) }
+        ensures spot { IfOk result (λ rest. (rest.within ≡ 0)
+            × ((c : CharName) → IsSpotOf self.old.items spot c → IsSpotOf self.new.items rest c)) }
+        ensures others { (other : Spot) (c : CharName) → IsSpotOf self.old.items other c
+            → (other.piece ≢ spot.piece) ⊎ (other.within < spot.within) → IsSpotOf self.new.items other c }
+        ensures split { 0 < spot.within → IfOk result
+            (λ rest. IsSplit spot.piece spot.within rest.piece self.old.items self.new.items) }
         ensures steps { self.new.steps ≡ self.old.steps }
         ensures errors { RefusedForMemoryAlone result }
         ensures err { OnErr result (self.new ≡ self.old) }
     {
-        if place.within == 0 {
-            return Ok(place);
+        if spot.within == 0 {
+            return Ok(spot);
         }
         self.pieces.reserve(1)?;
-        let piece = self.pieces.cut(place.piece, place.within);
-        Ok(Place { piece, within: 0 })
+        let piece = self.pieces.split(spot.piece, spot.within);
+        Ok(Spot { piece, within: 0 })
     }
 
     /// How many times the last `locate` or `place` compared a name with a piece, or looked at a piece's key.

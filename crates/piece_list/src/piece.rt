@@ -85,7 +85,7 @@ impl Piece {
         if self.hidden.value { 0 } else { n }
     }
 
-    /// Cuts off all after the first `n` characters, of more than so many, and answers it as a piece of its own.
+    /// Splits off all after the first `n` characters, of more than so many, and answers it as a piece of its own.
     pub fn split_off(&mut self, n: u32) -> Piece
         requires piece { IsPiece self.old }
         requires within { n < self.old.len }

@@ -8,8 +8,8 @@ use mathlib.Core.Bool.{Bool}
 use denote.RawPtr.{Ptr, block_ptr, null_ptr}
 use Rattle.piece_raw.specs.Linked.{Linked, linked, same_ptr, last_from, IsApart, HasNext, HasPrev, places}
 use Rattle.piece_raw.specs.Linked.{IsAt, AtNode, set_value}
-use Rattle.piece_raw.proofs.Splits.{cons_head, cons_tail, cut_last, all_left, all_right, distinct_without}
-use Rattle.piece_raw.proofs.Splits.{distinct_differs, distinct_with, alike_cut, unpush}
+use Rattle.piece_raw.proofs.Splits.{cons_head, cons_tail, split_last, all_left, all_right, distinct_without}
+use Rattle.piece_raw.proofs.Splits.{distinct_differs, distinct_with, alike_split, unpush}
 
 true_of : (b : Bool) → T b → b ≡ true
 true_of true t = refl
@@ -41,10 +41,10 @@ same_ptr_symm p q = alike (same_ptr p q) (same_ptr q p)
     (λ e. subst (λ r. same_ptr r p ≡ true) (same_ptr_eq p q e) (same_ptr_refl p))
     (λ e. subst (λ r. same_ptr r q ≡ true) (same_ptr_eq q p e) (same_ptr_refl q))
 
-same_cut : {X : Type 0} (f : X → Ptr) (xs : List X) (x : X) (ys us : List X) (y : X) (vs : List X) →
+same_split : {X : Type 0} (f : X → Ptr) (xs : List X) (x : X) (ys us : List X) (y : X) (vs : List X) →
     IsApart (map f (xs ++ x ∷ ys)) → xs ++ x ∷ ys ≡ us ++ y ∷ vs → f x ≡ f y
     → (xs ≡ us) × (x ≡ y) × (ys ≡ vs)
-same_cut f xs x ys us y vs d e at = alike_cut f same_ptr same_ptr_symm xs x ys us y vs d e (subst (λ r.
+same_split f xs x ys us y vs d e at = alike_split f same_ptr same_ptr_symm xs x ys us y vs d e (subst (λ r.
     same_ptr (f x) r ≡ true) at (same_ptr_refl (f x)))
 
 abbrev pub IsFresh : Ptr → List Ptr → Type 0
@@ -73,7 +73,7 @@ apart_one p = (tt, tt)
 before_end : (zs : List Ptr) (t : Ptr) (xs : List Ptr) (p q : Ptr) (ys : List Ptr) →
     zs ++ t ∷ [] ≡ xs ++ p ∷ q ∷ ys → (ws : List Ptr) × (zs ≡ xs ++ p ∷ ws) × (q ∷ ys ≡ ws ++ t ∷ [])
 before_end zs t xs p q ys e =
-    let end = cut_last q ys in
+    let end = split_last q ys in
     let whole : zs ++ t ∷ [] ≡ (xs ++ p ∷ end.0) ++ last_from q ys ∷ [] = e ∙ ap (λ l. xs ++ p ∷ l) end.1 ∙
     sym (append_assoc xs (p ∷ end.0) (last_from q ys ∷ [])) in
     let same = unpush zs (xs ++ p ∷ end.0) t (last_from q ys) whole in
@@ -83,7 +83,7 @@ pub same_next : (ps : List Ptr) (t p q r : Ptr) → IsApart ps → HasNext (ps +
     HasNext (ps ++ t ∷ []) p r → q ≡ r
 same_next ps t p q r d a b =
     let f = before_end ps t a.0 p q a.1 a.2 in let g = before_end ps t b.0 p r b.1 b.2 in
-    let same = same_cut (λ x. x) a.0 p f.0 b.0 p g.0 (mapped (a.0 ++ p ∷ f.0) (subst IsApart f.1 d))
+    let same = same_split (λ x. x) a.0 p f.0 b.0 p g.0 (mapped (a.0 ++ p ∷ f.0) (subst IsApart f.1 d))
     (sym f.1 ∙ g.1) refl in
     cons_head q r a.1 b.1 (f.2 ∙ ap (λ ws. ws ++ t ∷ []) same.2 ∙ sym g.2)
 
@@ -115,7 +115,7 @@ pub same_prev : (ps : List Ptr) (t p q r : Ptr) → IsApart (t ∷ ps) → HasPr
 same_prev ps t p q r d a b =
     let zs = ps ++ t ∷ [] in
     let f = after_start zs t a.0 q p a.1 a.2 in let g = after_start zs t b.0 r p b.1 b.2 in
-    let same = same_cut (λ x. x) f.0 p a.1 g.0 p b.1 (mapped (f.0 ++ p ∷ a.1)
+    let same = same_split (λ x. x) f.0 p a.1 g.0 p b.1 (mapped (f.0 ++ p ∷ a.1)
     (subst IsApart f.1 (turned t ps d))) (sym f.1 ∙ g.1) refl in
     (unpush a.0 b.0 q r (f.2 ∙ ap (λ ws. t ∷ ws) same.0 ∙ sym g.2)).1
 
@@ -148,7 +148,7 @@ module _ {V : Type 0} where
   pub same_node : (ns xs : List (Linked V)) (n : Linked V) (ys us : List (Linked V)) (m : Linked V)
       (vs : List (Linked V)) → IsApart (places ns) → ns ≡ xs ++ n ∷ ys → ns ≡ us ++ m ∷ vs → n.at ≡ m.at
       → (xs ≡ us) × (n ≡ m) × (ys ≡ vs)
-  same_node ns xs n ys us m vs d a b at = same_cut (λ (k : Linked V). k.at)
+  same_node ns xs n ys us m vs d a b at = same_split (λ (k : Linked V). k.at)
       xs n ys us m vs (subst (λ l. IsApart (places l)) a d) (sym a ∙ b) at
 
   -- what holds of one node at p holds of the node at p

@@ -66,9 +66,9 @@ module _ (E : Of) {M : Type 1} {𝓤 : Ura M} (𝓛 : Logic 𝓤) (b o : ℕ) wh
       use2 𝓛 (‵ (froom (ty_struct ν fields) b o)) (apply∗ 𝓤 (rooms_at 𝓤 H fields 0 b o)
       (H.room (ty_struct ν fields) b o)) $ by ! (𝓛.laws.room-raw (ty_struct ν fields) b o)
 
-  pub block_cut : ent 𝓤 (H.room (block E) b o) (sep 𝓤 (sem 𝓛 (room_owns (RV E) (block_ptr b o)))
+  pub block_split : ent 𝓤 (H.room (block E) b o) (sep 𝓤 (sem 𝓛 (room_owns (RV E) (block_ptr b o)))
       (sem 𝓛 (Rejoins E (block_ptr b o))))
-  block_cut =
+  block_split =
       qed 𝓛 (‵ (froom (block E) b o) ∷ []) ∵ as_written ! (ty_struct ν fields) b o $
       use1 𝓛 ((‵ (froom ty_ptr b (o + 0)) ⊛ ‵ (froom ty_ptr b (o + 8)) ⊛ ‵ (froom (layout E.row)
       b (o + vo E)) ⊛ ‵ ftrue) ⊛ raw Joins)

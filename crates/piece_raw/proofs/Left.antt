@@ -7,9 +7,9 @@ use Rattle.piece_raw.specs.declared.nodes.Member.{Member}
 use Rattle.piece_raw.specs.Linked.{same_ptr, places, IsApart}
 use Rattle.piece_raw.specs.Ring.{first_tag, last_tag}
 use Rattle.piece_raw.specs.Tied.{members, nodes_from, stop_of, IsHeld}
-use Rattle.piece_raw.proofs.Splits.{cons_head, cons_tail, cut_last, all_left, all_right, distinct_differs}
+use Rattle.piece_raw.proofs.Splits.{cons_head, cons_tail, split_last, all_left, all_right, distinct_differs}
 use Rattle.piece_raw.proofs.Apart.{same_ptr_refl, same_ptr_symm, apart_places, same_node}
-use Rattle.piece_raw.proofs.Matching.{N, members-cons, stop-some, found, step_after, cut_after, cut_members}
+use Rattle.piece_raw.proofs.Matching.{N, members-cons, stop-some, found, step_after, split_after, split_members}
 
 last_tag-push : {T : Type 0} (us : List (ℕ × T)) (m : ℕ × T) → last_tag (us ++ m ∷ []) ≡ Some m.0
 last_tag-push [] m = refl
@@ -46,7 +46,7 @@ module _ {T : Type 0} where
         → nodes_from (step_after t ns xs x ys c).0.at ns ≡ ys
     unfolding step_after
     from_next xs x [] c = from_trailer
-    from_next xs x (y ∷ ys) c = let on = cut_after t ns xs x (y ∷ ys) c in from_node on.0 y ys on.1
+    from_next xs x (y ∷ ys) c = let on = split_after t ns xs x (y ∷ ys) c in from_node on.0 y ys on.1
 
     module _ (ps : List Ptr) (held : AllByRecursion (IsHeld ps) ns) (none : t.value ≡ None) where
       -- a member's node stands before what is left after it
@@ -74,7 +74,7 @@ module _ {T : Type 0} where
           → (xs : List (N T)) (x : N T) (ys : List (N T)) → t ∷ ns ≡ xs ++ x ∷ ys → stop_of x ≡ Some v.0
           → (members (x ∷ ys) ≡ v ∷ vs) × (members ys ≡ vs)
       there us v vs e xs x ys c s =
-          let on = cut_members ps ns held us v.0 v.1 vs e in let y = on.1 in
+          let on = split_members ps ns held us v.0 v.1 vs e in let y = on.1 in
           let whole : t ∷ ns ≡ (t ∷ on.0) ++ y ∷ on.2 = ap (λ (l : List (N T)). t ∷ l) on.4 in
           let stop : stop_of y ≡ Some v.0 = stop-some y on.3 on.5 ∙ ap (λ (m : ℕ × T). Some m.0) on.6 in
           let one : Some x.at ≡ Some y.at = sym (found ps t none ns held xs x ys c v.0 s) ∙
@@ -97,7 +97,7 @@ module _ {T : Type 0} where
           (cons_tail t z ns (xs ++ x ∷ ys) c) held)).0 in
           let both : Some here.0.tag ≡ None = sym (stop-some x here.0 here.1) ∙ s in cc
       left_after (u ∷ us) vs e xs x ys c s =
-          let last = cut_last u us in
+          let last = split_last u us in
           ap members (from_next xs x ys c) ∙ (there last.0 _ vs (e ∙ ap (λ (l : List (ℕ × T)). l ++ vs) last.1
           ∙ append_assoc last.0 _ vs) xs x ys c (s ∙ ap last_tag last.1 ∙ last_tag-push last.0 _)).1
 

@@ -11,7 +11,7 @@ use Rattle.piece_raw.specs.declared.nodes.Member.{Member}
 use Rattle.piece_raw.specs.Linked.{Linked, same_ptr, last_from, places, round, IsApart, HasNext, HasPrev}
 use Rattle.piece_raw.specs.Ring.{tags, stops, Follows, last_tag}
 use Rattle.piece_raw.specs.Tied.{Held, item_of, members, stop_of, IsAmong, IsStop, IsHeld, Matches, spots}
-use Rattle.piece_raw.proofs.Splits.{cons_head, cons_tail, nil_ne_cut, last_from-push, cut_last, all_left}
+use Rattle.piece_raw.proofs.Splits.{cons_head, cons_tail, nil_ne_split, last_from-push, split_last, all_left}
 use Rattle.piece_raw.proofs.Splits.{all_right, all_both, distinct_differs}
 use Rattle.piece_raw.proofs.Apart.{same_ptr_refl, same_ptr_symm, same_node}
 
@@ -146,7 +146,7 @@ module _ {T : Type 0} where
       (y : N T) × (us : List (N T)) × (vs : List (N T)) × (t ∷ (ns ++ t ∷ []) ≡ us ++ y ∷ x ∷ vs)
       × IsAmong (t ∷ ns) y
   step_before t ns [] x ys c =
-      let last = cut_last t ns in let y = last_from t ns in (
+      let last = split_last t ns in let y = last_from t ns in (
         y,
         last.0,
         [],
@@ -155,7 +155,7 @@ module _ {T : Type 0} where
         (last.0, [], last.1),
       )
   step_before t ns (z ∷ xs) x ys c =
-      let last = cut_last z xs in let y = last_from z xs in
+      let last = split_last z xs in let y = last_from z xs in
       let cut : t ∷ ns ≡ last.0 ++ y ∷ x ∷ ys = c ∙ ap (λ l. l ++ x ∷ ys) last.1 ∙
       append_assoc last.0 (y ∷ []) (x ∷ ys) in (
         y,
@@ -214,10 +214,10 @@ module _ {T : Type 0} where
   places_last t [] = refl
   places_last t (x ∷ xs) = places_last x xs
 
-  pub cut_after : (t : N T) (ns us : List (N T)) (x : N T) (vs : List (N T)) → t ∷ ns ≡ us ++ x ∷ vs →
+  pub split_after : (t : N T) (ns us : List (N T)) (x : N T) (vs : List (N T)) → t ∷ ns ≡ us ++ x ∷ vs →
       (xs : List (N T)) × (ns ≡ xs ++ vs) × (last_from t xs ≡ x)
-  cut_after t ns [] x vs e = ([], cons_tail t x ns vs e, cons_head t x ns vs e)
-  cut_after t ns (u ∷ us) x vs e = (
+  split_after t ns [] x vs e = ([], cons_tail t x ns vs e, cons_head t x ns vs e)
+  split_after t ns (u ∷ us) x vs e = (
     us ++ x ∷ [],
     cons_tail t u ns (us ++ x ∷ vs) e ∙
         sym (append_assoc us (x ∷ []) vs),
@@ -229,18 +229,18 @@ module _ {T : Type 0} where
       IsApart (places (t ∷ ns)) → ns ≡ xs ++ ys → t ∷ ns ≡ us ++ x ∷ vs → last_from t.at (places xs) ≡ x.at →
       last_from t xs ≡ x
   last_is t ns xs ys us x vs d c e at =
-      let last = cut_last t xs in let y = last_from t xs in
+      let last = split_last t xs in let y = last_from t xs in
       (same_node (t ∷ ns) last.0 y ys us x vs d (ap (λ l. t ∷ l) c ∙ ap (λ l. l ++ ys) last.1 ∙
       append_assoc last.0 (y ∷ []) ys) e (sym (places_last t xs) ∙ at)).1
 
   -- the member of a place in the list of members
-  pub cut_members : (ps : List Ptr) (ns : List (N T)) → AllHeld ps ns →
+  pub split_members : (ps : List Ptr) (ns : List (N T)) → AllHeld ps ns →
       (us : List (ℕ × T)) (k : ℕ) (v : T) (vs : List (ℕ × T)) → members ns ≡ us ++ (k, v) ∷ vs
       → (xs : List (N T)) × (x : N T) × (ys : List (N T)) × (m : Member T) × (ns ≡ xs ++ x ∷ ys)
       × (x.value ≡ Some m) × (◌≡◌ {A = ℕ × T} (m.tag, m.value) (k, v)) × (members xs ≡ us)
       × (members ys ≡ vs)
-  cut_members ps [] h us k v vs e = absurd (nil_ne_cut us (k, v) vs e)
-  cut_members ps (n ∷ ns) h [] k v vs e =
+  split_members ps [] h us k v vs e = absurd (nil_ne_split us (k, v) vs e)
+  split_members ps (n ∷ ns) h [] k v vs e =
       let m = h.0.0 in let all = sym (members-cons n m ns h.0.1) ∙ e in (
         [],
         n,
@@ -253,9 +253,9 @@ module _ {T : Type 0} where
         refl,
         cons_tail (m.tag, m.value) (k, v) (members ns) vs all,
       )
-  cut_members ps (n ∷ ns) h (u ∷ us) k v vs e =
+  split_members ps (n ∷ ns) h (u ∷ us) k v vs e =
       let m = h.0.0 in let all = sym (members-cons n m ns h.0.1) ∙ e in
-      let on = cut_members ps ns h.1 us k v vs (cons_tail (m.tag, m.value) u (members ns) (us ++ (k, v) ∷ vs)
+      let on = split_members ps ns h.1 us k v vs (cons_tail (m.tag, m.value) u (members ns) (us ++ (k, v) ∷ vs)
       all) in
       let first = cons_head (m.tag, m.value) u (members ns) (us ++ (k, v) ∷ vs) all in (
         n ∷ on.0,

@@ -232,11 +232,11 @@ module _ {M : Type 1} {𝓤 : Ura M} (𝓛 : Logic 𝓤) where
   pub no_room : ent 𝓤 (sem 𝓛 (link_room null_ptr)) (never 𝓤)
   no_room = fst∗ 𝓤 (never 𝓤) (never 𝓤)
 
-  pub path_cut : (a : Ptr) (xs ys : List Ptr) → ent 𝓤 (sem 𝓛 (path a (xs ++ ys))) (sep 𝓤 (sem 𝓛 (path a xs))
+  pub path_split : (a : Ptr) (xs ys : List Ptr) → ent 𝓤 (sem 𝓛 (path a (xs ++ ys))) (sep 𝓤 (sem 𝓛 (path a xs))
       (sem 𝓛 (path (last_from a xs) ys)))
-  path_cut a [] ys = qed 𝓛 (‵ (path a ys) ∷ []) ∵ nothing ! $ done !
-  path_cut a (x ∷ xs) ys = qed 𝓛 (‵ (path a (x ∷ xs ++ ys)) ∷ []) ∵ fsplit ! $ move ! (1 ∷ []) $
-      use1 𝓛 (‵ (path x xs) ⊛ ‵ (path (last_from x xs) ys)) (path_cut x xs ys) $ split ! $
+  path_split a [] ys = qed 𝓛 (‵ (path a ys) ∷ []) ∵ nothing ! $ done !
+  path_split a (x ∷ xs) ys = qed 𝓛 (‵ (path a (x ∷ xs ++ ys)) ∷ []) ∵ fsplit ! $ move ! (1 ∷ []) $
+      use1 𝓛 (‵ (path x xs) ⊛ ‵ (path (last_from x xs) ys)) (path_split x xs ys) $ split ! $
       move ! (2 ∷ 0 ∷ []) $ fjoin ! $ done !
 
   pub path_glue : (a : Ptr) (xs ys : List Ptr) → ent 𝓤 (sep 𝓤 (sem 𝓛 (path a xs))
@@ -274,11 +274,11 @@ module _ {M : Type 1} {𝓤 : Ura M} (𝓛 : Logic 𝓤) where
     abbrev Values : List (Member E) → Fml
     Values = values_own (RV E)
 
-    pub values_cut : (xs : List (Member E)) (n : Member E) (ys : List (Member E)) →
+    pub values_split : (xs : List (Member E)) (n : Member E) (ys : List (Member E)) →
         ent 𝓤 (sem 𝓛 (Values (xs ++ n ∷ ys))) (sep 𝓤 (sem 𝓛 (One E n)) (sem 𝓛 (Values (xs ++ ys))))
-    values_cut [] n ys = id⊢ 𝓤 _
-    values_cut (x ∷ xs) n ys = qed 𝓛 (‵ (Values (x ∷ xs ++ n ∷ ys)) ∷ []) ∵ fsplit ! $ move ! (1 ∷ []) $
-        use1 𝓛 (‵ (One E n) ⊛ ‵ (Values (xs ++ ys))) (values_cut xs n ys) $ split ! $ move ! (2 ∷ 1 ∷ []) $
+    values_split [] n ys = id⊢ 𝓤 _
+    values_split (x ∷ xs) n ys = qed 𝓛 (‵ (Values (x ∷ xs ++ n ∷ ys)) ∷ []) ∵ fsplit ! $ move ! (1 ∷ []) $
+        use1 𝓛 (‵ (One E n) ⊛ ‵ (Values (xs ++ ys))) (values_split xs n ys) $ split ! $ move ! (2 ∷ 1 ∷ []) $
         fjoin ! $ move ! (1 ∷ []) $ done !
 
     pub values_glue : (xs : List (Member E)) (n : Member E) (ys : List (Member E)) →

@@ -21,17 +21,17 @@ module _ {X : Type 0} where
   unfolding tail_of
   cons_tail x y xs ys e = ap tail_of e
 
-  pub nil_ne_cut : (xs : List X) (x : X) (ys : List X) → [] ≡ xs ++ x ∷ ys → ⊥
-  nil_ne_cut [] x ys e = cc
-  nil_ne_cut (z ∷ xs) x ys e = cc
+  pub nil_ne_split : (xs : List X) (x : X) (ys : List X) → [] ≡ xs ++ x ∷ ys → ⊥
+  nil_ne_split [] x ys e = cc
+  nil_ne_split (z ∷ xs) x ys e = cc
 
   pub last_from-push : (a : X) (xs : List X) (x : X) → last_from a (xs ++ x ∷ []) ≡ x
   last_from-push a [] x = refl
   last_from-push a (z ∷ xs) x = last_from-push z xs x
 
-  pub cut_last : (a : X) (xs : List X) → (us : List X) × (a ∷ xs ≡ us ++ last_from a xs ∷ [])
-  cut_last a [] = ([], refl)
-  cut_last a (x ∷ xs) = let on = cut_last x xs in (a ∷ on.0, ap (λ l. a ∷ l) on.1)
+  pub split_last : (a : X) (xs : List X) → (us : List X) × (a ∷ xs ≡ us ++ last_from a xs ∷ [])
+  split_last a [] = ([], refl)
+  split_last a (x ∷ xs) = let on = split_last x xs in (a ∷ on.0, ap (λ l. a ∷ l) on.1)
 
   -- a list with something at its end has a first element
   pub first_of_push : (xs : List X) (t : X) → (y : X) × (ys : List X) × (xs ++ t ∷ [] ≡ y ∷ ys)
@@ -109,19 +109,19 @@ module _ {X Y : Type 0} (f : X → Y) where
           w ≡ false) (us ++ y ∷ vs) all)).0)
 
       -- two cuts at elements that are alike under f are the same cut
-      pub alike_cut : (xs : List X) (x : X) (ys us : List X) (y : X) (vs : List X) →
+      pub alike_split : (xs : List X) (x : X) (ys us : List X) (y : X) (vs : List X) →
           IsDistinct eq (map f (xs ++ x ∷ ys)) → xs ++ x ∷ ys ≡ us ++ y ∷ vs → eq (f x) (f y) ≡ true
           → (xs ≡ us) × (x ≡ y) × (ys ≡ vs)
       unfolding IsDistinct
-      alike_cut [] x ys [] y vs d e at = (refl, cons_head x y ys vs e, cons_tail x y ys vs e)
-      alike_cut [] x ys (u ∷ us) y vs d e at =
+      alike_split [] x ys [] y vs d e at = (refl, cons_head x y ys vs e, cons_tail x y ys vs e)
+      alike_split [] x ys (u ∷ us) y vs d e at =
           absurd (clash x y us vs at (subst (λ l. AllByRecursion (λ w. eq (f x) w ≡ false) (map f l))
           (cons_tail x u ys (us ++ y ∷ vs) e) d.0))
-      alike_cut (z ∷ xs) x ys [] y vs d e at =
+      alike_split (z ∷ xs) x ys [] y vs d e at =
           absurd (clash z x xs ys (ap (λ w. eq (f w) (f x)) (cons_head z y (xs ++ x ∷ ys) vs e) ∙
           flips (f y) (f x) ∙ at) d.0)
-      alike_cut (z ∷ xs) x ys (u ∷ us) y vs d e at =
-          let on = alike_cut xs x ys us y vs d.1 (cons_tail z u (xs ++ x ∷ ys) (us ++ y ∷ vs) e) at in
+      alike_split (z ∷ xs) x ys (u ∷ us) y vs d e at =
+          let on = alike_split xs x ys us y vs d.1 (cons_tail z u (xs ++ x ∷ ys) (us ++ y ∷ vs) e) at in
           let first = cons_head z u (xs ++ x ∷ ys) (us ++ y ∷ vs) e in
           (λ i. first i ∷ on.0 i, on.1, on.2)
 
@@ -129,9 +129,9 @@ module _ {X : Type 0} where
   -- two lists with one more element each are the same where the longer ones are
   pub unpush : (xs ys : List X) (x y : X) → xs ++ x ∷ [] ≡ ys ++ y ∷ [] → (xs ≡ ys) × (x ≡ y)
   unpush [] [] x y e = (refl, cons_head x y [] [] e)
-  unpush [] (z ∷ []) x y e = absurd (nil_ne_cut [] y [] (cons_tail x z [] (y ∷ []) e))
-  unpush [] (z ∷ w ∷ ys) x y e = absurd (nil_ne_cut (w ∷ ys) y [] (cons_tail x z [] ((w ∷ ys) ++ y ∷ []) e))
-  unpush (z ∷ xs) [] x y e = absurd (nil_ne_cut xs x [] (sym (cons_tail z y (xs ++ x ∷ []) [] e)))
+  unpush [] (z ∷ []) x y e = absurd (nil_ne_split [] y [] (cons_tail x z [] (y ∷ []) e))
+  unpush [] (z ∷ w ∷ ys) x y e = absurd (nil_ne_split (w ∷ ys) y [] (cons_tail x z [] ((w ∷ ys) ++ y ∷ []) e))
+  unpush (z ∷ xs) [] x y e = absurd (nil_ne_split xs x [] (sym (cons_tail z y (xs ++ x ∷ []) [] e)))
   unpush (z ∷ xs) (w ∷ ys) x y e =
       let on = unpush xs ys x y (cons_tail z w (xs ++ x ∷ []) (ys ++ y ∷ []) e) in
       (λ i. cons_head z w (xs ++ x ∷ []) (ys ++ y ∷ []) e i ∷ on.0 i, on.1)

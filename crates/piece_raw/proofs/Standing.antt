@@ -7,7 +7,7 @@ use Rattle.piece_raw.specs.declared.nodes.Nodes.{Nodes}
 use Rattle.piece_raw.specs.Ring.{IsMember, HasTag}
 use Rattle.piece_raw.specs.Tied.{members, spots, stop_of, IsAmong, IsStop, IsHeld, IsTied, all_nodes}
 use Rattle.piece_raw.proofs.Splits.{cons_head, cons_tail, all_right}
-use Rattle.piece_raw.proofs.Matching.{N, members-append, members-cons, stop-some, cut_members}
+use Rattle.piece_raw.proofs.Matching.{N, members-append, members-cons, stop-some, split_members}
 
 module _ {T : Type 0} (n : Nodes T) (tag : ℕ) where
   -- the node that holds the member of a tag
@@ -39,7 +39,7 @@ module _ {T : Type 0} (n : Nodes T) (tag : ℕ) where
 module _ {T : Type 0} (n : Nodes T) (tied : IsTied n) where
   pub of_member : (tag : ℕ) → HasTag (members n.links.nodes) tag → Standing n tag
   of_member tag has =
-      let on = cut_members (spots n.table.items) n.links.nodes tied.matches.held has.1.0 tag has.0 has.1.1
+      let on = split_members (spots n.table.items) n.links.nodes tied.matches.held has.1.0 tag has.0 has.1.1
       has.1.2 in
       record {
         before = on.0;

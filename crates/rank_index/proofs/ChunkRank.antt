@@ -6,7 +6,7 @@ use Rattle.std.proofs.lemmas.List.Elements.{All-more}
 use Rattle.std.proofs.lemmas.List.Sums.{sum-map, sum_by-append, sum_by-cons}
 use Rattle.std.proofs.Math.Seq.{get_or-append_seam}
 use Rattle.piece_raw.specs.Ring.{HasTag}
-use Rattle.rank_index.specs.Places.{IsPlace}
+use Rattle.rank_index.specs.Slots.{IsSlot}
 use Rattle.rank_index.specs.Ranked.{weight_of, IsRank, IsFound}
 use Rattle.rank_index.proofs.Tagged.{Members}
 
@@ -23,8 +23,8 @@ weight_of-cut xs m ys =
     omega (arith, weight_of-append xs (m ∷ ys), sum-map f (m ∷ ys), sum-map f ys, sum_by-cons f m ys)
 
 module _ (xs : Members) (i : ℕ) (d : ℕ × ℕ) (lt : i < length xs) where
-  cut_at : xs ≡ take i xs ++ get_or xs i d ∷ drop (i + 1) xs
-  cut_at = sym (take-append-drop i xs) ∙ ap (λ (l : Members). take i xs ++ l) (drop_more xs i d lt)
+  split_across : xs ≡ take i xs ++ get_or xs i d ∷ drop (i + 1) xs
+  split_across = sym (take-append-drop i xs) ∙ ap (λ (l : Members). take i xs ++ l) (drop_more xs i d lt)
 
   -- one member more
   pub weight_of-more : weight_of (take (i + 1) xs) ≡ weight_of (take i xs) + (get_or xs i d).1
@@ -34,7 +34,7 @@ module _ (xs : Members) (i : ℕ) (d : ℕ × ℕ) (lt : i < length xs) where
   -- what stands before a member, and the member, are within the whole
   pub weight_of-more_le : weight_of (take i xs) + (get_or xs i d).1 ≤ weight_of xs
   weight_of-more_le =
-      omega (arith, ap weight_of cut_at, weight_of-cut (take i xs) (get_or xs i d) (drop (i + 1) xs))
+      omega (arith, ap weight_of split_across, weight_of-cut (take i xs) (get_or xs i d) (drop (i + 1) xs))
 
   pub others_more : (tag : ℕ) → All (λ n. n.0 ≢ tag) (take i xs) → (get_or xs i d).0 ≢ tag
       → All (λ n. n.0 ≢ tag) (take (i + 1) xs)
@@ -48,17 +48,17 @@ module _ (xs : Members) (i : ℕ) (d : ℕ × ℕ) (lt : i < length xs) where
         take i xs,
         drop (i + 1) xs,
         weight,
-        sym same ∙ cut_at ∙ ap (λ (t : ℕ). take i xs ++ (t, weight) ∷ drop (i + 1) xs) head,
+        sym same ∙ split_across ∙ ap (λ (t : ℕ). take i xs ++ (t, weight) ∷ drop (i + 1) xs) head,
         count,
       )
 
-  pub place_at : (tag : ℕ) → (get_or xs i d).0 ≡ tag → IsPlace xs tag i
-  place_at tag head =
+  pub slot_at : (tag : ℕ) → (get_or xs i d).0 ≡ tag → IsSlot xs tag i
+  slot_at tag head =
       let weight : ℕ = (get_or xs i d).1 in (
         take i xs,
         drop (i + 1) xs,
         weight,
-        cut_at ∙ ap (λ (t : ℕ). take i xs ++ (t, weight) ∷ drop (i + 1) xs) head,
+        split_across ∙ ap (λ (t : ℕ). take i xs ++ (t, weight) ∷ drop (i + 1) xs) head,
         sym (length-take-le i xs (omega arith)),
       )
 
@@ -66,7 +66,7 @@ module _ (xs : Members) (i : ℕ) (d : ℕ × ℕ) (lt : i < length xs) where
   pub found_at : (ys : Members) (pos within : ℕ) → xs ≡ ys → within < (get_or xs i d).1
       → pos ≡ weight_of (take i xs) + within → IsFound ys pos (get_or xs i d).0 within
   found_at ys pos within same inside at =
-      (take i xs, drop (i + 1) xs, (get_or xs i d).1, sym same ∙ cut_at, at, inside)
+      (take i xs, drop (i + 1) xs, (get_or xs i d).1, sym same ∙ split_across, at, inside)
 
 -- a tag that none has
 no_member : (xs : Members) (tag : ℕ) → All (λ m. m.0 ≢ tag) xs → HasTag xs tag → ⊥

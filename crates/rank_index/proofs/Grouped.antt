@@ -58,34 +58,34 @@ group_more groups chunks n s sums capped is k lt =
     ]
 
 -- a chunk with other members
-weight_to-set : (chunks : List ChunkSeen) (place n : ℕ) (c d : ChunkSeen) → place < length chunks
-    → c ≡ get_or chunks place c → place < n
-    → weight_to (set chunks place d) n + weight_of c.members ≡ weight_to chunks n + weight_of d.members
-weight_to-set chunks place n c d lt is past =
-    let (rest, was, changed) = weight_at chunks place c lt is in
+weight_to-set : (chunks : List ChunkSeen) (slot n : ℕ) (c d : ChunkSeen) → slot < length chunks
+    → c ≡ get_or chunks slot c → slot < n
+    → weight_to (set chunks slot d) n + weight_of c.members ≡ weight_to chunks n + weight_of d.members
+weight_to-set chunks slot n c d lt is past =
+    let (rest, was, changed) = weight_at chunks slot c lt is in
     omega (
       arith,
       was,
       changed d,
       weight_parts chunks n,
-      weight_parts (set chunks place d) n,
-      ap (λ (l : List ChunkSeen). weight_of (members_of l)) (drop-set-lt n chunks place d past),
+      weight_parts (set chunks slot d) n,
+      ap (λ (l : List ChunkSeen). weight_of (members_of l)) (drop-set-lt n chunks slot d past),
     )
 
 -- the sum of its group goes with it, and the others stay
-pub groups_set : (groups : List ℕ) (chunks : List ChunkSeen) (place : ℕ) (c d : ChunkSeen) (s : ℕ)
-    → place < length chunks → c ≡ get_or chunks place c → AreGroups groups chunks
-    → s + weight_of c.members ≡ get_or groups (place / GROUP) 0 + weight_of d.members
-    → AreGroups (set groups (place / GROUP) s) (set chunks place d)
-groups_set groups chunks place c d s lt is are told =
-    let g : ℕ = place / GROUP in
+pub groups_set : (groups : List ℕ) (chunks : List ChunkSeen) (slot : ℕ) (c d : ChunkSeen) (s : ℕ)
+    → slot < length chunks → c ≡ get_or chunks slot c → AreGroups groups chunks
+    → s + weight_of c.members ≡ get_or groups (slot / GROUP) 0 + weight_of d.members
+    → AreGroups (set groups (slot / GROUP) s) (set chunks slot d)
+groups_set groups chunks slot c d s lt is are told =
+    let g : ℕ = slot / GROUP in
     let within : g < length groups = omega (arith, lt, are.all) in
     let weight : List ChunkSeen → ℕ = λ (l : List ChunkSeen). weight_of (members_of l) in
-    let low : (n : ℕ) → n ≤ place → weight_to (set chunks place d) n ≡ weight_to chunks n =
-    λ (n : ℕ) (le : n ≤ place). ap weight (take-set-le n chunks place d le) in
-    let high : (n : ℕ) → place < n
-    → weight_to (set chunks place d) n + weight_of c.members ≡ weight_to chunks n + weight_of d.members =
-    λ (n : ℕ) (past : place < n). weight_to-set chunks place n c d lt is past in
+    let low : (n : ℕ) → n ≤ slot → weight_to (set chunks slot d) n ≡ weight_to chunks n =
+    λ (n : ℕ) (le : n ≤ slot). ap weight (take-set-le n chunks slot d le) in
+    let high : (n : ℕ) → slot < n
+    → weight_to (set chunks slot d) n + weight_of c.members ≡ weight_to chunks n + weight_of d.members =
+    λ (n : ℕ) (past : slot < n). weight_to-set chunks slot n c d lt is past in
     record {
       sums = λ (k : ℕ) (among : k < length (set groups g s)).
           let old : k < length groups = omega (arith, among, length-set groups g s) in
@@ -117,7 +117,7 @@ groups_set groups chunks place c d s lt is are told =
               )
             ]
           ];
-      all = omega (arith, are.all, length-set groups g s, length-set chunks place d);
+      all = omega (arith, are.all, length-set groups g s, length-set chunks slot d);
     }
 
 -- a sum tells of no more than all chunks, and of no less than one of its own
@@ -126,20 +126,20 @@ pub group_among : (groups : List ℕ) (chunks : List ChunkSeen) (k : ℕ) → Ar
 group_among groups chunks k are lt =
     omega (arith, are.sums k lt, weight_to-most chunks (GROUP * (k + 1)))
 
-pub in_group : (groups : List ℕ) (chunks : List ChunkSeen) (place : ℕ) (c : ChunkSeen) → place < length chunks
-    → c ≡ get_or chunks place c → AreGroups groups chunks
-    → weight_of c.members ≤ get_or groups (place / GROUP) 0
-in_group groups chunks place c lt is are =
-    let g : ℕ = place / GROUP in
+pub in_group : (groups : List ℕ) (chunks : List ChunkSeen) (slot : ℕ) (c : ChunkSeen) → slot < length chunks
+    → c ≡ get_or chunks slot c → AreGroups groups chunks
+    → weight_of c.members ≤ get_or groups (slot / GROUP) 0
+in_group groups chunks slot c lt is are =
+    let g : ℕ = slot / GROUP in
     let none : ChunkSeen = record { members = []; home = 0 } in
     let next : GROUP * (g + 1) ≡ GROUP * g + GROUP = omega arith in
     omega (
       arith,
       are.sums g (omega (arith, lt, are.all)),
-      ap (λ (l : List ChunkSeen). weight_of (members_of l)) (take-set-le (GROUP * g) chunks place none (omega arith)),
-      weight_to-set chunks place (GROUP * (g + 1)) c none lt is (omega arith),
-      ap (weight_to (set chunks place none)) next,
-      weight_to-more (set chunks place none) (GROUP * g) GROUP,
+      ap (λ (l : List ChunkSeen). weight_of (members_of l)) (take-set-le (GROUP * g) chunks slot none (omega arith)),
+      weight_to-set chunks slot (GROUP * (g + 1)) c none lt is (omega arith),
+      ap (weight_to (set chunks slot none)) next,
+      weight_to-more (set chunks slot none) (GROUP * g) GROUP,
     )
 
 -- a single chunk without members

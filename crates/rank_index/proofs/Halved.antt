@@ -7,11 +7,11 @@ use Rattle.std.proofs.lemmas.Option.{same_Some, slice_get_within}
 use Rattle.piece_raw.specs.Ring.{HasTag, AreTags}
 use Rattle.rank_index.specs.declared.chunk.TheConstants.{MOST, HALF}
 use Rattle.rank_index.specs.Chunks.{ChunkSeen, members_of, AreEntered, AreHomes, AreHalfFull, AreTied, IsHalved}
-use Rattle.rank_index.specs.Chunks.{IsPlaceOf, HasRoom}
+use Rattle.rank_index.specs.Chunks.{IsSlotOf, HasRoom}
 use Rattle.rank_index.proofs.Homes.{homes_kept}
 use Rattle.std.specs.List.{insert}
 use Rattle.std.proofs.Math.ListN.{set}
-use Rattle.rank_index.proofs.Pieces.{all_parts, all_whole, get-seam, cut_at, seam_at, insert-after, is_read}
+use Rattle.rank_index.proofs.Pieces.{all_parts, all_whole, get-seam, split_across, seam_at, insert-after, is_read}
 use Rattle.rank_index.proofs.Stretches.{members_of-seam, not_earlier, not_after}
 use Rattle.rank_index.proofs.Tagged.{Members, AreApart, HasTag-append, HasTag-left, HasTag-right, no_tag_twice}
 use Rattle.rank_index.proofs.Tagged.{apart_left, apart_right}
@@ -31,11 +31,11 @@ half_full (c ∷ chunks) all =
     )
 
 -- a full chunk among them tells of half a chunk more
-pub full_among : (chunks : List ChunkSeen) (place : ℕ) (c : ChunkSeen) → AreHalfFull chunks
-    → slice_get chunks place ≡ Some c → MOST ≤ length c.members
+pub full_among : (chunks : List ChunkSeen) (slot : ℕ) (c : ChunkSeen) → AreHalfFull chunks
+    → slice_get chunks slot ≡ Some c → MOST ≤ length c.members
     → HALF * (length chunks + 1) ≤ length (members_of chunks)
-full_among chunks place c half at full =
-    let (earlier, later, cut, there) = cut_at chunks place c at in
+full_among chunks slot c half at full =
+    let (earlier, later, cut, there) = split_across chunks slot c at in
     let count : length chunks ≡ length earlier + length (c ∷ later) =
     ap length cut ∙ length-append earlier (c ∷ later) in
     let members : length (members_of chunks)
@@ -51,10 +51,10 @@ full_among chunks place c half at full =
           omega (arith, members, full, count, half_full earlier left, half_full later right)
     ]
 
--- its place is that of one of them
-pub full_within : (chunks : List ChunkSeen) (place : ℕ)
-    → (c : ChunkSeen) × (slice_get chunks place ≡ Some c) × (length c.members ≡ MOST) → place < length chunks
-full_within chunks place (c, at, full) = slice_get_within chunks place c at
+-- its slot is that of one of them
+pub full_within : (chunks : List ChunkSeen) (slot : ℕ)
+    → (c : ChunkSeen) × (slice_get chunks slot ≡ Some c) × (length c.members ≡ MOST) → slot < length chunks
+full_within chunks slot (c, at, full) = slice_get_within chunks slot c at
 
 none : (xs : List ChunkSeen) → length xs ≡ 0 → All (λ c. HALF ≤ length c.members) xs
 none [] e = All-nil (λ (c : ChunkSeen). HALF ≤ length c.members)
@@ -147,7 +147,7 @@ module _ (at : ℕ) (was now : List ChunkSeen) (halved : IsHalved at was now) wh
   pub at_front : slice_get now at ≡ Some halved.front
   at_front =
       subst (λ (l : List ChunkSeen). slice_get l at ≡ Some halved.front) (sym halved.is)
-      (ap (slice_get (halved.before ++ halved.front ∷ halved.rest ∷ halved.after)) halved.place
+      (ap (slice_get (halved.before ++ halved.front ∷ halved.rest ∷ halved.after)) halved.slot
       ∙ get-seam halved.before halved.front (halved.rest ∷ halved.after))
 
   pub at_rest : slice_get now (at + 1) ≡ Some halved.rest
@@ -156,7 +156,7 @@ module _ (at : ℕ) (was now : List ChunkSeen) (halved : IsHalved at was now) wh
       let is : now ≡ longer ++ halved.rest ∷ halved.after =
       halved.is ∙ sym (append_assoc halved.before (halved.front ∷ []) (halved.rest ∷ halved.after)) in
       let next : at + 1 ≡ length longer =
-      omega (arith, halved.place, length-append halved.before (halved.front ∷ [])) in
+      omega (arith, halved.slot, length-append halved.before (halved.front ∷ [])) in
       subst (λ (l : List ChunkSeen). slice_get l (at + 1) ≡ Some halved.rest) (sym is)
       (ap (slice_get (longer ++ halved.rest ∷ halved.after)) next ∙ get-seam longer halved.rest halved.after)
 
@@ -166,24 +166,24 @@ module _ (at : ℕ) (was now : List ChunkSeen) (halved : IsHalved at was now) wh
   pub room_at_rest : HasRoom now (at + 1)
   room_at_rest = (halved.rest, at_rest, omega (arith, halved.halves.1))
 
-  in_a_half : (tag : ℕ) → IsPlaceOf was at tag → HasTag halved.front.members tag ⊎ HasTag halved.rest.members tag
+  in_a_half : (tag : ℕ) → IsSlotOf was at tag → HasTag halved.front.members tag ⊎ HasTag halved.rest.members tag
   in_a_half tag (c, there, has) =
       let whole : slice_get was at ≡ Some halved.whole =
       subst (λ (l : List ChunkSeen). slice_get l at ≡ Some halved.whole) (sym halved.was)
-      (ap (slice_get (halved.before ++ halved.whole ∷ halved.after)) halved.place
+      (ap (slice_get (halved.before ++ halved.whole ∷ halved.after)) halved.slot
       ∙ get-seam halved.before halved.whole halved.after) in
       let same : c ≡ halved.whole = same_Some c halved.whole (sym there ∙ whole) in
       HasTag-append halved.front.members halved.rest.members tag
       (subst (λ (l : Members). HasTag l tag) (ap (λ (d : ChunkSeen). d.members) same ∙ halved.parts) has)
 
-  pub after_in_rest : (tag : ℕ) → IsPlaceOf was at tag → (HasTag halved.front.members tag → ⊥)
-      → IsPlaceOf now (at + 1) tag
+  pub after_in_rest : (tag : ℕ) → IsSlotOf was at tag → (HasTag halved.front.members tag → ⊥)
+      → IsSlotOf now (at + 1) tag
   after_in_rest tag there absent = elim (in_a_half tag there) [
     | inl first ↦ absurd (absent first)
     | inr second ↦ (halved.rest, at_rest, second)
   ]
 
-  -- what the code reads at the place is the front
+  -- what the code reads at the slot is the front
   pub in_front : (tag : ℕ) (c : ChunkSeen) → c ≡ get_or now at c → HasTag c.members tag
       → HasTag halved.front.members tag
   in_front tag c is has =
@@ -194,7 +194,7 @@ module _ (at : ℕ) (was now : List ChunkSeen) (halved : IsHalved at was now) wh
   from_front tag has c is =
       subst (λ (d : ChunkSeen). HasTag d.members tag) (sym (is_read now at halved.front c at_front is)) has
 
--- what the code makes of the chunk that it reads at a place
+-- what the code makes of the chunk that it reads at a slot
 module _ (chunks : List ChunkSeen) (at : ℕ) (whole front rest : ChunkSeen) (lt : at < length chunks)
     (is_read : whole ≡ get_or chunks at whole) (parts : whole.members ≡ front.members ++ rest.members)
     (halves : (length front.members ≡ HALF) × (length rest.members ≡ HALF))
@@ -204,21 +204,21 @@ module _ (chunks : List ChunkSeen) (at : ℕ) (whole front rest : ChunkSeen) (lt
 
     made_of : (earlier later : List ChunkSeen) → at ≡ length earlier → set chunks at front ≡ earlier ++ front ∷ later
         → made ≡ earlier ++ front ∷ rest ∷ later
-    made_of earlier later place e =
-        (λ i. insert (e i) (place i + 1) rest) ∙ insert-after earlier front rest later
+    made_of earlier later slot e =
+        (λ i. insert (e i) (slot i + 1) rest) ∙ insert-after earlier front rest later
 
     pub halved_here : IsHalved at chunks made
     halved_here =
-        let (earlier, later, cut, place, changed) = seam_at chunks at whole lt is_read in
+        let (earlier, later, cut, slot, changed) = seam_at chunks at whole lt is_read in
         record {
           before = earlier;
           whole = whole;
           after = later;
           front = front;
           rest = rest;
-          place = place;
+          slot = slot;
           was = cut;
-          is = made_of earlier later place (changed front);
+          is = made_of earlier later slot (changed front);
           parts = parts;
           halves = halves;
         }
@@ -228,7 +228,7 @@ module _ (chunks : List ChunkSeen) (at : ℕ) (whole front rest : ChunkSeen) (lt
         → ((tag : ℕ) → (HasTag rest.members tag → ⊥) → slice_get after tag ≡ slice_get before tag)
         → AreTied after made
     tied_here before after tied same_length same entered others =
-        let (earlier, later, cut, place, changed) = seam_at chunks at whole lt is_read in
-        subst (AreTied after) (sym (made_of earlier later place (changed front)))
+        let (earlier, later, cut, slot, changed) = seam_at chunks at whole lt is_read in
+        subst (AreTied after) (sym (made_of earlier later slot (changed front)))
         (tied_halved earlier whole front rest later parts before after (subst (AreTied before) cut tied)
         same_length same halves entered others)

@@ -26,16 +26,16 @@ module _ {X : Type 0} where
   get-set_other (y ∷ xs) (suc k) zero x ne = refl
   get-set_other (y ∷ xs) (suc k) (suc j) x ne = get-set_other xs k j x (λ (e : j ≡ k). ne (ap suc e))
 
-pub home_at : (homes : List ℕ) (chunks : List ChunkSeen) (place : ℕ) (c : ChunkSeen) (tag : ℕ) → AreHomes homes chunks
-    → slice_get chunks place ≡ Some c → HasTag c.members tag → slice_get homes tag ≡ Some c.home
-home_at homes chunks place c tag are at has =
-    all_at (λ (d : ChunkSeen). AreEntered homes d.home d.members) chunks place c are at tag has
+pub home_at : (homes : List ℕ) (chunks : List ChunkSeen) (slot : ℕ) (c : ChunkSeen) (tag : ℕ) → AreHomes homes chunks
+    → slice_get chunks slot ≡ Some c → HasTag c.members tag → slice_get homes tag ≡ Some c.home
+home_at homes chunks slot c tag are at has =
+    all_at (λ (d : ChunkSeen). AreEntered homes d.home d.members) chunks slot c are at tag has
 
 pub tag_within : (homes : List ℕ) (chunks : List ChunkSeen) (tag : ℕ) → AreHomes homes chunks
     → HasTag (members_of chunks) tag → tag < length homes
 tag_within homes chunks tag are h =
-    let (place, (c, at, has)) = chunk_with chunks tag h in
-    slice_get_within homes tag c.home (home_at homes chunks place c tag are at has)
+    let (slot, (c, at, has)) = chunk_with chunks tag h in
+    slice_get_within homes tag c.home (home_at homes chunks slot c tag are at has)
 
 -- one member more is entered
 module _ (homes : List ℕ) (home : ℕ) (members : Members) (k : ℕ) (m : ℕ × ℕ) (lt : k < length members)
@@ -73,7 +73,7 @@ module _ (homes : List ℕ) (home : ℕ) (members : Members) (k : ℕ) (m : ℕ 
         ∙ before tag (λ (h : HasTag (take k members) tag). absent (subst (λ (l : Members). HasTag l tag) (sym more)
         (HasTag-left (take k members) (m ∷ []) tag h)))
 
--- the member that the code reads at a place
+-- the member that the code reads at a slot
 pub read_same : (members : Members) (k : ℕ) (d : ℕ × ℕ) → k < length members
     → get_or members k d ≡ get_or members k (get_or members k d)
 read_same members k d lt =
@@ -130,10 +130,10 @@ homes_kept old new others same (c ∷ chunks) apart are =
     (g : HasTag (members_of chunks) tag). apart tag h (HasTag-right c.members (members_of chunks) tag g))
     (All-tail P c chunks are))
 
--- a tag of the second part of a chunk's members has its place in the table
-pub part_within : (homes : List ℕ) (chunks : List ChunkSeen) (place : ℕ) (c : ChunkSeen) (front rest : Members)
-    → AreHomes homes chunks → slice_get chunks place ≡ Some c → c.members ≡ front ++ rest
+-- a tag of the second part of a chunk's members has its slot in the table
+pub part_within : (homes : List ℕ) (chunks : List ChunkSeen) (slot : ℕ) (c : ChunkSeen) (front rest : Members)
+    → AreHomes homes chunks → slice_get chunks slot ≡ Some c → c.members ≡ front ++ rest
     → (tag : ℕ) → HasTag rest tag → tag < length homes
-part_within homes chunks place c front rest are at parts tag has =
-    slice_get_within homes tag c.home (home_at homes chunks place c tag are at
+part_within homes chunks slot c front rest are at parts tag has =
+    slice_get_within homes tag c.home (home_at homes chunks slot c tag are at
     (subst (λ (l : Members). HasTag l tag) (sym parts) (HasTag-right front rest tag has)))

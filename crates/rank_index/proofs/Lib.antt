@@ -1,12 +1,12 @@
 pub mod ChunkHalves
-pub mod ChunkPlace
+pub mod ChunkSlot
 pub mod ChunkRank
 pub mod Grouped
 pub mod Halved
 pub mod Homes
 pub mod Inserted
 pub mod Pieces
-pub mod Placed
+pub mod InSlots
 pub mod Reweighed
 pub mod Stretches
 pub mod Tagged

@@ -10,14 +10,14 @@ use Rattle.std.proofs.lemmas.List.Elements.{All-append, All-cons, All-head, All-
 use Rattle.std.proofs.lemmas.Option.{same_Some, slice_get_read, get_or_from_slice_get}
 
 module _ {X : Type 0} where
-  pub cut_at : (xs : List X) (k : ℕ) (x : X) → slice_get xs k ≡ Some x
+  pub split_across : (xs : List X) (k : ℕ) (x : X) → slice_get xs k ≡ Some x
       → (before : List X) × (after : List X) × (xs ≡ before ++ x ∷ after) × (k ≡ length before)
-  cut_at [] k x e = absurd cc
-  cut_at (y ∷ xs) zero x e =
+  split_across [] k x e = absurd cc
+  split_across (y ∷ xs) zero x e =
       let same : y ≡ x = same_Some y x e in
       ([], xs, ap (λ (z : X). z ∷ xs) same, refl)
-  cut_at (y ∷ xs) (suc k) x e =
-      let (before, after, cut, at) = cut_at xs k x e in
+  split_across (y ∷ xs) (suc k) x e =
+      let (before, after, cut, at) = split_across xs k x e in
       let more : length (y ∷ before) ≡ suc (length before) = omega arith in
       (y ∷ before, after, ap (λ (l : List X). y ∷ l) cut, ap suc at ∙ sym more)
 
@@ -33,7 +33,7 @@ module _ {X : Type 0} where
   get-left (z ∷ xs) ys zero x e = e
   get-left (z ∷ xs) ys (suc k) x e = get-left xs ys k x e
 
-  -- the element that the code reads at a place
+  -- the element that the code reads at a slot
   pub is_read : (xs : List X) (k : ℕ) (x r : X) → slice_get xs k ≡ Some x → r ≡ get_or xs k r → r ≡ x
   is_read xs k x r e is = is ∙ get_or_from_slice_get xs k x r e
 
@@ -57,7 +57,7 @@ module _ {X : Type 0} where
       → (before : List X) × (after : List X) × (xs ≡ before ++ x ∷ after) × (k ≡ length before)
       × ((y : X) → set xs k y ≡ before ++ y ∷ after)
   seam_at xs k x lt is =
-      let (before, after, cut, at) = cut_at xs k x (slice_get_read xs (length xs) k x refl lt is) in (
+      let (before, after, cut, at) = split_across xs k x (slice_get_read xs (length xs) k x refl lt is) in (
         before,
         after,
         cut,
@@ -77,5 +77,5 @@ module _ {X : Type 0} where
 
     pub all_at : (xs : List X) (k : ℕ) (x : X) → All P xs → slice_get xs k ≡ Some x → P x
     all_at xs k x all e =
-        let (before, after, cut, at) = cut_at xs k x e in
+        let (before, after, cut, at) = split_across xs k x e in
         (all_parts before x after (subst (All P) cut all)).1

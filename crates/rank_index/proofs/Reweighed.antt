@@ -78,11 +78,11 @@ module _ (before : List ChunkSeen) (c d : ChunkSeen) (after : List ChunkSeen) (t
         }
 
 -- the members of the chunk that the code reads stand apart
-pub apart_read : (chunks : List ChunkSeen) (place : ℕ) (c : ChunkSeen) → place < length chunks
-    → c ≡ get_or chunks place c → AreApart (members_of chunks) → AreApart c.members
-apart_read chunks place c lt is_read apart =
-    apart_here (take place chunks) c (drop (suc place) chunks)
-    (subst (λ (l : List ChunkSeen). AreApart (members_of l)) (cut_read chunks place c lt is_read) apart)
+pub apart_read : (chunks : List ChunkSeen) (slot : ℕ) (c : ChunkSeen) → slot < length chunks
+    → c ≡ get_or chunks slot c → AreApart (members_of chunks) → AreApart c.members
+apart_read chunks slot c lt is_read apart =
+    apart_here (take slot chunks) c (drop (suc slot) chunks)
+    (subst (λ (l : List ChunkSeen). AreApart (members_of l)) (cut_read chunks slot c lt is_read) apart)
 
 -- what the members weigh and will weigh: those of the one chunk, and the rest
 pub record Weighs (chunks : List ChunkSeen) (c : ChunkSeen) (tag w : ℕ) : Type 0 where
@@ -90,14 +90,14 @@ pub record Weighs (chunks : List ChunkSeen) (c : ChunkSeen) (tag w : ℕ) : Type
   pub was : weight_of (members_of chunks) ≡ weight_of c.members + rest
   pub is : weight_of (with_value tag w (members_of chunks)) ≡ weight_of (with_value tag w c.members) + rest
 
--- the same of the chunk that the code reads at a place and changes there
-module _ (chunks : List ChunkSeen) (place tag : ℕ) (c : ChunkSeen) (read : IsReadFor chunks place tag c) (d : ChunkSeen)
+-- the same of the chunk that the code reads at a slot and changes there
+module _ (chunks : List ChunkSeen) (slot tag : ℕ) (c : ChunkSeen) (read : IsReadFor chunks slot tag c) (d : ChunkSeen)
     (w : ℕ) (is : d.members ≡ with_value tag w c.members)
   where
     pub reweighed_here : AreTags (members_of chunks)
-        → members_of (set chunks place d) ≡ with_value tag w (members_of chunks)
+        → members_of (set chunks slot d) ≡ with_value tag w (members_of chunks)
     reweighed_here are =
-        let (before, after, cut, at, changed) = seam_at chunks place c read.within read.is in
+        let (before, after, cut, at, changed) = seam_at chunks slot c read.within read.is in
         let old : List ChunkSeen → Members = λ (l : List ChunkSeen). with_value tag w (members_of l) in
         ap members_of (changed d)
         ∙ reweighed_in_all before c d after tag w is
@@ -105,20 +105,20 @@ module _ (chunks : List ChunkSeen) (place tag : ℕ) (c : ChunkSeen) (read : IsR
         ∙ ap old (sym cut)
 
     pub tied_reweighed_here : (homes : List ℕ) → d.home ≡ c.home → AreTied homes chunks
-        → AreTied homes (set chunks place d)
+        → AreTied homes (set chunks slot d)
     tied_reweighed_here homes same tied =
-        let (before, after, cut, at, changed) = seam_at chunks place c read.within read.is in
+        let (before, after, cut, at, changed) = seam_at chunks slot c read.within read.is in
         subst (AreTied homes) (sym (changed d))
         (tied_reweighed before c d after tag w is homes same read.here (subst (AreTied homes) cut tied))
 
 -- what it weighs beside the other chunks
-pub weighs_here : (chunks : List ChunkSeen) (place tag : ℕ) (c : ChunkSeen) → IsReadFor chunks place tag c → (w : ℕ)
+pub weighs_here : (chunks : List ChunkSeen) (slot tag : ℕ) (c : ChunkSeen) → IsReadFor chunks slot tag c → (w : ℕ)
     → AreTags (members_of chunks) → Weighs chunks c tag w
-weighs_here chunks place tag c read w are =
+weighs_here chunks slot tag c read w are =
     let d : ChunkSeen = record { members = with_value tag w c.members; home = c.home } in
-    let (rest, was, changed) = weight_at chunks place c read.within read.is in
+    let (rest, was, changed) = weight_at chunks slot c read.within read.is in
     record {
       rest = rest;
       was = was;
-      is = sym (ap weight_of (reweighed_here chunks place tag c read d w refl are)) ∙ changed d;
+      is = sym (ap weight_of (reweighed_here chunks slot tag c read d w refl are)) ∙ changed d;
     }

@@ -4,7 +4,7 @@ use Rattle.std.proofs.Common.{get_or, inl, inr, refl, sym, subst}
 use Rattle.std.proofs.lemmas.Grind.{flat_map-append}
 use Rattle.std.proofs.lemmas.Option.{slice_get_within}
 use Rattle.piece_raw.specs.Ring.{HasTag}
-use Rattle.rank_index.specs.Chunks.{ChunkSeen, members_of, IsPlaceOf}
+use Rattle.rank_index.specs.Chunks.{ChunkSeen, members_of, IsSlotOf}
 use Rattle.rank_index.proofs.Pieces.{is_read}
 use Rattle.rank_index.proofs.Tagged.{HasTag-nil, HasTag-append, HasTag-left, AreApart}
 use Rattle.rank_index.proofs.Tagged.{no_tag_twice, apart_left, apart_right}
@@ -18,37 +18,37 @@ members_of-seam before c after = members_of-append before (c ∷ after)
 
 -- each member is in some chunk
 pub chunk_with : (chunks : List ChunkSeen) (tag : ℕ) → HasTag (members_of chunks) tag
-    → (place : ℕ) × IsPlaceOf chunks place tag
+    → (slot : ℕ) × IsSlotOf chunks slot tag
 chunk_with [] tag h = absurd (HasTag-nil tag h)
 chunk_with (c ∷ chunks) tag h = elim (HasTag-append c.members (members_of chunks) tag h) [
   | inl here ↦ (0, (c, refl, here))
-  | inr rest ↦ let (place, (d, at, has)) = chunk_with chunks tag rest in (suc place, (d, at, has))
+  | inr rest ↦ let (slot, (d, at, has)) = chunk_with chunks tag rest in (suc slot, (d, at, has))
 ]
 
--- the chunk that the code reads at a member's place
-module _ (chunks : List ChunkSeen) (place tag : ℕ) (found : IsPlaceOf chunks place tag) where
-  pub is_within : place < length chunks
-  is_within = slice_get_within chunks place found.0 found.1
+-- the chunk that the code reads at a member's slot
+module _ (chunks : List ChunkSeen) (slot tag : ℕ) (found : IsSlotOf chunks slot tag) where
+  pub is_within : slot < length chunks
+  is_within = slice_get_within chunks slot found.0 found.1
 
-  has_here : (c : ChunkSeen) → c ≡ get_or chunks place c → HasTag c.members tag
+  has_here : (c : ChunkSeen) → c ≡ get_or chunks slot c → HasTag c.members tag
   has_here c is =
-      subst (λ (d : ChunkSeen). HasTag d.members tag) (sym (is_read chunks place found.0 c found.1 is)) found.2
+      subst (λ (d : ChunkSeen). HasTag d.members tag) (sym (is_read chunks slot found.0 c found.1 is)) found.2
 
--- the chunk at this place is read, and has the member of this tag
-pub record IsReadFor (chunks : List ChunkSeen) (place tag : ℕ) (c : ChunkSeen) : Type 0 where
-  pub within : place < length chunks
-  pub is : c ≡ get_or chunks place c
+-- the chunk at this slot is read, and has the member of this tag
+pub record IsReadFor (chunks : List ChunkSeen) (slot tag : ℕ) (c : ChunkSeen) : Type 0 where
+  pub within : slot < length chunks
+  pub is : c ≡ get_or chunks slot c
   pub here : HasTag c.members tag
 
--- so is the chunk at the place that the tables tell, of the chunks that were seen there
-pub read_for : (seen chunks : List ChunkSeen) (place tag : ℕ) (c : ChunkSeen) → seen ≡ chunks
-    → IsPlaceOf seen place tag → c ≡ get_or chunks place c → IsReadFor chunks place tag c
-read_for seen chunks place tag c same told is =
-    let found : IsPlaceOf chunks place tag = subst (λ (l : List ChunkSeen). IsPlaceOf l place tag) same told in
+-- so is the chunk at the slot that the tables tell, of the chunks that were seen there
+pub read_for : (seen chunks : List ChunkSeen) (slot tag : ℕ) (c : ChunkSeen) → seen ≡ chunks
+    → IsSlotOf seen slot tag → c ≡ get_or chunks slot c → IsReadFor chunks slot tag c
+read_for seen chunks slot tag c same told is =
+    let found : IsSlotOf chunks slot tag = subst (λ (l : List ChunkSeen). IsSlotOf l slot tag) same told in
     record {
-      within = is_within chunks place tag found;
+      within = is_within chunks slot tag found;
       is = is;
-      here = has_here chunks place tag found c is;
+      here = has_here chunks slot tag found c is;
     }
 
 -- the members of one chunk stand apart from the others

@@ -107,7 +107,7 @@ module _ (before : List ChunkSeen) (c : ChunkSeen) (after : List ChunkSeen) wher
       subst (λ (l : Members). IsFound l pos tag within) (sym (members_of-seam before c after))
       (found_among (members_of before) c.members (members_of after) pos left tag within at found)
 
--- the same of the chunk that the code reads at a place
+-- the same of the chunk that the code reads at a slot
 module _ (chunks : List ChunkSeen) (k : ℕ) (c : ChunkSeen) (lt : k < length chunks) (is : c ≡ get_or chunks k c) where
   pub rank_here : (tag n : ℕ) → IsRank c.members tag n
       → IsRank (members_of chunks) tag (weight_to chunks k + n)

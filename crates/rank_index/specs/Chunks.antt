@@ -22,20 +22,20 @@ AreEntered homes home members = (tag : ℕ) → HasTag members tag → slice_get
 abbrev pub AreHomes : List ℕ → List ChunkSeen → Type 0
 AreHomes homes chunks = All (λ c. AreEntered homes c.home c.members) chunks
 
--- the table tells the places of the first chunks, so many of them, by their homes
-abbrev pub AreToldTo : List ℕ → List ChunkSeen → ℕ → Type 0
-AreToldTo places chunks most = (place : ℕ) (c : ChunkSeen) → place < most → slice_get chunks place ≡ Some c
-    → slice_get places c.home ≡ Some place
+-- the table tells the slots of the first chunks, so many of them, by their homes
+abbrev pub AreSlotsTo : List ℕ → List ChunkSeen → ℕ → Type 0
+AreSlotsTo slots chunks most = (slot : ℕ) (c : ChunkSeen) → slot < most → slice_get chunks slot ≡ Some c
+    → slice_get slots c.home ≡ Some slot
 
 -- no two chunks have one home
 abbrev pub HomesDiffer : List ChunkSeen → Type 0
 HomesDiffer chunks = (j k : ℕ) (c d : ChunkSeen) → slice_get chunks j ≡ Some c → slice_get chunks k ≡ Some d
     → c.home ≡ d.home → j ≡ k
 
--- the table tells the place of each chunk, by its home, and of none beside them
-pub record ArePlaced (places : List ℕ) (chunks : List ChunkSeen) : Type 0 where
-  pub told : AreToldTo places chunks (length chunks)
-  pub counted : length places ≡ length chunks
+-- the table tells the slot of each chunk, by its home, and of none beside them
+pub record AreInSlots (slots : List ℕ) (chunks : List ChunkSeen) : Type 0 where
+  pub told : AreSlotsTo slots chunks (length chunks)
+  pub counted : length slots ≡ length chunks
 
 -- no chunk is half empty, but for the only one
 abbrev pub AreHalfFull : List ChunkSeen → Type 0
@@ -53,27 +53,27 @@ pub record AreTied (homes : List ℕ) (chunks : List ChunkSeen) : Type 0 where
 abbrev pub AreEmpty : List ChunkSeen → Type 0
 AreEmpty chunks = All (λ c. c.members ≡ []) chunks
 
--- the chunk at this place has the member of this tag
-abbrev pub IsPlaceOf : List ChunkSeen → ℕ → ℕ → Type 0
-IsPlaceOf chunks place tag = (c : ChunkSeen) × (slice_get chunks place ≡ Some c) × HasTag c.members tag
+-- the chunk at this slot has the member of this tag
+abbrev pub IsSlotOf : List ChunkSeen → ℕ → ℕ → Type 0
+IsSlotOf chunks slot tag = (c : ChunkSeen) × (slice_get chunks slot ≡ Some c) × HasTag c.members tag
 
--- this place is that of a member's chunk, or the first one
-abbrev pub IsPlaceAfter : List ChunkSeen → ℕ → Option ℕ → Type 0
-IsPlaceAfter chunks place None = place ≡ 0
-IsPlaceAfter chunks place (Some tag) = IsPlaceOf chunks place tag
+-- this slot is that of a member's chunk, or the first one
+abbrev pub IsSlotAfter : List ChunkSeen → ℕ → Option ℕ → Type 0
+IsSlotAfter chunks slot None = slot ≡ 0
+IsSlotAfter chunks slot (Some tag) = IsSlotOf chunks slot tag
 
--- the chunk at this place has room for one member more
+-- the chunk at this slot has room for one member more
 abbrev pub HasRoom : List ChunkSeen → ℕ → Type 0
-HasRoom chunks place = (c : ChunkSeen) × (slice_get chunks place ≡ Some c) × (length c.members < MOST)
+HasRoom chunks slot = (c : ChunkSeen) × (slice_get chunks slot ≡ Some c) × (length c.members < MOST)
 
--- the chunk at this place has given its second half to a chunk that stands after it
+-- the chunk at this slot has given its second half to a chunk that stands after it
 pub record IsHalved (at : ℕ) (old new : List ChunkSeen) : Type 0 where
   pub before : List ChunkSeen
   pub whole : ChunkSeen
   pub after : List ChunkSeen
   pub front : ChunkSeen
   pub rest : ChunkSeen
-  pub place : at ≡ length before
+  pub slot : at ≡ length before
   pub was : old ≡ before ++ whole ∷ after
   pub is : new ≡ before ++ front ∷ rest ∷ after
   pub parts : whole.members ≡ front.members ++ rest.members
@@ -81,4 +81,4 @@ pub record IsHalved (at : ℕ) (old new : List ChunkSeen) : Type 0 where
 
 -- so many insertions take no memory: a chunk that is full has been filled by half a chunk at least
 abbrev pub room_of : ℕ → ℕ → ℕ → ℕ
-room_of places chunks members = min places (HALF * (chunks + 1) - members)
+room_of slots chunks members = min slots (HALF * (chunks + 1) - members)

@@ -6,7 +6,7 @@ ghost use Rattle.looks.specs.Refusal.{RefusedForMemoryAlone};
 ghost use Rattle.piece_raw.specs.Ring.{HasTag, IsPushed, last_tag, with_value, tags};
 ghost use Rattle.piece_raw.specs.declared.TheConstants.{MAX_TAGS};
 ghost use Rattle.std.specs.List.{IsDistinct};
-ghost use Rattle.rank_index.specs.Places.{IsPlace};
+ghost use Rattle.rank_index.specs.Slots.{IsSlot};
 ghost use Rattle.rank_index.specs.Ranked.{weight_of, IsRank, IsFound};
 
 use looks::Refusal;
@@ -42,9 +42,9 @@ impl Model for Chunk {
         × (vec_len c.members ≤ MOST) × (MOST ≤ vec_capacity c.members) };
 }
 
-// At which place a member of this tag stands, if one is here. It looks from the back, where one who types on puts members.
-fn place_in(members: &[(u32, u32)], tag: u64) -> Option<usize>
-    ensures place { IfSome result (IsPlace members.now tag) }
+// At which slot a member of this tag stands, if one is here. It looks from the back, where one who types on puts members.
+fn slot_in(members: &[(u32, u32)], tag: u64) -> Option<usize>
+    ensures slot { IfSome result (IsSlot members.now tag) }
     ensures here { IsSome result ↔ HasTag members.now tag }
 {
     let mut left = members.len();
@@ -98,18 +98,18 @@ impl Chunk {
         &self.members
     }
 
-    // At which place the member of this tag stands, if it is here.
-    fn place_of(&self, tag: u64) -> Option<usize>
-        ensures place { IfSome result (IsPlace self.now.members tag) }
+    // At which slot the member of this tag stands, if it is here.
+    fn slot_of(&self, tag: u64) -> Option<usize>
+        ensures slot { IfSome result (IsSlot self.now.members tag) }
         ensures here { IsSome result ↔ HasTag self.now.members tag }
     {
-        place_in(self.members(), tag)
+        slot_in(self.members(), tag)
     }
 
     pub(crate) fn has(&self, tag: u64) -> bool
         ensures { IsTrue result ↔ HasTag self.now.members tag }
     {
-        self.place_of(tag).is_some()
+        self.slot_of(tag).is_some()
     }
 
     // How much stands before the member of this tag.
@@ -143,16 +143,16 @@ impl Chunk {
         unreachable!()
     }
 
-    // The place directly after the member of a tag, the front for `None`.
-    fn place_after(&self, after: Option<u64>) -> usize
+    // The slot directly after the member of a tag, the front for `None`.
+    fn slot_after(&self, after: Option<u64>) -> usize
         requires after { IfSome after (HasTag self.now.members) }
         requires room { length self.now.members < MOST }
         ensures within { result ≤ length self.now.members }
         ensures last { last_tag (take result self.now.members) ≡ after }
     {
         match after {
-            Some(tag) => match self.place_of(tag) {
-                Some(place) => place + 1,
+            Some(tag) => match self.slot_of(tag) {
+                Some(slot) => slot + 1,
                 None => unreachable!(),
             },
             None => 0,
@@ -168,8 +168,8 @@ impl Chunk {
         ensures inserted { IsPushed self.old.members after tag weight self.new.members }
         ensures home { self.new.home ≡ self.old.home }
     {
-        let place = self.place_after(after);
-        match self.members.insert(place, (tag as u32, weight)) {
+        let slot = self.slot_after(after);
+        match self.members.insert(slot, (tag as u32, weight)) {
             Ok(()) => self.sum += u64::from(weight),
             Err(_) => unreachable!(),
         }
@@ -183,10 +183,10 @@ impl Chunk {
         ensures members { self.new.members ≡ with_value tag weight self.old.members }
         ensures home { self.new.home ≡ self.old.home }
     {
-        match self.place_of(tag) {
-            Some(place) => {
-                let others = self.sum - u64::from(self.members[place].1);
-                self.members[place].1 = weight;
+        match self.slot_of(tag) {
+            Some(slot) => {
+                let others = self.sum - u64::from(self.members[slot].1);
+                self.members[slot].1 = weight;
                 self.sum = others + u64::from(weight);
             }
             None => unreachable!(),

@@ -51,26 +51,26 @@ pub(crate) fn regroup_if_grown(groups: &mut Vec<u64>, chunks: &[Chunk], before: 
     }
 }
 
-// How much stands before the chunk at this place.
-pub(crate) fn weight_before(groups: &[u64], chunks: &[Chunk], place: usize) -> u64
+// How much stands before the chunk at this slot.
+pub(crate) fn weight_before(groups: &[u64], chunks: &[Chunk], slot: usize) -> u64
     requires groups { AreGroups groups.now chunks.now }
     requires total { weight_of (members_of chunks.now) < 2 ^ 64 }
-    requires place { place < length chunks.now }
-    ensures { result ≡ weight_to chunks.now place }
+    requires slot { slot < length chunks.now }
+    ensures { result ≡ weight_to chunks.now slot }
 {
-    let whole = place / GROUP;
+    let whole = slot / GROUP;
     let mut weight = 0;
     for k in 0..whole {
         weight += groups[k];
     }
-    weight + weight_in(&chunks[GROUP * whole..place])
+    weight + weight_in(&chunks[GROUP * whole..slot])
 }
 
-// The place where the group begins whose stretch of the sum holds the position, and how far inside that lies.
+// The slot where the group begins whose stretch of the sum holds the position, and how far inside that lies.
 pub(crate) fn group_at(groups: &[u64], chunks: &[Chunk], pos: u64) -> (usize, u64)
     requires groups { AreGroups groups.now chunks.now }
     requires within { pos < weight_of (members_of chunks.now) }
-    ensures place { result.0 ≤ length chunks.now }
+    ensures slot { result.0 ≤ length chunks.now }
     ensures left { pos ≡ weight_to chunks.now result.0 + result.1 }
     ensures holds { pos < weight_to chunks.now (result.0 + GROUP) }
 {

@@ -4,7 +4,7 @@ ghost use Rattle.looks.specs.Refusal.{RefusedForMemoryAlone};
 ghost use Rattle.piece_raw.specs.Ring.{HasTag, IsPushed, AreTags, with_value};
 ghost use Rattle.piece_raw.specs.declared.TheConstants.{MAX_TAGS};
 ghost use Rattle.rank_index.specs.Chunks.{ChunkSeen, members_of, AreEntered, AreHomes, AreTied, AreEmpty};
-ghost use Rattle.rank_index.specs.Chunks.{AreToldTo, ArePlaced, HomesDiffer, IsPlaceOf, IsPlaceAfter, HasRoom, IsHalved};
+ghost use Rattle.rank_index.specs.Chunks.{AreSlotsTo, AreInSlots, HomesDiffer, IsSlotOf, IsSlotAfter, HasRoom, IsHalved};
 ghost use Rattle.rank_index.specs.Ranked.{weight_of, IsRank, IsFound};
 
 use crate::chunk::{Chunk, HALF, MOST};
@@ -24,8 +24,8 @@ pub struct RankIndex {
     chunks: Vec<Chunk>,
     // By tag, the home of the member's chunk.
     homes: Vec<usize>,
-    // By home, the place of the chunk in the list of all.
-    places: Vec<usize>,
+    // By home, the slot of the chunk in the list of all.
+    slots: Vec<usize>,
     // Chunks without members.
     spare: Vec<Chunk>,
     // Of each group of neighbouring chunks, the sum.
@@ -37,7 +37,7 @@ pub struct RankIndex {
 impl Model for RankIndex {
     ghost use Rattle.std.specs.Prelude.{◌≡◌, ◌+◌, ◌-◌, ◌<◌, ◌≤◌, ◌^◌, min, vec_len, vec_capacity};
     ghost use Rattle.piece_raw.specs.declared.TheConstants.{MAX_TAGS};
-    ghost use Rattle.rank_index.specs.Chunks.{members_of, ArePlaced, AreTied, AreEmpty, room_of};
+    ghost use Rattle.rank_index.specs.Chunks.{members_of, AreInSlots, AreTied, AreEmpty, room_of};
     ghost use Rattle.rank_index.specs.Groups.{AreGroups};
     ghost use Rattle.rank_index.specs.Ranked.{Ranked, ranked, weight_of};
 
@@ -52,22 +52,22 @@ impl Model for RankIndex {
         × (vec_len r.chunks + vec_len r.spare ≤ vec_capacity r.chunks)
         × (r.total ≡ weight_of (members_of r.chunks.items))
         × (weight_of (members_of r.chunks.items) < 2 ^ 64)
-        × ArePlaced r.places.items r.chunks.items
-        × (vec_len r.chunks + vec_len r.spare ≤ vec_capacity r.places)
+        × AreInSlots r.slots.items r.chunks.items
+        × (vec_len r.chunks + vec_len r.spare ≤ vec_capacity r.slots)
         × AreGroups r.groups.items r.chunks.items
         × (vec_len r.chunks + vec_len r.spare ≤ vec_capacity r.groups) };
 }
 
-// The place of the chunk that has the member of this tag, as the tables tell it: the chunks aren't read.
-fn chunk_of(chunks: &[Chunk], places: &[usize], homes: &[usize], tag: u64) -> usize
+// The slot of the chunk that has the member of this tag, as the tables tell it: the chunks aren't read.
+fn chunk_of(chunks: &[Chunk], slots: &[usize], homes: &[usize], tag: u64) -> usize
     requires here { HasTag (members_of chunks.now) tag }
     requires homes { AreHomes homes.now chunks.now }
-    requires placed { ArePlaced places.now chunks.now }
-    ensures { IsPlaceOf chunks.now result tag }
+    requires placed { AreInSlots slots.now chunks.now }
+    ensures { IsSlotOf chunks.now result tag }
 {
     let _ = chunks;
     let home = homes[tag as usize];
-    places[home]
+    slots[home]
 }
 
 // The member whose stretch of the sum in these chunks holds the position, and how far inside.
@@ -99,63 +99,63 @@ fn enter(homes: &mut [usize], chunk: &Chunk)
     }
 }
 
-// Tells the places of the chunks from this one on anew, as those before it are told.
-fn renumber(places: &mut [usize], chunks: &[Chunk], from: usize)
-    requires before { AreToldTo places.old chunks.now from }
+// Tells the slots of the chunks from this one on anew, as those before it are told.
+fn renumber(slots: &mut [usize], chunks: &[Chunk], from: usize)
+    requires before { AreSlotsTo slots.old chunks.now from }
     requires homes { HomesDiffer chunks.now }
-    requires within { (place : ℕ) (c : ChunkSeen) → slice_get chunks.now place ≡ Some c → c.home < length places.old }
-    ensures { AreToldTo places.new chunks.now (length chunks.now) }
+    requires within { (slot : ℕ) (c : ChunkSeen) → slice_get chunks.now slot ≡ Some c → c.home < length slots.old }
+    ensures { AreSlotsTo slots.new chunks.now (length chunks.now) }
 {
-    for place in from..chunks.len() {
-        places[chunks[place].home()] = place;
+    for slot in from..chunks.len() {
+        slots[chunks[slot].home()] = slot;
     }
 }
 
-// Halves the full chunk at this place.
+// Halves the full chunk at this slot.
 fn halve(
     chunks: &mut Vec<Chunk>,
     spare: &mut Vec<Chunk>,
-    places: &mut Vec<usize>,
+    slots: &mut Vec<usize>,
     homes: &mut [usize],
-    place: usize,
+    slot: usize,
 )
-    requires full { (c : ChunkSeen) × (slice_get chunks.old.items place ≡ Some c) × (length c.members ≡ MOST) }
+    requires full { (c : ChunkSeen) × (slice_get chunks.old.items slot ≡ Some c) × (length c.members ≡ MOST) }
     requires spare { 0 < vec_len spare.old }
     requires empty { AreEmpty spare.old.items }
     requires tied { AreTied homes.old chunks.old.items }
-    requires placed { ArePlaced places.old.items chunks.old.items }
+    requires placed { AreInSlots slots.old.items chunks.old.items }
     requires room { vec_len chunks.old + vec_len spare.old ≤ vec_capacity chunks.old }
-    requires places_room { vec_len chunks.old + vec_len spare.old ≤ vec_capacity places.old }
-    ensures halved { IsHalved place chunks.old.items chunks.new.items }
+    requires slots_room { vec_len chunks.old + vec_len spare.old ≤ vec_capacity slots.old }
+    ensures halved { IsHalved slot chunks.old.items chunks.new.items }
     ensures empty { AreEmpty spare.new.items }
     ensures tied { AreTied homes.new chunks.new.items }
-    ensures placed { ArePlaced places.new.items chunks.new.items }
+    ensures placed { AreInSlots slots.new.items chunks.new.items }
     ensures count { vec_len chunks.new + vec_len spare.new ≡ vec_len chunks.old + vec_len spare.old }
     ensures room { vec_capacity chunks.old ≤ vec_capacity chunks.new }
-    ensures places_room { vec_capacity places.old ≤ vec_capacity places.new }
+    ensures slots_room { vec_capacity slots.old ≤ vec_capacity slots.new }
 {
     match spare.pop() {
         Some(mut rest) => {
-            let home = places.len();
+            let home = slots.len();
             rest.move_to(home);
-            chunks[place].halve(&mut rest);
+            chunks[slot].halve(&mut rest);
             enter(homes, &rest);
-            match chunks.insert(place + 1, rest) {
+            match chunks.insert(slot + 1, rest) {
                 Ok(()) => {}
                 Err(_) => unreachable!(),
             }
-            places.push_reserved(home);
-            renumber(places, chunks, place + 1);
+            slots.push_reserved(home);
+            renumber(slots, chunks, slot + 1);
         }
         None => unreachable!(),
     }
 }
 
-// The place of a chunk with room for one more after this member, at the front for `None`. A full one is halved.
-fn place_after(
+// The slot of a chunk with room for one more after this member, at the front for `None`. A full one is halved.
+fn slot_after(
     chunks: &mut Vec<Chunk>,
     spare: &mut Vec<Chunk>,
-    places: &mut Vec<usize>,
+    slots: &mut Vec<usize>,
     homes: &mut [usize],
     after: Option<u64>,
 ) -> usize
@@ -163,31 +163,31 @@ fn place_after(
     requires room { length (members_of chunks.old.items) < HALF * (vec_len chunks.old + vec_len spare.old + 1) }
     requires empty { AreEmpty spare.old.items }
     requires tied { AreTied homes.old chunks.old.items }
-    requires placed { ArePlaced places.old.items chunks.old.items }
+    requires placed { AreInSlots slots.old.items chunks.old.items }
     requires chunks_room { vec_len chunks.old + vec_len spare.old ≤ vec_capacity chunks.old }
-    requires places_room { vec_len chunks.old + vec_len spare.old ≤ vec_capacity places.old }
-    ensures place { IsPlaceAfter chunks.new.items result after }
+    requires slots_room { vec_len chunks.old + vec_len spare.old ≤ vec_capacity slots.old }
+    ensures slot { IsSlotAfter chunks.new.items result after }
     ensures room { HasRoom chunks.new.items result }
     ensures members { members_of chunks.new.items ≡ members_of chunks.old.items }
     ensures empty { AreEmpty spare.new.items }
     ensures tied { AreTied homes.new chunks.new.items }
-    ensures placed { ArePlaced places.new.items chunks.new.items }
+    ensures placed { AreInSlots slots.new.items chunks.new.items }
     ensures count { vec_len chunks.new + vec_len spare.new ≡ vec_len chunks.old + vec_len spare.old }
     ensures chunks_room { vec_capacity chunks.old ≤ vec_capacity chunks.new }
-    ensures places_room { vec_capacity places.old ≤ vec_capacity places.new }
+    ensures slots_room { vec_capacity slots.old ≤ vec_capacity slots.new }
     ensures same { vec_len chunks.new ≤ vec_len chunks.old → chunks.new.items ≡ chunks.old.items }
 {
-    let place = match after {
-        Some(tag) => chunk_of(chunks, places, homes, tag),
+    let slot = match after {
+        Some(tag) => chunk_of(chunks, slots, homes, tag),
         None => 0,
     };
-    if chunks[place].members().len() < MOST {
-        return place;
+    if chunks[slot].members().len() < MOST {
+        return slot;
     }
-    halve(chunks, spare, places, homes, place);
+    halve(chunks, spare, slots, homes, slot);
     match after {
-        Some(tag) if !chunks[place].has(tag) => place + 1,
-        _ => place,
+        Some(tag) if !chunks[slot].has(tag) => slot + 1,
+        _ => slot,
     }
 }
 
@@ -195,27 +195,27 @@ fn place_after(
 fn fill_spare(
     chunks: &mut Vec<Chunk>,
     spare: &mut Vec<Chunk>,
-    places: &mut Vec<usize>,
+    slots: &mut Vec<usize>,
     alloc: Global,
     wanted: usize,
 ) -> Result<(), Refusal>
     requires empty { AreEmpty spare.old.items }
-    requires counted { vec_len places.old ≡ vec_len chunks.old }
+    requires counted { vec_len slots.old ≡ vec_len chunks.old }
     requires room { vec_len chunks.old + vec_len spare.old ≤ vec_capacity chunks.old }
-    requires places_room { vec_len chunks.old + vec_len spare.old ≤ vec_capacity places.old }
+    requires slots_room { vec_len chunks.old + vec_len spare.old ≤ vec_capacity slots.old }
     ensures ok { OnOk result (wanted ≤ vec_len chunks.new + vec_len spare.new) }
     ensures most { vec_len chunks.new + vec_len spare.new ≤ max wanted (vec_len chunks.old + vec_len spare.old) }
     ensures errors { RefusedForMemoryAlone result }
     ensures chunks { chunks.new.items ≡ chunks.old.items }
     ensures spare { vec_len spare.old ≤ vec_len spare.new }
     ensures empty { AreEmpty spare.new.items }
-    ensures places { places.new.items ≡ places.old.items }
+    ensures slots { slots.new.items ≡ slots.old.items }
     ensures room { vec_len chunks.new + vec_len spare.new ≤ vec_capacity chunks.new }
-    ensures places_room { vec_len chunks.new + vec_len spare.new ≤ vec_capacity places.new }
+    ensures slots_room { vec_len chunks.new + vec_len spare.new ≤ vec_capacity slots.new }
 {
     while chunks.len() + spare.len() < wanted {
         chunks.reserve(spare.len() + 1)?;
-        places.reserve(spare.len() + 1)?;
+        slots.reserve(spare.len() + 1)?;
         spare.push(Chunk::new(alloc)?)?;
     }
     Ok(())
@@ -229,14 +229,14 @@ impl RankIndex {
     {
         let mut chunks = Vec::new(alloc);
         chunks.push(Chunk::new(alloc)?)?;
-        let mut places = Vec::new(alloc);
-        places.push(0)?;
+        let mut slots = Vec::new(alloc);
+        slots.push(0)?;
         let mut groups = Vec::new(alloc);
         groups.push(0)?;
         Ok(RankIndex {
             chunks,
             homes: Vec::new(alloc),
-            places,
+            slots,
             spare: Vec::new(alloc),
             groups,
             total: 0,
@@ -260,7 +260,7 @@ impl RankIndex {
         fill_spare(
             &mut self.chunks,
             &mut self.spare,
-            &mut self.places,
+            &mut self.slots,
             self.alloc,
             wanted,
         )
@@ -285,18 +285,18 @@ impl RankIndex {
         ensures room { self.old.room ≤ self.new.room + 1 }
     {
         let before = self.chunks.len();
-        let place = place_after(
+        let slot = slot_after(
             &mut self.chunks,
             &mut self.spare,
-            &mut self.places,
+            &mut self.slots,
             &mut self.homes,
             after,
         );
         regroup_if_grown(&mut self.groups, &self.chunks, before);
-        let chunk = &mut self.chunks[place];
+        let chunk = &mut self.chunks[slot];
         chunk.insert_after(after, tag, weight);
         self.homes.push_reserved(chunk.home());
-        let group = &mut self.groups[place / GROUP];
+        let group = &mut self.groups[slot / GROUP];
         *group += u64::from(weight);
         self.total += u64::from(weight);
     }
@@ -308,12 +308,12 @@ impl RankIndex {
         ensures items { self.new.items ≡ with_value tag weight self.old.items }
         ensures room { self.new.room ≡ self.old.room }
     {
-        let place = chunk_of(&self.chunks, &self.places, &self.homes, tag);
-        let chunk = &mut self.chunks[place];
+        let slot = chunk_of(&self.chunks, &self.slots, &self.homes, tag);
+        let chunk = &mut self.chunks[slot];
         let was = chunk.sum();
         chunk.set_weight(tag, weight);
         let is = chunk.sum();
-        let group = &mut self.groups[place / GROUP];
+        let group = &mut self.groups[slot / GROUP];
         *group = *group - was + is;
         self.total = self.total - was + is;
     }
@@ -323,8 +323,8 @@ impl RankIndex {
         requires here { HasTag self.now.items tag }
         ensures rank { IsRank self.now.items tag result }
     {
-        let place = chunk_of(&self.chunks, &self.places, &self.homes, tag);
-        weight_before(&self.groups, &self.chunks, place) + self.chunks[place].rank(tag)
+        let slot = chunk_of(&self.chunks, &self.slots, &self.homes, tag);
+        weight_before(&self.groups, &self.chunks, slot) + self.chunks[slot].rank(tag)
     }
 
     /// The member whose stretch of the sum of all weights holds this position, and how far after the
@@ -333,7 +333,7 @@ impl RankIndex {
         requires within { pos < weight_of self.now.items }
         ensures found { IsFound self.now.items pos result.0 result.1 }
     {
-        let (place, left) = group_at(&self.groups, &self.chunks, pos);
-        found_in(&self.chunks[place..], left)
+        let (slot, left) = group_at(&self.groups, &self.chunks, pos);
+        found_in(&self.chunks[slot..], left)
     }
 }

@@ -5,8 +5,8 @@ use Rattle.tree_order.specs.Laws.{AreSameSet}
 use Rattle.set_laws.specs.Sets.{AreIdentified}
 use Rattle.texts.specs.TextState.{TextState}
 use Rattle.machine.specs.SiteTexts.{SiteTexts, IsTextOf}
-use Rattle.machine.specs.Events.{ask, print, prints, query, untouched}
-use Rattle.machine.specs.Machine.{Replies}
+use Rattle.machine.specs.Events.{Reply, ask, print, prints, query, untouched}
+use Rattle.machine.specs.Machine.{Does, Replies}
 use Rattle.machine.specs.State.{IsDeskAt, IsTextAt, State, new_state}
 use Rattle.machine.specs.Windows.{Screened}
 use Rattle.machine.specs.declared.asked.Query.{Query}
@@ -16,7 +16,7 @@ use Rattle.machine.specs.Printing.{waiting_line}
 use Rattle.machine_laws.specs.Laws.{AsksForNoFile, IsOfWhatIsShown, Reached}
 use Rattle.script_io.specs.Lines.{without_return}
 use Rattle.script_events.specs.Script.{event_in}
-use Rattle.script_runs.specs.Trace.{Trace, begins, goes_on}
+use Rattle.script_runs.specs.Trace.{Run, Trace, begins, goes_on}
 
 -- how a run begins: the number of its first site, how many sites there are, the size of their screens, and the files
 pub record Start : Type 0 where
@@ -28,11 +28,15 @@ pub record Start : Type 0 where
 
 -- a state after some lines of a script, in a run that began so, over a shelf that tells its files or over one that doesn't
 pub record IsAfterLines (start : Start) (s : State) : Type 0 where
-  pub told : Bool
+  pub reported : Bool
   pub lines : ℕ
   pub script : List ℕ
   pub answers : List ℕ
-  pub trace : Trace told (new_state start.first start.count start.width start.height start.files) lines script answers s
+  -- how many calls of the shelf had failed, and have
+  pub faults : ℕ
+  pub faults_now : ℕ
+  pub trace : Trace reported (record { state = new_state start.first start.count start.width start.height start.files; faults = faults }) lines
+      script answers (record { state = s; faults = faults_now })
 
 -- the state after any lines of a script is one that a run can come to
 abbrev pub EachTraceIsReached : Type 0
@@ -49,12 +53,13 @@ abbrev pub AnswersQuery : State → (i text : ℕ) → Query → List ℕ → Ty
 AnswersQuery s i text q lines =
     (new : State) × Replies s (query i text q) untouched (prints lines) new
 
--- a query of what is shown is answered the same of two texts, byte for byte
+-- where memory is there, a query of what is shown is answered the same of two texts, by its lines or by a refusal
 abbrev pub AreAnsweredTheSame : (s s' : State) (i j text text' : ℕ) → Type 0
-AreAnsweredTheSame s s' i j text text' = (q : Query) (a b : List ℕ) → IsOfWhatIsShown q
-    → AnswersQuery s i text q a → AnswersQuery s' j text' q b → a ≡ b
+AreAnsweredTheSame s s' i j text text' = (q : Query) (r r' : Reply) (new new' : State) → IsOfWhatIsShown q
+    → Does s (query i text q) untouched r new → Does s' (query j text' q) untouched r' new' → r ≡ r'
 
--- wherever two texts have taken in the same operations, in one run or in two, `text`, `runs` and `where` are answered the same
+-- wherever two texts have taken in the same operations, in one run or in two, `text`, `runs`, `where` and `names` are answered
+-- the same
 abbrev pub TheSameIsAnswered : Type 0
 TheSameIsAnswered =
     (start start' : Start) (i j text text' : ℕ) (s s' : State) (t u : TextState)
@@ -66,8 +71,8 @@ abbrev pub AnswersFronts : State → (i text : ℕ) → TextState → List ℕ �
 AnswersFronts s i text t lines = AnswersQuery s i text Front (lines ++ waiting_line (length t.waiting_room))
 
 -- wherever `front` is answered by the same lines of fronts of two texts, in one run or in two, however many operations
--- wait, `text`, `runs` and `where` are answered the same, if the sites are numbers that a message has places for, and no identity
--- is used twice
+-- wait, `text`, `runs`, `where` and `names` are answered the same, if the sites are numbers that a message has places for, and
+-- no identity is used twice
 abbrev pub TheSameFrontsAreAnswered : Type 0
 TheSameFrontsAreAnswered =
     (start start' : Start) (i j text text' : ℕ) (s s' : State) (t u : TextState) (lines : List ℕ)
@@ -100,14 +105,14 @@ TheSameViewsAreAnswered =
     → (v : View) (a b : List ℕ) → AnswersView s i v a → AnswersView s' j v b → a ≡ b
 
 -- no line of a run so far asked for a file
-abbrev pub AskedForNoFile : {told : Bool} {start : State} {n : ℕ} {script answers : List ℕ} {s : State}
-    → Trace told start n script answers s → Type 0
+abbrev pub AskedForNoFile : {reported : Bool} {start : Run} {n : ℕ} {script answers : List ℕ} {s : Run}
+    → Trace reported start n script answers s → Type 0
 AskedForNoFile begins = Unit {0}
 AskedForNoFile (goes_on {s = s} raw answer new trace is_raw answered) =
-    AskedForNoFile trace × AsksForNoFile (event_in s.first (length s.desks) (without_return raw))
+    AskedForNoFile trace × AsksForNoFile (event_in s.state.first (length s.state.desks) (without_return raw))
 
 -- Over a shelf that doesn't tell its files, lines that ask for none are answered as over one that does, and all else comes to the
 -- same: so nothing that they print hangs on more than the script.
-abbrev pub WithoutFilesAllIsTold : Type 0
-WithoutFilesAllIsTold = (start : State) (n : ℕ) (script answers : List ℕ) (s : State) (trace : Trace false start n script answers s)
-    → AskedForNoFile trace → Trace true start n script answers (record s { files = start.files })
+abbrev pub WithoutFilesAllIsAnswered : Type 0
+WithoutFilesAllIsAnswered = (start : Run) (n : ℕ) (script answers : List ℕ) (s : Run) (trace : Trace false start n script answers s)
+    → AskedForNoFile trace → Trace true start n script answers (record { state = record s.state { files = start.state.files }; faults = start.faults })

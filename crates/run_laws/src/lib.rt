@@ -4,13 +4,14 @@
 mod folder;
 
 ghost use Rattle.run_laws.specs.Laws.{EachTraceIsReached, TheSameFrontsAreAnswered, TheSameIsAnswered};
-ghost use Rattle.run_laws.specs.Laws.{TheSameViewsAreAnswered, WithoutFilesAllIsTold};
+ghost use Rattle.run_laws.specs.Laws.{TheSameViewsAreAnswered, WithoutFilesAllIsAnswered};
 
 pub use folder::run_over_a_folder;
 use machine_laws::{
-    any_files_will_do, lemma_front_lines_tell_the_fronts, lemma_the_same_fronts_print_the_same,
-    lemma_the_same_operations_print_the_same, lemma_the_same_texts_show_the_same_screen,
-    lemma_what_a_run_reaches_is_sound, lemma_what_is_reached_is_numbered,
+    any_files_will_do, lemma_front_lines_determine_the_fronts,
+    lemma_the_same_fronts_print_the_same, lemma_the_same_operations_print_the_same,
+    lemma_the_same_texts_show_the_same_screen, lemma_what_a_run_reaches_is_sound,
+    lemma_what_is_reached_is_numbered,
 };
 
 /// A law: after any lines of a script stands a state that a run can come to. So what is said of those is said
@@ -20,7 +21,7 @@ pub fn lemma_each_trace_is_reached()
 {}
 
 /// A law: wherever in a run, or in two runs, two sites have taken in the same operations of a text, their answers
-/// to `text`, `runs` and `where` are the same, byte for byte, unless memory is refused.
+/// to `text`, `runs`, `where` and `names` are the same, byte for byte, unless memory is refused.
 pub fn the_same_operations_are_answered_the_same()
     ensures { TheSameIsAnswered }
 {
@@ -30,15 +31,15 @@ pub fn the_same_operations_are_answered_the_same()
 }
 
 /// A law: wherever in a run, or in two runs, two sites answer `front` of a text by the same lines of fronts, however many
-/// operations wait, their answers to `text`, `runs` and `where` are the same, byte for byte, if no identity is used twice, unless
-/// memory is refused. The numbers of the sites are below 2^16, as they are in every run.
+/// operations wait, their answers to `text`, `runs`, `where` and `names` are the same, byte for byte, if no identity is used
+/// twice, unless memory is refused. The numbers of the sites are below 2^16, as they are in every run.
 pub fn the_same_fronts_are_answered_the_same()
     ensures { TheSameFrontsAreAnswered }
 {
     lemma_each_trace_is_reached();
     lemma_what_a_run_reaches_is_sound();
     lemma_what_is_reached_is_numbered();
-    lemma_front_lines_tell_the_fronts();
+    lemma_front_lines_determine_the_fronts();
     lemma_the_same_fronts_print_the_same();
 }
 
@@ -55,8 +56,8 @@ pub fn the_same_texts_answer_the_same_views()
 
 /// A law: over a shelf that doesn't tell its files, as the folder's, lines that ask for none are answered as over one that tells
 /// them. So what they print hangs on the script alone, and on memory.
-pub fn without_files_all_is_told()
-    ensures { WithoutFilesAllIsTold }
+pub fn without_files_all_is_answered()
+    ensures { WithoutFilesAllIsAnswered }
 {
     any_files_will_do();
 }

@@ -2,7 +2,7 @@
 use Rattle.std.specs.Prelude.{ℕ, ◌<◌, ◌≤◌, Option, length, option_map, unwrap_or}
 use Rattle.texts.specs.Edit.{Edit as AskedEdit, deletion, looks_change, recalling, restoration}
 use Rattle.machine.specs.Events.{Delivery as AskedDelivery, Event as AskedEvent, arrange, ask, bytes as by_bytes, click, copy}
-use Rattle.machine.specs.Events.{edit, keep, merge, print, put, query, reopen, sent, settle, take, unknown}
+use Rattle.machine.specs.Events.{edit, keep, merge, print, insert_at_caret, query, reopen, sent, settle, take, unknown}
 use Rattle.machine.specs.declared.TheConstants.{MAX_TEXT}
 use Rattle.machine.specs.declared.asked.Arrangement.{Arrangement}
 use Rattle.machine.specs.declared.asked.Arrangement.TheVariants.{Close, Move, Open, Point, Scroll, Select}
@@ -40,7 +40,7 @@ event_of (Keeps desk text name) = ask desk (keep text name.now)
 event_of (Reopens desk text name) = ask desk (reopen text name.now)
 event_of (Arranges desk arrangement) = ask desk (arrange arrangement)
 event_of (Prints desk what) = ask desk (print what)
-event_of (Keys desk bytes) = ask desk (put (plain_items bytes))
+event_of (Keys desk bytes) = ask desk (insert_at_caret (plain_items bytes))
 event_of (Clicks desk cell) = click desk cell.col cell.row
 
 -- what was parsed, or nothing that there is

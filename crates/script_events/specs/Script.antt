@@ -13,11 +13,11 @@ use Rattle.texts.specs.Edit.{Edit, insertion, deletion, looks_change, recalling,
 use Rattle.viewers.specs.declared.screen.Track.{Track}
 use Rattle.viewers.specs.declared.screen.Track.TheVariants.{User, System}
 use Rattle.machine.specs.Events.{Delivery, Event, arrange, ask, bytes as by_bytes, click, copy, edit, keep, merge, print}
-use Rattle.machine.specs.Events.{put, query, reopen, sent as by_number, settle, take as taking, unknown}
+use Rattle.machine.specs.Events.{insert_at_caret, query, reopen, sent as by_number, settle, take as taking, unknown}
 use Rattle.machine.specs.declared.asked.Arrangement.{Arrangement}
 use Rattle.machine.specs.declared.asked.Arrangement.TheVariants.{Close, Move, Open, Point, Scroll, Select}
 use Rattle.machine.specs.declared.asked.Cell.{Cell}
-use Rattle.machine.specs.declared.asked.Query.TheVariants.{Front, WhereShown, Runs, Text}
+use Rattle.machine.specs.declared.asked.Query.TheVariants.{Front, Names, WhereShown, Runs, Text}
 use Rattle.machine.specs.declared.asked.View.TheVariants.{Marks, Show, Views}
 use Rattle.script_events.specs.LooksWords.{change_in}
 use Rattle.script_events.specs.Words.{◌>>=◌, some_if, is_word, split_word, front_word, number_in, split_number, desk_in, text_in}
@@ -29,7 +29,7 @@ use Rattle.script_events.specs.declared.event.verbs.DeskVerb.TheVariants.{Click,
 use Rattle.script_events.specs.declared.event.verbs.EditVerb.{EditVerb}
 use Rattle.script_events.specs.declared.event.verbs.EditVerb.TheVariants.{Cut, Looks, Recall, TypeIn}
 use Rattle.script_events.specs.declared.event.verbs.LongVerb.{LongVerb}
-use Rattle.script_events.specs.declared.event.verbs.LongVerb.TheVariants.{Merge, Save, Take, Where}
+use Rattle.script_events.specs.declared.event.verbs.LongVerb.TheVariants.{Merge, Names as NamesOf, Save, Take, Where}
 use Rattle.script_events.specs.declared.event.verbs.ShortVerb.{ShortVerb}
 use Rattle.script_events.specs.declared.event.verbs.ShortVerb.TheVariants.{Restore, Settle}
 use Rattle.script_events.specs.declared.event.verbs.Verb.{Verb}
@@ -128,6 +128,13 @@ names_in rest = do
 abbrev pub where_event : (desk text : ℕ) → List ℕ → Option Event
 where_event desk text rest = option_map (λ names. query desk text (WhereShown names)) (names_in rest)
 
+-- `names`: from where to where
+abbrev pub names_event : (desk text : ℕ) → List ℕ → Option Event
+names_event desk text rest = do
+  beg ← split_number rest
+  end ← number_in beg.1
+  Some (query desk text (Names beg.0 end))
+
 -- `merge`: the site whose text is taken over
 abbrev pub merge_event : (first count desk text : ℕ) → List ℕ → Option Event
 merge_event first count desk text rest = option_map (λ other. merge desk text other) (desk_in first count rest)
@@ -221,6 +228,7 @@ long_event first count Save desk text rest = save_event desk text rest
 long_event first count Take desk text rest = option_map (λ message. taking desk text message) (delivery_in rest)
 long_event first count Merge desk text rest = merge_event first count desk text rest
 long_event first count Where desk text rest = where_event desk text rest
+long_event first count NamesOf desk text rest = names_event desk text rest
 
 -- the arrangement that a verb asks for with what stands after it: a row for each verb
 abbrev pub arrangement_in : ArrangeVerb → List ℕ → Option Arrangement
@@ -235,7 +243,7 @@ arrangement_in Selects rest = select_arrangement rest
 abbrev pub desk_event : DeskVerb → (desk : ℕ) → List ℕ → Option Event
 desk_event Keep desk rest = option_map (λ filing. ask desk (keep filing.0 filing.1)) (filing_in rest)
 desk_event Reopen desk rest = option_map (λ filing. ask desk (reopen filing.0 filing.1)) (filing_in rest)
-desk_event Key desk rest = option_map (λ bytes. ask desk (put (plain_items bytes))) (bytes_in rest)
+desk_event Key desk rest = option_map (λ bytes. ask desk (insert_at_caret (plain_items bytes))) (bytes_in rest)
 desk_event Click desk rest = option_map (λ cell. click desk cell.col cell.row) (cell_in rest)
 
 -- what a verb asks with what stands after its blank, if it doesn't end the line
@@ -271,6 +279,7 @@ verbs =
     (codes "front", Queries Front) ∷
     (codes "runs", Queries Runs) ∷
     (codes "where", Long Where) ∷
+    (codes "names", Long NamesOf) ∷
     (codes "keep", Desk Keep) ∷
     (codes "reopen", Desk Reopen) ∷
     (codes "open", Arrange Opens) ∷

@@ -2,7 +2,7 @@ ghost use Rattle.std.specs.Prelude.{◌≡◌, ℕ, ◌<◌, ◌≤◌, length, 
 ghost use Rattle.script_events.specs.EventView.{delivery_of, edit_of, event_of, event_or_unknown, IsInRun, IsOfLine, IsWithin};
 ghost use Rattle.script_events.specs.EventView.{OpensDeskText, TypesAtMost};
 ghost use Rattle.script_events.specs.Script.{arrangement_in, delivery_in, desk_event, edit_in, event_in, long_event, merge_event};
-ghost use Rattle.script_events.specs.Script.{names_in, where_event, save_event, short_event, verb_event};
+ghost use Rattle.script_events.specs.Script.{names_event, names_in, where_event, save_event, short_event, verb_event};
 
 mod arrangements;
 mod edits;
@@ -207,6 +207,19 @@ fn where_event(desk: usize, text: TextNo, rest: &[u8]) -> Option<Event<'static>>
     Some(Event::Queries { desk, text, query })
 }
 
+// `names`: from where to where.
+fn names_event(desk: usize, text: TextNo, rest: &[u8]) -> Option<Event<'static>>
+    requires { text ≤ MAX_TEXT }
+    ensures event { option_map event_of result ≡ names_event desk text rest.now }
+    ensures in_run { IfSome result (λ event. (count : ℕ) → desk < count → IsInRun count event) }
+    ensures within { IfSome result (λ event. (len : ℕ) → IsOfLine len event) }
+{
+    let (beg, rest) = split_number(rest)?;
+    let end = u64::from(number_in(rest)?);
+    let query = Query::Names { beg, end };
+    Some(Event::Queries { desk, text, query })
+}
+
 // `merge`: the site whose text is taken over.
 fn merge_event(run: RunSites, desk: usize, text: TextNo, rest: &[u8]) -> Option<Event<'static>>
     requires { text ≤ MAX_TEXT }
@@ -272,6 +285,7 @@ fn long_event<'a>(
         }
         LongVerb::Merge => merge_event(run, desk, text, rest),
         LongVerb::Where => where_event(desk, text, rest),
+        LongVerb::Names => names_event(desk, text, rest),
     }
 }
 

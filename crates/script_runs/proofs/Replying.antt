@@ -1,25 +1,24 @@
 -- Replies as steps of the machine, and their lines.
-use Rattle.std.proofs.Common.{◌≡◌, ℕ, zero, suc, ◌-◌, ◌<◌, ◌⊎◌, ◌==◌, false, List, [], length, drop, map, true, subst, Option, Some, None, Result, Ok, Err, refl, sym, ap, ◌∙◌, inl, inr, arith}
+use Rattle.std.proofs.Common.{◌≡◌, ℕ, zero, suc, ◌-◌, ◌<◌, ◌⊎◌, ◌==◌, false, List, [], length, drop, map, true, subst, Some, None, Result, Ok, Err, refl, sym, ap, ◌∙◌, inl, inr, arith}
 use Rattle.std.specs.Prelude.{slice_get}
 use Rattle.std.proofs.lemmas.List.{drop_at, length-map}
 use Rattle.std.proofs.lemmas.Option.{slice_get_past}
 use Rattle.looks.specs.declared.refusal.Refusal.TheVariants.{BadEvent}
 use Rattle.texts.specs.declared.edit_refusal.EditRefusal.{EditRefusal}
 use Rattle.texts.specs.declared.edit_refusal.EditRefusal.TheVariants.{Whole, Partial}
-use Rattle.shelf.specs.Files.{Files}
 use Rattle.machine.specs.Events.{Event, Part, Reply, edit_reply, messages_of, refuses, sends, sent, unknown}
 use Rattle.machine.specs.Events.{untouched}
 use Rattle.machine.specs.Machine.{Replies, message_in}
 use Rattle.machine.specs.State.{State}
 use Rattle.machine_laws.proofs.Going.{replies_go}
-use Rattle.commands.specs.Steps.{DeskSeen, answer_reply}
+use Rattle.commands.specs.Steps.{Counted, DeskSeen, ShelfSeen, answer_reply}
 use Rattle.commands.specs.declared.answer.Answer.{Answer}
 use Rattle.commands.specs.declared.answer.Answer.TheVariants.{Done, Forgot, Found, NotFound, Sent, Viewer}
 use Rattle.script_events.specs.Script.{event_in}
 use Rattle.script_runs.specs.Answers.{refused_line, reply_lines}
-use Rattle.script_runs.specs.Seen.{OverFiles, Replied, SitesSeen, Stepped, run_of}
+use Rattle.script_runs.specs.Seen.{OverFiles, Replied, SitesSeen, Stepped, run_of, state_of}
 use Rattle.script_runs.proofs.Filing.{over_same, over_weaker}
-use Rattle.script_runs.specs.Trace.{Answers, Step, is_silent}
+use Rattle.script_runs.specs.Trace.{Answers, Run, Shelved, Step, is_silent}
 
 -- the messages sent after those before are those that the reply tells
 told_after_those : (s new : State) (e : Event) (part : Part) (r : Reply) → Replies s e part r new → drop (length s.sent) new.sent ≡ messages_of r
@@ -50,24 +49,24 @@ change_lines s result new = reply_lines (length s.sent) (edit_reply result (drop
 -- the step of an edit, whatever its messages are
 pub change_step : (s new : SitesSeen) (e : Event) (result : Result ℕ EditRefusal) → (messages : List (List ℕ)) × Replied s e (edit_reply result messages) new
     → Stepped s e (change_lines s result new) new
-change_step s new e result (messages, replied) = λ files.
+change_step s new e result (messages, replied) = λ has.
     let reply = edit_reply result messages in
-    let told = edit_told result messages (drop (length s.sent) new.sent) (told_after_those (run_of s files) (run_of new files) e untouched reply (replied files)) in
-    (untouched, reply, ap (reply_lines (length s.sent)) told, replied files)
+    let told = edit_told result messages (drop (length s.sent) new.sent) (told_after_those (state_of s has.files) (state_of new has.files) e untouched reply (replied has.files)) in
+    (untouched, reply, ap (reply_lines (length s.sent)) told, replied has.files, refl)
 
 -- the step of a command
-pub answer_step : (s new : State) (e : Event) (part : Part) (result : Result Answer EditRefusal) (messages : List (List ℕ)) → Replies s e part (answer_reply result messages) new
-    → Step s e (reply_lines (length s.sent) (answer_reply result (drop (length s.sent) new.sent))) new
-answer_step s new e part result messages replies =
-    let told = answer_told result messages (drop (length s.sent) new.sent) (told_after_those s new e part (answer_reply result messages) replies) in
-    (part, answer_reply result messages, ap (reply_lines (length s.sent)) told, replies)
+pub answer_step : (s new : Run) (e : Event) (part : Part) (result : Result Answer EditRefusal) (messages : List (List ℕ)) → Replies s.state e part (answer_reply result messages) new.state
+    → Counted part s.faults new.faults → Step s e (reply_lines (length s.state.sent) (answer_reply result (drop (length s.state.sent) new.state.sent))) new
+answer_step s new e part result messages replies counted =
+    let told = answer_told result messages (drop (length s.state.sent) new.state.sent) (told_after_those s.state new.state e part (answer_reply result messages) replies) in
+    (part, answer_reply result messages, ap (reply_lines (length s.state.sent)) told, replies, counted)
 
 -- the step of any other event
 pub other_step : (s new : SitesSeen) (e : Event) (r : Reply) → Replied s e r new → Stepped s e (reply_lines (length s.sent) r) new
-other_step s new e r replied = λ files. (untouched, r, refl, replied files)
+other_step s new e r replied = λ has. (untouched, r, refl, replied has.files, refl)
 
 -- over files that stay
-pub stepped_over : (told : Option Files) (s new : SitesSeen) (e : Event) (answer : List ℕ) → Stepped s e answer new → OverFiles told told (λ was now. Step (run_of s was) e answer (run_of new now))
+pub stepped_over : (told : ShelfSeen) (s new : SitesSeen) (e : Event) (answer : List ℕ) → Stepped s e answer new → OverFiles told told (λ was now. Step (run_of s was) e answer (run_of new now))
 stepped_over told s new e answer stepped = over_same told (λ was now. Step (run_of s was) e answer (run_of new now)) stepped
 
 -- the message of a number that was sent
@@ -88,19 +87,19 @@ pub unknown_step : (s : SitesSeen) → Stepped s (unknown) (refused_line BadEven
 unknown_step s = other_step s s unknown (refuses BadEvent) (λ files. inl (refl, (refl, refl)))
 
 -- a line that isn't silent is answered by a step
-pub line_step : (s : SitesSeen) (was : Files) (new : State) (line answer : List ℕ) → is_silent line ≡ false → Step (run_of s was) (event_in s.first (length s.desks) line) answer new
+pub line_step : (s : SitesSeen) (was : Shelved) (new : Run) (line answer : List ℕ) → is_silent line ≡ false → Step (run_of s was) (event_in s.first (length s.desks) line) answer new
     → Answers (run_of s was) line answer new
 line_step s was new line answer heard step =
     let count : length s.desks ≡ length (map (λ (d : DeskSeen). d.texts) s.desks) = sym (length-map s.desks (λ (d : DeskSeen). d.texts)) in
     rw heard (subst (λ (n : ℕ). Step (run_of s was) (event_in s.first n line) answer new) count step)
 
 -- over the files that a shelf tells
-pub line_over : (told told' : Option Files) (s new : SitesSeen) (line answer : List ℕ) (e : Event) → is_silent line ≡ false → e ≡ event_in s.first (length s.desks) line
+pub line_over : (told told' : ShelfSeen) (s new : SitesSeen) (line answer : List ℕ) (e : Event) → is_silent line ≡ false → e ≡ event_in s.first (length s.desks) line
     → OverFiles told told' (λ was now. Step (run_of s was) e answer (run_of new now)) → OverFiles told told' (λ was now. Answers (run_of s was) line answer (run_of new now))
 line_over told told' s new line answer e heard asked stepped =
     over_weaker told told' (λ was now. Step (run_of s was) e answer (run_of new now)) (λ was now. Answers (run_of s was) line answer (run_of new now))
     (λ was now step. line_step s was (run_of new now) line answer heard (subst (λ (x : Event). Step (run_of s was) x answer (run_of new now)) asked step)) stepped
 
 -- and one that is, by nothing
-pub silent_over : (told : Option Files) (s : SitesSeen) (line : List ℕ) → is_silent line ≡ true → OverFiles told told (λ was now. Answers (run_of s was) line [] (run_of s now))
-silent_over told s line silent = over_same told (λ was now. Answers (run_of s was) line [] (run_of s now)) (λ files. rw silent (refl, refl))
+pub silent_over : (told : ShelfSeen) (s : SitesSeen) (line : List ℕ) → is_silent line ≡ true → OverFiles told told (λ was now. Answers (run_of s was) line [] (run_of s now))
+silent_over told s line silent = over_same told (λ was now. Answers (run_of s was) line [] (run_of s now)) (λ has. rw silent (refl, refl))

@@ -21,13 +21,13 @@ use Rattle.machine.specs.State.{State, new_state}
 use Rattle.machine.specs.Windows.{Screened, blank_screen}
 use Rattle.machine.specs.declared.asked.Arrangement.{Arrangement}
 use Rattle.machine_laws.proofs.Telling.{put_back}
-use Rattle.commands.specs.Steps.{DeskSeen, IsEditStep, IsMergeStep, IsShelfStep, IsStep, IsTakeStep, StandsIn, answer_reply, with_desk}
+use Rattle.commands.specs.Steps.{Counted, DeskSeen, IsEditStep, IsMergeStep, IsShelfStep, IsStep, IsTakeStep, ShelfSeen, StandsIn, answer_reply, with_desk}
 use Rattle.commands.specs.declared.answer.Answer.{Answer}
 use Rattle.script_runs.proofs.Merging.{merged_itself}
 use Rattle.script_runs.proofs.Replying.{answer_step, no_message, other_step}
 use Rattle.script_runs.specs.Answers.{reply_lines}
-use Rattle.script_runs.specs.Seen.{OverFiles, Replied, SitesSeen, Stepped, run_of}
-use Rattle.script_runs.specs.Trace.{Step}
+use Rattle.script_runs.specs.Seen.{OverBoth, OverFiles, Replied, SitesSeen, Stepped, run_of, state_of}
+use Rattle.script_runs.specs.Trace.{Shelved, Step}
 
 -- a desk's texts, and its screen
 abbrev texts_of : DeskSeen → SiteTexts
@@ -41,14 +41,14 @@ abbrev pub with_seen : SitesSeen → ℕ → DeskSeen → List (List ℕ) → Si
 with_seen s i d messages = record s { desks = slice_set s.desks i d; sent = messages }
 
 -- a desk of the sites stands in their run
-pub stands : (s : SitesSeen) (files : Files) (i : ℕ) (d : DeskSeen) → slice_get s.desks i ≡ Some d → StandsIn (run_of s files) i d
+pub stands : (s : SitesSeen) (files : Files) (i : ℕ) (d : DeskSeen) → slice_get s.desks i ≡ Some d → StandsIn (state_of s files) i d
 stands s files i d at = record {
   texts = slice_get-map texts_of s.desks i ∙ ap (option_map texts_of) at;
   screen = slice_get-map screen_of s.desks i ∙ ap (option_map screen_of) at;
 }
 
 -- a desk that is put into the run is put into the sites
-pub put_in : (s : SitesSeen) (files : Files) (i : ℕ) (d : DeskSeen) (messages : List (List ℕ)) → with_desk (run_of s files) i d messages ≡ run_of (with_seen s i d messages) files
+pub put_in : (s : SitesSeen) (files : Files) (i : ℕ) (d : DeskSeen) (messages : List (List ℕ)) → with_desk (state_of s files) i d messages ≡ state_of (with_seen s i d messages) files
 put_in s files i d messages =
     let texts : slice_set (map texts_of s.desks) i d.texts ≡ map texts_of (slice_set s.desks i d) = sym (map-set texts_of s.desks i d) in
     let screens : slice_set (map screen_of s.desks) i d.screen ≡ map screen_of (slice_set s.desks i d) = sym (map-set screen_of s.desks i d) in
@@ -58,7 +58,7 @@ module _ (s : SitesSeen) (i : ℕ) (d : DeskSeen) (at : slice_get s.desks i ≡ 
   -- a step of the desk is one of the sites
   pub replied : (event : ℕ → Event) (r : Reply) (new : DeskSeen) → IsStep d event r new → Replied s (event i) r (with_seen s i new s.sent)
   replied event r new step = λ files.
-      subst (Replies (run_of s files) (event i) untouched r) (put_in s files i new s.sent) (step (run_of s files) i (stands s files i d at))
+      subst (Replies (state_of s files) (event i) untouched r) (put_in s files i new s.sent) (step (state_of s files) i (stands s files i d at))
 
   -- a step that leaves the desk as it was leaves the sites so
   pub replied_same : (event : ℕ → Event) (r : Reply) → IsStep d event r d → Replied s (event i) r s
@@ -71,30 +71,46 @@ module _ (s : SitesSeen) (i : ℕ) (d : DeskSeen) (at : slice_get s.desks i ≡ 
       → Stepped s (ask i (arrange a)) (reply_lines (length s.sent) r) (with_seen s i new s.sent)
   arranged_step a r new step = other_step s (with_seen s i new s.sent) (ask i (arrange a)) r (replied (λ i. ask i (arrange a)) r new step)
 
-  -- a step over these files, printed
-  step_over : (was now : Files) (event : ℕ → Event) (part : Part) (result : Result Answer EditRefusal) (messages : List (List ℕ)) (new : DeskSeen) (after : List (List ℕ))
-      → Replies (run_of s was) (event i) part (answer_reply result messages) (record (with_desk (run_of s was) i new after) { files = now })
+  -- a step over what the shelf has, printed
+  step_over : (was now : Shelved) (event : ℕ → Event) (part : Part) (result : Result Answer EditRefusal) (messages : List (List ℕ)) (new : DeskSeen) (after : List (List ℕ))
+      → Replies (state_of s was.files) (event i) part (answer_reply result messages) (record (with_desk (state_of s was.files) i new after) { files = now.files })
+      → Counted part was.faults now.faults
       → Step (run_of s was) (event i) (reply_lines (length s.sent) (answer_reply result (drop (length s.sent) after))) (run_of (with_seen s i new after) now)
-  step_over was now event part result messages new after replies =
-      let there : State = run_of (with_seen s i new after) now in
-      let same : record (with_desk (run_of s was) i new after) { files = now } ≡ there = λ k. record (put_in s was i new after k) { files = now } in
-      answer_step (run_of s was) there (event i) part result messages
-      (subst (Replies (run_of s was) (event i) part (answer_reply result messages)) same replies)
+  step_over was now event part result messages new after replies counted =
+      let there : State = state_of (with_seen s i new after) now.files in
+      let same : record (with_desk (state_of s was.files) i new after) { files = now.files } ≡ there = λ k. record (put_in s was.files i new after k) { files = now.files } in
+      answer_step (run_of s was) (run_of (with_seen s i new after) now) (event i) part result messages
+      (subst (Replies (state_of s was.files) (event i) part (answer_reply result messages)) same replies) counted
 
-  -- and over those that the shelf tells
-  pub filed_step : (event : ℕ → Event) (result : Result Answer EditRefusal) (new : DeskSeen) (after : List (List ℕ)) (told told' : Option Files)
+  -- what the desk's step leads to, over the files that a shelf tells
+  abbrev StepsTo : (event : ℕ → Event) (result : Result Answer EditRefusal) (new : DeskSeen) (after : List (List ℕ)) → Shelved → Shelved → Type 0
+  StepsTo event result new after was now =
+      Step (run_of s was) (event i) (reply_lines (length s.sent) (answer_reply result (drop (length s.sent) after))) (run_of (with_seen s i new after) now)
+
+  filed_by : (event : ℕ → Event) (result : Result Answer EditRefusal) (new : DeskSeen) (after : List (List ℕ)) (told told' : Option Files) (faults faults' : ℕ)
+      → IsShelfStep d event result new s.sent after (record { files = told; faults = faults }) (record { files = told'; faults = faults' })
+      → OverBoth told told' faults faults' (StepsTo event result new after)
+  filed_by event result new after None None faults faults' (messages, part, files, files', counts, of_files, counted, goes) = (
+    files,
+    files',
+    step_over (record { files = files; faults = faults }) (record { files = files'; faults = faults' }) event part result messages new after
+        (goes (state_of s files) i (stands s files i d at) refl refl) counted,
+  )
+  filed_by event result new after None (Some now) faults faults' (messages, part, files, files', counts, of_files, counted, goes) = absurd of_files
+  filed_by event result new after (Some was) None faults faults' (messages, part, files, files', counts, of_files, counted, goes) = absurd of_files
+  filed_by event result new after (Some was) (Some now) faults faults' (messages, part, files, files', counts, (is_was, is_now), counted, goes) =
+      step_over (record { files = was; faults = faults }) (record { files = now; faults = faults' }) event part result messages new after
+      (subst (λ (f : Files). Replies (state_of s was) (event i) part (answer_reply result messages) (record (with_desk (state_of s was) i new after) { files = f })) is_now
+      (goes (state_of s was) i (stands s was i d at) refl (sym is_was))) counted
+
+  -- and over what it has
+  pub filed_step : (event : ℕ → Event) (result : Result Answer EditRefusal) (new : DeskSeen) (after : List (List ℕ)) (told told' : ShelfSeen)
       → IsShelfStep d event result new s.sent after told told'
       → OverFiles told told' (λ was now. Step (run_of s was) (event i) (reply_lines (length s.sent) (answer_reply result (drop (length s.sent) after))) (run_of (with_seen s i new after) now))
-  filed_step event result new after None None (messages, part, files, files', counts, of_files, goes) =
-      (files, files', step_over files files' event part result messages new after (goes (run_of s files) i (stands s files i d at) refl refl))
-  filed_step event result new after None (Some now) (messages, part, files, files', counts, of_files, goes) = absurd of_files
-  filed_step event result new after (Some was) None (messages, part, files, files', counts, of_files, goes) = absurd of_files
-  filed_step event result new after (Some was) (Some now) (messages, part, files, files', counts, (is_was, is_now), goes) =
-      step_over was now event part result messages new after (subst (λ (f : Files). Replies (run_of s was) (event i) part (answer_reply result messages) (record (with_desk (run_of s was) i new after) { files = f })) is_now
-      (goes (run_of s was) i (stands s was i d at) refl (sym is_was)))
+  filed_step event result new after told told' step = filed_by event result new after told.files told'.files told.faults told'.faults step
 
   -- one that leaves the desk as it was leaves the sites so
-  pub filed_same : (event : ℕ → Event) (result : Result Answer EditRefusal) (told told' : Option Files)
+  pub filed_same : (event : ℕ → Event) (result : Result Answer EditRefusal) (told told' : ShelfSeen)
       → IsShelfStep d event result d s.sent s.sent told told'
       → OverFiles told told' (λ was now. Step (run_of s was) (event i) (reply_lines (length s.sent) (answer_reply result (drop (length s.sent) s.sent))) (run_of s now))
   filed_same event result told told' step =
@@ -106,19 +122,19 @@ module _ (s : SitesSeen) (i : ℕ) (d : DeskSeen) (at : slice_get s.desks i ≡ 
   pub replied_edit : (event : ℕ → Event) (result : Result ℕ EditRefusal) (new : DeskSeen) (after : List (List ℕ)) → IsEditStep d event result new s.sent after
       → (messages : List (List ℕ)) × Replied s (event i) (edit_reply result messages) (with_seen s i new after)
   replied_edit event result new after (messages, count, step) =
-      (messages, λ files. subst (Replies (run_of s files) (event i) untouched (edit_reply result messages)) (put_in s files i new after) (step (run_of s files) i (stands s files i d at) refl))
+      (messages, λ files. subst (Replies (state_of s files) (event i) untouched (edit_reply result messages)) (put_in s files i new after) (step (state_of s files) i (stands s files i d at) refl))
 
   -- a taking's step, however its message is told
-  pub replied_take : (text : ℕ) (told : Delivery) (message : List ℕ) (result : Result Took Refusal) (new : DeskSeen) → ((files : Files) → message_in (run_of s files) told ≡ Some message)
+  pub replied_take : (text : ℕ) (told : Delivery) (message : List ℕ) (result : Result Took Refusal) (new : DeskSeen) → ((files : Files) → message_in (state_of s files) told ≡ Some message)
       → IsTakeStep d text message result new → Replied s (take i text told) (take_reply result) (with_seen s i new s.sent)
   replied_take text told message result new is step = λ files.
-      subst (Replies (run_of s files) (take i text told) untouched (take_reply result)) (put_in s files i new s.sent) (step (run_of s files) i told (stands s files i d at) (is files))
+      subst (Replies (state_of s files) (take i text told) untouched (take_reply result)) (put_in s files i new s.sent) (step (state_of s files) i told (stands s files i d at) (is files))
 
   -- a merge's step
   pub replied_merge : (text j : ℕ) (other : DeskSeen) (result : Result ℕ MergeRefusal) (new : DeskSeen) → slice_get s.desks j ≡ Some other
       → IsMergeStep d text other result new → Replied s (merge i text j) (merge_reply result) (with_seen s i new s.sent)
   replied_merge text j other result new at_j step = λ files.
-      subst (Replies (run_of s files) (merge i text j) untouched (merge_reply result)) (put_in s files i new s.sent) (step (run_of s files) i j (stands s files i d at) (stands s files j other at_j))
+      subst (Replies (state_of s files) (merge i text j) untouched (merge_reply result)) (put_in s files i new s.sent) (step (state_of s files) i j (stands s files i d at) (stands s files j other at_j))
 
 -- the desk that is read at an index in the run
 pub desk_read : (s : SitesSeen) (i : ℕ) (d : DeskSeen) → i < length s.desks → d ≡ slice_index_or s.desks i d → slice_get s.desks i ≡ Some d
@@ -128,12 +144,12 @@ desk_read s i d within read = slice_get_read s.desks (length s.desks) i d refl w
 pub merged_still : (s : SitesSeen) (i text : ℕ) (d : DeskSeen) (t : TextState) → slice_get s.desks i ≡ Some d → IsTextOf d.texts text t → IsText t → t.asked ≡ length t.operations
     → Replied s (merge i text i) (merges 0) s
 merged_still s i text d t at there is told = λ files.
-    merged_itself (run_of s files) i text d.texts (stands s files i d at).texts t there is told lemma_are_held_to_the_front
+    merged_itself (state_of s files) i text d.texts (stands s files i d at).texts t there is told lemma_are_held_to_the_front
 
 -- a message that wasn't sent yet is none
 pub unsent_still : (s : SitesSeen) (i text k : ℕ) → (k ≡ 0) ⊎ (length s.sent < k)
     → Replied s (take i text (sent k)) (refuses BadEvent) s
-unsent_still s i text k unsent = λ files. inl (refl, rw (no_message (run_of s files) k unsent) (refl, refl))
+unsent_still s i text k unsent = λ files. inl (refl, rw (no_message (state_of s files) k unsent) (refl, refl))
 
 -- the sites as a run of them begins
 abbrev pub new_seen : Screened → ℕ → DeskSeen
@@ -150,7 +166,7 @@ empty_texts w [] = refl
 empty_texts w (site ∷ sites) = ap (λ (ds : List SiteTexts). fresh_texts site ∷ ds) (empty_texts w sites)
 
 pub begins_new : (first count width height : ℕ) (files : Files)
-    → run_of (record { first = first; desks = map (new_seen (blank_screen width height)) (range_with_len first count); sent = [] }) files ≡ new_state first count width height files
+    → state_of (record { first = first; desks = map (new_seen (blank_screen width height)) (range_with_len first count); sent = [] }) files ≡ new_state first count width height files
 begins_new first count width height files = λ k. record {
   first = first;
   desks = empty_texts (blank_screen width height) (range_with_len first count) k;

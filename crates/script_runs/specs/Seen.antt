@@ -3,9 +3,9 @@ use Rattle.std.specs.Prelude.{ℕ, List, map, Option, Some, None}
 use Rattle.shelf.specs.Files.{Files}
 use Rattle.machine.specs.Events.{Event, Reply, untouched}
 use Rattle.machine.specs.Machine.{Replies}
+use Rattle.commands.specs.Steps.{DeskSeen, ShelfSeen}
 use Rattle.machine.specs.State.{State}
-use Rattle.commands.specs.Steps.{DeskSeen}
-use Rattle.script_runs.specs.Trace.{Step}
+use Rattle.script_runs.specs.Trace.{Run, Shelved, Step}
 
 -- the number of the first site, which the others follow; the sites' desks; the messages that were sent so far
 pub record SitesSeen : Type 0 where
@@ -14,8 +14,8 @@ pub record SitesSeen : Type 0 where
   pub sent : List (List ℕ)
 
 -- the state of a run of these sites, over these files
-abbrev pub run_of : SitesSeen → Files → State
-run_of s files = record {
+abbrev pub state_of : SitesSeen → Files → State
+state_of s files = record {
   first = s.first;
   desks = map (λ d. d.texts) s.desks;
   screens = map (λ d. d.screen) s.desks;
@@ -23,18 +23,27 @@ run_of s files = record {
   files = files;
 }
 
+-- a run of these sites, over a shelf that has this
+abbrev pub run_of : SitesSeen → Shelved → Run
+run_of s has = record { state = state_of s has.files; faults = has.faults }
+
 -- over any files, the event is replied to so, and the sites go on to new; no file is asked for
 abbrev pub Replied : SitesSeen → Event → Reply → SitesSeen → Type 0
-Replied s e r new = (files : Files) → Replies (run_of s files) e untouched r (run_of new files)
+Replied s e r new = (files : Files) → Replies (state_of s files) e untouched r (state_of new files)
 
 -- the same, with the reply printed
 abbrev pub Stepped : SitesSeen → Event → List ℕ → SitesSeen → Type 0
-Stepped s e answer new = (files : Files) → Step (run_of s files) e answer (run_of new files)
+Stepped s e answer new = (has : Shelved) → Step (run_of s has) e answer (run_of new has)
 
--- So it is of the files that a shelf told before, and of those that it tells now; of some files, where it tells none. A shelf that
--- tells its files goes on to do so, and no other begins to.
-abbrev pub OverFiles : (told told' : Option Files) → (Files → Files → Type 0) → Type 0
-OverFiles None None Holds = (was now : Files) × Holds was now
-OverFiles None (Some now) Holds = ⊥
-OverFiles (Some was) None Holds = ⊥
-OverFiles (Some was) (Some now) Holds = Holds was now
+-- So it is of what a shelf had before, and of what it has now, where it tells its files; of some files, where it tells none. A shelf
+-- that tells its files goes on to do so, and no other begins to.
+abbrev pub OverBoth : (reported reported' : Option Files) → (faults faults' : ℕ) → (Shelved → Shelved → Type 0) → Type 0
+OverBoth None None faults faults' Holds =
+    (was now : Files) × Holds (record { files = was; faults = faults }) (record { files = now; faults = faults' })
+OverBoth None (Some now) faults faults' Holds = ⊥
+OverBoth (Some was) None faults faults' Holds = ⊥
+OverBoth (Some was) (Some now) faults faults' Holds =
+    Holds (record { files = was; faults = faults }) (record { files = now; faults = faults' })
+
+abbrev pub OverFiles : (reported reported' : ShelfSeen) → (Shelved → Shelved → Type 0) → Type 0
+OverFiles reported reported' = OverBoth reported.files reported'.files reported.faults reported'.faults

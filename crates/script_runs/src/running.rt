@@ -1,11 +1,11 @@
 ghost use Rattle.std.specs.Prelude.{◌≡◌, ◌≤◌, ◌⊎◌, ℕ, List, Contains, IsTrue, OnErr, OnOk, length, vec_capacity, is_ok};
 ghost use Rattle.std.specs.Prelude.{if◌then◌else◌, Err, IfSome, IfErr, is_some};
 ghost use Rattle.std.specs.Io.KnownBytes.{Keeps};
-ghost use Rattle.machine.specs.State.{new_state};
+ghost use Rattle.commands.specs.Steps.{shelf_seen};
 ghost use Rattle.script_runs.specs.Ends.{Ends, IsEnd};
 ghost use Rattle.script_runs.specs.Parts.{BreaksOff};
 ghost use Rattle.script_runs.specs.Seen.{OverFiles, run_of};
-ghost use Rattle.script_runs.specs.Trace.{Answers};
+ghost use Rattle.script_runs.specs.Trace.{Answers, begun};
 ghost use Rattle.script_runs.specs.Writing.{Puts};
 
 use crate::answers::put_refused;
@@ -48,7 +48,7 @@ fn answer_last<W: Write, S: Shelf>(
 ) -> Result<(), Refusal>
     requires { length line.now ≤ MAX_LINE }
     ensures answers { (answer : List ℕ) × Puts result output.old output.new answer
-        × OverFiles (S.files shelf.old) (S.files shelf.new) (λ was now.
+        × OverFiles (shelf_seen (S.files shelf.old) (S.faults shelf.old)) (shelf_seen (S.files shelf.new) (S.faults shelf.new)) (λ was now.
         Answers (run_of sites.old was) line.now answer (run_of sites.new now)) }
     ensures flushed { OnOk result (IsTrue output.new.flushed) }
 {
@@ -75,7 +75,7 @@ fn run_lines<R: Read + Drop, W: Write, S: Shelf>(
     sites: &mut Sites,
 ) -> Result<(), Refusal>
     requires { MAX_LINE ≤ vec_capacity line.old }
-    ensures answers { OverFiles (S.files shelf.old) (S.files shelf.new) (λ was now. IfSome input.old.left (λ script.
+    ensures answers { OverFiles (shelf_seen (S.files shelf.old) (S.faults shelf.old)) (shelf_seen (S.files shelf.new) (S.faults shelf.new)) (λ was now. IfSome input.old.left (λ script.
         Ends (is_some (S.files shelf.old)) (run_of sites.old was) script result input.new.failed
         input.new.left output.old.contents output.new.contents now)) }
     ensures errors { IfErr result IsEnd }
@@ -112,8 +112,8 @@ pub fn run<R: Read + Drop, W: Write, S: Shelf>(
     shelf: &mut S,
     settings: Settings,
 ) -> Result<(), Refusal>
-    ensures answers { OverFiles (S.files shelf.old) (S.files shelf.new) (λ was now. IfSome input.old.left (λ script.
-        Ends (is_some (S.files shelf.old)) (new_state settings.first settings.count settings.width settings.height was) script result input.new.failed
+    ensures answers { OverFiles (shelf_seen (S.files shelf.old) (S.faults shelf.old)) (shelf_seen (S.files shelf.new) (S.faults shelf.new)) (λ was now. IfSome input.old.left (λ script.
+        Ends (is_some (S.files shelf.old)) (begun settings.first settings.count settings.width settings.height was) script result input.new.failed
         input.new.left output.old.contents output.new.contents now)) }
     ensures errors { IfErr result IsEnd }
     ensures write_fault { result ≡ Err Refusal.WriteFault → IsTrue output.new.failed }

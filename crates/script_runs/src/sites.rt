@@ -4,12 +4,13 @@ ghost use Rattle.machine.specs.Events.{copy, edit, edit_reply, merge, merge_repl
 ghost use Rattle.machine.specs.Events.{take_reply};
 ghost use Rattle.machine.specs.State.{new_state};
 ghost use Rattle.shelf.specs.Files.{Files};
+ghost use Rattle.commands.specs.Steps.{shelf_seen};
 ghost use Rattle.script_events.specs.EventView.{delivery_of, edit_of, event_of, IsInRun, IsOfLine};
 ghost use Rattle.script_events.specs.EventView.{IsWithin, TypesAtMost};
 ghost use Rattle.script_events.specs.Script.{typing};
 ghost use Rattle.script_runs.specs.Answers.{reply_lines};
 ghost use Rattle.script_runs.specs.Replying.{reply_of};
-ghost use Rattle.script_runs.specs.Seen.{OverFiles, Replied, run_of};
+ghost use Rattle.script_runs.specs.Seen.{OverFiles, Replied, run_of, state_of};
 ghost use Rattle.script_runs.specs.Trace.{Answers, Step, is_silent};
 ghost use Rattle.script_runs.specs.Writing.{Puts};
 
@@ -63,7 +64,7 @@ fn is_silent(line: &[u8]) -> bool
 impl Sites {
     /// The sites as a run begins. Refused `OutOfMemory` alone.
     pub fn new(alloc: Global, settings: Settings) -> Result<Sites, Refusal>
-        ensures ok { IfOk result (λ sites. (files : Files) → run_of sites files
+        ensures ok { IfOk result (λ sites. (files : Files) → state_of sites files
             ≡ new_state settings.first settings.count settings.width settings.height files) }
         ensures errors { RefusedForMemoryAlone result }
     {
@@ -96,7 +97,7 @@ impl Sites {
     ) -> Result<(), Refusal>
         requires { length line.now ≤ MAX_LINE }
         ensures { (answer : List ℕ) × Puts result output.old output.new answer
-            × OverFiles (S.files shelf.old) (S.files shelf.new) (λ was now.
+            × OverFiles (shelf_seen (S.files shelf.old) (S.faults shelf.old)) (shelf_seen (S.files shelf.new) (S.faults shelf.new)) (λ was now.
             Answers (run_of self.old was) line.now answer (run_of self.new now)) }
     {
         if is_silent(line) {
@@ -118,7 +119,7 @@ impl Sites {
     fn step<S: Shelf>(&mut self, shelf: &mut S, event: Event) -> Reply
         requires in_run { IsInRun (length self.old.desks) event }
         requires of_line { IsOfLine MAX_LINE event }
-        ensures { OverFiles (S.files shelf.old) (S.files shelf.new) (λ was now. Step (run_of self.old was) (event_of event.entry)
+        ensures { OverFiles (shelf_seen (S.files shelf.old) (S.faults shelf.old)) (shelf_seen (S.files shelf.new) (S.faults shelf.new)) (λ was now. Step (run_of self.old was) (event_of event.entry)
             (reply_lines (length self.old.sent) (reply_of result (drop (length self.old.sent) self.new.sent)))
             (run_of self.new now)) }
     {
@@ -215,13 +216,13 @@ impl Sites {
     }
 
     // Hands a message to a desk's text.
-    fn take(&mut self, desk: usize, text: TextNo, told: &Delivery) -> Result<Took, Refusal>
+    fn take(&mut self, desk: usize, text: TextNo, delivery: &Delivery) -> Result<Took, Refusal>
         requires in_run { desk < length self.old.desks }
         requires on_desk { text ≤ MAX_TEXT }
-        requires within { IsWithin MAX_LINE told.now }
-        ensures { Replied self.old (take desk text (delivery_of told.now)) (take_reply result) self.new }
+        requires within { IsWithin MAX_LINE delivery.now }
+        ensures { Replied self.old (take desk text (delivery_of delivery.now)) (take_reply result) self.new }
     {
-        match told {
+        match delivery {
             Delivery::Sent(k) => self.take_sent(desk, text, *k),
             Delivery::Bytes(message) => {
                 self.bytes.clear();

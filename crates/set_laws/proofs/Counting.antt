@@ -9,7 +9,7 @@ use Rattle.set_laws.specs.Fronts.{greatest, of_site, front_of, file_len, greates
 use Rattle.set_laws.specs.Fronts.{greatest_stamp_of}
 use Rattle.set_laws.specs.Sets.{IsPartOf, AreIdentified}
 use Rattle.set_laws.specs.Verdict.{IsNew, FollowsOn, HasVerdict, IsAboveCauses, ready}
-use Rattle.set_laws.specs.Growing.{AreCountedOn, AreToldByCounts, HasLowerStamps, IsOwnNext}
+use Rattle.set_laws.specs.Growing.{AreCountedOn, AreDeterminedByCounts, HasLowerStamps, IsOwnNext}
 use Rattle.set_laws.proofs.Fronts.{greatest_bound, held_to_front, up_to_front, own_stamps_rise}
 use Rattle.set_laws.proofs.Fronts.{site_bound, site_reached}
 use Rattle.set_laws.proofs.Lengths.{same_file, appended_by}
@@ -125,9 +125,9 @@ stamp_of_predecessor ops op good known new p held is =
           | inl some ↦ let (x, there, on, at) = reached some in let le = lower x there on in omega arith
         ]
 
-pub told_by_counts : (ops : List Operation) (op : Operation) → Good ops → AreIdentified ops → IsNew ops op
-    → AreToldByCounts ops op
-told_by_counts ops op good known new = record {
+pub determined_by_counts : (ops : List Operation) (op : Operation) → Good ops → AreIdentified ops → IsNew ops op
+    → AreDeterminedByCounts ops op
+determined_by_counts ops op good known new = record {
   here = λ name. (here_is_char ops good known name, char_is_here ops good known name);
   follows = (front_by_follows ops op, follows_by_front ops good op);
   predecessor = stamp_of_predecessor ops op good known new;

@@ -41,7 +41,7 @@ RefusalsLast ops op more = (verdict : Verdict) → (verdict ≡ misfit) ⊎ (ver
 
 -- what counts tell of a new operation: which names are characters, whether it follows on, and the stamp of
 -- its predecessor
-pub record AreToldByCounts (ops : List Operation) (op : Operation) : Type 0 where
+pub record AreDeterminedByCounts (ops : List Operation) (op : Operation) : Type 0 where
   pub here : (name : CharName) → IsHere ops name ↔ IsChar ops name
   pub follows : FollowsOn ops op ↔ (op.seq ≤ front_of ops op.site + 1)
   pub predecessor : (p : Operation) → Contains ops p → IsPredecessor p op

@@ -28,7 +28,7 @@ pub fn unions_show_sets()
 }
 
 /// A law: good sets with equal fronts are equal, if no identity has two operations in both together.
-pub fn equal_fronts_tell_equal_sets()
+pub fn equal_fronts_have_equal_sets()
     ensures { (a b : List Operation) → Good a → Good b → AreIdentified (a ++ b) → HaveEqualFronts a b
         → AreSameSet a b }
 {}

@@ -17,6 +17,8 @@ pub struct MemoryShelf {
     pub failures: u64,
     /// How many calls go well before one is made to fail; none where no call is.
     pub good_calls: Option<u64>,
+    /// What the last write that wasn't made to fail was refused: memory; none where all were done.
+    pub refused: Option<Refusal>,
     /// What the files' memory is taken of.
     pub alloc: Global,
 }
@@ -33,6 +35,7 @@ impl MemoryShelf {
             alloc,
             failures: 0,
             good_calls: None,
+            refused: None,
         }
     }
 
@@ -61,6 +64,7 @@ impl MemoryShelf {
         ensures files { self.new.files ≡ self.old.files }
         ensures failures { Counts self.old.failures self.new.failures }
         ensures left { self.new.good_calls ≡ self.old.good_calls }
+        ensures refused { self.new.refused ≡ self.old.refused }
     {
         self.failures = self.failures.saturating_add(1);
     }
@@ -69,7 +73,7 @@ impl MemoryShelf {
     fn keep(&mut self, name: &str, bytes: &[u8]) -> Result<(), AllocError>
         ensures ok { OnOk result (files_in self.new.files name.now ≡ Some bytes.now) }
         ensures others { (other : List ℕ) → other ≢ name.now → files_in self.new.files other ≡ files_in self.old.files other }
-        ensures err { OnErr result (files_in self.new.files name.now ≡ files_in self.old.files name.now) }
+        ensures err { OnErr result ((other : List ℕ) → files_in self.new.files other ≡ files_in self.old.files other) }
         ensures failures { self.new.failures ≡ self.old.failures }
         ensures left { self.new.good_calls ≡ self.old.good_calls }
     {
@@ -85,12 +89,15 @@ impl Shelf for MemoryShelf {
 
     ghost faults = { λ m. m.failures };
 
+    ghost writes = { λ m. None };
+
     // As each shelf does; and it fails exactly where it was told to or has no such file.
     fn read(&mut self, alloc: Global, name: &str) -> Result<Vec<u8>, Refusal>
         ensures ok { IfOk result (λ bytes. files_in self.old.files name.now ≡ Some bytes.items) }
         ensures files { self.new.files ≡ self.old.files }
         ensures errors { IfErr result (λ e. (e ≡ Refusal.ReadFault) ⊎ (e ≡ Refusal.OutOfMemory)) }
         ensures fault { IsErrOf result Refusal.ReadFault → Counts self.old.failures self.new.failures }
+        ensures kept { (¬ IsErrOf result Refusal.ReadFault) → self.new.failures ≡ self.old.failures }
         ensures rises { self.old.failures ≤ self.new.failures }
         ensures told { self.old.good_calls ≡ Some 0 → IsErrOf result Refusal.ReadFault }
         ensures absent { files_in self.old.files name.now ≡ None → IsErrOf result Refusal.ReadFault }
@@ -111,19 +118,25 @@ impl Shelf for MemoryShelf {
         }
     }
 
-    // As each shelf does; and where it fails the file is as before.
+    // As each shelf does; and it fails exactly where it was told to, or memory is refused, which is kept: then the file is as
+    // before.
     fn write(&mut self, name: &str, bytes: &[u8]) -> Result<(), Refusal>
         ensures ok { OnOk result (files_in self.new.files name.now ≡ Some bytes.now) }
         ensures others { OthersStay (Some (files_in self.old.files)) (Some (files_in self.new.files)) name.now }
         ensures errors { IfErr result (λ e. e ≡ Refusal.WriteFault) }
         ensures fault { OnErr result (Counts self.old.failures self.new.failures) }
+        ensures kept { OnOk result (self.new.failures ≡ self.old.failures) }
         ensures rises { self.old.failures ≤ self.new.failures }
         ensures told { self.old.good_calls ≡ Some 0 → IsErr result }
+        ensures good { self.old.good_calls ≢ Some 0 → IsErr result → self.new.refused ≡ Some Refusal.OutOfMemory }
         ensures same { OnErr result (files_in self.new.files name.now ≡ files_in self.old.files name.now) }
         ensures left { self.new.good_calls ≡ calls_left self.old.good_calls }
     {
-        if !self.is_to_fail() && self.keep(name, bytes).is_ok() {
-            return Ok(());
+        if !self.is_to_fail() {
+            match self.keep(name, bytes) {
+                Ok(()) => return Ok(()),
+                Err(why) => self.refused = Some(Refusal::from(why)),
+            }
         }
         self.count();
         Err(Refusal::WriteFault)

@@ -3,7 +3,7 @@
 #![tactic(auto)]
 
 use command_line::{error_status, read_settings};
-use folder_shelf::FolderShelf;
+use folder_shelf::{FolderShelf, HostFolder};
 use script_io::{Input, Output};
 use script_runs::{run, status_of};
 use std::alloc::Global;
@@ -43,7 +43,7 @@ fn main(rt: HostRuntime) -> io::Result<ExitCode> {
         }
     };
     let mut output = Output::new(BufWriter::with_capacity(alloc, KEPT_BACK, io::writer(&rt))?);
-    let mut shelf = FolderShelf::new(&rt, alloc);
+    let mut shelf = FolderShelf::new(HostFolder { host: &rt }, alloc);
     let ended = match Input::new(alloc, rt.reader()) {
         Ok(mut input) => run(alloc, &mut input, &mut output, &mut shelf, settings),
         Err(why) => Err(why),

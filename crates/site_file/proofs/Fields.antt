@@ -8,7 +8,7 @@ use Rattle.byte_fields.specs.Fields.{number_spelling}
 use Rattle.byte_fields.proofs.Readers.{Took, Reads, step, some_is, number_reads, positive_reads, stretch_reads}
 use Rattle.byte_fields.proofs.Readers.{wide16, wide32, IsBytes}
 use Rattle.site_file.specs.declared.reading.Head.{Head}
-use Rattle.site_file.specs.Parts.{head_at, head_spelling, IsHead, message_at, message_spelling}
+use Rattle.site_file.specs.Parts.{head_at, head_spelling, IsHead, IsShort, message_at, message_spelling}
 
 head_split : (h : Head) (rest : List ℕ) → head_spelling h ++ rest
     ≡ number_spelling w16 h.text ++ (number_spelling w16 h.site ++ (number_spelling w32 h.count ++ rest))
@@ -47,10 +47,6 @@ head_reads = record {
       ) refl;
 }
 
--- a message whose length two bytes tell
-abbrev pub IsShort : List ℕ → Type 0
-IsShort message = length message < 2 ^ 16
-
 message_joined : (bytes x message rest : List ℕ) (len : ℕ) → bytes ≡ number_spelling w16 len ++ x
     → x ≡ message ++ rest → length message ≡ len → bytes ≡ message_spelling message ++ rest
 message_joined bytes x message rest len front after same =
@@ -77,14 +73,15 @@ message_reads = record {
       ) ((stretch_reads (length message)).again message rest refl);
 }
 
--- a message that was found after its length is the first of the bytes
+-- a message that was found after its length is the first of the bytes, and two bytes tell that
 pub message_first : {X : Type 0} (view : X → List ℕ × List ℕ) (r : Option X) (bytes rest : List ℕ) (len n : ℕ)
     → IsBytes bytes → number_at w16 bytes ≡ Some (len, rest) → n ≡ len → Finds view r (stretch_at n rest)
-    → IfSome r (λ x. bytes ≡ message_spelling (view x).0 ++ (view x).1)
+    → IfSome r (λ x. bytes ≡ message_spelling (view x).0 ++ (view x).1) × IfSome r (λ x. IsShort (view x).0)
 unfolding message_at
-message_first view None bytes rest len n fits e same found = tt
+message_first view None bytes rest len n fits e same found = (tt, tt)
 message_first view (Some x) bytes rest len n fits e same found =
     let read : message_at bytes ≡ Some (view x) =
     ap (λ (o : Option (ℕ × List ℕ)). o >>= (λ len. stretch_at len.0 len.1)) e
     ∙ ap (λ (k : ℕ). stretch_at k rest) (sym same) ∙ found in
-    (message_reads.takes bytes (view x).0 (view x).1 fits read).parts
+    let took = message_reads.takes bytes (view x).0 (view x).1 fits read in
+    (took.parts, took.in_range)

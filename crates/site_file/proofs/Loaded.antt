@@ -14,7 +14,7 @@ use Rattle.tree_order.specs.Good.{Good}
 use Rattle.set_laws.specs.Verdict.{IsNew, ready}
 use Rattle.set_laws.proofs.ByVerdict.{grows_by_verdict}
 use Rattle.texts.specs.SiteFiles.{HasSiteFile, IsSiteFileOf, entry_spelling, tag}
-use Rattle.texts.specs.Take.{Tells}
+use Rattle.texts.specs.Take.{Encodes}
 use Rattle.texts.specs.Taking.{HasTaken, HasTakenAll, IsJudged}
 use Rattle.texts.specs.Text.{IsText}
 use Rattle.texts.specs.TextState.{TextState, empty_text}
@@ -47,7 +47,7 @@ none_yet start entries is = record {
 
 pub one_more : (start now new : TextState) (entries : List ℕ) (n : ℕ) (rest message after : List ℕ)
     → SoFar start now entries n rest → rest ≡ message_spelling message ++ after
-    → (op : Operation) × Tells message op × HasTaken now op new → SoFar start new entries (n + 1) after
+    → (op : Operation) × Encodes message op × HasTaken now op new → SoFar start new entries (n + 1) after
 one_more start now new entries n rest message after s e (op, tells, has) =
     let more : List Operation → TextState = λ ops. record start { operations = ops; order = new.order } in
     let front : List ℕ = flat_map entry_spelling s.done in
@@ -178,7 +178,7 @@ module _ (start now : TextState) (entries : List ℕ) (n : ℕ) (rest : List ℕ
 
     -- and it tells one that is ready
     pub found_next : (message after : List ℕ) → n < count → message_at rest ≡ Some (message, after)
-        → (op : Operation) × Tells message op × IsJudged now op ready
+        → (op : Operation) × Encodes message op × IsJudged now op ready
     found_next message after lt found =
         let next = next_there lt in
         let again = entry_again next.op (flat_map entry_spelling next.todo) next.spelled in

@@ -11,7 +11,7 @@ use Rattle.set_laws.specs.Verdict.{Verdict, wait, misfit, low_stamp, ready}
 use Rattle.set_laws.proofs.Verdicts.{same_verdict}
 use Rattle.waiting_room.specs.declared.room.TheConstants.{MAX_WAITING}
 use Rattle.texts.specs.Draining.{Drains, IsNextOut, ends, stops, takes_in, throws_away}
-use Rattle.texts.specs.Take.{Becomes, HasFate, Takes, TakesIn, TakesShort, Tells}
+use Rattle.texts.specs.Take.{Becomes, HasFate, Takes, TakesIn, TakesShort, Encodes}
 use Rattle.texts.specs.Taking.{HasTaken, HasTakenAll, IsJudged}
 use Rattle.texts.specs.TextState.{TextState}
 use Rattle.texts.specs.declared.fate.Fate.{Fate}
@@ -79,7 +79,7 @@ by_fate t new op Ready drained dropped stopped empty takes = only_taken t new op
 -- the operation that the message tells was taken in
 pub next_taken : (t new : TextState) (message : List ℕ) (drained dropped : ℕ) (stopped : Bool) → t.waiting_room ≡ []
     → Takes t message (taken_so drained dropped stopped) new ⊎ TakesShort t message (taken_so drained dropped stopped) new
-    → (op : Operation) × Tells message op × HasTaken t op new
+    → (op : Operation) × Encodes message op × HasTaken t op new
 next_taken t new message drained dropped stopped empty (inl (inl (none, stays))) = let is = stays.0 in absurd cc
 next_taken t new message drained dropped stopped empty (inl (inr (op, fate, tells, has, becomes))) =
     (op, tells, by_fate t new op fate drained dropped stopped empty becomes)
@@ -119,7 +119,7 @@ ready_becomes t new op Ready result empty judged has (with_op, drained, dropped,
     inr (drained, dropped, false, is)
 
 pub ready_taken : (t new : TextState) (message : List ℕ) (op : Operation) (result : Result Took Refusal)
-    → t.waiting_room ≡ [] → Tells message op → IsJudged t op ready
+    → t.waiting_room ≡ [] → Encodes message op → IsJudged t op ready
     → Takes t message result new ⊎ TakesShort t message result new → IsTakenOrShort result
 ready_taken t new message op result empty tells judged (inl (inl (none, stays))) =
     absurd (none op tells.valid tells.spelled)
@@ -146,7 +146,7 @@ refused_for_memory why (inr (drained, dropped, stopped, taken)) = absurd cc
 module _ (t new : TextState) (message : List ℕ) (empty : t.waiting_room ≡ []) where
   pub taken_next : (took : Took) (r : Result (Unit {0}) Refusal)
       → Takes t message (Ok took) new ⊎ TakesShort t message (Ok took) new → OnOk r (IsTaken took)
-      → OnOk r ((op : Operation) × Tells message op × HasTaken t op new)
+      → OnOk r ((op : Operation) × Encodes message op × HasTaken t op new)
   taken_next (Taken drained dropped stopped) (Ok done) takes is =
       next_taken t new message drained dropped stopped empty takes
   taken_next Repeat (Ok done) takes is = absurd is
@@ -155,14 +155,14 @@ module _ (t new : TextState) (message : List ℕ) (empty : t.waiting_room ≡ []
 
   pub none_ready : (took : Took) (r : Result (Unit {0}) Refusal)
       → Takes t message (Ok took) new ⊎ TakesShort t message (Ok took) new
-      → IfErr r (λ e. (e ≡ BadFile) × (¬ IsTaken took)) → IsErrOf r BadFile → (op : Operation) → Tells message op
+      → IfErr r (λ e. (e ≡ BadFile) × (¬ IsTaken took)) → IsErrOf r BadFile → (op : Operation) → Encodes message op
       → IsJudged t op ready → ⊥
   none_ready took (Ok done) takes is bad op tells judged = absurd cc
   none_ready took (Err why) takes is bad op tells judged =
       not_taken took is.1 (ready_taken t new message op (Ok took) empty tells judged takes)
 
   pub none_ready_refused : (why given : Refusal) → Takes t message (Err why) new ⊎ TakesShort t message (Err why) new
-      → (why ≡ OutOfMemory → given ≡ OutOfMemory) → given ≡ BadFile → (op : Operation) → Tells message op
+      → (why ≡ OutOfMemory → given ≡ OutOfMemory) → given ≡ BadFile → (op : Operation) → Encodes message op
       → IsJudged t op ready → ⊥
   none_ready_refused why given takes short bad op tells judged =
       let memory : given ≡ OutOfMemory =

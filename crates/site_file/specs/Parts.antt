@@ -1,12 +1,13 @@
--- What private functions read of a site's file, and write.
-use Rattle.std.specs.Prelude.{◌≡◌, ℕ, ◌^◌, ◌<◌, List, ◌++◌, length, All, Option, Some}
+-- The parts of a site's file.
+use Rattle.std.specs.Prelude.{◌≡◌, ℕ, ◌^◌, ◌<◌, ◌≤◌, List, ◌++◌, length, All, Option, Some}
 use Rattle.std.specs.Int.{w16, w32}
 use Rattle.std.specs.List.{flat_map}
 use Rattle.operations.specs.Operation.{Operation}
 use Rattle.byte_fields.specs.Fields.{◌>>=◌, number_at, positive_at, stretch_at}
 use Rattle.byte_fields.specs.Fields.{number_spelling}
 use Rattle.operations.specs.Spelling.{HasSpelling}
-use Rattle.texts.specs.SiteFiles.{IsNumber, entry_spelling}
+use Rattle.texts.specs.SiteFiles.{IsNumber, entry_spelling, tag}
+use Rattle.texts.specs.declared.TheConstants.{MAX_KEPT}
 use Rattle.texts.specs.declared.took.Took.{Took}
 use Rattle.texts.specs.declared.took.Took.TheVariants.{Taken, Repeat, Waits}
 use Rattle.site_file.specs.declared.reading.Head.{Head}
@@ -38,6 +39,29 @@ unfoldable pub message_at : List ℕ → Option (List ℕ × List ℕ)
 message_at bytes = do
   len ← number_at w16 bytes
   stretch_at len.0 len.1
+
+-- a message whose length two bytes tell
+abbrev pub IsShort : List ℕ → Type 0
+IsShort message = length message < 2 ^ 16
+
+-- the bytes are so many messages, each after its length
+pub record AreMessages (messages : List (List ℕ)) (count : ℕ) (bytes : List ℕ) : Type 0 where
+  pub counted : length messages ≡ count
+  pub short : All IsShort messages
+  pub parts : bytes ≡ flat_map message_spelling messages
+
+-- The bytes are cut as a site's file is, whatever its messages tell: the tag, the numbers of a text and of a site, and as many
+-- messages as it says, each after its length.
+pub record IsCutAsFile (file : List ℕ) : Type 0 where
+  pub text : ℕ
+  pub site : ℕ
+  pub messages : List (List ℕ)
+  pub text_number : IsNumber text
+  pub site_number : IsNumber site
+  pub few : length messages ≤ MAX_KEPT
+  pub short : All IsShort messages
+  pub parts : file ≡ tag ++ number_spelling w16 text ++ number_spelling w16 site ++ number_spelling w32 (length messages)
+      ++ flat_map message_spelling messages
 
 -- the bytes are the messages of so many operations
 pub record AreEntries (ops : List Operation) (count : ℕ) (bytes : List ℕ) : Type 0 where

@@ -2,12 +2,12 @@ ghost use Rattle.std.specs.Prelude.{◌≡◌, ◌⊎◌, ℕ, List, [], IfErr, 
 ghost use Rattle.operations.specs.Operation.{Operation};
 ghost use Rattle.set_laws.specs.Verdict.{ready};
 ghost use Rattle.texts.specs.SiteFiles.{HasSiteFile, IsNoSiteFile, IsSiteFileOf};
-ghost use Rattle.texts.specs.Take.{Tells};
+ghost use Rattle.texts.specs.Take.{Encodes};
 ghost use Rattle.texts.specs.Taking.{HasTaken, HasTakenAll, IsJudged};
 ghost use Rattle.texts.specs.TextState.{empty_text};
-ghost use Rattle.site_file.specs.Parts.{AreEntries, IsTaken};
+ghost use Rattle.site_file.specs.Parts.{AreEntries, IsCutAsFile, IsTaken};
 
-use crate::reading::{Head, head_at, message_at, rest_of_tag};
+use crate::reading::{Head, are_messages, head_at, message_at, rest_of_tag};
 use looks::Refusal;
 use std::alloc::Global;
 use texts::{Replica, Took};
@@ -37,8 +37,8 @@ fn only_taken(took: Took) -> Result<(), Refusal>
 // Takes in the operation of a message. Refused `BadFile` where it tells none that is ready.
 fn take_next(replica: &mut Replica, message: &[u8]) -> Result<(), Refusal>
     requires { replica.old.waiting_room ≡ [] }
-    ensures ok { OnOk result ((op : Operation) × Tells message.now op × HasTaken replica.old op replica.new) }
-    ensures refused { IsErrOf result Refusal.BadFile → (op : Operation) → Tells message.now op
+    ensures ok { OnOk result ((op : Operation) × Encodes message.now op × HasTaken replica.old op replica.new) }
+    ensures refused { IsErrOf result Refusal.BadFile → (op : Operation) → Encodes message.now op
         → IsJudged replica.old op ready → ⊥ }
     ensures errors { IfErr result (λ e. (e ≡ Refusal.BadFile) ⊎ (e ≡ Refusal.OutOfMemory)) }
 {
@@ -91,13 +91,16 @@ fn text_of(alloc: Global, head: Head, entries: &[u8]) -> Result<Replica, Refusal
 /// The text of a site's file, as its site kept it: with the same operations, taken in in the same order. Nothing waits
 /// for it, and nothing was cut last.
 ///
-/// Refused `BadFile` where no text of a site has this file; `OutOfMemory` may come in the place of that and of all else. The time, and the
-/// memory, are those of taking the messages in. This project's own.
+/// Refused `BadFile` where no text of a site has this file. Where the file isn't cut as one this is told before memory is
+/// asked for; where a message is at fault, `OutOfMemory` may come in the place of it, as of all else. The time, and the memory,
+/// are those of taking the messages in. This project's own.
 pub fn load_site(alloc: Global, bytes: &[u8]) -> Result<Replica, Refusal>
     // What is loaded has this file, and nothing else was done to it.
     ensures ok { IfOk result (λ r. IsSiteFileOf r.text r.site r.operations bytes.now
         × HasTakenAll (empty_text r.text r.site) r.operations r) }
     ensures refused { IsErrOf result Refusal.BadFile → IsNoSiteFile bytes.now }
+    // Whether there is memory or not.
+    ensures short { IsErrOf result Refusal.OutOfMemory → IsCutAsFile bytes.now }
     ensures errors { IfErr result (λ e. (e ≡ Refusal.BadFile) ⊎ (e ≡ Refusal.OutOfMemory)) }
 {
     let Some(rest) = rest_of_tag(bytes) else {
@@ -106,5 +109,8 @@ pub fn load_site(alloc: Global, bytes: &[u8]) -> Result<Replica, Refusal>
     let Some((head, entries)) = head_at(rest) else {
         return Err(Refusal::BadFile);
     };
+    if !are_messages(head.count, entries) {
+        return Err(Refusal::BadFile);
+    }
     text_of(alloc, head, entries)
 }

@@ -1,10 +1,10 @@
 //! The parts of a site's file, each with the bytes after it.
 
-ghost use Rattle.std.specs.Prelude.{◌≡◌, ◌≢◌, ◌++◌, take, IfSome, MatchOption};
+ghost use Rattle.std.specs.Prelude.{◌≡◌, ◌≢◌, ◌++◌, ◌↔◌, List, ℕ, take, IfSome, IsTrue, MatchOption};
 ghost use Rattle.std.specs.Int.{w16, w32};
 ghost use Rattle.byte_fields.specs.Fields.{Finds, number_at, positive_at, stretch_at};
 ghost use Rattle.texts.specs.SiteFiles.{tag};
-ghost use Rattle.site_file.specs.Parts.{head_at, message_at, message_spelling};
+ghost use Rattle.site_file.specs.Parts.{AreMessages, IsShort, head_at, message_at, message_spelling};
 
 use byte_fields::{site_at, stretch_at, text_at, u16_at, u32_at};
 use char_files::{SiteNo, TextNo};
@@ -47,7 +47,22 @@ pub(crate) fn head_at(bytes: &[u8]) -> Option<(Head, &[u8])>
 pub(crate) fn message_at(bytes: &[u8]) -> Option<(&[u8], &[u8])>
     ensures found { Finds (λ x. (x.0.now, x.1.now)) result (message_at bytes.now) }
     ensures parts { IfSome result (λ x. bytes.now ≡ message_spelling x.0.now ++ x.1.now) }
+    ensures short { IfSome result (λ x. IsShort x.0.now) }
 {
     let (len, rest) = u16_at(bytes)?;
     stretch_at(usize::from(len), rest)
+}
+
+/// Whether these bytes are so many messages, each after its length. No message is read.
+pub(crate) fn are_messages(count: u32, bytes: &[u8]) -> bool
+    ensures { IsTrue result ↔ ((messages : List (List ℕ)) × AreMessages messages count bytes.now) }
+{
+    let mut rest = bytes;
+    for _ in 0..count {
+        let Some((_message, after)) = message_at(rest) else {
+            return false;
+        };
+        rest = after;
+    }
+    rest.is_empty()
 }

@@ -11,7 +11,7 @@ use Rattle.char_files.specs.declared.name.Anchor.TheVariants.{At}
 use Rattle.operations.specs.Operation.{Operation}
 use Rattle.tree_order.specs.Order.{IsOrder}
 use Rattle.tree_order.specs.Registers.{Atom}
-use Rattle.tree_order.specs.RegisterLaws.{TellRegisters}
+use Rattle.tree_order.specs.RegisterLaws.{FollowRegisters}
 use Rattle.tree_order.specs.Shown.{is_visible, up_to, IsPlace}
 use Rattle.piece_list.specs.Shown.{AreShownTo}
 use Rattle.piece_list.specs.Spelled.{shown_chars, names_of_atoms, HasName}
@@ -45,7 +45,7 @@ module _ (ops : List Operation) (c : CharName) where
   both_more false k ks d ds same = same
 
   -- up to the name there is it alone
-  at_front : (k : Atom) (atoms : List Atom) → is_it k ≡ true → TellRegisters ops k → Stands (k ∷ atoms)
+  at_front : (k : Atom) (atoms : List Atom) → is_it k ≡ true → FollowRegisters ops k → Stands (k ∷ atoms)
   at_front k atoms e tell = record {
     at = 0;
     is = ap (λ (d : CharName). Some d) (named k e);
@@ -56,7 +56,7 @@ module _ (ops : List Operation) (c : CharName) where
   }
 
   -- or it stands further after
-  after : (k : Atom) (atoms : List Atom) → is_it k ≡ false → TellRegisters ops k → Stands atoms → Stands (k ∷ atoms)
+  after : (k : Atom) (atoms : List Atom) → is_it k ≡ false → FollowRegisters ops k → Stands atoms → Stands (k ∷ atoms)
   after k atoms e tell rest = record {
     at = suc rest.at;
     is = rest.is;
@@ -77,17 +77,17 @@ module _ (ops : List Operation) (c : CharName) where
       absurd (both_ways _ e (and_from _ _ (eq-eqb _ _ (ap (λ (d : CharName). d.site) same)) (eq-eqb _ _ (ap (λ (d : CharName). d.off) same))))
   has_rest k atoms e (suc i, lt, same) = (i, omega arith, same)
 
-  stands : (atoms : List Atom) → All (TellRegisters ops) atoms → HasName atoms c → Stands atoms
+  stands : (atoms : List Atom) → All (FollowRegisters ops) atoms → HasName atoms c → Stands atoms
   stands [] all (i, lt, e) = absurd (omega arith)
   stands (k ∷ atoms) all has =
       elim (cases_Bool (is_it k)) [
-        | inl e ↦ at_front k atoms e (All-head (TellRegisters ops) k atoms all)
-        | inr e ↦ after k atoms e (All-head (TellRegisters ops) k atoms all)
-            (stands atoms (All-tail (TellRegisters ops) k atoms all) (has_rest k atoms e has))
+        | inl e ↦ at_front k atoms e (All-head (FollowRegisters ops) k atoms all)
+        | inr e ↦ after k atoms e (All-head (FollowRegisters ops) k atoms all)
+            (stands atoms (All-tail (FollowRegisters ops) k atoms all) (has_rest k atoms e has))
       ]
 
 -- so its place in the order is told
-pub place_is : (ops : List Operation) (atoms : List Atom) → IsOrder ops (names_of_atoms atoms) → All (TellRegisters ops) atoms
+pub place_is : (ops : List Operation) (atoms : List Atom) → IsOrder ops (names_of_atoms atoms) → All (FollowRegisters ops) atoms
     → (c : CharName) (r : Option ℕ) → (IsSome r → HasName atoms c) → IfSome r (AreShownTo atoms c) → IfSome r (IsPlace ops (At c))
 place_is ops atoms order all c None has count = count
 place_is ops atoms order all c (Some n) has count =

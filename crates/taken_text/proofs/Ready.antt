@@ -13,7 +13,7 @@ use Rattle.set_laws.specs.Growing.{AreCountedOn}
 use Rattle.set_laws.specs.Sets.{AreIdentified}
 use Rattle.set_laws.specs.Verdict.{HasVerdict, IsNew, ready}
 use Rattle.piece_list.specs.Spelled.{HasName}
-use Rattle.set_laws.proofs.Counting.{counted_on, told_by_counts}
+use Rattle.set_laws.proofs.Counting.{counted_on, determined_by_counts}
 use Rattle.set_laws.proofs.Fronts.{lemma_are_held_to_the_front}
 use Rattle.set_laws.proofs.ByVerdict.{grows_by_verdict}
 
@@ -36,7 +36,7 @@ module _ (ops : List Operation) (op : Operation) (good : Good ops) (identified :
   -- it is the site's next one
   pub is_next : op.seq ≡ front_of ops op.site + 1
   is_next =
-      let low : op.seq ≤ front_of ops op.site + 1 = ((told_by_counts ops op good identified new).follows).0 is.0 in
+      let low : op.seq ≤ front_of ops op.site + 1 = ((determined_by_counts ops op good identified new).follows).0 is.0 in
       elim (cases_lt (front_of ops op.site) op.seq) [
         | inl past ↦ omega (arith, low, past)
         | inr within ↦ absurd (new.unheld ((lemma_are_held_to_the_front ops good identified op.site op.seq).1 (new.counted, within)))
@@ -51,10 +51,10 @@ module _ (ops : List Operation) (op : Operation) (good : Good ops) (identified :
 
   -- and so in the list of all characters
   pub mentioned_atoms : (atoms : List Atom) → AreAtoms ops atoms → (c : CharName) → Mentions op c → HasName atoms c
-  mentioned_atoms atoms are c h = (are.order.each c).1 (((told_by_counts ops op good identified new).here c).0 (mentioned_here c h))
+  mentioned_atoms atoms are c h = (are.order.each c).1 (((determined_by_counts ops op good identified new).here c).0 (mentioned_here c h))
 
   -- names after the end of the site's file aren't
   pub none_after : (atoms : List Atom) → AreAtoms ops atoms → (c : CharName) → file_len ops c.site ≤ c.off → HasName atoms c → ⊥
   none_after atoms are c after h =
-      let here = ((told_by_counts ops op good identified new).here c).1 ((are.order.each c).0 h) in
+      let here = ((determined_by_counts ops op good identified new).here c).1 ((are.order.each c).0 h) in
       omega (arith, here, after)

@@ -11,10 +11,10 @@ use Rattle.tree_order.specs.Good.{Good}
 use Rattle.tree_order.specs.Looks.{HasLooks}
 use Rattle.tree_order.specs.Order.{IsOrder}
 use Rattle.tree_order.specs.Registers.{Atom, HasRegisters, AreAtoms}
-use Rattle.tree_order.specs.RegisterLaws.{TellRegisters}
+use Rattle.tree_order.specs.RegisterLaws.{FollowRegisters}
 use Rattle.tree_order.specs.Shown.{AreChars, IsShown, is_visible}
 use Rattle.tree_order.specs.Tree.{HasByte, byte_by}
-use Rattle.tree_order.proofs.RegistersTell.{tell}
+use Rattle.tree_order.proofs.RegistersDetermine.{tell}
 use Rattle.piece_list.specs.Spelled.{spelled, shown_chars}
 use Rattle.piece_list.specs.declared.piece.Piece.{Piece}
 use Rattle.taken_text.specs.Taken.{IsTaken, HoldBytes, IsDefined, char_in, chars_shown, seen_in}
@@ -35,14 +35,14 @@ all_bytes ops files hold (k ∷ atoms) all =
     All-cons (λ (j : Atom). HasByte ops (char_in files j).name (char_in files j).byte) k atoms (has_byte ops files hold k (All-head (HasRegisters ops) k atoms all)) (all_bytes ops files hold atoms (All-tail (HasRegisters ops) k atoms all))
 
 -- the registers of all tell what is shown
-pub all_tell : (ops : List Operation) → Good ops → (atoms : List Atom) → All (HasRegisters ops) atoms → All (TellRegisters ops) atoms
-all_tell ops good [] all = All-nil (TellRegisters ops)
-all_tell ops good (k ∷ atoms) all = All-cons (TellRegisters ops) k atoms (tell ops good k (All-head (HasRegisters ops) k atoms all)) (all_tell ops good atoms (All-tail (HasRegisters ops) k atoms all))
+pub all_tell : (ops : List Operation) → Good ops → (atoms : List Atom) → All (HasRegisters ops) atoms → All (FollowRegisters ops) atoms
+all_tell ops good [] all = All-nil (FollowRegisters ops)
+all_tell ops good (k ∷ atoms) all = All-cons (FollowRegisters ops) k atoms (tell ops good k (All-head (HasRegisters ops) k atoms all)) (all_tell ops good atoms (All-tail (HasRegisters ops) k atoms all))
 
-all_looks : (ops : List Operation) (files : Files) (atoms : List Atom) → All (TellRegisters ops) atoms → All (λ (k : Atom). HasLooks ops (char_in files k).name (char_in files k).looks) atoms
+all_looks : (ops : List Operation) (files : Files) (atoms : List Atom) → All (FollowRegisters ops) atoms → All (λ (k : Atom). HasLooks ops (char_in files k).name (char_in files k).looks) atoms
 all_looks ops files [] all = All-nil _
 all_looks ops files (k ∷ atoms) all =
-    All-cons (λ (j : Atom). HasLooks ops (char_in files j).name (char_in files j).looks) k atoms (All-head (TellRegisters ops) k atoms all).looks (all_looks ops files atoms (All-tail (TellRegisters ops) k atoms all))
+    All-cons (λ (j : Atom). HasLooks ops (char_in files j).name (char_in files j).looks) k atoms (All-head (FollowRegisters ops) k atoms all).looks (all_looks ops files atoms (All-tail (FollowRegisters ops) k atoms all))
 
 -- the atoms are the characters of the operations
 pub chars_of_taken : (ops : List Operation) (items : List (ℕ × Piece)) (files : Files) → IsTaken ops items files
@@ -54,12 +54,12 @@ chars_of_taken ops items files t = record {
 }
 
 -- what is shown of the pieces is what is shown
-pub shown_of_atoms : (ops : List Operation) (files : Files) (atoms : List Atom) → All (TellRegisters ops) atoms
+pub shown_of_atoms : (ops : List Operation) (files : Files) (atoms : List Atom) → All (FollowRegisters ops) atoms
     → filter (λ (c : Char). is_visible ops c.name) (map (char_in files) atoms) ≡ map (char_in files) (shown_chars atoms)
 shown_of_atoms ops files [] all = refl
 shown_of_atoms ops files (k ∷ atoms) all =
-    let here = (All-head (TellRegisters ops) k atoms all).visible in
-    let rest = shown_of_atoms ops files atoms (All-tail (TellRegisters ops) k atoms all) in
+    let here = (All-head (FollowRegisters ops) k atoms all).visible in
+    let rest = shown_of_atoms ops files atoms (All-tail (FollowRegisters ops) k atoms all) in
     rw here (go (not k.hidden.value) rest)
   where
     go : (b : Bool) → filter (λ (c : Char). is_visible ops c.name) (map (char_in files) atoms) ≡ map (char_in files) (shown_chars atoms)

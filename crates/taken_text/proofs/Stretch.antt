@@ -12,7 +12,7 @@ use Rattle.char_files.specs.declared.character.Char.{Char}
 use Rattle.operations.specs.NameSet.{names_of, names_in, set_of}
 use Rattle.operations.specs.Operation.{Operation}
 use Rattle.tree_order.specs.Registers.{Atom}
-use Rattle.piece_list.specs.RunCuts.{AreWithin}
+use Rattle.piece_list.specs.RunSplits.{AreWithin}
 use Rattle.piece_list.specs.Shown.{Appearance, appearance_of, appearance_in, appearances_in}
 use Rattle.piece_list.specs.Spelled.{spelled, shown_chars}
 use Rattle.piece_list.specs.declared.piece.Piece.{Piece}

@@ -13,12 +13,12 @@ use Rattle.tree_order.specs.Insertion.{HasCauseBy}
 use Rattle.tree_order.specs.RegisterLaws.{InsertsNone}
 use Rattle.tree_order.specs.Registers.{Atom, AreAtoms, atom_by, atom_after}
 use Rattle.set_laws.specs.Fronts.{file_len}
-use Rattle.set_laws.specs.Growing.{AreToldByCounts}
+use Rattle.set_laws.specs.Growing.{AreDeterminedByCounts}
 use Rattle.set_laws.specs.Sets.{KeepsCauses}
 use Rattle.set_laws.specs.Verdict.{HasVerdict, IsNew, ready}
 use Rattle.tree_order.proofs.RegisterLists.{atom_list}
 use Rattle.set_laws.proofs.Preceding.{causes_kept_with_one}
-use Rattle.set_laws.proofs.Counting.{told_by_counts}
+use Rattle.set_laws.proofs.Counting.{determined_by_counts}
 use Rattle.piece_list.proofs.Order.{are_atoms, first_atoms_piece}
 use Rattle.piece_list.specs.Laws.{IsRunOf}
 use Rattle.piece_list.specs.Pieces.{chars_of, piece_of}
@@ -41,8 +41,8 @@ both_ok (Ok x) P Q R f h g = f h g
 both_ok (Err e) P Q R f h g = tt
 
 module _ (ops : List Operation) (op : Operation) (items : List (ℕ × Piece)) (files : Files) (taken : IsTaken ops items files) (new : IsNew ops op) (is : HasVerdict ops op ready) where
-  told : AreToldByCounts ops op
-  told = told_by_counts ops op taken.good taken.identified new
+  told : AreDeterminedByCounts ops op
+  told = determined_by_counts ops op taken.good taken.identified new
 
   -- causes come first
   larger_in_order : KeepsCauses (ops ++ op ∷ [])

@@ -8,7 +8,7 @@ use Rattle.char_files.specs.CharName.{CharName}
 use Rattle.operations.specs.NameSet.{Range, IsAmong}
 use Rattle.operations.specs.Operation.{Operation}
 use Rattle.tree_order.specs.Registers.{Atom, AreAtoms}
-use Rattle.tree_order.specs.RegisterLaws.{TellRegisters}
+use Rattle.tree_order.specs.RegisterLaws.{FollowRegisters}
 use Rattle.tree_order.specs.Shown.{is_visible}
 use Rattle.tree_order.specs.Tree.{IsChar}
 use Rattle.piece_list.specs.Changing.{AreHere}
@@ -36,14 +36,14 @@ true_unless true out = absurd (out refl)
 true_unless false out = refl
 
 -- of operations and their atoms
-module _ (ops : List Operation) (atoms : List Atom) (are : AreAtoms ops atoms) (all : All (TellRegisters ops) atoms) where
+module _ (ops : List Operation) (atoms : List Atom) (are : AreAtoms ops atoms) (all : All (FollowRegisters ops) atoms) where
   -- characters are here
   pub chars_are_here : (names : List Range) → ((c : CharName) → IsAmong names c → IsChar ops c) → AreHere names atoms
   chars_are_here names chars = λ c named. (are.order.each c).1 (chars c named)
 
   -- a character is visible unless it is hidden
   told : (k : Atom) → Contains atoms k → is_visible ops k.name ≡ not k.hidden.value
-  told k (i, lt, is) = (subst (TellRegisters ops) is (all i k lt)).visible
+  told k (i, lt, is) = (subst (FollowRegisters ops) is (all i k lt)).visible
 
   pub all_visible : (names : List Range) → AreHere names atoms → (hidden : Bool)
       → (IsTrue hidden ↔ ((k : Atom) × Contains atoms k × IsAmong names k.name × IsTrue k.hidden.value))

@@ -6,7 +6,7 @@ ghost use Rattle.looks.specs.Refusal.{RefusedForMemoryAlone};
 ghost use Rattle.char_files.specs.CharName.{CharName};
 ghost use Rattle.operations.specs.NameSet.{IsAmong};
 ghost use Rattle.operations.specs.declared.name_set.TheConstants.{MAX_RANGES};
-ghost use Rattle.piece_list.specs.RunCuts.{AreWithin};
+ghost use Rattle.piece_list.specs.RunSplits.{AreWithin};
 ghost use Rattle.tree_order.specs.Shown.{is_visible};
 ghost use Rattle.tree_order.specs.Tree.{IsChar};
 ghost use Rattle.taken_text.specs.Shown.{range_of_run};

@@ -1,10 +1,10 @@
 //! What no clause says: which bytes the folder's files have, and what the file system answers.
 use faulty::{Faulty, Step};
-use folder_shelf::{FolderShelf, MAX_FILE_LEN};
+use folder_shelf::{FolderShelf, HostFolder, HostShelf, MAX_FILE_LEN};
 use looks::Refusal;
 use shelf::Shelf;
 use std::alloc::Global;
-use std::fs::File;
+use std::fs::{File, Files};
 use std::os::unix::fs::symlink;
 use std::test::Fail;
 
@@ -15,6 +15,11 @@ use std::{fs, io};
 // A failure that tells what isn't right.
 fn is(right: bool, what: &'static str) -> Result<(), Fail> {
     if right { Ok(()) } else { Err(what.into()) }
+}
+
+// The shelf of this system's current folder.
+fn shelf_of<R: Files + Drop>(host: R, alloc: Global) -> HostShelf<R> {
+    FolderShelf::new(HostFolder { host }, alloc)
 }
 
 // Whether the shelf has a file of these bytes.
@@ -67,12 +72,7 @@ static LONG: [u8; 300_000] = [0xA5; 300_000];
 #[test]
 fn files_come_back(rt: HostRuntime) -> Result<(), Fail> {
     let name = "folder tests: 1 file, 31 bytes~";
-    writes_and_reads(
-        &mut FolderShelf::new(&rt, rt.alloc()),
-        rt.alloc(),
-        name,
-        &LONG,
-    )?;
+    writes_and_reads(&mut shelf_of(&rt, rt.alloc()), rt.alloc(), name, &LONG)?;
     fs::remove_file(&rt, name)?;
     nothing_is_left(&rt)
 }
@@ -103,13 +103,13 @@ fn refuses_names<S: Shelf>(shelf: &mut S, alloc: Global) -> Result<(), Fail> {
 
 #[test]
 fn other_names_are_refused(rt: HostRuntime) -> Result<(), Fail> {
-    refuses_names(&mut FolderShelf::new(&rt, rt.alloc()), rt.alloc())
+    refuses_names(&mut shelf_of(&rt, rt.alloc()), rt.alloc())
 }
 
 #[test]
 fn an_absent_file_and_a_folder_are_refused(rt: HostRuntime) -> Result<(), Fail> {
     let name = "folder tests: a folder";
-    let mut shelf = FolderShelf::new(&rt, rt.alloc());
+    let mut shelf = shelf_of(&rt, rt.alloc());
     let absent = keeps_from_reading(&mut shelf, rt.alloc(), name);
     let made = fs::create_dir(&rt, name).is_ok();
     let read = keeps_from_reading(&mut shelf, rt.alloc(), name);
@@ -129,7 +129,7 @@ fn make_long_file(host: &HostRuntime, name: &str) -> io::Result<()> {
 fn a_long_file_and_a_link_are_refused(rt: HostRuntime) -> Result<(), Fail> {
     let (long, link) = ("folder tests: a long file", "folder tests: a link");
     make_long_file(&rt, long)?;
-    let mut shelf = FolderShelf::new(&rt, rt.alloc());
+    let mut shelf = shelf_of(&rt, rt.alloc());
     let refused = keeps_from_reading(&mut shelf, rt.alloc(), long);
     fs::write(&rt, long, "text")?;
     symlink(&rt, long, link)?;
@@ -144,14 +144,14 @@ fn a_long_file_and_a_link_are_refused(rt: HostRuntime) -> Result<(), Fail> {
 // Each step of a write that fails leaves the file as it was; a read that fails after its first piece gives no bytes.
 fn faults_are_told(rt: &HostRuntime, name: &str) -> Result<(), Fail> {
     for step in [Step::Write, Step::Sync, Step::Rename] {
-        let mut shelf = FolderShelf::new(Faulty { host: rt, step }, rt.alloc());
+        let mut shelf = shelf_of(Faulty { host: rt, step }, rt.alloc());
         let refused = keeps_from_writing(&mut shelf, name);
         let same = has(&mut shelf, rt.alloc(), name, &LONG);
         is(refused && same, "a write that fails")?;
         nothing_is_left(rt)?;
     }
     let step = Step::Read;
-    let mut shelf = FolderShelf::new(Faulty { host: rt, step }, rt.alloc());
+    let mut shelf = shelf_of(Faulty { host: rt, step }, rt.alloc());
     let refused = keeps_from_reading(&mut shelf, rt.alloc(), name);
     is(refused, "a read that fails")
 }

@@ -11,7 +11,7 @@ use Rattle.looks.specs.declared.refusal.Refusal.{Refusal}
 use Rattle.looks.specs.declared.refusal.Refusal.TheVariants.{OutOfMemory, FileSpent}
 use Rattle.looks.specs.Refusal.{RefusedForMemoryAlone}
 use Rattle.char_files.specs.Stretch.{Item, items_of}
-use Rattle.operations.specs.Reading.{LooksAreTold}
+use Rattle.operations.specs.Reading.{LooksAreDetermined}
 use Rattle.text_file.specs.declared.loading.Head.{Head}
 use Rattle.text_file.specs.Heads.{head_spelling, IsHead, AreHeads, total_of, cut, AreSpelled}
 use Rattle.text_file.proofs.Cuts.{run_items}
@@ -49,7 +49,7 @@ todo_all heads chars text none runs s = record {
   ends = ap (λ (t : List Item). t ++ items_of (cut runs chars)) none;
 }
 
-module _ (told : LooksAreTold) (whole text : List Item) (rest left : List ℕ) (h : Head) (after : List ℕ)
+module _ (told : LooksAreDetermined) (whole text : List Item) (rest left : List ℕ) (h : Head) (after : List ℕ)
     (is : IsHead h) (e : rest ≡ head_spelling h ++ after) where
   -- the run that was read is the first one to do
   next_is : (t : Todo whole text rest left) → (more : List Head)

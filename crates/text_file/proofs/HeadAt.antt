@@ -5,7 +5,7 @@ use Rattle.std.specs.Int.{w32}
 use Rattle.std.proofs.lemmas.List.{drop_at, take-append-drop, take_rest}
 use Rattle.looks.specs.declared.looks.Looks.{Looks}
 use Rattle.looks.specs.Looks.{IsLooks}
-use Rattle.operations.specs.Reading.{LooksAreTold}
+use Rattle.operations.specs.Reading.{LooksAreDetermined}
 use Rattle.byte_fields.specs.Fields.{number_spelling}
 use Rattle.operations.specs.Spelling.{looks_spelling}
 use Rattle.text_file.specs.declared.loading.Head.{Head}
@@ -68,7 +68,7 @@ head_there bytes rest looks n len front back =
     ∙ sym (append_assoc (looks_spelling looks) (number_spelling w32 len) rest)
 
 -- the run that stands there may not come next
-pub none_next : (told : LooksAreTold) (last : Option Looks) (left : ℕ) (bytes : List ℕ) (h : Head)
+pub none_next : (told : LooksAreDetermined) (last : Option Looks) (left : ℕ) (bytes : List ℕ) (h : Head)
     (rest : List ℕ) → IsHead h → bytes ≡ head_spelling h ++ rest → (left < h.len) ⊎ (last ≡ Some h.looks)
     → NoneNext last left bytes
 none_next told last left bytes h rest h_is f why g more g_is apart fits e =

@@ -5,7 +5,7 @@ use Rattle.std.specs.Int.{w32}
 use Rattle.std.specs.List.{flat_map}
 use Rattle.std.proofs.lemmas.List.{flat_map_more, append-nil}
 use Rattle.looks.specs.declared.looks.Looks.{Looks}
-use Rattle.operations.specs.Reading.{LooksAreTold}
+use Rattle.operations.specs.Reading.{LooksAreDetermined}
 use Rattle.byte_fields.specs.Fields.{number_spelling}
 use Rattle.operations.specs.Spelling.{looks_spelling}
 use Rattle.text_file.specs.declared.TheConstants.{MAX_TEXT}
@@ -68,7 +68,7 @@ head_longer h rest =
       number_len h.len,
     )
 
-module _ (told : LooksAreTold) where
+module _ (told : LooksAreDetermined) where
   pub head_told : (h g : Head) (x y : List ℕ) → IsHead h → IsHead g
       → head_spelling h ++ x ≡ head_spelling g ++ y → (h ≡ g) × (x ≡ y)
   head_told h g x y h_is g_is e =
@@ -145,7 +145,7 @@ NoneNext last left bytes =
     (h : Head) (rest : List ℕ) → IsHead h → last ≢ Some h.looks → h.len ≤ left
     → bytes ≡ head_spelling h ++ rest → ⊥
 
-pub none_more : (told : LooksAreTold) (bytes : List ℕ) (n left count : ℕ) (last : Option Looks)
+pub none_more : (told : LooksAreDetermined) (bytes : List ℕ) (n left count : ℕ) (last : Option Looks)
     (rest : List ℕ) → SoFar bytes n left last rest → n < count → NoneNext last left rest
     → (heads : List Head) (more : List ℕ) → AreHeads None heads → length heads ≡ count
     → total_of heads ≤ MAX_TEXT → bytes ≡ flat_map head_spelling heads ++ more → ⊥
@@ -191,7 +191,7 @@ count_told heads chars bytes count rest r fits e =
     (both.0, sym both.1)
 
 -- after runs that were read, as many as there are, stand how many characters there are, and these
-pub total_told : (told : LooksAreTold) (heads : List Head) (chars rest : List ℕ) (done : List Head)
+pub total_told : (told : LooksAreDetermined) (heads : List Head) (chars rest : List ℕ) (done : List Head)
     (after : List ℕ) → AreHeads None heads → AreHeads None done → length done ≡ length heads
     → rest ≡ flat_map head_spelling heads ++ (number_spelling w32 (length chars) ++ chars)
     → rest ≡ flat_map head_spelling done ++ after
@@ -210,7 +210,7 @@ total_told told heads chars rest done after valid done_are counted e f =
 
 -- ---- parts that are none
 
-module _ (told : LooksAreTold) (bytes : List ℕ) (count : ℕ) (rest : List ℕ) (fits : count < 2 ^ 32)
+module _ (told : LooksAreDetermined) (bytes : List ℕ) (count : ℕ) (rest : List ℕ) (fits : count < 2 ^ 32)
     (first : bytes ≡ number_spelling w32 count ++ rest) where
   -- no runs can be read after the count
   pub no_heads : ((heads : List Head) (more : List ℕ) → AreHeads None heads → length heads ≡ count

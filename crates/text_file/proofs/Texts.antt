@@ -13,7 +13,7 @@ use Rattle.looks.specs.Refusal.{RefusedForMemoryAlone}
 use Rattle.char_files.specs.Plain.{plain_items}
 use Rattle.char_files.specs.Runs.{maximal_runs, RunsAreMaximal, NoOtherRuns}
 use Rattle.char_files.specs.Stretch.{Stretch, Item, items_of}
-use Rattle.operations.specs.Reading.{LooksAreTold}
+use Rattle.operations.specs.Reading.{LooksAreDetermined}
 use Rattle.byte_fields.specs.Fields.{number_spelling}
 use Rattle.text_file.specs.declared.TheConstants.{MAX_TEXT}
 use Rattle.text_file.specs.declared.loading.Head.{Head}
@@ -208,7 +208,7 @@ plain_refused file r untagged long = (
 
 -- ---- one text
 
-module _ (told : LooksAreTold) (maximal : RunsAreMaximal) where
+module _ (told : LooksAreDetermined) (maximal : RunsAreMaximal) where
   -- what is read at the front of bytes is told by them
   read_told : (heads : List Head) (chars : List ℕ) (others : List Head) (other_chars rest : List ℕ)
       (a b : List ℕ) → IsRead heads chars a → IsRead others other_chars b → b ≡ a ++ rest

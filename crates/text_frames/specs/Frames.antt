@@ -10,16 +10,17 @@ use Rattle.texts.specs.TextState.{TextState, shown_of}
 use Rattle.machine.specs.Windows.{bytes_shown, first_line, place_in}
 use Rattle.viewers.specs.declared.seats.TheConstants.{MAX_WIDTH}
 use Rattle.text_frames.specs.declared.TheConstants.{MAX_ROWS}
-use Rattle.text_frames.specs.Reading.{no_row}
+use Rattle.text_frames.specs.Reading.{counted, no_row}
 
 -- A frame: the character whose line it begins with, its width, its rows from the top down, whether each row holds a line
--- that ends with a 0DH, and how many characters were read when it last came up to date.
+-- that ends with a 0DH, how many characters were read when it last came up to date, and how many since it was made.
 pub record FrameSeen : Type 0 where
   pub anchor : Anchor
   pub width : ℕ
   pub rows : List Row
   pub full : Bool
   pub reads : ℕ
+  pub all_reads : ℕ
 
 -- the first of these rows, and the last
 abbrev pub first_row : List Row → Row
@@ -48,6 +49,11 @@ reads_of len place rows =
 -- how many are read to draw a frame of a text
 abbrev pub drawing_reads : TextState → FrameSeen → ℕ
 drawing_reads t f = reads_of (length (shown_of t)) (place_in t f.anchor) f.rows
+
+-- for a frame that comes up to date a text is read as often as it takes to draw it once
+pub record ReadsOnce (t : TextState) (old new : FrameSeen) : Type 0 where
+  pub reads : new.reads ≡ counted (drawing_reads t new)
+  pub all_reads : new.all_reads ≡ counted (old.all_reads + new.reads)
 
 -- whether a change replaces
 abbrev pub replaces : ChangeKind → Bool

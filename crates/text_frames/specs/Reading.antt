@@ -4,10 +4,22 @@ use Rattle.std.specs.Prelude.{Option, Some, None}
 use Rattle.char_files.specs.declared.character.Char.{Char}
 use Rattle.line_drawing.specs.declared.drawing.TheConstants.{LINE_END}
 use Rattle.line_drawing.specs.Rows.{Row, cells_of}
+use Rattle.texts.specs.TextState.{TextState}
 
 -- a count, which stays where it has come to 2^64 - 1
 abbrev pub counted : ℕ → ℕ
 counted n = min n (2 ^ 64 - 1)
+
+-- a text that is read, what is left of a walk over it, and how many characters were read
+pub record ReaderSeen : Type 0 where
+  pub text : TextState
+  pub left : List Char
+  pub reads : ℕ
+
+-- what is left of a walk; nothing where none has begun
+abbrev pub left_of : Option (List Char) → List Char
+left_of None = []
+left_of (Some left) = left
 
 -- the bytes of these characters
 abbrev pub bytes_of : List Char → List ℕ

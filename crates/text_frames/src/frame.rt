@@ -10,11 +10,12 @@ ghost use Rattle.texts.specs.Laws.{KeepsTheOrder};
 ghost use Rattle.texts.specs.Text.{IsAnchor, IsText};
 ghost use Rattle.texts.specs.TextState.{TextState, shown_of};
 ghost use Rattle.machine.specs.Windows.{bytes_shown, line_anchor, position_in, row_in};
-ghost use Rattle.text_frames.specs.Frames.{AreRows, IsDrawn, drawing_reads, is_quiet_for, last_row, leaves_rows, replaces};
+ghost use Rattle.text_frames.specs.Frames.{AreRows, IsDrawn, ReadsOnce, drawing_reads, is_quiet_for, last_row, leaves_rows, replaces};
 ghost use Rattle.text_frames.specs.Reading.{counted};
 
 use crate::MAX_ROWS;
 use crate::drawing::{begin_of_line, draw};
+use crate::reading::CountingReader;
 use crate::rows::DrawnRow;
 use char_files::Anchor;
 use line_drawing::located;
@@ -34,6 +35,7 @@ pub struct Frame {
     rows: Vec<DrawnRow>,
     full: bool,
     reads: u64,
+    all_reads: u64,
 }
 
 impl Model for Frame {
@@ -50,6 +52,7 @@ impl Model for Frame {
       rows = f.rows.items;
       full = f.full;
       reads = f.reads;
+      all_reads = f.all_reads;
     } };
 
     ghost invariant = { λ f. AreRows f.width f.rows.items × (MAX_ROWS ≤ vec_capacity f.rows) };
@@ -95,16 +98,19 @@ impl Frame {
         ensures rows { IfOk result (λ f. length f.rows ≡ rows) }
         ensures drawn { IfOk result (λ f. IsDrawn f replica.now) }
         ensures reads { IfOk result (λ f. f.reads ≡ counted (drawing_reads replica.now f)) }
+        ensures all_reads { IfOk result (λ f. f.all_reads ≡ f.reads) }
         ensures errors { RefusedForMemoryAlone result }
     {
         let mut drawn = Vec::with_capacity(alloc, MAX_ROWS)?;
-        let (full, reads) = draw(&mut drawn, replica, Anchor::Root, width, rows, 0);
+        let mut text = CountingReader::of(replica);
+        let full = draw(&mut drawn, &mut text, Anchor::Root, width, rows);
         Ok(Frame {
             anchor: Anchor::Root,
             width,
             rows: drawn,
             full,
-            reads,
+            reads: text.count(),
+            all_reads: text.count(),
         })
     }
 
@@ -144,6 +150,74 @@ impl Frame {
         self.reads
     }
 
+    /// How many characters were read for this frame since it was made; at 2^64-1 it stays there. This project's own.
+    pub fn all_reads(&self) -> u64
+        ensures { result ≡ self.now.all_reads }
+    {
+        self.all_reads
+    }
+
+    // Draws so many rows of a text anew, and keeps how many characters its reader has counted by then.
+    fn redraw(&mut self, text: &mut CountingReader<'_>, rows: usize)
+        requires high { 1 ≤ rows }
+        requires low { rows ≤ MAX_ROWS }
+        ensures anchor { self.new.anchor ≡ self.old.anchor }
+        ensures width { self.new.width ≡ self.old.width }
+        ensures rows { length self.new.rows ≡ rows }
+        ensures drawn { IsAnchor text.old.text.operations self.old.anchor → IsDrawn self.new text.old.text }
+        ensures reads { IsAnchor text.old.text.operations self.old.anchor
+            → text.new.reads ≡ counted (text.old.reads + drawing_reads text.old.text self.new) }
+        ensures kept { self.new.reads ≡ text.new.reads }
+        ensures all_reads { self.new.all_reads ≡ counted (self.old.all_reads + text.new.reads) }
+    {
+        self.full = draw(&mut self.rows, text, self.anchor, self.width, rows);
+        self.reads = text.count();
+        self.all_reads = self.all_reads.saturating_add(text.count());
+    }
+
+    // Follows changes of a text; where it reads nothing, that is what it has read.
+    fn follow(&mut self, text: &mut CountingReader<'_>, changes: &[Change])
+        requires unread { text.old.reads ≡ 0 }
+        ensures anchor { self.new.anchor ≡ self.old.anchor }
+        ensures width { self.new.width ≡ self.old.width }
+        ensures rows { length self.new.rows ≡ length self.old.rows }
+        ensures drawn { (t : TextState) → IsText t → IsDrawn self.old t → KeepsTheOrder t text.old.text
+            → IsAnchor text.old.text.operations self.old.anchor
+            → Leads SameChar changes.now (shown_of t) (shown_of text.old.text) → IsDrawn self.new text.old.text }
+        ensures quiet { AllPass (is_quiet_for self.old) changes.now
+            → (self.new ≡ record self.old { reads = 0 }) × (text.new ≡ text.old) }
+        ensures anew { ¬ AllPass (is_quiet_for self.old) changes.now
+            → IsAnchor text.old.text.operations self.old.anchor → ReadsOnce text.old.text self.old self.new }
+        ensures kept { self.new.reads ≡ text.new.reads }
+    {
+        text.lemma_is_text();
+        if leave_rows(self.rows.as_slice(), self.full, changes) {
+            self.reads = text.count();
+        } else {
+            let count = self.rows.len();
+            self.redraw(text, count);
+        }
+    }
+
+    // Begins with another line of a text, and draws it anew.
+    fn begin_with(&mut self, text: &mut CountingReader<'_>, line: u64)
+        requires unread { text.old.reads ≡ 0 }
+        ensures anchor { self.new.anchor ≡ line_anchor text.old.text line }
+        ensures width { self.new.width ≡ self.old.width }
+        ensures rows { length self.new.rows ≡ length self.old.rows }
+        ensures drawn { IsDrawn self.new text.old.text }
+        ensures reads { text.new.reads
+            ≡ counted (beg_of (bytes_shown text.old.text) line + drawing_reads text.old.text self.new) }
+        ensures kept { self.new.reads ≡ text.new.reads }
+        ensures all_reads { self.new.all_reads ≡ counted (self.old.all_reads + text.new.reads) }
+    {
+        text.lemma_is_text();
+        let beg = begin_of_line(text, line);
+        self.anchor = text.anchor_after(beg);
+        let count = self.rows.len();
+        self.redraw(text, count);
+    }
+
     /// Follows changes of its text. A frame that showed the text as it was shows it as it is now, where the changes lead from
     /// what was shown to what is shown now, the characters stand in the order in which they stood, and the frame's own is
     /// still one of them.
@@ -158,17 +232,10 @@ impl Frame {
             → IsAnchor replica.now.operations self.old.anchor
             → Leads SameChar changes.now (shown_of t) (shown_of replica.now) → IsDrawn self.new replica.now }
         ensures quiet { AllPass (is_quiet_for self.old) changes.now → self.new ≡ record self.old { reads = 0 } }
-        ensures reads { ¬ AllPass (is_quiet_for self.old) changes.now
-            → IsAnchor replica.now.operations self.old.anchor
-            → self.new.reads ≡ counted (drawing_reads replica.now self.new) }
+        ensures anew { ¬ AllPass (is_quiet_for self.old) changes.now
+            → IsAnchor replica.now.operations self.old.anchor → ReadsOnce replica.now self.old self.new }
     {
-        replica.lemma_is_text();
-        if leave_rows(self.rows.as_slice(), self.full, changes) {
-            self.reads = 0;
-        } else {
-            let count = self.rows.len();
-            self.resize(replica, count);
-        }
+        self.follow(&mut CountingReader::of(replica), changes);
     }
 
     /// Gives the frame another height, and draws it anew.
@@ -179,12 +246,9 @@ impl Frame {
         ensures width { self.new.width ≡ self.old.width }
         ensures rows { length self.new.rows ≡ rows }
         ensures drawn { IsAnchor replica.now.operations self.old.anchor → IsDrawn self.new replica.now }
-        ensures reads { IsAnchor replica.now.operations self.old.anchor
-            → self.new.reads ≡ counted (drawing_reads replica.now self.new) }
+        ensures reads { IsAnchor replica.now.operations self.old.anchor → ReadsOnce replica.now self.old self.new }
     {
-        let (full, reads) = draw(&mut self.rows, replica, self.anchor, self.width, rows, 0);
-        self.full = full;
-        self.reads = reads;
+        self.redraw(&mut CountingReader::of(replica), rows);
     }
 
     /// Begins with another line, counted from 0; past the last one, with that. It is drawn anew.
@@ -195,22 +259,9 @@ impl Frame {
         ensures drawn { IsDrawn self.new replica.now }
         ensures reads { self.new.reads
             ≡ counted (beg_of (bytes_shown replica.now) line + drawing_reads replica.now self.new) }
+        ensures all_reads { self.new.all_reads ≡ counted (self.old.all_reads + self.new.reads) }
     {
-        replica.lemma_is_text();
-        let mut reads = 0;
-        let beg = begin_of_line(replica, line, &mut reads);
-        self.anchor = replica.anchor_after(beg);
-        let count = self.rows.len();
-        let (full, reads) = draw(
-            &mut self.rows,
-            replica,
-            self.anchor,
-            self.width,
-            count,
-            reads,
-        );
-        self.full = full;
-        self.reads = reads;
+        self.begin_with(&mut CountingReader::of(replica), line);
     }
 
     /// The position of the cell in this column of a row, both counted from 0: that of its character, or past the line's last

@@ -2,11 +2,10 @@ ghost use Rattle.std.specs.Prelude.{◌≡◌, ◌+◌, ◌-◌, ◌^◌, ◌<�
 ghost use Rattle.line_drawing.specs.Rows.{blanks, sign_of};
 ghost use Rattle.text_frames.specs.Reading.{after_line, bytes_of, counted, line_before, row_before};
 
-use crate::reading::next_byte;
+use crate::reading::CountingReader;
 use arrayvec::ArrayVec;
 use line_drawing::sign;
 use std::marker::Model;
-use texts::Shown;
 use viewers::MAX_WIDTH;
 
 // A row as it was drawn: the positions between which its line stands, and its cells.
@@ -48,18 +47,19 @@ fn fill(cells: &mut ArrayVec<u8, MAX_WIDTH>, width: usize)
 }
 
 // Reads a line from its begin on, with its end, and draws it. Where nothing is left the row is blank.
-pub(crate) fn read_row(walk: &mut Shown<'_>, beg: u64, width: usize, reads: &mut u64) -> DrawnRow
+pub(crate) fn read_row(text: &mut CountingReader<'_>, beg: u64, width: usize) -> DrawnRow
     requires wide { width ≤ MAX_WIDTH }
-    requires in_text { beg + length walk.old < 2 ^ 64 }
-    ensures row { result ≡ row_before width beg (bytes_of walk.old) }
-    ensures rest { walk.new ≡ after_line (line_before (bytes_of walk.old)) walk.old }
-    ensures reads { reads.new ≡ counted (reads.old + (length walk.old - length walk.new)) }
+    requires in_text { beg + length text.old.left < 2 ^ 64 }
+    ensures row { result ≡ row_before width beg (bytes_of text.old.left) }
+    ensures rest { text.new.left ≡ after_line (line_before (bytes_of text.old.left)) text.old.left }
+    ensures text { text.new.text ≡ text.old.text }
+    ensures reads { text.new.reads ≡ counted (text.old.reads + (length text.old.left - length text.new.left)) }
 {
     // A count is in range.
-    let _reads = *reads;
+    let _reads = text.count();
     let mut cells = ArrayVec::new();
     let mut end = beg;
-    while let Some(byte) = next_byte(walk, reads) {
+    while let Some(byte) = text.next_byte() {
         put_sign(&mut cells, width, byte);
         end += 1;
     }

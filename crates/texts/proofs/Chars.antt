@@ -12,7 +12,7 @@ use Rattle.tree_order.specs.Order.{IsOrder}
 use Rattle.tree_order.specs.Shown.{AreChars, is_visible}
 use Rattle.tree_order.specs.Tree.{IsChar}
 use Rattle.set_laws.specs.Sets.{AreIdentified}
-use Rattle.texts.specs.Laws.{ShowsTheDefinition, OperationsTellTheText, FrontsTellTheText, HasOneTextWith}
+use Rattle.texts.specs.Laws.{ShowsTheDefinition, OperationsDetermineTheText, FrontsDetermineTheText, HasOneTextWith}
 use Rattle.texts.specs.Laws.{GrownTextsKeepTheOrder}
 use Rattle.texts.specs.Text.{IsText}
 use Rattle.texts.specs.TextState.{TextState, shown_of}
@@ -86,7 +86,7 @@ grown_keeps_the_order t u is is' within c d earlier =
     (is'.chars.order.before c d).1 (before t.operations u.operations within c d ((is.chars.order.before c d).0 earlier))
 
 -- what the same operations tell is one text
-pub operations_tell : OperationsTellTheText
+pub operations_tell : OperationsDetermineTheText
 operations_tell t u is is' same =
     let says = says_the_same t.operations u.operations same is.good in
     let moved : AreChars u.operations t.order = record {
@@ -103,6 +103,6 @@ operations_tell t u is is' same =
     }
 
 -- and equal fronts tell the operations
-pub fronts_tell : FrontsTellTheText
+pub fronts_tell : FrontsDetermineTheText
 fronts_tell t u is is' known fronts =
     operations_tell t u is is' (same_by_fronts t.operations u.operations is.good is'.good known fronts)

@@ -18,7 +18,8 @@ pub mod OwnStretch
 pub mod Pieces
 pub mod Restored
 pub mod RunChars
-pub mod RunsPut
+pub mod RunsInserted
 pub mod Selected
 pub mod Sending
 pub mod Taking
+pub mod Unmade

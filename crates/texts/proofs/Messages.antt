@@ -12,7 +12,7 @@ use Rattle.waiting_room.specs.declared.room.Offered.{Offered}
 use Rattle.waiting_room.specs.declared.room.Offered.TheVariants.{New, Same}
 use Rattle.waiting_room.specs.declared.room.TheConstants.{MAX_WAITING}
 use Rattle.texts.specs.Draining.{Drains}
-use Rattle.texts.specs.Take.{Enters, Stays, StaysOut, Takes, TakesIn, TakesOp, TakesOpShort, TakesShort, Tells}
+use Rattle.texts.specs.Take.{Enters, Stays, StaysOut, Takes, TakesIn, TakesOp, TakesOpShort, TakesShort, Encodes}
 use Rattle.texts.specs.Taking.{HasTaken}
 use Rattle.texts.specs.TextState.{TextState, with_room}
 use Rattle.texts.specs.declared.took.Took.{Took}
@@ -62,7 +62,7 @@ taken_and_drained t with_op op drained dropped true new taken drains =
 
 -- a message that tells an operation is answered as that is, where it could be read
 pub answered : (t : TextState) (message : List ℕ) (op : Operation) (result : Result Took Refusal) (new : TextState)
-    → Tells message op → TakesOp t op result new ⊎ TakesOpShort t op result new
+    → Encodes message op → TakesOp t op result new ⊎ TakesOpShort t op result new
     → Takes t message result new ⊎ TakesShort t message result new
 answered t message op result new tells (inl (fate, has, becomes)) = inl (inr (op, fate, tells, has, becomes))
 answered t message op result new tells (inr (inl (has, (few, stays)))) =

@@ -23,28 +23,28 @@ use Rattle.tree_order.specs.Tree.{HasByte, IsChar}
 use Rattle.set_laws.specs.Fronts.{file_len}
 use Rattle.texts.specs.Edit.{anchor_before, own_insert, with_operation}
 use Rattle.texts.specs.Laws.{OwnInsertIsPlain, shown_with_run}
-use Rattle.texts.specs.Order.{chars_of, count_to, put}
+use Rattle.texts.specs.Order.{chars_of, count_to, insert_at}
 use Rattle.texts.specs.Text.{IsAnchor, IsText}
 use Rattle.texts.specs.TextState.{TextState, shown_of}
 use Rattle.tree_order.proofs.Latest.{after_cause}
 use Rattle.tree_order.proofs.OneText.{shows_one_text}
 use Rattle.tree_order.proofs.PlaceOfShown.{plain_edit}
 use Rattle.tree_order.proofs.RegisterLists.{offers_its_values}
-use Rattle.tree_order.proofs.RegistersTell.{tell}
+use Rattle.tree_order.proofs.RegistersDetermine.{tell}
 use Rattle.texts.proofs.Causes.{anchor_is_after, ends_at, old_if_after, old_if_mentioned}
 use Rattle.texts.proofs.Chars.{shown_are_chars, shows_the_definition}
 use Rattle.texts.proofs.OwnStep.{byte_stays, looks_stay, own_step, IsOwnStep}
 use Rattle.texts.proofs.RunChars.{names_in_run, names_of_chars, run_is_chars}
 
 -- what holds of each character of both holds of each where a run was put in
-All-put : (P : Char → Type 0) (order run : List Char) (n : ℕ) → All P order → All P run
-    → All P (put order n run)
-All-put P order run n old new =
+All-insert_at : (P : Char → Type 0) (order run : List Char) (n : ℕ) → All P order → All P run
+    → All P (insert_at order n run)
+All-insert_at P order run n old new =
     All-append P (take n order ++ run) (drop n order)
     (All-append P (take n order) run (All-take P n order old) new) (All-drop P n order old)
 
 names_of_put : (order run : List Char) (n : ℕ) (names : List CharName) → map (λ c. c.name) run ≡ names
-    → map (λ c. c.name) (put order n run) ≡ put (map (λ c. c.name) order) n names
+    → map (λ c. c.name) (insert_at order n run) ≡ insert_at (map (λ c. c.name) order) n names
 names_of_put order run n names e = simp (map-append, take-map, drop-map, e)
 
 module _ (t : TextState) (pos : ℕ) (looks : Looks) (bytes : List ℕ) (is : IsText t)
@@ -79,7 +79,7 @@ module _ (t : TextState) (pos : ℕ) (looks : Looks) (bytes : List ℕ) (is : Is
   step = own_step t (insert cause at looks bytes) is refl (old_if_mentioned ops cause at looks bytes old)
 
   -- its run stands directly after its cause
-  order : IsOrder with_own (map (λ c. c.name) (put t.order (count_to t.order cause) run))
+  order : IsOrder with_own (map (λ c. c.name) (insert_at t.order (count_to t.order cause) run))
   order =
       let names : List CharName = map (λ (c : Char). c.name) t.order in
       let k = count_to t.order cause in
@@ -118,13 +118,13 @@ module _ (t : TextState) (pos : ℕ) (looks : Looks) (bytes : List ℕ) (is : Is
       omega (arith, inserts.1)
   sets_none c char selects (inr changes) = absurd changes
 
-  chars : AreChars with_own (put t.order (count_to t.order cause) run)
+  chars : AreChars with_own (insert_at t.order (count_to t.order cause) run)
   chars = record {
     order = order;
-    bytes = All-put (λ c. HasByte with_own c.name c.byte) t.order run (count_to t.order cause)
+    bytes = All-insert_at (λ c. HasByte with_own c.name c.byte) t.order run (count_to t.order cause)
         (All-weaker (λ c. HasByte ops c.name c.byte) (λ c. HasByte with_own c.name c.byte)
         (λ c h. byte_stays ops own c.name c.byte h) t.order is.chars.bytes) run_bytes;
-    looks = All-put (λ c. HasLooks with_own c.name c.looks) t.order run (count_to t.order cause) old_looks
+    looks = All-insert_at (λ c. HasLooks with_own c.name c.looks) t.order run (count_to t.order cause) old_looks
         run_looks;
   } where
     old_looks : All (λ c. HasLooks with_own c.name c.looks) t.order
@@ -140,12 +140,12 @@ module _ (t : TextState) (pos : ℕ) (looks : Looks) (bytes : List ℕ) (is : Is
   shown =
       let was = shows_the_definition t is in
       let plain = plain_edit ops own cause (shown_of t) pos step.one step.latest refl was after in
-      let is_plain : IsShown with_own (put (shown_of t) pos run) = subst
-      (λ (chars : List Char). IsShown with_own (put (shown_of t) pos chars))
+      let is_plain : IsShown with_own (insert_at (shown_of t) pos run) = subst
+      (λ (chars : List Char). IsShown with_own (insert_at (shown_of t) pos chars))
       (run_is_chars t.site looks cause at bytes) plain in
       let shows = shows_one_text with_own step.one.larger in
       shows.only (shown_of (with_operation t own)) (shows_the_definition (with_operation t own) text)
-      ∙ sym (shows.only (put (shown_of t) pos run) is_plain)
+      ∙ sym (shows.only (insert_at (shown_of t) pos run) is_plain)
 
 -- an own Insert is an edit of a plain list
 pub insert_is_plain : OwnInsertIsPlain

@@ -10,12 +10,12 @@ use Rattle.operations.specs.Operation.{Operation}
 use Rattle.set_laws.specs.Fronts.{file_len}
 use Rattle.texts.specs.Edit.{after, inserts, insertion, own_insert, pieces_of, shown_with, with_operation}
 use Rattle.texts.specs.Laws.{IsPlainEdit, IsPlainPart}
-use Rattle.texts.specs.Order.{chars_from, chars_of, put}
+use Rattle.texts.specs.Order.{chars_from, chars_of, insert_at}
 use Rattle.texts.specs.Text.{IsText}
 use Rattle.texts.specs.TextState.{TextState, shown_of}
 use Rattle.set_laws.proofs.Counting.{counted_on}
 use Rattle.texts.proofs.OwnInsert.{insert_is_plain}
-use Rattle.texts.proofs.RunsPut.{chars_from_run, items_of_pieces, length-chars_of, length-put, put_after, put_none}
+use Rattle.texts.proofs.RunsInserted.{chars_from_run, items_of_pieces, length-chars_of, length-insert_at, put_after, put_none}
 
 -- this text shows what another one did, with characters put in
 pub record ShowsWith (t : TextState) (pos : ℕ) (items : List Item) (u : TextState) : Type 0 where
@@ -50,7 +50,7 @@ module _ (t : TextState) (pos : ℕ) (p : Stretch) (is : IsText t) (in_text : po
 
   pub next_in_text : pos + length p.bytes ≤ length (shown_of new)
   next_in_text =
-      let longer = ap (length {A = Char}) plain.shown ∙ length-put (shown_of t) pos run in_text in
+      let longer = ap (length {A = Char}) plain.shown ∙ length-insert_at (shown_of t) pos run in_text in
       omega (arith, long, longer)
 
   pub with_first : (more : List Item) (u : TextState) → ShowsWith new (pos + length p.bytes) more u
@@ -60,16 +60,16 @@ module _ (t : TextState) (pos : ℕ) (p : Stretch) (is : IsText t) (in_text : po
     later from = chars_from t.site from more
 
     was : List Char
-    was = put (shown_of t) pos run
+    was = insert_at (shown_of t) pos run
 
     is_shown : shown_of u ≡ shown_with t pos (items_of_run p ++ more)
     is_shown =
         shows.shown
-        ∙ ap (λ (xs : List Char). put xs (pos + length p.bytes) (later (file_len new.operations t.site))) plain.shown
-        ∙ ap (λ (n : ℕ). put was (pos + length p.bytes) (later n)) file_grows
-        ∙ ap (λ (n : ℕ). put was (pos + n) (later (at + length p.bytes))) (sym long)
+        ∙ ap (λ (xs : List Char). insert_at xs (pos + length p.bytes) (later (file_len new.operations t.site))) plain.shown
+        ∙ ap (λ (n : ℕ). insert_at was (pos + length p.bytes) (later n)) file_grows
+        ∙ ap (λ (n : ℕ). insert_at was (pos + n) (later (at + length p.bytes))) (sym long)
         ∙ put_after (shown_of t) pos run (later (at + length p.bytes)) in_text
-        ∙ ap (put (shown_of t) pos) (sym (chars_from_run t.site at p.looks p.bytes more))
+        ∙ ap (insert_at (shown_of t) pos) (sym (chars_from_run t.site at p.looks p.bytes more))
 
 -- the first pieces of several
 pub shows_pieces : (pieces : List Stretch) (k : ℕ) (t : TextState) (pos : ℕ) → IsText t → pos ≤ length (shown_of t)

@@ -15,7 +15,7 @@ use Rattle.tree_order.specs.Sequential.{IsLatest}
 use Rattle.tree_order.specs.Shown.{AreChars}
 use Rattle.tree_order.specs.Tree.{HasByte, IsChar}
 use Rattle.set_laws.specs.Fronts.{greatest, front_of, greatest_stamp, file_len}
-use Rattle.set_laws.specs.Growing.{AreToldByCounts, IsOwnNext}
+use Rattle.set_laws.specs.Growing.{AreDeterminedByCounts, IsOwnNext}
 use Rattle.set_laws.specs.Sets.{AreIdentified}
 use Rattle.set_laws.specs.Verdict.{HasVerdict, IsNew, ready}
 use Rattle.texts.specs.Edit.{own_op, set_after, with_operation}
@@ -23,14 +23,14 @@ use Rattle.texts.specs.Order.{order_after}
 use Rattle.texts.specs.Text.{AreCharNames, IsText}
 use Rattle.texts.specs.TextState.{TextState}
 use Rattle.set_laws.proofs.Preceding.{causes_kept_with_one}
-use Rattle.set_laws.proofs.Counting.{own_next_ready, told_by_counts}
+use Rattle.set_laws.proofs.Counting.{own_next_ready, determined_by_counts}
 use Rattle.set_laws.proofs.Fronts.{lemma_are_held_to_the_front}
 use Rattle.set_laws.proofs.ByVerdict.{grows_by_verdict}
 
 -- the operation may be taken in, is the latest, and leaves a text where its characters are those defined
 pub record IsOwnStep (t : TextState) (op : Operation) : Type 0 where
   pub new : IsNew t.operations op
-  pub told : AreToldByCounts t.operations op
+  pub told : AreDeterminedByCounts t.operations op
   pub ready : HasVerdict t.operations op ready
   pub one : IsOneMore t.operations op
   pub latest : IsLatest t.operations op
@@ -76,8 +76,8 @@ module _ (t : TextState) (kind : OpKind) (is : IsText t)
         omega arith;
   }
 
-  told : AreToldByCounts ops own
-  told = told_by_counts ops own is.good is.identified new
+  told : AreDeterminedByCounts ops own
+  told = determined_by_counts ops own is.good is.identified new
 
   next : IsOwnNext ops own
   next = record {

@@ -13,7 +13,7 @@ use Rattle.operations.specs.Spelling.{spelling}
 use Rattle.texts.specs.Edit.{Edit, after, plan, with_operation}
 use Rattle.texts.specs.Outcome.{EditsSending, TakesMemory, count_standing, first_refusal}
 use Rattle.texts.specs.Outcome.{refusal_for, refusal_or}
-use Rattle.texts.specs.Own.{SendsOne, answer_of_one, refused_after}
+use Rattle.texts.specs.Own.{IsWhyNot, SendsOne, answer_of_one, refused_after}
 use Rattle.texts.specs.Text.{IsText}
 use Rattle.texts.specs.TextState.{TextState, shown_of}
 use Rattle.texts.specs.Edit.{is_in_text}
@@ -205,6 +205,12 @@ module _ (t : TextState) (e : Edit) (is : IsText t) (in_text : IsTrue (is_in_tex
       -- an edit without an operation
       pub none_sent : plan t e ≡ [] → EditsSending t e (Ok 0) t sent sent
       none_sent planned = ended 0 t sent sent (all_of [] planned)
+
+      -- one whose first operation wasn't made, so that nothing was done
+      pub first_refused : (op : Operation) (rest : List Operation) (why : Refusal) → plan t e ≡ op ∷ rest
+          → IsWhyNot t op why → EditsSending t e (Err (Whole why)) t sent sent
+      first_refused op rest why planned whynot =
+          refused 0 op rest why t t sent sent sent (all_of (op ∷ rest) planned) (λ _. refl) (whynot, refl, refl)
 
       -- and with one
       pub one_sent : (op : Operation) → plan t e ≡ op ∷ [] → (made : Result (Unit {0}) Refusal) (new : TextState)

@@ -19,7 +19,7 @@ use Rattle.taken_text.specs.Noted.{AreChangesSince, SameChar}
 use Rattle.texts.specs.Edit.{Edit, after, first_part, is_in_text, names_shown, own_insert, own_op, plan}
 use Rattle.texts.specs.Edit.{shown_after, stretch_named, with_operation}
 use Rattle.texts.specs.Merge.{IsUnionOf, Merges}
-use Rattle.texts.specs.Order.{chars_of, cut, dress, is_named, put, with_looks}
+use Rattle.texts.specs.Order.{chars_of, cut, dress, is_named, insert_at, with_looks}
 use Rattle.texts.specs.Text.{AreCharNames, IsText}
 use Rattle.texts.specs.TextState.{TextState, shown_items, shown_of}
 
@@ -33,8 +33,8 @@ abbrev pub ShowsTheDefinition : Type 0
 ShowsTheDefinition = (t : TextState) → IsText t → IsShown t.operations (shown_of t)
 
 -- two texts that have taken in the same operations, in whatever order, are alike
-abbrev pub OperationsTellTheText : Type 0
-OperationsTellTheText = (t u : TextState) → IsText t → IsText u → AreSameSet t.operations u.operations
+abbrev pub OperationsDetermineTheText : Type 0
+OperationsDetermineTheText = (t u : TextState) → IsText t → IsText u → AreSameSet t.operations u.operations
     → AreAlike t u
 
 -- the characters of t stand in u in the order in which they stand in t
@@ -54,14 +54,14 @@ ChangesLead = (asked : ℕ) (ops : List Operation) (changes : List Change) (now 
     → (was : List Char) × IsShown (take asked ops) was × Leads SameChar changes was now
 
 -- two texts of equal fronts are alike, if no identity is used twice
-abbrev pub FrontsTellTheText : Type 0
-FrontsTellTheText = (t u : TextState) → IsText t → IsText u → AreIdentified (t.operations ++ u.operations)
+abbrev pub FrontsDetermineTheText : Type 0
+FrontsDetermineTheText = (t u : TextState) → IsText t → IsText u → AreIdentified (t.operations ++ u.operations)
     → HaveEqualFronts t.operations u.operations → AreAlike t u
 
 -- what is shown with a run of the site's after the first pos characters
 abbrev pub shown_with_run : TextState → ℕ → Looks → List ℕ → List Char
 shown_with_run t pos looks bytes =
-    put (shown_of t) pos (chars_of t.site (file_len t.operations t.site) looks bytes)
+    insert_at (shown_of t) pos (chars_of t.site (file_len t.operations t.site) looks bytes)
 
 -- an own Insert is new and ready; the text after it is what its operations define, and it shows its run where
 -- it was typed

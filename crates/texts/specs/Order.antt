@@ -13,8 +13,8 @@ use Rattle.operations.specs.Operation.{Operation, OpKind, insert, delete, restor
 use Rattle.tree_order.specs.Shown.{up_to}
 
 -- the first n, the run, the rest
-abbrev pub put : {X : Type 0} → List X → ℕ → List X → List X
-put xs n run = take n xs ++ run ++ drop n xs
+abbrev pub insert_at : {X : Type 0} → List X → ℕ → List X → List X
+insert_at xs n run = take n xs ++ run ++ drop n xs
 
 -- how many characters of the list are the anchor or stand before it; the root stands before all
 abbrev pub count_to : List Char → Anchor → ℕ
@@ -68,7 +68,7 @@ dress sel looks chars beg end =
 -- anything; a ChangeLooks gives looks to those that it names
 abbrev pub order_by : OpKind → ℕ → List Char → List Char
 order_by (insert cause at looks bytes) site order =
-    put order (count_to order cause) (chars_of site at looks bytes)
+    insert_at order (count_to order cause) (chars_of site at looks bytes)
 order_by (delete names) site order = order
 order_by (restore names) site order = order
 order_by (change_looks sel looks names) site order = map (with_looks sel looks names) order

@@ -21,7 +21,7 @@ use Rattle.texts.specs.declared.took.Took.{Took}
 use Rattle.texts.specs.declared.took.Took.TheVariants.{Taken, Repeat, Waits}
 
 -- the message tells this operation
-pub record Tells (message : List ℕ) (op : Operation) : Type 0 where
+pub record Encodes (message : List ℕ) (op : Operation) : Type 0 where
   pub valid : HasSpelling op
   pub spelled : message ≡ spelling op
 
@@ -93,11 +93,11 @@ TakesOpShort t op result new =
 abbrev pub Takes : TextState → List ℕ → Result Took Refusal → TextState → Type 0
 Takes t message result new =
     (SpellsNone message × Stays t (Err Malformed) result new)
-    ⊎ ((op : Operation) × (fate : Fate) × Tells message op × HasFate t op fate × Becomes t op fate result new)
+    ⊎ ((op : Operation) × (fate : Fate) × Encodes message op × HasFate t op fate × Becomes t op fate result new)
 
 -- The same where memory was refused: it tells an operation, and nothing changes; or its operation was taken in, and
 -- the draining after it was stopped.
 abbrev pub TakesShort : TextState → List ℕ → Result Took Refusal → TextState → Type 0
 TakesShort t message result new =
     ((¬ SpellsNone message) × Stays t (Err OutOfMemory) result new)
-    ⊎ ((op : Operation) × Tells message op × HasFate t op Ready × TakesIn t op true result new)
+    ⊎ ((op : Operation) × Encodes message op × HasFate t op Ready × TakesIn t op true result new)

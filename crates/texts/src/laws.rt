@@ -4,7 +4,7 @@ ghost use Rattle.std.specs.Prelude.{◌≡◌, [], ◌∷◌, ◌++◌};
 ghost use Rattle.operations.specs.Operation.{Operation};
 ghost use Rattle.tree_order.specs.Good.{Good};
 ghost use Rattle.set_laws.specs.Sets.{AreIdentified};
-ghost use Rattle.texts.specs.Laws.{ShowsTheDefinition, OperationsTellTheText, FrontsTellTheText};
+ghost use Rattle.texts.specs.Laws.{ShowsTheDefinition, OperationsDetermineTheText, FrontsDetermineTheText};
 ghost use Rattle.texts.specs.Laws.{ADeleteKeepsItsStretch, ChangesLead, GrownTextsKeepTheOrder, HasOneTextWith};
 ghost use Rattle.texts.specs.Laws.{MergesShowTheUnion, OwnEditsArePlain};
 ghost use Rattle.texts.specs.Text.{IsText};
@@ -16,8 +16,8 @@ pub fn lemma_a_text_shows_the_definition()
 {}
 
 /// A law: two texts that have taken in the same operations, in whatever order, are alike.
-pub fn lemma_the_operations_tell_the_text()
-    ensures { OperationsTellTheText }
+pub fn lemma_the_operations_determine_the_text()
+    ensures { OperationsDetermineTheText }
 {}
 
 /// A law: the characters of a text keep their order in every text that has taken in more, hidden ones too.
@@ -32,8 +32,8 @@ pub fn changes_lead()
 {}
 
 /// A law: two texts of equal fronts are alike, if no identity is used twice.
-pub fn lemma_the_fronts_tell_the_text()
-    ensures { FrontsTellTheText }
+pub fn lemma_the_fronts_determine_the_text()
+    ensures { FrontsDetermineTheText }
 {}
 
 /// A law: the set of the names shown from beg to end names this stretch and no others; an own Delete of it keeps

@@ -23,7 +23,7 @@ use Rattle.tree_order.specs.RegisterLaws.{first_atom}
 use Rattle.tree_order.proofs.Gap.{into_gap}
 use Rattle.tree_order.proofs.Offers.{registers_after}
 use Rattle.tree_order.proofs.OneMore.{not_both}
-use Rattle.tree_order.proofs.RegistersTell.{first_registers}
+use Rattle.tree_order.proofs.RegistersDetermine.{first_registers}
 use Rattle.tree_order.proofs.RunNames.{run_inserts}
 
 -- the names alone

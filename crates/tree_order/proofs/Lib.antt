@@ -17,7 +17,7 @@ pub mod OneWriter
 pub mod Paths
 pub mod PlaceOfShown
 pub mod RegisterLists
-pub mod RegistersTell
+pub mod RegistersDetermine
 pub mod RunNames
 pub mod RunPlace
 pub mod Runs

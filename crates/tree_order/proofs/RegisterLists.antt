@@ -18,13 +18,13 @@ use Rattle.tree_order.specs.Looks.{HasLooks}
 use Rattle.tree_order.specs.Shown.{is_visible, IsShown}
 use Rattle.tree_order.specs.Registers.{Atom, HasRegisters, AreAtoms, atom_looks, switched, relooked, if_named}
 use Rattle.tree_order.specs.Registers.{atom_by, atom_after}
-use Rattle.tree_order.specs.RegisterLaws.{TellRegisters, Named, shown_of_atoms, without_bytes, ShowsAtoms}
+use Rattle.tree_order.specs.RegisterLaws.{FollowRegisters, Named, shown_of_atoms, without_bytes, ShowsAtoms}
 use Rattle.tree_order.specs.RegisterLaws.{OffersItsValues}
 use Rattle.tree_order.specs.RegisterLaws.{HasOneAtoms, InsertsNone, KeepsTheOrder, ShowsByOffers, AtomsAfter}
 use Rattle.tree_order.proofs.Before.{has_order, IsOrder-from_sorted, sorted_from_IsOrder}
 use Rattle.tree_order.proofs.Offers.{registers_after}
 use Rattle.tree_order.proofs.OneText.{one_order, one_looks}
-use Rattle.tree_order.proofs.RegistersTell.{tell, has_registers, one_atoms, first_registers}
+use Rattle.tree_order.proofs.RegistersDetermine.{tell, has_registers, one_atoms, first_registers}
 use Rattle.tree_order.proofs.SameSet.{Within, char, before}
 use Rattle.tree_order.proofs.Tree.{one_insert}
 
@@ -65,13 +65,13 @@ atoms_of ops (c ∷ names) all =
 
 module _ (ops : List Operation) (good : Good ops) where
   -- of the names those that the registers tell to be visible are visible
-  visible_names : (atoms : List Atom) → All (TellRegisters ops) atoms
+  visible_names : (atoms : List Atom) → All (FollowRegisters ops) atoms
       → filter (is_visible ops) (map (λ k. k.name) atoms) ≡ map (λ k. k.name) (filter (λ k. not k.hidden.value)
       atoms)
   visible_names [] all = refl
   visible_names (k ∷ atoms) all =
-      let here = (All-head (TellRegisters ops) k atoms all).visible in
-      let rest = visible_names atoms (All-tail (TellRegisters ops) k atoms all) in
+      let here = (All-head (FollowRegisters ops) k atoms all).visible in
+      let rest = visible_names atoms (All-tail (FollowRegisters ops) k atoms all) in
       rw here (go (not k.hidden.value) rest)
     where
       go : (b : Bool) → filter (is_visible ops) (map (λ j. j.name) atoms)
@@ -85,7 +85,7 @@ module _ (ops : List Operation) (good : Good ops) where
 
   -- characters of the same names have the same looks
   same_named : (shown : List Char) (atoms : List Atom) → map (λ s. s.name) shown ≡ map (λ k. k.name) atoms
-      → All (λ s. HasLooks ops s.name s.looks) shown → All (TellRegisters ops) atoms
+      → All (λ s. HasLooks ops s.name s.looks) shown → All (FollowRegisters ops) atoms
       → without_bytes shown ≡ map (λ k. record { name = k.name; looks = atom_looks k }) atoms
   same_named [] [] names looks all = refl
   same_named [] (k ∷ atoms) names looks all = absurd cc
@@ -96,18 +96,18 @@ module _ (ops : List Operation) (good : Good ops) where
       let has : HasLooks ops k.name s.looks = subst (λ (c : CharName). HasLooks ops c s.looks) name
       (All-head (λ (x : Char). HasLooks ops x.name x.looks) s shown looks) in
       let same : s.looks ≡ atom_looks k =
-      one_looks ops good k.name s.looks (atom_looks k) has (All-head (TellRegisters ops) k atoms all).looks in
+      one_looks ops good k.name s.looks (atom_looks k) has (All-head (FollowRegisters ops) k atoms all).looks in
       let made : CharName → Looks → Named = λ c l. record { name = c; looks = l } in
       ap (λ (c : CharName). made c s.looks ∷ without_bytes shown) name
       ∙ ap (λ (l : Looks). made k.name l ∷ without_bytes shown) same
       ∙ ap (λ (ns : List Named). made k.name (atom_looks k) ∷ ns)
       (same_named shown atoms rest (All-tail (λ (x : Char). HasLooks ops x.name x.looks) s shown looks)
-      (All-tail (TellRegisters ops) k atoms all))
+      (All-tail (FollowRegisters ops) k atoms all))
 
   -- and those that have the atoms' looks have looks
   has_atom_looks : (shown : List Char) (atoms : List Atom)
       → without_bytes shown ≡ map (λ k. record { name = k.name; looks = atom_looks k }) atoms
-      → All (TellRegisters ops) atoms → All (λ s. HasLooks ops s.name s.looks) shown
+      → All (FollowRegisters ops) atoms → All (λ s. HasLooks ops s.name s.looks) shown
   has_atom_looks [] atoms same all = All-nil (λ (s : Char). HasLooks ops s.name s.looks)
   has_atom_looks (s ∷ shown) [] same all = absurd cc
   has_atom_looks (s ∷ shown) (k ∷ atoms) same all =
@@ -121,9 +121,9 @@ module _ (ops : List Operation) (good : Good ops) where
       let has : HasLooks ops s.name s.looks =
       subst (λ (c : CharName). HasLooks ops c s.looks) (sym name)
       (subst (λ (l : Looks). HasLooks ops k.name l) (sym looks)
-      (All-head (TellRegisters ops) k atoms all).looks) in
+      (All-head (FollowRegisters ops) k atoms all).looks) in
       All-cons (λ (x : Char). HasLooks ops x.name x.looks) s shown has
-      (has_atom_looks shown atoms rest (All-tail (TellRegisters ops) k atoms all))
+      (has_atom_looks shown atoms rest (All-tail (FollowRegisters ops) k atoms all))
 
   names_shown : (shown : List Char)
       → map (λ (n : Named). n.name) (without_bytes shown) ≡ map (λ s. s.name) shown
@@ -136,14 +136,14 @@ module _ (ops : List Operation) (good : Good ops) where
   names_of_all [] = refl
   names_of_all (k ∷ atoms) = ap (λ (cs : List CharName). k.name ∷ cs) (names_of_all atoms)
 
-  all_tell : (atoms : List Atom) → All (HasRegisters ops) atoms → All (TellRegisters ops) atoms
+  all_tell : (atoms : List Atom) → All (HasRegisters ops) atoms → All (FollowRegisters ops) atoms
   all_tell atoms all = λ i d lt. tell ops good _ (all i d lt)
 
   pub shows_atoms : (atoms : List Atom) → AreAtoms ops atoms → ShowsAtoms ops atoms
   shows_atoms atoms are shown = (there, back)
     where
-      all : All (TellRegisters ops) (filter (λ k. not k.hidden.value) atoms)
-      all = All-filter (λ (k : Atom). not k.hidden.value) (TellRegisters ops) atoms
+      all : All (FollowRegisters ops) (filter (λ k. not k.hidden.value) atoms)
+      all = All-filter (λ (k : Atom). not k.hidden.value) (FollowRegisters ops) atoms
           (all_tell atoms are.registers)
 
       visible : filter (is_visible ops) (map (λ k. k.name) atoms)

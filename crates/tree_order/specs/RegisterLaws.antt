@@ -11,7 +11,7 @@ use Rattle.tree_order.specs.Shown.{is_visible, IsShown}
 use Rattle.tree_order.specs.Registers.{Atom, HasRegisters, AreAtoms, atom_looks, atom_after}
 
 -- the registers tell whether the character is visible, and its looks
-pub record TellRegisters (ops : List Operation) (k : Atom) : Type 0 where
+pub record FollowRegisters (ops : List Operation) (k : Atom) : Type 0 where
   pub visible : is_visible ops k.name ≡ not k.hidden.value
   pub looks : HasLooks ops k.name (atom_looks k)
 

@@ -1,7 +1,7 @@
-use Rattle.machine_laws.proofs.ShownLines.{prints-shown}
+use Rattle.machine_laws.proofs.ShownLines.{answers-shown}
 use Rattle.machine_laws.proofs.lemma_the_same_fronts_print_the_same.Goals as goal
 
 pub returns : goal.returns
 returns c = λ t u is_t is_u identified fronts.
-    prints-shown c.lemma_runs_are_maximal.ensures.only t u
-    (c.lemma_the_fronts_tell_the_text.ensures t u is_t is_u identified fronts).shown
+    answers-shown c.lemma_runs_are_maximal.ensures.only t u
+    (c.lemma_the_fronts_determine_the_text.ensures t u is_t is_u identified fronts).shown

@@ -4,7 +4,7 @@ ghost use Rattle.std.specs.Prelude.{◌≡◌, ◌+◌, ◌<◌, ◌≤◌, map,
 ghost use Rattle.std.specs.Iterator.{YieldsFirst, item_count};
 ghost use Rattle.std.specs.List.{flat_map};
 ghost use Rattle.char_files.specs.declared.TheConstants.{MAX_FILE};
-ghost use Rattle.piece_list.specs.RunCuts.{AreWithin, HasFront, with_first};
+ghost use Rattle.piece_list.specs.RunSplits.{AreWithin, HasFront, with_first};
 ghost use Rattle.piece_list.specs.Shown.{appearance_of, appearances_in};
 ghost use Rattle.piece_list.specs.Spelled.{spelled, shown_chars};
 
@@ -17,7 +17,7 @@ use std::marker::Model;
 /// the list of the runs that are left. It reads no piece after the last of them. This project's own.
 #[derive(Drop)]
 pub struct Between<'a> {
-    // The first run, if it was read before: cut at its front.
+    // The first run, if it was read before: split at its front.
     first: Option<Run>,
     // The runs after it.
     walk: Walk<'a>,
@@ -28,7 +28,7 @@ pub struct Between<'a> {
 impl<'a> Model for Between<'a> {
     ghost use Rattle.std.specs.Prelude.{List};
     ghost use Rattle.piece_list.specs.declared.run.Run.{Run as Seen};
-    ghost use Rattle.piece_list.specs.RunCuts.{first_chars, with_first};
+    ghost use Rattle.piece_list.specs.RunSplits.{first_chars, with_first};
 
     ghost Value = { List Seen };
 
@@ -59,7 +59,7 @@ impl<'a> Iterator for Between<'a> {
 }
 
 // Takes the first run of a walk, which has more than `n` characters, and leaves its first `n` out.
-fn cut_front(walk: &mut Walk<'_>, n: u64) -> Option<Run>
+fn skip_front(walk: &mut Walk<'_>, n: u64) -> Option<Run>
     requires within { AreWithin walk.old }
     requires front { HasFront n walk.old }
     ensures left { flat_map appearances_in (with_first result walk.new)
@@ -84,7 +84,7 @@ impl PieceList {
         ensures within { All (λ run. run.off + run.len ≤ MAX_FILE) result }
     {
         let (mut walk, before) = self.walk_from(beg);
-        let first = cut_front(&mut walk, before);
+        let first = skip_front(&mut walk, before);
         Between {
             first,
             walk,

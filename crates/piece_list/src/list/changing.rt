@@ -1,4 +1,4 @@
-//! How the characters of a set of names are changed: piece by piece, between cuts at each range's ends.
+//! How the characters of a set of names are changed: piece by piece, between splits at each range's ends.
 
 ghost use Rattle.std.specs.Prelude.{◌≡◌, ℕ, ◌+◌, ◌-◌, ◌*◌, ◌<◌, ◌≤◌, true, false, [], ◌∷◌, length, map, OnOk};
 ghost use Rattle.std.specs.Prelude.{◌++◌, ◌^◌, OnErr, IsTrue, vec_len, vec_capacity};
@@ -7,7 +7,7 @@ ghost use Rattle.operations.specs.NameSet.{IsSet};
 ghost use Rattle.operations.specs.declared.name_set.TheConstants.{MAX_RANGES};
 ghost use Rattle.tree_order.specs.Registers.{if_named, switched, relooked};
 ghost use Rattle.piece_list.specs.Changing.{changed_piece, changed_char, AreHere, IsEdge, IsNextEdge, AreTheSame};
-ghost use Rattle.piece_list.specs.Changing.{AreCutOnce};
+ghost use Rattle.piece_list.specs.Changing.{AreSplitOnce};
 ghost use Rattle.piece_list.specs.Held.{KeepFirsts};
 ghost use Rattle.piece_list.specs.Noted.{Notes, IsNoted, AreNoted, IsReplaceOf, ShowsOther, ShowsTheSame, appearances};
 ghost use Rattle.piece_list.specs.Noted.{kind_of, name_count};
@@ -89,10 +89,10 @@ fn enter(note: &mut Vec<Change>, index: &RankIndex, tag: u64, kind: ChangeKind, 
 }
 
 impl Pieces {
-    // Cuts the piece in two that reaches across this offset of the site's file, if one does.
-    fn cut_at(&mut self, site: SiteNo, off: u32)
+    // Splits the piece in two that reaches across this offset of the site's file, if one does.
+    fn split_across(&mut self, site: SiteNo, off: u32)
         requires room { 0 < self.old.room }
-        ensures cut { AreCutOnce self.old.items self.new.items }
+        ensures split { AreSplitOnce self.old.items self.new.items }
         ensures edge { IsEdge site off self.new.items }
         ensures room { self.old.room ≤ self.new.room + 1 }
     {
@@ -106,7 +106,7 @@ impl Pieces {
         let piece = self.ring.value_at(tag);
         if piece.off < off && Steps::none().compare(piece, name) {
             let within = off - piece.off;
-            self.cut(tag, within);
+            self.split(tag, within);
         }
     }
 
@@ -175,8 +175,8 @@ impl Pieces {
             note.old note.new self.old.items self.new.items }
     {
         for range in ranges {
-            self.cut_at(range.site(), range.at());
-            self.cut_at(range.site(), range.at() + range.len());
+            self.split_across(range.site(), range.at());
+            self.split_across(range.site(), range.at() + range.len());
             self.change_range(*range, setting, note);
         }
     }

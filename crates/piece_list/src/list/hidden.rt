@@ -23,8 +23,8 @@ impl PieceList {
     {
         let pieces = &self.pieces;
         match pieces.locate(name, &mut Steps::none()) {
-            Some(place) => {
-                let piece = pieces.ring.value_at(place.piece);
+            Some(spot) => {
+                let piece = pieces.ring.value_at(spot.piece);
                 (piece.hidden.value, piece.off + piece.len)
             }
             None => unreachable!(),

@@ -4,13 +4,13 @@ ghost use Rattle.std.specs.Prelude.{◌≡◌, ◌≢◌, ℕ, ◌+◌, ◌<◌,
 ghost use Rattle.std.specs.Prelude.{IfSome, IsSome};
 ghost use Rattle.char_files.specs.CharName.{CharName};
 ghost use Rattle.looks.specs.Refusal.{RefusedForMemoryAlone};
-ghost use Rattle.piece_list.specs.Held.{HasPlace, IsCut, IsPlaceOf};
+ghost use Rattle.piece_list.specs.Held.{HasSpot, IsSplit, IsSpotOf};
 ghost use Rattle.piece_list.specs.Placing.{IsCounted};
 ghost use Rattle.piece_list.specs.Spelled.{spelled, HasName};
 ghost use Rattle.piece_list.specs.Tables.{table_of};
 
 use crate::piece::Piece;
-use crate::place::Place;
+use crate::spot::Spot;
 use crate::steps::Steps;
 use crate::tags::TagTables;
 use char_files::{Name, SiteNo};
@@ -74,8 +74,8 @@ impl Pieces {
 
     // Where the character of this name stands. It reads one entry of a table, and compares the name with one piece at
     // most, which is counted.
-    pub(super) fn locate(&self, name: Name, steps: &mut Steps) -> Option<Place>
-        ensures place { IfSome result (λ place. IsPlaceOf self.now.items place name) }
+    pub(super) fn locate(&self, name: Name, steps: &mut Steps) -> Option<Spot>
+        ensures spot { IfSome result (λ spot. IsSpotOf self.now.items spot name) }
         ensures here { IsSome result ↔ HasName (spelled self.now.items) name }
         ensures counted { IsSome result → IsCounted steps.old 1 steps.new }
         ensures uncounted { ¬ IsSome result → steps.new ≡ steps.old }
@@ -85,22 +85,22 @@ impl Pieces {
         if !steps.compare(piece, name) {
             return None;
         }
-        Some(Place {
+        Some(Spot {
             piece: tag,
             within: name.off() - piece.off,
         })
     }
 
-    // Cuts the piece of this number after its first `n` characters. The rest gets the number that is answered.
-    pub(super) fn cut(&mut self, tag: u64, n: u32) -> u64
+    // Splits the piece of this number after its first `n` characters. The rest gets the number that is answered.
+    pub(super) fn split(&mut self, tag: u64, n: u32) -> u64
         requires some { 0 < n }
-        requires place { HasPlace self.old.items (record { piece = tag; within = n }) }
+        requires spot { HasSpot self.old.items (record { piece = tag; within = n }) }
         requires room { 0 < self.old.room }
-        ensures cut { IsCut tag n result self.old.items self.new.items }
-        ensures place { (c : CharName) → IsPlaceOf self.old.items (record { piece = tag; within = n }) c
-            → IsPlaceOf self.new.items (record { piece = result; within = 0 }) c }
-        ensures others { (other : Place) (c : CharName) → IsPlaceOf self.old.items other c
-            → (other.piece ≢ tag) ⊎ (other.within < n) → IsPlaceOf self.new.items other c }
+        ensures split { IsSplit tag n result self.old.items self.new.items }
+        ensures spot { (c : CharName) → IsSpotOf self.old.items (record { piece = tag; within = n }) c
+            → IsSpotOf self.new.items (record { piece = result; within = 0 }) c }
+        ensures others { (other : Spot) (c : CharName) → IsSpotOf self.old.items other c
+            → (other.piece ≢ tag) ⊎ (other.within < n) → IsSpotOf self.new.items other c }
         ensures room { self.old.room ≤ self.new.room + 1 }
         ensures long { (site : ℕ) → length (table_of self.new.tables site) ≡ length (table_of self.old.tables site) }
     {

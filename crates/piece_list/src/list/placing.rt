@@ -8,12 +8,12 @@ ghost use Rattle.char_files.specs.CharName.{CharName};
 ghost use Rattle.operations.specs.NameSet.{IsIn};
 ghost use Rattle.piece_raw.specs.Ring.{ring};
 ghost use Rattle.piece_list.specs.Pieces.{range_of, chars_of, IsPiece, piece_of};
-ghost use Rattle.piece_list.specs.Held.{HasPlace};
+ghost use Rattle.piece_list.specs.Held.{HasSpot};
 ghost use Rattle.piece_list.specs.Laws.{BeginNotAbove};
 ghost use Rattle.piece_list.specs.Noted.{Notes, appearances};
 ghost use Rattle.piece_list.specs.Placed.{IsPlaced};
-ghost use Rattle.piece_list.specs.Placing.{HasAnchor, compared, IsAnchorPlace, IsParted, HasPart, IsPartedAt};
-ghost use Rattle.piece_list.specs.Placing.{IsCounted, IsNext, IsSkip, IsPutInGap, last_look};
+ghost use Rattle.piece_list.specs.Placing.{HasAnchor, compared, IsAnchorSpot, IsParted, HasPart, IsPartedAt};
+ghost use Rattle.piece_list.specs.Placing.{IsCounted, IsNext, IsSkip, IsInsertedInGap, last_look};
 ghost use Rattle.piece_list.specs.Spelled.{spelled, shown_chars, ArePieces, HasName};
 ghost use Rattle.piece_list.specs.Tables.{table_of};
 ghost use Rattle.list_changes.specs.Changes.{IsOfKind};
@@ -22,8 +22,8 @@ ghost use Rattle.list_changes.specs.declared.change.ChangeKind.TheVariants.{Inse
 use super::PieceList;
 use super::pieces::Pieces;
 use crate::piece::Piece;
-use crate::place::Place;
 use crate::run::Run;
+use crate::spot::Spot;
 use crate::steps::Steps;
 use char_files::{Anchor, Name};
 use list_changes::{Change, ChangeKind};
@@ -48,7 +48,7 @@ fn next_above(pieces: &Ring<Piece>, steps: &mut Steps, last: Option<u64>, key: K
     }
 }
 
-// Puts the cursor on the piece of this number, before the first one for `None`.
+// Sets the cursor on the piece of this number, before the first one for `None`.
 fn stand_on(pieces: &mut Ring<Piece>, last: Option<u64>)
     requires { HasPart pieces.old.items last }
     ensures { pieces.new ≡ ring pieces.old.items last pieces.old.room }
@@ -74,48 +74,48 @@ impl Pieces {
         last
     }
 
-    // Makes the character of this place the last of its piece, which keeps its number.
-    fn cut_after(&mut self, place: Place)
-        requires place { HasPlace self.old.items place }
+    // Makes the character of this spot the last of its piece, which keeps its number.
+    fn split_after(&mut self, spot: Spot)
+        requires spot { HasSpot self.old.items spot }
         requires room { 0 < self.old.room }
-        ensures parted { (cause : Anchor) → IsAnchorPlace self.old.items cause (Just place)
-            → IsPartedAt self.old.items self.new.items (Just place.piece) cause }
+        ensures parted { (cause : Anchor) → IsAnchorSpot self.old.items cause (Just spot)
+            → IsPartedAt self.old.items self.new.items (Just spot.piece) cause }
         ensures room { self.old.room ≤ self.new.room + 1 }
         ensures long { (site : ℕ) → length (table_of self.new.tables site) ≡ length (table_of self.old.tables site) }
     {
-        let len = self.ring.value_at(place.piece).len;
-        let n = place.within + 1;
+        let len = self.ring.value_at(spot.piece).len;
+        let n = spot.within + 1;
         if n < len {
-            self.cut(place.piece, n);
+            self.split(spot.piece, n);
         }
     }
 
-    // The same for an anchor's place, and answers the piece's number; `None` for the root.
-    fn end_at(&mut self, place: Option<Place>) -> Option<u64>
-        requires place { IfSome place (λ at. HasPlace self.old.items at) }
+    // The same for an anchor's spot, and answers the piece's number; `None` for the root.
+    fn end_at(&mut self, spot: Option<Spot>) -> Option<u64>
+        requires spot { IfSome spot (λ at. HasSpot self.old.items at) }
         requires room { 0 < self.old.room }
-        ensures parted { (cause : Anchor) → IsAnchorPlace self.old.items cause place
+        ensures parted { (cause : Anchor) → IsAnchorSpot self.old.items cause spot
             → IsPartedAt self.old.items self.new.items result cause }
         ensures room { self.old.room ≤ self.new.room + 1 }
         ensures long { (site : ℕ) → length (table_of self.new.tables site) ≡ length (table_of self.old.tables site) }
     {
-        match place {
+        match spot {
             Some(at) => {
-                self.cut_after(at);
+                self.split_after(at);
                 Some(at.piece)
             }
             None => None,
         }
     }
 
-    // Puts a piece directly after the one of this number, at the front for `None`, and enters its names.
-    fn put(&mut self, last: Option<u64>, piece: Piece)
+    // Inserts a piece directly after the one of this number, at the front for `None`, and enters its names.
+    fn insert(&mut self, last: Option<u64>, piece: Piece)
         requires part { HasPart self.old.items last }
         requires piece { IsPiece piece }
         requires new { (c : CharName) → IsIn (range_of piece) c → ¬ HasName (spelled self.old.items) c }
         requires fits { piece.off + piece.len ≤ length (table_of self.old.tables piece.site) }
         requires room { 0 < self.old.room }
-        ensures put { (before after : List (ℕ × Piece)) → IsParted self.old.items last before after
+        ensures insert { (before after : List (ℕ × Piece)) → IsParted self.old.items last before after
             → (tag : ℕ) × (self.new.items ≡ before ++ (tag, piece) ∷ after) }
         ensures pieces { ArePieces self.new.items }
     {
@@ -153,9 +153,9 @@ fn note_run(note: &mut Vec<Change>, to: Option<u64>, len: u32)
 
 impl PieceList {
     // Where the anchor stands; `None` for the root.
-    fn locate_cause(&mut self, cause: Anchor) -> Option<Place>
+    fn locate_cause(&mut self, cause: Anchor) -> Option<Spot>
         requires { HasAnchor (spelled self.old.items) cause }
-        ensures place { IsAnchorPlace self.old.items cause result }
+        ensures spot { IsAnchorSpot self.old.items cause result }
         ensures seen { self.new ≡ record { items = self.old.items; steps = compared cause } }
     {
         match cause {
@@ -175,8 +175,8 @@ impl PieceList {
         let _ = &pieces.ring;
     }
 
-    /// Puts a run, as one piece, directly after its cause and the longest stretch of characters of greater
-    /// key that follows the cause. Where the cause isn't the last of its piece, the piece is cut after it.
+    /// Inserts a run, as one piece, directly after its cause and the longest stretch of characters of greater
+    /// key that follows the cause. Where the cause isn't the last of its piece, the piece is split after it.
     ///
     /// The run has 1 to 4,096 characters within its site's file, none of them in the list, and the cause is
     /// the root or in the list. `steps` counts one comparison that finds the cause, none for the root, and a
@@ -189,7 +189,7 @@ impl PieceList {
         ensures placed { OnOk result (IsPlaced run.key cause (chars_of (piece_of run))
             (spelled self.old.items) (spelled self.new.items)) }
         ensures steps { OnOk result
-            (IsPutInGap cause (piece_of run) self.old.items self.new.items self.new.steps) }
+            (IsInsertedInGap cause (piece_of run) self.old.items self.new.items self.new.steps) }
         ensures errors { RefusedForMemoryAlone result }
         ensures err { OnErr result
             (self.new ≡ record { items = self.old.items; steps = compared cause }) }
@@ -213,7 +213,7 @@ impl PieceList {
         ensures placed { OnOk result (IsPlaced run.key cause (chars_of (piece_of run))
             (spelled self.old.items) (spelled self.new.items)) }
         ensures steps { OnOk result
-            (IsPutInGap cause (piece_of run) self.old.items self.new.items self.new.steps) }
+            (IsInsertedInGap cause (piece_of run) self.old.items self.new.items self.new.steps) }
         ensures errors { RefusedForMemoryAlone result }
         ensures err { OnErr result ((self.new ≡ record { items = self.old.items; steps = compared cause })
             × (note.new.items ≡ note.old.items)) }
@@ -227,7 +227,7 @@ impl PieceList {
         self.pieces.reserve_names(site, off + len)?;
         let end = self.pieces.end_at(found);
         let last = self.pieces.skip(&mut self.steps, end, run.key);
-        self.pieces.put(last, Piece::of_run(run));
+        self.pieces.insert(last, Piece::of_run(run));
         self.lemma_shown_is_countable();
         match Name::new(site, off) {
             Some(first) => note_run(note, self.shown_to(first), len),

@@ -6,15 +6,15 @@ ghost use Rattle.std.specs.Iterator.{YieldsFirst, item_count};
 ghost use Rattle.std.specs.List.{flat_map};
 ghost use Rattle.tree_order.specs.Registers.{atom_looks};
 ghost use Rattle.char_files.specs.declared.TheConstants.{MAX_FILE};
-ghost use Rattle.piece_list.specs.Held.{IsPlaceOf};
-ghost use Rattle.piece_list.specs.RunCuts.{AreWithin, HasFront};
+ghost use Rattle.piece_list.specs.Held.{IsSpotOf};
+ghost use Rattle.piece_list.specs.RunSplits.{AreWithin, HasFront};
 ghost use Rattle.piece_list.specs.Shown.{AreShownTo, appearance_of, appearances_in, shown_runs};
 ghost use Rattle.piece_list.specs.Spelled.{spelled, shown_chars, HasName};
 
 use super::PieceList;
 use crate::piece::Piece;
-use crate::place::Place;
 use crate::run::Run;
+use crate::spot::Spot;
 use crate::steps::Steps;
 use char_files::Name;
 use looks::Looks;
@@ -71,21 +71,21 @@ impl PieceList {
         ensures count { IfSome result (AreShownTo (spelled self.now.items) name) }
     {
         let pieces = &self.pieces;
-        let place = pieces.locate(name, &mut Steps::none())?;
-        let piece = pieces.ring.value_at(place.piece);
-        let before = pieces.index.rank(place.piece);
-        Some(before + u64::from(piece.shown_of(place.within + 1)))
+        let spot = pieces.locate(name, &mut Steps::none())?;
+        let piece = pieces.ring.value_at(spot.piece);
+        let before = pieces.index.rank(spot.piece);
+        Some(before + u64::from(piece.shown_of(spot.within + 1)))
     }
 
-    /// The place of the character that is shown at this position, from 0. There is one.
-    pub fn locate_pos(&self, pos: u64) -> Place
+    /// The spot of the character that is shown at this position, from 0. There is one.
+    pub fn locate_pos(&self, pos: u64) -> Spot
         requires { pos < length (shown_chars (spelled self.now.items)) }
         ensures { IfSome (slice_get (shown_chars (spelled self.now.items)) pos)
-            (λ k. IsPlaceOf self.now.items result k.name) }
+            (λ k. IsSpotOf self.now.items result k.name) }
     {
         let pieces = &self.pieces;
         let (piece, within) = pieces.index.find(pos);
-        Place {
+        Spot {
             piece,
             within: within as u32,
         }
@@ -97,10 +97,10 @@ impl PieceList {
         ensures { IfSome (slice_get (shown_chars (spelled self.now.items)) pos)
             (λ k. (result.0 ≡ k.name) × (result.1 ≡ atom_looks k)) }
     {
-        let place = self.locate_pos(pos);
+        let spot = self.locate_pos(pos);
         let pieces = &self.pieces;
-        let piece = pieces.ring.value_at(place.piece);
-        match Name::new(piece.site, piece.off + place.within) {
+        let piece = pieces.ring.value_at(spot.piece);
+        match Name::new(piece.site, piece.off + spot.within) {
             Some(name) => (name, piece.looks()),
             None => unreachable!(),
         }

@@ -12,7 +12,7 @@ returns c = λ start start' i j text text' s s' t u lines few few' at_t at_u ide
     few (c.lemma_each_trace_is_reached.ensures start s at_t.after) at_t.there in
     let numbered' = c.lemma_what_is_reached_is_numbered.ensures start'.first start'.count start'.width start'.height start'.files s' j
     text' u few' (c.lemma_each_trace_is_reached.ensures start' s' at_u.after) at_u.there in
-    let fronts = c.lemma_front_lines_tell_the_fronts.ensures t u lines numbered numbered'
+    let fronts = c.lemma_front_lines_determine_the_fronts.ensures t u lines numbered numbered'
     (query_replied s i text t Front (lines ++ waiting_line (length t.waiting_room)) at_t.there said)
     (query_replied s' j text' u Front (lines ++ waiting_line (length u.waiting_room)) at_u.there said') in
     answered s s' i j text text' t u at_t.there at_u.there

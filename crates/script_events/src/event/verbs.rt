@@ -44,6 +44,7 @@ pub(crate) enum LongVerb {
     Take,
     Merge,
     Where,
+    Names,
 }
 
 #[derive(Clone, Copy, Debug)]
@@ -65,7 +66,7 @@ pub(crate) enum DeskVerb {
 }
 
 // The verbs: a row for each.
-const VERBS: [(&[u8], Verb); 26] = [
+const VERBS: [(&[u8], Verb); 27] = [
     (b"type", Verb::Edit(EditVerb::TypeIn)),
     (b"cut", Verb::Edit(EditVerb::Cut)),
     (b"looks", Verb::Edit(EditVerb::Looks)),
@@ -79,6 +80,7 @@ const VERBS: [(&[u8], Verb); 26] = [
     (b"front", Verb::Queries(Query::Front)),
     (b"runs", Verb::Queries(Query::Runs)),
     (b"where", Verb::Long(LongVerb::Where)),
+    (b"names", Verb::Long(LongVerb::Names)),
     (b"keep", Verb::Desk(DeskVerb::Keep)),
     (b"reopen", Verb::Desk(DeskVerb::Reopen)),
     (b"open", Verb::Arrange(ArrangeVerb::Open)),

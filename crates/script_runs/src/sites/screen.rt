@@ -1,7 +1,7 @@
 //! What a run's sites do with their screens.
 
 ghost use Rattle.std.specs.Prelude.{◌≤◌, ◌<◌, List, ℕ, length};
-ghost use Rattle.machine.specs.Events.{arrange, ask, edit_reply, put as puts};
+ghost use Rattle.machine.specs.Events.{arrange, ask, edit_reply, insert_at_caret};
 ghost use Rattle.script_events.specs.EventView.{OpensDeskText};
 ghost use Rattle.script_events.specs.Script.{plain_items};
 ghost use Rattle.script_runs.specs.Replying.{reply_of};
@@ -47,7 +47,7 @@ impl Sites {
         requires in_run { desk < length self.old.desks }
         requires short { length bytes.now ≤ MAX_LINE }
         ensures { (messages : List (List ℕ)) × Replied self.old
-            (ask desk (puts (plain_items bytes.now))) (edit_reply result messages) self.new }
+            (ask desk (insert_at_caret (plain_items bytes.now))) (edit_reply result messages) self.new }
     {
         match bytes.as_plain() {
             Some(plain) => self.desks[desk].key(plain, &mut self.outbox),

@@ -339,7 +339,7 @@ fn check_case(alloc: Global, case: &Case) -> Result<(), Fail> {
 }
 
 #[test]
-fn registers_tell_what_is_shown(rt: HostRuntime) -> Result<(), Fail> {
+fn registers_determine_what_is_shown(rt: HostRuntime) -> Result<(), Fail> {
     for case in CASES {
         check_case(rt.alloc(), case)?;
     }

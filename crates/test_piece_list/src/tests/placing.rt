@@ -1,17 +1,17 @@
 ghost use Rattle.std.specs.Prelude.{◌≡◌, IfOk};
-ghost use Rattle.piece_list.specs.Held.{HasPlace};
+ghost use Rattle.piece_list.specs.Held.{HasSpot};
 
 use super::changing::{Step, make};
 use super::told::{Told, has, is, name, new_list, try_place};
 use char_files::Anchor;
 use looks::Refusal;
-use piece_list::{PieceList, Place};
+use piece_list::{PieceList, Spot};
 use std::alloc::Global;
 use std::test::Fail;
 
-pub(super) fn find(list: &mut PieceList, site: u16, off: u32) -> Result<Place, Fail>
+pub(super) fn find(list: &mut PieceList, site: u16, off: u32) -> Result<Spot, Fail>
     ensures items { list.new.items ≡ list.old.items }
-    ensures place { IfOk result (λ place. HasPlace list.new.items place) }
+    ensures place { IfOk result (λ place. HasSpot list.new.items place) }
 {
     let found = list.locate(name(site, off)?);
     Ok(found.ok_or("a name that is there")?)
@@ -19,7 +19,7 @@ pub(super) fn find(list: &mut PieceList, site: u16, off: u32) -> Result<Place, F
 
 // Splits before a name, and answers where it stands then. Where memory is refused, the list is as it was,
 // and the next try succeeds.
-fn split(list: &mut PieceList, site: u16, off: u32, before: &[Told]) -> Result<Place, Fail> {
+fn split(list: &mut PieceList, site: u16, off: u32, before: &[Told]) -> Result<Spot, Fail> {
     let place = find(list, site, off)?;
     let refusal = match list.split(place) {
         Ok(rest) => return Ok(rest),
@@ -40,7 +40,7 @@ const HALVES: &[Told] = &[((1, 0, 3), false), ((1, 3, 3), false)];
 const THREE: &[Told] = &[((1, 0, 3), false), ((1, 3, 2), false), ((1, 5, 1), false)];
 
 // Answers where the second half stands.
-fn cuts_in_two(list: &mut PieceList) -> Result<Place, Fail> {
+fn cuts_in_two(list: &mut PieceList) -> Result<Spot, Fail> {
     let first = find(list, 1, 0)?;
     let rest = split(list, 1, 0, WHOLE)?;
     is(rest == first && has(list, WHOLE), "nothing to cut")?;
@@ -52,7 +52,7 @@ fn cuts_in_two(list: &mut PieceList) -> Result<Place, Fail> {
     Ok(middle)
 }
 
-fn cuts_in_three(list: &mut PieceList, middle: Place) -> Result<(), Fail> {
+fn cuts_in_three(list: &mut PieceList, middle: Spot) -> Result<(), Fail> {
     let last = split(list, 1, 5, HALVES)?;
     let found = find(list, 1, 5)?;
     is(found == last && has(list, THREE), "three")?;

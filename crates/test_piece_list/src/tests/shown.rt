@@ -5,7 +5,7 @@ use super::told::{is, name, try_place};
 use char_files::{Anchor, Name};
 use looks::{Key, Looks};
 use operations::NameSet;
-use piece_list::{PieceList, Place};
+use piece_list::{PieceList, Spot};
 use std::alloc::Global;
 use std::test::Fail;
 
@@ -84,7 +84,7 @@ fn splits_six(list: &mut PieceList, name: Name) -> Result<(), Fail> {
 }
 
 // The place of the character that is shown at this position.
-fn place_at(list: &PieceList, pos: u64) -> Option<Place> {
+fn place_at(list: &PieceList, pos: u64) -> Option<Spot> {
     if list.shown_len() <= pos {
         return None;
     }
@@ -100,7 +100,7 @@ fn tells_of_six(list: &PieceList, third: Name) -> Result<(), Fail> {
     is(run.key == Key { stamp: 1, site: 1 }, "its key")?;
     for (pos, piece, within) in [(0, 0, 0), (1, 0, 1), (2, 1, 0), (5, 1, 3)] {
         is(
-            place_at(list, pos) == Some(Place { piece, within }),
+            place_at(list, pos) == Some(Spot { piece, within }),
             "a place",
         )?;
     }

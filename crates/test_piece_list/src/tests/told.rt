@@ -9,7 +9,7 @@ ghost use Rattle.piece_list.specs.Spelled.{spelled, HasName};
 
 use char_files::{Anchor, MAX_FILE, Name, SiteNo};
 use looks::{Key, Looks, Refusal};
-use piece_list::{MAX_PIECE, PieceList, Place, Run};
+use piece_list::{MAX_PIECE, PieceList, Run, Spot};
 use std::alloc::Global;
 use std::test::Fail;
 
@@ -111,7 +111,7 @@ pub(super) fn try_place(
     Err("no cause, or a name that is there".into())
 }
 
-fn place_of(list: &mut PieceList, site: u16, off: u32) -> Option<Place> {
+fn place_of(list: &mut PieceList, site: u16, off: u32) -> Option<Spot> {
     list.locate(name_of(site, off)?)
 }
 

@@ -1,19 +1,24 @@
 use std::io;
 
-// A reader that gives at most `step` bytes at a time; after its bytes it ends, or fails.
+// A reader that gives at most `step` bytes at a time. With `good` it fails once, after so many, and would go on then.
 #[derive(Clone, Copy, Drop)]
 pub(super) struct Reader<'a> {
     pub bytes: &'a [u8],
     pub step: usize,
-    pub fails: bool,
+    pub good: Option<usize>,
 }
 
 impl io::Read for Reader<'_> {
     fn read(&mut self, buf: &mut [u8]) -> io::Result<usize> {
-        if self.fails && self.bytes.is_empty() {
+        if self.good == Some(0) {
+            self.good = None;
             return Err(io::ErrorKind::Other.into());
         }
-        let len = self.bytes.len().min(self.step).min(buf.len());
+        let most = self.good.unwrap_or(self.step).min(self.step);
+        let len = self.bytes.len().min(most).min(buf.len());
+        if let Some(good) = self.good {
+            self.good = Some(good.saturating_sub(len));
+        }
         let (given, left) = self.bytes.split_at(len);
         buf[..len].copy_from_slice(given);
         self.bytes = left;

@@ -101,7 +101,7 @@ const ANSWERS: &[u8] =
     b"send m1 4f5401010001000100000001000000000000000100000000000000000000104f6265726f6e31302e53636e2e466e74010000064f6265726f6e\nok\ntext 6 Oberon\nrefused 20\n";
 
 // How much of the script is given before a fault, from so many bytes up to so many, and what is answered then: to the
-// lines that ended, and the refusal.
+// lines that ended, and the refusal; nothing to what the reader would give after its fault.
 const CUT_OFF: &[(usize, usize, &[u8])] = &[
     (0, 18, b"refused 21\n"),
     (
@@ -124,9 +124,9 @@ const CUT_OFF: &[(usize, usize, &[u8])] = &[
 fn cut_off(alloc: Global, (beg, end, want): (usize, usize, &[u8])) -> Result<(), Fail> {
     for len in beg..end {
         let reader = Reader {
-            bytes: SCRIPT.get(..len).ok_or("a part")?,
+            bytes: SCRIPT,
             step: 1000,
-            fails: true,
+            good: Some(len),
         };
         leaves(alloc, reader, TAKES_ALL, (want, READ_FAULT))?;
     }
@@ -134,7 +134,7 @@ fn cut_off(alloc: Global, (beg, end, want): (usize, usize, &[u8])) -> Result<(),
 }
 
 #[test]
-fn the_reader_fails_at_each_byte(rt: HostRuntime) -> Result<(), Fail> {
+fn the_reader_fails_once_at_each_byte(rt: HostRuntime) -> Result<(), Fail> {
     for row in CUT_OFF {
         cut_off(rt.alloc(), *row)?;
     }
@@ -157,7 +157,7 @@ fn fails_at_each_byte(alloc: Global, (fault, step): (Fault, usize)) -> Result<()
     let reader = Reader {
         bytes: SCRIPT,
         step: 1000,
-        fails: false,
+        good: None,
     };
     for room in 0..ANSWERS.len() {
         let want = (&ANSWERS[..room], WRITE_FAULT);
@@ -182,7 +182,7 @@ fn reader_and_writer_fail(rt: HostRuntime) -> Result<(), Fail> {
     let reader = Reader {
         bytes: b"1 text 1\n2 text 1",
         step: 1000,
-        fails: true,
+        good: Some(17),
     };
     for room in 0..want.len() {
         // The reader is asked again after the first answer.
@@ -249,7 +249,7 @@ fn answers_are_flushed(rt: HostRuntime) -> Result<(), Fail> {
         let reader = Reader {
             bytes: *bytes,
             step: *step,
-            fails: *fails,
+            good: fails.then_some(bytes.len()),
         };
         let how = (Fault::Fails, 1000, 1000, *most);
         let flushes = leaves(rt.alloc(), reader, how, (*answers, *end))?;

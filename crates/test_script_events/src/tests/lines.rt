@@ -79,6 +79,7 @@ const OF_TEXTS: &[&str] = &[
     "2 runs 1",
     "2 front 1",
     "2 where 1 2 0 1",
+    "2 names 1 0 1",
 ];
 
 // The event that a line spells.

@@ -26,12 +26,18 @@ fn types_one(
 
 fn follows(alloc: Global, replica: &mut Replica, frame: &mut Frame) -> Result<(), Fail> {
     is(frame.reads() >= 2, "that it read the text")?;
+    let before = frame.all_reads();
+    is(before == frame.reads(), "all that it read")?;
     shows(frame, &[b"a         ", b"b         "])?;
     types_one(alloc, replica, frame, 4, b'z')?;
     is(frame.reads() == 0, "a change after the rows")?;
     shows(frame, &[b"a         ", b"b         "])?;
     types_one(alloc, replica, frame, 3, b'y')?;
     is(frame.reads() == 5, "a change in the last row")?;
+    is(
+        frame.all_reads().checked_sub(before) == Some(5),
+        "all reads",
+    )?;
     shows(frame, &[b"a         ", b"by        "])
 }
 

@@ -1,13 +1,18 @@
 //! Insertions, a piece at a time.
 
-ghost use Rattle.std.specs.Prelude.{◌≡◌, ◌<◌, ◌≤◌, ◌+◌, ℕ, List, None, length, IfOk, OnOk};
+ghost use Rattle.std.specs.Prelude.{◌≡◌, ◌≢◌, ◌<◌, ◌≤◌, ◌+◌, ℕ, List, [], None, Err, length, map, IfOk, IsOk, OnOk};
+ghost use Rattle.looks.specs.Looks.{plain_looks};
+ghost use Rattle.looks.specs.Refusal.{RefusedForMemoryAlone};
+ghost use Rattle.char_files.specs.Stretch.{Item};
+ghost use Rattle.char_files.specs.declared.TheConstants.{MAX_FILE};
 ghost use Rattle.operations.specs.Operation.{insert};
 ghost use Rattle.operations.specs.Seen.{kind_of};
 ghost use Rattle.operations.specs.Spelling.{IsCause, IsKind};
 ghost use Rattle.set_laws.specs.Fronts.{file_len};
-ghost use Rattle.texts.specs.Edit.{anchor_before, insertion, own_insert};
+ghost use Rattle.texts.specs.Edit.{anchor_before, insertion, own_insert, recalling};
 ghost use Rattle.texts.specs.Outcome.{EditsSending, refusal_for};
 ghost use Rattle.texts.specs.Own.{SendsOne};
+ghost use Rattle.texts.specs.Pieces.{first_len};
 ghost use Rattle.texts.specs.TextState.{shown_of};
 
 use super::Replica;
@@ -18,7 +23,34 @@ use crate::outbox::Outbox;
 use char_files::{Anchor, Buffer};
 use looks::{Looks, Refusal};
 use operations::{Kind, MAX_INSERT};
-use std::alloc::AllocError;
+use std::alloc::{AllocError, Global};
+
+// These bytes in default looks. No bytes take no memory.
+fn plain_buffer(alloc: Global, bytes: &[u8]) -> Result<Buffer, Refusal>
+    requires { length bytes.now ≤ MAX_FILE }
+    ensures ok { IfOk result (λ buffer. buffer ≡ map (λ b. (b, plain_looks)) bytes.now) }
+    ensures errors { RefusedForMemoryAlone result }
+    ensures empty { bytes.now ≡ [] → IsOk result }
+{
+    let mut buffer = Buffer::new(alloc);
+    if !bytes.is_empty() {
+        buffer.push_all(bytes, &Looks::plain())?;
+    }
+    Ok(buffer)
+}
+
+// How many bytes the first Insert of a stretch has.
+fn first_len(buffer: &Buffer) -> usize
+    ensures value { result ≡ first_len buffer.now }
+    ensures few { result ≤ MAX_INSERT }
+    ensures some { buffer.now ≢ [] → 0 < result }
+{
+    let mut pieces = Pieces::of(buffer);
+    match pieces.next() {
+        Some(piece) => piece.bytes.len(),
+        None => 0,
+    }
+}
 
 impl Replica {
     // The cause of an own Insert after the first `pos` characters shown.
@@ -86,6 +118,22 @@ impl Replica {
         self.make(kind, outbox)
     }
 
+    // What an insertion answers whose stretch was refused memory for this: its first Insert, of so many bytes, may be
+    // refused whatever the memory.
+    fn unmade(&self, len: usize, why: Refusal) -> EditRefusal
+        requires some { 0 < len }
+        requires few { len ≤ MAX_INSERT }
+        requires memory { why ≡ Refusal.OutOfMemory }
+        ensures { (pos : ℕ) (items : List Item) (sent : List (List ℕ)) → pos ≤ length (shown_of self.now)
+            → first_len items ≡ len → EditsSending self.now (insertion pos items) (Err result) self.now sent sent }
+    {
+        self.lemma_is_text();
+        match self.insert_refusal(len) {
+            Some(first) => EditRefusal::Whole(first),
+            None => EditRefusal::Whole(why),
+        }
+    }
+
     /// Puts a stretch after the first `pos` characters shown: an Insert for each stretch of equal looks, and for
     /// each 4,096 bytes of it, each later one after the one before it.
     ///
@@ -124,5 +172,36 @@ impl Replica {
             self.new outbox.old outbox.new }
     {
         self.insert(self.shown_len(), buffer, outbox)
+    }
+
+    /// Puts bytes of default looks after the first `pos` characters shown, as `insert` does: their stretch takes memory
+    /// after all that refuses the first Insert.
+    pub fn type_in(
+        &mut self,
+        pos: u64,
+        bytes: &[u8],
+        outbox: &mut Outbox,
+    ) -> Result<u32, EditRefusal>
+        requires in_text { pos ≤ length (shown_of self.old) }
+        requires short { length bytes.now ≤ MAX_FILE }
+        ensures { EditsSending self.old (insertion pos (map (λ b. (b, plain_looks)) bytes.now)) result
+            self.new outbox.old outbox.new }
+    {
+        match plain_buffer(self.alloc, bytes) {
+            Ok(buffer) => self.insert(pos, &buffer, outbox),
+            Err(why) => Err(self.unmade(bytes.len().min(MAX_INSERT), why)),
+        }
+    }
+
+    /// Puts a copy of the stretch that the site deleted last after the first `pos` characters shown, as `insert` does:
+    /// the copy takes memory after all that refuses the first Insert.
+    pub fn insert_recalled(&mut self, pos: u64, outbox: &mut Outbox) -> Result<u32, EditRefusal>
+        requires in_text { pos ≤ length (shown_of self.old) }
+        ensures { EditsSending self.old (recalling pos) result self.new outbox.old outbox.new }
+    {
+        match self.recall() {
+            Ok(stretch) => self.insert(pos, &stretch, outbox),
+            Err(why) => Err(self.unmade(first_len(&self.stretch), why)),
+        }
     }
 }

@@ -21,7 +21,7 @@ pub fn the_latest_is_shown_at_its_place()
 {}
 
 /// A law: an anchor that is shown has as its place the index after it in what is shown; the root has 0.
-pub fn places_are_told_by_what_is_shown()
+pub fn places_are_determined_by_what_is_shown()
     ensures { PlaceIsAfter }
 {}
 

@@ -1,11 +1,24 @@
 use Rattle.std.proofs.Common.{List, sym, subst}
 use Rattle.list_changes.specs.declared.change.Change.{Change}
 use Rattle.machine.specs.SiteTexts.{InText}
-use Rattle.desk_windows.specs.Windows.{Follows}
+use Rattle.desk_windows.specs.Windows.{AreToldOnce, Follows}
 use Rattle.commands.proofs.Following.{site_follows, desk_is_told}
 use Rattle.commands.proofs.telling.tell.Goals as goal
 
--- src/telling.rt:16:1
+pub returns-clause-once : goal.returns-clause-once
+returns-clause-once c =
+    let (t, at, since) = c.changes-changes.ensures.told in
+    let (now, here, once) = c.tell.ensures.once in (
+      c.changes-changes.result.items,
+      t,
+      now,
+      at,
+      since,
+      here,
+      subst (λ (changes : List Change). AreToldOnce c.args.text changes now c.args.windows.now.viewers c.tell.new.self.viewers)
+          c.deref.ensures.value once,
+    )
+
 pub returns-clause-shown : goal.returns-clause-shown
 returns-clause-shown c = λ d are told grown.
     let asked = c.changes-changes.ensures.asked in

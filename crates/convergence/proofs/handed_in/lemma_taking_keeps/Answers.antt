@@ -5,7 +5,7 @@ use Rattle.looks.specs.declared.refusal.Refusal.TheVariants.{RoomFull}
 use Rattle.operations.specs.Operation.{Operation}
 use Rattle.set_laws.specs.Sets.{AreIdentified}
 use Rattle.waiting_room.specs.declared.room.TheConstants.{MAX_WAITING}
-use Rattle.texts.specs.Take.{Becomes, HasFate, Stays, Takes, TakesIn, TakesShort, Tells}
+use Rattle.texts.specs.Take.{Becomes, HasFate, Stays, Takes, TakesIn, TakesShort, Encodes}
 use Rattle.texts.specs.Text.{IsText}
 use Rattle.texts.specs.TextState.{TextState, with_room}
 use Rattle.texts.specs.declared.fate.Fate.{Fate}
@@ -21,29 +21,29 @@ use Rattle.convergence.proofs.handed_in.lemma_taking_keeps.Goals as goal
 -- what was handed in is kept, with the operation where it counts
 abbrev IsKeptWith : List ℕ → List Operation → Result Took Refusal → TextState → Type 0
 IsKeptWith message all result new = MatchBool (is_handed_in result)
-    ((op : Operation) → Tells message op → AreIdentified (all ++ op ∷ []) → AccountsFor new (all ++ op ∷ []))
+    ((op : Operation) → Encodes message op → AreIdentified (all ++ op ∷ []) → AccountsFor new (all ++ op ∷ []))
     (AccountsFor new all)
 
 module _ (draining : KeptByDraining) (t : TextState)
     (message : List ℕ) (all : List Operation) (text : IsText t) (keeps : AccountsFor t all) where
   -- it is enough to keep the operation that the message tells
-  kept_if_told : (op : Operation) → Tells message op → (new : TextState)
+  kept_if_told : (op : Operation) → Encodes message op → (new : TextState)
       → (AreIdentified (all ++ op ∷ []) → AccountsFor new (all ++ op ∷ []))
-      → (other : Operation) → Tells message other → AreIdentified (all ++ other ∷ []) → AccountsFor new (all ++ other ∷ [])
+      → (other : Operation) → Encodes message other → AreIdentified (all ++ other ∷ []) → AccountsFor new (all ++ other ∷ [])
   kept_if_told op told new kept other told' known =
       let same : op ≡ other = one_told message op other told told' in
       subst (λ (o : Operation). AreIdentified (all ++ o ∷ []) → AccountsFor new (all ++ o ∷ [])) same kept known
 
   -- one that waits or is settled changes nothing
-  kept_unchanged : (op : Operation) → Tells message op → Contains t.waiting_room op ⊎ IsSettled t.operations op
-      → (other : Operation) → Tells message other → AreIdentified (all ++ other ∷ []) → AccountsFor t (all ++ other ∷ [])
+  kept_unchanged : (op : Operation) → Encodes message op → Contains t.waiting_room op ⊎ IsSettled t.operations op
+      → (other : Operation) → Encodes message other → AreIdentified (all ++ other ∷ []) → AccountsFor t (all ++ other ∷ [])
   kept_unchanged op told is = kept_if_told op told t (λ known. record {
     identified = known;
     kept = kept_as_it_is t.operations t.waiting_room all op is keeps.kept;
   })
 
   -- one that waits now
-  kept_waiting : (op : Operation) → Tells message op → (other : Operation) → Tells message other
+  kept_waiting : (op : Operation) → Encodes message op → (other : Operation) → Encodes message other
       → AreIdentified (all ++ other ∷ [])
       → AccountsFor (with_room t (t.waiting_room ++ op ∷ [])) (all ++ other ∷ [])
   kept_waiting op told = kept_if_told op told (with_room t (t.waiting_room ++ op ∷ [])) (λ known. record {
@@ -52,7 +52,7 @@ module _ (draining : KeptByDraining) (t : TextState)
   })
 
   -- or is refused for want of a place
-  kept_entering : (op : Operation) → Tells message op → (place : Bool) → (result : Result Took Refusal)
+  kept_entering : (op : Operation) → Encodes message op → (place : Bool) → (result : Result Took Refusal)
       → (new : TextState)
       → MatchBool place ((result ≡ Ok Waits) × (new ≡ with_room t (t.waiting_room ++ op ∷ [])))
       (Stays t (Err RoomFull) result new)
@@ -61,7 +61,7 @@ module _ (draining : KeptByDraining) (t : TextState)
   kept_entering op told false result new (answer, same) = rw answer (rw same keeps)
 
   -- one that is taken in, with the draining after it
-  kept_taken_in : (op : Operation) → Tells message op → (stopped : Bool) → (result : Result Took Refusal)
+  kept_taken_in : (op : Operation) → Encodes message op → (stopped : Bool) → (result : Result Took Refusal)
       → (new : TextState) → TakesIn t op stopped result new → IsKeptWith message all result new
   kept_taken_in op told stopped result new (with_op, drained, dropped, has, drains, answer) =
       rw answer (kept_if_told op told new (λ known.
@@ -69,7 +69,7 @@ module _ (draining : KeptByDraining) (t : TextState)
       (kept_with_all t with_op (op ∷ []) all text keeps has known) drains))
 
   -- whatever becomes of the operation
-  kept_by_fate : (op : Operation) → Tells message op → (fate : Fate) → HasFate t op fate
+  kept_by_fate : (op : Operation) → Encodes message op → (fate : Fate) → HasFate t op fate
       → (result : Result Took Refusal) (new : TextState) → Becomes t op fate result new
       → IsKeptWith message all result new
   kept_by_fate op told OtherText is result new (answer, same) = rw answer (rw same keeps)

@@ -4,6 +4,6 @@ use Rattle.operations.proofs.writing.write_looks.Goals as goal
 
 pub returns-clause-ok : goal.returns-clause-ok
 returns-clause-ok c =
-    all_of_it c.put_looks-put.result c.all_or_nothing.result c.args.out.now.items c.put_looks-put.new.out.items
-    c.all_or_nothing.new.out.items (looks_spelling c.args.looks.now) c.put_looks-put.ensures c.all_or_nothing.ensures.ok
+    all_of_it c.put_looks-written.result c.all_or_nothing.result c.args.out.now.items c.put_looks-written.new.out.items
+    c.all_or_nothing.new.out.items (looks_spelling c.args.looks.now) c.put_looks-written.ensures c.all_or_nothing.ensures.ok
     c.all_or_nothing.ensures.kept

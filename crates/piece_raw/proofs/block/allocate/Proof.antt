@@ -43,7 +43,7 @@ use Rattle.std.specs.contracts.alloc.AllocError as AE
 use Rattle.std.proofs.alloc.Calls.{Al, Answer-typed, Takes, at_takes, Answered, Takes-goes, Takes-gives}
 use Rattle.std.proofs.alloc.Calls.{answers}
 use Rattle.std.proofs.ResultValues.{ok_of, err_of}
-use Rattle.piece_raw.proofs.Blocks.{args, RA, Dd, Bl, written, block, Rejoins, block_cut}
+use Rattle.piece_raw.proofs.Blocks.{args, RA, Dd, Bl, written, block, Rejoins, block_split}
 use contract.Monad.{fact, fact_i}
 use denote.Triple.Table.{framed}
 use Rattle.piece_raw.proofs.Walks.{𝓣}
@@ -121,7 +121,7 @@ allocate_spec 𝓤 𝓛 𝓜 𝓡 wired X W LX LW g d dd met md =
     sets ! (agg ! (and_then ! (get ! refl) (and_then ! (get ! refl) (no_more !)))) refl typed $
     sets_last ! (agg ! (and_then ! (lit ! tt) (and_then ! (get ! refl) (no_more !)))) refl ok $
     exec ! T.C T.Λ En (after 2 e.body) (at_ret En Post) $ sets ! (of_opd ! (get ! refl)) refl ok $
-    use1 𝓛 (‵ (room_owns (RV E) p) ⊛ ‵ (Rejoins E p)) (block_cut E 𝓛 b o) $ split ! $ move ! (2 ∷ 1 ∷ []) $
+    use1 𝓛 (‵ (room_owns (RV E) p) ⊛ ‵ (Rejoins E p)) (block_split E 𝓛 b o) $ split ! $ move ! (2 ∷ 1 ∷ []) $
     fjoin ! $
     use0 𝓛 (‵ ((Mark E).own_val (tt, tt) (mark ∷ []))) (mark_made E 𝓛) $ fjoin ! $ word_made ! p $
     use2 𝓛 (‵ ((Bl E Z).own_val slot (slot_val ∷ []))) (pair_of 𝓛 (Np E) (Dd E Z) node deed (word p) mark)

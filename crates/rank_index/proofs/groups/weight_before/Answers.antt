@@ -7,14 +7,14 @@ use Rattle.rank_index.proofs.groups.weight_before.Goals as goal
 use Rattle.rank_index.proofs.groups.weight_before.Goals.{After-weight_in}
 
 pub bounds-groups-k : goal.bounds-groups-k
-bounds-groups-k c = omega (arith, c.loop-k-test.true, c.requires.place, c.requires.groups.all)
+bounds-groups-k c = omega (arith, c.loop-k-test.true, c.requires.slot, c.requires.groups.all)
 
 pub overflow_add-weight : goal.overflow_add-weight
 overflow_add-weight c =
     omega (
       arith,
       c.loop-k.invariant,
-      c.requires.groups.sums c.loop-k.k (omega (arith, c.loop-k-test.true, c.requires.place, c.requires.groups.all)),
+      c.requires.groups.sums c.loop-k.k (omega (arith, c.loop-k-test.true, c.requires.slot, c.requires.groups.all)),
       weight_to-most c.args.chunks.now (GROUP * (c.loop-k.k + 1)),
       c.requires.total,
     )
@@ -24,13 +24,13 @@ loop-k-preserved c =
     omega (
       arith,
       c.loop-k.invariant,
-      c.requires.groups.sums c.loop-k.k (omega (arith, c.loop-k-test.true, c.requires.place, c.requires.groups.all)),
+      c.requires.groups.sums c.loop-k.k (omega (arith, c.loop-k-test.true, c.requires.slot, c.requires.groups.all)),
     )
 
 pub weight_in-requires : goal.weight_in-requires
 weight_in-requires c =
-    let first : ℕ = GROUP * (c.args.place / GROUP) in
-    let n : ℕ = c.args.place - first in
+    let first : ℕ = GROUP * (c.args.slot / GROUP) in
+    let n : ℕ = c.args.slot - first in
     omega (
       arith,
       weight_to-more c.args.chunks.now first n,
@@ -39,12 +39,12 @@ weight_in-requires c =
     )
 
 -- whole groups and the chunks after them
-all : (c : After-weight_in) → c.loop-k.weight + c.weight_in.result ≡ weight_to c.args.chunks.now c.args.place
+all : (c : After-weight_in) → c.loop-k.weight + c.weight_in.result ≡ weight_to c.args.chunks.now c.args.slot
 all c =
-    let first : ℕ = GROUP * (c.args.place / GROUP) in
-    let n : ℕ = c.args.place - first in
+    let first : ℕ = GROUP * (c.args.slot / GROUP) in
+    let n : ℕ = c.args.slot - first in
     let last : GROUP * c.loop-k.k ≡ first = omega (arith, c.loop-k-test.false, c.loop-k.auto.k-end) in
-    let sum : first + n ≡ c.args.place = omega arith in
+    let sum : first + n ≡ c.args.slot = omega arith in
     omega (
       arith,
       c.loop-k.invariant,
@@ -59,7 +59,7 @@ overflow_add-result c =
     omega (
       arith,
       all (goal.at.overflow_add-result c).After-weight_in,
-      weight_to-most c.args.chunks.now c.args.place,
+      weight_to-most c.args.chunks.now c.args.slot,
       c.requires.total,
     )
 

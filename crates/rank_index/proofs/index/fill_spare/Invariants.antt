@@ -6,9 +6,9 @@ abbrev pub invariant-loop-alloc : goal.invariant-loop-alloc
 invariant-loop-alloc l = record {
   empty : AreEmpty l.spare.items;
   room : vec_len l.chunks + vec_len l.spare ≤ vec_capacity l.chunks;
-  counted : vec_len l.places ≡ vec_len l.chunks;
-  places_room : vec_len l.chunks + vec_len l.spare ≤ vec_capacity l.places;
-  places : l.places.items ≡ l.initial.places.items;
+  counted : vec_len l.slots ≡ vec_len l.chunks;
+  slots_room : vec_len l.chunks + vec_len l.spare ≤ vec_capacity l.slots;
+  slots : l.slots.items ≡ l.initial.slots.items;
   same : l.chunks.items ≡ l.initial.chunks.items;
   spare : vec_len l.initial.spare ≤ vec_len l.spare;
   most : vec_len l.chunks + vec_len l.spare ≤ max l.wanted (vec_len l.initial.chunks + vec_len l.initial.spare);

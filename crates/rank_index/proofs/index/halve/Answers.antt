@@ -6,41 +6,41 @@ use Rattle.std.proofs.lemmas.Option.{slice_get_read}
 use Rattle.rank_index.specs.Chunks.{ChunkSeen, AreTied, IsHalved}
 use Rattle.rank_index.proofs.Halved.{full_within, halved_here, tied_here}
 use Rattle.rank_index.proofs.Homes.{part_within}
-use Rattle.rank_index.proofs.Placed.{IsToldTo, told_after}
+use Rattle.rank_index.proofs.InSlots.{IsToldTo, told_after}
 use Rattle.rank_index.proofs.index.halve.Goals as goal
 use Rattle.rank_index.proofs.index.halve.Goals.{After-halve}
 
 -- the table is told up to the new chunk, which stands after the other under the next home
-told : (c : After-halve) → IsToldTo (c.args.places.now.items ++ c.len-home.result ∷ [])
-    (insert (set c.args.chunks.now.items c.args.place c.halve.new.self) (c.args.place + 1) c.halve.new.rest)
-    (c.args.place + 1)
+told : (c : After-halve) → IsToldTo (c.args.slots.now.items ++ c.len-home.result ∷ [])
+    (insert (set c.args.chunks.now.items c.args.slot c.halve.new.self) (c.args.slot + 1) c.halve.new.rest)
+    (c.args.slot + 1)
 told c =
     let chunks : List ChunkSeen = c.args.chunks.now.items in
-    let fresh : c.halve.new.rest.home ≡ length c.args.places.now.items =
-    omega (arith, c.halve.ensures.homes.1, c.move_to.ensures.home, c.len-home.ensures, c.args.places.now.ok.0) in
-    told_after c.args.places.now.items chunks c.requires.placed c.args.place c.index_mut.result.now c.halve.new.self
-    c.halve.new.rest (full_within chunks c.args.place c.requires.full) c.index_mut.ensures.value
+    let fresh : c.halve.new.rest.home ≡ length c.args.slots.now.items =
+    omega (arith, c.halve.ensures.homes.1, c.move_to.ensures.home, c.len-home.ensures, c.args.slots.now.ok.0) in
+    told_after c.args.slots.now.items chunks c.requires.placed c.args.slot c.index_mut.result.now c.halve.new.self
+    c.halve.new.rest (full_within chunks c.args.slot c.requires.full) c.index_mut.ensures.value
     c.halve.ensures.homes.0 fresh c.len-home.result
 
 pub enter-requires : goal.enter-requires
 enter-requires c =
     let chunks : List ChunkSeen = c.args.chunks.now.items in
     let whole : ChunkSeen = c.index_mut.result.now in
-    let there : slice_get chunks c.args.place ≡ Some whole =
-    slice_get_read chunks (length chunks) c.args.place whole refl (full_within chunks c.args.place c.requires.full)
+    let there : slice_get chunks c.args.slot ≡ Some whole =
+    slice_get_read chunks (length chunks) c.args.slot whole refl (full_within chunks c.args.slot c.requires.full)
     c.index_mut.ensures.value in
-    part_within c.args.homes.now chunks c.args.place whole c.halve.new.self.members c.halve.new.rest.members
+    part_within c.args.homes.now chunks c.args.slot whole c.halve.new.self.members c.halve.new.rest.members
     c.requires.tied.entered there c.halve.ensures.parts
 
-pub overflow_add-place : goal.overflow_add-place
-overflow_add-place c =
+pub overflow_add-slot : goal.overflow_add-slot
+overflow_add-slot c =
     let chunks = c.args.chunks.now in
-    omega (arith, full_within chunks.items c.args.place c.requires.full, chunks.ok.0, chunks.ok.1, chunks.small)
+    omega (arith, full_within chunks.items c.args.slot c.requires.full, chunks.ok.0, chunks.ok.1, chunks.small)
 
 pub insert-requires : goal.insert-requires
 insert-requires c =
     let chunks = c.args.chunks.now in
-    omega (arith, full_within chunks.items c.args.place c.requires.full, chunks.ok.0)
+    omega (arith, full_within chunks.items c.args.slot c.requires.full, chunks.ok.0)
 
 pub renumber-requires-clause-before : goal.renumber-requires-clause-before
 renumber-requires-clause-before c =
@@ -60,8 +60,8 @@ renumber-requires-clause-within c =
 pub returns-clause-halved : goal.returns-clause-halved
 returns-clause-halved c =
     let chunks : List ChunkSeen = c.args.chunks.now.items in
-    subst (IsHalved c.args.place chunks) (sym c.in-Ok.ensures.items) (halved_here chunks c.args.place
-    c.index_mut.result.now c.halve.new.self c.halve.new.rest (full_within chunks c.args.place c.requires.full)
+    subst (IsHalved c.args.slot chunks) (sym c.in-Ok.ensures.items) (halved_here chunks c.args.slot
+    c.index_mut.result.now c.halve.new.self c.halve.new.rest (full_within chunks c.args.slot c.requires.full)
     c.index_mut.ensures.value c.halve.ensures.parts c.halve.ensures.halves)
 
 pub returns-clause-empty : goal.returns-clause-empty
@@ -72,8 +72,8 @@ returns-clause-empty c =
 pub returns-clause-tied : goal.returns-clause-tied
 returns-clause-tied c =
     let chunks : List ChunkSeen = c.args.chunks.now.items in
-    subst (AreTied c.enter.new.homes) (sym c.in-Ok.ensures.items) (tied_here chunks c.args.place
-    c.index_mut.result.now c.halve.new.self c.halve.new.rest (full_within chunks c.args.place c.requires.full)
+    subst (AreTied c.enter.new.homes) (sym c.in-Ok.ensures.items) (tied_here chunks c.args.slot
+    c.index_mut.result.now c.halve.new.self c.halve.new.rest (full_within chunks c.args.slot c.requires.full)
     c.index_mut.ensures.value c.halve.ensures.parts c.halve.ensures.halves c.args.homes.now c.enter.new.homes
     c.requires.tied (omega (arith, c.enter.auto.homes)) c.halve.ensures.homes.0 c.enter.ensures.entered
     c.enter.ensures.others)

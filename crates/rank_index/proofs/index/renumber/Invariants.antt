@@ -1,6 +1,6 @@
-use Rattle.rank_index.specs.Chunks.{AreToldTo}
+use Rattle.rank_index.specs.Chunks.{AreSlotsTo}
 use Rattle.rank_index.proofs.index.renumber.Given as goal
 
--- the places of the chunks so far are told
-abbrev pub invariant-loop-place : goal.invariant-loop-place
-invariant-loop-place l = AreToldTo l.places l.chunks l.place
+-- the slots of the chunks so far are told
+abbrev pub invariant-loop-slot : goal.invariant-loop-slot
+invariant-loop-slot l = AreSlotsTo l.slots l.chunks l.slot

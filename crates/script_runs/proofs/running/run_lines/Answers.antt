@@ -1,5 +1,6 @@
 use Rattle.std.proofs.Common.{◌≢◌, ◌+◌, Ok, arith, rules}
 use Rattle.std.specs.Prelude.{is_some}
+use Rattle.commands.specs.Steps.{shelf_seen}
 use Rattle.script_runs.specs.Ends.{Ends}
 use Rattle.script_runs.specs.Seen.{run_of}
 use Rattle.script_runs.proofs.Filing.{over_same, over_then, over_weaker}
@@ -11,7 +12,7 @@ use Rattle.script_runs.proofs.running.run_lines.Goals.{in_default-via-in-Ok+in_d
 
 pub loop-init : goal.loop-init
 loop-init g c = record {
-  so_far = over_same (g.S.Shelf.files c.args.shelf.now)
+  so_far = over_same (shelf_seen (g.S.Shelf.files c.args.shelf.now) (g.S.Shelf.faults c.args.shelf.now))
       (SoFarOver (is_some (g.S.Shelf.files c.args.shelf.now)) c.args.sites.now c.args.input.now.left c.args.input.now.left c.args.output.now.contents c.args.output.now.contents 0 c.args.sites.now)
       (λ files. begins_known (is_some (g.S.Shelf.files c.args.shelf.now)) (run_of c.args.sites.now files) c.args.input.now.left c.args.output.now.contents);
   room = c.requires;
@@ -20,7 +21,7 @@ loop-init g c = record {
 pub returns-in-Ok-Last-clause-answers : goal.returns-in-Ok-Last-clause-answers
 returns-in-Ok-Last-clause-answers g c =
     let written = rw c.deref-in-Ok-Last.ensures.value at c.answer_last.ensures.answers in
-    over_then (g.S.Shelf.files c.args.shelf.now) (g.S.Shelf.files c.loop.shelf) (g.S.Shelf.files c.answer_last.new.shelf)
+    over_then (shelf_seen (g.S.Shelf.files c.args.shelf.now) (g.S.Shelf.faults c.args.shelf.now)) (shelf_seen (g.S.Shelf.files c.loop.shelf) (g.S.Shelf.faults c.loop.shelf)) (shelf_seen (g.S.Shelf.files c.answer_last.new.shelf) (g.S.Shelf.faults c.answer_last.new.shelf))
     (SoFarOver (is_some (g.S.Shelf.files c.args.shelf.now)) c.args.sites.now c.args.input.now.left c.loop.input.left c.args.output.now.contents c.loop.output.contents c.loop.counter c.loop.sites)
     (AnsweredOver c.loop.sites c.next_line.new.line.items written.0 c.answer_last.new.sites)
     (EndsOver (is_some (g.S.Shelf.files c.args.shelf.now)) c.args.sites.now c.args.input.now.left c.answer_last.result c.next_line.new.input.failed c.next_line.new.input.left c.args.output.now.contents c.answer_last.new.output.contents)
@@ -42,7 +43,7 @@ returns-in-Ok-Last-clause-answers g c =
 
 pub returns-in-Ok-End-clause-answers : goal.returns-in-Ok-End-clause-answers
 returns-in-Ok-End-clause-answers g c =
-    over_weaker (g.S.Shelf.files c.args.shelf.now) (g.S.Shelf.files c.loop.shelf)
+    over_weaker (shelf_seen (g.S.Shelf.files c.args.shelf.now) (g.S.Shelf.faults c.args.shelf.now)) (shelf_seen (g.S.Shelf.files c.loop.shelf) (g.S.Shelf.faults c.loop.shelf))
     (SoFarOver (is_some (g.S.Shelf.files c.args.shelf.now)) c.args.sites.now c.args.input.now.left c.loop.input.left c.args.output.now.contents c.loop.output.contents c.loop.counter c.loop.sites)
     (EndsOver (is_some (g.S.Shelf.files c.args.shelf.now)) c.args.sites.now c.args.input.now.left c.flush.result c.next_line.new.input.failed c.next_line.new.input.left c.args.output.now.contents c.flush.new.self.contents)
     (λ was now so_far.
@@ -62,7 +63,7 @@ returns-in-Ok-End-clause-answers g c =
 
 pub returns-in-Err-clause-answers : goal.returns-in-Err-clause-answers
 returns-in-Err-clause-answers g c =
-    over_weaker (g.S.Shelf.files c.args.shelf.now) (g.S.Shelf.files c.loop.shelf)
+    over_weaker (shelf_seen (g.S.Shelf.files c.args.shelf.now) (g.S.Shelf.faults c.args.shelf.now)) (shelf_seen (g.S.Shelf.files c.loop.shelf) (g.S.Shelf.faults c.loop.shelf))
     (SoFarOver (is_some (g.S.Shelf.files c.args.shelf.now)) c.args.sites.now c.args.input.now.left c.loop.input.left c.args.output.now.contents c.loop.output.contents c.loop.counter c.loop.sites)
     (EndsOver (is_some (g.S.Shelf.files c.args.shelf.now)) c.args.sites.now c.args.input.now.left c.break_off.result c.next_line.new.input.failed c.next_line.new.input.left c.args.output.now.contents c.break_off.new.output.contents)
     (λ was now so_far.
@@ -81,7 +82,7 @@ returns-in-Err-clause-answers g c =
 
 pub returns-in_err-put_out-clause-answers : goal.returns-in_err-put_out-clause-answers
 returns-in_err-put_out-clause-answers g c =
-    over_weaker (g.S.Shelf.files c.args.shelf.now) (g.S.Shelf.files c.loop.shelf)
+    over_weaker (shelf_seen (g.S.Shelf.files c.args.shelf.now) (g.S.Shelf.faults c.args.shelf.now)) (shelf_seen (g.S.Shelf.files c.loop.shelf) (g.S.Shelf.faults c.loop.shelf))
     (SoFarOver (is_some (g.S.Shelf.files c.args.shelf.now)) c.args.sites.now c.args.input.now.left c.loop.input.left c.args.output.now.contents c.loop.output.contents c.loop.counter c.loop.sites)
     (EndsOver (is_some (g.S.Shelf.files c.args.shelf.now)) c.args.sites.now c.args.input.now.left c.from_residual.result c.loop.input.failed c.loop.input.left c.args.output.now.contents c.put_out.new.output.contents)
     (λ was now so_far.
@@ -98,7 +99,7 @@ returns-in_err-put_out-clause-answers g c =
 pub returns-in_err-answer-in-Ok-Line-clause-answers : goal.returns-in_err-answer-in-Ok-Line-clause-answers
 returns-in_err-answer-in-Ok-Line-clause-answers g c =
     let written = rw c.deref.ensures.value at c.in_err-answer-in-Ok-Line.ensures in
-    over_then (g.S.Shelf.files c.args.shelf.now) (g.S.Shelf.files c.loop.shelf) (g.S.Shelf.files c.answer.new.shelf)
+    over_then (shelf_seen (g.S.Shelf.files c.args.shelf.now) (g.S.Shelf.faults c.args.shelf.now)) (shelf_seen (g.S.Shelf.files c.loop.shelf) (g.S.Shelf.faults c.loop.shelf)) (shelf_seen (g.S.Shelf.files c.answer.new.shelf) (g.S.Shelf.faults c.answer.new.shelf))
     (SoFarOver (is_some (g.S.Shelf.files c.args.shelf.now)) c.args.sites.now c.args.input.now.left c.loop.input.left c.args.output.now.contents c.loop.output.contents c.loop.counter c.loop.sites)
     (AnsweredOver c.loop.sites c.next_line.new.line.items written.0 c.answer.new.self)
     (EndsOver (is_some (g.S.Shelf.files c.args.shelf.now)) c.args.sites.now c.args.input.now.left c.from_residual-in_err-answer-in-Ok-Line.result c.next_line.new.input.failed c.next_line.new.input.left c.args.output.now.contents c.answer.new.output.contents)
@@ -131,7 +132,7 @@ loop-preserved g c =
     let taken = rw c.in-Ok-Line.field-0-is at c.in-Ok-Line.ensures.taken in
     let written = rw c.deref.ensures.value at c.in_ok-answer-in-Ok-Line.ensures in
     record {
-      so_far = over_then (g.S.Shelf.files c.args.shelf.now) (g.S.Shelf.files c.loop.shelf) (g.S.Shelf.files c.answer.new.shelf)
+      so_far = over_then (shelf_seen (g.S.Shelf.files c.args.shelf.now) (g.S.Shelf.faults c.args.shelf.now)) (shelf_seen (g.S.Shelf.files c.loop.shelf) (g.S.Shelf.faults c.loop.shelf)) (shelf_seen (g.S.Shelf.files c.answer.new.shelf) (g.S.Shelf.faults c.answer.new.shelf))
           (SoFarOver (is_some (g.S.Shelf.files c.args.shelf.now)) c.args.sites.now c.args.input.now.left c.loop.input.left c.args.output.now.contents c.loop.output.contents c.loop.counter c.loop.sites)
           (AnsweredOver c.loop.sites c.next_line.new.line.items written.0 c.answer.new.self)
           (SoFarOver (is_some (g.S.Shelf.files c.args.shelf.now)) c.args.sites.now c.args.input.now.left c.next_line.new.input.left c.args.output.now.contents c.answer.new.output.contents (c.loop.counter + 1) c.answer.new.self)
@@ -146,7 +147,7 @@ loop-preserved g c =
 
 pub returns-in_err-put_out-2-clause-answers : goal.returns-in_err-put_out-2-clause-answers
 returns-in_err-put_out-2-clause-answers g c =
-    over_weaker (g.S.Shelf.files c.args.shelf.now) (g.S.Shelf.files c.loop.shelf)
+    over_weaker (shelf_seen (g.S.Shelf.files c.args.shelf.now) (g.S.Shelf.faults c.args.shelf.now)) (shelf_seen (g.S.Shelf.files c.loop.shelf) (g.S.Shelf.faults c.loop.shelf))
     (SoFarOver (is_some (g.S.Shelf.files c.args.shelf.now)) c.args.sites.now c.args.input.now.left c.loop.input.left c.args.output.now.contents c.loop.output.contents c.loop.counter c.loop.sites)
     (EndsOver (is_some (g.S.Shelf.files c.args.shelf.now)) c.args.sites.now c.args.input.now.left c.from_residual-in_err-put_out-2.result c.loop.input.failed c.loop.input.left c.args.output.now.contents c.put_out-2.new.output.contents)
     (λ was now so_far.
@@ -162,7 +163,7 @@ returns-in_err-put_out-2-clause-answers g c =
 
 pub returns-in-Ok-End-next_line-clause-answers : goal.returns-in-Ok-End-next_line-clause-answers
 returns-in-Ok-End-next_line-clause-answers g c =
-    over_weaker (g.S.Shelf.files c.args.shelf.now) (g.S.Shelf.files c.loop.shelf)
+    over_weaker (shelf_seen (g.S.Shelf.files c.args.shelf.now) (g.S.Shelf.faults c.args.shelf.now)) (shelf_seen (g.S.Shelf.files c.loop.shelf) (g.S.Shelf.faults c.loop.shelf))
     (SoFarOver (is_some (g.S.Shelf.files c.args.shelf.now)) c.args.sites.now c.args.input.now.left c.loop.input.left c.args.output.now.contents c.loop.output.contents c.loop.counter c.loop.sites)
     (EndsOver (is_some (g.S.Shelf.files c.args.shelf.now)) c.args.sites.now c.args.input.now.left c.flush-in-Ok-End-next_line.result c.next_line-2.new.input.failed c.next_line-2.new.input.left c.args.output.now.contents c.flush-in-Ok-End-next_line.new.self.contents)
     (λ was now so_far.
@@ -182,7 +183,7 @@ returns-in-Ok-End-next_line-clause-answers g c =
 
 pub returns-in_default-clause-answers : goal.returns-in_default-clause-answers
 returns-in_default-clause-answers g c =
-    over_weaker (g.S.Shelf.files c.args.shelf.now) (g.S.Shelf.files c.loop.shelf)
+    over_weaker (shelf_seen (g.S.Shelf.files c.args.shelf.now) (g.S.Shelf.faults c.args.shelf.now)) (shelf_seen (g.S.Shelf.files c.loop.shelf) (g.S.Shelf.faults c.loop.shelf))
     (SoFarOver (is_some (g.S.Shelf.files c.args.shelf.now)) c.args.sites.now c.args.input.now.left c.loop.input.left c.args.output.now.contents c.loop.output.contents c.loop.counter c.loop.sites)
     (EndsOver (is_some (g.S.Shelf.files c.args.shelf.now)) c.args.sites.now c.args.input.now.left c.break_off-in_default.result c.next_line-2.new.input.failed c.next_line-2.new.input.left c.args.output.now.contents c.break_off-in_default.new.output.contents)
     (λ was now so_far.

@@ -1,5 +1,9 @@
-use Rattle.std.proofs.Common.{arith}
-use Rattle.site_file.proofs.Loaded.{loaded, no_file, no_head}
+use Rattle.std.proofs.Common.{arith, subst, sym, ◌∙◌}
+use Rattle.std.proofs.lemmas.Bool.{false≢true}
+use Rattle.byte_fields.proofs.Readers.{IsBytes}
+use Rattle.texts.specs.SiteFiles.{tag}
+use Rattle.site_file.proofs.Loaded.{fits_after, loaded, no_file, no_head}
+use Rattle.site_file.proofs.Messages.{cut_so, messages_of}
 use Rattle.site_file.proofs.OneSite.{file_tagged}
 use Rattle.site_file.proofs.loading.load_site.Goals as goal
 
@@ -10,6 +14,20 @@ returns-in_default-clause-refused c = λ bad text site ops is.
 pub returns-in_default-head_at-clause-refused : goal.returns-in_default-head_at-clause-refused
 returns-in_default-head_at-clause-refused c = λ bad.
     no_head c.args.bytes.now c.in-Some.rest.now c.in-Some.ensures c.in_default-head_at.ensures
+
+-- bytes that are not so many messages are no operations'
+pub returns-then-not-are_messages-clause-refused : goal.returns-then-not-are_messages-clause-refused
+returns-then-not-are_messages-clause-refused c = λ bad.
+    no_file c.args.bytes.now c.in-Some.rest.now c.in-Some-head_at.entries.now c.in-Some-head_at.head c.in-Some.ensures
+    c.in-Some-head_at.ensures (λ ops tells are.
+    absurd (false≢true (sym c.if-not-are_messages.true ∙ c.are_messages.ensures.1
+    (messages_of ops c.in-Some-head_at.head.count c.in-Some-head_at.entries.now are))))
+
+pub returns-clause-short : goal.returns-clause-short
+returns-clause-short c = λ memory.
+    cut_so c.args.bytes.now c.in-Some.rest.now c.in-Some-head_at.entries.now c.in-Some-head_at.head
+    (fits_after tag c.in-Some.rest.now (subst IsBytes c.in-Some.ensures (λ i. omega (arith, c.type_inv.bytes i))))
+    c.in-Some.ensures c.in-Some-head_at.ensures (c.are_messages.ensures.0 c.if-not-are_messages.false)
 
 pub returns-clause-ok : goal.returns-clause-ok
 returns-clause-ok c =

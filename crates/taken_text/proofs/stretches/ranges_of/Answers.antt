@@ -1,7 +1,7 @@
 use Rattle.std.proofs.Common.{◌++◌, [], ◌∷◌, List, map, append_assoc, sym, ap, subst, ◌∙◌}
 use Rattle.operations.specs.NameSet.{Range}
 use Rattle.piece_list.specs.declared.run.Run.{Run}
-use Rattle.piece_list.specs.RunCuts.{AreWithin}
+use Rattle.piece_list.specs.RunSplits.{AreWithin}
 use Rattle.taken_text.specs.Shown.{range_of_run}
 use Rattle.taken_text.proofs.Stretch.{rest_within}
 use Rattle.taken_text.proofs.stretches.ranges_of.Goals as goal

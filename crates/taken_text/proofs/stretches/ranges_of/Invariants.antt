@@ -1,5 +1,5 @@
 use Rattle.std.proofs.Common.{◌≡◌, ◌++◌, map}
-use Rattle.piece_list.specs.RunCuts.{AreWithin}
+use Rattle.piece_list.specs.RunSplits.{AreWithin}
 use Rattle.taken_text.specs.Shown.{range_of_run}
 use Rattle.taken_text.proofs.stretches.ranges_of.Given as goal
 

@@ -7,8 +7,9 @@ use Rattle.text_frames.proofs.drawing.line_begin.Given as goal
 abbrev pub invariant-loop-beg : goal.invariant-loop-beg
 invariant-loop-beg l = record {
   within : l.beg ≤ l.place;
-  between : (k : ℕ) → l.beg ≤ k → k < l.place → get_or (bytes_shown l.replica) k 0 ≢ LINE_END;
-  counts : l.reads ≡ counted (l.initial.reads + (l.place - l.beg));
+  text : l.text.text ≡ l.initial.text.text;
+  between : (k : ℕ) → l.beg ≤ k → k < l.place → get_or (bytes_shown l.initial.text.text) k 0 ≢ LINE_END;
+  counts : l.text.reads ≡ counted (l.initial.text.reads + (l.place - l.beg));
 }
 
 abbrev pub decreases-loop-beg : goal.decreases-loop-beg

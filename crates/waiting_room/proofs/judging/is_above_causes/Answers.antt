@@ -1,5 +1,5 @@
 use Rattle.std.proofs.lemmas.Bool.{both_ways}
-use Rattle.set_laws.proofs.Counting.{above_causes, told_by_counts}
+use Rattle.set_laws.proofs.Counting.{above_causes, determined_by_counts}
 use Rattle.waiting_room.proofs.Above.{lower_stamps, above_predecessor, above_inserts}
 use Rattle.waiting_room.proofs.judging.is_above_causes.Goals as goal
 
@@ -9,7 +9,7 @@ returns-then-is_above_predecessor g c =
     let op = c.args.op.now in
     let good = c.lemma_are_good.ensures.good in
     let known = c.lemma_are_good.ensures.identified in
-    let told = told_by_counts ops op good known c.requires.new in (
+    let told = determined_by_counts ops op good known c.requires.new in (
       λ e. above_causes ops op good known
           (lower_stamps ops op (c.is_above_predecessor.ensures.0 c.if-is_above_predecessor.true)
           (c.is_above_inserts.ensures.0 e)),

@@ -10,13 +10,13 @@ use Rattle.desk_windows.specs.Pointing.{IsClick}
 use Rattle.commands.proofs.Clicks.{call_there, clicked_shows, no_call_there, nothing_there}
 use Rattle.commands.proofs.Shelves.{click_step, task_over}
 use Rattle.commands.proofs.Tasks.{refused_task}
-use Rattle.commands.specs.Steps.{DeskSeen}
+use Rattle.commands.specs.Steps.{DeskSeen, shelf_seen}
 use Rattle.commands.proofs.desk.Desk.click.Goals as goal
 
 pub returns-in_default-clause-step : goal.returns-in_default-clause-step
 returns-in_default-clause-step g c =
     let seen : DeskSeen = c.args.self.now in let sent = c.args.outbox.now in
-    let told = g.S.Shelf.files c.args.shelf.now in
+    let told = shelf_seen (g.S.Shelf.files c.args.shelf.now) (g.S.Shelf.faults c.args.shelf.now) in
     let none : clicked seen.texts seen.screen c.args.col c.args.row ≡ None =
     subst (λ (x : DeskSeen). clicked x.texts x.screen c.args.col c.args.row ≡ None) c.self.view_is c.in_default.ensures.meets in
     click_step seen seen c.args.col c.args.row (refuse NoViewer) (Err (Whole NoViewer)) sent sent told told
@@ -26,7 +26,7 @@ returns-in_default-clause-step g c =
 pub returns-in_default-call_at-clause-step : goal.returns-in_default-call_at-clause-step
 returns-in_default-call_at-clause-step g c =
     let seen : DeskSeen = c.args.self.now in let sent = c.args.outbox.now in
-    let told = g.S.Shelf.files c.args.shelf.now in
+    let told = shelf_seen (g.S.Shelf.files c.args.shelf.now) (g.S.Shelf.faults c.args.shelf.now) in
     let (at, met, met_so) = c.in-Some.ensures.meets in
     let is : clicked seen.texts seen.screen c.args.col c.args.row ≡ Some at =
     subst (λ (x : DeskSeen). clicked x.texts x.screen c.args.col c.args.row ≡ Some at) c.self.view_is met in
@@ -58,7 +58,7 @@ returns-clause-step g c =
     let (task, of_call, step) =
     c.execute.ensures.step shown (subst (λ n. window_of seen.texts seen.screen n ≡ Some shown) (sym click.viewer) there) in
     click_step seen c.execute.new.self c.args.col c.args.row task c.execute.result c.args.outbox.now c.execute.new.outbox
-    (g.S.Shelf.files c.args.shelf.now) (g.S.Shelf.files c.execute.new.shelf)
+    (shelf_seen (g.S.Shelf.files c.args.shelf.now) (g.S.Shelf.faults c.args.shelf.now)) (shelf_seen (g.S.Shelf.files c.execute.new.shelf) (g.S.Shelf.faults c.execute.new.shelf))
     (call_there seen.texts seen.screen c.args.col c.args.row at is c.in-Some.at call task click is_call
     (subst (λ n. IsTaskOfCall seen.texts seen.screen call viewer n task) (sym text_is ∙ sym click.text) of_call))
     step

@@ -9,7 +9,7 @@ use Rattle.commands.proofs.Clicks.{text_shown, text_there}
 use Rattle.commands.proofs.Faultless.{no_selection_sound}
 use Rattle.commands.proofs.Shelves.{task_over}
 use Rattle.commands.proofs.Tasks.{refused_task}
-use Rattle.commands.specs.Steps.{DeskSeen}
+use Rattle.commands.specs.Steps.{DeskSeen, shelf_seen}
 use Rattle.commands.proofs.desk.Desk.execute.Goals as goal
 
 pub unwrap-text-requires : goal.unwrap-text-requires
@@ -42,7 +42,7 @@ returns-in-Ok-clause-step g c = λ shown at.
 pub returns-in-Err-clause-step : goal.returns-in-Err-clause-step
 returns-in-Err-clause-step g c = λ shown at.
     let seen : DeskSeen = c.args.self.now in let why = c.in-Err.why in
-    let told = g.S.Shelf.files c.args.shelf.now in (
+    let told = shelf_seen (g.S.Shelf.files c.args.shelf.now) (g.S.Shelf.faults c.args.shelf.now) in (
       refuse why,
       c.in-Err.ensures.task c.args.viewer shown.0.text,
       task_over seen seen (refuse why) told (Err (Whole why)) c.args.outbox.now (refused_task seen why),

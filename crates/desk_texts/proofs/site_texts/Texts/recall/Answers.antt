@@ -1,7 +1,6 @@
 use Rattle.std.proofs.Common.{refl, sym, ◌∙◌}
-use Rattle.std.proofs.lemmas.Bool.{false≢true}
 use Rattle.texts.specs.Edit.{recalling}
-use Rattle.desk_texts.proofs.TextEdits.{text_edited, text_outside, text_short}
+use Rattle.desk_texts.proofs.TextEdits.{text_edited, text_outside}
 use Rattle.desk_texts.proofs.site_texts.Texts.recall.Goals as goal
 
 pub returns-then-not-has_position : goal.returns-then-not-has_position
@@ -10,18 +9,10 @@ returns-then-not-has_position c =
     let outside = sym c.has_position.ensures ∙ c.if-not-has_position.true in
     (t, t, c.replica_mut-replica.ensures.value, text_outside t (recalling c.args.pos) c.args.outbox.now outside, refl)
 
-pub returns-in-Ok : goal.returns-in-Ok
-returns-in-Ok c =
-    let t = c.replica_mut-replica.result.now in
-    let edits = rw c.in-Ok.ensures.ok at c.insert.ensures in
-    let in_text = sym c.has_position.ensures ∙ c.if-not-has_position.false in
-    let edited = text_edited t (recalling c.args.pos) c.args.outbox.now in_text c.insert.result c.insert.new.self c.insert.new.outbox edits in
-    (t, c.insert.new.self, c.replica_mut-replica.ensures.value, edited, refl)
-
-pub returns-in-Err : goal.returns-in-Err
-returns-in-Err c =
+pub returns : goal.returns
+returns c =
     let t = c.replica_mut-replica.result.now in
     let in_text = sym c.has_position.ensures ∙ c.if-not-has_position.false in
-    let short = text_short t (recalling c.args.pos) c.args.outbox.now in_text c.in-Err.why c.in-Err.ensures.errors
-    (λ none. false≢true (c.in-Err.ensures.empty none)) in
-    (t, t, c.replica_mut-replica.ensures.value, short, refl)
+    let edited = text_edited t (recalling c.args.pos) c.args.outbox.now in_text c.insert_recalled.result
+    c.insert_recalled.new.self c.insert_recalled.new.outbox c.insert_recalled.ensures in
+    (t, c.insert_recalled.new.self, c.replica_mut-replica.ensures.value, edited, refl)

@@ -14,5 +14,5 @@ returns-then-get c =
       other = λ apart. absurd (apart same);
       drawn = λ here t follows drawn.
           c.update.ensures.drawn t follows.well drawn follows.order (follows.kept i.frame.anchor drawn.anchored) follows.leads;
-      quiet = λ here. c.update.ensures.quiet;
+      reads = λ here. record { quiet = c.update.ensures.quiet; anew = c.update.ensures.anew };
     })

@@ -1,7 +1,7 @@
 use Rattle.std.proofs.Common.{refl, sym, subst}
 use Rattle.viewers.specs.Viewers.{with_contents}
 use Rattle.desk_windows.specs.Windows.{AreOf, WindowsSeen}
-use Rattle.desk_windows.proofs.Changed.{all_left, all_told, all_windows, told_each}
+use Rattle.desk_windows.proofs.Changed.{all_told, all_windows, told_each, told_once}
 use Rattle.desk_windows.proofs.Going.{told_are}
 use Rattle.desk_windows.proofs.windows.Windows.tell.Goals as goal
 
@@ -33,10 +33,10 @@ returns-clause-of c =
     (all_told c.args.text changes now i.viewers ws long told d c.args.texts.now c.replica-replica.ensures are.shown in_text)
     (all_windows c.args.text changes now i.viewers ws long told) refl refl
 
-pub returns-clause-left : goal.returns-clause-left
-returns-clause-left c =
+pub returns-clause-once : goal.returns-clause-once
+returns-clause-once c =
     let i = c.self.inside in let ws = c.tell_each.new.windows in
     let changes = c.args.changes.now in let now = c.replica-replica.result.now in
     let (long, told) = told_each c.args.text changes now i.viewers.contents c.contents_mut.result.now ws
     c.contents_mut.ensures.value c.tell_each.ensures.len c.tell_each.ensures.told in
-    rw (← c.self.view_is) (all_left c.args.text changes now i.viewers ws long told)
+    (now, c.replica-replica.ensures, rw (← c.self.view_is) (told_once c.args.text changes now i.viewers ws long told))

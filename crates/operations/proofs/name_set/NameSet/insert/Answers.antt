@@ -5,6 +5,6 @@ use Rattle.operations.proofs.name_set.NameSet.insert.Goals as goal
 
 pub invariant_of-self : goal.invariant_of-self
 invariant_of-self c =
-    set_after c.put.result c.self.inside.ranges.items c.put.new.ranges.items c.args.name
+    set_after c.insert_name.result c.self.inside.ranges.items c.insert_name.new.ranges.items c.args.name
     (subst IsRange c.of.ensures.value c.of.ensures.range) c.self.invariant.0 c.self.invariant.1
-    c.put.ensures.ok c.put.ensures.scattered c.put.ensures.err
+    c.insert_name.ensures.ok c.insert_name.ensures.scattered c.insert_name.ensures.err

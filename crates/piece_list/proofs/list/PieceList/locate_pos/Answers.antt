@@ -1,7 +1,7 @@
 use Rattle.std.proofs.Common.{◌≡◌, ◌<◌, ap, subst, arith, ◌∙◌}
 use Rattle.std.specs.Prelude.{IfSome, slice_get}
-use Rattle.piece_list.specs.declared.place.Place.{Place}
-use Rattle.piece_list.specs.Held.{HeldPieces, PiecesSeen, IsPlaceOf}
+use Rattle.piece_list.specs.declared.spot.Spot.{Spot}
+use Rattle.piece_list.specs.Held.{HeldPieces, PiecesSeen, IsSpotOf}
 use Rattle.piece_list.specs.Spelled.{spelled, shown_chars}
 use Rattle.piece_list.proofs.Positions.{Items, shown_in, position}
 use Rattle.piece_list.proofs.Ranks.{IsFoundAt, found_at, found_is_small}
@@ -29,11 +29,11 @@ pub returns : goal.returns
 returns c =
     let items : Items = c.pieces.inside.ring.items in
     let seen : items ≡ c.args.self.now.items = ap (λ (v : HeldPieces). v.items) c.pieces.view_is ∙ ap (λ (v : PiecesSeen). v.items) c.self.view_is in
-    let place : Place = record { piece = c.find-piece.result.0; within = c.find-piece.result.1 } in
-    let found : IsFoundAt items c.args.pos place.piece place.within =
-    found_at items c.pieces.inside.index.items c.args.pos place.piece place.within c.pieces.invariant.indexed
+    let spot : Spot = record { piece = c.find-piece.result.0; within = c.find-piece.result.1 } in
+    let found : IsFoundAt items c.args.pos spot.piece spot.within =
+    found_at items c.pieces.inside.index.items c.args.pos spot.piece spot.within c.pieces.invariant.indexed
     c.find-piece.ensures.found in
     subst (λ (l : Items). IfSome (slice_get (shown_chars (spelled l)) c.args.pos)
-    (λ k. IsPlaceOf l place k.name)) seen
-    (position items found.front found.after place.piece found.piece found.whole c.args.pos place.within
+    (λ k. IsSpotOf l spot k.name)) seen
+    (position items found.front found.after spot.piece found.piece found.whole c.args.pos spot.within
     found.at found.inside)

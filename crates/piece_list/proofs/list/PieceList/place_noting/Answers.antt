@@ -10,14 +10,14 @@ use Rattle.piece_list.specs.declared.piece.Piece.{Piece}
 use Rattle.piece_list.specs.Held.{PiecesSeen}
 use Rattle.piece_list.specs.Noted.{Notes, appearances}
 use Rattle.piece_list.specs.Pieces.{range_of, piece_of}
-use Rattle.piece_list.specs.Placing.{compared, IsAnchorPlace, IsParted, IsPartedAt, IsPutInGap, IsSkip}
+use Rattle.piece_list.specs.Placing.{compared, IsAnchorSpot, IsParted, IsPartedAt, IsInsertedInGap, IsSkip}
 use Rattle.piece_list.specs.Shown.{AreShownTo}
 use Rattle.piece_list.specs.Spelled.{spelled, HasName}
 use Rattle.piece_list.proofs.NotedRun.{first_is_here, room_for_run, entered_run}
-use Rattle.piece_list.proofs.Placing.{parted_spells, skip_part, put_in_gap, placed_in_gap}
+use Rattle.piece_list.proofs.Placing.{parted_spells, skip_part, insert_in_gap, placed_in_gap}
 use Rattle.piece_list.proofs.Positions.{Items}
 use Rattle.piece_list.proofs.list.PieceList.place_noting.Goals as goal
-use Rattle.piece_list.proofs.list.PieceList.place_noting.Goals.{After-end_at-end, After-put, After-shown_to}
+use Rattle.piece_list.proofs.list.PieceList.place_noting.Goals.{After-end_at-end, After-insert, After-shown_to}
 
 -- the pieces are parted after the cause
 parted_at : (c : After-end_at-end)
@@ -26,94 +26,94 @@ parted_at c =
     let same : c.reserve_names.new.self.items ≡ c.args.self.now.items =
     c.reserve_names.ensures.items ∙ c.reserve-2.ensures.items
     ∙ ap (λ (v : PiecesSeen). v.items) (c.self.view_is ∙ c.locate_cause-found.ensures.seen) in
-    subst (λ (l : Items). IsAnchorPlace l c.args.cause c.locate_cause-found.result
+    subst (λ (l : Items). IsAnchorSpot l c.args.cause c.locate_cause-found.result
     → IsPartedAt l c.end_at-end.new.self.items c.end_at-end.result c.args.cause) same
-    (c.end_at-end.ensures.parted c.args.cause) c.locate_cause-found.ensures.place
+    (c.end_at-end.ensures.parted c.args.cause) c.locate_cause-found.ensures.spot
 
-pub put-requires-clause-part : goal.put-requires-clause-part
-put-requires-clause-part c =
+pub insert-requires-clause-part : goal.insert-requires-clause-part
+insert-requires-clause-part c =
     let old : Items = c.args.self.now.items in
     let items : Items = c.end_at-end.new.self.items in
-    let parted = parted_at (goal.at.put-requires-clause-part c).After-end_at-end in
+    let parted = parted_at (goal.at.insert-requires-clause-part c).After-end_at-end in
     skip_part old items c.args.run.key c.end_at-end.result c.skip-last.result c.self.inside.steps
     c.skip-last.new.steps c.args.cause parted c.skip-last.ensures
 
-pub put-requires-clause-new : goal.put-requires-clause-new
-put-requires-clause-new c = λ d is has.
+pub insert-requires-clause-new : goal.insert-requires-clause-new
+insert-requires-clause-new c = λ d is has.
     let old : Items = c.args.self.now.items in
     let items : Items = c.end_at-end.new.self.items in
-    let parted = parted_at (goal.at.put-requires-clause-new c).After-end_at-end in
+    let parted = parted_at (goal.at.insert-requires-clause-new c).After-end_at-end in
     c.requires.new d (subst (λ (p : Piece). IsIn (range_of p) d) c.of_run.ensures is)
     (subst (λ (ks : List Atom). HasName ks d) (parted_spells old items c.end_at-end.result c.args.cause parted)
     has)
 
--- the run is put into its gap
-put_is : (c : After-put)
+-- the run is inserted into its gap
+insert_is : (c : After-insert)
     → IsPartedAt c.args.self.now.items c.end_at-end.new.self.items c.end_at-end.result c.args.cause
-    → IsPutInGap c.args.cause (piece_of c.args.run) c.args.self.now.items c.put.new.self.items c.skip-last.new.steps
-put_is c parted =
+    → IsInsertedInGap c.args.cause (piece_of c.args.run) c.args.self.now.items c.insert.new.self.items c.skip-last.new.steps
+insert_is c parted =
     let old : Items = c.args.self.now.items in
     let items : Items = c.end_at-end.new.self.items in
     let steps : c.self.inside.steps ≡ compared c.args.cause =
     ap (λ (v : PiecesSeen). v.steps) (c.self.view_is ∙ c.locate_cause-found.ensures.seen) in
     let last : Option ℕ = c.skip-last.result in
-    put_in_gap old items c.put.new.self.items c.args.cause (piece_of c.args.run) c.end_at-end.result last
+    insert_in_gap old items c.insert.new.self.items c.args.cause (piece_of c.args.run) c.end_at-end.result last
     c.skip-last.new.steps parted
     (subst (λ (n : ℕ). (before after : Items) → IsParted items c.end_at-end.result before after
     → IsSkip c.args.run.key before after last n c.skip-last.new.steps) steps c.skip-last.ensures)
     (subst (λ (p : Piece). (before after : Items) → IsParted items last before after
-    → (tag : ℕ) × (c.put.new.self.items ≡ before ++ (tag, p) ∷ after)) c.of_run.ensures c.put.ensures.put)
+    → (tag : ℕ) × (c.insert.new.self.items ≡ before ++ (tag, p) ∷ after)) c.of_run.ensures c.insert.ensures.insert)
 
 -- what is answered for the run's first name
 count : (c : After-shown_to) → IfSome c.shown_to.result
-    (AreShownTo (spelled c.put.new.self.items) (record { site = c.args.run.site; off = c.args.run.off }))
+    (AreShownTo (spelled c.insert.new.self.items) (record { site = c.args.run.site; off = c.args.run.off }))
 count c =
-    subst (λ (name : CharName). IfSome c.shown_to.result (AreShownTo (spelled c.put.new.self.items) name))
+    subst (λ (name : CharName). IfSome c.shown_to.result (AreShownTo (spelled c.insert.new.self.items) name))
     c.in-Some.ensures.value c.shown_to.ensures.count
 
 pub note_run-requires-clause-here : goal.note_run-requires-clause-here
 note_run-requires-clause-here c =
     let at = goal.at.note_run-requires-clause-here c in
-    let put = put_is at.After-put (parted_at at.After-end_at-end) in
-    c.shown_to.ensures.here.1 (subst (HasName (spelled c.put.new.self.items)) (sym c.in-Some.ensures.value)
-    (first_is_here c.args.cause (piece_of c.args.run) c.args.self.now.items c.put.new.self.items
-    c.skip-last.new.steps put c.requires.run.0 refl))
+    let insert = insert_is at.After-insert (parted_at at.After-end_at-end) in
+    c.shown_to.ensures.here.1 (subst (HasName (spelled c.insert.new.self.items)) (sym c.in-Some.ensures.value)
+    (first_is_here c.args.cause (piece_of c.args.run) c.args.self.now.items c.insert.new.self.items
+    c.skip-last.new.steps insert c.requires.run.0 refl))
 
 pub note_run-requires-clause-some : goal.note_run-requires-clause-some
 note_run-requires-clause-some c =
     let at = goal.at.note_run-requires-clause-some c in
-    let put = put_is at.After-put (parted_at at.After-end_at-end) in
-    (room_for_run c.args.cause (piece_of c.args.run) c.args.self.now.items c.put.new.self.items
-    c.skip-last.new.steps put c.requires.run.0 refl c.shown_to.result c.requires.run.1
+    let insert = insert_is at.After-insert (parted_at at.After-end_at-end) in
+    (room_for_run c.args.cause (piece_of c.args.run) c.args.self.now.items c.insert.new.self.items
+    c.skip-last.new.steps insert c.requires.run.0 refl c.shown_to.result c.requires.run.1
     c.lemma_shown_is_countable.ensures (count c)).0
 
 pub note_run-requires-clause-small : goal.note_run-requires-clause-small
 note_run-requires-clause-small c =
     let at = goal.at.note_run-requires-clause-small c in
-    let put = put_is at.After-put (parted_at at.After-end_at-end) in
-    (room_for_run c.args.cause (piece_of c.args.run) c.args.self.now.items c.put.new.self.items
-    c.skip-last.new.steps put c.requires.run.0 refl c.shown_to.result c.requires.run.1
+    let insert = insert_is at.After-insert (parted_at at.After-end_at-end) in
+    (room_for_run c.args.cause (piece_of c.args.run) c.args.self.now.items c.insert.new.self.items
+    c.skip-last.new.steps insert c.requires.run.0 refl c.shown_to.result c.requires.run.1
     c.lemma_shown_is_countable.ensures (count c)).1
 
 pub returns-clause-steps : goal.returns-clause-steps
 returns-clause-steps c =
     let at = goal.at.returns-clause-steps c in
-    put_is at.After-put (parted_at at.After-end_at-end)
+    insert_is at.After-insert (parted_at at.After-end_at-end)
 
 pub returns-clause-placed : goal.returns-clause-placed
 returns-clause-placed c =
-    placed_in_gap c.args.self.now.items c.put.new.self.items c.args.cause (piece_of c.args.run)
-    c.skip-last.new.steps c.put.ensures.pieces (returns-clause-steps c)
+    placed_in_gap c.args.self.now.items c.insert.new.self.items c.args.cause (piece_of c.args.run)
+    c.skip-last.new.steps c.insert.ensures.pieces (returns-clause-steps c)
 
 pub returns-clause-noted : goal.returns-clause-noted
 returns-clause-noted c =
-    let put = returns-clause-steps c in
+    let insert = returns-clause-steps c in
     subst (λ (note : List Change). Notes (IsOfKind Insert) note c.note_run.new.note.items
-    (appearances c.args.self.now.items) (appearances c.put.new.self.items)) c.reserve.ensures.items
-    (entered_run c.args.cause (piece_of c.args.run) c.args.self.now.items c.put.new.self.items
-    c.skip-last.new.steps put c.requires.run.0 refl c.shown_to.result
+    (appearances c.args.self.now.items) (appearances c.insert.new.self.items)) c.reserve.ensures.items
+    (entered_run c.args.cause (piece_of c.args.run) c.args.self.now.items c.insert.new.self.items
+    c.skip-last.new.steps insert c.requires.run.0 refl c.shown_to.result
     c.reserve.new.self.items c.note_run.new.note.items
-    (c.shown_to.ensures.here.1 (subst (HasName (spelled c.put.new.self.items)) (sym c.in-Some.ensures.value)
-    (first_is_here c.args.cause (piece_of c.args.run) c.args.self.now.items c.put.new.self.items
-    c.skip-last.new.steps put c.requires.run.0 refl)))
+    (c.shown_to.ensures.here.1 (subst (HasName (spelled c.insert.new.self.items)) (sym c.in-Some.ensures.value)
+    (first_is_here c.args.cause (piece_of c.args.run) c.args.self.now.items c.insert.new.self.items
+    c.skip-last.new.steps insert c.requires.run.0 refl)))
     (count c.before) c.note_run.ensures)

@@ -12,15 +12,15 @@ value_at-piece-requires c =
     let items : Items = c.pieces.inside.ring.items in
     let seen : items ≡ c.args.self.now.items = ap (λ (v : HeldPieces). v.items) c.pieces.view_is ∙ ap (λ (v : PiecesSeen). v.items) c.self.view_is in
     has_tag items c.args.self.now.items seen c.pieces.inside.tags c.pieces.invariant.numbered c.pieces.invariant.entered
-    c.locate_pos-place.result c.args.pos c.requires c.locate_pos-place.ensures
+    c.locate_pos-spot.result c.args.pos c.requires c.locate_pos-spot.ensures
 
 pub overflow_add-piece : goal.overflow_add-piece
 overflow_add-piece c =
     let items : Items = c.pieces.inside.ring.items in
     let seen : items ≡ c.args.self.now.items = ap (λ (v : HeldPieces). v.items) c.pieces.view_is ∙ ap (λ (v : PiecesSeen). v.items) c.self.view_is in
-    let fits : c.value_at-piece.result.now.off + c.locate_pos-place.result.within < MAX_FILE =
+    let fits : c.value_at-piece.result.now.off + c.locate_pos-spot.result.within < MAX_FILE =
     name_fits items c.args.self.now.items seen c.pieces.inside.tags c.pieces.invariant.numbered c.pieces.invariant.entered
-    c.locate_pos-place.result c.args.pos c.requires c.locate_pos-place.ensures c.value_at-piece.result.now
+    c.locate_pos-spot.result c.args.pos c.requires c.locate_pos-spot.ensures c.value_at-piece.result.now
     c.value_at-piece.ensures in
     omega (arith, fits)
 
@@ -30,8 +30,8 @@ unreachable-requires c =
     let seen : items ≡ c.args.self.now.items = ap (λ (v : HeldPieces). v.items) c.pieces.view_is ∙ ap (λ (v : PiecesSeen). v.items) c.self.view_is in
     let some : IsSome c.new.result =
     c.new.ensures.valid.1 (name_fits items c.args.self.now.items seen c.pieces.inside.tags
-    c.pieces.invariant.numbered c.pieces.invariant.entered c.locate_pos-place.result c.args.pos c.requires
-    c.locate_pos-place.ensures c.value_at-piece.result.now c.value_at-piece.ensures) in
+    c.pieces.invariant.numbered c.pieces.invariant.entered c.locate_pos-spot.result c.args.pos c.requires
+    c.locate_pos-spot.ensures c.value_at-piece.result.now c.value_at-piece.ensures) in
     absurd (no_some c.new.result c.in-None.is some)
 
 pub returns : goal.returns
@@ -39,5 +39,5 @@ returns c =
     let items : Items = c.pieces.inside.ring.items in
     let seen : items ≡ c.args.self.now.items = ap (λ (v : HeldPieces). v.items) c.pieces.view_is ∙ ap (λ (v : PiecesSeen). v.items) c.self.view_is in
     is_shown items c.args.self.now.items seen c.pieces.inside.tags c.pieces.invariant.numbered c.pieces.invariant.entered
-    c.locate_pos-place.result c.args.pos c.requires c.locate_pos-place.ensures c.value_at-piece.result.now
+    c.locate_pos-spot.result c.args.pos c.requires c.locate_pos-spot.ensures c.value_at-piece.result.now
     c.value_at-piece.ensures c.in-Some.name c.looks.result c.in-Some.ensures.value c.looks.ensures

@@ -2,12 +2,12 @@ use Rattle.std.proofs.Common.{◌≡◌, ◌≤◌, List, [], ◌∷◌, drop, m
 use Rattle.std.proofs.lemmas.List.{length-map}
 use Rattle.std.proofs.Math.ListN.{drop_of_length-le}
 use Rattle.piece_list.specs.Held.{HeldPieces, PiecesSeen}
-use Rattle.piece_list.specs.RunCuts.{AreWithin, HasFront}
+use Rattle.piece_list.specs.RunSplits.{AreWithin, HasFront}
 use Rattle.piece_list.specs.Shown.{Appearance, appearance_of, shown_runs}
 use Rattle.piece_list.specs.Spelled.{spelled, shown_chars}
 use Rattle.piece_list.proofs.Positions.{Items, shown_in}
 use Rattle.piece_list.proofs.Ranks.{IsFoundAt, found_at}
-use Rattle.piece_list.proofs.RunCuts.{told}
+use Rattle.piece_list.proofs.RunSplits.{told}
 use Rattle.piece_list.proofs.Walked.{tells_from, front_from, within_from}
 use Rattle.piece_list.proofs.Weighed.{total_is_shown}
 use Rattle.piece_list.proofs.list.PieceList.walk_from.Goals as goal

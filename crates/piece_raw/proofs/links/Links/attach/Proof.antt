@@ -18,12 +18,12 @@ use denote.Signature.{plain}
 use denote.Steps.{opens, closes}
 use Rattle.std.proofs.VecSteps.Shapes.{after}
 use Rattle.std.proofs.RcSteps.{word, word-Good}
-use Rattle.piece_raw.specs.Linked.{linked, same_ptr, last_from, places, round, IsApart, IsCut, IsOn}
+use Rattle.piece_raw.specs.Linked.{linked, same_ptr, last_from, places, round, IsApart, IsSplit, IsOn}
 use Rattle.piece_raw.specs.Ownership.{link_room, edge, path, values_own}
 use Rattle.piece_raw.proofs.Splits.{first_of_push, all_left}
 use Rattle.piece_raw.proofs.Apart.{IsFresh, places_joined, apart_attached}
 use Rattle.piece_raw.proofs.Memory.{Of, args, RV, Member, Lr, Dt, word_had, knows, edge_out, edge_in}
-use Rattle.piece_raw.proofs.Memory.{no_source, no_target, no_room, path_cut, path_glue, values_glue, fresh}
+use Rattle.piece_raw.proofs.Memory.{no_source, no_target, no_room, path_split, path_glue, values_glue, fresh}
 use Rattle.piece_raw.proofs.Walks.{𝓣, Runs, borrowed, changes}
 use Rattle.piece_raw.specs.contracts.links.Links.attach.Key.{name as #self}
 use Rattle.piece_raw.proofs.links.Links.attach.Statement as stated
@@ -34,7 +34,7 @@ attach_spec 𝓤 𝓛 𝓜 𝓡 wired X LX y =
     let E : Of = record { row = X; laws = LX } in
     let T = 𝓣 𝓛 𝓜 𝓡 in let e : Fn = inst_fn (args E) code.function in
     changes E (plain (λ _. Dt E) ∷ []) (plain (λ _. unit)) 𝓛 𝓜 𝓡 (λ d head. IsOn d.trailer d.nodes head.ptr)
-    (λ κs d head a r new. (xs : List (Member E)) × (ys : List (Member E)) × IsCut d.trailer d.nodes head.ptr xs ys
+    (λ κs d head a r new. (xs : List (Member E)) × (ys : List (Member E)) × IsSplit d.trailer d.nodes head.ptr xs ys
     × (new.nodes ≡ xs ++ linked a.0.ptr a.0.value ∷ ys)) ((λ κs x f. tt), tt) (λ κs a. (tt, tt))
     (#self (args E)) e (code.unfolded 𝓤 𝓛.H 𝓜 𝓡 wired (X, tt)) (λ κs q links head a vss Post asked exits.
     let d = links.now in let rb = links.ref_ptr.0 in let ro = links.ref_ptr.1 in let node = a.0 in
@@ -67,7 +67,7 @@ attach_spec 𝓤 𝓛 𝓜 𝓡 wired X LX y =
     } in
     in_a_block ! node.ptr link_room (no_room 𝓛) (λ pb po ep. fsplit ! $ move ! (2 ∷ []) $
     rewrite ! 0 (λ (ps : List Ptr). ‵ (path t ps)) cut refl $
-    use1 𝓛 (‵ (path t (places xs)) ⊛ ‵ (path before (on.0 ∷ on.1))) (path_cut 𝓛 t (places xs)
+    use1 𝓛 (‵ (path t (places xs)) ⊛ ‵ (path before (on.0 ∷ on.1))) (path_split 𝓛 t (places xs)
     (on.0 ∷ on.1)) $ split ! $ move ! (1 ∷ []) $ fsplit ! $ move ! (0 ∷ 1 ∷ 3 ∷ 4 ∷ 5 ∷ 2 ∷ []) $
     in_a_block ! before (λ p. edge p on.0) (no_source 𝓛 on.0)
     (λ hb ho eh. in_a_block ! on.0 (edge (block_ptr hb ho)) (no_target 𝓛 (block_ptr hb ho))

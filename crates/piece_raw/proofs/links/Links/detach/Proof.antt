@@ -22,7 +22,7 @@ use Rattle.piece_raw.specs.Ownership.{link_room, edge, path, values_own}
 use Rattle.piece_raw.proofs.Splits.{first_of_push}
 use Rattle.piece_raw.proofs.Apart.{places_joined, apart_detached, apart_places, at_node}
 use Rattle.piece_raw.proofs.Memory.{Of, args, RV, Member, Lr, Dt, One, word_made, stale, edge_out, edge_in}
-use Rattle.piece_raw.proofs.Memory.{no_source, no_target, path_cut, path_glue, values_cut}
+use Rattle.piece_raw.proofs.Memory.{no_source, no_target, path_split, path_glue, values_split}
 use Rattle.piece_raw.proofs.Walks.{𝓣, borrowed, changes}
 use Rattle.piece_raw.specs.contracts.links.Links.detach.Key.{name as #self}
 use Rattle.piece_raw.proofs.links.Links.detach.Statement as stated
@@ -63,7 +63,7 @@ detach_spec 𝓤 𝓛 𝓜 𝓡 wired X LX y =
     rewrite ! 1 (λ (ns : List (Member E)). ‵ (values_own (RV E) ns)) asked.3 refl $
     rewrite ! 0 (λ (ps : List Ptr). ‵ (path d.trailer.at ps)) cut refl $
     use1 𝓛 (‵ (path d.trailer.at (places xs)) ⊛ ‵ (path before (n.at ∷ on.0 ∷ on.1)))
-    (path_cut 𝓛 d.trailer.at (places xs) (n.at ∷ on.0 ∷ on.1)) $ split ! $ move ! (1 ∷ []) $ fsplit3 ! $
+    (path_split 𝓛 d.trailer.at (places xs) (n.at ∷ on.0 ∷ on.1)) $ split ! $ move ! (1 ∷ []) $ fsplit3 ! $
     in_a_block ! before (λ p. edge p n.at) (no_source 𝓛 n.at)
     (λ lb lo el. in_a_block ! n.at (edge (block_ptr lb lo)) (no_target 𝓛 (block_ptr lb lo)) (λ pb po ep.
     edge_out ! lb lo pb po $ move ! (2 ∷ []) $ rewrite ! 0 (λ (p : Ptr). ‵ (edge p on.0)) ep refl $
@@ -86,7 +86,7 @@ detach_spec 𝓤 𝓛 𝓜 𝓡 wired X LX y =
     (λ i. (sym el i, sym en i)) refl $ move ! (0 ∷ 2 ∷ []) $ fjoin ! $ move ! (2 ∷ 0 ∷ []) $
     use2 𝓛 (‵ (path d.trailer.at (places xs ++ on.0 ∷ on.1))) (path_glue 𝓛 d.trailer.at (places xs)
     (on.0 ∷ on.1)) $ rewrite ! 0 (λ (ps : List Ptr). ‵ (path d.trailer.at ps)) joined refl $
-    move ! (2 ∷ []) $ use1 𝓛 (‵ (One E n) ⊛ ‵ (values_own (RV E) (xs ++ ys))) (values_cut 𝓛 E xs n ys) $
+    move ! (2 ∷ []) $ use1 𝓛 (‵ (One E n) ⊛ ‵ (values_own (RV E) (xs ++ ys))) (values_split 𝓛 E xs n ys) $
     split ! $
     -- [the value; the other values; the path; the node's links; the trailer's value; the mark; ..]
     move ! (3 ∷ 0 ∷ []) $ fjoin ! $ word_made ! n.at $ fjoin ! $ move ! (2 ∷ 3 ∷ 1 ∷ []) $ fjoin3 ! $

@@ -31,7 +31,7 @@ use Rattle.std.proofs.RcSteps.{word, word-Good}
 use Rattle.piece_raw.specs.Linked.{IsAt, AtNode}
 use Rattle.piece_raw.specs.Ownership.{value_of, values_own}
 use Rattle.piece_raw.proofs.Apart.{apart_places, at_node}
-use Rattle.piece_raw.proofs.Memory.{Of, args, RV, vo, Member, Lr, Np, One, values_cut}
+use Rattle.piece_raw.proofs.Memory.{Of, args, RV, vo, Member, Lr, Np, One, values_split}
 use denote.Follow.{follows, Part, lends_Part}
 use Rattle.piece_raw.specs.Lends.{with_value}
 use Rattle.piece_raw.proofs.Lending.{Rest, put_back}
@@ -80,7 +80,7 @@ value_mut_spec 𝓤 𝓛 𝓜 𝓡 wired X LX y =
     opens ! tt (Lr E) {h = d} rb ro (λ vs. move ! (1 ∷ []) $ fsplit ! $ move ! (1 ∷ []) $ fsplit3 ! $
     move ! (0 ∷ 2 ∷ 1 ∷ []) $
     rewrite ! 1 (λ (ns : List (Member E)). ‵ (values_own (RV E) ns)) asked.3 refl $ move ! (1 ∷ []) $
-    use1 𝓛 (‵ (One E n) ⊛ ‵ (values_own (RV E) (xs ++ ys))) (values_cut 𝓛 E xs n ys) $ split ! $
+    use1 𝓛 (‵ (One E n) ⊛ ‵ (values_own (RV E) (xs ++ ys))) (values_split 𝓛 E xs n ys) $ split ! $
     in_a_block ! n.at (λ p. lies_at (RV E) full_share (value_of (RV E) p) n.value) (id⊢ 𝓤 (never 𝓤))
     (λ b o ep.
     let at = o + vo E in

@@ -6,14 +6,14 @@ use Rattle.piece_raw.specs.declared.nodes.Member.{Member}
 use Rattle.piece_raw.specs.Linked.{Linked, linked}
 use Rattle.piece_raw.specs.Tied.{Held, members, stop_of, spots, IsBlock, IsHeld, Matches}
 use Rattle.piece_raw.proofs.Splits.{all_left, all_both}
-use Rattle.piece_raw.proofs.Matching.{cut_after, places_last, last_is, last_tag-members, members-append}
+use Rattle.piece_raw.proofs.Matching.{split_after, places_last, last_is, last_tag-members, members-append}
 use Rattle.piece_raw.proofs.Matching.{members-cons, Matches-pushed}
 use Rattle.piece_raw.proofs.nodes.Nodes.push.Goals as goal
 
 pub attach-requires : goal.attach-requires
 attach-requires g c =
     let l = c.args.self.now.links in let x = c.requires.tied.1.0 in let among = c.requires.tied.1.1 in
-    let at = cut_after l.trailer l.nodes among.0 x among.1 among.2 in (
+    let at = split_after l.trailer l.nodes among.0 x among.1 among.2 in (
       at.0,
       among.1,
       (

@@ -10,19 +10,19 @@ use Rattle.rank_index.proofs.index.RankIndex.find.Goals.{After-deref-3}
 
 -- the chunks that are looked along are those from the group's first one on
 rest : (c : After-deref-3)
-    → take (length c.deref-3.result.now - c.group_at-place.result.0)
-    (drop c.group_at-place.result.0 c.deref-3.result.now)
-    ≡ drop c.group_at-place.result.0 c.self.inside.chunks.items
+    → take (length c.deref-3.result.now - c.group_at-slot.result.0)
+    (drop c.group_at-slot.result.0 c.deref-3.result.now)
+    ≡ drop c.group_at-slot.result.0 c.self.inside.chunks.items
 rest c =
-    take_rest c.deref-3.result.now c.group_at-place.result.0
-    ∙ ap (drop c.group_at-place.result.0) c.deref-3.ensures.value
+    take_rest c.deref-3.result.now c.group_at-slot.result.0
+    ∙ ap (drop c.group_at-slot.result.0) c.deref-3.ensures.value
 
 -- and what stands before them is passed
 passed : (c : After-deref-3)
-    → c.args.pos ≡ weight_to c.self.inside.chunks.items c.group_at-place.result.0 + c.group_at-place.result.1
+    → c.args.pos ≡ weight_to c.self.inside.chunks.items c.group_at-slot.result.0 + c.group_at-slot.result.1
 passed c =
-    c.group_at-place.ensures.left
-    ∙ ap (λ (l : List ChunkSeen). weight_to l c.group_at-place.result.0 + c.group_at-place.result.1)
+    c.group_at-slot.ensures.left
+    ∙ ap (λ (l : List ChunkSeen). weight_to l c.group_at-slot.result.0 + c.group_at-slot.result.1)
     c.deref-2.ensures.value
 
 pub found_in-requires : goal.found_in-requires
@@ -32,7 +32,7 @@ found_in-requires c =
       arith,
       ap (λ (l : List ChunkSeen). weight_of (members_of l)) (rest at),
       passed at,
-      weight_parts c.self.inside.chunks.items c.group_at-place.result.0,
+      weight_parts c.self.inside.chunks.items c.group_at-slot.result.0,
       ap (λ (r : Ranked). weight_of r.items) c.self.view_is,
       c.requires.within,
     )
@@ -40,11 +40,11 @@ found_in-requires c =
 pub returns : goal.returns
 returns c =
     let at = (goal.at.returns c).After-deref-3 in
-    let in_rest = subst (λ (l : List ChunkSeen). IsFound (members_of l) c.group_at-place.result.1 c.found_in.result.0
+    let in_rest = subst (λ (l : List ChunkSeen). IsFound (members_of l) c.group_at-slot.result.1 c.found_in.result.0
     c.found_in.result.1) (rest at) c.found_in.ensures in
     record {
       found = subst (λ (l : Members). IsFound l c.args.pos c.found_in.result.0 c.found_in.result.1)
           (ap (λ (r : Ranked). r.items) c.self.view_is)
-          (found_after c.self.inside.chunks.items c.group_at-place.result.0 c.args.pos c.group_at-place.result.1
+          (found_after c.self.inside.chunks.items c.group_at-slot.result.0 c.args.pos c.group_at-slot.result.1
           c.found_in.result.0 c.found_in.result.1 (passed at) in_rest);
     }

@@ -9,59 +9,59 @@ use Rattle.rank_index.specs.Groups.{AreGroups}
 use Rattle.rank_index.specs.Ranked.{Ranked, weight_of}
 use Rattle.rank_index.proofs.Grouped.{group_among, groups_set}
 use Rattle.rank_index.proofs.Inserted.{pushed_here, tied_pushed_here, weight_pushed}
-use Rattle.rank_index.proofs.Placed.{placed_set}
+use Rattle.rank_index.proofs.InSlots.{placed_set}
 use Rattle.rank_index.proofs.Tagged.{Members}
 use Rattle.rank_index.proofs.Weights.{weight_within}
 use Rattle.rank_index.proofs.index.RankIndex.insert_after.Goals as goal
 use Rattle.rank_index.proofs.index.RankIndex.insert_after.Goals.{After-regroup_if_grown, After-index_mut-chunk, After-insert_after, After-index_mut-group}
 
--- the chunk's place is that of one of the chunks
-within : (c : After-index_mut-chunk) → c.place_after-place.result < length c.place_after-place.new.chunks.items
+-- the chunk's slot is that of one of the chunks
+within : (c : After-index_mut-chunk) → c.slot_after-slot.result < length c.slot_after-slot.new.chunks.items
 within c =
-    let (there, at, room) = c.place_after-place.ensures.room in
-    slice_get_within c.place_after-place.new.chunks.items c.place_after-place.result there at
+    let (there, at, room) = c.slot_after-slot.ensures.room in
+    slice_get_within c.slot_after-slot.new.chunks.items c.slot_after-slot.result there at
 
 -- these have the members that were there
-same : (c : After-index_mut-chunk) → members_of c.place_after-place.new.chunks.items ≡ c.args.self.now.items
-same c = c.place_after-place.ensures.members ∙ ap (λ (r : Ranked). r.items) c.self.view_is
+same : (c : After-index_mut-chunk) → members_of c.slot_after-slot.new.chunks.items ≡ c.args.self.now.items
+same c = c.slot_after-slot.ensures.members ∙ ap (λ (r : Ranked). r.items) c.self.view_is
 
 -- what was put into the chunk was put among all members
-put : (c : After-insert_after) → c.place_after-place.result < length c.place_after-place.new.chunks.items
-    → IsPushed (members_of c.place_after-place.new.chunks.items) c.args.after c.args.tag c.args.weight
-    (members_of (set c.place_after-place.new.chunks.items c.place_after-place.result c.insert_after.new.self))
+put : (c : After-insert_after) → c.slot_after-slot.result < length c.slot_after-slot.new.chunks.items
+    → IsPushed (members_of c.slot_after-slot.new.chunks.items) c.args.after c.args.tag c.args.weight
+    (members_of (set c.slot_after-slot.new.chunks.items c.slot_after-slot.result c.insert_after.new.self))
 put c lt =
-    pushed_here c.place_after-place.new.chunks.items c.place_after-place.result c.index_mut-chunk.result.now
+    pushed_here c.slot_after-slot.new.chunks.items c.slot_after-slot.result c.index_mut-chunk.result.now
     c.insert_after.new.self lt c.index_mut-chunk.ensures.value c.args.after c.args.tag c.args.weight
-    c.place_after-place.ensures.place c.insert_after.ensures.inserted
+    c.slot_after-slot.ensures.slot c.insert_after.ensures.inserted
 
 pub regroup_if_grown-requires-clause-same : goal.regroup_if_grown-requires-clause-same
 regroup_if_grown-requires-clause-same c few =
-    let no_more : c.place_after-place.new.chunks.len ≤ c.self.inside.chunks.len =
+    let no_more : c.slot_after-slot.new.chunks.len ≤ c.self.inside.chunks.len =
     omega (arith, few, c.deref.ensures.len, c.len-before.ensures) in
-    rw (c.deref.ensures.value, c.place_after-place.ensures.same no_more) c.self.invariant.7
+    rw (c.deref.ensures.value, c.slot_after-slot.ensures.same no_more) c.self.invariant.7
 
 pub regroup_if_grown-requires-clause-room : goal.regroup_if_grown-requires-clause-room
 regroup_if_grown-requires-clause-room c =
-    omega (arith, c.deref.ensures.len, c.place_after-place.ensures.count, c.self.invariant.8)
+    omega (arith, c.deref.ensures.len, c.slot_after-slot.ensures.count, c.self.invariant.8)
 
 pub regroup_if_grown-requires-clause-total : goal.regroup_if_grown-requires-clause-total
 regroup_if_grown-requires-clause-total c =
     omega (
       arith,
       ap (λ (l : List ChunkSeen). weight_of (members_of l)) c.deref.ensures.value,
-      ap weight_of c.place_after-place.ensures.members,
+      ap weight_of c.slot_after-slot.ensures.members,
       c.self.invariant.4,
     )
 
 -- the groups are those of the chunks that are there now
 grouped : (c : After-regroup_if_grown)
-    → AreGroups c.regroup_if_grown.new.groups.items c.place_after-place.new.chunks.items
+    → AreGroups c.regroup_if_grown.new.groups.items c.slot_after-slot.new.chunks.items
 grouped c = subst (AreGroups c.regroup_if_grown.new.groups.items) c.deref.ensures.value c.regroup_if_grown.ensures.groups
 
 -- the chunk's group has a sum
 there : (c : After-index_mut-chunk)
-    → AreGroups c.regroup_if_grown.new.groups.items c.place_after-place.new.chunks.items
-    → c.place_after-place.result / GROUP < length c.regroup_if_grown.new.groups.items
+    → AreGroups c.regroup_if_grown.new.groups.items c.slot_after-slot.new.chunks.items
+    → c.slot_after-slot.result / GROUP < length c.regroup_if_grown.new.groups.items
 there c are = omega (arith, within c, are.all)
 
 pub index_mut-group-requires : goal.index_mut-group-requires
@@ -71,11 +71,11 @@ index_mut-group-requires c =
 
 -- and it is read
 sum_is : (c : After-index_mut-group)
-    → c.place_after-place.result / GROUP < length c.regroup_if_grown.new.groups.items
+    → c.slot_after-slot.result / GROUP < length c.regroup_if_grown.new.groups.items
     → c.index_mut-group.result.now
-    ≡ get_or c.regroup_if_grown.new.groups.items (c.place_after-place.result / GROUP) 0
+    ≡ get_or c.regroup_if_grown.new.groups.items (c.slot_after-slot.result / GROUP) 0
 sum_is c lt =
-    get_or_read c.regroup_if_grown.new.groups.items (c.place_after-place.result / GROUP)
+    get_or_read c.regroup_if_grown.new.groups.items (c.slot_after-slot.result / GROUP)
     c.index_mut-group.result.now lt c.index_mut-group.ensures.value 0
 
 pub overflow_add-group : goal.overflow_add-group
@@ -86,8 +86,8 @@ overflow_add-group c =
     omega (
       arith,
       sum_is at.After-index_mut-group lt,
-      group_among c.regroup_if_grown.new.groups.items c.place_after-place.new.chunks.items
-          (c.place_after-place.result / GROUP) are lt,
+      group_among c.regroup_if_grown.new.groups.items c.slot_after-slot.new.chunks.items
+          (c.slot_after-slot.result / GROUP) are lt,
       ap weight_of (same at.After-index_mut-chunk),
       c.from.ensures,
       c.requires.total,
@@ -98,7 +98,7 @@ insert_after-requires-clause-total c =
     let at = (goal.at.insert_after-requires-clause-total c).After-index_mut-chunk in
     omega (
       arith,
-      weight_within c.place_after-place.new.chunks.items c.place_after-place.result c.index_mut-chunk.result.now
+      weight_within c.slot_after-slot.new.chunks.items c.slot_after-slot.result c.index_mut-chunk.result.now
           (within at) c.index_mut-chunk.ensures.value,
       ap weight_of (same at),
       c.requires.total,
@@ -107,40 +107,40 @@ insert_after-requires-clause-total c =
 pub invariant_of-self : goal.invariant_of-self
 invariant_of-self c =
     let at = goal.at.invariant_of-self c in
-    let chunks : List ChunkSeen = c.place_after-place.new.chunks.items in
-    let homes : List ℕ = c.place_after-place.new.homes in
-    let place : ℕ = c.place_after-place.result in
+    let chunks : List ChunkSeen = c.slot_after-slot.new.chunks.items in
+    let homes : List ℕ = c.slot_after-slot.new.homes in
+    let slot : ℕ = c.slot_after-slot.result in
     let chunk : ChunkSeen = c.insert_after.new.self in
-    let lt : place < length chunks = within at.After-index_mut-chunk in
+    let lt : slot < length chunks = within at.After-index_mut-chunk in
     let are = grouped at.After-regroup_if_grown in
     let is_same : members_of chunks ≡ c.args.self.now.items = same at.After-index_mut-chunk in
-    let weight : weight_of (members_of (set chunks place chunk)) ≡ weight_of (members_of chunks) + c.args.weight =
-    weight_pushed (members_of chunks) (members_of (set chunks place chunk)) c.args.after c.args.tag c.args.weight
+    let weight : weight_of (members_of (set chunks slot chunk)) ≡ weight_of (members_of chunks) + c.args.weight =
+    weight_pushed (members_of chunks) (members_of (set chunks slot chunk)) c.args.after c.args.tag c.args.weight
     (put at.After-insert_after lt) in
     let count : length homes ≡ c.self.inside.homes.len =
-    omega (arith, c.place_after-place.auto.homes, c.deref_mut.ensures.len) in
+    omega (arith, c.slot_after-slot.auto.homes, c.deref_mut.ensures.len) in
     let entered : c.push_reserved.new.self.items ≡ homes ++ chunk.home ∷ [] =
     c.push_reserved.ensures.items
     ∙ ap (λ (l : List ℕ). l ++ c.home.result ∷ [])
     (take_at homes (drop (length homes) c.self.inside.homes.items) c.self.inside.homes.len count)
     ∙ ap (λ (n : ℕ). homes ++ n ∷ []) c.home.ensures in (
-      subst (λ (l : List ℕ). AreTied l (set chunks place chunk)) (sym entered) (tied_pushed_here chunks place
+      subst (λ (l : List ℕ). AreTied l (set chunks slot chunk)) (sym entered) (tied_pushed_here chunks slot
           c.index_mut-chunk.result.now chunk lt c.index_mut-chunk.ensures.value c.args.after c.args.tag
-          c.args.weight c.place_after-place.ensures.place c.insert_after.ensures.inserted homes
-          c.insert_after.ensures.home (c.requires.tag ∙ sym (ap length is_same)) c.place_after-place.ensures.tied),
-      c.place_after-place.ensures.empty,
-      omega (arith, c.place_after-place.ensures.count, c.place_after-place.ensures.chunks_room, c.self.invariant.2),
-      omega (arith, weight, ap weight_of c.place_after-place.ensures.members, c.self.invariant.3),
+          c.args.weight c.slot_after-slot.ensures.slot c.insert_after.ensures.inserted homes
+          c.insert_after.ensures.home (c.requires.tag ∙ sym (ap length is_same)) c.slot_after-slot.ensures.tied),
+      c.slot_after-slot.ensures.empty,
+      omega (arith, c.slot_after-slot.ensures.count, c.slot_after-slot.ensures.chunks_room, c.self.invariant.2),
+      omega (arith, weight, ap weight_of c.slot_after-slot.ensures.members, c.self.invariant.3),
       omega (arith, weight, ap weight_of is_same, c.requires.total),
-      placed_set c.place_after-place.new.places.items chunks place c.index_mut-chunk.result.now chunk lt
-          c.index_mut-chunk.ensures.value c.insert_after.ensures.home c.place_after-place.ensures.placed,
+      placed_set c.slot_after-slot.new.slots.items chunks slot c.index_mut-chunk.result.now chunk lt
+          c.index_mut-chunk.ensures.value c.insert_after.ensures.home c.slot_after-slot.ensures.placed,
       omega (
         arith,
-        c.place_after-place.ensures.count,
-        c.place_after-place.ensures.places_room,
+        c.slot_after-slot.ensures.count,
+        c.slot_after-slot.ensures.slots_room,
         c.self.invariant.6,
       ),
-      groups_set c.regroup_if_grown.new.groups.items chunks place c.index_mut-chunk.result.now chunk
+      groups_set c.regroup_if_grown.new.groups.items chunks slot c.index_mut-chunk.result.now chunk
           (c.index_mut-group.result.now + c.from.result) lt c.index_mut-chunk.ensures.value are (omega (
             arith,
             sum_is at.After-index_mut-group (there at.After-index_mut-chunk are),
@@ -148,12 +148,12 @@ invariant_of-self c =
             weight_pushed c.index_mut-chunk.result.now.members chunk.members c.args.after c.args.tag c.args.weight
                 c.insert_after.ensures.inserted,
           )),
-      omega (arith, c.place_after-place.ensures.count, c.regroup_if_grown.ensures.room, c.self.invariant.8),
+      omega (arith, c.slot_after-slot.ensures.count, c.regroup_if_grown.ensures.room, c.self.invariant.8),
     )
 
 pub returns-clause-inserted : goal.returns-clause-inserted
 returns-clause-inserted c =
     let at = goal.at.returns-clause-inserted c in
     subst (λ (l : Members). IsPushed l c.args.after c.args.tag c.args.weight
-    (members_of (set c.place_after-place.new.chunks.items c.place_after-place.result c.insert_after.new.self)))
+    (members_of (set c.slot_after-slot.new.chunks.items c.slot_after-slot.result c.insert_after.new.self)))
     (same at.After-index_mut-chunk) (put at.After-insert_after (within at.After-index_mut-chunk))

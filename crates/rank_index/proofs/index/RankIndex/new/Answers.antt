@@ -4,7 +4,7 @@ use Rattle.rank_index.specs.Chunks.{ChunkSeen, members_of, AreEmpty, AreTied}
 use Rattle.rank_index.specs.Ranked.{weight_of}
 use Rattle.rank_index.proofs.Grouped.{groups_alone}
 use Rattle.rank_index.proofs.Inserted.{tied_empty}
-use Rattle.rank_index.proofs.Placed.{placed_alone}
+use Rattle.rank_index.proofs.InSlots.{placed_alone}
 use Rattle.rank_index.proofs.Tagged.{Members}
 use Rattle.rank_index.proofs.index.RankIndex.new.Goals as goal
 
@@ -15,8 +15,8 @@ invariant_of-result c =
     let one : c.push.new.self.items ≡ chunk ∷ [] =
     c.in_ok-push.ensures.items ∙ ap (λ (l : List ChunkSeen). l ++ chunk ∷ []) c.new-chunks.ensures.items in
     let first : chunk.home ≡ 0 = ap (λ (s : ChunkSeen). s.home) c.in_ok-new.ensures.ok in
-    let places : c.push-2.new.self.items ≡ 0 ∷ [] =
-    c.in_ok-push-2.ensures.items ∙ ap (λ (l : List ℕ). l ++ 0 ∷ []) c.new-places.ensures.items in
+    let slots : c.push-2.new.self.items ≡ 0 ∷ [] =
+    c.in_ok-push-2.ensures.items ∙ ap (λ (l : List ℕ). l ++ 0 ∷ []) c.new-slots.ensures.items in
     let groups : c.push-3.new.self.items ≡ 0 ∷ [] =
     c.in_ok-push-3.ensures.items ∙ ap (λ (l : List ℕ). l ++ 0 ∷ []) c.new-groups.ensures.items in
     let weightless : weight_of (members_of c.push.new.self.items) ≡ 0 =
@@ -27,8 +27,8 @@ invariant_of-result c =
       omega (arith, c.new-3.ensures.len, c.push.new.self.ok),
       sym weightless,
       omega (arith, weightless),
-      rw (one, places) (placed_alone chunk first),
-      omega (arith, c.new-3.ensures.len, ap length one, ap length places, c.push.new.self.ok, c.push-2.new.self.ok),
+      rw (one, slots) (placed_alone chunk first),
+      omega (arith, c.new-3.ensures.len, ap length one, ap length slots, c.push.new.self.ok, c.push-2.new.self.ok),
       rw (one, groups) (groups_alone chunk none),
       omega (arith, c.new-3.ensures.len, ap length one, ap length groups, c.push.new.self.ok, c.push-3.new.self.ok),
     )

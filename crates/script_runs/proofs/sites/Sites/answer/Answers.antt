@@ -2,6 +2,7 @@ use Rattle.std.proofs.Common.{◌≡◌, [], false, length, sym, ap, ◌∙◌, 
 use Rattle.std.proofs.KnownBytes.{Appends-nil}
 use Rattle.looks.specs.declared.refusal.Refusal.TheVariants.{BadEvent}
 use Rattle.machine.specs.Events.{unknown}
+use Rattle.commands.specs.Steps.{shelf_seen}
 use Rattle.script_events.specs.EventView.{event_of}
 use Rattle.script_events.specs.Script.{event_in}
 use Rattle.script_runs.specs.Answers.{refused_line}
@@ -22,7 +23,7 @@ returns-in-Some g c =
     let before : c.len-sent.result ≡ length s.sent = c.len-sent.ensures ∙ ap (λ (x : SitesSeen). length x.sent) c.self.view_is in
     let after : c.self-in-Some.inside.outbox ≡ new.sent = ap (λ (x : SitesSeen). x.sent) c.self-in-Some.view_is in
     let written = rw (before, after) at c.put_reply.ensures in
-    (_, written, line_over (g.S.Shelf.files c.args.shelf.now) (g.S.Shelf.files c.step-reply.new.shelf) s new line _ (event_of c.in-Some.event) heard asked c.step-reply.ensures)
+    (_, written, line_over (shelf_seen (g.S.Shelf.files c.args.shelf.now) (g.S.Shelf.faults c.args.shelf.now)) (shelf_seen (g.S.Shelf.files c.step-reply.new.shelf) (g.S.Shelf.faults c.step-reply.new.shelf)) s new line _ (event_of c.in-Some.event) heard asked c.step-reply.ensures)
 
 pub returns-in-None : goal.returns-in-None
 returns-in-None g c =
@@ -32,10 +33,10 @@ returns-in-None g c =
     let first : c.self.inside.first ≡ s.first = ap (λ (x : SitesSeen). x.first) c.self.view_is in
     let count : c.len.result ≡ length s.desks = omega (arith, c.len.ensures, c.self.inside.desks.ok, ap (λ (x : SitesSeen). length x.desks) c.self.view_is) in
     let asked : unknown ≡ event_in s.first (length s.desks) line = rw (first, count) at c.in-None.ensures.event in
-    let told = (g.S.Shelf.files c.args.shelf.now) in
+    let told = (shelf_seen (g.S.Shelf.files c.args.shelf.now) (g.S.Shelf.faults c.args.shelf.now)) in
     (refused_line BadEvent, c.put_refused.ensures, line_over told told s s line (refused_line BadEvent) (unknown) heard asked (stepped_over told s s (unknown) (refused_line BadEvent) (unknown_step s)))
 
 pub returns-then-is_silent : goal.returns-then-is_silent
 returns-then-is_silent g c =
     let silent = sym c.is_silent.ensures ∙ c.if-is_silent.true in
-    ([], Appends-nil c.args.output.now.contents, silent_over (g.S.Shelf.files c.args.shelf.now) c.args.self.now c.args.line.now silent)
+    ([], Appends-nil c.args.output.now.contents, silent_over (shelf_seen (g.S.Shelf.files c.args.shelf.now) (g.S.Shelf.faults c.args.shelf.now)) c.args.self.now c.args.line.now silent)

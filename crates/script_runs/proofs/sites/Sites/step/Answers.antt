@@ -1,7 +1,7 @@
 use Rattle.std.proofs.Common.{length, drop}
-use Rattle.machine.specs.Events.{arrange, ask, click, copy, edit, keep, merge, merge_reply, print, put, query, reopen, settle}
+use Rattle.machine.specs.Events.{arrange, ask, click, copy, edit, keep, merge, merge_reply, print, insert_at_caret, query, reopen, settle}
 use Rattle.machine.specs.Events.{settles, take, take_reply}
-use Rattle.commands.specs.Steps.{print_reply}
+use Rattle.commands.specs.Steps.{print_reply, shelf_seen}
 use Rattle.script_events.specs.EventView.{delivery_of, edit_of}
 use Rattle.script_events.specs.Script.{plain_items}
 use Rattle.script_runs.specs.Replying.{reply_of}
@@ -15,7 +15,7 @@ returns-in-Edits g c =
     let s = c.args.self.now in
     let new = c.edit.new.self in
     let asked = edit c.in-Edits.desk c.in-Edits.text (edit_of c.in-Edits.edit) in
-    rw c.in-Edits.is (stepped_over (g.S.Shelf.files c.args.shelf.now) s new asked (change_lines s c.edit.result new) (change_step s new asked c.edit.result c.edit.ensures))
+    rw c.in-Edits.is (stepped_over (shelf_seen (g.S.Shelf.files c.args.shelf.now) (g.S.Shelf.faults c.args.shelf.now)) s new asked (change_lines s c.edit.result new) (change_step s new asked c.edit.result c.edit.ensures))
 
 pub returns-in-Saves : goal.returns-in-Saves
 returns-in-Saves g c =
@@ -23,14 +23,14 @@ returns-in-Saves g c =
     let new = c.save.new.self in
     let save = c.in-Saves.save in
     let asked = copy c.in-Saves.desk c.in-Saves.text save.beg save.end save.other save.pos in
-    rw c.in-Saves.is (stepped_over (g.S.Shelf.files c.args.shelf.now) s new asked (change_lines s c.save.result new) (change_step s new asked c.save.result c.save.ensures))
+    rw c.in-Saves.is (stepped_over (shelf_seen (g.S.Shelf.files c.args.shelf.now) (g.S.Shelf.faults c.args.shelf.now)) s new asked (change_lines s c.save.result new) (change_step s new asked c.save.result c.save.ensures))
 
 pub returns-in-Takes : goal.returns-in-Takes
 returns-in-Takes g c =
     let s = c.args.self.now in
     let new = c.take.new.self in
     let asked = take c.in-Takes.desk c.in-Takes.text (delivery_of c.in-Takes.message) in
-    rw c.in-Takes.is (stepped_over (g.S.Shelf.files c.args.shelf.now) s new asked _ (other_step s new asked (take_reply c.take.result) c.take.ensures))
+    rw c.in-Takes.is (stepped_over (shelf_seen (g.S.Shelf.files c.args.shelf.now) (g.S.Shelf.faults c.args.shelf.now)) s new asked _ (other_step s new asked (take_reply c.take.result) c.take.ensures))
 
 pub returns-in-Settles : goal.returns-in-Settles
 returns-in-Settles g c =
@@ -38,14 +38,14 @@ returns-in-Settles g c =
     let new = c.settle.new.self in
     let settled = c.settle.result in
     let asked = settle c.in-Settles.desk c.in-Settles.text in
-    rw c.in-Settles.is (stepped_over (g.S.Shelf.files c.args.shelf.now) s new asked _ (other_step s new asked (settles settled.drained settled.dropped settled.stopped) c.settle.ensures))
+    rw c.in-Settles.is (stepped_over (shelf_seen (g.S.Shelf.files c.args.shelf.now) (g.S.Shelf.faults c.args.shelf.now)) s new asked _ (other_step s new asked (settles settled.drained settled.dropped settled.stopped) c.settle.ensures))
 
 pub returns-in-Merges : goal.returns-in-Merges
 returns-in-Merges g c =
     let s = c.args.self.now in
     let new = c.merge.new.self in
     let asked = merge c.in-Merges.desk c.in-Merges.text c.in-Merges.other in
-    rw c.in-Merges.is (stepped_over (g.S.Shelf.files c.args.shelf.now) s new asked _ (other_step s new asked (merge_reply c.merge.result) c.merge.ensures))
+    rw c.in-Merges.is (stepped_over (shelf_seen (g.S.Shelf.files c.args.shelf.now) (g.S.Shelf.faults c.args.shelf.now)) s new asked _ (other_step s new asked (merge_reply c.merge.result) c.merge.ensures))
 
 pub returns-in-Queries : goal.returns-in-Queries
 returns-in-Queries g c =
@@ -55,7 +55,7 @@ returns-in-Queries g c =
     let reply = print_reply c.query.result (λ lines. lines.items) in
     let replied_so = replied_same s c.in-Queries.desk c.index.result.now at (λ i. query i c.in-Queries.text c.in-Queries.query) reply c.query.ensures.step in
     let asked = query c.in-Queries.desk c.in-Queries.text c.in-Queries.query in
-    rw (c.in-Queries.is, ← c.self.view_is) (stepped_over (g.S.Shelf.files c.args.shelf.now) s s asked _ (other_step s s asked reply replied_so))
+    rw (c.in-Queries.is, ← c.self.view_is) (stepped_over (shelf_seen (g.S.Shelf.files c.args.shelf.now) (g.S.Shelf.faults c.args.shelf.now)) s s asked _ (other_step s s asked reply replied_so))
 
 pub returns-in-Keeps : goal.returns-in-Keeps
 returns-in-Keeps g c =
@@ -63,7 +63,7 @@ returns-in-Keeps g c =
     let in_run = rw (c.in-Keeps.is, ← c.self-in-Keeps.view_is) at c.requires.in_run in
     let at = desk_read s c.in-Keeps.desk c.index-in-Keeps.result.now in_run.0 c.index-in-Keeps.ensures in
     let step = filed_same s c.in-Keeps.desk c.index-in-Keeps.result.now at (λ i. ask i (keep c.in-Keeps.text c.in-Keeps.name.now)) c.keep.result
-    (g.S.Shelf.files c.args.shelf.now) (g.S.Shelf.files c.keep.new.shelf) (c.keep.ensures.step s.sent) in
+    (shelf_seen (g.S.Shelf.files c.args.shelf.now) (g.S.Shelf.faults c.args.shelf.now)) (shelf_seen (g.S.Shelf.files c.keep.new.shelf) (g.S.Shelf.faults c.keep.new.shelf)) (c.keep.ensures.step s.sent) in
     rw (c.in-Keeps.is, ← c.self-in-Keeps.view_is) step
 
 pub returns-in-Reopens : goal.returns-in-Reopens
@@ -72,7 +72,7 @@ returns-in-Reopens g c =
     let in_run = rw (c.in-Reopens.is, ← c.self-in-Reopens.view_is) at c.requires.in_run in
     let at = desk_read s c.in-Reopens.desk c.index_mut.result.now in_run.0 c.index_mut.ensures.value in
     let step = filed_step s c.in-Reopens.desk c.index_mut.result.now at (λ i. ask i (reopen c.in-Reopens.text c.in-Reopens.name.now)) c.reopen.result c.reopen.new.self s.sent
-    (g.S.Shelf.files c.args.shelf.now) (g.S.Shelf.files c.reopen.new.shelf) (c.reopen.ensures.step s.sent) in
+    (shelf_seen (g.S.Shelf.files c.args.shelf.now) (g.S.Shelf.faults c.args.shelf.now)) (shelf_seen (g.S.Shelf.files c.reopen.new.shelf) (g.S.Shelf.faults c.reopen.new.shelf)) (c.reopen.ensures.step s.sent) in
     rw (c.in-Reopens.is, ← c.self-in-Reopens.view_is) step
 
 pub returns-in-Arranges : goal.returns-in-Arranges
@@ -81,7 +81,7 @@ returns-in-Arranges g c =
     let new = c.arrange.new.self in
     let after = drop (length s.sent) new.sent in
     let asked = ask c.in-Arranges.desk (arrange c.in-Arranges.arrangement) in
-    rw c.in-Arranges.is (stepped_over (g.S.Shelf.files c.args.shelf.now) s new asked _ (other_step s new asked (reply_of c.arrange.result after) (c.arrange.ensures after)))
+    rw c.in-Arranges.is (stepped_over (shelf_seen (g.S.Shelf.files c.args.shelf.now) (g.S.Shelf.faults c.args.shelf.now)) s new asked _ (other_step s new asked (reply_of c.arrange.result after) (c.arrange.ensures after)))
 
 pub returns-in-Prints : goal.returns-in-Prints
 returns-in-Prints g c =
@@ -91,14 +91,14 @@ returns-in-Prints g c =
     let reply = print_reply c.view.result (λ lines. lines.items) in
     let replied_so = replied_same s c.in-Prints.desk c.index-in-Prints.result.now at (λ i. ask i (print c.in-Prints.view)) reply c.view.ensures.step in
     let asked = ask c.in-Prints.desk (print c.in-Prints.view) in
-    rw (c.in-Prints.is, ← c.self-in-Prints.view_is) (stepped_over (g.S.Shelf.files c.args.shelf.now) s s asked _ (other_step s s asked reply replied_so))
+    rw (c.in-Prints.is, ← c.self-in-Prints.view_is) (stepped_over (shelf_seen (g.S.Shelf.files c.args.shelf.now) (g.S.Shelf.faults c.args.shelf.now)) s s asked _ (other_step s s asked reply replied_so))
 
 pub returns-in-Keys : goal.returns-in-Keys
 returns-in-Keys g c =
     let s = c.args.self.now in
     let new = c.key.new.self in
-    let asked = ask c.in-Keys.desk (put (plain_items c.in-Keys.bytes)) in
-    rw c.in-Keys.is (stepped_over (g.S.Shelf.files c.args.shelf.now) s new asked (change_lines s c.key.result new) (change_step s new asked c.key.result c.key.ensures))
+    let asked = ask c.in-Keys.desk (insert_at_caret (plain_items c.in-Keys.bytes)) in
+    rw c.in-Keys.is (stepped_over (shelf_seen (g.S.Shelf.files c.args.shelf.now) (g.S.Shelf.faults c.args.shelf.now)) s new asked (change_lines s c.key.result new) (change_step s new asked c.key.result c.key.ensures))
 
 pub returns-in-Clicks : goal.returns-in-Clicks
 returns-in-Clicks g c =
@@ -106,5 +106,5 @@ returns-in-Clicks g c =
     let in_run = rw (c.in-Clicks.is, ← c.self-in-Clicks.view_is) at c.requires.in_run in
     let at = desk_read s c.in-Clicks.desk c.index_mut-in-Clicks.result.now in_run c.index_mut-in-Clicks.ensures.value in
     let step = filed_step s c.in-Clicks.desk c.index_mut-in-Clicks.result.now at (λ i. click i c.in-Clicks.cell.col c.in-Clicks.cell.row) c.click-outcome.result c.click-outcome.new.self c.click-outcome.new.outbox
-    (g.S.Shelf.files c.args.shelf.now) (g.S.Shelf.files c.click-outcome.new.shelf) c.click-outcome.ensures.step in
+    (shelf_seen (g.S.Shelf.files c.args.shelf.now) (g.S.Shelf.faults c.args.shelf.now)) (shelf_seen (g.S.Shelf.files c.click-outcome.new.shelf) (g.S.Shelf.faults c.click-outcome.new.shelf)) c.click-outcome.ensures.step in
     rw (c.in-Clicks.is, ← c.self-in-Clicks.view_is) step

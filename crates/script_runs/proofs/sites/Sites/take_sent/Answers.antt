@@ -1,7 +1,7 @@
 use Rattle.std.proofs.Common.{◌≡◌, ◌<◌, length, inl, inr, arith}
 use Rattle.std.specs.Prelude.{◌⊎◌}
 use Rattle.machine.specs.Events.{sent}
-use Rattle.script_runs.specs.Seen.{SitesSeen, run_of}
+use Rattle.script_runs.specs.Seen.{SitesSeen, state_of}
 use Rattle.script_runs.proofs.Replying.{message_sent}
 use Rattle.script_runs.proofs.Standing.{desk_read, replied_take, unsent_still}
 use Rattle.script_runs.proofs.sites.Sites.take_sent.Goals as goal
@@ -15,7 +15,7 @@ returns c =
     let at = desk_read s c.args.desk c.index_mut.result.now in_run c.index_mut.ensures.value in
     let some : 0 < c.args.k = omega arith in
     rw (← c.self.view_is) (replied_take s c.args.desk c.index_mut.result.now at c.args.text (sent c.args.k) message c.take.result c.take.new.self
-    (λ files. message_sent (run_of s files) c.args.k message some c.message-message.ensures) c.take.ensures)
+    (λ files. message_sent (state_of s files) c.args.k message some c.message-message.ensures) c.take.ensures)
 
 pub returns-then-k-eq0 : goal.returns-then-k-eq0
 returns-then-k-eq0 c =

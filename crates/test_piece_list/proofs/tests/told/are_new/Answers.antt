@@ -4,11 +4,11 @@ use Rattle.std.specs.Option.{is_some}
 use Rattle.std.specs.Prelude.{IsSome}
 use Rattle.char_files.specs.CharName.{CharName}
 use Rattle.piece_list.specs.declared.piece.Piece.{Piece}
-use Rattle.piece_list.specs.declared.place.Place.{Place}
+use Rattle.piece_list.specs.declared.spot.Spot.{Spot}
 use Rattle.piece_list.specs.Spelled.{spelled, HasName}
 use Rattle.test_piece_list.proofs.tests.told.are_new.Goals as goal
 
-not_some : (r : Option Place) → is_some r ≡ false → IsSome r → ⊥
+not_some : (r : Option Spot) → is_some r ≡ false → IsSome r → ⊥
 not_some (Some place) e some = absurd cc
 not_some None e some = absurd cc
 

@@ -1,20 +1,20 @@
-use Rattle.std.proofs.Common.{◌<◌, ◌∙◌, ap, sym, subst, List, length, get_or}
-use Rattle.std.specs.List.{AllPass}
-use Rattle.line_drawing.specs.Rows.{Row}
-use Rattle.text_frames.specs.Frames.{FrameSeen, IsDrawn, is_quiet_for, last_row, leaves_rows}
-use Rattle.text_frames.proofs.Kept.{quiet_drawn}
+use Rattle.std.proofs.Common.{sym, subst}
+use Rattle.list_changes.specs.Changes.{Leads}
+use Rattle.taken_text.specs.Noted.{SameChar}
+use Rattle.texts.specs.Laws.{KeepsTheOrder}
+use Rattle.texts.specs.Text.{IsAnchor, IsText}
+use Rattle.texts.specs.TextState.{TextState, shown_of}
+use Rattle.text_frames.specs.Frames.{IsDrawn, ReadsOnce}
 use Rattle.text_frames.proofs.frame.Frame.update.Goals as goal
 
-pub returns-then-leave_rows-clause-drawn : goal.returns-then-leave_rows-clause-drawn
-returns-then-leave_rows-clause-drawn c = λ t is drawn keeps char leads.
-    let f : FrameSeen = c.args.self.now in
-    let rows : List Row = c.self.inside.rows.items in
-    let some : 0 < length f.rows = subst (λ (g : FrameSeen). 0 < length g.rows) c.self.view_is c.self.invariant.0.some in
-    let all : AllPass (is_quiet_for f) c.args.changes.now = λ k d lt.
-    ap (λ (g : FrameSeen). is_quiet_for g (get_or c.args.changes.now k d)) (sym c.self.view_is)
-    ∙ ap (λ (rs : List Row). leaves_rows c.self.inside.full (last_row rs).end (get_or c.args.changes.now k d))
-    (sym c.as_slice.ensures.value)
-    ∙ c.leave_rows.ensures.0 c.if-leave_rows.true k d lt in
-    subst (λ (g : FrameSeen). IsDrawn g c.args.replica.now)
-    (sym (ap (λ (g : FrameSeen). record g { reads = 0 }) c.self.view_is))
-    (quiet_drawn f t c.args.replica.now is c.lemma_is_text.ensures drawn keeps char some c.args.changes.now leads all 0)
+pub returns-clause-drawn : goal.returns-clause-drawn
+returns-clause-drawn c =
+    subst (λ (u : TextState). (t : TextState) → IsText t → IsDrawn c.args.self.now t → KeepsTheOrder t u
+    → IsAnchor u.operations c.args.self.now.anchor → Leads SameChar c.args.changes.now (shown_of t) (shown_of u)
+    → IsDrawn c.follow.new.self u) c.of.ensures.text c.follow.ensures.drawn
+
+pub returns-clause-anew : goal.returns-clause-anew
+returns-clause-anew c = λ loud char.
+    subst (λ (u : TextState). ReadsOnce u c.args.self.now c.follow.new.self) c.of.ensures.text
+    (c.follow.ensures.anew loud
+    (subst (λ (u : TextState). IsAnchor u.operations c.args.self.now.anchor) (sym c.of.ensures.text) char))

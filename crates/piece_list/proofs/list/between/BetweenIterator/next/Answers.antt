@@ -2,8 +2,8 @@ use Rattle.std.proofs.Common.{rules, ◌≡◌, ◌<◌, ◌≤◌, ℕ, ◌-◌
 use Rattle.std.proofs.lemmas.Grind.{common_steps}
 use Rattle.piece_list.specs.declared.run.Run.{Run}
 use Rattle.piece_list.specs.declared.list.between.Between.TheInside.{Inside}
-use Rattle.piece_list.specs.RunCuts.{first_chars, with_first}
-use Rattle.piece_list.proofs.RunCuts.{none_wanted, reads_one, is_cut, is_whole, run_to}
+use Rattle.piece_list.specs.RunSplits.{first_chars, with_first}
+use Rattle.piece_list.proofs.RunSplits.{none_wanted, reads_one, is_split, is_whole, run_to}
 use Rattle.piece_list.proofs.list.between.BetweenIterator.next.Goals.{in-Some, in-None+in_ok-run-in-None}
 use Rattle.piece_list.proofs.list.between.BetweenIterator.next.Goals.{then-self-from, else-self-from}
 use Rattle.piece_list.proofs.list.between.BetweenIterator.next.Goals as goal
@@ -52,7 +52,7 @@ is_what_is_wanted c =
     elim c.if-self-from.branch [
       | then-self-from w ↦
           let less : c.self.inside.left < r.len = omega (arith, stays, w.if-self-from.true, c.from.ensures) in
-          w.run-is ∙ ap (λ (n : ℕ). record r { len = n }) stays ∙ is_cut c.self.inside.left r less
+          w.run-is ∙ ap (λ (n : ℕ). record r { len = n }) stays ∙ is_split c.self.inside.left r less
       | else-self-from w ↦
           let all : r.len ≤ c.self.inside.left = omega (arith, stays, w.if-self-from.false, c.from.ensures) in
           w.run-is ∙ is_whole c.self.inside.left r all

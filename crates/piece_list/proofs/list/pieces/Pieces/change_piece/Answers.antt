@@ -11,8 +11,8 @@ use Rattle.piece_list.specs.Noted.{AreNoted}
 use Rattle.piece_list.specs.Pieces.{range_of}
 use Rattle.piece_list.specs.Spelled.{spelled}
 use Rattle.piece_list.proofs.ChangedNames.{true_is_not}
-use Rattle.piece_list.proofs.ChangedPiece.{turn, put_at_cursor, same_names}
-use Rattle.piece_list.proofs.CutList.{is_piece}
+use Rattle.piece_list.proofs.ChangedPiece.{turn, insert_at_cursor, same_names}
+use Rattle.piece_list.proofs.SplitList.{is_piece}
 use Rattle.piece_list.proofs.Edges.{is_entered}
 use Rattle.piece_list.proofs.Found.{none_is_not}
 use Rattle.piece_list.proofs.Noted.{noted_turn, noted_still}
@@ -41,7 +41,7 @@ turned c =
 set : (c : After-apply-shows_other) → with_value_at c.seek.new.self.cursor c.apply-shows_other.new.piece c.seek.new.self.items
     ≡ with_value c.in-Some.tag c.apply-shows_other.new.piece c.self.inside.ring.items
 set c =
-    put_at_cursor c.seek.new.self c.self.inside.ring.items c.in-Some.tag c.self.inside.ring.room
+    insert_at_cursor c.seek.new.self c.self.inside.ring.items c.in-Some.tag c.self.inside.ring.room
     c.apply-shows_other.new.piece c.seek.ensures
 
 pub unreachable-requires : goal.unreachable-requires
@@ -101,14 +101,14 @@ returns-clause-noted c =
     let told : Is (range_of v ∷ []) (with_value c.in-Some.tag w items) =
     elim c.if-shows_other.branch [
       | then-shows_other o ↦
-          let (beg, rank, put) = o.enter.ensures.entered in
+          let (beg, rank, insert) = o.enter.ensures.entered in
           record {
             told = λ room. noted_turn c.args.setting.now items c.in-Some.tag v w c.self.invariant.numbered
                 c.apply-shows_other.ensures.changed c.self.inside.index.items beg c.args.note.now.items
                 c.if-shows_other.note.items c.self.invariant.indexed t.member
                 (is_piece items c.in-Some.tag v c.self.invariant.entered.pieces t.member).0
                 (c.apply-shows_other.ensures.other o.if-shows_other.true).1 rank
-                (ap (λ n. n.items) o.note-is ∙ put
+                (ap (λ n. n.items) o.note-is ∙ insert
                 ∙ ap (λ (kind : ChangeKind). c.args.note.now.items
                 ++ record { kind = kind; beg = beg; end = beg + w.len } ∷ []) o.kind.ensures);
             few = omega (arith, ap vec_len o.note-is, o.enter.ensures.len);

@@ -24,46 +24,46 @@ change_range-requires-clause-here c =
     range_here (changed_char c.args.setting.now) (keeps_name c.args.setting.now)
     (take c.loop-range.range-index c.args.ranges.now) c.args.ranges.now c.loop-range.range-index
     c.range-item.result (spelled c.args.self.now.items)
-    (spelled c.cut_at-in-loop-range.new.self.items) c.loop-range-test.true c.range-item.is c.requires.here
-    (c.cut_at-in-loop-range.ensures.cut.spells ∙ c.cut_at.ensures.cut.spells ∙ c.loop-range.invariant.changed)
+    (spelled c.split_across-in-loop-range.new.self.items) c.loop-range-test.true c.range-item.is c.requires.here
+    (c.split_across-in-loop-range.ensures.split.spells ∙ c.split_across.ensures.split.spells ∙ c.loop-range.invariant.changed)
 
 pub change_range-requires-clause-begins : goal.change_range-requires-clause-begins
 change_range-requires-clause-begins c =
     let r : Range = c.range-item.result in
-    let cut : Items = c.cut_at.new.self.items in
-    c.cut_at-in-loop-range.ensures.cut.edges r.site r.at
-    (subst (λ (s : ℕ). IsEdge s r.at cut) c.site.ensures
-    (subst (λ (o : ℕ). IsEdge c.site.result o cut) c.at.ensures c.cut_at.ensures.edge))
+    let split : Items = c.split_across.new.self.items in
+    c.split_across-in-loop-range.ensures.split.edges r.site r.at
+    (subst (λ (s : ℕ). IsEdge s r.at split) c.site.ensures
+    (subst (λ (o : ℕ). IsEdge c.site.result o split) c.at.ensures c.split_across.ensures.edge))
 
 pub loop-range-preserved : goal.loop-range-preserved
 loop-range-preserved c =
     let each : Atom → Atom = changed_char c.args.setting.now in
     let r : Range = c.range-item.result in
-    let spells : spelled c.cut_at-in-loop-range.new.self.items ≡ spelled c.loop-range.self.items =
-    c.cut_at-in-loop-range.ensures.cut.spells ∙ c.cut_at.ensures.cut.spells in
+    let spells : spelled c.split_across-in-loop-range.new.self.items ≡ spelled c.loop-range.self.items =
+    c.split_across-in-loop-range.ensures.split.spells ∙ c.split_across.ensures.split.spells in
     record {
       room = omega (
         arith,
         c.change_range.ensures.room,
-        c.cut_at-in-loop-range.ensures.room,
-        c.cut_at.ensures.room,
+        c.split_across-in-loop-range.ensures.room,
+        c.split_across.ensures.room,
         c.loop-range.invariant.room,
       );
       few = omega (
         arith,
         c.change_range.ensures.same.many,
-        c.cut_at-in-loop-range.ensures.cut.few,
-        c.cut_at.ensures.cut.few,
+        c.split_across-in-loop-range.ensures.split.few,
+        c.split_across.ensures.split.few,
         c.loop-range.invariant.few,
       );
-      firsts = λ tag d is. c.change_range.ensures.same.firsts tag d (c.cut_at-in-loop-range.ensures.cut.firsts tag d
-          (c.cut_at.ensures.cut.firsts tag d (c.loop-range.invariant.firsts tag d is)));
+      firsts = λ tag d is. c.change_range.ensures.same.firsts tag d (c.split_across-in-loop-range.ensures.split.firsts tag d
+          (c.split_across.ensures.split.firsts tag d (c.loop-range.invariant.firsts tag d is)));
       changed = c.change_range.ensures.changed
           ∙ ap (map (if_named (r ∷ []) each)) (spells ∙ c.loop-range.invariant.changed)
           ∙ one_more each (keeps_name c.args.setting.now) c.args.ranges.now c.loop-range.range-index r
           c.requires.set c.loop-range-test.true c.range-item.is (spelled c.args.self.now.items);
       noted = entries_more c.args.setting.now c.args.ranges.now c.loop-range.range-index r c.args.note.now
           c.loop-range.note c.change_range.new.note c.args.self.now.items c.loop-range.self.items
-          c.cut_at-in-loop-range.new.self.items c.change_range.new.self.items c.loop-range-test.true c.range-item.is
+          c.split_across-in-loop-range.new.self.items c.change_range.new.self.items c.loop-range-test.true c.range-item.is
           spells c.loop-range.invariant.noted c.change_range.ensures.noted;
     }

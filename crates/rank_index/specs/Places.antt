@@ -1,7 +1,0 @@
--- Where a member stands among others.
-use Rattle.std.specs.Prelude.{◌≡◌, ℕ, List, ◌∷◌, ◌++◌, length}
-
--- so many members stand before one of this tag
-abbrev pub IsPlace : List (ℕ × ℕ) → ℕ → ℕ → Type 0
-IsPlace items tag place = (before : List (ℕ × ℕ)) × (after : List (ℕ × ℕ)) × (weight : ℕ)
-    × (items ≡ before ++ (tag, weight) ∷ after) × (place ≡ length before)

@@ -1,5 +1,0 @@
-use Rattle.set_laws.proofs.Covered.{same_by_fronts}
-use Rattle.set_laws.proofs.unions.equal_fronts_tell_equal_sets.Goals as goal
-
-pub returns : goal.returns
-returns c = same_by_fronts
