@@ -1,5 +1,5 @@
 -- A text that begins as its site's file tells is a step of the run.
-use Rattle.std.proofs.Common.{◌≡◌, ℕ, ◌+◌, ◌-◌, Bool, true, false, List, [], ◌∷◌, ◌++◌, length, Option, None, Result, Ok, Err, refl, sym, ap, subst, ◌∙◌, inl, inr, append-nil, arith}
+use Rattle.std.proofs.Common.{◌≡◌, ℕ, ◌+◌, ◌-◌, Bool, true, false, List, [], ◌∷◌, ◌++◌, length, None, Result, Ok, Err, refl, sym, ap, subst, ◌∙◌, inl, inr, append-nil, arith}
 use Rattle.std.specs.Prelude.{◌==◌, ◌&&◌, MatchBool, nat_lt, slice_get, slice_set}
 use Rattle.std.proofs.lemmas.Bool.{and_parts}
 use Rattle.looks.specs.declared.refusal.Refusal.{Refusal}
@@ -50,12 +50,12 @@ pub replaced_grows : (d d' : SiteTexts) (text : ℕ) (kept : TextState) → HasT
     → ((t : TextState) → IsTextOf d text t → has_begun t ≡ false)
     → HasTakenAll (empty_text kept.text kept.site) kept.operations kept → InText (λ _ u. u ≡ kept) d text d'
     → InText Grows d text d'
-replaced_grows d d' text kept (t, at, is) told fresh taken (u, v, there, insert_at_caret, changed) =
+replaced_grows d d' text kept (t, at, is) told fresh taken (u, v, there, is_set, changed) =
     let same : t ≡ u = one_element (slice_get d.texts (text - 1)) t u at there in (
       u,
       v,
       there,
-      subst (Grows u) (sym insert_at_caret) (kept_grows u kept (subst IsText same is) (fresh u there) (told text u there) taken),
+      subst (Grows u) (sym is_set) (kept_grows u kept (subst IsText same is) (fresh u there) (told text u there) taken),
       changed,
     )
 
@@ -65,9 +65,9 @@ pub replaced_now : (d d' new : SiteTexts) (text : ℕ) (kept : TextState) → Ha
     → HasTakenAll (empty_text kept.text kept.site) kept.operations kept → InText (λ _ u. u ≡ kept) d text d'
     → InText (λ t u. u ≡ all_told t) d' text new → new ≡ with_text d text (all_told kept)
 unfolding replaced_grows
-replaced_now d d' new text kept (t, at, is) told fresh taken (u, v, there, insert_at_caret, changed) asked =
-    is_new d d' new text told (replaced_grows d d' text kept (t, at, is) told fresh taken (u, v, there, insert_at_caret, changed)) asked
-    ∙ ap (λ (x : TextState). with_text d text (all_told x)) insert_at_caret
+replaced_now d d' new text kept (t, at, is) told fresh taken (u, v, there, is_set, changed) asked =
+    is_new d d' new text told (replaced_grows d d' text kept (t, at, is) told fresh taken (u, v, there, is_set, changed)) asked
+    ∙ ap (λ (x : TextState). with_text d text (all_told x)) is_set
 
 -- what becomes of it
 pub begins_apart : (seen : DeskSeen) (text : ℕ) (t kept : TextState) (told : Bool) → IsTextOf seen.texts text t

@@ -239,10 +239,10 @@ module _ (d : SiteTexts) (w : Screened) (name : List ℕ) (told told' : ShelfSee
       put_loads s i r new stands there (inr (d', w', stands', (part, (c', shown', caret', at', short)))) =
           inr (d', w', stands', (c', shown', caret', at', (file, there, inr (items, of, short))))
 
-      pub load_puts : (new : DeskSeen) (result : Result ℕ EditRefusal) (before after : List (List ℕ)) → HasFile told.files name file
+      pub load_inserts : (new : DeskSeen) (result : Result ℕ EditRefusal) (before after : List (List ℕ)) → HasFile told.files name file
           → told'.faults ≡ told.faults → IsEditStep (record { texts = d; screen = w }) (λ i. ask i (insert_at_caret items)) result new before after
           → LoadsSo (sent_answer result) new before after
-      load_puts new result before after has unfailed (messages, counts, steps) =
+      load_inserts new result before after has unfailed (messages, counts, steps) =
           let (files, files', are, stay, there) = files_read told.files told'.files name file same has in (
             messages,
             went_well,

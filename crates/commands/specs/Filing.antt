@@ -67,18 +67,18 @@ BeginsSo d text kept result new =
     ((result ≡ Err (Whole WrongText)) × (new ≡ d))
 
 -- The shelf was asked for one write, of this file under this name; or for none, where the file was refused before. What is
--- answered where the shelf fails is answered after the write alone, and that there is too much for a file before it alone.
-abbrev pub WritesOnce : {X E : Type 0} → (fault much : E) → (name file : List ℕ) → (was now : Option (List Write)) → Result X E → Type 0
-WritesOnce fault much name file was now (Ok _) = now ≡ with_write name file was
-WritesOnce fault much name file was now (Err why) =
-    ((now ≡ was) × (why ≢ fault)) ⊎ ((now ≡ with_write name file was) × (why ≢ much))
+-- answered where the shelf fails is answered after the write alone, and nothing else is refused then.
+abbrev pub WritesOnce : {X E : Type 0} → (fault : E) → (name file : List ℕ) → (was now : Option (List Write)) → Result X E → Type 0
+WritesOnce fault name file was now (Ok _) = now ≡ with_write name file was
+WritesOnce fault name file was now (Err why) =
+    ((now ≡ was) × (why ≢ fault)) ⊎ ((now ≡ with_write name file was) × (why ≡ fault))
 
 -- the same of what a text shows, and of all that a text has taken in
 abbrev pub StoresOnce : TextState → (name : List ℕ) → (was now : Option (List Write)) → Result Answer EditRefusal → Type 0
-StoresOnce t name = WritesOnce (Whole WriteFault) (Whole BadFile) name (formatted (shown_items t))
+StoresOnce t name = WritesOnce (Whole WriteFault) name (formatted (shown_items t))
 
 abbrev pub KeepsOnce : TextState → (name : List ℕ) → (was now : Option (List Write)) → Result Answer EditRefusal → Type 0
-KeepsOnce t name = WritesOnce (Whole WriteFault) (Whole BadFile) name (site_bytes t.text t.site t.operations)
+KeepsOnce t name = WritesOnce (Whole WriteFault) name (site_bytes t.text t.site t.operations)
 
 -- the shelf was asked for one write at most
 abbrev pub WritesOnceAtMost : (was now : Option (List Write)) → Type 0

@@ -41,7 +41,7 @@ fn write_text<S: Shelf>(
     shelf: &mut S,
 ) -> Result<(), Refusal>
     ensures writes { WritesText replica.now name.now (shelf_seen (S.files shelf.old) (S.faults shelf.old)) (shelf_seen (S.files shelf.new) (S.faults shelf.new)) result }
-    ensures once { WritesOnce Refusal.WriteFault Refusal.BadFile name.now (formatted (shown_items replica.now))
+    ensures once { WritesOnce Refusal.WriteFault name.now (formatted (shown_items replica.now))
         (S.writes shelf.old) (S.writes shelf.new) result }
     ensures fault { IsErrOf result Refusal.WriteFault → Counts (S.faults shelf.old) (S.faults shelf.new) }
 {

@@ -55,7 +55,7 @@ fn write_site<S: Shelf>(
     shelf: &mut S,
 ) -> Result<(), Refusal>
     ensures writes { WritesSite replica.now name.now (shelf_seen (S.files shelf.old) (S.faults shelf.old)) (shelf_seen (S.files shelf.new) (S.faults shelf.new)) result }
-    ensures once { WritesOnce Refusal.WriteFault Refusal.BadFile name.now
+    ensures once { WritesOnce Refusal.WriteFault name.now
         (site_bytes replica.now.text replica.now.site replica.now.operations) (S.writes shelf.old) (S.writes shelf.new) result }
     ensures fault { IsErrOf result Refusal.WriteFault → Counts (S.faults shelf.old) (S.faults shelf.new) }
 {

@@ -1,11 +1,15 @@
 -- A file that was replaced, and one that wasn't.
 use Rattle.std.proofs.Common.{◌≡◌, ◌≢◌, ◌⊎◌, inl, inr, ℕ, ◌≤◌, true, List, refl, sym, ◌∙◌, ap, subst, arith}
-use Rattle.std.specs.Prelude.{Option, Some, Result, Ok, Err, OnErr, OnOk}
+use Rattle.std.specs.Prelude.{Option, None, Some, Result, Ok, Err, OnErr, OnOk}
 use Rattle.std.specs.Option.{option_map}
+use Rattle.std.specs.IoError.{error_kind}
 use Rattle.std.specs.declared.io.Error.{Error}
+use Rattle.std.specs.declared.io.ErrorKind.TheVariants.{OutOfMemory}
+use Rattle.looks.specs.declared.refusal.Refusal.{Refusal}
+use Rattle.looks.specs.declared.refusal.Refusal.TheVariants.{OutOfMemory as Refused}
 use Rattle.folder_shelf.specs.Calls.{Fails, Makes, NoFault, Perhaps, Removes, Same, SyncsFolder, Well}
 use Rattle.folder_shelf.specs.Moments.{Among, Anything, Content, CrashLeaves, File, Goes, History, Moment, Names, Plain, Since, Survives, lasting, seen}
-use Rattle.folder_shelf.specs.Whole.{BeforeOrAfter, GivenUp, IsBeside, MakesBeside, Placed, Placing, Replaced}
+use Rattle.folder_shelf.specs.Whole.{BeforeOrAfter, GivenUp, IsBeside, IsHindered, MakesBeside, Placed, Placing, Replaced}
 use Rattle.folder_shelf.proofs.Leading.{since_call, since_since, since_weaker}
 use Rattle.folder_shelf.proofs.Reading.{fails_after}
 use Rattle.folder_shelf.proofs.Replacing.{PlacingFails, before_or_after_made, before_or_after_placing, content_other, placing_removes, placing_same, placing_synced, survives_other}
@@ -194,3 +198,19 @@ not_begun name bytes error h0 h1 not_beside =
 pub either_way : {T E : Type 0} (X : Type 0) (result : Result T E) → OnOk result X → OnErr result X → X
 either_way X (Ok value) ok err = ok
 either_way X (Err error) ok err = err
+
+-- a replacing was given up for want of memory, or for what happened in the folder
+pub hindered_or_short : (Each : Moment → Moment → Type 0) (refusal : Refusal) (error : Error) (h0 h1 : Option History)
+    → (error_kind error ≡ OutOfMemory → refusal ≡ Refused) → Since Each (GivenUp error) h0 h1
+    → (Some refusal ≡ Some Refused) ⊎ Since Each IsHindered h0 h1
+hindered_or_short Each refusal error None None memory since = inr tt
+hindered_or_short Each refusal error None (Some new) memory since = absurd since
+hindered_or_short Each refusal error (Some old) None memory since = absurd since
+hindered_or_short Each refusal error (Some old) (Some new) memory since =
+    let hindered : IsHindered old.now new.now → Since Each IsHindered (Some old) (Some new) =
+    λ last. record { since = since.since; later = since.later; each = since.each; last = last } in
+    elim since.last [
+      | inl fault ↦ inr (hindered (inl fault))
+      | inr (inl short) ↦ inl (ap (λ (r : Refusal). Some r) (memory short))
+      | inr (inr taken) ↦ inr (hindered (inr (taken.1, taken.2, taken.3)))
+    ]

@@ -28,6 +28,10 @@ pub record Replaced (name bytes : List ℕ) (old now : Moment) : Type 0 where
   pub others_leave : (other : List ℕ) → other ≢ name → (found : Option Content) → CrashLeaves now other found → CrashLeaves old other found
   pub no_fault : NoFault old now
 
+-- a call failed, or there is a file of some name beside
+abbrev pub IsHindered : (old now : Moment) → Type 0
+IsHindered old now = IsFault old now ⊎ ((other : List ℕ) × IsBeside other × (old.names other ≢ None))
+
 -- why a replacing was given up: a call failed, memory was refused, or there is a file of some name beside
 abbrev pub GivenUp : Error → (old now : Moment) → Type 0
 GivenUp error old now =

@@ -1,9 +1,9 @@
-ghost use Rattle.std.specs.Prelude.{◌≡◌, ◌<◌, ◌≤◌, ◌+◌, ◌⊎◌, length, IfErr, IfOk, IsErr, IsFalse, IsTrue, IsErrOf, None, OnErr, OnOk};
+ghost use Rattle.std.specs.Prelude.{◌≡◌, ◌<◌, ◌≤◌, ◌+◌, ◌⊎◌, length, IfErr, IfOk, IsErr, IsFalse, IsTrue, IsErrOf, None, OnErr, OnOk, Some};
 ghost use Rattle.shelf.specs.Files.{Counts};
 ghost use Rattle.shelf.specs.Names.{is_file_name};
 ghost use Rattle.folder_shelf.specs.Calls.{IsFault, NoFault, Same};
 ghost use Rattle.folder_shelf.specs.Moments.{Anything, Since};
-ghost use Rattle.folder_shelf.specs.Whole.{BeforeOrAfter, HasNoPlain, IsRead, Replaced};
+ghost use Rattle.folder_shelf.specs.Whole.{BeforeOrAfter, HasNoPlain, IsHindered, IsRead, Replaced};
 ghost use Rattle.folder_shelf.specs.declared.whole_files.TheConstants.{MAX_FILE_LEN};
 
 use crate::folder::Folder;
@@ -15,7 +15,7 @@ use std::alloc::Global;
 
 /// The files of a folder. This project's own.
 ///
-/// Others may write there between two calls, so the shelf tells no files; what a call finds and leaves, the folder's
+/// Others may write there between two calls, so the shelf reports no files; what a call finds and leaves, the folder's
 /// history says, where the folder tells one.
 #[derive(Drop)]
 pub struct FolderShelf<F> {
@@ -25,6 +25,9 @@ pub struct FolderShelf<F> {
     alloc: Global,
     /// How many calls failed.
     pub failures: u64,
+    /// Why the folder didn't take what was written last: memory was refused, or a call of the folder failed; none where it
+    /// did, or wasn't asked.
+    pub refused: Option<Refusal>,
 }
 
 /// The files of the program's current folder: what it reads is believed of the file system.
@@ -40,6 +43,7 @@ impl<F: Folder + Drop> FolderShelf<F> {
             folder,
             alloc,
             failures: 0,
+            refused: None,
         }
     }
 
@@ -48,6 +52,7 @@ impl<F: Folder + Drop> FolderShelf<F> {
         ensures folder { self.new.folder ≡ self.old.folder }
         ensures failures { Counts self.old.failures self.new.failures }
         ensures once { self.new.failures ≤ self.old.failures + 1 }
+        ensures refused { self.new.refused ≡ self.old.refused }
     {
         self.failures = self.failures.saturating_add(1);
     }
@@ -88,7 +93,8 @@ impl<F: Folder + Drop> Shelf for FolderShelf<F> {
 
     // As each shelf does; and at each moment the name has the bytes of before or the new ones, whole, whatever a crash makes
     // of the folder; once it is done, the new ones, and no other name has changed. A name of no file of the folder itself is
-    // a failure, as are more bytes than are read, and the folder isn't asked then.
+    // a failure, as are more bytes than are read, and the folder isn't asked then. Else it fails for want of memory, which is
+    // kept, or for what happened in the folder.
     fn write(&mut self, name: &str, bytes: &[u8]) -> Result<(), Refusal>
         ensures errors { IfErr result (λ e. e ≡ Refusal.WriteFault) }
         ensures fault { OnErr result (Counts self.old.failures self.new.failures) }
@@ -99,14 +105,18 @@ impl<F: Folder + Drop> Shelf for FolderShelf<F> {
         ensures limit { MAX_FILE_LEN < length bytes.now → IsErr result }
         ensures any_moment { Since (BeforeOrAfter name.now bytes.now) Anything (F.history self.old.folder) (F.history self.new.folder) }
         ensures done { OnOk result (Since Anything (Replaced name.now bytes.now) (F.history self.old.folder) (F.history self.new.folder)) }
+        ensures cause { IsErr result → IsTrue (is_file_name name.now) → length bytes.now ≤ MAX_FILE_LEN
+            → (self.new.refused ≡ Some Refusal.OutOfMemory) ⊎ Since Anything IsHindered (F.history self.old.folder) (F.history self.new.folder) }
+        ensures taken { OnOk result (self.new.refused ≡ None) }
         ensures unasked { IsFalse (is_file_name name.now) ⊎ (MAX_FILE_LEN < length bytes.now)
             → F.history self.new.folder ≡ F.history self.old.folder }
     {
-        if is_file_name(name.as_bytes())
-            && bytes.len() <= MAX_FILE_LEN
-            && replace(&mut self.folder, self.alloc, name, bytes).is_ok()
-        {
-            return Ok(());
+        self.refused = None;
+        if is_file_name(name.as_bytes()) && bytes.len() <= MAX_FILE_LEN {
+            match replace(&mut self.folder, self.alloc, name, bytes) {
+                Ok(()) => return Ok(()),
+                Err(why) => self.refused = Some(Refusal::of_error(&why, Refusal::WriteFault)),
+            }
         }
         self.count();
         Err(Refusal::WriteFault)

@@ -129,7 +129,7 @@ fn new_beside<F: Folder>(folder: &mut F, alloc: Global) -> io::Result<(F::File, 
 }
 
 // Writes the bytes to a new file, waits until the disk has them, and gives it the name.
-fn put_in_place<F: Folder>(
+fn write_and_rename<F: Folder>(
     folder: &mut F,
     mut file: F::File,
     beside: &str,
@@ -156,7 +156,7 @@ pub fn replace<F: Folder>(folder: &mut F, alloc: Global, name: &str, bytes: &[u8
     ensures cause { IfErr result (λ error. Since Anything (GivenUp error) (F.history folder.old) (F.history folder.new)) }
 {
     let (file, beside) = new_beside(folder, alloc)?;
-    match put_in_place(folder, file, beside.as_str(), name, bytes) {
+    match write_and_rename(folder, file, beside.as_str(), name, bytes) {
         Ok(()) => folder.sync_folder(),
         Err(why) => {
             let _ = folder.remove(beside.as_str());

@@ -19,7 +19,7 @@ use Rattle.texts.specs.declared.edit_refusal.EditRefusal.TheVariants.{Whole, Par
 use Rattle.texts.proofs.RunsInserted.{put_none}
 use Rattle.machine.specs.Tasks.{caret_after}
 use Rattle.machine_laws.proofs.Rooms.{by_test}
-use Rattle.machine_laws.specs.Laws.{PutsIn, TheCaretStandsAfterTheLast}
+use Rattle.machine_laws.specs.Laws.{ComesIn, TheCaretStandsAfterTheLast}
 
 -- past the front of a list
 past : (xs ys : List Char) (n : ℕ) → slice_get (xs ++ ys) (length xs + n) ≡ slice_get ys n
@@ -127,14 +127,14 @@ module _ (t new : TextState) (pos : ℕ) (was : Anchor) where
       came_in (items_of (take n (pieces_of t.last_stretch))) in_text (subst (λ (x : Edit). Shows t x (Err (Partial n why)) new) is shows)
 
 -- so it is after whatever puts characters in
-in_text_of : (t : TextState) (pos : ℕ) (e : Edit) → PutsIn e pos → is_in_text t e ≡ true → pos ≤ length (shown_of t)
+in_text_of : (t : TextState) (pos : ℕ) (e : Edit) → ComesIn e pos → is_in_text t e ≡ true → pos ≤ length (shown_of t)
 in_text_of t pos (insertion from items) puts within = leb-true pos (length (shown_of t)) (subst (λ (n : ℕ). nat_le n (length (shown_of t)) ≡ true) puts within)
 in_text_of t pos (recalling from) puts within = leb-true pos (length (shown_of t)) (subst (λ (n : ℕ). nat_le n (length (shown_of t)) ≡ true) puts within)
 in_text_of t pos (deletion beg end) puts within = absurd puts
 in_text_of t pos (looks_change beg end sel looks) puts within = absurd puts
 in_text_of t pos restoration puts within = absurd puts
 
-after_edit : (t new : TextState) (pos : ℕ) (e : Edit) (result : Result ℕ EditRefusal) (was : Anchor) → PutsIn e pos
+after_edit : (t new : TextState) (pos : ℕ) (e : Edit) (result : Result ℕ EditRefusal) (was : Anchor) → ComesIn e pos
     → is_in_text t e ≡ true → Shows t e result new → StandsSo t new pos was
 after_edit t new pos (insertion from items) result was puts within shows =
     by_outcome t new pos was items (insertion from items) result (inl (ap (λ (n : ℕ). insertion n items) puts))

@@ -138,16 +138,16 @@ TheSameOverAnyFiles = (s : State) (e : Event) (r : Reply) (new : State) (files :
     → Replies s e untouched r new → Replies (record s { files = files }) e untouched r (record new { files = files })
 
 -- an edit that puts characters in after the first pos shown
-abbrev pub PutsIn : Edit → (pos : ℕ) → Type 0
-PutsIn (insertion at items) pos = at ≡ pos
-PutsIn (recalling at) pos = at ≡ pos
-PutsIn e pos = ⊥
+abbrev pub ComesIn : Edit → (pos : ℕ) → Type 0
+ComesIn (insertion at items) pos = at ≡ pos
+ComesIn (recalling at) pos = at ≡ pos
+ComesIn e pos = ⊥
 
 -- After an edit that puts characters in at the caret, whether memory was there or not, either no character came in, and the
 -- caret stands where it stood; or these came in there, those of the site's file after all that it had, and the caret stands
 -- after the last of them.
 abbrev pub TheCaretStandsAfterTheLast : Type 0
-TheCaretStandsAfterTheLast = (t new : TextState) (pos : ℕ) (e : Edit) (r : Reply) (was : Anchor) → PutsIn e pos
+TheCaretStandsAfterTheLast = (t new : TextState) (pos : ℕ) (e : Edit) (r : Reply) (was : Anchor) → ComesIn e pos
     → EditsText e r t new ⊎ EditsTextShort e r t new
     → ((shown_of new ≡ shown_of t) × (caret_after t new pos was ≡ was))
     ⊎ ((items : List Item) × (items ≢ []) × (shown_of new ≡ shown_with t pos items)

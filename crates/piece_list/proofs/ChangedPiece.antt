@@ -66,7 +66,7 @@ avoids : (tables : Tables) (tag : ℕ) (p : Piece) (zs : Items) → Entered tabl
 avoids tables tag p zs own entered others = λ i d lt c is held.
     others i d lt (some_is _ _ (sym (entered i d lt c is) ∙ own c held))
 
--- a piece of the same names in the spot of another
+-- a piece of the same names instead of another
 module _ (tag : ℕ) (p w : Piece) (same : range_of w ≡ range_of p) where
   edges_stay : (xs ys : Items) (site off : ℕ) → IsEdge site off (xs ++ (tag, p) ∷ ys)
       → IsEdge site off (xs ++ (tag, w) ∷ ys)

@@ -100,7 +100,7 @@ trades (Relook sel looks key) beg p w same (shown, is) =
       omega (arith, count_tells p shown, len),
     )
 
--- of a piece that is set, at its spot
+-- of a piece that is set, where it stands
 module _ (setting : Setting) (xs ys : Items) (tag : ℕ) (p w : Piece) (same : range_of w ≡ range_of p) where
   abbrev entry : ℕ → Change
   entry beg = record { kind = kind_of setting; beg = beg; end = beg + w.len }

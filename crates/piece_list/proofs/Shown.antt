@@ -147,7 +147,7 @@ shown_at xs ys tag p i shown lt =
     ∙ get_or_append_left (chars_of p) after k i few
     ∙ char_at p i k lt)
 
--- and so its spot is told
+-- and so its spot is known
 pub spot_at : (items xs ys : Items) (tag : ℕ) (p : Piece) (pos i : ℕ) → items ≡ xs ++ (tag, p) ∷ ys
     → length (shown_chars (spelled xs)) + i ≡ pos → p.hidden.value ≡ false → i < p.len
     → IfSome (slice_get (shown_chars (spelled items)) pos)

@@ -59,7 +59,7 @@ written xs ys tag p w are =
     ∙ ap (λ (l : Items). xs ++ insert (tag, p) ∷ l) (others_stay tag w ys (after_others xs ys tag p are))
     ∙ ap (λ (b : Bool). xs ++ (tag, cond b w p) ∷ ys) (eq-eqb tag tag refl)
 
--- a write inserts no piece in, and keeps the numbers
+-- a write inserts no piece, and keeps the numbers
 pub as_many : (tag : ℕ) (w : Piece) (items : Items) → length (with_value tag w items) ≡ length items
 as_many tag w items = length-map items (λ m. (m.0, cond (m.0 == tag) w m.1))
 

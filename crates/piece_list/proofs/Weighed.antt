@@ -151,7 +151,7 @@ written_weighed tag w (m ∷ items) =
     go true = refl
     go false = refl
 
--- of a piece that is written, in the spot of another one
+-- of a piece that is written, instead of another one
 module _ (items : Items) (index : Weights) (tag weight : ℕ) (p w : Piece) (same : index ≡ weighed items)
     (member : IsMember items tag p) (by : weight ≡ own w w.len) where
   pub set_weighed : with_value tag weight index ≡ weighed (with_value tag w items)

@@ -1,7 +1,7 @@
 use char_files::SiteNo;
 use looks::{Key, Looks};
 
-/// Neighbouring names of one site's file in one key and one set of looks: what an Insert inserts into a text,
+/// Neighbouring names of one site's file in one key and one set of looks: what an Insert brings to a text,
 /// or a stretch of what is shown. This project's own.
 #[derive(Debug, Drop, PartialEq, Eq)]
 pub struct Run {

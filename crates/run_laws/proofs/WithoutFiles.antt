@@ -1,4 +1,4 @@
--- Lines that ask for no file, over a shelf that doesn't tell its files.
+-- Lines that ask for no file, over a shelf that doesn't report its files.
 use Rattle.std.proofs.Common.{◌≡◌, ℕ, true, false, Bool, List, [], refl, ap, subst}
 use Rattle.std.specs.Prelude.{MatchBool}
 use Rattle.machine.specs.Events.{Event, Part, untouched}

@@ -26,7 +26,7 @@ pub record Start : Type 0 where
   pub height : ℕ
   pub files : Files
 
--- a state after some lines of a script, in a run that began so, over a shelf that tells its files or over one that doesn't
+-- a state after some lines of a script, in a run that began so, over a shelf that reports its files or over one that doesn't
 pub record IsAfterLines (start : Start) (s : State) : Type 0 where
   pub reported : Bool
   pub lines : ℕ
@@ -111,7 +111,7 @@ AskedForNoFile begins = Unit {0}
 AskedForNoFile (goes_on {s = s} raw answer new trace is_raw answered) =
     AskedForNoFile trace × AsksForNoFile (event_in s.state.first (length s.state.desks) (without_return raw))
 
--- Over a shelf that doesn't tell its files, lines that ask for none are answered as over one that does, and all else comes to the
+-- Over a shelf that doesn't report its files, lines that ask for none are answered as over one that does, and all else comes to the
 -- same: so nothing that they print hangs on more than the script.
 abbrev pub WithoutFilesAllIsAnswered : Type 0
 WithoutFilesAllIsAnswered = (start : Run) (n : ℕ) (script answers : List ℕ) (s : Run) (trace : Trace false start n script answers s)

@@ -54,7 +54,7 @@ pub fn the_same_texts_answer_the_same_views()
     lemma_the_same_texts_show_the_same_screen();
 }
 
-/// A law: over a shelf that doesn't tell its files, as the folder's, lines that ask for none are answered as over one that tells
+/// A law: over a shelf that doesn't report its files, as the folder's, lines that ask for none are answered as over one that reports
 /// them. So what they print hangs on the script alone, and on memory.
 pub fn without_files_all_is_answered()
     ensures { WithoutFilesAllIsAnswered }

@@ -46,7 +46,7 @@ AreDue reported start script failed left answers now =
     ⊎ ((IsAnswered reported start script answers now × Consumes (Some script) left script)
     ⊎ IsBrokenOff reported start script failed left answers now)
 
--- How a run over the script, and over a shelf that tells its files or not, ends that began so; whether a read failed and what
+-- How a run over the script, and over a shelf that reports its files or not, ends that began so; whether a read failed and what
 -- the reader then has left; what was written; and what the shelf then has. Refused memory is told before the first byte is read. Where the writer fails,
 -- a prefix of the answers that were due was written.
 abbrev pub Ends : (reported : Bool) → Run → List ℕ → Result (Unit {0}) Refusal → (failed : Bool)

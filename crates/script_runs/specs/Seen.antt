@@ -35,8 +35,8 @@ Replied s e r new = (files : Files) → Replies (state_of s files) e untouched r
 abbrev pub Stepped : SitesSeen → Event → List ℕ → SitesSeen → Type 0
 Stepped s e answer new = (has : Shelved) → Step (run_of s has) e answer (run_of new has)
 
--- So it is of what a shelf had before, and of what it has now, where it tells its files; of some files, where it tells none. A shelf
--- that tells its files goes on to do so, and no other begins to.
+-- So it is of what a shelf had before, and of what it has now, where it reports its files; of some files, where it reports none. A shelf
+-- that reports its files goes on to do so, and no other begins to.
 abbrev pub OverBoth : (reported reported' : Option Files) → (faults faults' : ℕ) → (Shelved → Shelved → Type 0) → Type 0
 OverBoth None None faults faults' Holds =
     (was now : Files) × Holds (record { files = was; faults = faults }) (record { files = now; faults = faults' })

@@ -8,7 +8,7 @@ use looks::Refusal;
 use std::alloc::{AllocError, Global};
 use std::collections::BTreeMap;
 
-/// A shelf over memory, which tells its files. This project's own, for tests.
+/// A shelf over memory, which reports its files. This project's own, for tests.
 #[derive(Drop)]
 pub struct MemoryShelf {
     /// The files by their names.
@@ -17,7 +17,7 @@ pub struct MemoryShelf {
     pub failures: u64,
     /// How many calls go well before one is made to fail; none where no call is.
     pub good_calls: Option<u64>,
-    /// What the last write that wasn't made to fail was refused: memory; none where all were done.
+    /// What the last write was refused: memory; none where it was done, or was made to fail.
     pub refused: Option<Refusal>,
     /// What the files' memory is taken of.
     pub alloc: Global,
@@ -45,6 +45,7 @@ impl MemoryShelf {
         ensures failures { self.new.failures ≡ self.old.failures }
         ensures told { IsTrue result ↔ (self.old.good_calls ≡ Some 0) }
         ensures left { self.new.good_calls ≡ calls_left self.old.good_calls }
+        ensures refused { self.new.refused ≡ self.old.refused }
     {
         match self.good_calls {
             None => false,
@@ -76,6 +77,7 @@ impl MemoryShelf {
         ensures err { OnErr result ((other : List ℕ) → files_in self.new.files other ≡ files_in self.old.files other) }
         ensures failures { self.new.failures ≡ self.old.failures }
         ensures left { self.new.good_calls ≡ self.old.good_calls }
+        ensures refused { self.new.refused ≡ self.old.refused }
     {
         let key = String::from_str(self.alloc, name)?;
         let bytes = Vec::from_slice(self.alloc, bytes)?;
@@ -129,9 +131,11 @@ impl Shelf for MemoryShelf {
         ensures rises { self.old.failures ≤ self.new.failures }
         ensures told { self.old.good_calls ≡ Some 0 → IsErr result }
         ensures good { self.old.good_calls ≢ Some 0 → IsErr result → self.new.refused ≡ Some Refusal.OutOfMemory }
+        ensures done { OnOk result (self.new.refused ≡ None) }
         ensures same { OnErr result (files_in self.new.files name.now ≡ files_in self.old.files name.now) }
         ensures left { self.new.good_calls ≡ calls_left self.old.good_calls }
     {
+        self.refused = None;
         if !self.is_to_fail() {
             match self.keep(name, bytes) {
                 Ok(()) => return Ok(()),

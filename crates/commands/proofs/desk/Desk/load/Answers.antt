@@ -6,7 +6,7 @@ use Rattle.texts.specs.declared.edit_refusal.EditRefusal.TheVariants.{Whole}
 use Rattle.machine.specs.Events.{Task, ask, load, insert_at_caret, refuse}
 use Rattle.desk_windows.specs.Windows.{screened}
 use Rattle.commands.proofs.Faultless.{edit_step_sound}
-use Rattle.commands.proofs.Shelves.{load_fails, load_puts, load_without_caret, task_over}
+use Rattle.commands.proofs.Shelves.{load_fails, load_inserts, load_without_caret, task_over}
 use Rattle.commands.proofs.Tasks.{refused_task, told_so, untold}
 use Rattle.commands.specs.declared.answer.Answer.{Answer}
 use Rattle.commands.specs.Steps.{DeskSeen, IsEditStep, IsFault, IsShelfStep, sent_answer, shelf_seen}
@@ -47,7 +47,7 @@ returns-in-Ok-clause-step g c =
     (sym c.sent.ensures)
     (subst (λ (x : DeskSeen). IsShelfStep x (λ i. ask i (load name)) (sent_answer c.insert_at_caret.result) c.insert_at_caret.new.self sent c.insert_at_caret.new.outbox told told')
     c.self.view_is
-    (load_puts c.self.inside.texts (screened c.self.inside.windows) name told told' c.in-Ok.ensures.files caret shown is_caret
+    (load_inserts c.self.inside.texts (screened c.self.inside.windows) name told told' c.in-Ok.ensures.files caret shown is_caret
     shows file c.in-Ok.items of c.insert_at_caret.new.self c.insert_at_caret.result sent c.insert_at_caret.new.outbox has unfailed put_step)))
 
 pub returns-in-Ok-clause-fault : goal.returns-in-Ok-clause-fault

@@ -1,6 +1,6 @@
 use Rattle.std.proofs.lemmas.Result.{IfErr-weaker, err_from_is_err_and, on_ok_weaker}
 use Rattle.folder_shelf.proofs.Replacing.{put_append_fails, put_move_fails, put_placed, put_sync_fails}
-use Rattle.folder_shelf.proofs.whole_files.put_in_place.Goals as goal
+use Rattle.folder_shelf.proofs.whole_files.write_and_rename.Goals as goal
 
 pub returns-in_err-append-clause-err : goal.returns-in_err-append-clause-err
 returns-in_err-append-clause-err g c =
