@@ -7,6 +7,7 @@ local Note = require('vialshoal.note')
 local cursors = require('vialshoal.cursors')
 local engine = require('vialshoal.engine')
 local history = require('vialshoal.history')
+local interrupt = require('vialshoal.interrupt')
 local text = require('vialshoal.text')
 
 local M = {}
@@ -104,7 +105,7 @@ local function set_events(note)
   end
   on({ 'CursorMoved', 'CursorMovedI', 'ModeChanged' }, function() note:tell_place() end)
   on('BufWriteCmd', function(event) M.write(note, event.match) end)
-  on('BufReadCmd', function() M.read(note.buffer) end)
+  on('BufReadCmd', function() interrupt.behind(M.read, note.buffer) end)
 end
 
 --- Saves a note as a file, which `:write` names.
@@ -136,8 +137,8 @@ local function guarded(call, ...)
   local is_done, why = pcall(call, ...)
   if is_done then
     return true
-  elseif tostring(why):find('Keyboard interrupt', 1, true) then
-    api.nvim_input('<C-c>')
+  elseif interrupt.is_told_by(why) then
+    interrupt.press()
   else
     say('Vialshoal: ' .. tostring(why))
   end
@@ -199,7 +200,7 @@ function start(note)
     end
   end, function(words)
     if note.job == job then
-      ended(note, words)
+      interrupt.behind(ended, note, words)
     end
   end)
   note.job = job

@@ -6,6 +6,7 @@
 --- `has_end` and the option 'endofline' say that it is there; with 'nofixendofline' none is added to a text that has
 --- none. One that is typed here is shown as an empty line, until others change the end.
 local api = vim.api
+local interrupt = require('vialshoal.interrupt')
 local text = require('vialshoal.text')
 
 local Note = {}
@@ -33,13 +34,12 @@ end
 --- Takes in the answer to `open`, and shows the text.
 function Note:opened(line)
   self.version, self.made, self.answered = line.version, line.edits, line.edits
-  self.changes, self.waiting, self.place, self.is_lost = {}, {}, nil, false
+  self.changes, self.waiting, self.place, self.is_lost, self.is_open = {}, {}, nil, false, true
   if self:size() == 0 then
     self:fill(line.text)
   else
     self:become(line.text)
   end
-  self.is_open = true
 end
 
 -- Edits.
@@ -132,7 +132,8 @@ function Note:find_changes()
   if not self.is_unsure and api.nvim_buf_line_count(self.buffer) == #self.lines then
     return
   end
-  self.is_unsure, self.hint = false, nil
+  -- Until all of it is known.
+  self.is_unsure, self.hint = true, nil
   local lines = api.nvim_buf_get_lines(self.buffer, 0, -1, false)
   self:apply(function()
     for number, line in ipairs(lines) do
@@ -142,6 +143,7 @@ function Note:find_changes()
       end
     end
   end)
+  self.is_unsure = false
   self:gather(0, #self.lines, #lines)
 end
 
@@ -168,7 +170,7 @@ end
 --- Sends what was gathered as one edit; in parts where that is much.
 function Note:flush()
   if self.is_open and not self.is_lost then
-    self:find_changes()
+    interrupt.behind(self.find_changes, self)
     self:send_changes()
   end
 end
@@ -240,7 +242,7 @@ function Note:before_key()
     local _, why = vim.wait(PATIENCE_SECONDS * 1000, function() return self.answered == self.made end, 2)
     self:caught_up()
     if why == -2 then
-      error('Keyboard interrupt', 0)
+      interrupt.press()
     end
   end
 end
@@ -262,7 +264,7 @@ end
 --- Takes note that it isn't sure what the buffer has, since a change was broken off, and asks for the whole text; not
 --- at once, as what broke it off may still be there.
 function Note:lost()
-  self.is_lost = true
+  self.is_lost, self.changes = true, {}
   vim.defer_fn(function()
     self.send({ ['do'] = 'text', edits = self.made })
   end, LOST_SECONDS * 1000)
@@ -270,12 +272,14 @@ end
 
 --- Takes in a line of the engine's.
 function Note:take(line)
-  self:flush()
-  if line.notice then
-    self:noticed(line)
-  elseif line.answer then
-    self:answer(line)
-  end
+  interrupt.behind(function()
+    self:flush()
+    if line.notice then
+      self:noticed(line)
+    elseif line.answer then
+      self:answer(line)
+    end
+  end)
 end
 
 function Note:answer(line)
@@ -321,8 +325,9 @@ function Note:take_text(line)
   end
   self.version = line.version
   if self.is_lost then
+    self:look()
     self.is_lost = false
-    self:fill(line.text)
+    self:become(line.text)
   elseif line.notice == 'text' then
     self:become(line.text)
   else
@@ -344,8 +349,11 @@ end
 function Note:apply(body)
   local options = vim.bo[self.buffer]
   local modifiable, modified = options.modifiable, options.modified
-  self.applies, options.modifiable = true, true
-  local is_done, why = pcall(body)
+  self.applies = true
+  local is_done, why = pcall(function()
+    options.modifiable = true
+    body()
+  end)
   self.applies = false
   options.modifiable, options.modified = modifiable, modified
   if not is_done then
@@ -424,6 +432,13 @@ function Note:set_end(has_end)
   vim.bo[self.buffer].endofline = has_end
 end
 
+--- Looks what the buffer has.
+function Note:look()
+  self.is_unsure, self.hint, self.late = false, nil, nil
+  self.lines = api.nvim_buf_get_lines(self.buffer, 0, -1, false)
+  self.has_end = vim.bo[self.buffer].endofline
+end
+
 --- Shows a whole text, and keeps what differed here beside.
 function Note:become(new)
   local before = text.join(self.lines, self.has_end)
@@ -454,7 +469,7 @@ end
 
 --- Where the other end of a selection is, if there is one in the current window.
 function Note:anchor()
-  if api.nvim_get_current_buf() == self.buffer and vim.fn.mode():find('^[vV\22]') then
+  if api.nvim_get_current_buf() == self.buffer and api.nvim_get_mode().mode:find('^[vV\22]') then
     local at = vim.fn.getpos('v')
     return self:place_of({ at[2], at[3] - 1 })
   end
