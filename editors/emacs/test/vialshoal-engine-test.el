@@ -32,9 +32,12 @@
        (vialshoal--close-all)
        (delete-directory vialshoal-engine--folder t))))
 
+(defconst vialshoal-engine--patience 120
+  "How many seconds are waited for what has to come.")
+
 (defun vialshoal-engine--wait (condition)
   "Wait until CONDITION returns something, and return it."
-  (let ((end (+ (float-time) 20)) value)
+  (let ((end (+ (float-time) vialshoal-engine--patience)) value)
     (while (not (setq value (funcall condition)))
       (when (> (float-time) end)
         (error "It took too long"))

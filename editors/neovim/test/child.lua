@@ -60,7 +60,7 @@ end
 function Child:is_quiet()
   return self:run([[
     local note = v.note()
-    return #note.changes == 0 and not note.is_unsure and note.made == note.answered
+    return #note.changes == 0 and not note.is_unsure and not note.is_lost and note.made == note.answered
   ]])
 end
 
@@ -76,7 +76,7 @@ function Child:quit()
   local has_ended = vim.fn.jobwait({ self.job }, 0)[1] ~= -1
   local told = has_ended and '' or self:run([[return vim.fn.execute('messages')]])
   pcall(vim.rpcrequest, self.job, 'nvim_command', 'qa!')
-  vim.fn.jobwait({ self.job }, 5000)
+  vim.fn.jobwait({ self.job }, support.PATIENCE)
   assert(not told:find('E%d+:') and not told:find('Error') and not told:find('Vialshoal:'), told)
 end
 

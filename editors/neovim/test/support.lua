@@ -1,6 +1,9 @@
 --- What the tests stand on.
 local M = { passed = 0, failed = 0 }
 
+-- So many milliseconds are waited for what has to come; a busy machine can be slow.
+M.PATIENCE = 120000
+
 M.top = vim.fn.fnamemodify(debug.getinfo(1, 'S').source:sub(2), ':p:h:h')
 
 --- Tells a line.
@@ -37,7 +40,7 @@ end
 --- Waits until a condition has a value, and returns that.
 function M.wait(condition, what)
   local value
-  if not vim.wait(8000, function()
+  if not vim.wait(M.PATIENCE, function()
     value = condition()
     return value
   end, 5) then
