@@ -16,7 +16,8 @@ BUILT = TOP / "crates" / "site_cli" / "out" / "site_cli"
 MOST_LINES = 2**20
 PIPE = 1 << 20
 F_SETPIPE_SZ = 1031
-# A process that neither reads nor answers for so long hangs, and is ended.
+# A process that neither reads nor answers for so long hangs, and is ended; but where others take the processors, only after it
+# had one for so long.
 HANGS_SECONDS = 30
 CLOSE_SECONDS = 1
 # The lines of an answer that others follow.
@@ -63,11 +64,13 @@ class Program:
         answers: list[list[bytes]] = []
         answer: list[bytes] = []
         part: list[bytes] = []
+        worked: float | None = None
         while len(answers) < len(events):
             read, write, _ = select.select([self._out], [self._in] if script else [], [], HANGS_SECONDS)
             if not (read or write):
-                self.process.kill()
-                raise Ended
+                worked = self._goes_on_working(worked)
+                continue
+            worked = None
             if write:
                 script = script[self._written(script):]
             if not read:
@@ -95,6 +98,19 @@ class Program:
     def text(self) -> bytes:
         """What the site shows."""
         return shown(self.ask([self.event("text")])[0])
+
+    def _goes_on_working(self, before: float | None) -> float:
+        """How many seconds of a processor the process had when nothing came of it first; it is ended where it hangs."""
+        try:
+            words = pathlib.Path(f"/proc/{self.process.pid}/stat").read_text(encoding="utf-8").rpartition(")")[2].split()
+        except OSError as why:
+            raise Ended from why
+        worked = (int(words[11]) + int(words[12])) / os.sysconf("SC_CLK_TCK")
+        # It runs or wants to, or waits for the disk.
+        if words[0] not in ("R", "D") or before is not None and worked >= before + HANGS_SECONDS:
+            self.process.kill()
+            raise Ended
+        return worked if before is None else before
 
     def _written(self, script: memoryview) -> int:
         try:

@@ -2,6 +2,7 @@
 import contextlib
 import json
 import os
+import shlex
 import shutil
 import signal
 import socket
@@ -13,6 +14,7 @@ from unittest import mock
 
 from share.entry import HEAD, NO_HASH
 from share.log import Unreachable
+from share.program import Ended, Program
 from share.sqlite_log import SqliteLog
 from share.tests.servers import Hostile
 from share.tests.support import NOTE, TOP, Case, change, python, raws_of, type_at_the_end, wait_for, written
@@ -133,6 +135,30 @@ class BadInput(Case):
         self.assertTrue(note.take_back())
         self.assertEqual(note.session.text(), b"one two three four ")
         self.assertEqual(bytes(note.text), b"one two three four ")
+
+    def test_only_a_program_that_hangs_is_ended(self) -> None:
+        works = "import sys, time; sys.stdin.readline()\nwhile time.process_time() < {}: pass\nprint('text 0 ', flush=True)"
+        for seconds, starves, stops in (0.3, True, False), (60, False, False), (60, False, True):
+            command = shlex.join([python(), "-c", works.format(seconds)])
+            with self.subTest(seconds=seconds, stops=stops), mock.patch.dict(os.environ, VIALSHOAL_PROGRAM=command):
+                program = Program(1)
+                self.addCleanup(program.close)
+                if stops:
+                    program.process.send_signal(signal.SIGSTOP)
+                if starves:
+                    self.starve(program.process.pid)
+                with mock.patch("share.program.HANGS_SECONDS", 1), contextlib.nullcontext() if starves else (
+                        self.assertRaises(Ended)):
+                    self.assertEqual(program.text(), b"")
+
+    def starve(self, process: int) -> None:
+        """Leaves a process a tenth of a processor."""
+        other = subprocess.Popen([python(), "-c", "while True: pass"])
+        self.addCleanup(other.wait)
+        self.addCleanup(other.kill)
+        for one in process, other.pid:
+            os.sched_setaffinity(one, {min(os.sched_getaffinity(0))})
+        os.setpriority(os.PRIO_PROCESS, process, os.getpriority(os.PRIO_PROCESS, other.pid) + 10)
 
     def test_what_the_disk_damaged_is_brought_back(self) -> None:
         for damage in ("raw = CAST(substr(raw, 1, 90) || x'00' AS BLOB)", "raw = 'words'", "raw = CAST(x'ff' AS TEXT)",
