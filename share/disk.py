@@ -16,7 +16,7 @@ from collections.abc import Iterable, Iterator, Sequence
 from dataclasses import dataclass, replace
 from typing import NamedTuple
 
-from share.entry import HEAD, MOST_AUTHOR_BYTES, NOTE_BYTES, Author, Entry, Form, Kind, Plain, digest
+from share.entry import HEAD, MOST_AUTHOR_BYTES, NOTE_BYTES, Author, Bad, Entry, Form, Kind, Plain, digest
 from share.words import Trouble
 
 # Tells a note's file from other files of SQLite, in its header.
@@ -196,13 +196,14 @@ class Disk:
         return rows
 
     def _row(self, place: int, of: bytes, raw: bytes, body: bytes | None, check: int, made: int) -> Row | None:
-        try:
+        with contextlib.suppress(TypeError, ValueError, struct.error, Bad):
             if digest(raw) == of and zlib.crc32(body or b"") == check:
                 if body is None:
                     return Row(place, self.form.reopened(raw, self.form.body(raw), of), bool(made))
                 return Row(place, self.form.reopened(raw, body, of), bool(made))
-        except (TypeError, ValueError, struct.error, KeyError):
-            pass
+        if isinstance(raw, bytes) and len(raw) >= HEAD.size and digest(raw) == of and self.form.kind(raw) is Kind.NEWER:
+            # A newer version may keep it in another way, too.
+            return None
         self._file.execute("DELETE FROM entry WHERE place = ?", (place,))
         self.damaged += 1
         return None
@@ -211,8 +212,9 @@ class Disk:
         """The places of the entries after one, without those that were withdrawn."""
         with self._words():
             found = self._file.execute(PLACES, (after,)).fetchall()
+        # What the disk damaged may have another type.
         return [Place(place, of, self.form.kind(head), self.form.author(head), bool(made), bool(offered))
-                for place, of, head, made, offered in found]
+                for place, of, head, made, offered in found if isinstance(head, bytes) and len(head) >= HEAD.size]
 
     def size(self) -> int:
         """How many entries there are."""

@@ -17,6 +17,7 @@ bytes: as they are, where the form is plain, with a digest of all before it; els
 authenticated beside them, and signed.
 The hash of an entry is that of all its bytes. So the entries of a site make a chain that begins with its claim. What
 says that messages were made anew is in no chain: it names the last entry of those that it speaks of.
+An entry of another kind is a newer version's: it is kept and carried as it is, and says nothing here.
 
 What messages build on is said where they mention characters of other sites: of each of these sites, in the order of
 their numbers, the entry in which the last mentioned one of its characters was inserted; 32 bytes are the hash of
@@ -49,15 +50,16 @@ GREATEST_SITE = 65_528
 
 
 class Kind(IntEnum):
-    """What an entry is."""
+    """What an entry is; `NEWER` are all kinds that this version doesn't know, whatever their number."""
 
+    NEWER = 0
     CLAIM = 1
     MESSAGES = 2
     BUILDING = 3
     ANEW = 4
 
 
-KINDS = {int(kind): kind for kind in Kind}
+KINDS = {int(kind): kind for kind in Kind if kind is not Kind.NEWER}
 
 
 class Bad(Exception):
@@ -73,7 +75,7 @@ class Entry(NamedTuple):
     first: int
     before: bytes
     author: bytes
-    # What the messages build on, where the entry says it.
+    # What the messages build on, where the entry says it; all that is after the head of what is newer.
     on: bytes
     messages: tuple[Message, ...]
     raw: bytes
@@ -154,7 +156,7 @@ class Form(ABC):
 
     def kind(self, raw: bytes) -> Kind:
         """The kind of an entry that was opened before, by its first bytes."""
-        return KINDS[raw[1]]
+        return kind_of(raw[1])
 
     def author(self, raw: bytes) -> bytes:
         """The author of such an entry."""
@@ -174,7 +176,7 @@ class Form(ABC):
         """The entry of bytes that were opened before: its body and its hash were kept."""
         _, kind, _, site, first, _, before = HEAD.unpack_from(raw)
         on, parts = _parts_of(kind, body)
-        return Entry(KINDS[kind], site, first, before, self.author(raw), on, tuple(map(Message.read, parts)), raw, of)
+        return Entry(kind_of(kind), site, first, before, self.author(raw), on, tuple(map(Message.read, parts)), raw, of)
 
     def _checked(self, raw: bytes) -> bytes:
         """The body of bytes that are spelled as an entry."""
@@ -186,9 +188,9 @@ class Form(ABC):
         head = HEAD.unpack_from(raw)
         if head[2] != self.note:
             raise Bad("is of another note")
-        if head[1] not in KINDS:
-            raise Bad("is of a kind that this version doesn't know")
         body = self._opened(raw[:begin], raw[begin:], raw[HEAD.size:begin])
+        if kind_of(head[1]) is Kind.NEWER:
+            return body
         try:
             _, parts = _parts_of(head[1], body)
         except struct.error as why:
@@ -233,6 +235,11 @@ class Plain(Form):
         return body
 
 
+def kind_of(number: int) -> Kind:
+    """The kind that has a number."""
+    return KINDS.get(number, Kind.NEWER)
+
+
 def body_of(messages: Sequence[Message]) -> bytes:
     """Messages one after the other, each after its length."""
     return b"".join(LENGTH.pack(len(message.data)) + message.data for message in messages)
@@ -263,6 +270,8 @@ def _short_digest(data: bytes) -> bytes:
 
 def _parts_of(kind: int, body: bytes) -> tuple[bytes, list[bytes]]:
     """What the messages of a body build on, and the bytes of each."""
+    if kind_of(kind) is Kind.NEWER:
+        return body, []
     size = len(NO_HASH) if kind == Kind.BUILDING else 0
     if len(body) < size:
         raise struct.error("it is cut short")
@@ -282,6 +291,8 @@ def _split(body: bytes) -> list[bytes]:
 
 def _check(entry: Entry) -> None:
     """Raises Bad where an entry's messages aren't those of its place."""
+    if entry.kind is Kind.NEWER:
+        return
     if not 1 <= entry.site <= GREATEST_SITE:
         raise Bad("is of a site that can't be")
     if entry.kind is Kind.CLAIM:

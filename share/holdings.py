@@ -45,6 +45,8 @@ class Holdings:
         self._withdrawn: set[bytes] = set()
         # Those of this person under whose number somebody else writes, too.
         self._shared: set[Who] = set()
+        # Those of this person under which a newer version wrote what this one doesn't know.
+        self.newer: set[Who] = set()
         # The sites of which entries were dropped, since too many came without those before them.
         self._dropped: set[int] = set()
         self._place = self._number = 0
@@ -108,8 +110,8 @@ class Holdings:
         """The numbers of this person that can't be gone on with: somebody else writes under them, or what was
         made under them doesn't count. Of one that was given up before what counted may do so no more, too."""
         losing = {(message.site, author) for author, message in self._lost()}
-        return [one for one in self.clients.values()
-                if who(one) in losing or not one.retired and self.is_anothers(one)]
+        return [one for one in self.clients.values() if who(one) not in self.newer
+                and (who(one) in losing or not one.retired and self.is_anothers(one))]
 
     def is_anothers(self, client: Client) -> bool:
         """Whether somebody else writes under a number, or has it."""
@@ -195,6 +197,8 @@ class Holdings:
         if not row.made and who(row.entry) in self.clients and row.entry.kind is not Kind.CLAIM:
             self._shared.add(who(row.entry))
         self.rows[of] = row
+        if row.made and row.entry.kind is Kind.NEWER:
+            self.newer.add(who(row.entry))
         if self._is_edit(row):
             self._unsent.add(of)
         self.judge.add(row.entry)

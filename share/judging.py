@@ -149,9 +149,12 @@ class Judge:
         """Adds an entry that was opened. What is known already changes nothing."""
         if entry.hash in self.known:
             return
-        self.known[entry.hash] = self._outside[entry.hash] = entry
+        self.known[entry.hash] = entry
         self._incomplete = None
         self._missing.discard(entry.hash)
+        if entry.kind is Kind.NEWER:
+            return
+        self._outside[entry.hash] = entry
         if entry.kind is Kind.CLAIM:
             self._claimed(entry)
         elif entry.kind is Kind.ANEW:
@@ -277,6 +280,10 @@ class Judge:
             return not self._has_what_it_builds_on(chain) and any(last[site] < ends.get(site, 0) for site in last)
         return any(names.site in found or max(names.at, self.length(names.site)) < ends.get(names.site, 0)
                    for names in lacks)
+
+    def has_newer(self) -> bool:
+        """Whether there are entries of kinds that this version doesn't know."""
+        return any(entry.kind is Kind.NEWER for entry in self.known.values())
 
     def loose(self) -> list[Entry]:
         """The entries for which an entry before them is missing, the lowest first of each site."""

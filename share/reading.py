@@ -13,7 +13,7 @@ from share.judging import Judge
 from share.message import Message
 from share.old import copied
 from share.site import Site
-from share.words import Trouble, entries
+from share.words import NEWER, Trouble, entries
 
 Result = TypeVar("Result")
 RAWS = """SELECT place, CAST(raw AS BLOB) FROM entry
@@ -65,6 +65,8 @@ def shown(found: Found) -> Shown:
 def missing(judge: Judge, faults: Iterable[str]) -> list[str]:
     """What doesn't count of a note in whose file these faults were found, in words."""
     told = list(faults)
+    if judge.has_newer():
+        told.append(NEWER)
     if many := judge.incomplete():
         lack = "1 message lacks what it builds on, and isn't" if many == 1 else (
             f"{many:,} messages lack what they build on, and aren't")

@@ -17,7 +17,7 @@ from share.log import is_network, open_log
 from share.message import Message, Names
 from share.reading import found_in
 from share.site import SLICE, Edited, Site, Told
-from share.words import Trouble, counted, entries
+from share.words import NEWER, Trouble, counted, entries
 
 # How long opening waits for a log that answers, and closing for what isn't sent.
 OPEN_SECONDS = CLOSE_SECONDS = 3
@@ -56,6 +56,7 @@ class Session:
             raise Trouble(f"{disk.path} has a note that isn't sealed with a log on a server. Nothing is sent there.")
         self._notices: list[str] = []
         self._told_wrong: set[tuple[int, int]] = set()
+        self._told_newer = False
         self._trouble: str | None = None
         self._unread: str | None = None
         # Whether the site may lack something that counts, or have something that doesn't.
@@ -286,6 +287,9 @@ class Session:
             self._unread = f"The note's file can't be read now ({why})."
             return []
         self._unread = None
+        if not self._told_newer and any(row.entry.kind is Kind.NEWER for row in new):
+            self._told_newer = True
+            self._notices.append(NEWER)
         if self._disk.damaged:
             self._notices.append(f"The disk has damaged {entries(self._disk.damaged)} of the note's file. They are "
                                  "taken from whoever has them.")
@@ -357,7 +361,7 @@ class Session:
         editor may just have made one."""
         holdings, broken = self._holdings, self._holdings.broken()
         usable = [one for one in holdings.clients.values() if not one.retired and one not in broken
-                  and holdings.judge.holder(one.site) == one.author.name]
+                  and who(one) not in holdings.newer and holdings.judge.holder(one.site) == one.author.name]
         return sorted(usable, key=lambda one: not one.stood)
 
     def _claim(self, locks: bool = True) -> Client:

@@ -18,6 +18,9 @@ REFUSALS = {
     23: "this site has made its last edit; open the note with a new data folder for a new site number",
 }
 
+# Entries of kinds that this version doesn't know.
+NEWER = "A newer version of Vialshoal wrote something in this note that isn't shown here."
+
 
 class Trouble(Exception):
     """What a user is told where the note has to be closed: what happened, and what to do."""

@@ -9,7 +9,7 @@ from dataclasses import dataclass
 from itertools import chain
 from typing import NamedTuple
 
-from share.entry import Entry, Kind
+from share.entry import HEAD, Author, Entry, Form, Kind
 from share.message import Message
 
 LEAP = 1 << 20
@@ -240,7 +240,7 @@ def chain_of(known: Iterable[Entry], site: int, prefers: Rank) -> list[Entry]:
 
 def follows(entry: Entry, before: Entry) -> bool:
     """Whether an entry has the place after another one: of its site and author, with the seq that is next."""
-    return (entry.kind is not Kind.CLAIM and entry.before == before.hash and entry.site == before.site
+    return (entry.kind not in (Kind.CLAIM, Kind.NEWER) and entry.before == before.hash and entry.site == before.site
             and entry.author == before.author
             and entry.first == (before.messages[-1].seq if before.messages else 0) + 1)
 
@@ -264,12 +264,12 @@ def ended(entries: Iterable[Entry]) -> set[bytes]:
 
 def loose(entries: Iterable[Entry]) -> list[Entry]:
     """The entries from which no walk to what came before them ends at a claim that is there. What says that something
-    was made anew waits for nothing."""
+    was made anew waits for nothing, nor does what a newer version wrote."""
     known = {entry.hash: entry for entry in entries}
     found = []
     for entry in known.values():
         at: Entry | None = entry
-        while at is not None and at.kind not in (Kind.CLAIM, Kind.ANEW):
+        while at is not None and at.kind not in (Kind.CLAIM, Kind.ANEW, Kind.NEWER):
             at = known.get(at.before)
         if at is None:
             found.append(entry)
@@ -304,6 +304,12 @@ class Replica:
 
 
 LOOKS = b"\x10Oberon10.Scn.Fnt\x01\x00"
+
+
+def newer(form: Form, before: Entry, author: Author, body: bytes = b"new") -> Entry:
+    """What a newer version wrote after an entry, of a kind that this version doesn't know."""
+    head_of_it = HEAD.pack(form.number, 9, form.note, before.site, before.last + 1, 0, before.hash)
+    return form.open(form._closed(head_of_it + author.name, body, author))
 
 
 def head(kind: int, site: int, seq: int, stamp: int) -> bytes:

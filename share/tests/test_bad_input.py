@@ -2,6 +2,7 @@
 import contextlib
 import json
 import os
+import pathlib
 import shlex
 import shutil
 import signal
@@ -12,12 +13,13 @@ import threading
 import unittest
 from unittest import mock
 
-from share.entry import HEAD, NO_HASH
 from share.log import Unreachable
 from share.program import Ended, Program
 from share.sqlite_log import SqliteLog
+from share.tests.naive import inserting, newer
 from share.tests.servers import Hostile
 from share.tests.support import NOTE, TOP, Case, change, python, raws_of, type_at_the_end, wait_for, written
+from share.words import NEWER
 
 SOMEBODY = 65_534
 
@@ -212,14 +214,51 @@ class BadInput(Case):
 
     def test_an_entry_of_a_kind_that_a_later_version_has(self) -> None:
         with contextlib.closing(self.ann.disk()) as disk, contextlib.closing(self.ann.log()) as log:
-            form, author = disk.form, disk.form.new_author()
-            head = HEAD.pack(form.number, 5, form.note, 7, 0, 0, NO_HASH) + author.name
-            log.append([form._closed(head, b"", author)])
+            author = disk.form.new_author()
+            claim = disk.form.claim(7, author)
+            later = [newer(disk.form, claim, author, body).raw for body in (b"", b"new", b"newer")]
+            log.append(later)
         ann, bob = self.opened(self.ann), self.opened(self.person("bob"), link=self.ann.link())
         for note, words in (ann, "four "), (bob, "five "):
-            wait_for(lambda one=note: (one.take_in(), "doesn't know and was left" in one.notice)[1], "it to be told")
+            wait_for(lambda one=note: (one.take_in(), one.notice)[1], "it to be told")
+            self.assertEqual(note.notice, NEWER)
             written(note, words)
         self.assertEqual(sorted(self.assert_meet(ann, bob).split()), sorted(b"one two three four five".split()))
+        self.assertEqual((ann.notice, ann.session.status().waiting, ann.session.status().offline), (NEWER, 0, None))
+        # Whoever has it gives it to a log that lost it.
+        pathlib.Path(self.file_log()).unlink()
+        wait_for(lambda: pathlib.Path(self.file_log()).exists() and self.has_in_log(later), "it to be there again")
+
+    def has_in_log(self, raws: list[bytes]) -> bool:
+        """Whether the log has all of these."""
+        with contextlib.closing(self.ann.log()) as log:
+            return set(raws) <= set(raws_of(log))
+
+    def test_a_file_that_a_later_version_wrote(self) -> None:
+        with contextlib.closing(self.ann.disk()) as disk:
+            [client], last = disk.clients(), disk.rows()[-1].entry
+            later = [newer(disk.form, last, client.author, body) for body in (b"", b"new")]
+            # What comes after it doesn't count here, and isn't made anew: it counts there.
+            follower = [inserting(client.site, last.last + 1, 2**16, None, 14, b"more ")]
+            later.append(disk.form.entry(last._replace(hash=later[0].hash), follower, client.author))
+            disk.keep(later, made=True)
+        # It may keep it otherwise, too.
+        change(self.ann.path(), "UPDATE entry SET sum = 7, body = 'words' WHERE hash = ?", later[1].hash)
+        note = self.opened(self.ann)
+        note.take_in()
+        self.assertEqual(note.notice, NEWER)
+        self.assertNotEqual(note.session.number, client.site)
+        written(note, "four ")
+        self.assert_comes_to(note, b"one two three four ")
+        self.assertEqual((note.notice, note.session.status().offline), (NEWER, None))
+        note.session.close()
+        with contextlib.closing(self.ann.disk()) as disk:
+            self.assertEqual({entry.hash for entry in later} - {place.hash for place in disk.places()}, set())
+            self.assertEqual([one for one in disk.clients() if one.retired], [])
+            self.assertEqual((len(disk.rows()), disk.damaged), (disk.size() - 1, 0))
+        run = self.note("note", "--print")
+        self.assertEqual((run.returncode, run.stdout), (3, "one two three four "))
+        self.assertEqual(run.stderr, f"note: {NEWER}\n")
 
     def test_a_server_that_goes_away_while_it_appends(self) -> None:
         server = self.redis()

@@ -84,6 +84,16 @@ class Spelling(unittest.TestCase):
                 with self.assertRaises(Bad):
                     FORM.open(bad)
 
+    def test_kinds_that_only_a_newer_version_knows(self) -> None:
+        for kind in 0, 5, 255:
+            for raw in (spelled(kind=kind), spelled(kind=kind, site=0, first=9, count=3, before=NO_HASH, body=b"\0"),
+                        spelled(kind=kind, messages=typed(1))):
+                entry = FORM.open(raw)
+                self.assertEqual((entry.kind, entry.messages, entry.last, entry.raw), (Kind.NEWER, (), 0, raw))
+                self.assertEqual(entry.body, FORM.body(raw))
+                self.assertEqual(FORM.reopened(raw, entry.body, entry.hash), entry)
+                self.assertEqual(FORM.kind(raw), Kind.NEWER)
+
     def test_many_at_once(self) -> None:
         raws = [entry.raw for entry in samples()]
         found = FORM.open_many([b"", *raws, raws[0][1:]])
@@ -110,7 +120,7 @@ class Wrong(unittest.TestCase):
         self.assert_bad("isn't spelled", spelled(form=2, messages=one))
         self.assert_bad("another note", spelled(note=bytes(16), messages=one))
         for kind in 0, 5, 255:
-            self.assert_bad("of a kind", spelled(kind=kind, messages=one))
+            self.assert_bad("is damaged", spelled(kind=kind, messages=one)[:-1] + b"x")
         for site in 0, GREATEST_SITE + 1, 65_535:
             self.assert_bad("a site that can't be", spelled(kind=1, site=site, first=0, before=NO_HASH))
             self.assert_bad("a site that can't be", spelled(site=site, messages=typed(1, site=site or 1)))
@@ -159,6 +169,9 @@ class Wrong(unittest.TestCase):
             try:
                 found = FORM.open(raw)
             except Bad:
+                continue
+            if found.kind is Kind.NEWER:
+                self.assertNotIn(raw[1], list(Kind)[1:])
                 continue
             again = spelled(kind=found.kind, site=found.site, first=found.first, before=found.before,
                             author=found.author, messages=found.messages, body=found.body)

@@ -149,6 +149,12 @@ class History:
         # Only what is forged goes on from it.
         self._followed.add(said.hash)
 
+    def be_newer(self) -> None:
+        """A newer version writes what this one doesn't know, mostly as the last of a branch."""
+        if (last := self._chance.choice([self._leaf, self._leaf, self._any])()) is not None:
+            self._add(naive.newer(FORM, last, Author(last.author, b"")), self._ends[last.hash])
+            self._followed.add(last.hash)
+
     def _leaf(self) -> Entry | None:
         leaves = [entry for entry in self.entries if entry.hash not in self._followed]
         return self._chance.choice(leaves) if leaves else None
@@ -224,7 +230,7 @@ class History:
 
 # A step that does nothing stands first, so that what fails is told with few others.
 RIGHT = ["rest", "claim", "write", "write", "write", "write", "fork", "walk_up", "say_made_anew"]
-STEPS = RIGHT * 2 + ["leap", "put_wrong", "stamp_wrong", "mention_nobody", "build_wrong", "forge"]
+STEPS = RIGHT * 2 + ["leap", "put_wrong", "stamp_wrong", "mention_nobody", "build_wrong", "forge", "be_newer"]
 SEEDS = st.integers(0, 2**16 - 1)
 
 
