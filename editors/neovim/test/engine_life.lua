@@ -8,21 +8,21 @@ with_folder('a macro lets others\' text in', function(open, folder)
   local ada, bo = two(open, folder)
   ada:type('i<CR><Esc>')
   bo:shows('\n')
-  ada:type('ggqaix<Esc>q')
   ada:run([[
-    -- When others' text is first seen between two keys of a macro.
-    began = vim.loop.hrtime()
+    -- A macro that only CTRL-C ends.
+    vim.fn.setreg('a', 'ggix\27@a')
+    -- Whether others' text was seen between two of its keys, which take a while, so that an engine on a busy machine keeps up.
     vim.on_key(function()
-      if not came and vim.fn.search('hello', 'nw') > 0 then
-        came = (vim.loop.hrtime() - began) / 1e9
-      end
+      came = came or vim.api.nvim_buf_get_lines(0, -2, -1, false)[1]:find('hello') ~= nil
+      vim.loop.sleep(1)
     end)
   ]])
-  vim.rpcnotify(ada.job, 'nvim_input', '20000@a')
+  vim.rpcnotify(ada.job, 'nvim_input', '@a')
   bo:type('Gihello<Esc>')
-  local came = support.wait(function() return ada:run('return came or false') end)
+  support.wait(function() return ada:run('return came or false') end, 'others\' text')
   vim.rpcnotify(ada.job, 'nvim_input', '<C-c>')
-  assert(came < 3, 'it came after ' .. came)
+  -- Amid a macro questions are answered between its keys alone. One that Neovim guards would be told of CTRL-C instead of it.
+  support.wait(function() return not ada:run('return v.note().takes_key or false') end, 'the macro to end')
   Child.meet({ ada, bo })
 end)
 
