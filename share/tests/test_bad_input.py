@@ -311,7 +311,7 @@ class BadInput(Case):
         os.chmod(self.folder, 0o755)
         words = ["setpriv", f"--reuid={SOMEBODY}", f"--regid={SOMEBODY}", "--clear-groups", NOTE]
         for more in ("note", "--print"), ("link", "note"), ("recover", str(self.ann.data)), ("renew", "note"):
-            run = subprocess.run([*words, *more], capture_output=True, text=True, check=False, timeout=60)
+            run = subprocess.run([*words, *more], capture_output=True, text=True, check=False, timeout=120)
             self.assert_says(run, "Permission denied")
 
 

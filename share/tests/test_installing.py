@@ -121,7 +121,7 @@ class Installed(Case):
     def site_cli(self, script: str) -> str:
         """What the installed program answers."""
         return subprocess.run([str(self.prefix / "bin" / "site_cli")], input=script, capture_output=True, text=True,
-                              check=True, timeout=60).stdout
+                              check=True, timeout=120).stdout
 
     def test_what_is_taken_away(self) -> None:
         others = {"bin/other": "x", "share/man/man1/other.1": "y", "share/emacs/site-lisp/vialshoal.elc": "z"}
@@ -217,7 +217,7 @@ class Installed(Case):
         if verb == "uninstall":
             self.here("install")
         done = subprocess.run([sys.executable, "-B", "-c", KILLED, str(self.copy), str(self.prefix), str(number), verb],
-                              check=False, timeout=60, stdout=subprocess.DEVNULL,
+                              check=False, timeout=120, stdout=subprocess.DEVNULL,
                               env={key: value for key, value in os.environ.items() if key != "VIALSHOAL_PROGRAM"})
         self.assertIn(done.returncode, (0, -signal.SIGKILL))
         if (self.prefix / "bin/note").exists():

@@ -59,7 +59,7 @@ class Shown(Engines):
     def html(self) -> str:
         """What the note is as a page."""
         done = subprocess.run([NOTE, "export", "note", "-", "--format", "html"], capture_output=True, check=True,
-                              timeout=60, env={**os.environ, "VIALSHOAL_DATA": str(self.folder / "data")})
+                              timeout=120, env={**os.environ, "VIALSHOAL_DATA": str(self.folder / "data")})
         return done.stdout.decode()
 
     def test_looks_are_set_shown_and_taken_back(self) -> None:
@@ -211,5 +211,5 @@ class Shown(Engines):
         editor = self.editor(looks=True)
         editor.edit((0, 0, "one"))
         self.set(editor, [0, 3], bold=True)
-        done = subprocess.run([NOTE, "log", "note", "--json"], capture_output=True, check=True, timeout=60)
+        done = subprocess.run([NOTE, "log", "note", "--json"], capture_output=True, check=True, timeout=120)
         self.assertEqual(json.loads(done.stdout)["steps"][-1]["looked"], 3)

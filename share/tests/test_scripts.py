@@ -15,7 +15,7 @@ class Verbs(Case):
 
     def note(self, *words: str, data: str = "data", given: bytes = b"", status: int = 0) -> str:
         """What a command prints that ends with this status."""
-        done = subprocess.run([NOTE, *words], capture_output=True, input=given, timeout=60, check=False,
+        done = subprocess.run([NOTE, *words], capture_output=True, input=given, timeout=120, check=False,
                               env={**os.environ, "VIALSHOAL_DATA": str(self.folder / data)})
         self.assertEqual(done.returncode, status, (words, done.stderr))
         self.said = done.stderr.decode()

@@ -32,7 +32,7 @@ class Vectors(unittest.TestCase):
     """The page's client, in Node."""
 
     def test_the_client_does_with_lines_what_the_vectors_say(self) -> None:
-        done = subprocess.run(["node", VECTORS], capture_output=True, text=True, check=False, timeout=60)
+        done = subprocess.run(["node", VECTORS], capture_output=True, text=True, check=False, timeout=120)
         self.assertEqual(done.returncode, 0, done.stdout + done.stderr)
         self.assertRegex(done.stdout, r"^[2-9][0-9] cases, 0 failed\n$")
 
