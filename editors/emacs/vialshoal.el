@@ -133,6 +133,9 @@ are made with no hook called.")
 (defconst vialshoal--most-unanswered 10
   "With so many edits unanswered, changes are gathered.")
 
+(defconst vialshoal--end-patience 10
+  "Emacs's end waits for engines that have to read yet so long at most.")
+
 (defconst vialshoal--most-text 1000000
   "An edit has so many characters at most, so that its line isn't too long.")
 
@@ -522,6 +525,9 @@ Half a second without all edits answered is how a macro types."
 (defun vialshoal--take-text (line)
   "Show the text of the notice LINE."
   (setq vialshoal--version (plist-get line :version))
+  (when vialshoal--is-lost
+    ;; What was typed meanwhile is kept beside, and is in no place of this text.
+    (setq vialshoal--changes nil))
   (if (plist-member line :text)
       (vialshoal--become (plist-get line :text))
     (vialshoal--change (plist-get line :changes)))
@@ -551,7 +557,7 @@ Half a second without all edits answered is how a macro types."
       (pcase-let ((`(,beg ,end ,new-end)
                    (vialshoal--differing (point-min) (point-max)
                                          (1+ (length text)))))
-        (when (and (< beg end) (> before 0) (not vialshoal--is-lost))
+        (when (and (< beg end) (> before 0))
           (vialshoal--keep-beside))
         (vialshoal--replace beg end (substring text (1- beg) (1- new-end)))))))
 
@@ -906,7 +912,7 @@ or the LINK by which another's note is joined."
                (buffer-local-value 'vialshoal--note buffer))
       (with-current-buffer buffer
         (vialshoal--close))))
-  (let ((end (+ (vialshoal--now) 2)))
+  (let ((end (+ (vialshoal--now) vialshoal--end-patience)))
     (dolist (process (process-list))
       (while (and (process-get process 'vialshoal-buffer)
                   (process-live-p process)

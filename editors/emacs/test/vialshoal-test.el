@@ -240,6 +240,27 @@
                    '((0 0 "y"))))
     (should (memq #'vialshoal--after-change after-change-functions))))
 
+(ert-deftest vialshoal-test-what-is-typed-while-a-text-is-asked-for-is-kept ()
+  (vialshoal-support-with-note vialshoal-support--open
+    (let ((inhibit-message t)
+          (fails (lambda (&rest _) (error "No"))))
+      (add-hook 'after-change-functions fails -50 t)
+      (vialshoal-test--others [0 0 "x"])
+      (remove-hook 'after-change-functions fails t)
+      (vialshoal-support--sent)
+      (vialshoal-test--command #'insert "own ")
+      (vialshoal-support--take :notice "text" :version 9 :edits 0
+                               :text "theirs\n"))
+    (should (equal (vialshoal-support--text) "theirs\n"))
+    (should-not (vialshoal-support--sent))
+    (goto-char 1)
+    (vialshoal-test--command #'insert "y")
+    (should (equal (plist-get (car (vialshoal-support--sent)) :changes)
+                   '((0 0 "y"))))
+    (let ((beside (get-buffer "*picnic as it was here*")))
+      (should (string-match-p "own " (vialshoal-support--text beside)))
+      (kill-buffer beside))))
+
 (ert-deftest vialshoal-test-text-that-gives-way-is-kept-beside ()
   (vialshoal-support-with-note vialshoal-support--open
     (vialshoal-test--command #'insert "own ")

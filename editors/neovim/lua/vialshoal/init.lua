@@ -15,6 +15,8 @@ local M = {}
 local PREFIX = 'vialshoal://'
 -- An engine that ends sooner isn't started again.
 local STEADY_SECONDS = 2
+-- Neovim's end waits so long at most for an engine that has to read yet, as on a busy machine.
+local END_MILLISECONDS = 10000
 
 -- The notes that are open, by their buffers.
 local notes = {}
@@ -308,7 +310,7 @@ api.nvim_create_autocmd('VimLeavePre', {
     for buffer in pairs(notes) do
       M.close(buffer)
     end
-    engine.wait(2000)
+    engine.wait(END_MILLISECONDS)
   end,
 })
 

@@ -150,7 +150,7 @@ end
 --- Takes note that the hidden line end came or went, by the option 'endofline'.
 function Note:end_changed(has_end)
   if self.is_open and has_end ~= self.has_end then
-    self:find_changes()
+    interrupt.behind(self.find_changes, self)
     local size = self:size()
     self.has_end = has_end
     self:add(has_end and { size, size, '\n' } or { size, size + 1, '' })
