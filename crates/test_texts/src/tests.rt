@@ -2,6 +2,7 @@
 //! to make them.
 use std::test::Fail;
 
+mod pasts;
 mod plain;
 mod played;
 mod rows;

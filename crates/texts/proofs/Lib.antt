@@ -15,6 +15,7 @@ pub mod OwnParts
 pub mod OwnPieces
 pub mod OwnStep
 pub mod OwnStretch
+pub mod Pasts
 pub mod Pieces
 pub mod Restored
 pub mod RunChars

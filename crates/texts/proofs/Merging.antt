@@ -5,7 +5,7 @@ use Rattle.std.proofs.Common.{length-append}
 use Rattle.std.specs.Prelude.{AllPairs, Contains, OnErr, OnOk, slice_get}
 use Rattle.std.specs.Result.{is_err}
 use Rattle.std.proofs.lemmas.Bool.{cases_lt, false≢true, le-ltb, lt-ltb}
-use Rattle.std.proofs.lemmas.List.{append-nil, get_or-take, length-take-le, take_all, take_at}
+use Rattle.std.proofs.lemmas.List.{append-nil, length-take-le, take_all, take_at}
 use Rattle.std.proofs.lemmas.List.Elements.{All-contains, Contains-append_cases, Contains-append_left}
 use Rattle.std.proofs.lemmas.List.Elements.{Contains-append_right}
 use Rattle.std.proofs.lemmas.List.Sums.{count_by-le-length, length-filter}
@@ -24,7 +24,7 @@ use Rattle.set_laws.proofs.Freed.{ready_from_others}
 use Rattle.set_laws.proofs.Lengths.{part_identified}
 use Rattle.set_laws.proofs.Preceding.{first_part_within}
 use Rattle.texts.proofs.News.{next_passes, next_fails, parts_filtered, news_of}
-use Rattle.texts.proofs.News.{held_or_new, held_with_news}
+use Rattle.texts.proofs.News.{held_or_new, held_with_news, stands_once}
 
 -- what a call says where it is refused, and where it isn't
 pub when_err : {T E P : Type 0} (r : Result T E) → is_err r ≡ true → OnErr r P → P
@@ -136,12 +136,7 @@ module _ {start other now : TextState} {i done : ℕ} (u : IsTakenTo start other
 
     -- it doesn't stand among the first ones
     not_earlier : Contains first op → ⊥
-    not_earlier (k, lt, is) =
-        let inside : i < length other.operations = within in
-        let len : length first ≡ i = length-take-le i other.operations (omega arith) in
-        let less : k < i = omega arith in
-        u.by.once k i op less within
-        (sym (get_or-take i other.operations k op less) ∙ is ∙ sym (get_or_from_slice_get other.operations i op op at))
+    not_earlier = stands_once other.operations u.by.once i op at
 
     -- it is past the front now just where it was at the start
     past_at_start : front_of now.operations op.site < op.seq → is_past_front start op ≡ true

@@ -1,9 +1,9 @@
 -- What of a list of operations isn't held yet, and what a merge of it shows.
-use Rattle.std.proofs.Common.{◌≡◌, ℕ, zero, suc, ◌+◌, inl, inr, ◌⊎◌, Bool, true, false, cond, List, [], ◌∷◌, ◌++◌, take}
-use Rattle.std.proofs.Common.{drop, Some, Result, Ok, Err, sym, ap, subst, ◌∙◌, arith}
-use Rattle.std.specs.Prelude.{Contains, OnOk, filter, slice_get}
+use Rattle.std.proofs.Common.{◌≡◌, ◌≢◌, ℕ, zero, suc, ◌+◌, ◌<◌, inl, inr, ◌⊎◌, Bool, true, false, cond, List, [], ◌∷◌}
+use Rattle.std.proofs.Common.{◌++◌, length, take, drop, Some, Result, Ok, Err, sym, ap, subst, ◌∙◌, arith}
+use Rattle.std.specs.Prelude.{AllPairs, Contains, OnOk, filter, slice_get}
 use Rattle.std.proofs.lemmas.Bool.{cases_Bool, cond-false, cond-true, ltb-false}
-use Rattle.std.proofs.lemmas.List.{append-nil, take-append-drop}
+use Rattle.std.proofs.lemmas.List.{append-nil, get_or-take, length-take-le, take-append-drop}
 use Rattle.std.proofs.lemmas.List.Elements.{All-contains, All-contains_itself, All-filter, Contains-append_cases}
 use Rattle.std.proofs.lemmas.List.Elements.{Contains-append_left, Contains-append_right, filter-append, filter_more}
 use Rattle.std.proofs.lemmas.Option.{get_or_from_slice_get, slice_get_within}
@@ -19,8 +19,17 @@ use Rattle.tree_order.proofs.SameSet.{says_the_same}
 use Rattle.set_laws.proofs.Fronts.{has_to_the_front}
 use Rattle.texts.proofs.Chars.{shows_the_definition}
 
+-- one that stands at a place of a list in which none is twice is none of those before it
+pub stands_once : (ops : List Operation) → AllPairs (λ a b. a ≢ b) ops → (i : ℕ) (op : Operation)
+    → slice_get ops i ≡ Some op → Contains (take i ops) op → ⊥
+stands_once ops once i op at (k, lt, is) =
+    let inside : i < length ops = slice_get_within ops i op at in
+    let len : length (take i ops) ≡ i = length-take-le i ops (omega arith) in
+    let less : k < i = omega arith in
+    once k i op less inside (sym (get_or-take i ops k op less) ∙ is ∙ sym (get_or_from_slice_get ops i op op at))
+
 -- what passes is kept
-kept_if_it_passes : (p : Operation → Bool) (ops : List Operation) (op : Operation) → Contains ops op → p op ≡ true
+pub kept_if_it_passes : (p : Operation → Bool) (ops : List Operation) (op : Operation) → Contains ops op → p op ≡ true
     → Contains (filter p ops) op
 kept_if_it_passes p [] op (k, lt, is) passes = absurd (omega arith)
 kept_if_it_passes p (o ∷ ops) op (zero, lt, is) passes =
@@ -36,7 +45,7 @@ kept_if_it_passes p (o ∷ ops) op (suc k, lt, is) passes =
     ]
 
 -- what is kept was there
-there_before_filter : (p : Operation → Bool) (ops : List Operation) → IsPartOf (filter p ops) ops
+pub there_before_filter : (p : Operation → Bool) (ops : List Operation) → IsPartOf (filter p ops) ops
 there_before_filter p ops op held =
     All-contains (Contains ops) (filter p ops) op (All-filter p (Contains ops) ops (All-contains_itself ops)) held
 

@@ -1,6 +1,6 @@
 -- The laws of what replicas show: the operations taken in tell it, whatever their order.
 use Rattle.std.specs.Prelude.{◌≡◌, ℕ, ◌<◌, ◌≤◌, ◌↔◌, ◌||◌, not, List, [], ◌∷◌, ◌++◌, length, filter, map}
-use Rattle.std.specs.Prelude.{Contains, IsTrue, slice_range, take, Ok}
+use Rattle.std.specs.Prelude.{Contains, IsTrue, min, slice_range, take, Ok}
 use Rattle.looks.specs.Sel.{Selection}
 use Rattle.looks.specs.declared.looks.Looks.{Looks}
 use Rattle.char_files.specs.CharName.{CharName}
@@ -14,14 +14,17 @@ use Rattle.tree_order.specs.Order.{IsBeforeIn}
 use Rattle.tree_order.specs.Shown.{IsShown, is_visible}
 use Rattle.set_laws.specs.Sets.{AreIdentified, HaveEqualFronts, IsPartOf}
 use Rattle.set_laws.specs.Verdict.{HasVerdict, IsNew, ready}
-use Rattle.set_laws.specs.Fronts.{file_len}
+use Rattle.set_laws.specs.Fronts.{file_len, front_of}
 use Rattle.taken_text.specs.Noted.{AreChangesSince, SameChar}
 use Rattle.texts.specs.Edit.{Edit, after, first_part, is_in_text, names_shown, own_insert, own_op, plan}
 use Rattle.texts.specs.Edit.{shown_after, stretch_named, with_operation}
+use Rattle.texts.specs.Fronts.{front_in}
 use Rattle.texts.specs.Merge.{IsUnionOf, Merges}
 use Rattle.texts.specs.Order.{chars_of, cut, dress, is_named, insert_at, with_looks}
+use Rattle.texts.specs.Past.{IsPastOf}
 use Rattle.texts.specs.Text.{AreCharNames, IsText}
 use Rattle.texts.specs.TextState.{TextState, shown_items, shown_of}
+use Rattle.texts.specs.declared.front.Front.{Front}
 
 -- the same characters in one order, with the same bytes and looks, and the same of them shown
 pub record AreAlike (t u : TextState) : Type 0 where
@@ -151,3 +154,15 @@ pub record HasOneTextWith (t : TextState) (op : Operation) : Type 0 where
 abbrev pub MergesShowTheUnion : Type 0
 MergesShowTheUnion = (t other new : TextState) (count : ℕ) → IsText t → IsText other
     → Merges t other (Ok count) new → IsUnionOf t other new
+
+-- a text that has taken in a part of what t has, each site as far as the fronts say, or as far as t where they say more
+pub record StoodAt (fronts : List Front) (t was : TextState) : Type 0 where
+  pub is : IsText was
+  pub part : IsPartOf was.operations t.operations
+  pub reach :
+      (site : ℕ) → front_of was.operations site ≡ min (front_in fronts site) (front_of t.operations site)
+
+-- the past of a text up to fronts is alike with the text that stood there
+abbrev pub ThePastIsTheTextOfThen : Type 0
+ThePastIsTheTextOfThen = (t was p : TextState) (fronts : List Front) → IsText t → StoodAt fronts t was
+    → IsPastOf t fronts p → AreAlike p was

@@ -1,10 +1,12 @@
 pub mod Draining
 pub mod Edit
+pub mod Fronts
 pub mod Laws
 pub mod Merge
 pub mod Order
 pub mod Outcome
 pub mod Own
+pub mod Past
 pub mod Pieces
 pub mod SiteFiles
 pub mod Take

@@ -6,7 +6,7 @@ ghost use Rattle.tree_order.specs.Good.{Good};
 ghost use Rattle.set_laws.specs.Sets.{AreIdentified};
 ghost use Rattle.texts.specs.Laws.{ShowsTheDefinition, OperationsDetermineTheText, FrontsDetermineTheText};
 ghost use Rattle.texts.specs.Laws.{ADeleteKeepsItsStretch, ChangesLead, GrownTextsKeepTheOrder, HasOneTextWith};
-ghost use Rattle.texts.specs.Laws.{MergesShowTheUnion, OwnEditsArePlain};
+ghost use Rattle.texts.specs.Laws.{MergesShowTheUnion, OwnEditsArePlain, ThePastIsTheTextOfThen};
 ghost use Rattle.texts.specs.Text.{IsText};
 ghost use Rattle.texts.specs.TextState.{TextState};
 
@@ -56,4 +56,10 @@ pub fn there_is_one_text_with_it()
 /// A law: a merge leaves the operations of both texts, and shows what the definition gives from these.
 pub fn lemma_merges_show_the_union()
     ensures { MergesShowTheUnion }
+{}
+
+/// A law: the past of a text up to fronts is alike with the text that stood there. A front past what is held means
+/// what is held.
+pub fn lemma_the_past_is_the_text_of_then()
+    ensures { ThePastIsTheTextOfThen }
 {}

@@ -4,10 +4,12 @@
 
 mod edit_refusal;
 mod fate;
+mod front;
 pub mod laws;
 mod limits;
 mod merge_refusal;
 mod outbox;
+mod past;
 mod replica;
 mod settled;
 mod source;
@@ -15,9 +17,11 @@ mod took;
 
 pub use edit_refusal::EditRefusal;
 pub use fate::Fate;
+pub use front::{Front, front_in};
 pub use limits::the_limits;
 pub use merge_refusal::MergeRefusal;
 pub use outbox::Outbox;
+pub use past::Past;
 pub use replica::Replica;
 pub use settled::Settled;
 pub use taken_text::Shown;

@@ -14,6 +14,7 @@ mod editing;
 mod inserting;
 mod merging;
 mod own;
+mod past;
 mod pieces;
 mod taking;
 mod waiting;

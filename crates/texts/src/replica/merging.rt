@@ -37,7 +37,7 @@ impl Replica {
     }
 
     // Takes in an operation of another replica that is ready here. An `Err` changes nothing.
-    fn take_over(&mut self, op: &Op) -> Result<(), Refusal>
+    pub(crate) fn take_over(&mut self, op: &Op) -> Result<(), Refusal>
         requires { IsJudged self.old op.now ready }
         ensures ok { OnOk result (HasTaken self.old op.now self.new) }
         ensures errors { RefusedForMemoryAlone result }
