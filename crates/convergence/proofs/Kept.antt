@@ -24,7 +24,7 @@ abbrev pub IsSettled : List Operation → Operation → Type 0
 IsSettled taken op = Contains taken op ⊎ (HasVerdict taken op misfit ⊎ HasVerdict taken op low_stamp)
 
 -- parts of two lists, put together
-both_parts : (a a' b b' : List Operation) → IsPartOf a a' → IsPartOf b b' → IsPartOf (a ++ b) (a' ++ b')
+pub both_parts : (a a' b b' : List Operation) → IsPartOf a a' → IsPartOf b b' → IsPartOf (a ++ b) (a' ++ b')
 both_parts a a' b b' first second op held = elim (Contains-append_cases a b op held) [
   | inl here ↦ Contains-append_left a' b' op (first op here)
   | inr here ↦ Contains-append_right a' b' op (second op here)

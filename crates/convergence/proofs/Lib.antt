@@ -1,4 +1,5 @@
 pub mod Alike
+mod Exchange
 pub mod Fates
 pub mod Kept
 pub mod Messages

@@ -1,3 +1,4 @@
 pub mod Headline
 pub mod HandedIn
+pub mod Meeting
 pub mod Outcomes
