@@ -3,7 +3,7 @@ from __future__ import annotations
 
 from collections.abc import Sequence
 
-QUERIES = {"text", "runs", "front", "where", "names", "views", "marks", "show"}
+QUERIES = {"text", "runs", "front", "where", "names", "since", "past", "views", "marks", "show"}
 EDITS = {"type", "cut", "looks", "recall", "restore", "save", "key", "click"}
 # Events whose line names no text after its verb.
 OF_THE_SCREEN = {"close", "move", "scroll", "point", "select", "key", "views", "marks", "show", "click"}
@@ -13,6 +13,7 @@ FOLLOWED = {
     "front": "front ",
     "where": "shown ",
     "names": "name ",
+    "since": "message ",
     "views": "viewer ",
     **dict.fromkeys(EDITS, "send "),
 }

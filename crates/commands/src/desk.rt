@@ -241,8 +241,8 @@ impl Desk {
     /// alone.
     pub fn query(&self, text: TextNo, asked: Query) -> Result<Vec<u8>, Refusal>
         requires { text ≤ MAX_TEXT }
-        ensures step { IsStep self.now (λ i. query i text asked) (print_reply result (λ lines. lines.items)) self.now }
-        ensures errors { IfErr result (λ why. RefusesQuery self.now.texts text asked why) }
+        ensures step { IsStep self.now (λ i. query i text asked.entry) (print_reply result (λ lines. lines.items)) self.now }
+        ensures errors { IfErr result (λ why. RefusesQuery self.now.texts text asked.entry why) }
     {
         self.texts.query(text, asked)
     }

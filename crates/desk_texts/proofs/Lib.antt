@@ -1,6 +1,8 @@
+pub mod Beyond
 pub mod Counted
 pub mod CountingRuns
 pub mod GivenBack
+pub mod HexDigits
 pub mod Lifting
 pub mod Longest
 pub mod NameRanges

@@ -6,6 +6,7 @@ mod laws;
 mod names_shown;
 mod printing;
 mod runs;
+mod since;
 mod site_texts;
 mod where_shown;
 

@@ -1,13 +1,15 @@
 ghost use Rattle.std.specs.Prelude.{◌≡◌, ◌≤◌, [], ◌∷◌, ◌++◌, length, slice_range, OnOk, IfOk};
 ghost use Rattle.std.specs.Fmt.{decimal};
+ghost use Rattle.hex.specs.Hex.{encode_lower};
 ghost use Rattle.looks.specs.Refusal.{RefusedForMemoryAlone};
 ghost use Rattle.machine.specs.OnTexts.{Prints};
-ghost use Rattle.machine.specs.declared.asked.Query.TheVariants.{Front};
+ghost use Rattle.machine.specs.declared.asked.Query.TheVariants.{Front, Past};
 ghost use Rattle.texts.specs.TextState.{shown_of};
 ghost use Rattle.machine.specs.Printing.{front_line, print_of, printed_byte, text_lines, waiting_line};
 
 use char_files::SiteNo;
 use looks::Refusal;
+use machine::Fronts;
 use std::alloc::{AllocError, Global};
 use texts::Replica;
 
@@ -27,6 +29,15 @@ pub(crate) fn put_word(out: &mut Vec<u8>, number: u64) -> Result<(), AllocError>
     Ok(())
 }
 
+// Appends a byte in hex.
+pub(crate) fn put_hex_byte(out: &mut Vec<u8>, byte: u8) -> Result<(), AllocError>
+    ensures { OnOk result (out.new.items ≡ out.old.items ++ encode_lower (byte ∷ [])) }
+{
+    let mut digits = [0; 2];
+    let _ = hex::encode_to_slice([byte].as_slice(), &mut digits);
+    out.extend_from_slice(&digits)
+}
+
 // Appends a byte of a text as answers print it.
 fn put_printed(out: &mut Vec<u8>, byte: u8) -> Result<(), AllocError>
     ensures { OnOk result (out.new.items ≡ out.old.items ++ printed_byte byte) }
@@ -35,10 +46,8 @@ fn put_printed(out: &mut Vec<u8>, byte: u8) -> Result<(), AllocError>
         out.push(byte)?;
         return Ok(());
     }
-    let mut digits = [0; 2];
-    let _ = hex::encode_to_slice([byte].as_slice(), &mut digits);
     out.push(b'\\')?;
-    out.extend_from_slice(&digits)
+    put_hex_byte(out, byte)
 }
 
 // Appends the characters that a replica shows from one position to another, as answers print them.
@@ -72,6 +81,18 @@ pub(crate) fn text_lines(alloc: Global, replica: &Replica) -> Result<Vec<u8>, Re
     put_shown(&mut lines, replica, 0, len)?;
     lines.push(b'\n')?;
     Ok(lines)
+}
+
+// The line that prints a replica's text as it was, up to some fronts.
+pub(crate) fn past_lines(
+    alloc: Global,
+    replica: &Replica,
+    fronts: &Fronts,
+) -> Result<Vec<u8>, Refusal>
+    ensures ok { IfOk result (λ lines. Prints (Past fronts.now) replica.now lines.items) }
+    ensures errors { RefusedForMemoryAlone result }
+{
+    text_lines(alloc, replica.past(fronts.list())?.replica())
 }
 
 // Appends the line of a site's front.

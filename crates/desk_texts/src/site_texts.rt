@@ -13,8 +13,9 @@ ghost use Rattle.desk_texts.specs.contracts.site_texts.Texts.{the_row};
 
 use crate::editing::{copy_out_of, has_position, has_range};
 use crate::names_shown::names_lines;
-use crate::printing::{front_lines, text_lines};
+use crate::printing::{front_lines, past_lines, text_lines};
 use crate::runs::run_lines;
+use crate::since::since_lines;
 use crate::where_shown::where_lines;
 use char_files::{Buffer, MAX_FILE, SiteNo, TextNo};
 use list_changes::Change;
@@ -249,8 +250,8 @@ impl Texts {
     /// else `OutOfMemory` alone.
     pub fn query(&self, text: TextNo, asked: Query) -> Result<Vec<u8>, Refusal>
         requires { text ≤ MAX_TEXT }
-        ensures ok { IfOk result (λ lines. QueriesSite self.now text asked lines.items) }
-        ensures errors { IfErr result (λ why. RefusesQuery self.now text asked why) }
+        ensures ok { IfOk result (λ lines. QueriesSite self.now text asked.entry lines.items) }
+        ensures errors { IfErr result (λ why. RefusesQuery self.now text asked.entry why) }
     {
         let (alloc, replica) = (*self.texts.allocator(), self.replica(text));
         match asked {
@@ -259,6 +260,8 @@ impl Texts {
             Query::Runs => run_lines(alloc, replica),
             Query::WhereShown(names) => where_lines(alloc, replica, names),
             Query::Names { beg, end } => names_lines(alloc, replica, beg, end),
+            Query::Since(fronts) => since_lines(alloc, replica, &fronts),
+            Query::Past(fronts) => past_lines(alloc, replica, &fronts),
         }
     }
 

@@ -4,6 +4,7 @@ pub mod Events
 pub mod Machine
 pub mod OnTexts
 pub mod NamesShown
+pub mod Since
 pub mod WhereShown
 pub mod Printing
 pub mod ScreenPrinting

@@ -13,6 +13,7 @@ use Rattle.texts.specs.Edit.{Edit, insertion, is_in_text}
 use Rattle.texts.specs.Edit.{is_range_in, plan}
 use Rattle.texts.specs.Merge.{Merges, MergesShort}
 use Rattle.texts.specs.Outcome.{Edits, EditsShort, Shows}
+use Rattle.texts.specs.Past.{IsPastOf}
 use Rattle.texts.specs.Take.{Takes, TakesShort}
 use Rattle.texts.specs.TextState.{TextState, shown_items, shown_of}
 use Rattle.texts.specs.declared.edit_refusal.EditRefusal.{EditRefusal}
@@ -21,10 +22,11 @@ use Rattle.texts.specs.declared.took.Took.{Took}
 use Rattle.machine.specs.SiteTexts.{SiteTexts, InText, IsTextOf}
 use Rattle.machine.specs.Events.{Reply, edit_reply, merge_reply, messages_of, prints, refuses, settles, take_reply}
 use Rattle.machine.specs.NamesShown.{names_lines}
+use Rattle.machine.specs.Since.{since_lines}
 use Rattle.machine.specs.WhereShown.{where_lines}
 use Rattle.machine.specs.Printing.{AreRunsOf, text_lines, front_lines, run_lines}
 use Rattle.machine.specs.declared.asked.Query.{Query}
-use Rattle.machine.specs.declared.asked.Query.TheVariants.{Text, Front, Runs, WhereShown, Names}
+use Rattle.machine.specs.declared.asked.Query.TheVariants.{Text, Front, Runs, WhereShown, Names, Past, Since}
 
 -- An edit of a text, where memory is there: one whose positions lie outside the text is refused for that
 -- alone, and any other does what its operations do, and where all was done shows what it is to show.
@@ -99,6 +101,8 @@ Prints Runs t lines =
     (runs : List Stretch) × AreRunsOf (shown_items t) runs × (lines ≡ run_lines runs)
 Prints (WhereShown names) t lines = lines ≡ where_lines (shown_of t) (names_of names)
 Prints (Names beg end) t lines = lines ≡ names_lines (shown_of t) beg end
+Prints (Since fronts) t lines = lines ≡ since_lines fronts t.operations
+Prints (Past fronts) t lines = (past : TextState) × IsPastOf t fronts past × (lines ≡ text_lines past)
 
 -- whether the positions of a query lie in the text
 abbrev pub is_asked_in : TextState → Query → Bool

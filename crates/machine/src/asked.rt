@@ -1,12 +1,47 @@
 //! What is asked of a text or of a screen, as the machine has it.
 
+ghost use Rattle.std.specs.Prelude.{◌≡◌};
+
 use char_files::TextNo;
 use operations::NameRange;
+use std::marker::Model;
+use texts::Front;
 use viewers::Track;
 
+/// The fronts that a query names.
+#[derive(Debug, Drop)]
+pub struct Fronts<'a> {
+    listed: &'a [Front],
+}
+
+impl<'a> Model for Fronts<'a> {
+    ghost use Rattle.std.specs.Prelude.{List};
+    ghost use Rattle.texts.specs.declared.front.Front.{Front};
+
+    ghost Value = { List Front };
+
+    ghost view = { λ f. f.listed.now };
+}
+
+impl<'a> Fronts<'a> {
+    /// These.
+    pub fn new(listed: &'a [Front]) -> Fronts<'a>
+        ensures { result ≡ listed.now }
+    {
+        Fronts { listed }
+    }
+
+    /// They, one after the other.
+    pub fn list(&self) -> &'a [Front]
+        ensures { result.now ≡ self.now }
+    {
+        self.listed
+    }
+}
+
 /// What is to be printed of a text.
-#[derive(Clone, Copy, Debug)]
-pub enum Query {
+#[derive(Debug, Drop)]
+pub enum Query<'a> {
     /// Its length and its characters.
     Text,
     /// The fronts of its sites, and how many operations wait.
@@ -17,6 +52,10 @@ pub enum Query {
     WhereShown(NameRange),
     /// The names of what is shown from one position to another.
     Names { beg: u64, end: u64 },
+    /// What was taken in beyond these fronts.
+    Since(Fronts<'a>),
+    /// Its length and its characters as they were, up to these fronts.
+    Past(Fronts<'a>),
 }
 
 /// What is to be printed of a screen.

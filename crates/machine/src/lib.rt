@@ -4,7 +4,7 @@
 mod asked;
 mod limits;
 
-pub use asked::{Arrangement, Cell, Query, View};
+pub use asked::{Arrangement, Cell, Fronts, Query, View};
 pub use limits::the_limits;
 
 /// The greatest number of a text on a desk; the least is 1. This project's own.

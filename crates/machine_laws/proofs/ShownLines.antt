@@ -8,11 +8,14 @@ use Rattle.char_files.specs.declared.character.Char.{Char}
 use Rattle.operations.specs.NameSet.{names_of}
 use Rattle.set_laws.specs.Fronts.{AreSites}
 use Rattle.texts.specs.TextState.{TextState, shown_items, shown_of}
-use Rattle.machine_laws.specs.Laws.{AnswerTheSame, IsOfWhatIsShown}
+use Rattle.texts.proofs.Pasts.{same_pasts}
+use Rattle.tree_order.specs.Laws.{AreSameSet}
+use Rattle.machine_laws.specs.Laws.{AnswerTheSame, IsOfTheSet}
 use Rattle.machine.specs.declared.asked.Query.{Query}
-use Rattle.machine.specs.declared.asked.Query.TheVariants.{Front, Names, WhereShown, Runs, Text}
+use Rattle.machine.specs.declared.asked.Query.TheVariants.{Front, Names, Past, WhereShown, Runs, Since, Text}
 use Rattle.machine.specs.Events.{Reply, prints, refuses}
 use Rattle.machine.specs.NamesShown.{names_lines}
+use Rattle.machine.specs.Since.{since_lines}
 use Rattle.machine.specs.OnTexts.{Prints, QueriesText, is_asked_in}
 use Rattle.machine.specs.WhereShown.{where_lines}
 use Rattle.machine.specs.Printing.{AreRunsOf, front_lines, run_lines, text_lines}
@@ -31,13 +34,17 @@ text_lines-shown t u same = rw same refl
 items-shown : (t u : TextState) → shown_of t ≡ shown_of u → shown_items t ≡ shown_items u
 items-shown t u same = rw same refl
 
--- two texts are one, or the query is of what is shown, and they show the same
+-- two texts are one, or the query is of what the operations determine, and they have the same ones and show the same
 abbrev PrintAlike : Query → TextState → TextState → Type 0
-PrintAlike q t u = (t ≡ u) ⊎ (IsOfWhatIsShown q × (shown_of t ≡ shown_of u))
+PrintAlike q t u = (t ≡ u) ⊎ (IsOfTheSet q × (shown_of t ≡ shown_of u) × AreSameSet t.operations u.operations)
 
 alike-shown : (q : Query) (t u : TextState) → PrintAlike q t u → shown_of t ≡ shown_of u
 alike-shown q t u (inl same) = ap shown_of same
-alike-shown q t u (inr (is, same)) = same
+alike-shown q t u (inr (is, shown, set)) = shown
+
+alike-set : (q : Query) (t u : TextState) → PrintAlike q t u → AreSameSet t.operations u.operations
+alike-set q t u (inl same) = subst (λ (x : TextState). AreSameSet t.operations x.operations) same (λ op. (λ held. held, λ held. held))
+alike-set q t u (inr (is, shown, set)) = set
 
 -- such texts print one thing: a case for each query
 prints_one : NoOtherRuns → (q : Query) (t u : TextState) (a b : List ℕ) → PrintAlike q t u → Prints q t a
@@ -49,7 +56,7 @@ prints_one only Front t u a b (inl same) (sites, are, prints_a) (sites', are', p
     subst (λ (x : TextState). AreSites x.operations sites') (sym same) are' in
     prints_a ∙ ap (front_lines t) (one_sites t.operations sites sites' are here)
     ∙ ap (λ (x : TextState). front_lines x sites') same ∙ sym prints_b
-prints_one only Front t u a b (inr (is, same)) prints_a prints_b = absurd is
+prints_one only Front t u a b (inr alike) prints_a prints_b = absurd alike.0
 prints_one only Runs t u a b alike (runs, are, prints_a) (runs', are', prints_b) =
     let same = items-shown t u (alike-shown Runs t u alike) in
     prints_a ∙ ap run_lines (one_runs only (shown_items t) (shown_items u) runs runs' are are' same) ∙ sym prints_b
@@ -59,6 +66,13 @@ prints_one only (WhereShown names) t u a b alike prints_a prints_b =
     ∙ sym prints_b
 prints_one only (Names beg end) t u a b alike prints_a prints_b =
     prints_a ∙ ap (λ (chars : List Char). names_lines chars beg end) (alike-shown (Names beg end) t u alike) ∙ sym prints_b
+prints_one only (Since fronts) t u a b (inl same) prints_a prints_b =
+    prints_a ∙ ap (λ (x : TextState). since_lines fronts x.operations) same ∙ sym prints_b
+prints_one only (Since fronts) t u a b (inr alike) prints_a prints_b = absurd alike.0
+prints_one only (Past fronts) t u a b alike (past, is, prints_a) (past', is', prints_b) =
+    prints_a
+    ∙ text_lines-shown past past' (same_pasts t u past past' fronts (alike-set (Past fronts) t u alike) is is').shown
+    ∙ sym prints_b
 
 -- and its positions lie in both, or in neither
 asked_alike : (q : Query) (t u : TextState) → shown_of t ≡ shown_of u → is_asked_in t q ≡ is_asked_in u q
@@ -67,6 +81,8 @@ asked_alike Front t u same = refl
 asked_alike Runs t u same = refl
 asked_alike (WhereShown names) t u same = refl
 asked_alike (Names beg end) t u same = rw same refl
+asked_alike (Since fronts) t u same = refl
+asked_alike (Past fronts) t u same = refl
 
 -- so it is answered in one way
 answers_one : NoOtherRuns → (q : Query) (t u : TextState) (r r' : Reply) (inside : Bool) → PrintAlike q t u
@@ -80,9 +96,10 @@ answers_one only q t u r r' false alike is is' = is ∙ sym is'
 pub one_answer : NoOtherRuns → (q : Query) (t : TextState) (r r' : Reply) → QueriesText q r t → QueriesText q r' t → r ≡ r'
 one_answer only q t r r' = answers_one only q t t r r' (is_asked_in t q) (inl refl)
 
--- texts that show the same answer the same of it
-pub answers-shown : NoOtherRuns → (t u : TextState) → shown_of t ≡ shown_of u → AnswerTheSame t u
-answers-shown only t u same q r r' is asks asks' =
-    answers_one only q t u r r' (is_asked_in t q) (inr (is, same)) asks
+-- texts of the same operations, which show the same, answer the same of it
+pub answers-alike : NoOtherRuns → (t u : TextState) → shown_of t ≡ shown_of u → AreSameSet t.operations u.operations
+    → AnswerTheSame t u
+answers-alike only t u same set q r r' is asks asks' =
+    answers_one only q t u r r' (is_asked_in t q) (inr (is, same, set)) asks
     (subst (λ (inside : Bool). MatchBool inside ((b : List ℕ) × Prints q u b × (r' ≡ prints b)) (r' ≡ refuses OutOfRange))
     (sym (asked_alike q t u same)) asks')

@@ -29,7 +29,7 @@ use Rattle.machine.specs.State.{IsDeskAt, IsTextAt, State, new_state}
 use Rattle.machine.specs.Tasks.{caret_after, has_begun, lines_of_view}
 use Rattle.machine.specs.Windows.{Caret, Screened, Selected, Window, window_of}
 use Rattle.machine.specs.declared.asked.Query.{Query}
-use Rattle.machine.specs.declared.asked.Query.TheVariants.{Front}
+use Rattle.machine.specs.declared.asked.Query.TheVariants.{Front, Since}
 use Rattle.machine.specs.declared.asked.View.{View}
 use Rattle.machine.specs.Printing.{waiting_line}
 use Rattle.machine.specs.declared.TheConstants.{MAX_TEXT}
@@ -51,15 +51,17 @@ AreTexts s = (i text : ℕ) (t : TextState) → IsTextAt s i text t → IsText t
 abbrev pub HaveTold : State → Type 0
 HaveTold s = (i text : ℕ) (t : TextState) → IsTextAt s i text t → t.asked ≡ length t.operations
 
--- a query of what is shown, as the characters or their looks: all but that of the fronts
-abbrev pub IsOfWhatIsShown : Query → Type 0
-IsOfWhatIsShown Front = ⊥
-IsOfWhatIsShown q = Unit {0}
+-- a query of what the set of operations determines, now or up to fronts: all but those of a text's own fronts, with which is
+-- told how many operations wait, and of the order in which it took in
+abbrev pub IsOfTheSet : Query → Type 0
+IsOfTheSet Front = ⊥
+IsOfTheSet (Since fronts) = ⊥
+IsOfTheSet q = Unit {0}
 
 -- a query of what is shown is answered the same of two texts, of one run or of two, by its lines or by a refusal
 abbrev pub AnswerTheSame : TextState → TextState → Type 0
 AnswerTheSame t u =
-    (q : Query) (r r' : Reply) → IsOfWhatIsShown q → QueriesText q r t → QueriesText q r' u → r ≡ r'
+    (q : Query) (r r' : Reply) → IsOfTheSet q → QueriesText q r t → QueriesText q r' u → r ≡ r'
 
 -- two texts, of one run or of two, that have taken in the same operations answer the same
 abbrev pub OperationsDetermineWhatIsPrinted : Type 0

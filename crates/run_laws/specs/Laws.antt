@@ -13,7 +13,7 @@ use Rattle.machine.specs.declared.asked.Query.{Query}
 use Rattle.machine.specs.declared.asked.Query.TheVariants.{Front}
 use Rattle.machine.specs.declared.asked.View.{View}
 use Rattle.machine.specs.Printing.{waiting_line}
-use Rattle.machine_laws.specs.Laws.{AsksForNoFile, IsOfWhatIsShown, Reached}
+use Rattle.machine_laws.specs.Laws.{AsksForNoFile, IsOfTheSet, Reached}
 use Rattle.script_io.specs.Lines.{without_return}
 use Rattle.script_events.specs.Script.{event_in}
 use Rattle.script_runs.specs.Trace.{Run, Trace, begins, goes_on}
@@ -55,11 +55,11 @@ AnswersQuery s i text q lines =
 
 -- where memory is there, a query of what is shown is answered the same of two texts, by its lines or by a refusal
 abbrev pub AreAnsweredTheSame : (s s' : State) (i j text text' : ℕ) → Type 0
-AreAnsweredTheSame s s' i j text text' = (q : Query) (r r' : Reply) (new new' : State) → IsOfWhatIsShown q
+AreAnsweredTheSame s s' i j text text' = (q : Query) (r r' : Reply) (new new' : State) → IsOfTheSet q
     → Does s (query i text q) untouched r new → Does s' (query j text' q) untouched r' new' → r ≡ r'
 
--- wherever two texts have taken in the same operations, in one run or in two, `text`, `runs`, `where` and `names` are answered
--- the same
+-- wherever two texts have taken in the same operations, in one run or in two, `text`, `runs`, `where`, `names` and `past`
+-- are answered the same
 abbrev pub TheSameIsAnswered : Type 0
 TheSameIsAnswered =
     (start start' : Start) (i j text text' : ℕ) (s s' : State) (t u : TextState)
@@ -71,7 +71,7 @@ abbrev pub AnswersFronts : State → (i text : ℕ) → TextState → List ℕ �
 AnswersFronts s i text t lines = AnswersQuery s i text Front (lines ++ waiting_line (length t.waiting_room))
 
 -- wherever `front` is answered by the same lines of fronts of two texts, in one run or in two, however many operations
--- wait, `text`, `runs`, `where` and `names` are answered the same, if the sites are numbers that a message has places for, and
+-- wait, `text`, `runs`, `where`, `names` and `past` are answered the same, if the sites are numbers that a message has places for, and
 -- no identity is used twice
 abbrev pub TheSameFrontsAreAnswered : Type 0
 TheSameFrontsAreAnswered =

@@ -21,7 +21,7 @@ pub fn lemma_each_trace_is_reached()
 {}
 
 /// A law: wherever in a run, or in two runs, two sites have taken in the same operations of a text, their answers
-/// to `text`, `runs`, `where` and `names` are the same, byte for byte, unless memory is refused.
+/// to `text`, `runs`, `where`, `names` and `past` are the same, byte for byte, unless memory is refused.
 pub fn the_same_operations_are_answered_the_same()
     ensures { TheSameIsAnswered }
 {
@@ -31,7 +31,7 @@ pub fn the_same_operations_are_answered_the_same()
 }
 
 /// A law: wherever in a run, or in two runs, two sites answer `front` of a text by the same lines of fronts, however many
-/// operations wait, their answers to `text`, `runs`, `where` and `names` are the same, byte for byte, if no identity is used
+/// operations wait, their answers to `text`, `runs`, `where`, `names` and `past` are the same, byte for byte, if no identity is used
 /// twice, unless memory is refused. The numbers of the sites are below 2^16, as they are in every run.
 pub fn the_same_fronts_are_answered_the_same()
     ensures { TheSameFrontsAreAnswered }

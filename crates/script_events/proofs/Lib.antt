@@ -1,5 +1,6 @@
 pub mod HexPairs
 pub mod LooksValues
+pub mod ReadFronts
 pub mod Spelling
 pub mod Verbs
 pub mod Words

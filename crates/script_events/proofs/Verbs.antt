@@ -26,23 +26,18 @@ from_row : (rows : List Row) (i : ℕ) (d : Row) (word : List ℕ) → i < lengt
     → among rows i word ≡ among (get_or rows i d ∷ drop (i + 1) rows) 0 word
 from_row rows i d word within = rw add-one (ap (λ (rest : List Row). among rest 0 word) (drop-cons rows i d within))
 
-pub found : (rows : List Row) (i : ℕ) (row : Row) (word : List ℕ) (test : Bool) (whole : Option Verb)
-    → row ≡ get_or rows i row → test ≡ is_word row.0.now word → test ≡ true → i < length rows → among rows i word ≡ whole
-    → Some row.1 ≡ whole
-found rows i row word test whole read is passes within left =
-    let here : is_word (get_or rows i row).0.now word ≡ true =
-    ap (λ (x : Row). is_word x.0.now word) (sym read) ∙ sym is ∙ passes in
-    ap (λ (x : Row). Some x.1) read
-    ∙ sym (from_row rows i row word within ∙ by_test (get_or rows i row) (drop (i + 1) rows) word true here) ∙ left
+pub found : (rows : List Row) (i : ℕ) (d : Row) (word : List ℕ) (test : Bool) (whole : Option Verb)
+    → test ≡ is_word (get_or rows i d).0.now word → test ≡ true → i < length rows → among rows i word ≡ whole
+    → Some (get_or rows i d).1 ≡ whole
+found rows i d word test whole is passes within left =
+    sym (from_row rows i d word within ∙ by_test (get_or rows i d) (drop (i + 1) rows) word true (sym is ∙ passes)) ∙ left
 
 -- else by those after it
-pub passed : (rows : List Row) (i : ℕ) (row : Row) (word : List ℕ) (test : Bool) (whole : Option Verb)
-    → row ≡ get_or rows i row → test ≡ is_word row.0.now word → test ≡ false → i < length rows → among rows i word ≡ whole
+pub passed : (rows : List Row) (i : ℕ) (d : Row) (word : List ℕ) (test : Bool) (whole : Option Verb)
+    → test ≡ is_word (get_or rows i d).0.now word → test ≡ false → i < length rows → among rows i word ≡ whole
     → among rows (i + 1) word ≡ whole
-passed rows i row word test whole read is fails within left =
-    let here : is_word (get_or rows i row).0.now word ≡ false =
-    ap (λ (x : Row). is_word x.0.now word) (sym read) ∙ sym is ∙ fails in
-    sym (from_row rows i row word within ∙ by_test (get_or rows i row) (drop (i + 1) rows) word false here) ∙ left
+passed rows i d word test whole is fails within left =
+    sym (from_row rows i d word within ∙ by_test (get_or rows i d) (drop (i + 1) rows) word false (sym is ∙ fails)) ∙ left
 
 -- and where none is left there is none
 pub ended : (rows : List Row) (i : ℕ) (word : List ℕ) (whole : Option Verb) → length rows ≤ i

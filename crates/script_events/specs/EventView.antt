@@ -11,9 +11,9 @@ use Rattle.script_events.specs.declared.event.Delivery.TheVariants.{Sent, Bytes}
 use Rattle.script_events.specs.declared.event.Edit.{Edit}
 use Rattle.script_events.specs.declared.event.Edit.TheVariants.{TypeIn, Cut, Looks, Recall, Restore}
 use Rattle.script_events.specs.declared.event.Event.{Event}
-use Rattle.script_events.specs.declared.event.Event.TheVariants.{Edits, Saves, Takes, Settles, Merges, Queries}
+use Rattle.script_events.specs.declared.event.Event.TheVariants.{AsksAt, Edits, Saves, Takes, Settles, Merges, Queries}
 use Rattle.script_events.specs.declared.event.Event.TheVariants.{Arranges, Clicks, Keeps, Keys, Prints, Reopens}
-use Rattle.script_events.specs.Script.{plain_items, typing}
+use Rattle.script_events.specs.Script.{plain_items, query_at, typing}
 
 -- an edit, with its bytes decoded
 abbrev pub edit_of : Edit → AskedEdit
@@ -36,6 +36,7 @@ event_of (Takes desk text d) = take desk text (delivery_of d)
 event_of (Settles desk text) = settle desk text
 event_of (Merges desk text other) = merge desk text other
 event_of (Queries desk text q) = query desk text q
+event_of (AsksAt desk text side fronts) = query desk text (query_at side fronts)
 event_of (Keeps desk text name) = ask desk (keep text name.now)
 event_of (Reopens desk text name) = ask desk (reopen text name.now)
 event_of (Arranges desk arrangement) = ask desk (arrange arrangement)
@@ -64,6 +65,7 @@ IsInRun count (Takes desk text d) = (desk < count) × (text ≤ MAX_TEXT)
 IsInRun count (Settles desk text) = (desk < count) × (text ≤ MAX_TEXT)
 IsInRun count (Merges desk text other) = (desk < count) × (text ≤ MAX_TEXT) × (other < count)
 IsInRun count (Queries desk text q) = (desk < count) × (text ≤ MAX_TEXT)
+IsInRun count (AsksAt desk text side fronts) = (desk < count) × (text ≤ MAX_TEXT)
 IsInRun count (Keeps desk text name) = (desk < count) × (text ≤ MAX_TEXT)
 IsInRun count (Reopens desk text name) = (desk < count) × (text ≤ MAX_TEXT)
 IsInRun count (Arranges desk arrangement) = (desk < count) × OpensDeskText arrangement
@@ -92,6 +94,7 @@ IsOfLine len (Takes desk text d) = IsWithin len d
 IsOfLine len (Settles desk text) = Unit {0}
 IsOfLine len (Merges desk text other) = Unit {0}
 IsOfLine len (Queries desk text q) = Unit {0}
+IsOfLine len (AsksAt desk text side fronts) = length fronts ≤ len
 IsOfLine len (Keeps desk text name) = Unit {0}
 IsOfLine len (Reopens desk text name) = Unit {0}
 IsOfLine len (Arranges desk arrangement) = Unit {0}

@@ -2,3 +2,4 @@ pub mod Words
 pub mod LooksWords
 pub mod Script
 pub mod EventView
+pub mod FrontWords

@@ -17,8 +17,11 @@ use Rattle.machine.specs.Events.{insert_at_caret, query, reopen, sent as by_numb
 use Rattle.machine.specs.declared.asked.Arrangement.{Arrangement}
 use Rattle.machine.specs.declared.asked.Arrangement.TheVariants.{Close, Move, Open, Point, Scroll, Select}
 use Rattle.machine.specs.declared.asked.Cell.{Cell}
-use Rattle.machine.specs.declared.asked.Query.TheVariants.{Front, Names, WhereShown, Runs, Text}
+use Rattle.machine.specs.declared.asked.Query.{Query}
+use Rattle.machine.specs.declared.asked.Query.TheVariants.{Front, Names, Past, WhereShown, Runs, Since, Text}
 use Rattle.machine.specs.declared.asked.View.TheVariants.{Marks, Show, Views}
+use Rattle.texts.specs.declared.front.Front.{Front as SiteFront}
+use Rattle.script_events.specs.FrontWords.{fronts_in}
 use Rattle.script_events.specs.LooksWords.{change_in}
 use Rattle.script_events.specs.Words.{◌>>=◌, some_if, is_word, split_word, front_word, number_in, split_number, desk_in, text_in}
 use Rattle.script_events.specs.declared.event.verbs.ArrangeVerb.{ArrangeVerb}
@@ -28,12 +31,14 @@ use Rattle.script_events.specs.declared.event.verbs.DeskVerb.{DeskVerb}
 use Rattle.script_events.specs.declared.event.verbs.DeskVerb.TheVariants.{Click, Keep, Key, Reopen}
 use Rattle.script_events.specs.declared.event.verbs.EditVerb.{EditVerb}
 use Rattle.script_events.specs.declared.event.verbs.EditVerb.TheVariants.{Cut, Looks, Recall, TypeIn}
+use Rattle.script_events.specs.declared.event.Side.{Side}
+use Rattle.script_events.specs.declared.event.Side.TheVariants.{Beyond, UpTo}
 use Rattle.script_events.specs.declared.event.verbs.LongVerb.{LongVerb}
 use Rattle.script_events.specs.declared.event.verbs.LongVerb.TheVariants.{Merge, Names as NamesOf, Save, Take, Where}
 use Rattle.script_events.specs.declared.event.verbs.ShortVerb.{ShortVerb}
-use Rattle.script_events.specs.declared.event.verbs.ShortVerb.TheVariants.{Restore, Settle}
+use Rattle.script_events.specs.declared.event.verbs.ShortVerb.TheVariants.{Front as FrontOf, Restore, Runs as RunsOf, Settle, Text as TextOf}
 use Rattle.script_events.specs.declared.event.verbs.Verb.{Verb}
-use Rattle.script_events.specs.declared.event.verbs.Verb.TheVariants.{Arrange, Desk, Edit as EditOf, Long, Prints, Queries, Short}
+use Rattle.script_events.specs.declared.event.verbs.Verb.TheVariants.{Arrange, Desk, Edit as EditOf, Fronts, Long, Prints, Short}
 
 -- the byte of two hex digits
 abbrev pub byte_of_digits : ℕ → ℕ → Option ℕ
@@ -214,6 +219,9 @@ filing_in rest = do
 abbrev pub short_event : ShortVerb → (desk text : ℕ) → Event
 short_event Restore desk text = edit desk text restoration
 short_event Settle desk text = settle desk text
+short_event TextOf desk text = query desk text Text
+short_event FrontOf desk text = query desk text Front
+short_event RunsOf desk text = query desk text Runs
 
 -- the edit that a verb asks for with what stands after the text: a row for each verb
 abbrev pub edit_in : EditVerb → List ℕ → Option Edit
@@ -229,6 +237,11 @@ long_event first count Take desk text rest = option_map (λ message. taking desk
 long_event first count Merge desk text rest = merge_event first count desk text rest
 long_event first count Where desk text rest = where_event desk text rest
 long_event first count NamesOf desk text rest = names_event desk text rest
+
+-- what is asked of a text on this side of fronts
+abbrev pub query_at : Side → List SiteFront → Query
+query_at Beyond fronts = Since fronts
+query_at UpTo fronts = Past fronts
 
 -- the arrangement that a verb asks for with what stands after it: a row for each verb
 abbrev pub arrangement_in : ArrangeVerb → List ℕ → Option Arrangement
@@ -248,10 +261,11 @@ desk_event Click desk rest = option_map (λ cell. click desk cell.col cell.row) 
 
 -- what a verb asks with what stands after its blank, if it doesn't end the line
 abbrev pub verb_event : (first count : ℕ) → Verb → (desk : ℕ) → Option (List ℕ) → Option Event
-verb_event first count (Queries q) desk rest =
-    rest >>= λ words. option_map (λ text. query desk text q) (text_in words)
 verb_event first count (Short verb) desk rest =
     rest >>= λ words. option_map (λ text. short_event verb desk text) (text_in words)
+verb_event first count (Fronts side) desk rest =
+    rest >>= λ words. text_in (front_word words).0 >>= λ text.
+    option_map (λ fronts. query desk text (query_at side fronts)) (fronts_in (front_word words).1)
 verb_event first count (EditOf verb) desk rest =
     rest >>= λ words. split_word words >>= λ cut. text_in cut.0 >>= λ text.
     option_map (λ e. edit desk text e) (edit_in verb cut.1)
@@ -275,11 +289,13 @@ verbs =
     (codes "take", Long Take) ∷
     (codes "settle", Short Settle) ∷
     (codes "merge", Long Merge) ∷
-    (codes "text", Queries Text) ∷
-    (codes "front", Queries Front) ∷
-    (codes "runs", Queries Runs) ∷
+    (codes "text", Short TextOf) ∷
+    (codes "front", Short FrontOf) ∷
+    (codes "runs", Short RunsOf) ∷
     (codes "where", Long Where) ∷
     (codes "names", Long NamesOf) ∷
+    (codes "since", Fronts Beyond) ∷
+    (codes "past", Fronts UpTo) ∷
     (codes "keep", Desk Keep) ∷
     (codes "reopen", Desk Reopen) ∷
     (codes "open", Arrange Opens) ∷

@@ -20,6 +20,7 @@ use crate::event::edits::{cut_edit, looks_edit, recall_edit, type_edit};
 use crate::event::filings::filing_in;
 use crate::event::verbs::{ArrangeVerb, DeskVerb, EditVerb, LongVerb, ShortVerb, Verb};
 use crate::event::words::{desk_in, front_word, number_in, split_number, split_word, text_in};
+use crate::front_words::FrontWords;
 use crate::hex_bytes::Hex;
 use char_files::{MAX_FILE, SiteNo, TextNo};
 use looks::{Looks, Sel};
@@ -64,7 +65,14 @@ pub enum Event<'a> {
     Queries {
         desk: usize,
         text: TextNo,
-        query: Query,
+        query: Query<'a>,
+    },
+    /// A print of what a desk's text has on one side of these fronts.
+    AsksAt {
+        desk: usize,
+        text: TextNo,
+        side: Side,
+        fronts: FrontWords<'a>,
     },
     /// A keeping of a desk's text in its site's file, with all that it has taken in.
     Keeps {
@@ -126,6 +134,15 @@ pub enum Edit<'a> {
     },
     /// To show again what was cut last.
     Restore,
+}
+
+/// On which side of fronts a text is asked.
+#[derive(Clone, Copy, Debug)]
+pub enum Side {
+    /// For the messages of what it has taken in beyond them.
+    Beyond,
+    /// For its characters as they were, up to them.
+    UpTo,
 }
 
 /// From where to where of a text is copied, into which other one, and to which position there.
@@ -244,6 +261,18 @@ fn short_event(verb: ShortVerb, desk: usize, text: TextNo) -> Event<'static>
             Event::Edits { desk, text, edit }
         }
         ShortVerb::Settle => Event::Settles { desk, text },
+        ShortVerb::Text => {
+            let query = Query::Text;
+            Event::Queries { desk, text, query }
+        }
+        ShortVerb::Front => {
+            let query = Query::Front;
+            Event::Queries { desk, text, query }
+        }
+        ShortVerb::Runs => {
+            let query = Query::Runs;
+            Event::Queries { desk, text, query }
+        }
     }
 }
 
@@ -352,11 +381,18 @@ fn verb_event<'a>(
             Some(_) => None,
             None => Some(Event::Prints { desk, view }),
         },
-        Verb::Queries(query) => {
-            let text = text_in(rest?)?;
-            Some(Event::Queries { desk, text, query })
-        }
         Verb::Short(verb) => Some(short_event(verb, desk, text_in(rest?)?)),
+        Verb::Fronts(side) => {
+            let (text, rest) = front_word(rest?);
+            let text = text_in(text)?;
+            let fronts = FrontWords::new(rest)?;
+            Some(Event::AsksAt {
+                desk,
+                text,
+                side,
+                fronts,
+            })
+        }
         Verb::Edit(verb) => {
             let (text, rest) = split_word(rest?)?;
             let text = text_in(text)?;

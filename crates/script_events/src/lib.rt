@@ -3,8 +3,10 @@
 
 mod escaped;
 mod event;
+mod front_words;
 mod hex_bytes;
 
 pub use escaped::Escaped;
-pub use event::{Delivery, Edit, Event, Save, event_in};
+pub use event::{Delivery, Edit, Event, Save, Side, event_in};
+pub use front_words::FrontWords;
 pub use hex_bytes::Hex;

@@ -5,7 +5,8 @@ use Rattle.std.specs.Io.KnownBytes.{Appends}
 use Rattle.std.proofs.KnownBytes.{Appends-trans}
 use Rattle.std.proofs.lemmas.List.{take_more, get_or-drop, length-drop, length-take}
 use Rattle.std.proofs.lemmas.Option.{get_or_from_slice_get, slice_get_within}
-use Rattle.hex.specs.Hex.{encode_with, encode_lower, lower_digits}
+use Rattle.hex.specs.Hex.{encode_lower}
+use Rattle.desk_texts.proofs.HexDigits.{encode_lower-append}
 use Rattle.looks.specs.declared.refusal.Refusal.{Refusal}
 use Rattle.script_runs.specs.Answers.{send_line, send_lines}
 use Rattle.script_runs.specs.Writing.{Writes}
@@ -14,15 +15,6 @@ use Rattle.script_runs.proofs.WriteLemmas.{writes_after, writes_stopped}
 -- a list at an index: what is before it, the element there, and what is after it
 split_at : {A : Type 0} (xs : List A) (i : ℕ) (d : A) → i < length xs → xs ≡ take i xs ++ (get_or xs i d ∷ drop (i + 1) xs)
 split_at xs i d lt = rw add-one (sym (take-append-drop i xs) ∙ ap (λ (ys : List _). take i xs ++ ys) (drop-cons xs i d lt))
-
-pub encode_lower-nil : encode_lower [] ≡ []
-unfolding encode_with
-encode_lower-nil = refl
-
-pub encode_lower-append : (xs ys : List ℕ) → encode_lower (xs ++ ys) ≡ encode_lower xs ++ encode_lower ys
-unfolding encode_with
-encode_lower-append [] ys = refl
-encode_lower-append (x ∷ xs) ys = ap (λ (r : List ℕ). get_or lower_digits (x / 16) 0 ∷ get_or lower_digits (x % 16) 0 ∷ r) (encode_lower-append xs ys)
 
 -- the hex of one stretch more
 pub hex_more : (a b c : Option (List ℕ)) (done stretch : List ℕ) → Appends a b (encode_lower done) → Appends b c (encode_lower stretch) → Appends a c (encode_lower (done ++ stretch))

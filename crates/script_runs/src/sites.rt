@@ -1,13 +1,13 @@
 ghost use Rattle.std.specs.Prelude.{◌≡◌, ◌≤◌, ◌<◌, List, ℕ, drop, length, IfOk};
 ghost use Rattle.looks.specs.Refusal.{RefusedForMemoryAlone};
 ghost use Rattle.machine.specs.Events.{copy, edit, edit_reply, merge, merge_reply, sent, settle, settles, take};
-ghost use Rattle.machine.specs.Events.{take_reply};
+ghost use Rattle.machine.specs.Events.{query, take_reply};
 ghost use Rattle.machine.specs.State.{new_state};
 ghost use Rattle.shelf.specs.Files.{Files};
-ghost use Rattle.commands.specs.Steps.{shelf_seen};
+ghost use Rattle.commands.specs.Steps.{print_reply, shelf_seen};
 ghost use Rattle.script_events.specs.EventView.{delivery_of, edit_of, event_of, IsInRun, IsOfLine};
 ghost use Rattle.script_events.specs.EventView.{IsWithin, TypesAtMost};
-ghost use Rattle.script_events.specs.Script.{typing};
+ghost use Rattle.script_events.specs.Script.{query_at, typing};
 ghost use Rattle.script_runs.specs.Answers.{reply_lines};
 ghost use Rattle.script_runs.specs.Replying.{reply_of};
 ghost use Rattle.script_runs.specs.Seen.{OverFiles, Replied, run_of, state_of};
@@ -22,14 +22,14 @@ use crate::settings::Settings;
 use char_files::{SiteNo, TextNo};
 use commands::Desk;
 use looks::Refusal;
-use machine::MAX_TEXT;
-use script_events::{Delivery, Edit, Escaped, Event, Save, event_in};
+use machine::{Fronts, MAX_TEXT, Query};
+use script_events::{Delivery, Edit, Escaped, Event, FrontWords, Save, Side, event_in};
 use script_io::{MAX_LINE, Output};
 use shelf::Shelf;
 use std::alloc::Global;
 use std::io::Write;
 use std::marker::Model;
-use texts::{EditRefusal, MergeRefusal, Outbox, Settled, Took};
+use texts::{EditRefusal, Front, MergeRefusal, Outbox, Settled, Took};
 
 /// The desks of a run's sites, and the messages that they sent.
 #[derive(Drop)]
@@ -39,6 +39,8 @@ pub struct Sites {
     outbox: Outbox,
     // Where the bytes of an event are decoded: there is room for those of any line.
     bytes: Vec<u8>,
+    // The same for fronts.
+    fronts: Vec<Front>,
 }
 
 impl Model for Sites {
@@ -51,7 +53,8 @@ impl Model for Sites {
 
     ghost view = { λ s. record { first = s.first; desks = s.desks.items; sent = s.outbox } };
 
-    ghost invariant = { λ s. (length s.desks.items ≤ MAX_SITES) × (MAX_LINE ≤ vec_capacity s.bytes) };
+    ghost invariant = { λ s. (length s.desks.items ≤ MAX_SITES) × (MAX_LINE ≤ vec_capacity s.bytes)
+        × (MAX_LINE ≤ vec_capacity s.fronts) };
 }
 
 // Whether a line is answered by nothing.
@@ -69,6 +72,7 @@ impl Sites {
         ensures errors { RefusedForMemoryAlone result }
     {
         let bytes = Vec::with_capacity(alloc, MAX_LINE)?;
+        let fronts = Vec::with_capacity(alloc, MAX_LINE)?;
         let Settings {
             first,
             count,
@@ -85,6 +89,7 @@ impl Sites {
             desks,
             outbox: Outbox::new(alloc),
             bytes,
+            fronts,
         })
     }
 
@@ -136,6 +141,12 @@ impl Sites {
             Event::Queries { desk, text, query } => {
                 Reply::Printed(self.desks[desk].query(text, query))
             }
+            Event::AsksAt {
+                desk,
+                text,
+                side,
+                fronts,
+            } => Reply::Printed(self.query_at(desk, text, side, &fronts)),
             Event::Keeps { desk, text, name } => {
                 Reply::Commanded(self.desks[desk].keep(text, name, shelf))
             }
@@ -244,6 +255,30 @@ impl Sites {
         }
         let message = self.outbox.message(k - 1);
         self.desks[desk].take(text, message)
+    }
+
+    // Prints what a desk's text has on one side of some fronts.
+    fn query_at(
+        &mut self,
+        desk: usize,
+        text: TextNo,
+        side: Side,
+        fronts: &FrontWords,
+    ) -> Result<Vec<u8>, Refusal>
+        requires in_run { desk < length self.old.desks }
+        requires on_desk { text ≤ MAX_TEXT }
+        requires within { length fronts.now ≤ MAX_LINE }
+        ensures { Replied self.old (query desk text (query_at side fronts.now))
+            (print_reply result (λ lines. lines.items)) self.new }
+    {
+        self.fronts.clear();
+        fronts.decode(&mut self.fronts);
+        let fronts = Fronts::new(&self.fronts);
+        let asked = match side {
+            Side::Beyond => Query::Since(fronts),
+            Side::UpTo => Query::Past(fronts),
+        };
+        self.desks[desk].query(text, asked)
     }
 
     // Drains what waits for a desk's text.

@@ -3,15 +3,16 @@
 ghost use Rattle.std.specs.Prelude.{◌≡◌, map};
 ghost use Rattle.script_events.specs.Script.{verb_among, verb_in};
 
-use machine::{Query, View};
+use crate::event::Side;
+use machine::View;
 
 // A verb, by what stands after it.
 #[derive(Clone, Copy, Debug)]
 pub(crate) enum Verb {
-    // A text, which ends the line and is printed.
-    Queries(Query),
     // A text, which ends the line.
     Short(ShortVerb),
+    // A text, and perhaps fronts.
+    Fronts(Side),
     // A text, and what an edit of it goes on with.
     Edit(EditVerb),
     // A text, and what else is asked of it.
@@ -28,6 +29,9 @@ pub(crate) enum Verb {
 pub(crate) enum ShortVerb {
     Restore,
     Settle,
+    Text,
+    Front,
+    Runs,
 }
 
 #[derive(Clone, Copy, Debug)]
@@ -66,7 +70,7 @@ pub(crate) enum DeskVerb {
 }
 
 // The verbs: a row for each.
-const VERBS: [(&[u8], Verb); 27] = [
+const VERBS: [(&[u8], Verb); 29] = [
     (b"type", Verb::Edit(EditVerb::TypeIn)),
     (b"cut", Verb::Edit(EditVerb::Cut)),
     (b"looks", Verb::Edit(EditVerb::Looks)),
@@ -76,11 +80,13 @@ const VERBS: [(&[u8], Verb); 27] = [
     (b"take", Verb::Long(LongVerb::Take)),
     (b"settle", Verb::Short(ShortVerb::Settle)),
     (b"merge", Verb::Long(LongVerb::Merge)),
-    (b"text", Verb::Queries(Query::Text)),
-    (b"front", Verb::Queries(Query::Front)),
-    (b"runs", Verb::Queries(Query::Runs)),
+    (b"text", Verb::Short(ShortVerb::Text)),
+    (b"front", Verb::Short(ShortVerb::Front)),
+    (b"runs", Verb::Short(ShortVerb::Runs)),
     (b"where", Verb::Long(LongVerb::Where)),
     (b"names", Verb::Long(LongVerb::Names)),
+    (b"since", Verb::Fronts(Side::Beyond)),
+    (b"past", Verb::Fronts(Side::UpTo)),
     (b"keep", Verb::Desk(DeskVerb::Keep)),
     (b"reopen", Verb::Desk(DeskVerb::Reopen)),
     (b"open", Verb::Arrange(ArrangeVerb::Open)),

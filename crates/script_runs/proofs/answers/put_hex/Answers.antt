@@ -1,4 +1,5 @@
-use Rattle.script_runs.proofs.Printing.{encode_lower-nil, hex_more, hex_stopped}
+use Rattle.desk_texts.proofs.HexDigits.{encode_lower-nil}
+use Rattle.script_runs.proofs.Printing.{hex_more, hex_stopped}
 use Rattle.std.proofs.Common.{◌≡◌, ℕ, List, [], ◌++◌, sym, subst, ap, ◌∙◌, append_assoc, rules}
 use Rattle.std.specs.Io.KnownBytes.{Appends}
 use Rattle.std.specs.Slice.Iter.{chunks_rest}

@@ -4,13 +4,13 @@ use Rattle.script_events.proofs.event.verbs.verb_among.Goals as goal
 
 pub returns-then-eq : goal.returns-then-eq
 returns-then-eq c =
-    found c.args.rows.now c.loop-spelled.spelled-index c.loop-spelled-item.result c.args.word.now c.eq.result _
-    c.loop-spelled-item.is c.eq.ensures c.if-eq.true (omega arith) c.loop-spelled.invariant
+    found c.args.rows.now c.loop-spelled.spelled-index _ c.args.word.now c.eq.result _ c.eq.ensures c.if-eq.true (omega arith)
+    c.loop-spelled.invariant
 
 pub loop-spelled-preserved : goal.loop-spelled-preserved
 loop-spelled-preserved c =
-    passed c.args.rows.now c.loop-spelled.spelled-index c.loop-spelled-item.result c.args.word.now c.eq.result _
-    c.loop-spelled-item.is c.eq.ensures c.if-eq.false (omega arith) c.loop-spelled.invariant
+    passed c.args.rows.now c.loop-spelled.spelled-index _ c.args.word.now c.eq.result _ c.eq.ensures c.if-eq.false (omega arith)
+    c.loop-spelled.invariant
 
 pub returns : goal.returns
 returns c =

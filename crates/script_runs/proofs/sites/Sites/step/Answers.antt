@@ -3,7 +3,7 @@ use Rattle.machine.specs.Events.{arrange, ask, click, copy, edit, keep, merge, m
 use Rattle.machine.specs.Events.{settles, take, take_reply}
 use Rattle.commands.specs.Steps.{print_reply, shelf_seen}
 use Rattle.script_events.specs.EventView.{delivery_of, edit_of}
-use Rattle.script_events.specs.Script.{plain_items}
+use Rattle.script_events.specs.Script.{plain_items, query_at}
 use Rattle.script_runs.specs.Replying.{reply_of}
 use Rattle.script_runs.specs.Seen.{SitesSeen}
 use Rattle.script_runs.proofs.Replying.{change_lines, change_step, other_step, stepped_over}
@@ -56,6 +56,14 @@ returns-in-Queries g c =
     let replied_so = replied_same s c.in-Queries.desk c.index.result.now at (λ i. query i c.in-Queries.text c.in-Queries.query) reply c.query.ensures.step in
     let asked = query c.in-Queries.desk c.in-Queries.text c.in-Queries.query in
     rw (c.in-Queries.is, ← c.self.view_is) (stepped_over (shelf_seen (g.S.Shelf.files c.args.shelf.now) (g.S.Shelf.faults c.args.shelf.now)) s s asked _ (other_step s s asked reply replied_so))
+
+pub returns-in-AsksAt : goal.returns-in-AsksAt
+returns-in-AsksAt g c =
+    let s = c.args.self.now in
+    let new = c.query_at.new.self in
+    let asked = query c.in-AsksAt.desk c.in-AsksAt.text (query_at c.in-AsksAt.side c.in-AsksAt.fronts) in
+    let reply = print_reply c.query_at.result (λ lines. lines.items) in
+    rw c.in-AsksAt.is (stepped_over (shelf_seen (g.S.Shelf.files c.args.shelf.now) (g.S.Shelf.faults c.args.shelf.now)) s new asked _ (other_step s new asked reply c.query_at.ensures))
 
 pub returns-in-Keeps : goal.returns-in-Keeps
 returns-in-Keeps g c =

@@ -1,0 +1,21 @@
+-- What a text has taken in beyond some fronts, and how it is printed.
+use Rattle.std.specs.Prelude.{ℕ, List, ◌++◌, codes}
+use Rattle.std.specs.List.{flat_map}
+use Rattle.hex.specs.Hex.{encode_lower}
+use Rattle.operations.specs.Operation.{Operation}
+use Rattle.operations.specs.Spelling.{spelling}
+use Rattle.texts.specs.Fronts.{beyond}
+use Rattle.texts.specs.declared.front.Front.{Front}
+use Rattle.machine.specs.Printing.{line}
+
+-- the line of an operation's message: its bytes in hex
+abbrev pub message_line : Operation → List ℕ
+message_line op = line (codes "message " ++ encode_lower (spelling op))
+
+-- the lines of the messages of some operations
+abbrev pub message_lines : List Operation → List ℕ
+message_lines ops = flat_map message_line ops
+
+-- the answer to `since`: these lines of the operations beyond the fronts, in the order of their taking, then `ok`
+abbrev pub since_lines : List Front → List Operation → List ℕ
+since_lines fronts ops = message_lines (beyond fronts ops) ++ line (codes "ok")
