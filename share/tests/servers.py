@@ -44,7 +44,7 @@ class RedisServer:
 
     def connected(self) -> socket.socket:
         """A connection to the server, with nothing looked at."""
-        return socket.create_connection(("127.0.0.1", self.port), 5)
+        return socket.create_connection(("127.0.0.1", self.port), PATIENCE)
 
     def answers(self) -> bool:
         """Whether the server answers."""
