@@ -36,7 +36,7 @@ import json, os, pathlib, re, sys, time
 from share import link, opening
 from share.session import Session
 session = Session(opening.opened("note", None, link.read(os.environ["VIALSHOAL_LINK"])))
-end = time.monotonic() + 60
+end = time.monotonic() + 120
 told = []
 while time.monotonic() < end and not (session.text() == b"one two " and (told or sys.argv[1] == "quiet")):
     session.arrived()
@@ -244,7 +244,7 @@ class Operators(Shared):
     def joined(self, *words: str) -> tuple[str, int, list[str]]:
         """What a process of its own shows that joins the note, its memory in KB, and what it told."""
         run = subprocess.run([python(), "-B", "-c", JOINS, *words], cwd=TOP, capture_output=True, text=True, check=True,
-                             timeout=120, env={**os.environ, "VIALSHOAL_LINK": self.link,
+                             timeout=240, env={**os.environ, "VIALSHOAL_LINK": self.link,
                                                "VIALSHOAL_DATA": str(self.folder / "-".join(words))})
         text, memory, told = json.loads(run.stdout)
         return text, memory, told
