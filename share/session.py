@@ -398,7 +398,8 @@ class Session:
                 if who(one) == who(self._client):
                     self._client = stood
         if self._client.stood and is_network(self._about.url) and self._courier.has_read() and len(
-                [one for one in holdings.clients.values() if not one.retired]) < self._courier.editors_here() + 1:
+                [one for one in holdings.clients.values() if not one.retired and who(one) not in holdings.newer]
+                ) < self._courier.editors_here() + 1:
             with suppress(Unkept):
                 self._claim(locks=False)
 
