@@ -11,7 +11,7 @@ with_folder('a macro lets others\' text in', function(open, folder)
   ada:run([[
     -- A macro that only CTRL-C ends.
     vim.fn.setreg('a', 'ggix\27@a')
-    -- Whether others' text was seen between two of its keys, which take a while, so that an engine on a busy machine keeps up.
+    -- Whether others' text was seen between two of its keys. They take a while, so that a busy engine keeps up.
     vim.on_key(function()
       came = came or vim.api.nvim_buf_get_lines(0, -2, -1, false)[1]:find('hello') ~= nil
       vim.loop.sleep(1)
@@ -21,7 +21,7 @@ with_folder('a macro lets others\' text in', function(open, folder)
   bo:type('Gihello<Esc>')
   support.wait(function() return ada:run('return came or false') end, 'others\' text')
   vim.rpcnotify(ada.job, 'nvim_input', '<C-c>')
-  -- Amid a macro questions are answered between its keys alone. One that Neovim guards would be told of CTRL-C instead of it.
+  -- Amid a macro questions are answered between its keys. One that Neovim guards would be told of CTRL-C instead.
   support.wait(function() return not ada:run('return v.note().takes_key or false') end, 'the macro to end')
   Child.meet({ ada, bo })
 end)

@@ -1,5 +1,5 @@
---- CTRL-C, by which a user ends a macro. While it is pending, each call that Neovim guards fails, though it has done its
---- work: where such calls belong together, what is known of them would be wrong.
+--- CTRL-C, by which a user ends a macro. While it is pending, each call that Neovim guards fails, though it has done
+--- its work: where such calls belong together, what is known of the text would be wrong.
 local M = {}
 
 --- Whether an error is that CTRL-C was pressed.
