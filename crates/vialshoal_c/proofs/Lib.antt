@@ -1,0 +1,3 @@
+mod Filling
+mod Places
+pub mod Values

@@ -1,0 +1,90 @@
+-- What the calls that ask answer.
+use Rattle.std.specs.Prelude.{◌≡◌, ◌↔◌, ℕ, List, [], length, map, slice_get, slice_range, nat_lt, nat_le}
+use Rattle.std.specs.Prelude.{MatchBool, IsTrue, MatchOption, ◌&&◌, ◌⊎◌, if◌then◌else◌}
+use Rattle.char_files.specs.CharName.{CharName}
+use Rattle.char_files.specs.declared.TheConstants.{MAX_FILE}
+use Rattle.char_files.specs.declared.character.Char.{Char}
+use Rattle.char_files.specs.declared.name.Anchor.TheVariants.{At}
+use Rattle.list_changes.specs.declared.change.Change.{Change}
+use Rattle.list_changes.specs.declared.change.ChangeKind.{ChangeKind}
+use Rattle.list_changes.specs.declared.change.ChangeKind.TheVariants.{Insert, Delete, Replace}
+use Rattle.set_laws.specs.Fronts.{front_of}
+use Rattle.taken_text.specs.Noted.{AreChangesSince}
+use Rattle.texts.specs.Edit.{anchor_before, is_range_in}
+use Rattle.texts.specs.Text.{IsAnchor}
+use Rattle.texts.specs.TextState.{TextState, all_told, shown_of}
+use Rattle.tree_order.specs.Shown.{IsPlace}
+use Rattle.vialshoal_c.specs.Outputs.{Puts, PutsNone}
+use Rattle.vialshoal_c.specs.SessionState.{SessionState}
+use Rattle.vialshoal_c.specs.declared.numbers.TheConstants.{IS_DELETE, IS_INSERT, IS_REPLACE, NO_MESSAGE, NO_NAME, NO_NUMBER}
+use Rattle.vialshoal_c.specs.declared.numbers.TheConstants.{OUT_OF_TEXT}
+use Rattle.vialshoal_c.specs.declared.outputs.CharName as c_name
+use Rattle.vialshoal_c.specs.declared.outputs.Place.{Place}
+use Rattle.vialshoal_c.specs.declared.outputs.TextChange.{TextChange}
+
+-- the bytes of some characters
+abbrev pub bytes_of : List Char → List ℕ
+bytes_of chars = map (λ c. c.byte) chars
+
+-- their names, as C sees them
+abbrev pub names_of : List Char → List c_name.CharName
+names_of chars = map (λ c. record { site = c.name.site; offset = c.name.off }) chars
+
+-- this of the characters shown from beg to end is put there, if they are in the text
+abbrev pub PutsShown : {X : Type 0} → (List Char → List X) → TextState → (beg end : ℕ) → (old : List X) → (number need : ℕ)
+    → (new : List X) → Type 0
+PutsShown of t beg end old number need new =
+    MatchBool (is_range_in t beg end) (Puts (of (slice_range (shown_of t) beg end)) old number need new)
+    (PutsNone OUT_OF_TEXT old number need new)
+
+-- the message at this index, of those that are kept, is put there, if there is one
+abbrev pub PutsMessage : List (List ℕ) → (index : ℕ) → (old : List ℕ) → (number need : ℕ) → (new : List ℕ) → Type 0
+PutsMessage sent index old number need new =
+    MatchOption (slice_get sent index) (PutsNone NO_MESSAGE old number need new) (λ message. Puts message old number need new)
+
+-- How many shown characters a named one is or has before it, and whether it is shown itself; or it isn't here, and
+-- nothing is written.
+abbrev pub Finds : TextState → CharName → (number : ℕ) → (old new : Place) → Type 0
+Finds t name number old new =
+    ((number ≡ 0) × IsAnchor t.operations (At name) × IsPlace t.operations (At name) new.pos
+    × (IsTrue new.is_shown ↔ (anchor_before (shown_of t) new.pos ≡ At name)))
+    ⊎ ((number ≡ NO_NAME) × (IsAnchor t.operations (At name) → ⊥) × (new ≡ old))
+
+-- the same of these numbers, if they are a name's
+abbrev pub FindsName : TextState → (site offset number : ℕ) → (old new : Place) → Type 0
+FindsName t site offset number old new =
+    MatchBool (nat_lt 0 site && nat_lt offset MAX_FILE) (Finds t (record { site = site; off = offset }) number old new)
+    ((number ≡ NO_NUMBER) × (new ≡ old))
+
+-- the front of this site, if the number is a site's
+abbrev pub TellsFront : TextState → (site number : ℕ) → (old new : ℕ) → Type 0
+TellsFront t site number old new =
+    MatchBool (nat_lt 0 site) ((number ≡ 0) × (new ≡ front_of t.operations site)) ((number ≡ NO_NUMBER) × (new ≡ old))
+
+-- the number of what a change does
+abbrev pub number_of_kind : ChangeKind → ℕ
+number_of_kind Insert = IS_INSERT
+number_of_kind Delete = IS_DELETE
+number_of_kind Replace = IS_REPLACE
+
+-- changes, as C sees them
+abbrev pub changes_of : List Change → List TextChange
+changes_of changes = map (λ c. record { kind = number_of_kind c.kind; beg = c.beg; end = c.end }) changes
+
+-- changes that are kept until they are put into a room that is long enough for all of them
+abbrev pub Hands : List Change → (old : List TextChange) → (number need : ℕ) → (new : List TextChange) → (kept : List Change)
+    → Type 0
+Hands changes old number need new kept =
+    Puts (changes_of changes) old number need new
+    × (kept ≡ (if nat_le (length changes) (length old) then [] else changes))
+
+-- The changes that were asked for before, and wouldn't go into a room; where there are none, what was taken in since
+-- they were last asked for changed of what is shown.
+abbrev pub TellsChanges : SessionState → (old : List TextChange) → (number need : ℕ) → (new : List TextChange)
+    → SessionState → Type 0
+TellsChanges s old number need new s' =
+    (s'.sent ≡ s.sent)
+    × MatchBool (nat_lt 0 (length s.told))
+    (Hands s.told old number need new s'.told × (s'.text ≡ s.text))
+    ((changes : List Change) × AreChangesSince s.text.asked s.text.operations changes (shown_of s.text)
+    × Hands changes old number need new s'.told × (s'.text ≡ all_told s.text))

@@ -1,0 +1,81 @@
+-- What the calls that make and edit a text answer and do.
+use Rattle.std.specs.Prelude.{◌≡◌, ℕ, ◌<◌, ◌≤◌, ◌⊎◌, List, map, length, nat_le, MatchBool, Option, Some, None, Result, Ok, Err}
+use Rattle.std.specs.Prelude.{nat_lt, ◌&&◌, ℤ, ⊤}
+use Rattle.looks.specs.FontName.{IsFontName}
+use Rattle.looks.specs.Looks.{plain_looks}
+use Rattle.looks.specs.Refusal.{number_of}
+use Rattle.looks.specs.Sel.{Selection, bits_of}
+use Rattle.looks.specs.declared.colour.TheConstants.{MAX_COLOUR}
+use Rattle.looks.specs.declared.looks.Looks.{Looks}
+use Rattle.looks.specs.declared.refusal.Refusal.TheVariants.{OutOfMemory}
+use Rattle.char_files.specs.declared.TheConstants.{MAX_FILE}
+use Rattle.texts.specs.Edit.{Edit, insertion, is_in_text, looks_change}
+use Rattle.texts.specs.Order.{with_selected}
+use Rattle.texts.specs.Outcome.{EditsSending}
+use Rattle.texts.specs.TextState.{empty_text}
+use Rattle.texts.specs.declared.edit_refusal.EditRefusal.{EditRefusal}
+use Rattle.texts.specs.declared.edit_refusal.EditRefusal.TheVariants.{Whole, Partial}
+use Rattle.vialshoal_c.specs.Opened.{IsMisused}
+use Rattle.vialshoal_c.specs.SessionState.{SessionState, session_of}
+use Rattle.vialshoal_c.specs.declared.numbers.TheConstants.{ALREADY_OPEN, NO_NUMBER, OUT_OF_TEXT, TOO_LONG}
+
+-- the text of this number begins, at the site of this number; or memory was refused
+abbrev pub BeginsText : (text site number : ℕ) → Option SessionState → Type 0
+BeginsText text site number new =
+    ((number ≡ 0) × (new ≡ Some (session_of (empty_text text site)))) ⊎ ((number ≡ number_of OutOfMemory) × (new ≡ None))
+
+-- An empty handle begins a text, if the numbers are those of one; one that is open stays so.
+abbrev pub Begins : Option SessionState → (text site number : ℕ) → Option SessionState → Type 0
+Begins (Some s) text site number new = (number ≡ ALREADY_OPEN) × (new ≡ Some s)
+Begins None text site number new =
+    MatchBool (nat_lt 0 text && nat_lt 0 site) (BeginsText text site number new) ((number ≡ NO_NUMBER) × (new ≡ None))
+
+-- the number that says what an edit answered
+abbrev pub number_of_edit : Result ℕ EditRefusal → ℕ
+number_of_edit (Ok sent) = 0
+number_of_edit (Err (Whole why)) = number_of why
+number_of_edit (Err (Partial done why)) = number_of why
+
+-- how many messages it sent, which is how many of its operations stand
+abbrev pub sent_by : Result ℕ EditRefusal → ℕ
+sent_by (Ok sent) = sent
+sent_by (Err (Whole why)) = 0
+sent_by (Err (Partial done why)) = done
+
+-- the text does this edit and answers it, and its messages come after those that are kept
+abbrev pub Edited : SessionState → Edit → (number sent : ℕ) → SessionState → Type 0
+Edited s e number sent new =
+    (answer : Result ℕ EditRefusal) × EditsSending s.text e answer new.text s.sent new.sent
+    × (number ≡ number_of_edit answer) × (sent ≡ sent_by answer) × (new.told ≡ s.told)
+
+-- the same where the edit's positions lie in the text; elsewhere nothing is done
+abbrev pub Edits : SessionState → Edit → (number sent : ℕ) → SessionState → Type 0
+Edits s e number sent new =
+    MatchBool (is_in_text s.text e) (Edited s e number sent new) (IsMisused OUT_OF_TEXT s number new × (sent ≡ 0))
+
+-- these bytes are put in, in these looks, if they aren't too many for any text
+abbrev pub Inserts : SessionState → (pos : ℕ) → (bytes : List ℕ) → Looks → (number sent : ℕ) → SessionState → Type 0
+Inserts s pos bytes looks number sent new =
+    MatchBool (nat_le (length bytes) MAX_FILE)
+    (Edits s (insertion pos (map (λ b. (b, looks)) bytes)) number sent new)
+    (IsMisused TOO_LONG s number new × (sent ≡ 0))
+
+-- the looks that are selected of these, and the default ones elsewhere
+abbrev pub asked_looks : Selection → (font : List ℕ) → (colour : ℕ) → (offset : ℤ) → Looks
+asked_looks sel font colour offset = with_selected sel (record { font = font; colour = colour; offset = offset }) plain_looks
+
+-- what is selected of these is looks
+abbrev pub AreLooks : Selection → (font : List ℕ) → (colour : ℕ) → Type 0
+AreLooks sel font colour = MatchBool sel.font (IsFontName font) ⊤ × MatchBool sel.colour (colour ≤ MAX_COLOUR) ⊤
+
+-- the bits select what isn't nothing, and what they select of these is looks
+abbrev pub AreLooksOf : (bits : ℕ) → (font : List ℕ) → (colour : ℕ) → Type 0
+AreLooksOf bits font colour = (sel : Selection) × (bits_of sel ≡ bits) × (0 < bits) × AreLooks sel font colour
+
+-- characters are given the looks of these that the bits select, if they select any, and these are looks
+abbrev pub Dresses : SessionState → (beg end bits : ℕ) → (font : List ℕ) → (colour : ℕ) → (offset : ℤ) → (number sent : ℕ)
+    → SessionState → Type 0
+Dresses s beg end bits font colour offset number sent new =
+    ((sel : Selection) × (bits_of sel ≡ bits) × (0 < bits) × AreLooks sel font colour
+    × Edits s (looks_change beg end sel (asked_looks sel font colour offset)) number sent new)
+    ⊎ ((AreLooksOf bits font colour → ⊥) × IsMisused NO_NUMBER s number new × (sent ≡ 0))

@@ -1,0 +1,7 @@
+pub mod Asking
+pub mod Editing
+pub mod Feeding
+pub mod Opened
+pub mod Outputs
+pub mod Owned
+pub mod SessionState

@@ -1,0 +1,432 @@
+//! What C calls. Each call takes the handle's session out, does one thing to it, and puts it back.
+
+ghost use Rattle.std.specs.Prelude.{◌≡◌, [], None, MatchOption, length, ⊤};
+ghost use Rattle.looks.specs.Looks.{plain_looks};
+ghost use Rattle.texts.specs.Edit.{deletion, recalling, restoration};
+ghost use Rattle.texts.specs.TextState.{shown_of};
+ghost use Rattle.vialshoal_c.specs.Asking.{FindsName, PutsMessage, PutsShown, TellsChanges, TellsFront, bytes_of};
+ghost use Rattle.vialshoal_c.specs.Asking.{names_of};
+ghost use Rattle.vialshoal_c.specs.Editing.{Begins, BeginsText, Dresses, Edits, Inserts};
+ghost use Rattle.vialshoal_c.specs.Feeding.{Forgets, MergesHandle, Settles, TakesIn};
+ghost use Rattle.vialshoal_c.specs.Opened.{OnOpen, Reads};
+
+use crate::handle::Handle;
+use crate::numbers::{ALREADY_OPEN, NO_NUMBER, NOT_OPEN};
+use crate::outputs::{CharName, Place, Settling, Taking, TextChange};
+use crate::session::Session;
+use char_files::{SiteNo, TextNo};
+use std::alloc::Global;
+
+// Begins a text in an empty handle.
+fn begin(alloc: Global, handle: &mut Handle, text: TextNo, site: SiteNo) -> u32
+    requires { handle.old.value ≡ None }
+    ensures { BeginsText text site result handle.new.value }
+{
+    match Session::begin(alloc, text, site) {
+        Ok(session) => {
+            handle.close(alloc, session);
+            0
+        }
+        Err(why) => u32::from(why.number()),
+    }
+}
+
+/// Begins a text in an empty handle.
+#[unsafe(no_mangle)]
+pub extern "C" fn vialshoal_new(alloc: Global, handle: &mut Handle, text: u16, site: u16) -> u32
+    ensures { Begins handle.old.value text site result handle.new.value }
+{
+    if let Some(session) = handle.open(alloc) {
+        handle.close(alloc, session);
+        return ALREADY_OPEN;
+    }
+    match (TextNo::new(text), SiteNo::new(site)) {
+        (Some(text), Some(site)) => begin(alloc, handle, text, site),
+        _ => NO_NUMBER,
+    }
+}
+
+/// Frees what a handle holds.
+#[unsafe(no_mangle)]
+pub extern "C" fn vialshoal_free(alloc: Global, handle: &mut Handle) -> u32
+    ensures answer { MatchOption handle.old.value (result ≡ NOT_OPEN) (λ _. result ≡ 0) }
+    ensures freed { handle.new.value ≡ None }
+{
+    match handle.open(alloc) {
+        Some(session) => {
+            drop(session);
+            0
+        }
+        None => NOT_OPEN,
+    }
+}
+
+/// Puts bytes in default looks after the first `pos` characters.
+#[unsafe(no_mangle)]
+pub extern "C" fn vialshoal_insert(
+    alloc: Global,
+    handle: &mut Handle,
+    pos: u64,
+    bytes: &[u8],
+    sent: &mut u32,
+) -> u32
+    ensures { OnOpen handle.old.value handle.new.value result (sent.new ≡ 0)
+        (λ s new. Inserts s pos bytes.now plain_looks result sent.new new) }
+{
+    *sent = 0;
+    let Some(mut session) = handle.open(alloc) else {
+        return NOT_OPEN;
+    };
+    let edited = session.insert(pos, bytes);
+    handle.close(alloc, session);
+    *sent = edited.sent;
+    edited.number
+}
+
+/// Takes the characters from `beg` to `end` out of what is shown.
+#[unsafe(no_mangle)]
+pub extern "C" fn vialshoal_delete(
+    alloc: Global,
+    handle: &mut Handle,
+    beg: u64,
+    end: u64,
+    sent: &mut u32,
+) -> u32
+    ensures { OnOpen handle.old.value handle.new.value result (sent.new ≡ 0)
+        (λ s new. Edits s (deletion beg end) result sent.new new) }
+{
+    *sent = 0;
+    let Some(mut session) = handle.open(alloc) else {
+        return NOT_OPEN;
+    };
+    let edited = session.delete(beg, end);
+    handle.close(alloc, session);
+    *sent = edited.sent;
+    edited.number
+}
+
+/// Gives the characters from `beg` to `end` the looks that the bits select.
+#[unsafe(no_mangle)]
+pub extern "C" fn vialshoal_change_looks(
+    alloc: Global,
+    handle: &mut Handle,
+    beg: u64,
+    end: u64,
+    bits: u8,
+    font: &[u8],
+    colour: u8,
+    offset: i8,
+    sent: &mut u32,
+) -> u32
+    ensures { OnOpen handle.old.value handle.new.value result (sent.new ≡ 0)
+        (λ s new. Dresses s beg end bits font.now colour offset result sent.new new) }
+{
+    *sent = 0;
+    let Some(mut session) = handle.open(alloc) else {
+        return NOT_OPEN;
+    };
+    let edited = session.change_looks(beg, end, bits, font, colour, offset);
+    handle.close(alloc, session);
+    *sent = edited.sent;
+    edited.number
+}
+
+/// Shows again what was deleted last.
+#[unsafe(no_mangle)]
+pub extern "C" fn vialshoal_restore(alloc: Global, handle: &mut Handle, sent: &mut u32) -> u32
+    ensures { OnOpen handle.old.value handle.new.value result (sent.new ≡ 0)
+        (λ s new. Edits s restoration result sent.new new) }
+{
+    *sent = 0;
+    let Some(mut session) = handle.open(alloc) else {
+        return NOT_OPEN;
+    };
+    let edited = session.restore();
+    handle.close(alloc, session);
+    *sent = edited.sent;
+    edited.number
+}
+
+/// Puts a copy of what was deleted last after the first `pos` characters.
+#[unsafe(no_mangle)]
+pub extern "C" fn vialshoal_recall(
+    alloc: Global,
+    handle: &mut Handle,
+    pos: u64,
+    sent: &mut u32,
+) -> u32
+    ensures { OnOpen handle.old.value handle.new.value result (sent.new ≡ 0)
+        (λ s new. Edits s (recalling pos) result sent.new new) }
+{
+    *sent = 0;
+    let Some(mut session) = handle.open(alloc) else {
+        return NOT_OPEN;
+    };
+    let edited = session.recall(pos);
+    handle.close(alloc, session);
+    *sent = edited.sent;
+    edited.number
+}
+
+/// Takes in a message of any site, or lets it wait.
+#[unsafe(no_mangle)]
+pub extern "C" fn vialshoal_take(
+    alloc: Global,
+    handle: &mut Handle,
+    message: &[u8],
+    taking: &mut Taking,
+) -> u32
+    ensures { OnOpen handle.old.value handle.new.value result (taking.new ≡ taking.old)
+        (λ s new. TakesIn s message.now result taking.new new) }
+{
+    let Some(mut session) = handle.open(alloc) else {
+        return NOT_OPEN;
+    };
+    let answer = session.take(message);
+    handle.close(alloc, session);
+    *taking = answer.taking;
+    answer.number
+}
+
+/// Takes in what waits, as far as it is ready.
+#[unsafe(no_mangle)]
+pub extern "C" fn vialshoal_settle(
+    alloc: Global,
+    handle: &mut Handle,
+    settling: &mut Settling,
+) -> u32
+    ensures { OnOpen handle.old.value handle.new.value result (settling.new ≡ settling.old)
+        (λ s new. Settles s result settling.new.drained settling.new.dropped settling.new.stopped new) }
+{
+    let Some(mut session) = handle.open(alloc) else {
+        return NOT_OPEN;
+    };
+    *settling = session.settle();
+    handle.close(alloc, session);
+    0
+}
+
+/// Forgets what waits.
+#[unsafe(no_mangle)]
+pub extern "C" fn vialshoal_forget(alloc: Global, handle: &mut Handle, count: &mut u32) -> u32
+    ensures { OnOpen handle.old.value handle.new.value result (count.new ≡ count.old)
+        (λ s new. Forgets s result count.new new) }
+{
+    let Some(mut session) = handle.open(alloc) else {
+        return NOT_OPEN;
+    };
+    *count = session.forget();
+    handle.close(alloc, session);
+    0
+}
+
+/// Takes in what another handle's text holds.
+#[unsafe(no_mangle)]
+pub extern "C" fn vialshoal_merge(
+    alloc: Global,
+    handle: &mut Handle,
+    other: &mut Handle,
+    taken: &mut u64,
+) -> u32
+    ensures merges { OnOpen handle.old.value handle.new.value result (taken.new ≡ 0)
+        (λ s new. MergesHandle other.old.value s result taken.new new) }
+    ensures other { other.new.value ≡ other.old.value }
+{
+    *taken = 0;
+    let Some(mut session) = handle.open(alloc) else {
+        return NOT_OPEN;
+    };
+    let Some(source) = other.open(alloc) else {
+        handle.close(alloc, session);
+        return NOT_OPEN;
+    };
+    let merged = session.merge(&source);
+    handle.close(alloc, session);
+    other.close(alloc, source);
+    *taken = merged.taken;
+    merged.number
+}
+
+/// How many characters are shown.
+#[unsafe(no_mangle)]
+pub extern "C" fn vialshoal_length(alloc: Global, handle: &mut Handle, len: &mut u64) -> u32
+    ensures { Reads handle.old.value handle.new.value result (len.new ≡ len.old)
+        (λ s. (result ≡ 0) × (len.new ≡ length (shown_of s.text))) }
+{
+    let Some(session) = handle.open(alloc) else {
+        return NOT_OPEN;
+    };
+    *len = session.replica.shown_len();
+    handle.close(alloc, session);
+    0
+}
+
+/// How many messages wait for a cause.
+#[unsafe(no_mangle)]
+pub extern "C" fn vialshoal_waiting(alloc: Global, handle: &mut Handle, count: &mut u32) -> u32
+    ensures { Reads handle.old.value handle.new.value result (count.new ≡ count.old)
+        (λ s. (result ≡ 0) × (count.new ≡ length s.text.waiting_room)) }
+{
+    let Some(session) = handle.open(alloc) else {
+        return NOT_OPEN;
+    };
+    *count = session.replica.waiting();
+    handle.close(alloc, session);
+    0
+}
+
+/// The bytes shown from `beg` to `end`.
+#[unsafe(no_mangle)]
+pub extern "C" fn vialshoal_bytes(
+    alloc: Global,
+    handle: &mut Handle,
+    beg: u64,
+    end: u64,
+    room: &mut [u8],
+    need: &mut u64,
+) -> u32
+    ensures { Reads handle.old.value handle.new.value result ((need.new ≡ 0) × (room.new ≡ room.old))
+        (λ s. PutsShown bytes_of s.text beg end room.old result need.new room.new) }
+{
+    *need = 0;
+    let Some(session) = handle.open(alloc) else {
+        return NOT_OPEN;
+    };
+    let put = session.bytes(beg, end, room);
+    handle.close(alloc, session);
+    *need = put.need;
+    put.number
+}
+
+/// The names of the characters shown from `beg` to `end`.
+#[unsafe(no_mangle)]
+pub extern "C" fn vialshoal_names(
+    alloc: Global,
+    handle: &mut Handle,
+    beg: u64,
+    end: u64,
+    room: &mut [CharName],
+    need: &mut u64,
+) -> u32
+    ensures { Reads handle.old.value handle.new.value result ((need.new ≡ 0) × (room.new ≡ room.old))
+        (λ s. PutsShown names_of s.text beg end room.old result need.new room.new) }
+{
+    *need = 0;
+    let Some(session) = handle.open(alloc) else {
+        return NOT_OPEN;
+    };
+    let put = session.names(beg, end, room);
+    handle.close(alloc, session);
+    *need = put.need;
+    put.number
+}
+
+/// Where the character of this site and this offset is.
+#[unsafe(no_mangle)]
+pub extern "C" fn vialshoal_find(
+    alloc: Global,
+    handle: &mut Handle,
+    site: u16,
+    offset: u32,
+    place: &mut Place,
+) -> u32
+    ensures { Reads handle.old.value handle.new.value result (place.new ≡ place.old)
+        (λ s. FindsName s.text site offset result place.old place.new) }
+{
+    let Some(session) = handle.open(alloc) else {
+        return NOT_OPEN;
+    };
+    let number = session.place(site, offset, place);
+    handle.close(alloc, session);
+    number
+}
+
+/// The front of a site: the greatest number of its operations that was taken in, 0 for none.
+#[unsafe(no_mangle)]
+pub extern "C" fn vialshoal_front(
+    alloc: Global,
+    handle: &mut Handle,
+    site: u16,
+    front: &mut u32,
+) -> u32
+    ensures { Reads handle.old.value handle.new.value result (front.new ≡ front.old)
+        (λ s. TellsFront s.text site result front.old front.new) }
+{
+    let Some(session) = handle.open(alloc) else {
+        return NOT_OPEN;
+    };
+    let number = session.front(site, front);
+    handle.close(alloc, session);
+    number
+}
+
+/// How many messages are kept, of those that edits sent.
+#[unsafe(no_mangle)]
+pub extern "C" fn vialshoal_messages(alloc: Global, handle: &mut Handle, count: &mut u64) -> u32
+    ensures { Reads handle.old.value handle.new.value result (count.new ≡ count.old)
+        (λ s. (result ≡ 0) × (count.new ≡ length s.sent)) }
+{
+    let Some(session) = handle.open(alloc) else {
+        return NOT_OPEN;
+    };
+    *count = session.outbox.len() as u64;
+    handle.close(alloc, session);
+    0
+}
+
+/// The bytes of a message that is kept.
+#[unsafe(no_mangle)]
+pub extern "C" fn vialshoal_message(
+    alloc: Global,
+    handle: &mut Handle,
+    index: u64,
+    room: &mut [u8],
+    need: &mut u64,
+) -> u32
+    ensures { Reads handle.old.value handle.new.value result ((need.new ≡ 0) × (room.new ≡ room.old))
+        (λ s. PutsMessage s.sent index room.old result need.new room.new) }
+{
+    *need = 0;
+    let Some(session) = handle.open(alloc) else {
+        return NOT_OPEN;
+    };
+    let put = session.message(index, room);
+    handle.close(alloc, session);
+    *need = put.need;
+    put.number
+}
+
+/// Lets all messages go that are kept.
+#[unsafe(no_mangle)]
+pub extern "C" fn vialshoal_let_go(alloc: Global, handle: &mut Handle) -> u32
+    ensures { OnOpen handle.old.value handle.new.value result ⊤
+        (λ s new. (result ≡ 0) × (new ≡ record s { sent = [] })) }
+{
+    let Some(mut session) = handle.open(alloc) else {
+        return NOT_OPEN;
+    };
+    session.let_go();
+    handle.close(alloc, session);
+    0
+}
+
+/// What changed of what is shown since the changes were asked for.
+#[unsafe(no_mangle)]
+pub extern "C" fn vialshoal_changes(
+    alloc: Global,
+    handle: &mut Handle,
+    room: &mut [TextChange],
+    need: &mut u64,
+) -> u32
+    ensures { OnOpen handle.old.value handle.new.value result ((need.new ≡ 0) × (room.new ≡ room.old))
+        (λ s new. TellsChanges s room.old result need.new room.new new) }
+{
+    *need = 0;
+    let Some(mut session) = handle.open(alloc) else {
+        return NOT_OPEN;
+    };
+    let put = session.changes(room);
+    handle.close(alloc, session);
+    *need = put.need;
+    put.number
+}

@@ -1,0 +1,12 @@
+//! Texts for C: a handle holds a site's replica of a text, and each call does to it what a replica's call does.
+#![tactic(auto)]
+
+mod asking;
+mod editing;
+mod exports;
+mod feeding;
+mod handle;
+mod loose;
+mod numbers;
+mod outputs;
+mod session;
