@@ -1,3 +1,4 @@
 mod Filling
 mod Places
+mod Runs
 pub mod Values

@@ -1,5 +1,5 @@
 -- What the calls that ask answer.
-use Rattle.std.specs.Prelude.{◌≡◌, ◌↔◌, ℕ, List, [], length, map, slice_get, slice_range, nat_lt, nat_le}
+use Rattle.std.specs.Prelude.{◌≡◌, ◌≢◌, ◌↔◌, ◌<◌, ◌≤◌, IfSome, ℕ, List, [], length, map, slice_get, slice_range, nat_lt, nat_le}
 use Rattle.std.specs.Prelude.{MatchBool, IsTrue, MatchOption, ◌&&◌, ◌⊎◌, if◌then◌else◌}
 use Rattle.char_files.specs.CharName.{CharName}
 use Rattle.char_files.specs.declared.TheConstants.{MAX_FILE}
@@ -8,6 +8,7 @@ use Rattle.char_files.specs.declared.name.Anchor.TheVariants.{At}
 use Rattle.list_changes.specs.declared.change.Change.{Change}
 use Rattle.list_changes.specs.declared.change.ChangeKind.{ChangeKind}
 use Rattle.list_changes.specs.declared.change.ChangeKind.TheVariants.{Insert, Delete, Replace}
+use Rattle.looks.specs.declared.looks.Looks.{Looks}
 use Rattle.set_laws.specs.Fronts.{front_of}
 use Rattle.taken_text.specs.Noted.{AreChangesSince}
 use Rattle.texts.specs.Edit.{anchor_before, is_range_in}
@@ -19,6 +20,7 @@ use Rattle.vialshoal_c.specs.SessionState.{SessionState}
 use Rattle.vialshoal_c.specs.declared.numbers.TheConstants.{IS_DELETE, IS_INSERT, IS_REPLACE, NO_MESSAGE, NO_NAME, NO_NUMBER}
 use Rattle.vialshoal_c.specs.declared.numbers.TheConstants.{OUT_OF_TEXT}
 use Rattle.vialshoal_c.specs.declared.outputs.CharName as c_name
+use Rattle.vialshoal_c.specs.declared.outputs.LooksRun.{LooksRun}
 use Rattle.vialshoal_c.specs.declared.outputs.Place.{Place}
 use Rattle.vialshoal_c.specs.declared.outputs.TextChange.{TextChange}
 
@@ -41,6 +43,23 @@ PutsShown of t beg end old number need new =
 abbrev pub PutsMessage : List (List ℕ) → (index : ℕ) → (old : List ℕ) → (number need : ℕ) → (new : List ℕ) → Type 0
 PutsMessage sent index old number need new =
     MatchOption (slice_get sent index) (PutsNone NO_MESSAGE old number need new) (λ message. Puts message old number need new)
+
+-- the characters from one position up to another have these looks, and no more after them
+pub record IsRun (shown : List Char) (pos end : ℕ) (looks : Looks) : Type 0 where
+  pub begins : pos < end
+  pub ends : end ≤ length shown
+  pub same : (k : ℕ) → pos ≤ k → k < end → IfSome (slice_get shown k) (λ c. c.looks ≡ looks)
+  pub longest : end < length shown → IfSome (slice_get shown end) (λ c. c.looks ≢ looks)
+
+-- The looks of the characters from this position on that look alike are written, and the font's name is put into a room, if
+-- that is long enough.
+abbrev pub TellsRun : TextState → (pos : ℕ) → (before run : LooksRun) → (old : List ℕ) → (number need : ℕ) → (new : List ℕ)
+    → Type 0
+TellsRun t pos before run old number need new =
+    MatchBool (nat_lt pos (length (shown_of t)))
+    ((looks : Looks) × IsRun (shown_of t) pos run.end looks × (run.colour ≡ looks.colour) × (run.offset ≡ looks.offset)
+    × Puts looks.font old number need new)
+    (PutsNone OUT_OF_TEXT old number need new × (run ≡ before))
 
 -- How many shown characters a named one is or has before it, and whether it is shown itself; or it isn't here, and
 -- nothing is written.

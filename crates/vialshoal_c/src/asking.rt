@@ -1,20 +1,20 @@
 //! What a session is asked.
 
-ghost use Rattle.std.specs.Prelude.{◌≡◌, ◌++◌, ◌≤◌, [], length, drop, map, slice_range, is_ok, IsTrue, ◌↔◌};
-ghost use Rattle.char_files.specs.declared.character.Char.{Char};
+ghost use Rattle.std.specs.Prelude.{◌≡◌, ◌++◌, ◌<◌, ◌≤◌, ◌↔◌, [], length, drop, slice_get, IfSome, IsTrue};
 ghost use Rattle.texts.specs.TextState.{shown_of};
 ghost use Rattle.vialshoal_c.specs.Asking.{Finds, FindsName, PutsMessage, PutsShown, TellsChanges, TellsFront, bytes_of};
-ghost use Rattle.vialshoal_c.specs.Asking.{Hands, changes_of, names_of, number_of_kind};
+ghost use Rattle.vialshoal_c.specs.Asking.{Hands, IsRun, TellsRun, changes_of, names_of, number_of_kind};
 ghost use Rattle.vialshoal_c.specs.Outputs.{Puts, PutsNone};
 
 use crate::numbers::{
     IS_DELETE, IS_INSERT, IS_REPLACE, NO_MESSAGE, NO_NAME, NO_NUMBER, OUT_OF_TEXT, TOO_SHORT,
 };
-use crate::outputs::{CharName, Place, TextChange};
+use crate::outputs::{CharName, LooksRun, Place, TextChange};
 use crate::session::Session;
 use char_files::{Anchor, Name, SiteNo};
 use list_changes::{Change, ChangeKind};
-use texts::Shown;
+use looks::Looks;
+use texts::{Replica, Shown};
 
 /// What putting something into a room answered: a number, and how much there was to put.
 #[derive(Clone, Copy)]
@@ -102,6 +102,30 @@ fn fill_with_changes(changes: &[Change], room: &mut [TextChange])
     }
 }
 
+// Whether two looks are the same.
+fn are_same(looks: &Looks, other: &Looks) -> bool
+    ensures { IsTrue result ↔ (looks.now ≡ other.now) }
+{
+    looks == other
+}
+
+// Where characters of other looks begin after a position at which these looks are.
+fn end_of_run(replica: &Replica, pos: u64, looks: &Looks) -> u64
+    requires in_text { pos < length (shown_of replica.now) }
+    requires here { IfSome (slice_get (shown_of replica.now) pos) (λ c. c.looks ≡ looks.now) }
+    ensures { IsRun (shown_of replica.now) pos result looks.now }
+{
+    let len = replica.shown_len();
+    let mut end = pos + 1;
+    for char in replica.shown_between(pos + 1, len) {
+        if !are_same(&char.looks, looks) {
+            return end;
+        }
+        end += 1;
+    }
+    end
+}
+
 // Whether an anchor is this character.
 fn is_at(anchor: Anchor, name: Name) -> bool
     ensures { IsTrue result ↔ (anchor ≡ Anchor.At name) }
@@ -159,6 +183,22 @@ impl Session {
             return Put::none(NO_MESSAGE);
         }
         put_bytes(self.outbox.message(index as usize), room)
+    }
+
+    /// Writes what the character at a position looks like, and where characters of other looks begin.
+    pub(crate) fn run(&self, pos: u64, run: &mut LooksRun, font: &mut [u8]) -> Put
+        ensures { TellsRun self.now.text pos run.old run.new font.old result.number result.need font.new }
+    {
+        if self.replica.shown_len() <= pos {
+            return Put::none(OUT_OF_TEXT);
+        }
+        let (_, looks) = self.replica.attributes(pos);
+        *run = LooksRun {
+            end: end_of_run(&self.replica, pos, &looks),
+            colour: looks.colour.number(),
+            offset: looks.offset,
+        };
+        put_bytes(looks.font.as_bytes(), font)
     }
 
     // Puts the changes that are kept into a room, and keeps them no longer if it is long enough.

@@ -5,14 +5,14 @@ ghost use Rattle.looks.specs.Looks.{plain_looks};
 ghost use Rattle.texts.specs.Edit.{deletion, recalling, restoration};
 ghost use Rattle.texts.specs.TextState.{shown_of};
 ghost use Rattle.vialshoal_c.specs.Asking.{FindsName, PutsMessage, PutsShown, TellsChanges, TellsFront, bytes_of};
-ghost use Rattle.vialshoal_c.specs.Asking.{names_of};
+ghost use Rattle.vialshoal_c.specs.Asking.{TellsRun, names_of};
 ghost use Rattle.vialshoal_c.specs.Editing.{Begins, BeginsText, Dresses, Edits, Inserts};
 ghost use Rattle.vialshoal_c.specs.Feeding.{Forgets, MergesHandle, Settles, TakesIn};
 ghost use Rattle.vialshoal_c.specs.Opened.{OnOpen, Reads};
 
 use crate::handle::Handle;
 use crate::numbers::{ALREADY_OPEN, NO_NUMBER, NOT_OPEN};
-use crate::outputs::{CharName, Place, Settling, Taking, TextChange};
+use crate::outputs::{CharName, LooksRun, Place, Settling, Taking, TextChange};
 use crate::session::Session;
 use char_files::{SiteNo, TextNo};
 use std::alloc::Global;
@@ -293,6 +293,30 @@ pub extern "C" fn vialshoal_bytes(
         return NOT_OPEN;
     };
     let put = session.bytes(beg, end, room);
+    handle.close(alloc, session);
+    *need = put.need;
+    put.number
+}
+
+/// What the character at a position looks like, and where characters of other looks begin.
+#[unsafe(no_mangle)]
+pub extern "C" fn vialshoal_looks(
+    alloc: Global,
+    handle: &mut Handle,
+    pos: u64,
+    run: &mut LooksRun,
+    font: &mut [u8],
+    need: &mut u64,
+) -> u32
+    ensures { Reads handle.old.value handle.new.value result
+        ((need.new ≡ 0) × (run.new ≡ run.old) × (font.new ≡ font.old))
+        (λ s. TellsRun s.text pos run.old run.new font.old result need.new font.new) }
+{
+    *need = 0;
+    let Some(session) = handle.open(alloc) else {
+        return NOT_OPEN;
+    };
+    let put = session.run(pos, run, font);
     handle.close(alloc, session);
     *need = put.need;
     put.number

@@ -57,3 +57,15 @@ pub struct TextChange {
     /// One past the stretch's last position.
     pub end: u64,
 }
+
+/// Characters of equal looks, but for the font's name.
+#[repr(C)]
+#[derive(Clone, Copy, Debug, PartialEq, Eq)]
+pub struct LooksRun {
+    /// One past the last of them.
+    pub end: u64,
+    /// The colour's number, 0 to 15.
+    pub colour: u8,
+    /// The vertical offset from the base line.
+    pub offset: i8,
+}
