@@ -1,0 +1,357 @@
+/* The C library's calls for Node. index.js makes of them what its users see, and checks what it hands over. */
+#include <node_api.h>
+#include <stdlib.h>
+#include <string.h>
+
+#include "vialshoal.h"
+
+#define MOST 8
+/* No message is longer. */
+#define MESSAGE 10297
+
+#define TRY(call)                                                          \
+    do {                                                                   \
+        if ((call) != napi_ok) {                                           \
+            napi_throw_error(env, NULL, "vialshoal: an argument is none"); \
+            return NULL;                                                   \
+        }                                                                  \
+    } while (0)
+
+typedef struct {
+    napi_value at[MOST];
+    vialshoal_text *text;
+} arguments;
+
+static void let_go(napi_env env, void *data, void *hint) {
+    (void)env;
+    (void)hint;
+    vialshoal_free(data);
+    free(data);
+}
+
+/* The arguments of a call, the first of which is a text. */
+static bool taken(napi_env env, napi_callback_info info, size_t count, arguments *given) {
+    size_t found = MOST;
+    void *text;
+    if (napi_get_cb_info(env, info, &found, given->at, NULL, NULL) != napi_ok || found != count ||
+        napi_get_value_external(env, given->at[0], &text) != napi_ok) {
+        napi_throw_error(env, NULL, "vialshoal: a text was expected");
+        return false;
+    }
+    given->text = text;
+    return true;
+}
+
+static bool number_of(napi_env env, napi_value value, uint64_t *number) {
+    int64_t signed_one;
+    if (napi_get_value_int64(env, value, &signed_one) != napi_ok) return false;
+    *number = signed_one < 0 ? UINT64_MAX : (uint64_t)signed_one;
+    return true;
+}
+
+static bool bytes_of(napi_env env, napi_value value, const uint8_t **bytes, size_t *length) {
+    static const uint8_t none[1];
+    void *data;
+    napi_typedarray_type type;
+    if (napi_get_typedarray_info(env, value, &type, length, &data, NULL, NULL) != napi_ok || type != napi_uint8_array) {
+        return false;
+    }
+    *bytes = data == NULL ? none : data;
+    return true;
+}
+
+/* The numbers as an array: the first is the call's own. */
+static napi_value answer(napi_env env, size_t count, const double *numbers) {
+    napi_value list, number;
+    TRY(napi_create_array_with_length(env, count, &list));
+    for (size_t i = 0; i < count; i++) {
+        TRY(napi_create_double(env, numbers[i], &number));
+        TRY(napi_set_element(env, list, (uint32_t)i, number));
+    }
+    return list;
+}
+
+#define ANSWER(...)                                                    \
+    answer(env, sizeof((double[]){__VA_ARGS__}) / sizeof(double), (double[]){__VA_ARGS__})
+
+static napi_value open_text(napi_env env, napi_callback_info info) {
+    size_t found = 2;
+    napi_value at[2], made;
+    uint32_t text, site, number;
+    TRY(napi_get_cb_info(env, info, &found, at, NULL, NULL));
+    TRY(napi_get_value_uint32(env, at[0], &text));
+    TRY(napi_get_value_uint32(env, at[1], &site));
+    vialshoal_text *handle = calloc(1, sizeof *handle);
+    number = handle == NULL ? 7 : vialshoal_new(handle, (uint16_t)text, (uint16_t)site);
+    if (number != 0) {
+        free(handle);
+        return ANSWER(number);
+    }
+    TRY(napi_create_external(env, handle, let_go, NULL, &made));
+    return made;
+}
+
+static napi_value close_text(napi_env env, napi_callback_info info) {
+    arguments given;
+    if (!taken(env, info, 1, &given)) return NULL;
+    return ANSWER(vialshoal_free(given.text));
+}
+
+static napi_value insert(napi_env env, napi_callback_info info) {
+    arguments given;
+    uint64_t pos;
+    const uint8_t *bytes;
+    size_t length;
+    uint32_t sent;
+    if (!taken(env, info, 3, &given)) return NULL;
+    TRY(number_of(env, given.at[1], &pos) ? napi_ok : napi_invalid_arg);
+    TRY(bytes_of(env, given.at[2], &bytes, &length) ? napi_ok : napi_invalid_arg);
+    uint32_t number = vialshoal_insert(given.text, pos, bytes, length, &sent);
+    return ANSWER(number, sent);
+}
+
+static napi_value delete_range(napi_env env, napi_callback_info info) {
+    arguments given;
+    uint64_t beg, end;
+    uint32_t sent;
+    if (!taken(env, info, 3, &given)) return NULL;
+    TRY(number_of(env, given.at[1], &beg) ? napi_ok : napi_invalid_arg);
+    TRY(number_of(env, given.at[2], &end) ? napi_ok : napi_invalid_arg);
+    uint32_t number = vialshoal_delete(given.text, beg, end, &sent);
+    return ANSWER(number, sent);
+}
+
+static napi_value change_looks(napi_env env, napi_callback_info info) {
+    arguments given;
+    uint64_t beg, end, selected, colour;
+    int32_t offset;
+    const uint8_t *font;
+    size_t length;
+    uint32_t sent;
+    if (!taken(env, info, 7, &given)) return NULL;
+    TRY(number_of(env, given.at[1], &beg) ? napi_ok : napi_invalid_arg);
+    TRY(number_of(env, given.at[2], &end) ? napi_ok : napi_invalid_arg);
+    TRY(number_of(env, given.at[3], &selected) ? napi_ok : napi_invalid_arg);
+    TRY(bytes_of(env, given.at[4], &font, &length) ? napi_ok : napi_invalid_arg);
+    TRY(number_of(env, given.at[5], &colour) ? napi_ok : napi_invalid_arg);
+    TRY(napi_get_value_int32(env, given.at[6], &offset));
+    uint32_t number = vialshoal_change_looks(given.text, beg, end, (uint8_t)selected, font, length, (uint8_t)colour,
+                                             (int8_t)offset, &sent);
+    return ANSWER(number, sent);
+}
+
+static napi_value restore(napi_env env, napi_callback_info info) {
+    arguments given;
+    uint32_t sent;
+    if (!taken(env, info, 1, &given)) return NULL;
+    uint32_t number = vialshoal_restore(given.text, &sent);
+    return ANSWER(number, sent);
+}
+
+static napi_value recall(napi_env env, napi_callback_info info) {
+    arguments given;
+    uint64_t pos;
+    uint32_t sent;
+    if (!taken(env, info, 2, &given)) return NULL;
+    TRY(number_of(env, given.at[1], &pos) ? napi_ok : napi_invalid_arg);
+    uint32_t number = vialshoal_recall(given.text, pos, &sent);
+    return ANSWER(number, sent);
+}
+
+/* All messages that are kept, which are let go. */
+static napi_value messages(napi_env env, napi_callback_info info) {
+    arguments given;
+    napi_value list, message;
+    uint8_t room[MESSAGE];
+    uint64_t count, need;
+    if (!taken(env, info, 1, &given)) return NULL;
+    if (vialshoal_messages(given.text, &count) != 0) count = 0;
+    TRY(napi_create_array(env, &list));
+    for (uint64_t i = 0; i < count; i++) {
+        vialshoal_message(given.text, i, room, sizeof room, &need);
+        TRY(napi_create_buffer_copy(env, need, room, NULL, &message));
+        TRY(napi_set_element(env, list, (uint32_t)i, message));
+    }
+    vialshoal_let_go(given.text);
+    return list;
+}
+
+static napi_value take(napi_env env, napi_callback_info info) {
+    arguments given;
+    const uint8_t *bytes;
+    size_t length;
+    vialshoal_taking taking = {0};
+    if (!taken(env, info, 2, &given)) return NULL;
+    TRY(bytes_of(env, given.at[1], &bytes, &length) ? napi_ok : napi_invalid_arg);
+    uint32_t number = vialshoal_take(given.text, bytes, length, &taking);
+    return ANSWER(number, taking.kind, taking.drained, taking.dropped, taking.stopped);
+}
+
+static napi_value settle(napi_env env, napi_callback_info info) {
+    arguments given;
+    vialshoal_settling settling = {0};
+    if (!taken(env, info, 1, &given)) return NULL;
+    uint32_t number = vialshoal_settle(given.text, &settling);
+    return ANSWER(number, settling.drained, settling.dropped, settling.stopped);
+}
+
+static napi_value forget(napi_env env, napi_callback_info info) {
+    arguments given;
+    uint32_t count = 0;
+    if (!taken(env, info, 1, &given)) return NULL;
+    uint32_t number = vialshoal_forget(given.text, &count);
+    return ANSWER(number, count);
+}
+
+static napi_value merge(napi_env env, napi_callback_info info) {
+    arguments given;
+    void *other;
+    uint64_t count = 0;
+    if (!taken(env, info, 2, &given)) return NULL;
+    TRY(napi_get_value_external(env, given.at[1], &other));
+    uint32_t number = other == (void *)given.text ? 0 : vialshoal_merge(given.text, other, &count);
+    return ANSWER(number, (double)count);
+}
+
+static napi_value waiting(napi_env env, napi_callback_info info) {
+    arguments given;
+    uint32_t count = 0;
+    if (!taken(env, info, 1, &given)) return NULL;
+    uint32_t number = vialshoal_waiting(given.text, &count);
+    return ANSWER(number, count);
+}
+
+static napi_value front(napi_env env, napi_callback_info info) {
+    arguments given;
+    uint64_t site;
+    uint32_t found = 0;
+    if (!taken(env, info, 2, &given)) return NULL;
+    TRY(number_of(env, given.at[1], &site) ? napi_ok : napi_invalid_arg);
+    uint32_t number = vialshoal_front(given.text, (uint16_t)site, &found);
+    return ANSWER(number, found);
+}
+
+static napi_value length_of(napi_env env, napi_callback_info info) {
+    arguments given;
+    uint64_t length = 0;
+    if (!taken(env, info, 1, &given)) return NULL;
+    uint32_t number = vialshoal_length(given.text, &length);
+    return ANSWER(number, (double)length);
+}
+
+/* The bytes of a range, as a buffer; or the number that refuses it. */
+static napi_value bytes(napi_env env, napi_callback_info info) {
+    arguments given;
+    uint64_t beg, end, need;
+    uint8_t none[1];
+    napi_value buffer;
+    void *room;
+    if (!taken(env, info, 3, &given)) return NULL;
+    TRY(number_of(env, given.at[1], &beg) ? napi_ok : napi_invalid_arg);
+    TRY(number_of(env, given.at[2], &end) ? napi_ok : napi_invalid_arg);
+    uint32_t number = vialshoal_bytes(given.text, beg, end, none, 0, &need);
+    if (number != 0 && number != VIALSHOAL_TOO_SHORT) return ANSWER(number);
+    TRY(napi_create_buffer(env, need, &room, &buffer));
+    if (need > 0) vialshoal_bytes(given.text, beg, end, room, need, &need);
+    return buffer;
+}
+
+/* What the character at a position looks like: an end, a colour, an offset, and the bytes of the font's name. */
+static napi_value look(napi_env env, napi_callback_info info) {
+    arguments given;
+    uint64_t pos, need;
+    uint8_t font[31];
+    vialshoal_looks_run run = {0};
+    double numbers[4 + sizeof font];
+    if (!taken(env, info, 2, &given)) return NULL;
+    TRY(number_of(env, given.at[1], &pos) ? napi_ok : napi_invalid_arg);
+    uint32_t number = vialshoal_looks(given.text, pos, &run, font, sizeof font, &need);
+    if (number != 0) return ANSWER(number);
+    numbers[0] = 0;
+    numbers[1] = (double)run.end;
+    numbers[2] = run.colour;
+    numbers[3] = run.offset;
+    for (uint64_t i = 0; i < need; i++) numbers[4 + i] = font[i];
+    return answer(env, 4 + need, numbers);
+}
+
+/* Names as an array of a site and an offset each. */
+static napi_value names(napi_env env, napi_callback_info info) {
+    arguments given;
+    uint64_t beg, end, need;
+    vialshoal_name none;
+    if (!taken(env, info, 3, &given)) return NULL;
+    TRY(number_of(env, given.at[1], &beg) ? napi_ok : napi_invalid_arg);
+    TRY(number_of(env, given.at[2], &end) ? napi_ok : napi_invalid_arg);
+    uint32_t number = vialshoal_names(given.text, beg, end, &none, 0, &need);
+    if (number != 0 && number != VIALSHOAL_TOO_SHORT) return ANSWER(number);
+    vialshoal_name *room = malloc((need + 1) * sizeof *room);
+    double *numbers = malloc((2 * need + 1) * sizeof *numbers);
+    napi_value list = NULL;
+    if (room != NULL && numbers != NULL && vialshoal_names(given.text, beg, end, room, need, &need) == 0) {
+        numbers[0] = 0;
+        for (uint64_t i = 0; i < need; i++) {
+            numbers[2 * i + 1] = room[i].site;
+            numbers[2 * i + 2] = room[i].offset;
+        }
+        list = answer(env, 2 * need + 1, numbers);
+    }
+    free(room);
+    free(numbers);
+    return list == NULL ? ANSWER(7) : list;
+}
+
+static napi_value find(napi_env env, napi_callback_info info) {
+    arguments given;
+    uint64_t site, offset;
+    vialshoal_place place = {0};
+    if (!taken(env, info, 3, &given)) return NULL;
+    TRY(number_of(env, given.at[1], &site) ? napi_ok : napi_invalid_arg);
+    TRY(number_of(env, given.at[2], &offset) ? napi_ok : napi_invalid_arg);
+    uint32_t number = vialshoal_find(given.text, (uint16_t)site, (uint32_t)offset, &place);
+    return ANSWER(number, (double)place.pos, place.is_shown);
+}
+
+/* Changes as an array of a kind, a begin and an end each. */
+static napi_value changes(napi_env env, napi_callback_info info) {
+    arguments given;
+    uint64_t need;
+    vialshoal_change none;
+    if (!taken(env, info, 1, &given)) return NULL;
+    uint32_t number = vialshoal_changes(given.text, &none, 0, &need);
+    if (number != VIALSHOAL_TOO_SHORT) return ANSWER(number);
+    vialshoal_change *room = malloc(need * sizeof *room);
+    double *numbers = malloc((3 * need + 1) * sizeof *numbers);
+    napi_value list = NULL;
+    if (room != NULL && numbers != NULL && vialshoal_changes(given.text, room, need, &need) == 0) {
+        numbers[0] = 0;
+        for (uint64_t i = 0; i < need; i++) {
+            numbers[3 * i + 1] = room[i].kind;
+            numbers[3 * i + 2] = (double)room[i].beg;
+            numbers[3 * i + 3] = (double)room[i].end;
+        }
+        list = answer(env, 3 * need + 1, numbers);
+    }
+    free(room);
+    free(numbers);
+    return list == NULL ? ANSWER(7) : list;
+}
+
+NAPI_MODULE_INIT() {
+    static const struct {
+        const char *name;
+        napi_callback call;
+    } calls[] = {
+        {"open", open_text},  {"close", close_text}, {"insert", insert},       {"delete", delete_range},
+        {"looks", change_looks}, {"restore", restore}, {"recall", recall},     {"messages", messages},
+        {"take", take},       {"settle", settle},    {"forget", forget},       {"merge", merge},
+        {"waiting", waiting}, {"front", front},      {"length", length_of},    {"bytes", bytes},
+        {"look", look},       {"names", names},     {"find", find},        {"changes", changes},
+    };
+    for (size_t i = 0; i < sizeof calls / sizeof calls[0]; i++) {
+        napi_value made;
+        TRY(napi_create_function(env, calls[i].name, NAPI_AUTO_LENGTH, calls[i].call, NULL, &made));
+        TRY(napi_set_named_property(env, exports, calls[i].name, made));
+    }
+    return exports;
+}

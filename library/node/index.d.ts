@@ -1,0 +1,88 @@
+/** Texts that sites edit and merge. Positions count bytes. */
+
+/** A text refused what it was asked: `number` says why (docs/FORMATS.md, "Refusals"; from 101 on it was misuse), and
+ * `messages` are those of the part of an edit that stands; mostly nothing does. */
+export class Refused extends Error {
+    readonly number: number;
+    readonly messages: Buffer[];
+}
+
+/** What became of a message, and of those that waited for it. */
+export interface Taking {
+    kind: 'taken' | 'repeat' | 'waits';
+    drained: number;
+    dropped: number;
+    stopped: boolean;
+}
+
+/** How many messages that waited were taken in, and how many thrown away. */
+export interface Settling {
+    drained: number;
+    dropped: number;
+    stopped: boolean;
+}
+
+/** The lasting name of a character. */
+export interface Name {
+    site: number;
+    offset: number;
+}
+
+/** How many shown characters are this one or stand before it, and whether it is shown itself. */
+export interface Place {
+    pos: number;
+    isShown: boolean;
+}
+
+/** A change of what is shown. The range is that of the text after an insertion, else of the text before. */
+export interface Change {
+    kind: 'insert' | 'delete' | 'replace';
+    beg: number;
+    end: number;
+}
+
+/** A range of characters that look alike, as far as it goes. */
+export interface Run {
+    beg: number;
+    end: number;
+    font: string;
+    colour: number;
+    offset: number;
+}
+
+export interface Looks {
+    font?: string;
+    colour?: number;
+    offset?: number;
+}
+
+/** A site's replica of a text. Edits answer the messages that they made, which other sites' texts take. */
+export class Text {
+    constructor(text: number, site: number);
+    /** Frees the text; all other calls are refused after it. */
+    close(): void;
+    insert(pos: number, data: Uint8Array | string): Buffer[];
+    delete(beg: number, end: number): Buffer[];
+    changeLooks(beg: number, end: number, looks: Looks): Buffer[];
+    /** Shows again what this site deleted last. */
+    restore(): Buffer[];
+    /** Puts a copy of what this site deleted last after the first `pos` bytes. */
+    recall(pos: number): Buffer[];
+    take(message: Uint8Array): Taking;
+    settle(): Settling;
+    /** Throws away what waits, and answers how many messages it was. */
+    forget(): number;
+    /** Takes in all that another text holds, and answers how many of its operations were new. */
+    merge(other: Text): number;
+    readonly waiting: number;
+    readonly length: number;
+    /** How many of a site's operations were taken in. */
+    front(site: number): number;
+    bytes(beg?: number, end?: number): Buffer;
+    toString(): string;
+    runs(): Run[];
+    names(beg: number, end: number): Name[];
+    find(name: Name): Place;
+    /** What changed of what is shown since this was called last, one after the other. */
+    changes(): Change[];
+}

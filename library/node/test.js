@@ -1,0 +1,49 @@
+'use strict';
+
+// What the addon adds to the library: numbers in and out, buffers, errors. `node library/node/test.js`
+const assert = require('assert');
+const { Refused, Text } = require('../out/node');
+
+function refuses(number, call) {
+    assert.throws(call, (error) => error instanceof Refused && error.number === number);
+}
+
+const a = new Text(1, 1);
+const b = new Text(1, 2);
+const sent = a.insert(0, 'Oberon');
+assert.strictEqual(sent.length, 1);
+assert.strictEqual(sent[0].toString('hex'),
+    '4f540101000100010000000100000000000000010000000000000000000' + '0104f6265726f6e31302e53636e2e466e74010000064f6265726f6e');
+assert.deepStrictEqual(b.take(sent[0]), { kind: 'taken', drained: 0, dropped: 0, stopped: false });
+assert.strictEqual(b.take(sent[0]).kind, 'repeat');
+assert.deepStrictEqual(b.changes(), [{ kind: 'insert', beg: 0, end: 6 }]);
+assert.deepStrictEqual(b.changes(), []);
+for (const message of b.delete(0, 2)) a.take(message);
+assert.strictEqual(`${a}`, 'eron');
+assert.strictEqual(a.length, 4);
+assert.deepStrictEqual(a.names(0, 1), [{ site: 1, offset: 2 }]);
+assert.deepStrictEqual(a.find({ site: 1, offset: 3 }), { pos: 2, isShown: true });
+assert.deepStrictEqual(a.find({ site: 1, offset: 0 }), { pos: 0, isShown: false });
+a.changeLooks(1, 2, { font: 'Syntax12.Scn.Fnt', offset: -3 });
+assert.deepStrictEqual(a.runs().map(({ beg, end, font, offset }) => [beg, end, font, offset]),
+    [[0, 1, 'Oberon10.Scn.Fnt', 0], [1, 2, 'Syntax12.Scn.Fnt', -3], [2, 4, 'Oberon10.Scn.Fnt', 0]]);
+assert.strictEqual(b.merge(a), 1);
+assert.strictEqual(b.merge(b), 0);
+assert.strictEqual(b.restore().length, 1);
+assert.strictEqual(b.recall(6).length, 1);
+assert.strictEqual(b.bytes(1, 3).toString(), 'be');
+assert.strictEqual(`${b}`, 'OberonOb');
+assert.strictEqual(b.front(2), 3);
+assert.deepStrictEqual([b.waiting, b.forget(), b.settle()], [0, 0, { drained: 0, dropped: 0, stopped: false }]);
+refuses(103, () => a.insert(5, 'x'));
+refuses(103, () => a.insert(-1, 'x'));
+refuses(103, () => a.bytes(2, 9));
+refuses(105, () => a.changeLooks(0, 1, {}));
+refuses(105, () => a.changeLooks(0, 1, { colour: 16 }));
+refuses(106, () => a.find({ site: 7, offset: 0 }));
+refuses(105, () => new Text(0, 1));
+refuses(1, () => a.take(Buffer.from('none')));
+assert.throws(() => a.insert(0, 7), /an argument is none/);
+a.close();
+refuses(101, () => a.length);
+console.log('node: all is so');

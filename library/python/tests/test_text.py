@@ -1,0 +1,155 @@
+"""The package against a plain list, and against the program that plays scripts.
+
+  VIALSHOAL_LIBRARY=library/out/libvialshoal.so python3 -m unittest discover library/python/tests
+"""
+from __future__ import annotations
+
+import os
+import subprocess
+import unittest
+from pathlib import Path
+from typing import Optional
+
+from hypothesis import given, settings
+from hypothesis import strategies as st
+
+from vialshoal import ChangeKind, Misused, Name, Refused, TakingKind, Text
+
+TOP = Path(__file__).resolve().parents[3]
+PROGRAM = os.environ.get("VIALSHOAL_PROGRAM", str(TOP / "crates" / "site_cli" / "out" / "site_cli"))
+
+edits = st.lists(st.tuples(st.sampled_from(("type", "cut", "looks", "recall", "restore")), st.integers(0, 2**16),
+                           st.integers(0, 2**16), st.binary(max_size=6)), max_size=30)
+
+
+def spelled(data: bytes) -> str:
+    return "".join(f"\\{byte:02x}" for byte in data)
+
+
+def edited(text: Text, edit: tuple[str, int, int, bytes]) -> tuple[Optional[str], list[bytes]]:
+    """Does an edit, and answers the event that does it too, if there is one, and the messages."""
+    verb, one, two, data = edit
+    beg, end = sorted((one % (len(text) + 1), two % (len(text) + 1)))
+    if verb == "type":
+        return f"type 1 {beg} {spelled(data)}", text.insert(beg, data)
+    if verb == "cut":
+        return f"cut 1 {beg} {end}", text.delete(beg, end)
+    if verb == "looks":
+        return f"looks 1 {beg} {end} colour={one % 16} offset=-3", text.change_looks(beg, end, colour=one % 16, offset=-3)
+    if verb == "recall":
+        return f"recall 1 {beg}", text.recall(beg)
+    return "restore 1", text.restore()
+
+
+def followed(shown: bytes, text: Text) -> bytes:
+    """What the changes of a text make of what was shown."""
+    for change in text.changes():
+        if change.kind is ChangeKind.DELETE:
+            shown = shown[:change.beg] + shown[change.end:]
+        elif change.kind is ChangeKind.INSERT:
+            shown = shown[:change.beg] + b"?" * (change.end - change.beg) + shown[change.beg:]
+    return shown
+
+
+class AgainstAList(unittest.TestCase):
+    @given(edits)
+    @settings(max_examples=200, deadline=None)
+    def test_edits_are_those_of_a_list(self, given_edits: list[tuple[str, int, int, bytes]]) -> None:
+        plain = b""
+        with Text(1, site=1) as text:
+            for verb, one, two, data in given_edits:
+                beg, end = sorted((one % (len(plain) + 1), two % (len(plain) + 1)))
+                if verb == "type":
+                    text.insert(beg, data)
+                    plain = plain[:beg] + data + plain[beg:]
+                elif verb == "cut":
+                    text.delete(beg, end)
+                    plain = plain[:beg] + plain[end:]
+                self.assertEqual(bytes(text), plain)
+                self.assertEqual(text[beg:end], plain[beg:end])
+
+    @given(edits, edits)
+    @settings(max_examples=100, deadline=None)
+    def test_two_that_meet_show_the_same(self, here: list[tuple[str, int, int, bytes]],
+                                         there: list[tuple[str, int, int, bytes]]) -> None:
+        with Text(1, site=1) as a, Text(1, site=2) as b, Text(1, site=3) as c:
+            sent = [message for edit in here for message in edited(a, edit)[1]]
+            back = [message for edit in there for message in edited(b, edit)[1]]
+            before = bytes(a)
+            a.changes()
+            for message in back:
+                self.assertIs(a.take(message).kind, TakingKind.TAKEN)
+            self.assertEqual(len(followed(before, a)), len(a))
+            b.merge(a)
+            c.merge(b)
+            self.assertEqual((bytes(a), a.runs()), (bytes(b), b.runs()))
+            self.assertEqual(bytes(c), bytes(a))
+            self.assertEqual(a.front(1), len(sent))
+            for at, name in enumerate(a.names(0, len(a))):
+                place = b.place(name)
+                self.assertTrue(place.is_shown and place.pos == at + 1)
+
+
+class AgainstTheProgram(unittest.TestCase):
+    @given(edits, edits)
+    @settings(max_examples=25, deadline=None)
+    def test_messages_and_text_are_the_programs(self, here: list[tuple[str, int, int, bytes]],
+                                                there: list[tuple[str, int, int, bytes]]) -> None:
+        if not Path(PROGRAM).exists():
+            self.skipTest("the program isn't built")
+        script, wanted = "", ""
+        with Text(1, site=1) as a, Text(1, site=2) as b:
+            for site, text, other, all_edits in ((1, a, b, here), (2, b, a, there)):
+                for edit in all_edits:
+                    event, messages = edited(text, edit)
+                    script += f"{site} {event}\n"
+                    wanted += "".join(f"{message.hex()}\n" for message in messages)
+                    for message in messages:
+                        other.take(message)
+                        script += f"{3 - site} take 1 {message.hex()}\n"
+            shown = bytes(a)
+        ran = subprocess.run([PROGRAM], input=script + "1 text 1\n2 text 1\n", capture_output=True, text=True, check=True)
+        lines = ran.stdout.splitlines()
+        self.assertEqual("".join(f"{line.split()[2]}\n" for line in lines if line.startswith("send ")), wanted)
+        plain = "".join(chr(byte) if 32 <= byte < 127 and byte != 92 else f"\\{byte:02x}" for byte in shown)
+        self.assertEqual(lines[-2:], [f"text {len(shown)}{' ' * bool(shown)}{plain}"] * 2)
+
+
+class Refusals(unittest.TestCase):
+    def refused(self, number: int, call: object, *words: object, **named: object) -> None:
+        with self.assertRaises(Refused) as caught:
+            call(*words, **named)  # type: ignore[operator]
+        self.assertEqual(caught.exception.number, number)
+        self.assertEqual(isinstance(caught.exception, Misused), number > 100)
+
+    def test_each_has_its_number(self) -> None:
+        with Text(1, site=1) as a, Text(2, site=2) as b:
+            [message] = a.insert(0, b"abc")
+            self.refused(1, b.take, message[:-1])
+            self.refused(2, b.take, message)
+            self.refused(2, a.merge, b)
+            self.refused(103, a.insert, 4, b"")
+            self.refused(103, a.insert, -1, b"")
+            self.refused(103, a.delete, 2, 1)
+            self.refused(105, a.change_looks, 0, 1)
+            self.refused(105, a.change_looks, 0, 1, colour=16)
+            self.refused(105, a.change_looks, 0, 1, font="1")
+            self.refused(105, a.change_looks, 0, 1, offset=128)
+            self.refused(106, a.place, Name(2, 0))
+            self.refused(105, a.place, Name(0, 0))
+            self.refused(105, Text, 0, site=1)
+            self.refused(105, Text, 1, site=65536)
+            self.assertEqual(bytes(a), b"abc")
+        self.refused(101, len, a)
+
+    def test_a_part_says_how_much_stands(self) -> None:
+        with Text(1, site=1) as text:
+            text.insert(0, bytes(2**24 - 4096))
+            with self.assertRaises(Refused) as caught:
+                text.insert(0, bytes(5000))
+            self.assertEqual((caught.exception.number, len(caught.exception.messages)), (10, 1))
+            self.assertEqual(len(text), 2**24)
+
+
+if __name__ == "__main__":
+    unittest.main()

@@ -1,0 +1,310 @@
+"""Texts that sites edit and merge.
+
+>>> with Text(1, site=1) as a, Text(1, site=2) as b:
+...     for message in a.insert(0, b"Oberon"):
+...         _ = b.take(message)
+...     for message in b.delete(0, 2):
+...         _ = a.take(message)
+...     bytes(a), bytes(b)
+(b'eron', b'eron')
+
+An edit answers the messages that it made; the other sites' texts take these, in any order and any number of times. Texts
+that took the same show the same.
+"""
+from __future__ import annotations
+
+import ctypes
+import enum
+from ctypes import byref, c_uint32, c_uint64
+from dataclasses import dataclass
+from types import TracebackType
+from typing import Optional, Union, overload
+
+from . import _library as c
+
+__all__ = ["Change", "ChangeKind", "Misused", "Name", "Place", "Refused", "Run", "Settling", "Taking", "TakingKind", "Text"]
+
+_calls = c.load()
+# No message is longer than this.
+_MESSAGE = 10_297
+
+
+class Refused(Exception):
+    """A text refused what it was asked. `number` says why (docs/FORMATS.md, "Refusals"), and `messages` are those of the
+    part of an edit that stands; mostly nothing does."""
+
+    def __init__(self, number: int, messages: Optional[list[bytes]] = None) -> None:
+        super().__init__(c.REASONS.get(number, f"number {number}"))
+        self.number = number
+        self.messages = messages or []
+
+
+class Misused(Refused, ValueError):
+    """The call was given what no text can have: `number` is above 100, and nothing was done."""
+
+
+class TakingKind(enum.Enum):
+    """What became of a message."""
+
+    TAKEN = 1
+    REPEAT = 2
+    WAITS = 3
+
+
+@dataclass(frozen=True)
+class Taking:
+    """What became of a message, and of those that waited for it."""
+
+    kind: TakingKind
+    drained: int
+    dropped: int
+    stopped: bool
+
+
+@dataclass(frozen=True)
+class Settling:
+    """How many messages that waited were taken in, and how many thrown away."""
+
+    drained: int
+    dropped: int
+    stopped: bool
+
+
+@dataclass(frozen=True, order=True)
+class Name:
+    """The lasting name of a character."""
+
+    site: int
+    offset: int
+
+
+@dataclass(frozen=True)
+class Place:
+    """How many shown characters are this one or stand before it, and whether it is shown itself."""
+
+    pos: int
+    is_shown: bool
+
+
+class ChangeKind(enum.Enum):
+    """What a change did: its range is that of the text after an insertion, else of the text before."""
+
+    INSERT = 1
+    DELETE = 2
+    REPLACE = 3
+
+
+@dataclass(frozen=True)
+class Change:
+    """A change of what is shown."""
+
+    kind: ChangeKind
+    beg: int
+    end: int
+
+
+@dataclass(frozen=True)
+class Run:
+    """A range of characters that look alike, as far as it goes."""
+
+    beg: int
+    end: int
+    font: str
+    colour: int
+    offset: int
+
+
+def _done(number: int) -> None:
+    if number:
+        raise (Misused if number > 100 else Refused)(number)
+
+
+def _position(pos: int) -> int:
+    # (a C number would wrap)
+    if not 0 <= pos < 1 << 64:
+        raise Misused(c.OUT_OF_TEXT)
+    return pos
+
+
+def _number(number: int, most: int) -> int:
+    if not 0 <= number <= most:
+        raise Misused(c.NO_NUMBER)
+    return number
+
+
+class Text:
+    """A site's replica of a text: bytes that it and other sites edit."""
+
+    def __init__(self, text: int = 1, *, site: int) -> None:
+        self._handle = c.Handle()
+        self._sent = c_uint32()
+        self._long = c_uint64()
+        self._room = ctypes.create_string_buffer(_MESSAGE)
+        _done(_calls.vialshoal_new(self._handle, _number(text, 65535), _number(site, 65535)))
+
+    def close(self) -> None:
+        """Frees the text; all other calls are refused after it."""
+        _calls.vialshoal_free(self._handle)
+
+    def __del__(self) -> None:
+        if hasattr(self, "_handle"):
+            self.close()
+
+    def __enter__(self) -> Text:
+        return self
+
+    def __exit__(self, kind: Optional[type[BaseException]], error: Optional[BaseException],
+                 trace: Optional[TracebackType]) -> None:
+        self.close()
+
+    # -- edits
+
+    def _messages(self) -> list[bytes]:
+        messages = []
+        for index in range(self._sent.value):
+            _done(_calls.vialshoal_message(self._handle, index, self._room, _MESSAGE, byref(self._long)))
+            messages.append(self._room.raw[:self._long.value])
+        if messages:
+            _done(_calls.vialshoal_let_go(self._handle))
+        return messages
+
+    def _edited(self, number: int) -> list[bytes]:
+        messages = self._messages()
+        if number:
+            raise (Misused if number > 100 else Refused)(number, messages)
+        return messages
+
+    def insert(self, pos: int, data: bytes) -> list[bytes]:
+        """Puts bytes after the first `pos` ones, and answers the messages that tell it."""
+        data = bytes(data)
+        return self._edited(_calls.vialshoal_insert(self._handle, _position(pos), data, len(data), byref(self._sent)))
+
+    def delete(self, beg: int, end: int) -> list[bytes]:
+        """Deletes a range."""
+        return self._edited(_calls.vialshoal_delete(self._handle, _position(beg), _position(end), byref(self._sent)))
+
+    def change_looks(self, beg: int, end: int, *, font: Optional[str] = None, colour: Optional[int] = None,
+                     offset: Optional[int] = None) -> list[bytes]:
+        """Gives a range those of these looks that are named."""
+        selected = (font is not None) + 2 * (colour is not None) + 4 * (offset is not None)
+        spelled = (font or "").encode("utf-8")
+        if offset is not None and not -128 <= offset <= 127:
+            raise Misused(c.NO_NUMBER)
+        return self._edited(_calls.vialshoal_change_looks(
+            self._handle, _position(beg), _position(end), selected, spelled, len(spelled), _number(colour or 0, 255),
+            offset or 0, byref(self._sent)))
+
+    def restore(self) -> list[bytes]:
+        """Shows again what this site deleted last."""
+        return self._edited(_calls.vialshoal_restore(self._handle, byref(self._sent)))
+
+    def recall(self, pos: int) -> list[bytes]:
+        """Puts a copy of what this site deleted last after the first `pos` bytes."""
+        return self._edited(_calls.vialshoal_recall(self._handle, _position(pos), byref(self._sent)))
+
+    # -- what other sites made
+
+    def take(self, message: bytes) -> Taking:
+        """Takes a message in, or lets it wait for what it builds on."""
+        message, taking = bytes(message), c.CTaking()
+        _done(_calls.vialshoal_take(self._handle, message, len(message), byref(taking)))
+        return Taking(TakingKind(taking.kind), taking.drained, taking.dropped, taking.stopped)
+
+    def settle(self) -> Settling:
+        """Takes in what waits, as far as it is ready."""
+        settling = c.CSettling()
+        _done(_calls.vialshoal_settle(self._handle, byref(settling)))
+        return Settling(settling.drained, settling.dropped, settling.stopped)
+
+    def forget(self) -> int:
+        """Throws away what waits, and answers how many messages it was."""
+        count = c_uint32()
+        _done(_calls.vialshoal_forget(self._handle, byref(count)))
+        return count.value
+
+    def merge(self, other: Text) -> int:
+        """Takes in all that another text holds, and answers how many of its operations were new."""
+        if other is self:
+            return 0
+        _done(_calls.vialshoal_merge(self._handle, other._handle, byref(self._long)))
+        return self._long.value
+
+    @property
+    def waiting(self) -> int:
+        """How many messages wait."""
+        count = c_uint32()
+        _done(_calls.vialshoal_waiting(self._handle, byref(count)))
+        return count.value
+
+    def front(self, site: int) -> int:
+        """How many of a site's operations were taken in."""
+        front = c_uint32()
+        _done(_calls.vialshoal_front(self._handle, _number(site, 65535), byref(front)))
+        return front.value
+
+    # -- what is shown
+
+    def __len__(self) -> int:
+        _done(_calls.vialshoal_length(self._handle, byref(self._long)))
+        return self._long.value
+
+    def _range(self, beg: int, end: int) -> bytes:
+        room = ctypes.create_string_buffer(max(end - beg, 1))
+        _done(_calls.vialshoal_bytes(self._handle, beg, end, room, end - beg, byref(self._long)))
+        return room.raw[:end - beg]
+
+    def __bytes__(self) -> bytes:
+        return self._range(0, len(self))
+
+    @overload
+    def __getitem__(self, where: int) -> int: ...
+
+    @overload
+    def __getitem__(self, where: slice) -> bytes: ...
+
+    def __getitem__(self, where: Union[int, slice]) -> Union[int, bytes]:
+        if isinstance(where, slice):
+            beg, end, step = where.indices(len(self))
+            return bytes(self)[where] if step != 1 else self._range(beg, max(beg, end))
+        at = where + len(self) if where < 0 else where
+        if not 0 <= at < len(self):
+            raise IndexError("a position lies outside the text")
+        return self._range(at, at + 1)[0]
+
+    def runs(self) -> list[Run]:
+        """What the characters look like, range by range."""
+        found: list[Run] = []
+        beg, length, run = 0, len(self), c.CLooksRun()
+        while beg < length:
+            _done(_calls.vialshoal_looks(self._handle, beg, byref(run), self._room, _MESSAGE, byref(self._long)))
+            font = self._room.raw[:self._long.value].decode("ascii")
+            found.append(Run(beg, run.end, font, run.colour, run.offset))
+            beg = run.end
+        return found
+
+    def names(self, beg: int, end: int) -> list[Name]:
+        """The names of the characters of a range."""
+        room = (c.CName * max(min(end, len(self)) - beg, 1))()
+        _done(_calls.vialshoal_names(self._handle, _position(beg), _position(end), room, len(room), byref(self._long)))
+        return [Name(it.site, it.offset) for it in room[:self._long.value]]
+
+    def place(self, name: Name) -> Place:
+        """Where the character of a name is."""
+        place = c.CPlace()
+        _done(_calls.vialshoal_find(self._handle, _number(name.site, 65535), _number(name.offset, (1 << 32) - 1),
+                                     byref(place)))
+        return Place(place.pos, place.is_shown)
+
+    def changes(self) -> list[Change]:
+        """What changed of what is shown since this was called last, one after the other."""
+        found: list[Change] = []
+        room = (c.CChange * 64)()
+        while True:
+            number = _calls.vialshoal_changes(self._handle, room, len(room), byref(self._long))
+            if number == c.TOO_SHORT:
+                room = (c.CChange * self._long.value)()
+                continue
+            _done(number)
+            if not self._long.value:
+                return found
+            found += [Change(ChangeKind(it.kind), it.beg, it.end) for it in room[:self._long.value]]

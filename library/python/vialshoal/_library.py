@@ -1,0 +1,115 @@
+"""The C library, and how its calls are called."""
+from __future__ import annotations
+
+import ctypes
+import os
+from ctypes import POINTER, c_bool, c_char_p, c_int8, c_size_t, c_uint8, c_uint16, c_uint32, c_uint64, c_void_p
+from pathlib import Path
+
+NOT_OPEN = 101
+ALREADY_OPEN = 102
+OUT_OF_TEXT = 103
+TOO_LONG = 104
+NO_NUMBER = 105
+NO_NAME = 106
+TOO_SHORT = 107
+NO_MESSAGE = 108
+
+# The replica's refusals are those of docs/FORMATS.md.
+REASONS = {
+    1: "the bytes are no message",
+    2: "the message is of another text",
+    3: "another operation has this identity",
+    4: "the message doesn't fit its site's others",
+    5: "the stamp isn't above each cause's",
+    6: "64 messages wait already",
+    7: "memory was refused",
+    8: "what waits shows that the site was further once",
+    9: "the greatest stamp was taken in",
+    10: "the site's file, or a stretch, would pass 2^24 bytes",
+    12: "a set of names needs more than 1,024 ranges",
+    23: "the site has made its last operation in the text",
+    NOT_OPEN: "the text is closed",
+    ALREADY_OPEN: "the text is open already",
+    OUT_OF_TEXT: "a position lies outside the text",
+    TOO_LONG: "more than 2^24 bytes are to be put in",
+    NO_NUMBER: "a number or a font is none",
+    NO_NAME: "the name is that of no character here",
+}
+
+
+class Handle(ctypes.Structure):
+    _fields_ = [("at", c_void_p)]
+
+
+class CTaking(ctypes.Structure):
+    _fields_ = [("kind", c_uint32), ("drained", c_uint32), ("dropped", c_uint32), ("stopped", c_bool)]
+
+
+class CSettling(ctypes.Structure):
+    _fields_ = [("drained", c_uint32), ("dropped", c_uint32), ("stopped", c_bool)]
+
+
+class CName(ctypes.Structure):
+    _fields_ = [("site", c_uint16), ("offset", c_uint32)]
+
+
+class CPlace(ctypes.Structure):
+    _fields_ = [("pos", c_uint64), ("is_shown", c_bool)]
+
+
+class CChange(ctypes.Structure):
+    _fields_ = [("kind", c_uint32), ("beg", c_uint64), ("end", c_uint64)]
+
+
+class CLooksRun(ctypes.Structure):
+    _fields_ = [("end", c_uint64), ("colour", c_uint8), ("offset", c_int8)]
+
+
+HANDLE = POINTER(Handle)
+U32 = POINTER(c_uint32)
+U64 = POINTER(c_uint64)
+CALLS = {
+    "new": (HANDLE, c_uint16, c_uint16),
+    "free": (HANDLE,),
+    "insert": (HANDLE, c_uint64, c_char_p, c_size_t, U32),
+    "delete": (HANDLE, c_uint64, c_uint64, U32),
+    "change_looks": (HANDLE, c_uint64, c_uint64, c_uint8, c_char_p, c_size_t, c_uint8, c_int8, U32),
+    "restore": (HANDLE, U32),
+    "recall": (HANDLE, c_uint64, U32),
+    "messages": (HANDLE, U64),
+    "message": (HANDLE, c_uint64, c_char_p, c_size_t, U64),
+    "let_go": (HANDLE,),
+    "take": (HANDLE, c_char_p, c_size_t, POINTER(CTaking)),
+    "settle": (HANDLE, POINTER(CSettling)),
+    "forget": (HANDLE, U32),
+    "merge": (HANDLE, HANDLE, U64),
+    "waiting": (HANDLE, U32),
+    "front": (HANDLE, c_uint16, U32),
+    "length": (HANDLE, U64),
+    "bytes": (HANDLE, c_uint64, c_uint64, c_char_p, c_size_t, U64),
+    "looks": (HANDLE, c_uint64, POINTER(CLooksRun), c_char_p, c_size_t, U64),
+    "names": (HANDLE, c_uint64, c_uint64, POINTER(CName), c_size_t, U64),
+    "find": (HANDLE, c_uint16, c_uint32, POINTER(CPlace)),
+    "changes": (HANDLE, POINTER(CChange), c_size_t, U64),
+}
+
+
+def path() -> str:
+    """Where the C library is: as VIALSHOAL_LIBRARY says, else beside this file, as a wheel has it, else where the system
+    looks."""
+    named = os.environ.get("VIALSHOAL_LIBRARY")
+    if named:
+        return named
+    beside = Path(__file__).with_name("libvialshoal.so")
+    return str(beside) if beside.is_file() else "libvialshoal.so"
+
+
+def load() -> ctypes.CDLL:
+    # (a PyDLL keeps Python's lock, which a call that takes microseconds is not worth letting go)
+    library = ctypes.PyDLL(path())
+    for name, arguments in CALLS.items():
+        call = getattr(library, f"vialshoal_{name}")
+        call.argtypes = arguments
+        call.restype = c_uint32
+    return library

@@ -1,0 +1,204 @@
+/* Vialshoal for C: texts that sites edit and merge, each behind a handle.
+ *
+ * A text is a list of bytes with looks. Each of its sites has a replica of it, which a handle holds. An edit changes that
+ * replica and makes messages; another site's replica takes these messages in, in any order and any number of times, and
+ * replicas that took in the same show the same bytes.
+ *
+ * Units. Positions and lengths count bytes (which are the text's characters), from 0; a range goes from `beg` up to `end`,
+ * without it. A text and a site have numbers, 1 to 65535; all sites of a text have its number, and each one its own.
+ *
+ * Answers. Each call answers a number. 0: it was done. 1 to 23: the replica refused it, by the table "Refusals" of
+ * docs/FORMATS.md. From 101 on: it was misused (VIALSHOAL_NOT_OPEN and so on). A call that was refused or misused changed
+ * nothing, but for an edit of which a part stands: see `sent`.
+ *
+ * Memory. The library allocates what a handle holds, by the program's malloc, realloc and free, and vialshoal_free frees
+ * it. All else is the caller's: what is written goes into rooms that the caller passes. `need` is set to how many elements
+ * there are to be written; where the room is shorter, nothing is written and the number is VIALSHOAL_TOO_SHORT, so a
+ * length of 0 asks how long a room has to be.
+ *
+ * What the caller owes, and nothing checks: a handle is {0} before it is used first, and isn't copied; every pointer
+ * points to as much memory as the call reads or writes, and isn't null, even at length 0; what is written lies apart from
+ * all else that the same call is given, so the two handles of vialshoal_merge are two; one call at a time on a handle, on
+ * the thread that opened it; malloc, realloc and free are of one allocator, which aligns as C says.
+ */
+#ifndef VIALSHOAL_H
+#define VIALSHOAL_H
+
+#include <stdbool.h>
+#include <stddef.h>
+#include <stdint.h>
+
+#ifdef __cplusplus
+extern "C" {
+#endif
+
+/* A replica of a text, or none, which is {0}. The word is the library's alone. */
+typedef struct vialshoal_text {
+    void *at;
+} vialshoal_text;
+
+/* Numbers of misuse. */
+enum {
+    VIALSHOAL_NOT_OPEN = 101,     /* the handle is {0}: it wasn't opened, or was freed */
+    VIALSHOAL_ALREADY_OPEN = 102, /* the handle holds a text already */
+    VIALSHOAL_OUT_OF_TEXT = 103,  /* a position lies outside the text, or a range ends before its begin */
+    VIALSHOAL_TOO_LONG = 104,     /* more than 2^24 bytes are to be put in */
+    VIALSHOAL_NO_NUMBER = 105,    /* a number is that of no text, site, name, selection or colour; a font is none */
+    VIALSHOAL_NO_NAME = 106,      /* the name is that of no character that was taken in */
+    VIALSHOAL_TOO_SHORT = 107,    /* the room is too short, and nothing was changed; see `need` */
+    VIALSHOAL_NO_MESSAGE = 108    /* no message that is kept has this index */
+};
+
+/* What the taking of a message did. */
+enum {
+    VIALSHOAL_TAKEN = 1,  /* its operation was taken in, and then those that waited for it */
+    VIALSHOAL_REPEAT = 2, /* it is held already */
+    VIALSHOAL_WAITS = 3   /* it waits for an operation that it builds on */
+};
+
+/* What a change did. */
+enum {
+    VIALSHOAL_INSERT = 1, /* bytes were put in: the range is theirs after the change */
+    VIALSHOAL_DELETE = 2, /* the range was cut out: it is as before the change */
+    VIALSHOAL_REPLACE = 3 /* the bytes of the range have other looks */
+};
+
+/* Which looks an edit gives. */
+enum {
+    VIALSHOAL_FONT = 1,
+    VIALSHOAL_COLOUR = 2,
+    VIALSHOAL_OFFSET = 4
+};
+
+typedef struct vialshoal_taking {
+    uint32_t kind;    /* VIALSHOAL_TAKEN, _REPEAT or _WAITS; 0 where the message was refused */
+    uint32_t drained; /* how many operations that waited were taken in after it */
+    uint32_t dropped; /* how many operations that waited were thrown away */
+    bool stopped;     /* whether that ended early, for want of memory */
+} vialshoal_taking;
+
+typedef struct vialshoal_settling {
+    uint32_t drained;
+    uint32_t dropped;
+    bool stopped;
+} vialshoal_settling;
+
+/* The lasting name of a character: the site that put it in, and how many the site had put into the text before. */
+typedef struct vialshoal_name {
+    uint16_t site;
+    uint32_t offset;
+} vialshoal_name;
+
+typedef struct vialshoal_place {
+    uint64_t pos;  /* how many shown characters are this one or stand before it */
+    bool is_shown; /* whether it is shown itself, at pos - 1 then */
+} vialshoal_place;
+
+typedef struct vialshoal_change {
+    uint32_t kind; /* VIALSHOAL_INSERT, _DELETE or _REPLACE */
+    uint64_t beg;
+    uint64_t end;
+} vialshoal_change;
+
+typedef struct vialshoal_looks_run {
+    uint64_t end;   /* one past the last character that looks so */
+    uint8_t colour; /* 0 to 15 */
+    int8_t offset;
+} vialshoal_looks_run;
+
+/* -- A text is made and freed -- */
+
+/* Opens an empty handle with the text of this number, empty, at the site of this number.
+ * VIALSHOAL_ALREADY_OPEN; VIALSHOAL_NO_NUMBER for 0; 7 where memory was refused. */
+uint32_t vialshoal_new(vialshoal_text *text, uint16_t text_number, uint16_t site_number);
+
+/* Frees what the handle holds; it is {0} then. VIALSHOAL_NOT_OPEN. */
+uint32_t vialshoal_free(vialshoal_text *text);
+
+/* -- Edits. `*sent` is set to how many messages the edit made. They come after those that are kept (below). An edit that
+ * is refused with *sent above 0 stands as far as these messages say, and the rest of it wasn't done; with *sent 0 nothing
+ * was. Refused as the edits of docs/FORMATS.md; VIALSHOAL_NOT_OPEN, VIALSHOAL_OUT_OF_TEXT. -- */
+
+/* Puts bytes in default looks after the first `pos` ones. VIALSHOAL_TOO_LONG. */
+uint32_t vialshoal_insert(vialshoal_text *text, uint64_t pos, const uint8_t *bytes, size_t length, uint32_t *sent);
+
+/* Deletes the range. */
+uint32_t vialshoal_delete(vialshoal_text *text, uint64_t beg, uint64_t end, uint32_t *sent);
+
+/* Gives the range the looks of these that `selected` names, a sum of VIALSHOAL_FONT, _COLOUR and _OFFSET: a font's name
+ * (1 to 31 letters, digits and full stops, the first a letter), a colour (0 to 15), an offset. What isn't selected isn't
+ * read, but `font` may not be null. VIALSHOAL_NO_NUMBER. */
+uint32_t vialshoal_change_looks(vialshoal_text *text, uint64_t beg, uint64_t end, uint8_t selected, const uint8_t *font,
+                                size_t font_length, uint8_t colour, int8_t offset, uint32_t *sent);
+
+/* Shows again, each at its own place, what this replica deleted last. */
+uint32_t vialshoal_restore(vialshoal_text *text, uint32_t *sent);
+
+/* Puts a copy of what this replica deleted last after the first `pos` bytes. */
+uint32_t vialshoal_recall(vialshoal_text *text, uint64_t pos, uint32_t *sent);
+
+/* -- Messages that edits made. They are kept, in order, until they are let go. -- */
+
+/* How many are kept. */
+uint32_t vialshoal_messages(vialshoal_text *text, uint64_t *count);
+
+/* The bytes of the message at this index, from 0. VIALSHOAL_NO_MESSAGE, VIALSHOAL_TOO_SHORT; no message has more than
+ * 10,297 bytes. */
+uint32_t vialshoal_message(vialshoal_text *text, uint64_t index, uint8_t *room, size_t length, uint64_t *need);
+
+/* Lets all of them go. */
+uint32_t vialshoal_let_go(vialshoal_text *text);
+
+/* -- What other replicas made -- */
+
+/* Takes a message in, or lets it wait for what it builds on. Refused as the messages of docs/ORDER.md. */
+uint32_t vialshoal_take(vialshoal_text *text, const uint8_t *message, size_t length, vialshoal_taking *taking);
+
+/* Takes in what waits, as far as it is ready; after a merge, or where memory was refused, such may be there. */
+uint32_t vialshoal_settle(vialshoal_text *text, vialshoal_settling *settling);
+
+/* Throws away all that waits; it may come again. */
+uint32_t vialshoal_forget(vialshoal_text *text, uint32_t *count);
+
+/* Takes in all that another handle's replica of the same text holds, which stays as it is. `*taken` is set to how many
+ * operations were new. 2 for another text, 3 where two sites used one number; 7 where memory was refused after *taken of
+ * them, which stand. */
+uint32_t vialshoal_merge(vialshoal_text *text, vialshoal_text *other, uint64_t *taken);
+
+/* How many messages wait. */
+uint32_t vialshoal_waiting(vialshoal_text *text, uint32_t *count);
+
+/* The front of a site: how many of its operations were taken in. VIALSHOAL_NO_NUMBER for 0. */
+uint32_t vialshoal_front(vialshoal_text *text, uint16_t site, uint32_t *front);
+
+/* -- What is shown -- */
+
+/* How many bytes are shown. */
+uint32_t vialshoal_length(vialshoal_text *text, uint64_t *length);
+
+/* The bytes of the range. VIALSHOAL_OUT_OF_TEXT, VIALSHOAL_TOO_SHORT. */
+uint32_t vialshoal_bytes(vialshoal_text *text, uint64_t beg, uint64_t end, uint8_t *room, size_t length, uint64_t *need);
+
+/* What the character at `pos` looks like, and where others begin: *run is written, and the font's name put into `font`,
+ * which 31 bytes are enough for. VIALSHOAL_OUT_OF_TEXT; VIALSHOAL_TOO_SHORT, with *run written. */
+uint32_t vialshoal_looks(vialshoal_text *text, uint64_t pos, vialshoal_looks_run *run, uint8_t *font, size_t length,
+                         uint64_t *need);
+
+/* The names of the characters of the range. VIALSHOAL_OUT_OF_TEXT, VIALSHOAL_TOO_SHORT. */
+uint32_t vialshoal_names(vialshoal_text *text, uint64_t beg, uint64_t end, vialshoal_name *room, size_t length,
+                         uint64_t *need);
+
+/* Where the character of this name is. VIALSHOAL_NO_NAME where it wasn't taken in; VIALSHOAL_NO_NUMBER where the numbers
+ * are those of no name. */
+uint32_t vialshoal_find(vialshoal_text *text, uint16_t site, uint32_t offset, vialshoal_place *place);
+
+/* What changed of what is shown since the changes were last asked for: own edits, messages and merges, one after the
+ * other. They are handed out once. Where the room is too short they stay, and are what the next call hands out, before
+ * any that come later: so call until `need` is 0. VIALSHOAL_TOO_SHORT. */
+uint32_t vialshoal_changes(vialshoal_text *text, vialshoal_change *room, size_t length, uint64_t *need);
+
+#ifdef __cplusplus
+}
+#endif
+
+#endif
