@@ -115,6 +115,17 @@ uint32_t vialshoal_new(vialshoal_text *text, uint16_t text_number, uint16_t site
 /* Frees what the handle holds; it is {0} then. VIALSHOAL_NOT_OPEN. */
 uint32_t vialshoal_free(vialshoal_text *text);
 
+/* -- A text is kept as its site's file, and opened again. A site is to be opened from the file that it kept last, with no
+ * edit made since: its next one would have a number that is used. -- */
+
+/* Puts the site's file of the text into the room; docs/FORMATS.md has its format. 13 for more than 2^32 - 1 operations, 7
+ * where memory was refused. VIALSHOAL_TOO_SHORT: *need is then how long the file is. What waits, what was deleted last and
+ * the messages that are kept aren't in it. */
+uint32_t vialshoal_store(vialshoal_text *text, uint8_t *room, size_t length, uint64_t *need);
+
+/* Opens an empty handle with the text and the site of such a file. 13 where it is none; 7; VIALSHOAL_ALREADY_OPEN. */
+uint32_t vialshoal_load(vialshoal_text *text, const uint8_t *file, size_t length);
+
 /* -- Edits. `*sent` is set to how many messages the edit made. They come after those that are kept (below). An edit that
  * is refused with *sent above 0 stands as far as these messages say, and the rest of it wasn't done; with *sent 0 nothing
  * was. Refused as the edits of docs/FORMATS.md; VIALSHOAL_NOT_OPEN, VIALSHOAL_OUT_OF_TEXT. -- */

@@ -91,6 +91,37 @@ static napi_value open_text(napi_env env, napi_callback_info info) {
     return made;
 }
 
+static napi_value load(napi_env env, napi_callback_info info) {
+    size_t found = 1, length;
+    napi_value at[1], made;
+    const uint8_t *bytes;
+    TRY(napi_get_cb_info(env, info, &found, at, NULL, NULL));
+    TRY(bytes_of(env, at[0], &bytes, &length) ? napi_ok : napi_invalid_arg);
+    vialshoal_text *handle = calloc(1, sizeof *handle);
+    uint32_t number = handle == NULL ? 7 : vialshoal_load(handle, bytes, length);
+    if (number != 0) {
+        free(handle);
+        return ANSWER(number);
+    }
+    TRY(napi_create_external(env, handle, let_go, NULL, &made));
+    return made;
+}
+
+/* The text's file, as a buffer; or the number that refuses it. */
+static napi_value store(napi_env env, napi_callback_info info) {
+    arguments given;
+    uint64_t need;
+    uint8_t none[1];
+    napi_value buffer;
+    void *room;
+    if (!taken(env, info, 1, &given)) return NULL;
+    uint32_t number = vialshoal_store(given.text, none, 0, &need);
+    if (number != VIALSHOAL_TOO_SHORT) return ANSWER(number);
+    TRY(napi_create_buffer(env, need, &room, &buffer));
+    number = vialshoal_store(given.text, room, need, &need);
+    return number == 0 ? buffer : ANSWER(number);
+}
+
 static napi_value close_text(napi_env env, napi_callback_info info) {
     arguments given;
     if (!taken(env, info, 1, &given)) return NULL;
@@ -342,7 +373,8 @@ NAPI_MODULE_INIT() {
         const char *name;
         napi_callback call;
     } calls[] = {
-        {"open", open_text},  {"close", close_text}, {"insert", insert},       {"delete", delete_range},
+        {"open", open_text},  {"load", load},        {"store", store},
+        {"close", close_text}, {"insert", insert},       {"delete", delete_range},
         {"looks", change_looks}, {"restore", restore}, {"recall", recall},     {"messages", messages},
         {"take", take},       {"settle", settle},    {"forget", forget},       {"merge", merge},
         {"waiting", waiting}, {"front", front},      {"length", length_of},    {"bytes", bytes},

@@ -59,6 +59,10 @@ export interface Looks {
 /** A site's replica of a text. Edits answer the messages that they made, which other sites' texts take. */
 export class Text {
     constructor(text: number, site: number);
+    /** The text of a file that `store` answered, at its site. No edit may have been made since it was stored. */
+    static load(file: Uint8Array): Text;
+    /** The text as a file, with all that was taken in, from which its site goes on. */
+    store(): Buffer;
     /** Frees the text; all other calls are refused after it. */
     close(): void;
     insert(pos: number, data: Uint8Array | string): Buffer[];

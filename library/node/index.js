@@ -34,10 +34,20 @@ function number(value, least, most) {
 class Text {
     #handle;
 
-    constructor(text, site) {
-        const made = addon.open(number(text, 0, 65535), number(site, 0, 65535));
+    constructor(text, site, file) {
+        const made = file === undefined ? addon.open(number(text, 0, 65535), number(site, 0, 65535)) : addon.load(file);
         if (Array.isArray(made)) throw new Refused(made[0]);
         this.#handle = made;
+    }
+
+    static load(file) {
+        return new Text(0, 0, file);
+    }
+
+    store() {
+        const file = addon.store(this.#handle);
+        if (Array.isArray(file)) throw new Refused(file[0]);
+        return file;
     }
 
     #edited([number]) {

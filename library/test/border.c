@@ -72,6 +72,7 @@ static void refuses_a_closed_one(void) {
     IS(vialshoal_messages(&none, &many) == VIALSHOAL_NOT_OPEN && many == 7);
     IS(vialshoal_message(&none, 0, room, 1, &many) == VIALSHOAL_NOT_OPEN && many == 0);
     IS(vialshoal_let_go(&none) == VIALSHOAL_NOT_OPEN);
+    IS(vialshoal_store(&none, room, 1, &many) == VIALSHOAL_NOT_OPEN && many == 0);
     IS(vialshoal_take(&none, BYTES("a"), 1, &taking) == VIALSHOAL_NOT_OPEN);
     IS(vialshoal_settle(&none, &settling) == VIALSHOAL_NOT_OPEN);
     IS(vialshoal_forget(&none, &few) == VIALSHOAL_NOT_OPEN);
@@ -197,6 +198,23 @@ static void answers(vialshoal_text *a) {
     IS(vialshoal_changes(a, changes, 8, &need) == 0 && need == 0);
 }
 
+/* A text that is kept and opened again is what it was, and what is no file opens none. */
+static void comes_back(vialshoal_text *a) {
+    vialshoal_text again = {0};
+    uint8_t file[2048], other[2048];
+    uint64_t need, length;
+    uint32_t sent;
+    IS(vialshoal_store(a, file, 8, &need) == VIALSHOAL_TOO_SHORT && need > 8 && need < sizeof file);
+    IS(vialshoal_store(a, file, sizeof file, &need) == 0);
+    IS(vialshoal_load(&again, file, need - 1) == 13 && again.at == NULL);
+    IS(vialshoal_load(a, file, need) == VIALSHOAL_ALREADY_OPEN);
+    IS(vialshoal_load(&again, file, need) == 0);
+    IS(vialshoal_store(&again, other, sizeof other, &length) == 0 && length == need && memcmp(file, other, need) == 0);
+    shows(&again, "Oberon!?Obe");
+    IS(vialshoal_insert(&again, 0, BYTES("x"), 1, &sent) == 0);
+    IS(vialshoal_free(&again) == 0);
+}
+
 static void two_meet(void) {
     vialshoal_text a = {0}, b = {0};
     uint32_t sent, count;
@@ -212,6 +230,7 @@ static void two_meet(void) {
     hand_over(&b, &a);
     shows(&a, "Oberon!?Obe");
     shows(&b, "Oberon!?Obe");
+    comes_back(&a);
     IS(vialshoal_front(&a, 2, &count) == 0 && count == 4);
     IS(vialshoal_merge(&a, &b, &taken) == 0 && taken == 0);
     IS(vialshoal_free(&a) == 0 && vialshoal_free(&b) == 0);

@@ -25,7 +25,7 @@ pub(crate) struct Put {
 
 impl Put {
     // Nothing was put, for misuse.
-    fn none(number: u32) -> Put
+    pub(crate) fn none(number: u32) -> Put
         ensures { (result.number ≡ number) × (result.need ≡ 0) }
     {
         Put { number, need: 0 }
@@ -33,7 +33,7 @@ impl Put {
 }
 
 // Puts bytes at the beginning of a room.
-fn put_bytes(bytes: &[u8], room: &mut [u8]) -> Put
+pub(crate) fn put_bytes(bytes: &[u8], room: &mut [u8]) -> Put
     ensures { Puts bytes.now room.old result.number result.need room.new }
 {
     let need = bytes.len() as u64;

@@ -8,6 +8,7 @@ ghost use Rattle.vialshoal_c.specs.Asking.{FindsName, PutsMessage, PutsShown, Te
 ghost use Rattle.vialshoal_c.specs.Asking.{TellsRun, names_of};
 ghost use Rattle.vialshoal_c.specs.Editing.{Begins, BeginsText, Dresses, Edits, Inserts};
 ghost use Rattle.vialshoal_c.specs.Feeding.{Forgets, MergesHandle, Settles, TakesIn};
+ghost use Rattle.vialshoal_c.specs.Keeping.{Opens, OpensFile, PutsFile};
 ghost use Rattle.vialshoal_c.specs.Opened.{OnOpen, Reads};
 
 use crate::handle::Handle;
@@ -44,6 +45,55 @@ pub extern "C" fn vialshoal_new(alloc: Global, handle: &mut Handle, text: u16, s
         (Some(text), Some(site)) => begin(alloc, handle, text, site),
         _ => NO_NUMBER,
     }
+}
+
+// Opens the file of a site in an empty handle.
+fn load(alloc: Global, handle: &mut Handle, file: &[u8]) -> u32
+    requires { handle.old.value ≡ None }
+    ensures { OpensFile file.now result handle.new.value }
+{
+    match Session::load(alloc, file) {
+        Ok(session) => {
+            handle.close(alloc, session);
+            0
+        }
+        Err(why) => u32::from(why.number()),
+    }
+}
+
+/// Opens an empty handle with the text that a site's file has.
+#[unsafe(no_mangle)]
+pub extern "C" fn vialshoal_load(alloc: Global, handle: &mut Handle, file: &[u8]) -> u32
+    ensures { Opens handle.old.value file.now result handle.new.value }
+{
+    match handle.open(alloc) {
+        Some(session) => {
+            handle.close(alloc, session);
+            ALREADY_OPEN
+        }
+        None => load(alloc, handle, file),
+    }
+}
+
+/// The site's file of the text, from which it is opened again.
+#[unsafe(no_mangle)]
+pub extern "C" fn vialshoal_store(
+    alloc: Global,
+    handle: &mut Handle,
+    room: &mut [u8],
+    need: &mut u64,
+) -> u32
+    ensures { Reads handle.old.value handle.new.value result ((need.new ≡ 0) × (room.new ≡ room.old))
+        (λ s. PutsFile s.text room.old result need.new room.new) }
+{
+    *need = 0;
+    let Some(session) = handle.open(alloc) else {
+        return NOT_OPEN;
+    };
+    let put = session.store(alloc, room);
+    handle.close(alloc, session);
+    *need = put.need;
+    put.number
 }
 
 /// Frees what a handle holds.

@@ -6,6 +6,7 @@ mod editing;
 mod exports;
 mod feeding;
 mod handle;
+mod keeping;
 mod loose;
 mod numbers;
 mod outputs;

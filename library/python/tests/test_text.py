@@ -85,6 +85,9 @@ class AgainstAList(unittest.TestCase):
             self.assertEqual((bytes(a), a.runs()), (bytes(b), b.runs()))
             self.assertEqual(bytes(c), bytes(a))
             self.assertEqual(a.front(1), len(sent))
+            with Text.load(a.store()) as again:
+                self.assertEqual((bytes(again), again.runs(), again.store()), (bytes(a), a.runs(), a.store()))
+                self.assertEqual(len(followed(b"", again)), len(a))
             for at, name in enumerate(a.names(0, len(a))):
                 place = b.place(name)
                 self.assertTrue(place.is_shown and place.pos == at + 1)
@@ -128,6 +131,8 @@ class Refusals(unittest.TestCase):
             self.refused(1, b.take, message[:-1])
             self.refused(2, b.take, message)
             self.refused(2, a.merge, b)
+            self.refused(13, Text.load, b"none")
+            self.refused(13, Text.load, a.store()[:-1])
             self.refused(103, a.insert, 4, b"")
             self.refused(103, a.insert, -1, b"")
             self.refused(103, a.delete, 2, 1)

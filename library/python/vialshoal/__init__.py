@@ -136,11 +136,32 @@ class Text:
     """A site's replica of a text: bytes that it and other sites edit."""
 
     def __init__(self, text: int = 1, *, site: int) -> None:
+        self._begin()
+        _done(_calls.vialshoal_new(self._handle, _number(text, 65535), _number(site, 65535)))
+
+    def _begin(self) -> None:
         self._handle = c.Handle()
         self._sent = c_uint32()
         self._long = c_uint64()
         self._room = ctypes.create_string_buffer(_MESSAGE)
-        _done(_calls.vialshoal_new(self._handle, _number(text, 65535), _number(site, 65535)))
+
+    @classmethod
+    def load(cls, file: bytes) -> Text:
+        """The text of a file that `store` answered, at its site. No edit may have been made since it was stored."""
+        file, text = bytes(file), cls.__new__(cls)
+        text._begin()
+        _done(_calls.vialshoal_load(text._handle, file, len(file)))
+        return text
+
+    def store(self) -> bytes:
+        """The text as a file, with all that was taken in, from which its site goes on."""
+        number = _calls.vialshoal_store(self._handle, self._room, _MESSAGE, byref(self._long))
+        room = self._room
+        if number == c.TOO_SHORT:
+            room = ctypes.create_string_buffer(self._long.value)
+            number = _calls.vialshoal_store(self._handle, room, len(room), byref(self._long))
+        _done(number)
+        return room.raw[:self._long.value]
 
     def close(self) -> None:
         """Frees the text; all other calls are refused after it."""

@@ -27,6 +27,7 @@ REASONS = {
     8: "what waits shows that the site was further once",
     9: "the greatest stamp was taken in",
     10: "the site's file, or a stretch, would pass 2^24 bytes",
+    13: "the bytes are no site's file",
     12: "a set of names needs more than 1,024 ranges",
     23: "the site has made its last operation in the text",
     NOT_OPEN: "the text is closed",
@@ -72,6 +73,8 @@ U64 = POINTER(c_uint64)
 CALLS = {
     "new": (HANDLE, c_uint16, c_uint16),
     "free": (HANDLE,),
+    "load": (HANDLE, c_char_p, c_size_t),
+    "store": (HANDLE, c_char_p, c_size_t, U64),
     "insert": (HANDLE, c_uint64, c_char_p, c_size_t, U32),
     "delete": (HANDLE, c_uint64, c_uint64, U32),
     "change_looks": (HANDLE, c_uint64, c_uint64, c_uint8, c_char_p, c_size_t, c_uint8, c_int8, U32),
