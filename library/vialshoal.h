@@ -179,6 +179,10 @@ uint32_t vialshoal_merge(vialshoal_text *text, vialshoal_text *other, uint64_t *
 /* How many messages wait. */
 uint32_t vialshoal_waiting(vialshoal_text *text, uint32_t *count);
 
+/* The sites of which operations were taken in, rising; with their fronts they say what a replica has. 7;
+ * VIALSHOAL_TOO_SHORT. */
+uint32_t vialshoal_sites(vialshoal_text *text, uint16_t *room, size_t length, uint64_t *need);
+
 /* The front of a site: how many of its operations were taken in. VIALSHOAL_NO_NUMBER for 0. */
 uint32_t vialshoal_front(vialshoal_text *text, uint16_t site, uint32_t *front);
 

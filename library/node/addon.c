@@ -262,6 +262,27 @@ static napi_value front(napi_env env, napi_callback_info info) {
     return ANSWER(number, found);
 }
 
+/* The sites that have operations here, as an array. */
+static napi_value sites(napi_env env, napi_callback_info info) {
+    arguments given;
+    uint64_t need;
+    uint16_t none;
+    if (!taken(env, info, 1, &given)) return NULL;
+    uint32_t number = vialshoal_sites(given.text, &none, 0, &need);
+    if (number != VIALSHOAL_TOO_SHORT) return ANSWER(number);
+    uint16_t *room = malloc(need * sizeof *room);
+    double *numbers = malloc((need + 1) * sizeof *numbers);
+    napi_value list = NULL;
+    if (room != NULL && numbers != NULL && vialshoal_sites(given.text, room, need, &need) == 0) {
+        numbers[0] = 0;
+        for (uint64_t i = 0; i < need; i++) numbers[i + 1] = room[i];
+        list = answer(env, need + 1, numbers);
+    }
+    free(room);
+    free(numbers);
+    return list == NULL ? ANSWER(7) : list;
+}
+
 static napi_value length_of(napi_env env, napi_callback_info info) {
     arguments given;
     uint64_t length = 0;
@@ -377,7 +398,8 @@ NAPI_MODULE_INIT() {
         {"close", close_text}, {"insert", insert},       {"delete", delete_range},
         {"looks", change_looks}, {"restore", restore}, {"recall", recall},     {"messages", messages},
         {"take", take},       {"settle", settle},    {"forget", forget},       {"merge", merge},
-        {"waiting", waiting}, {"front", front},      {"length", length_of},    {"bytes", bytes},
+        {"waiting", waiting}, {"front", front},      {"sites", sites},
+             {"length", length_of},    {"bytes", bytes},
         {"look", look},       {"names", names},     {"find", find},        {"changes", changes},
     };
     for (size_t i = 0; i < sizeof calls / sizeof calls[0]; i++) {

@@ -82,6 +82,8 @@ export class Text {
     readonly length: number;
     /** How many of a site's operations were taken in. */
     front(site: number): number;
+    /** How many operations of each site were taken in, by the sites that have some. */
+    fronts(): Map<number, number>;
     bytes(beg?: number, end?: number): Buffer;
     toString(): string;
     runs(): Run[];

@@ -112,6 +112,10 @@ class Text {
         return done(addon.front(this.#handle, number(site, 0, 65535)))[0];
     }
 
+    fronts() {
+        return new Map(done(addon.sites(this.#handle)).map((site) => [site, this.front(site)]));
+    }
+
     bytes(beg = 0, end = this.length) {
         const found = addon.bytes(this.#handle, position(beg), position(end));
         if (Array.isArray(found)) throw new Refused(found[0]);

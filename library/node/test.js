@@ -36,6 +36,7 @@ assert.strictEqual(`${b}`, 'OberonOb');
 assert.strictEqual(b.front(2), 3);
 assert.deepStrictEqual([b.waiting, b.forget(), b.settle()], [0, 0, { drained: 0, dropped: 0, stopped: false }]);
 assert.strictEqual(`${Text.load(b.store())}`, 'OberonOb');
+assert.deepStrictEqual([...b.fronts()], [[1, 2], [2, 3]]);
 refuses(13, () => Text.load(Buffer.from('none')));
 refuses(103, () => a.insert(5, 'x'));
 refuses(103, () => a.insert(-1, 'x'));

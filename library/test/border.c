@@ -63,6 +63,7 @@ static void refuses_a_closed_one(void) {
     vialshoal_place place;
     vialshoal_change change;
     vialshoal_looks_run run;
+    uint16_t sites[2];
     IS(vialshoal_free(&none) == VIALSHOAL_NOT_OPEN);
     IS(vialshoal_insert(&none, 0, BYTES("a"), 1, &few) == VIALSHOAL_NOT_OPEN && few == 0);
     IS(vialshoal_delete(&none, 0, 0, &few) == VIALSHOAL_NOT_OPEN);
@@ -78,6 +79,7 @@ static void refuses_a_closed_one(void) {
     IS(vialshoal_forget(&none, &few) == VIALSHOAL_NOT_OPEN);
     IS(vialshoal_merge(&none, &other, &many) == VIALSHOAL_NOT_OPEN);
     IS(vialshoal_waiting(&none, &few) == VIALSHOAL_NOT_OPEN);
+    IS(vialshoal_sites(&none, sites, 2, &many) == VIALSHOAL_NOT_OPEN && many == 0);
     IS(vialshoal_front(&none, 1, &few) == VIALSHOAL_NOT_OPEN);
     IS(vialshoal_length(&none, &many) == VIALSHOAL_NOT_OPEN);
     IS(vialshoal_bytes(&none, 0, 0, room, 1, &many) == VIALSHOAL_NOT_OPEN);
@@ -218,7 +220,8 @@ static void comes_back(vialshoal_text *a) {
 static void two_meet(void) {
     vialshoal_text a = {0}, b = {0};
     uint32_t sent, count;
-    uint64_t taken;
+    uint64_t taken, need;
+    uint16_t sites[2];
     IS(vialshoal_new(&a, 1, 1) == 0 && vialshoal_new(&b, 1, 2) == 0);
     takes_messages(&a, &b);
     IS(vialshoal_delete(&b, 0, 3, &sent) == 0);
@@ -232,6 +235,8 @@ static void two_meet(void) {
     shows(&b, "Oberon!?Obe");
     comes_back(&a);
     IS(vialshoal_front(&a, 2, &count) == 0 && count == 4);
+    IS(vialshoal_sites(&a, sites, 1, &need) == VIALSHOAL_TOO_SHORT && need == 2);
+    IS(vialshoal_sites(&a, sites, 2, &need) == 0 && sites[0] == 1 && sites[1] == 2);
     IS(vialshoal_merge(&a, &b, &taken) == 0 && taken == 0);
     IS(vialshoal_free(&a) == 0 && vialshoal_free(&b) == 0);
 }

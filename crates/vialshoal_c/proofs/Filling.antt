@@ -56,3 +56,11 @@ name_of c = record { site = c.name.site; offset = c.name.off }
 
 abbrev pub change_of : Change → TextChange
 change_of c = record { kind = number_of_kind c.kind; beg = c.beg; end = c.end }
+
+-- a number, which is put in as it is
+abbrev pub same_number : ℕ → ℕ
+same_number n = n
+
+pub same_numbers : (ns : List ℕ) → map same_number ns ≡ ns
+same_numbers [] = refl
+same_numbers (n ∷ ns) = ap (λ (ms : List ℕ). n ∷ ms) (same_numbers ns)

@@ -8,8 +8,10 @@ use Rattle.char_files.specs.declared.name.Anchor.TheVariants.{At}
 use Rattle.list_changes.specs.declared.change.Change.{Change}
 use Rattle.list_changes.specs.declared.change.ChangeKind.{ChangeKind}
 use Rattle.list_changes.specs.declared.change.ChangeKind.TheVariants.{Insert, Delete, Replace}
+use Rattle.looks.specs.Refusal.{number_of}
 use Rattle.looks.specs.declared.looks.Looks.{Looks}
-use Rattle.set_laws.specs.Fronts.{front_of}
+use Rattle.looks.specs.declared.refusal.Refusal.TheVariants.{OutOfMemory}
+use Rattle.set_laws.specs.Fronts.{AreSites, front_of}
 use Rattle.taken_text.specs.Noted.{AreChangesSince}
 use Rattle.texts.specs.Edit.{anchor_before, is_range_in}
 use Rattle.texts.specs.Text.{IsAnchor}
@@ -79,6 +81,12 @@ FindsName t site offset number old new =
 abbrev pub TellsFront : TextState → (site number : ℕ) → (old new : ℕ) → Type 0
 TellsFront t site number old new =
     MatchBool (nat_lt 0 site) ((number ≡ 0) × (new ≡ front_of t.operations site)) ((number ≡ NO_NUMBER) × (new ≡ old))
+
+-- the sites of which operations were taken in are put there, rising; or memory was refused
+abbrev pub PutsSites : TextState → (old : List ℕ) → (number need : ℕ) → (new : List ℕ) → Type 0
+PutsSites t old number need new =
+    ((sites : List ℕ) × AreSites t.operations sites × Puts sites old number need new)
+    ⊎ PutsNone (number_of OutOfMemory) old number need new
 
 -- the number of what a change does
 abbrev pub number_of_kind : ChangeKind → ℕ

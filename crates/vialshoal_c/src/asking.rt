@@ -3,7 +3,7 @@
 ghost use Rattle.std.specs.Prelude.{◌≡◌, ◌++◌, ◌<◌, ◌≤◌, ◌↔◌, [], length, drop, slice_get, IfSome, IsTrue};
 ghost use Rattle.texts.specs.TextState.{shown_of};
 ghost use Rattle.vialshoal_c.specs.Asking.{Finds, FindsName, PutsMessage, PutsShown, TellsChanges, TellsFront, bytes_of};
-ghost use Rattle.vialshoal_c.specs.Asking.{Hands, IsRun, TellsRun, changes_of, names_of, number_of_kind};
+ghost use Rattle.vialshoal_c.specs.Asking.{Hands, IsRun, PutsSites, TellsRun, changes_of, names_of, number_of_kind};
 ghost use Rattle.vialshoal_c.specs.Outputs.{Puts, PutsNone};
 
 use crate::numbers::{
@@ -100,6 +100,33 @@ fn fill_with_changes(changes: &[Change], room: &mut [TextChange])
         };
         at += 1;
     }
+}
+
+// The numbers of sites alike.
+fn fill_with_sites(sites: &[SiteNo], room: &mut [u16])
+    requires { length sites.now ≤ length room.old }
+    ensures { room.new ≡ sites.now ++ drop (length sites.now) room.old }
+{
+    let mut at = 0;
+    for site in sites {
+        room[at] = site.get();
+        at += 1;
+    }
+}
+
+// Puts the numbers of sites at the beginning of a room.
+fn put_sites(sites: &[SiteNo], room: &mut [u16]) -> Put
+    ensures { Puts sites.now room.old result.number result.need room.new }
+{
+    let need = sites.len() as u64;
+    if room.len() < sites.len() {
+        return Put {
+            number: TOO_SHORT,
+            need,
+        };
+    }
+    fill_with_sites(sites, room);
+    Put { number: 0, need }
 }
 
 // Whether two looks are the same.
@@ -251,6 +278,16 @@ impl Session {
         match Name::new(site, offset) {
             Some(name) => self.find(name, place),
             None => NO_NUMBER,
+        }
+    }
+
+    /// Puts the sites of which operations were taken in into a room.
+    pub(crate) fn sites(&self, room: &mut [u16]) -> Put
+        ensures { PutsSites self.now.text room.old result.number result.need room.new }
+    {
+        match self.replica.sites() {
+            Ok(sites) => put_sites(&sites, room),
+            Err(why) => Put::none(u32::from(why.number())),
         }
     }
 

@@ -5,7 +5,7 @@ ghost use Rattle.looks.specs.Looks.{plain_looks};
 ghost use Rattle.texts.specs.Edit.{deletion, recalling, restoration};
 ghost use Rattle.texts.specs.TextState.{shown_of};
 ghost use Rattle.vialshoal_c.specs.Asking.{FindsName, PutsMessage, PutsShown, TellsChanges, TellsFront, bytes_of};
-ghost use Rattle.vialshoal_c.specs.Asking.{TellsRun, names_of};
+ghost use Rattle.vialshoal_c.specs.Asking.{PutsSites, TellsRun, names_of};
 ghost use Rattle.vialshoal_c.specs.Editing.{Begins, BeginsText, Dresses, Edits, Inserts};
 ghost use Rattle.vialshoal_c.specs.Feeding.{Forgets, MergesHandle, Settles, TakesIn};
 ghost use Rattle.vialshoal_c.specs.Keeping.{Opens, OpensFile, PutsFile};
@@ -432,6 +432,27 @@ pub extern "C" fn vialshoal_front(
     let number = session.front(site, front);
     handle.close(alloc, session);
     number
+}
+
+/// The sites of which operations were taken in, rising.
+#[unsafe(no_mangle)]
+pub extern "C" fn vialshoal_sites(
+    alloc: Global,
+    handle: &mut Handle,
+    room: &mut [u16],
+    need: &mut u64,
+) -> u32
+    ensures { Reads handle.old.value handle.new.value result ((need.new ≡ 0) × (room.new ≡ room.old))
+        (λ s. PutsSites s.text room.old result need.new room.new) }
+{
+    *need = 0;
+    let Some(session) = handle.open(alloc) else {
+        return NOT_OPEN;
+    };
+    let put = session.sites(room);
+    handle.close(alloc, session);
+    *need = put.need;
+    put.number
 }
 
 /// How many messages are kept, of those that edits sent.

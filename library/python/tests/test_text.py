@@ -85,6 +85,7 @@ class AgainstAList(unittest.TestCase):
             self.assertEqual((bytes(a), a.runs()), (bytes(b), b.runs()))
             self.assertEqual(bytes(c), bytes(a))
             self.assertEqual(a.front(1), len(sent))
+            self.assertEqual(a.fronts(), {site: n for site, n in ((1, len(sent)), (2, len(back))) if n})
             with Text.load(a.store()) as again:
                 self.assertEqual((bytes(again), again.runs(), again.store()), (bytes(a), a.runs(), a.store()))
                 self.assertEqual(len(followed(b"", again)), len(a))

@@ -263,6 +263,16 @@ class Text:
         _done(_calls.vialshoal_front(self._handle, _number(site, 65535), byref(front)))
         return front.value
 
+    def fronts(self) -> dict[int, int]:
+        """How many operations of each site were taken in, by the sites that have some."""
+        room = (ctypes.c_uint16 * 16)()
+        number = _calls.vialshoal_sites(self._handle, room, len(room), byref(self._long))
+        if number == c.TOO_SHORT:
+            room = (ctypes.c_uint16 * self._long.value)()
+            number = _calls.vialshoal_sites(self._handle, room, len(room), byref(self._long))
+        _done(number)
+        return {site: self.front(site) for site in room[:self._long.value]}
+
     # -- what is shown
 
     def __len__(self) -> int:

@@ -88,6 +88,7 @@ CALLS = {
     "forget": (HANDLE, U32),
     "merge": (HANDLE, HANDLE, U64),
     "waiting": (HANDLE, U32),
+    "sites": (HANDLE, POINTER(c_uint16), c_size_t, U64),
     "front": (HANDLE, c_uint16, U32),
     "length": (HANDLE, U64),
     "bytes": (HANDLE, c_uint64, c_uint64, c_char_p, c_size_t, U64),
