@@ -182,6 +182,9 @@ class Shown(Engines):
             editor.settle()
         (self.folder / "shared").unlink()
         os.rename(self.folder / "away", self.folder / "shared")
+        for editor in editors:
+            # What is made anew is gone for a moment, at which both may show the same.
+            editor.wait_for(lambda: {"new0", "new1"} <= {*editor.text.split()}, "what both typed")
         text = self.alike(*editors)
         self.assertEqual(sorted(text.split()), sorted("one two three new0 new1".split()))
         words = {one: text.index(one) for one in ("new0", "new1")}
