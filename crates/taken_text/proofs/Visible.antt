@@ -58,3 +58,10 @@ module _ (ops : List Operation) (atoms : List Atom) (are : AreAtoms ops atoms) (
         let (k, has, named, own) = tells.0 yes in
         not_true k.hidden.value (sym (told k has) ∙ visible k.name named) own),
   )
+
+  -- a name that is here is visible unless its character is hidden
+  pub visible_unless_hidden : (c : CharName) → HasName atoms c → (hidden : Bool)
+      → ((k : Atom) → Contains atoms k → k.name ≡ c → k.hidden.value ≡ hidden) → is_visible ops c ≡ not hidden
+  visible_unless_hidden c here hidden tells =
+      let (k, has, is) = char_named atoms c here in
+      subst (λ (d : CharName). is_visible ops d ≡ not hidden) is (told k has ∙ ap not (tells k has is))

@@ -1,3 +1,4 @@
+pub mod Named
 pub mod Noted
 pub mod Shown
 pub mod Taken

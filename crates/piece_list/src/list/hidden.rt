@@ -1,4 +1,4 @@
-//! Whether a set of names has a hidden character.
+//! Whether a character is hidden, and whether one of a set of names is.
 
 ghost use Rattle.std.specs.Prelude.{◌≡◌, ◌-◌, ◌<◌, ◌↔◌, [], ◌∷◌, IsTrue, Contains};
 ghost use Rattle.operations.specs.NameSet.{IsIn, IsAmong};
@@ -12,9 +12,9 @@ use char_files::Name;
 use operations::{NameRange, NameSet};
 
 impl PieceList {
-    // Whether the character of this name is hidden, and the offset after the last of its piece, up to which
-    // the others are alike.
-    fn hidden_from(&self, name: Name) -> (bool, u32)
+    /// Whether the character of this name, which is in the list, is hidden, and the offset after the last of its piece, up to
+    /// which the others are alike. It is found by one entry of a table.
+    pub fn hidden_from(&self, name: Name) -> (bool, u32)
         requires { HasName (spelled self.now.items) name }
         ensures some { name.off < result.1 }
         ensures alike { (k : Atom) → Contains (spelled self.now.items) k
