@@ -8,6 +8,8 @@ pub mod KeptStretch
 pub mod Made
 pub mod Merging
 pub mod Messages
+pub mod NamedEdits
+pub mod NamedShown
 pub mod News
 pub mod OwnChange
 pub mod OwnInsert

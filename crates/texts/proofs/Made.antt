@@ -105,7 +105,7 @@ first_name : (names : List CharName) → 0 < length names → (c : CharName) × 
 first_name [] some = absurd (omega (arith, some))
 first_name (c ∷ names) some = (c, (0, omega arith, refl))
 
-among_some : (names : List Range) (c : CharName) → IsAmong names c → 0 < length names
+pub among_some : (names : List Range) (c : CharName) → IsAmong names c → 0 < length names
 among_some names c (k, r, lt, is, within) = omega (arith, lt)
 
 pub has_names : (t : TextState) (names : List Range) (beg end : ℕ) → NamesStretch t names beg end → beg < end

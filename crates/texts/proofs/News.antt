@@ -29,19 +29,18 @@ stands_once ops once i op at (k, lt, is) =
     once k i op less inside (sym (get_or-take i ops k op less) ∙ is ∙ sym (get_or_from_slice_get ops i op op at))
 
 -- what passes is kept
-pub kept_if_it_passes : (p : Operation → Bool) (ops : List Operation) (op : Operation) → Contains ops op → p op ≡ true
-    → Contains (filter p ops) op
-kept_if_it_passes p [] op (k, lt, is) passes = absurd (omega arith)
-kept_if_it_passes p (o ∷ ops) op (zero, lt, is) passes =
-    subst (λ (xs : List Operation). Contains xs op) (sym (cond-true _ _ _ (ap p is ∙ passes)))
+pub kept_if_it_passes : {X : Type 0} (p : X → Bool) (xs : List X) (x : X) → Contains xs x → p x ≡ true → Contains (filter p xs) x
+kept_if_it_passes p [] x (k, lt, is) passes = absurd (omega arith)
+kept_if_it_passes {X} p (y ∷ xs) x (zero, lt, is) passes =
+    subst (λ (kept : List X). Contains kept x) (sym (cond-true _ _ _ (ap p is ∙ passes)))
     (0, omega arith, is)
-kept_if_it_passes p (o ∷ ops) op (suc k, lt, is) passes =
-    let rest = kept_if_it_passes p ops op (k, omega arith, is) passes in
-    elim (cases_Bool (p o)) [
+kept_if_it_passes {X} p (y ∷ xs) x (suc k, lt, is) passes =
+    let rest = kept_if_it_passes p xs x (k, omega arith, is) passes in
+    elim (cases_Bool (p y)) [
       | inl is_so ↦
           let (n, within, at) = rest in
-          subst (λ (xs : List Operation). Contains xs op) (sym (cond-true _ _ _ is_so)) (suc n, omega arith, at)
-      | inr isnt ↦ subst (λ (xs : List Operation). Contains xs op) (sym (cond-false _ _ _ isnt)) rest
+          subst (λ (kept : List X). Contains kept x) (sym (cond-true _ _ _ is_so)) (suc n, omega arith, at)
+      | inr isnt ↦ subst (λ (kept : List X). Contains kept x) (sym (cond-false _ _ _ isnt)) rest
     ]
 
 -- what is kept was there

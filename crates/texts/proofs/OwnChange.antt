@@ -80,7 +80,7 @@ one_passes_both p false true c xs ys is e = rw is e
 one_passes_both p true false c xs ys is e = e
 one_passes_both p false false c xs ys is e = e
 
-filter_both : (p q : Char → Bool) (xs : List Char) → filter (λ c. p c && q c) xs ≡ filter p (filter q xs)
+pub filter_both : (p q : Char → Bool) (xs : List Char) → filter (λ c. p c && q c) xs ≡ filter p (filter q xs)
 filter_both p q [] = refl
 filter_both p q (c ∷ xs) =
     one_passes_both p (p c) (q c) c (filter (λ (x : Char). p x && q x) xs) (filter q xs) refl

@@ -20,10 +20,12 @@ use Rattle.texts.specs.Edit.{Edit, after, first_part, is_in_text, names_shown, o
 use Rattle.texts.specs.Edit.{shown_after, stretch_named, with_operation}
 use Rattle.texts.specs.Fronts.{front_in}
 use Rattle.texts.specs.Merge.{IsUnionOf, Merges}
+use Rattle.texts.specs.Named.{EditsByNames, are_here, shown_by_names}
 use Rattle.texts.specs.Order.{chars_of, cut, dress, is_named, insert_at, with_looks}
 use Rattle.texts.specs.Past.{IsPastOf}
 use Rattle.texts.specs.Text.{AreCharNames, IsText}
 use Rattle.texts.specs.TextState.{TextState, shown_items, shown_of}
+use Rattle.texts.specs.declared.by_names.ByNames.{ByNames}
 use Rattle.texts.specs.declared.front.Front.{Front}
 
 -- the same characters in one order, with the same bytes and looks, and the same of them shown
@@ -166,3 +168,10 @@ pub record StoodAt (fronts : List Front) (t was : TextState) : Type 0 where
 abbrev pub ThePastIsTheTextOfThen : Type 0
 ThePastIsTheTextOfThen = (t was p : TextState) (fronts : List Front) → IsText t → StoodAt fronts t was
     → IsPastOf t fronts p → AreAlike p was
+
+-- an edit by names that was done shows what it is to show: those that it names are hidden, or shown, and all others are as they
+-- were; what the site deleted last stays that
+abbrev pub EditsByNamesArePlain : Type 0
+EditsByNamesArePlain = (t new : TextState) (what : ByNames) (names : List Range) (count : ℕ) (messages : List (List ℕ)) → IsText t
+    → IsTrue (are_here t names) → EditsByNames what names t (Ok count) new messages
+    → (shown_of new ≡ shown_by_names t what names) × (new.last_stretch ≡ t.last_stretch) × (new.last_set ≡ t.last_set)

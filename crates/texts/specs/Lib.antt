@@ -3,6 +3,7 @@ pub mod Edit
 pub mod Fronts
 pub mod Laws
 pub mod Merge
+pub mod Named
 pub mod Order
 pub mod Outcome
 pub mod Own

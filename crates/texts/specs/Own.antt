@@ -2,7 +2,7 @@
 use Rattle.std.specs.Prelude.{◌≡◌, ℕ, zero, suc, ◌⊎◌, List, [], ◌∷◌, ◌++◌, Some, None, Result, Ok, Err}
 use Rattle.looks.specs.declared.refusal.Refusal.{Refusal}
 use Rattle.looks.specs.declared.refusal.Refusal.TheVariants.{OutOfMemory, Scattered}
-use Rattle.operations.specs.Operation.{Operation}
+use Rattle.operations.specs.Operation.{Operation, OpKind}
 use Rattle.operations.specs.Spelling.{spelling}
 use Rattle.texts.specs.Edit.{with_operation}
 use Rattle.texts.specs.Outcome.{refusal_for}
@@ -23,6 +23,10 @@ abbrev pub SendsOne : TextState → Operation → Result (Unit {0}) Refusal → 
 SendsOne t op (Ok made) new sent sent' =
     (refusal_for t op.kind ≡ None) × (new ≡ with_operation t op) × (sent' ≡ sent ++ spelling op ∷ [])
 SendsOne t op (Err why) new sent sent' = IsWhyNot t op why × (new ≡ t) × (sent' ≡ sent)
+
+-- some operation of the site's isn't refused
+abbrev pub MayGoOn : TextState → Type 0
+MayGoOn t = (kind : OpKind) × (refusal_for t kind ≡ None)
 
 -- what an edit of one operation answers
 abbrev pub answer_of_one : Result (Unit {0}) Refusal → Result ℕ EditRefusal

@@ -5,7 +5,8 @@ ghost use Rattle.operations.specs.Operation.{Operation};
 ghost use Rattle.tree_order.specs.Good.{Good};
 ghost use Rattle.set_laws.specs.Sets.{AreIdentified};
 ghost use Rattle.texts.specs.Laws.{ShowsTheDefinition, OperationsDetermineTheText, FrontsDetermineTheText};
-ghost use Rattle.texts.specs.Laws.{ADeleteKeepsItsStretch, ChangesLead, GrownTextsKeepTheOrder, HasOneTextWith};
+ghost use Rattle.texts.specs.Laws.{ADeleteKeepsItsStretch, ChangesLead, EditsByNamesArePlain, GrownTextsKeepTheOrder};
+ghost use Rattle.texts.specs.Laws.{HasOneTextWith};
 ghost use Rattle.texts.specs.Laws.{MergesShowTheUnion, OwnEditsArePlain, ThePastIsTheTextOfThen};
 ghost use Rattle.texts.specs.Text.{IsText};
 ghost use Rattle.texts.specs.TextState.{TextState};
@@ -62,4 +63,10 @@ pub fn lemma_merges_show_the_union()
 /// what is held.
 pub fn lemma_the_past_is_the_text_of_then()
     ensures { ThePastIsTheTextOfThen }
+{}
+
+/// A law: an edit by names hides or shows those that it names, leaves all others as they were, and keeps what the site deleted
+/// last.
+pub fn edits_by_names_are_plain()
+    ensures { EditsByNamesArePlain }
 {}

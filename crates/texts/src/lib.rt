@@ -2,6 +2,7 @@
 //! wait, and merges.
 #![tactic(auto)]
 
+mod by_names;
 mod edit_refusal;
 mod fate;
 mod front;
@@ -15,6 +16,7 @@ mod settled;
 mod source;
 mod took;
 
+pub use by_names::ByNames;
 pub use edit_refusal::EditRefusal;
 pub use fate::Fate;
 pub use front::{Front, front_in};

@@ -8,6 +8,7 @@ ghost use Rattle.texts.specs.Text.{IsAnchor, IsText};
 ghost use Rattle.texts.specs.TextState.{all_told, empty_text, shown_of};
 ghost use Rattle.taken_text.specs.Noted.{AreChangesSince};
 
+mod by_names;
 mod deleting;
 mod dressing;
 mod editing;

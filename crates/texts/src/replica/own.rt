@@ -12,7 +12,7 @@ ghost use Rattle.set_laws.specs.Verdict.{ready};
 ghost use Rattle.waiting_room.specs.Room.{is_behind};
 ghost use Rattle.texts.specs.Edit.{own_op};
 ghost use Rattle.texts.specs.Outcome.{is_scattered, passes_file, refusal_for};
-ghost use Rattle.texts.specs.Own.{answer_of_one, refused_after};
+ghost use Rattle.texts.specs.Own.{MayGoOn, answer_of_one, refused_after};
 ghost use Rattle.texts.specs.Taking.{HasTaken, IsJudged};
 
 use super::Replica;
@@ -89,7 +89,7 @@ impl Replica {
 
     // The site's next operation, which is of this kind.
     fn next_op(&self, kind: Kind) -> Op
-        requires allowed { refusal_for self.now (kind_of kind) ≡ None }
+        requires allowed { MayGoOn self.now }
         requires valid { IsKind self.now.site (kind_of kind) }
         ensures { result ≡ own_op self.now (kind_of kind) }
     {
@@ -102,7 +102,7 @@ impl Replica {
 
     // Takes in the site's next operation, which is of this kind, and sends it. An `Err` changes nothing.
     pub(crate) fn make(&mut self, kind: Kind, outbox: &mut Outbox) -> Result<(), Refusal>
-        requires allowed { refusal_for self.old (kind_of kind) ≡ None }
+        requires allowed { MayGoOn self.old }
         requires valid { IsKind self.old.site (kind_of kind) }
         requires ready { IsJudged self.old (own_op self.old (kind_of kind)) ready }
         ensures ok { let op = own_op self.old (kind_of kind) in

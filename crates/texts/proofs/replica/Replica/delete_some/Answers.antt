@@ -106,9 +106,7 @@ returns-in_err-set c =
 
 pub make-requires-clause-allowed : goal.make-requires-clause-allowed
 make-requires-clause-allowed c =
-    let named = (goal.at.make-requires-clause-allowed c).After-lemma_may_be_named in
-    subst (λ (ns : List Range). refusal_for c.args.self.now (delete ns) ≡ None) (sym (names_are named))
-    (is_allowed named)
+    (delete (names_shown c.args.self.now c.args.beg c.args.end), is_allowed ((goal.at.make-requires-clause-allowed c).After-lemma_may_be_named))
 
 pub make-requires-clause-valid : goal.make-requires-clause-valid
 make-requires-clause-valid c =

@@ -77,9 +77,7 @@ returns-in_err-names c =
 pub make-requires-clause-allowed : goal.make-requires-clause-allowed
 make-requires-clause-allowed c =
     let at = goal.at.make-requires-clause-allowed c in
-    subst (λ (k : OpKind). refusal_for c.args.self.now k ≡ None)
-    (sym (same_change c.args.sel _ _ _ _ c.selected-looks.ensures.value (names_are at.After-lemma_may_be_named)))
-    (is_allowed at.After-lemma_may_be_named)
+    (change (at.After-lemma_is_text), is_allowed (at.After-lemma_may_be_named))
 
 pub make-requires-clause-valid : goal.make-requires-clause-valid
 make-requires-clause-valid c =

@@ -63,10 +63,10 @@ returns-in_err-kind-clause-sends c =
 
 pub make-requires-clause-allowed : goal.make-requires-clause-allowed
 make-requires-clause-allowed c =
-    let at = goal.at.make-requires-clause-allowed c in
-    subst (λ (k : OpKind). refusal_for c.args.self.now k ≡ None)
-    (sym (kind_is at.After-piece (kind_of c.in_ok-kind.kind) c.in_ok-kind.ensures.0))
-    (refused_so at.After-insert_refusal ∙ c.in_default.is)
+    let at = goal.at.make-requires-clause-allowed c in (
+      (own_insert c.args.self.now c.args.pos c.args.piece.now.looks c.args.piece.now.bytes).kind,
+      refused_so (at.After-insert_refusal) ∙ c.in_default.is,
+    )
 
 pub make-requires-clause-ready : goal.make-requires-clause-ready
 make-requires-clause-ready c =

@@ -25,9 +25,7 @@ returns-in_err-names c =
 pub make-requires-clause-allowed : goal.make-requires-clause-allowed
 make-requires-clause-allowed c =
     let t = c.args.self.now in
-    let allowed : refusal_for t (restore t.last_set) ≡ None = c.in_default.ensures.none (restore t.last_set) refl in
-    let names_are : c.in_ok-names.names ≡ t.last_set = c.in_ok-names.ensures.ok ∙ ap (λ (t : TextState). t.last_set) c.self.view_is in
-    subst (λ (names : List Range). refusal_for t (restore names) ≡ None) (sym names_are) allowed
+    (restore t.last_set, c.in_default.ensures.none (restore t.last_set) refl)
 
 pub make-requires-clause-valid : goal.make-requires-clause-valid
 make-requires-clause-valid c =
