@@ -3,7 +3,9 @@ use Rattle.std.specs.Prelude.{ℕ, List, [], Bool, Option, Result, Ok, Err}
 use Rattle.looks.specs.declared.refusal.Refusal.{Refusal}
 use Rattle.looks.specs.declared.refusal.Refusal.TheVariants.{OutOfMemory}
 use Rattle.char_files.specs.Stretch.{Item}
+use Rattle.operations.specs.NameSet.{Range}
 use Rattle.texts.specs.Edit.{Edit}
+use Rattle.texts.specs.declared.by_names.ByNames.{ByNames}
 use Rattle.texts.specs.declared.edit_refusal.EditRefusal.{EditRefusal}
 use Rattle.texts.specs.declared.edit_refusal.EditRefusal.TheVariants.{Whole, Partial}
 use Rattle.texts.specs.declared.merge_refusal.MergeRefusal.{MergeRefusal}
@@ -35,13 +37,14 @@ pub data Task : Type 0 where
   keep : (text : ℕ) (name : List ℕ) → Task
   reopen : (text : ℕ) (name : List ℕ) → Task
 
--- What may happen. A desk is told by its index among the run's. An edit is a site's own, of one of its texts; a copy puts what
--- is shown from beg to end of one of its texts into another one, or the same; a taking hands a message to one of its texts; a
+-- What may happen. A desk is told by its index among the run's. An edit is a site's own, of one of its texts, by positions or by
+-- names; a copy puts what is shown from beg to end of one of its texts into another one, or the same; a taking hands a message to one of its texts; a
 -- settling drains what waits there; a merge takes in what the text of this number on another desk, or on the same, holds; a
 -- query prints a part of a text; a desk is asked a task, or a cell of its screen is clicked; what else a line asks is nothing
 -- that there is.
 pub data Event : Type 0 where
   edit : (desk text : ℕ) (e : Edit) → Event
+  edit_by_names : (desk text : ℕ) (what : ByNames) (names : List Range) → Event
   copy : (desk text beg end other pos : ℕ) → Event
   take : (desk text : ℕ) (d : Delivery) → Event
   settle : (desk text : ℕ) → Event

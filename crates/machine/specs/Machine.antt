@@ -5,9 +5,10 @@ use Rattle.looks.specs.declared.refusal.Refusal.TheVariants.{BadEvent, OutOfMemo
 use Rattle.texts.specs.TextState.{TextState}
 use Rattle.machine.specs.Commands.{IsTaskAt}
 use Rattle.machine.specs.SiteTexts.{SiteTexts}
-use Rattle.machine.specs.Events.{Delivery, Event, Part, Reply, Task, ask, bytes, click, copy, edit, merge, messages_of}
+use Rattle.machine.specs.Events.{Delivery, Event, Part, Reply, Task, ask, bytes, click, copy, edit, edit_by_names, merge, messages_of}
 use Rattle.machine.specs.Events.{query, sent, settle, take, unknown, untouched}
-use Rattle.machine.specs.OnTexts.{CopiesText, CopiesTextShort, MergesText, MergesTextShort, QueriesText, SettlesText, TakesText}
+use Rattle.machine.specs.OnTexts.{CopiesText, CopiesTextShort, EditsNames, EditsNamesShort, MergesText, MergesTextShort, QueriesText}
+use Rattle.machine.specs.OnTexts.{SettlesText, TakesText}
 use Rattle.machine.specs.OnTexts.{TakesTextShort, is_asked_in}
 use Rattle.machine.specs.State.{AtText, IsDeskAt, IsTextAt, Refuses, State}
 use Rattle.machine.specs.Tasks.{DoesTask, EditsAt, EditsShortAt, ShortTask}
@@ -21,6 +22,8 @@ message_in s (bytes message) = Some message
 -- What an event does where memory is there, with this part of the files: its reply, and the state after it.
 abbrev pub Does : State → Event → Part → Reply → State → Type 0
 Does s (edit i text e) part r new = (part ≡ untouched) × EditsAt s i text e r new
+Does s (edit_by_names i text what names) part r new =
+    (part ≡ untouched) × AtText (EditsNames what names r) s i text (messages_of r) new
 Does s (copy i text beg end other pos) part r new =
     (part ≡ untouched)
     × ((t : TextState) × IsTextAt s i text t × AtText (CopiesText t beg end pos r) s i other (messages_of r) new)
@@ -42,6 +45,8 @@ Does s unknown part r new = (part ≡ untouched) × Refuses s BadEvent r new
 -- edit or a merge stand; or a draining was stopped.
 abbrev pub Short : State → Event → Part → Reply → State → Type 0
 Short s (edit i text e) part r new = (part ≡ untouched) × EditsShortAt s i text e r new
+Short s (edit_by_names i text what names) part r new =
+    (part ≡ untouched) × AtText (EditsNamesShort what names r) s i text (messages_of r) new
 Short s (copy i text beg end other pos) part r new =
     (part ≡ untouched)
     × ((t : TextState) × IsTextAt s i text t × AtText (CopiesTextShort t beg end pos r) s i other (messages_of r) new)

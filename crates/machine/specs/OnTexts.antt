@@ -6,16 +6,18 @@ use Rattle.looks.specs.declared.refusal.Refusal.{Refusal}
 use Rattle.looks.specs.declared.refusal.Refusal.TheVariants.{FileSpent, OutOfMemory, OutOfRange}
 use Rattle.char_files.specs.Stretch.{Stretch}
 use Rattle.char_files.specs.declared.TheConstants.{MAX_FILE}
-use Rattle.operations.specs.NameSet.{names_of}
+use Rattle.operations.specs.NameSet.{Range, names_of}
 use Rattle.set_laws.specs.Fronts.{AreSites}
 use Rattle.texts.specs.Draining.{Drains}
 use Rattle.texts.specs.Edit.{Edit, insertion, is_in_text}
 use Rattle.texts.specs.Edit.{is_range_in, plan}
 use Rattle.texts.specs.Merge.{Merges, MergesShort}
+use Rattle.texts.specs.Named.{EditsByNames, EditsByNamesShort, are_here}
 use Rattle.texts.specs.Outcome.{Edits, EditsShort, Shows}
 use Rattle.texts.specs.Past.{IsPastOf}
 use Rattle.texts.specs.Take.{Takes, TakesShort}
 use Rattle.texts.specs.TextState.{TextState, shown_items, shown_of}
+use Rattle.texts.specs.declared.by_names.ByNames.{ByNames}
 use Rattle.texts.specs.declared.edit_refusal.EditRefusal.{EditRefusal}
 use Rattle.texts.specs.declared.merge_refusal.MergeRefusal.{MergeRefusal}
 use Rattle.texts.specs.declared.took.Took.{Took}
@@ -43,6 +45,22 @@ EditsTextShort e r t new =
     IsTrue (is_in_text t e)
     × ((result : Result ℕ EditRefusal) × (messages : List (List ℕ)) × EditsShort t (plan t e) result new messages
     × Shows t e result new × (r ≡ edit_reply result messages))
+
+-- An edit of a text by names, where memory is there: one of a name that isn't here is refused for that alone, and any other does
+-- what it is to do.
+abbrev pub EditsNames : ByNames → List Range → Reply → TextState → TextState → Type 0
+EditsNames what names r t new =
+    MatchBool (are_here t names)
+    ((result : Result ℕ EditRefusal) × (messages : List (List ℕ)) × EditsByNames what names t result new messages
+    × (r ≡ edit_reply result messages))
+    ((r ≡ refuses OutOfRange) × (new ≡ t))
+
+-- the same where memory was refused
+abbrev pub EditsNamesShort : ByNames → List Range → Reply → TextState → TextState → Type 0
+EditsNamesShort what names r t new =
+    IsTrue (are_here t names)
+    × ((result : Result ℕ EditRefusal) × (messages : List (List ℕ)) × EditsByNamesShort what names t result new messages
+    × (r ≡ edit_reply result messages))
 
 -- what a copy puts in, after the first pos characters shown: what t shows from beg to end
 abbrev pub copied : TextState → (beg end pos : ℕ) → Edit
@@ -133,6 +151,11 @@ abbrev pub EditsTextSending : TextState → Edit → Result ℕ EditRefusal → 
     → (before after : List (List ℕ)) → Type 0
 EditsTextSending t e = Sending (EditsText e) (EditsTextShort e) t
 
+-- so it is with an edit by names
+abbrev pub EditsNamesSending : TextState → ByNames → List Range → Result ℕ EditRefusal → TextState
+    → (before after : List (List ℕ)) → Type 0
+EditsNamesSending t what names = Sending (EditsNames what names) (EditsNamesShort what names) t
+
 -- so it is with a copy out of t
 abbrev pub CopiesTextSending : TextState → (beg end pos : ℕ) → TextState → Result ℕ EditRefusal → TextState
     → (before after : List (List ℕ)) → Type 0
@@ -142,6 +165,12 @@ CopiesTextSending t beg end pos = Sending (CopiesText t beg end pos) (CopiesText
 abbrev pub EditsSite : SiteTexts → (text : ℕ) → Edit → Result ℕ EditRefusal → SiteTexts
     → (before after : List (List ℕ)) → Type 0
 EditsSite d text e result new before after = InText (λ t t'. EditsTextSending t e result t' before after) d text new
+
+-- an edit by names of one of them
+abbrev pub EditsNamesSite : SiteTexts → (text : ℕ) → ByNames → List Range → Result ℕ EditRefusal → SiteTexts
+    → (before after : List (List ℕ)) → Type 0
+EditsNamesSite d text what names result new before after =
+    InText (λ t t'. EditsNamesSending t what names result t' before after) d text new
 
 -- a copy out of one of a desk's texts into another one, or the same
 abbrev pub CopiesSite : SiteTexts → (text beg end other pos : ℕ) → Result ℕ EditRefusal → SiteTexts

@@ -7,11 +7,11 @@ use Rattle.shelf.specs.Files.{Files}
 use Rattle.texts.specs.Edit.{Edit, insertion, recalling}
 use Rattle.texts.specs.TextState.{TextState}
 use Rattle.machine.specs.SiteTexts.{SiteTexts}
-use Rattle.machine.specs.Events.{Delivery, Event, Part, Reply, Task, arrange, ask, bytes, change, click, copy, edit, forget}
+use Rattle.machine.specs.Events.{Delivery, Event, Part, Reply, Task, arrange, ask, bytes, change, click, copy, edit, edit_by_names, forget}
 use Rattle.machine.specs.Events.{keep, load, merge, messages_of, print, insert_at_caret, recall_at_caret, query, refuse, reopen, search, sent, settle}
 use Rattle.machine.specs.Events.{store, take, unknown, untouched}
 use Rattle.machine.specs.Machine.{Does, Replies, Short, message_in}
-use Rattle.machine.specs.OnTexts.{CopiesText, CopiesTextShort, EditsText, EditsTextShort, MergesText, MergesTextShort}
+use Rattle.machine.specs.OnTexts.{CopiesText, CopiesTextShort, EditsNames, EditsNamesShort, EditsText, EditsTextShort, MergesText, MergesTextShort}
 use Rattle.machine.specs.OnTexts.{SettlesText, TakesText, TakesTextShort}
 use Rattle.machine.specs.State.{AtText, IsDeskAt, Refuses, State}
 use Rattle.machine.specs.Tasks.{AtCaret, DoesTask, EditSteps, EditsAt, EditsShortAt, IfCaret, Searches, ShortTask}
@@ -133,6 +133,8 @@ module _ (now : Files) where
   does_over : (s : State) (e : Event) (r : Reply) (new : State) → Does s e untouched r new
       → Does (over s) e untouched r (over new)
   does_over s (edit i text e) r new (free, does) = (free, edits_over s i text e r new does)
+  does_over s (edit_by_names i text what names) r new (free, does) =
+      (free, at_text_over (EditsNames what names r) s new i text (messages_of r) does)
   does_over s (copy i text beg end other pos) r new (free, (t, there, does)) =
       (free, (t, there, at_text_over (CopiesText t beg end pos r) s new i other (messages_of r) does))
   does_over s (take i text d) r new (free, does) = (
@@ -151,6 +153,8 @@ module _ (now : Files) where
   falls_short_over : (s : State) (e : Event) (r : Reply) (new : State) → Short s e untouched r new
       → Short (over s) e untouched r (over new)
   falls_short_over s (edit i text e) r new (free, does) = (free, edits_short_over s i text e r new does)
+  falls_short_over s (edit_by_names i text what names) r new (free, does) =
+      (free, at_text_over (EditsNamesShort what names r) s new i text (messages_of r) does)
   falls_short_over s (copy i text beg end other pos) r new (free, (t, there, does)) =
       (free, (t, there, at_text_over (CopiesTextShort t beg end pos r) s new i other (messages_of r) does))
   falls_short_over s (take i text d) r new (free, (message, told, does)) =
@@ -208,6 +212,7 @@ short_task_asks_for_none s i d w (reopen text name) part r new none does = absur
 whole_asks_for_none : (s : State) (e : Event) (part : Part) (r : Reply) (new : State) → AsksForNoFile e → Does s e part r new
     → part ≡ untouched
 whole_asks_for_none s (edit i text e) part r new none does = does.0
+whole_asks_for_none s (edit_by_names i text what names) part r new none does = does.0
 whole_asks_for_none s (copy i text beg end other pos) part r new none does = does.0
 whole_asks_for_none s (take i text d) part r new none does = does.0
 whole_asks_for_none s (settle i text) part r new none does = does.0
@@ -220,6 +225,7 @@ whole_asks_for_none s unknown part r new none does = does.0
 short_asks_for_none : (s : State) (e : Event) (part : Part) (r : Reply) (new : State) → AsksForNoFile e → Short s e part r new
     → part ≡ untouched
 short_asks_for_none s (edit i text e) part r new none does = does.0
+short_asks_for_none s (edit_by_names i text what names) part r new none does = does.0
 short_asks_for_none s (copy i text beg end other pos) part r new none does = does.0
 short_asks_for_none s (take i text d) part r new none does = does.0
 short_asks_for_none s (settle i text) part r new none does = does.0

@@ -12,11 +12,13 @@ use Rattle.texts.specs.Text.{IsText}
 use Rattle.texts.specs.TextState.{TextState, all_told, with_room}
 use Rattle.convergence.proofs.OneWay.{text_with_room}
 use Rattle.machine.specs.SiteTexts.{SiteTexts, InText, IsTextOf}
-use Rattle.machine.specs.OnTexts.{CopiesText, CopiesTextShort, EditsText, EditsTextShort, MergesText, MergesTextShort}
+use Rattle.machine.specs.OnTexts.{CopiesText, CopiesTextShort, EditsNames, EditsNamesShort, EditsText, EditsTextShort, MergesText, MergesTextShort}
 use Rattle.machine.specs.OnTexts.{SettlesText, TakesText, TakesTextShort}
 use Rattle.machine.specs.State.{State, Tells}
 use Rattle.machine_laws.proofs.Going.{TextGoes, TextsGo, as_they_are, begins, by_text, copies, copies_short, edits}
+use Rattle.machine_laws.proofs.Going.{edits_names, edits_names_short}
 use Rattle.machine_laws.proofs.Going.{edits_short, empties, merges_short, merges_so, settles_so, takes, takes_short}
+use Rattle.machine_laws.proofs.Growing.{named_edits_grow, named_edits_short_grow}
 use Rattle.machine_laws.proofs.Growing.{copies_grow, copies_short_grow, edits_grow, edits_short_grow, merges_grow}
 use Rattle.machine_laws.proofs.Growing.{merges_short_grow, settles_grow, takes_grow, takes_short_grow}
 use Rattle.machine_laws.proofs.Reaching.{set_old}
@@ -88,6 +90,10 @@ module _ (plain : OwnEditsArePlain) (none : AreIdentified []) (s : State) where
       grown_follows (EditsText e r) (edits_grow plain e r) t u (t', does, is)
   goes_follows t u (t', edits_short e r does, is) =
       grown_follows (EditsTextShort e r) (edits_short_grow plain e r) t u (t', does, is)
+  goes_follows t u (t', edits_names what names r does, is) =
+      grown_follows (EditsNames what names r) (named_edits_grow what names r) t u (t', does, is)
+  goes_follows t u (t', edits_names_short what names r does, is) =
+      grown_follows (EditsNamesShort what names r) (named_edits_short_grow what names r) t u (t', does, is)
   goes_follows t u (t', copies from beg end pos r does, is) =
       grown_follows (CopiesText from beg end pos r) (copies_grow plain from beg end pos r) t u (t', does, is)
   goes_follows t u (t', copies_short from beg end pos r does, is) =

@@ -9,21 +9,23 @@ use Rattle.looks.specs.declared.refusal.Refusal.TheVariants.{ReadFault, WriteFau
 use Rattle.std.specs.Prelude.{◌⊎◌, ◌==◌, ◌&&◌, MatchBool, MatchOption, slice_get, slice_set}
 use Rattle.std.proofs.lemmas.Bool.{cond_both}
 use Rattle.char_files.specs.declared.name.Anchor.{Anchor}
+use Rattle.operations.specs.NameSet.{Range}
 use Rattle.operations.specs.Operation.{Operation}
 use Rattle.operations.specs.Spelling.{HasSpelling}
 use Rattle.texts.specs.Edit.{Edit, anchor_before, insertion, recalling}
 use Rattle.texts.specs.Taking.{HasTakenAll}
+use Rattle.texts.specs.declared.by_names.ByNames.{ByNames}
 use Rattle.texts.specs.declared.merge_refusal.MergeRefusal.{MergeRefusal}
 use Rattle.texts.specs.declared.merge_refusal.MergeRefusal.TheVariants.{Whole as MergesNothing, Stopped}
 use Rattle.texts.specs.declared.took.Took.{Took}
 use Rattle.texts.specs.TextState.{TextState, empty_text, shown_of, with_room}
 use Rattle.machine.specs.SiteTexts.{SiteTexts, InText}
-use Rattle.machine.specs.Events.{Event, Part, Reply, Task, arrange, ask, change, click, copy, done, edit, failed, forget}
+use Rattle.machine.specs.Events.{Event, Part, Reply, Task, arrange, ask, change, click, copy, done, edit, edit_by_names, failed, forget}
 use Rattle.machine.specs.Events.{forgot, found, keep, load, merge, merge_reply, messages_of, not_found, opens, print, prints}
 use Rattle.machine.specs.Events.{insert_at_caret, recall_at_caret, query, refuse, refuses, reopen, search, settle, store, take, take_reply}
 use Rattle.machine.specs.Events.{unknown, untouched, went_well}
 use Rattle.machine.specs.Machine.{Does, Replies, Short, message_in}
-use Rattle.machine.specs.OnTexts.{CopiesText, CopiesTextShort, EditsText, EditsTextShort, MergesText, MergesTextShort}
+use Rattle.machine.specs.OnTexts.{CopiesText, CopiesTextShort, EditsNames, EditsNamesShort, EditsText, EditsTextShort, MergesText, MergesTextShort}
 use Rattle.machine.specs.OnTexts.{Prints, SettlesText, TakesText, TakesTextShort, is_asked_in}
 use Rattle.machine.specs.State.{AtText, IsDeskAt, IsTextAt, Refuses, State, Tells}
 use Rattle.machine.specs.Tasks.{AtCaret, BeginsAs, BeginsWith, DoesTask, EditSteps, EditsAt, EditsShortAt, FileBecomes}
@@ -38,12 +40,14 @@ use Rattle.machine_laws.proofs.OneReply.{ComesTo, shown_parts}
 use Rattle.machine_laws.proofs.Reopening.{Begins}
 use Rattle.machine_laws.proofs.Rooms.{by_test}
 
--- The ways in which an event may change a text of the run: an edit, in either way; a copy out of another one; a message; a
+-- The ways in which an event may change a text of the run: an edit, by positions or by names, in either way; a copy out of another one; a message; a
 -- settling; a merge of a text that is there; its room is emptied; or nothing was done in it yet, and it begins anew with
 -- operations that messages tell.
 pub data TextGoes (s : State) (t u : TextState) : Type 0 where
   edits : (e : Edit) (r : Reply) → EditsText e r t u → TextGoes s t u
   edits_short : (e : Edit) (r : Reply) → EditsTextShort e r t u → TextGoes s t u
+  edits_names : (what : ByNames) (names : List Range) (r : Reply) → EditsNames what names r t u → TextGoes s t u
+  edits_names_short : (what : ByNames) (names : List Range) (r : Reply) → EditsNamesShort what names r t u → TextGoes s t u
   copies : (from : TextState) (beg end pos : ℕ) (r : Reply) → CopiesText from beg end pos r t u → TextGoes s t u
   copies_short : (from : TextState) (beg end pos : ℕ) (r : Reply) → CopiesTextShort from beg end pos r t u → TextGoes s t u
   takes : (message : List ℕ) (r : Reply) → TakesText message r t u → TextGoes s t u
@@ -345,6 +349,8 @@ query_goes s new r t q false is same = refused_goes s new OutOfRange r (is, same
 
 does_go : (s : State) (e : Event) (part : Part) (r : Reply) (new : State) → Does s e part r new → Goes s r new
 does_go s (edit i text e) part r new does = edit_goes s i text e r new does.1
+does_go s (edit_by_names i text what names) part r new does =
+    at_text_goes (EditsNames what names r) s new i text r (λ t u. edits_names what names r) does.1
 does_go s (copy i text beg end other pos) part r new (free, (t, there, does)) =
     at_text_goes (CopiesText t beg end pos r) s new i other r (λ u v. copies t beg end pos r) does
 does_go s (take i text d) part r new does = taken_goes s new i text (message_in s d) r does.1
@@ -359,6 +365,8 @@ does_go s unknown part r new does = refused_goes s new BadEvent r does.1
 
 short_goes : (s : State) (e : Event) (part : Part) (r : Reply) (new : State) → Short s e part r new → Goes s r new
 short_goes s (edit i text e) part r new short = edit_goes_short s i text e r new short.1
+short_goes s (edit_by_names i text what names) part r new short =
+    at_text_goes (EditsNamesShort what names r) s new i text r (λ t u. edits_names_short what names r) short.1
 short_goes s (copy i text beg end other pos) part r new (free, (t, there, short)) =
     at_text_goes (CopiesTextShort t beg end pos r) s new i other r (λ u v. copies_short t beg end pos r) short
 short_goes s (take i text d) part r new (free, (message, told, short)) = silent_goes (TakesTextShort message r) s new i text r

@@ -6,6 +6,7 @@ use Rattle.std.proofs.lemmas.List.{append-nil}
 use Rattle.looks.specs.declared.refusal.Refusal.{Refusal}
 use Rattle.looks.specs.declared.refusal.Refusal.TheVariants.{RoomFull}
 use Rattle.char_files.specs.declared.TheConstants.{MAX_FILE}
+use Rattle.operations.specs.NameSet.{Range}
 use Rattle.operations.specs.Operation.{Operation}
 use Rattle.texts.specs.Draining.{Drains, ends, stops, takes_in, throws_away}
 use Rattle.texts.specs.Edit.{Edit, after, is_in_text, plan, with_operation}
@@ -16,6 +17,7 @@ use Rattle.texts.specs.Take.{Becomes, Enters, Stays, TakesIn}
 use Rattle.texts.specs.Taking.{HasTakenAll}
 use Rattle.texts.specs.Text.{IsText}
 use Rattle.texts.specs.TextState.{TextState, with_room}
+use Rattle.texts.specs.declared.by_names.ByNames.{ByNames}
 use Rattle.texts.specs.declared.edit_refusal.EditRefusal.{EditRefusal}
 use Rattle.texts.specs.declared.edit_refusal.EditRefusal.TheVariants.{Whole, Partial}
 use Rattle.texts.specs.declared.fate.Fate.{Fate}
@@ -25,8 +27,9 @@ use Rattle.texts.specs.declared.merge_refusal.MergeRefusal.TheVariants.{Whole as
 use Rattle.texts.specs.declared.took.Took.{Took}
 use Rattle.texts.specs.declared.took.Took.TheVariants.{Waits}
 use Rattle.machine.specs.Events.{Reply}
-use Rattle.machine.specs.OnTexts.{CopiesText, CopiesTextShort, EditsText, EditsTextShort, SettlesText, TakesText}
+use Rattle.machine.specs.OnTexts.{CopiesText, CopiesTextShort, EditsNames, EditsNamesShort, EditsText, EditsTextShort, SettlesText, TakesText}
 use Rattle.machine.specs.OnTexts.{TakesTextShort, copied, is_copy_in}
+use Rattle.machine_laws.proofs.NamedEdits.{left_short, made_or_left, named_text, named_text_short}
 use Rattle.machine_laws.proofs.Reaching.{copies_text, copies_text_short, edits_text, edits_text_short, left_by_merge}
 use Rattle.machine_laws.proofs.Reaching.{merged, merged_short, settles_text, takes_text, takes_text_short}
 use Rattle.machine_laws.proofs.Rooms.{by_test}
@@ -185,6 +188,20 @@ pub merges_short_grow : (t u : TextState) (result : Result ℕ MergeRefusal) (ne
     → IsText t → Grows t new
 merges_short_grow t u result new merges is =
     grown t new is (merged_short t u result new merges) (merge_adds_short t u result new merges)
+
+-- and an edit by names
+pub named_edits_grow : (what : ByNames) (names : List Range) (r : Reply) (t new : TextState) → EditsNames what names r t new → IsText t
+    → Grows t new
+named_edits_grow what names r t new does is =
+    grown t new is (named_text what names r t new does is) (elim (made_or_left what names r t new does) [
+      | inl made ↦ taken_adds t new _ made.1
+      | inr same ↦ adds_none t new same
+    ])
+
+pub named_edits_short_grow : (what : ByNames) (names : List Range) (r : Reply) (t new : TextState)
+    → EditsNamesShort what names r t new → IsText t → Grows t new
+named_edits_short_grow what names r t new short is =
+    grown t new is (named_text_short what names r t new short is) (adds_none t new (left_short what names r t new short).1)
 
 module _ (plain : OwnEditsArePlain) where
   -- and an own edit, however many of its operations stand

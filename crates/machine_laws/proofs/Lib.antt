@@ -6,6 +6,7 @@ pub mod Following
 pub mod FrontLines
 pub mod Going
 pub mod Growing
+pub mod NamedEdits
 pub mod Numbered
 pub mod OneOfTexts
 pub mod OneReply

@@ -19,11 +19,15 @@ use Rattle.texts.specs.Draining.{Drains, ends, stops, takes_in, throws_away}
 use Rattle.texts.specs.Edit.{Edit, after, insertion, deletion, inserts, is_in_text, is_restored, looks_change}
 use Rattle.texts.specs.Edit.{own_insert, own_op, pieces_of, plan, recalling, restoration, with_operation}
 use Rattle.texts.specs.Merge.{Merges, MergesShort, is_past_front, news}
+use Rattle.operations.specs.NameSet.{Range}
+use Rattle.texts.specs.Named.{names_changed, op_by_names}
+use Rattle.texts.proofs.NamedEdits.{naming}
 use Rattle.texts.specs.Outcome.{Edits, EditsShort, count_standing, first_refusal, refusal_for, refusal_or}
 use Rattle.texts.specs.Take.{Becomes, Stays, TakesIn}
 use Rattle.texts.specs.Taking.{HasTakenAll}
 use Rattle.texts.specs.TextState.{TextState, all_told, empty_text, with_room}
 use Rattle.texts.specs.declared.TheConstants.{MAX_SEQ}
+use Rattle.texts.specs.declared.by_names.ByNames.{ByNames}
 use Rattle.texts.specs.declared.edit_refusal.EditRefusal.{EditRefusal}
 use Rattle.texts.specs.declared.edit_refusal.EditRefusal.TheVariants.{Whole, Partial}
 use Rattle.texts.specs.declared.fate.Fate.{Fate}
@@ -35,11 +39,14 @@ use Rattle.texts.specs.declared.took.Took.{Took}
 use Rattle.texts.specs.declared.took.Took.TheVariants.{Waits}
 use Rattle.machine.specs.SiteTexts.{SiteTexts, IsTextOf, fresh_texts}
 use Rattle.machine.specs.Events.{Reply}
-use Rattle.machine.specs.OnTexts.{CopiesText, CopiesTextShort, EditsText, EditsTextShort, MergesText, MergesTextShort, SettlesText, TakesText}
+use Rattle.machine.specs.OnTexts.{CopiesText, CopiesTextShort, EditsNames, EditsText, EditsTextShort, MergesText, MergesTextShort}
+use Rattle.machine.specs.OnTexts.{SettlesText, TakesText}
 use Rattle.machine.specs.OnTexts.{TakesTextShort, copied, is_copy_in}
 use Rattle.machine.specs.State.{IsTextAt, State, new_state}
 use Rattle.machine_laws.proofs.FrontLines.{small_front}
 use Rattle.machine_laws.proofs.Going.{TextGoes, TextsGo, as_they_are, begins as begins_anew, by_text, copies, copies_short}
+use Rattle.machine_laws.proofs.Going.{edits_names, edits_names_short}
+use Rattle.machine_laws.proofs.NamedEdits.{left_short, made_or_left}
 use Rattle.machine_laws.proofs.Going.{edits as edited, edits_short as in_part, empties, merges_short as merged_short, merges_so}
 use Rattle.machine_laws.proofs.Going.{replies_go, settles_so, takes, takes_short as taken_short}
 use Rattle.machine_laws.proofs.Reaching.{set_cases}
@@ -289,6 +296,17 @@ copies_in_part : (t : TextState) (beg end pos : ℕ) (r : Reply) (u new : TextSt
 copies_in_part t beg end pos r u new (positions, few, inl short) is = edits_short (copied t beg end pos) r u new short is
 copies_in_part t beg end pos r u new (positions, few, inr (some, replied, stays)) is = subst HasNumbers (sym stays) is
 
+-- an edit by names makes one operation of the site's own at most
+edits_names_text : (what : ByNames) (names : List Range) (r : Reply) (t new : TextState) → EditsNames what names r t new → HasNumbers t
+    → HasNumbers new
+edits_names_text what names r t new does is = elim (made_or_left what names r t new does) [
+  | inl (allowed, taken) ↦
+      let op : Operation = op_by_names t what names in
+      let fits : IsNumbered op = (is.site, seq_fits t (naming (names_changed t what names)) allowed is) in
+      grown_by t (op ∷ []) new (one op fits) taken is
+  | inr same ↦ subst HasNumbers (sym same) is
+]
+
 settles_text : (stopped : Bool) (r : Reply) (t new : TextState) → SettlesText stopped r t new → HasNumbers t
     → HasNumbers new
 settles_text stopped r t new (n, m, drains, replied) is = drained drains is
@@ -302,6 +320,9 @@ AllHaveNumbers s = (i text : ℕ) (t : TextState) → IsTextAt s i text t → Ha
 text_goes_so : (s : State) → AllHaveNumbers s → (t u : TextState) → TextGoes s t u → HasNumbers t → HasNumbers u
 text_goes_so s all t u (edited e r does) is = edits_text e r t u does is
 text_goes_so s all t u (in_part e r does) is = edits_short e r t u does is
+text_goes_so s all t u (edits_names what names r does) is = edits_names_text what names r t u does is
+text_goes_so s all t u (edits_names_short what names r short) is =
+    subst HasNumbers (sym (left_short what names r t u short).1) is
 text_goes_so s all t u (copies from beg end pos r does) is = copies_text from beg end pos r t u does is
 text_goes_so s all t u (copies_short from beg end pos r does) is = copies_in_part from beg end pos r t u does is
 text_goes_so s all t u (takes message r does) is = takes_text message r t u does is

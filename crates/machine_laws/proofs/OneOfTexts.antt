@@ -8,6 +8,7 @@ use Rattle.looks.specs.declared.refusal.Refusal.TheVariants.{BadEvent, FileSpent
 use Rattle.char_files.specs.Runs.{NoOtherRuns}
 use Rattle.char_files.specs.declared.TheConstants.{MAX_FILE}
 use Rattle.convergence.specs.Outcomes.{DrainsOneWay, EditsOneWay, MergesOneWay, TakesOneWay}
+use Rattle.operations.specs.NameSet.{Range}
 use Rattle.operations.specs.Operation.{Operation}
 use Rattle.operations.specs.Spelling.{spelling}
 use Rattle.texts.specs.Edit.{Edit, after, is_in_text, plan}
@@ -17,6 +18,7 @@ use Rattle.texts.specs.Outcome.{EditsShort}
 use Rattle.texts.specs.Take.{TakesShort}
 use Rattle.texts.specs.Text.{IsText}
 use Rattle.texts.specs.TextState.{TextState, all_told}
+use Rattle.texts.specs.declared.by_names.ByNames.{ByNames}
 use Rattle.texts.specs.declared.edit_refusal.EditRefusal.{EditRefusal}
 use Rattle.texts.specs.declared.edit_refusal.EditRefusal.TheVariants.{Whole, Partial}
 use Rattle.texts.specs.declared.merge_refusal.MergeRefusal.{MergeRefusal}
@@ -27,12 +29,13 @@ use Rattle.machine.specs.SiteTexts.{SiteTexts, InText, IsTextOf}
 use Rattle.machine.specs.Events.{Delivery, Part, Reply, copy, edit_reply, merge, merge_reply, messages_of}
 use Rattle.machine.specs.Events.{query, refuses, settle, settles, stops, take as taking, take_reply, takes}
 use Rattle.machine.specs.Machine.{Does, Short, message_in}
-use Rattle.machine.specs.OnTexts.{CopiesText, CopiesTextShort, EditsText, EditsTextShort, MergesText, MergesTextShort}
+use Rattle.machine.specs.OnTexts.{CopiesText, CopiesTextShort, EditsNames, EditsNamesShort, EditsText, EditsTextShort, MergesText, MergesTextShort}
 use Rattle.machine.specs.OnTexts.{QueriesText, SettlesText, TakesText, TakesTextShort, copied, is_copy_in}
 use Rattle.machine.specs.State.{AtText, IsTextAt, Refuses, State, Tells}
 use Rattle.machine.specs.Tasks.{EditsAt, EditsShortAt}
 use Rattle.machine.specs.declared.asked.Query.{Query}
 use Rattle.machine_laws.specs.Laws.{AreTexts, HaveOneShape}
+use Rattle.machine_laws.proofs.NamedEdits.{one_named, one_named_short}
 use Rattle.machine_laws.proofs.ShownLines.{one_answer}
 
 -- an index has one element
@@ -132,6 +135,21 @@ one_edit edits_so s i text e are r r' new new' does does' =
     at_text (EditsText e r) (EditsText e r') (r ≡ r') s new new' i text (messages_of r) (messages_of r') are
     (ap messages_of)
     (λ t u v is. edits_text edits_so e r r' t u v) does does'
+
+-- an edit by names
+pub one_edit_by_names : (s : State) (i text : ℕ) (what : ByNames) (names : List Range) → AreTexts s → (r r' : Reply) (new new' : State)
+    → AtText (EditsNames what names r) s i text (messages_of r) new → AtText (EditsNames what names r') s i text (messages_of r') new'
+    → (r ≡ r') × (new ≡ new')
+one_edit_by_names s i text what names are r r' new new' does does' =
+    at_text (EditsNames what names r) (EditsNames what names r') (r ≡ r') s new new' i text (messages_of r) (messages_of r') are
+    (ap messages_of) (one_named what names r r') does does'
+
+pub one_edit_by_names_short : (s : State) (i text : ℕ) (what : ByNames) (names : List Range) → AreTexts s → (r r' : Reply)
+    (new new' : State) → AtText (EditsNamesShort what names r) s i text (messages_of r) new
+    → AtText (EditsNamesShort what names r') s i text (messages_of r') new' → (r ≡ r') × (new ≡ new')
+one_edit_by_names_short s i text what names are r r' new new' short short' =
+    at_text (EditsNamesShort what names r) (EditsNamesShort what names r') (r ≡ r') s new new' i text (messages_of r) (messages_of r')
+    are (ap messages_of) (λ t u v is. one_named_short what names r r' t u v) short short'
 
 -- what is neither a task nor a click
 module _ (edits_so : EditsOneWay) (takes_so : TakesOneWay) (drains_so : DrainsOneWay) (merges_so : MergesOneWay)

@@ -33,7 +33,7 @@ use Rattle.convergence.specs.Outcomes.{DrainsOneWay, EditsOneWay, MergesOneWay, 
 use Rattle.char_files.specs.Runs.{NoOtherRuns}
 use Rattle.machine.specs.Commands.{Clicked, IsParameter, IsTaskAt, IsTaskOfCall, clicked, is_caret_sign, task_of}
 use Rattle.machine.specs.SiteTexts.{SiteTexts, InText, IsTextOf}
-use Rattle.machine.specs.Events.{Event, Part, Reply, Task, arrange, ask, change, click, copy, done, edit, failed, forget}
+use Rattle.machine.specs.Events.{Event, Part, Reply, Task, arrange, ask, change, click, copy, done, edit, edit_by_names, failed, forget}
 use Rattle.machine.specs.Events.{forgot, found, keep, load, merge, merges, messages_of, not_found, opens, print, prints, insert_at_caret}
 use Rattle.machine.specs.Events.{recall_at_caret, query, refuse, refuses, reopen, search, sends, settle, settles, stops, store}
 use Rattle.machine.specs.Events.{take as taking, takes, unknown, untouched, went_well}
@@ -45,7 +45,8 @@ use Rattle.machine.specs.Tasks.{ShortTask, Stores, WithCaret, Writes, caret_afte
 use Rattle.machine.specs.Windows.{Arranged, Caret, Marked, Screened, Window, arranged, bytes_shown, marked, place_in}
 use Rattle.machine.specs.Windows.{shown_by, text_of, window_of}
 use Rattle.machine.specs.declared.asked.Arrangement.TheVariants.{Close, Move, Open, Point, Scroll, Select}
-use Rattle.machine_laws.proofs.OneOfTexts.{IsPartOfEdit, by_case, in_text, one_copy, one_copy_short, one_edit, one_edit_short}
+use Rattle.machine_laws.proofs.OneOfTexts.{IsPartOfEdit, by_case, in_text, one_copy, one_copy_short, one_edit, one_edit_by_names}
+use Rattle.machine_laws.proofs.OneOfTexts.{one_edit_by_names_short, one_edit_short}
 use Rattle.machine_laws.proofs.OneOfTexts.{one_element, one_merge, one_merge_short, one_query, one_settling}
 use Rattle.machine_laws.proofs.OneOfTexts.{one_settling_short, one_take, one_take_short, lemma_one_text, part_of_edit}
 use Rattle.machine_laws.proofs.Reopening.{one_begun}
@@ -404,6 +405,7 @@ module _ (edits_so : EditsOneWay) (takes_so : TakesOneWay) (drains_so : DrainsOn
     (r r' : Reply) (new new' : State) where
   one_whole : (e : Event) → Does s e part r new → Does s e part r' new' → AreSame r r' new new'
   one_whole (edit i text e) a b = one_edit edits_so s i text e are r r' new new' a.1 b.1
+  one_whole (edit_by_names i text what names) a b = one_edit_by_names s i text what names are r r' new new' a.1 b.1
   one_whole (copy i text beg end other pos) a b =
       one_copy edits_so takes_so drains_so merges_so only s are part r r' new new' i text beg end other pos a b
   one_whole (taking i text d) a b =
@@ -562,6 +564,7 @@ module _ (edits_so : EditsOneWay) (takes_so : TakesOneWay) (drains_so : DrainsOn
     (shape : HaveOneShape r r') where
   one_short : (e : Event) → (MayLoad e → HaveTold s) → Short s e part r new → Short s e part r' new' → AreSame r r' new new'
   one_short (edit i text e) told a b = one_edit_short s i text e are r r' new new' shape a.1 b.1
+  one_short (edit_by_names i text what names) told a b = one_edit_by_names_short s i text what names are r r' new new' a.1 b.1
   one_short (copy i text beg end other pos) told a b =
       one_copy_short takes_so drains_so merges_so s are part r r' new new' shape i text beg end other pos a b
   one_short (taking i text d) told a b =
