@@ -3,18 +3,20 @@ use Rattle.std.proofs.Common.{◌⊎◌, ℕ, List, Result, refl, sym, subst, �
 use Rattle.std.specs.Prelude.{Bool}
 use Rattle.std.proofs.lemmas.Option.{same_Some}
 use Rattle.looks.specs.declared.refusal.Refusal.{Refusal}
+use Rattle.operations.specs.NameSet.{Range}
 use Rattle.texts.proofs.OwnParts.{edits_are_plain}
 use Rattle.texts.specs.Edit.{Edit}
 use Rattle.texts.specs.Text.{IsText}
 use Rattle.texts.specs.TextState.{TextState}
+use Rattle.texts.specs.declared.by_names.ByNames.{ByNames}
 use Rattle.texts.specs.declared.took.Took.{Took}
 use Rattle.texts.specs.declared.edit_refusal.EditRefusal.{EditRefusal}
 use Rattle.texts.specs.declared.merge_refusal.MergeRefusal.{MergeRefusal}
 use Rattle.machine.specs.SiteTexts.{SiteTexts, InText, IsTextOf}
 use Rattle.machine.specs.Events.{edit_reply, settles, take_reply}
-use Rattle.machine.specs.OnTexts.{CopiesSite, EditsSite, EditsText, EditsTextShort, MergesSite, SettlesSite, TakesSite}
+use Rattle.machine.specs.OnTexts.{CopiesSite, EditsNamesSite, EditsSite, EditsText, EditsTextShort, MergesSite, SettlesSite, TakesSite}
 use Rattle.machine_laws.proofs.Growing.{copies_grow, copies_short_grow, edits_grow, edits_short_grow, merges_grow}
-use Rattle.machine_laws.proofs.Growing.{merges_short_grow, settles_grow, takes_grow, takes_short_grow}
+use Rattle.machine_laws.proofs.Growing.{merges_short_grow, named_edits_grow, named_edits_short_grow, settles_grow, takes_grow, takes_short_grow}
 use Rattle.machine_laws.specs.Growing.{Grows}
 
 -- what an edit did to the text that it is for, with the messages that it sent
@@ -40,6 +42,15 @@ edit_grows d d' text e result before after has edited = grows_in d d' text _ has
     (λ t new (messages, count, sent, did) is. elim did [
       | inl does ↦ edits_grow edits_are_plain e (edit_reply result messages) t new does is
       | inr short ↦ edits_short_grow edits_are_plain e (edit_reply result messages) t new short is
+    ]) edited
+
+-- after one by names
+pub named_edit_grows : (d d' : SiteTexts) (text : ℕ) (what : ByNames) (names : List Range) (result : Result ℕ EditRefusal)
+    (before after : List (List ℕ)) → HasText d text → EditsNamesSite d text what names result d' before after → InText Grows d text d'
+named_edit_grows d d' text what names result before after has edited = grows_in d d' text _ has
+    (λ t new (messages, count, sent, did) is. elim did [
+      | inl does ↦ named_edits_grow what names (edit_reply result messages) t new does is
+      | inr short ↦ named_edits_short_grow what names (edit_reply result messages) t new short is
     ]) edited
 
 -- after a copy

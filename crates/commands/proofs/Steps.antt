@@ -7,17 +7,20 @@ use Rattle.looks.specs.declared.refusal.Refusal.{Refusal}
 use Rattle.looks.specs.declared.refusal.Refusal.TheVariants.{OutOfMemory, OutOfRange}
 use Rattle.looks.specs.Refusal.{RefusedForMemoryAlone}
 use Rattle.viewers.specs.declared.screen.Track.{Track}
+use Rattle.operations.specs.NameSet.{Range}
 use Rattle.texts.specs.Edit.{Edit}
 use Rattle.texts.specs.Draining.{Drains}
 use Rattle.texts.specs.TextState.{TextState, all_told}
+use Rattle.texts.specs.declared.by_names.ByNames.{ByNames}
 use Rattle.texts.specs.declared.took.Took.{Took}
 use Rattle.texts.specs.declared.edit_refusal.EditRefusal.{EditRefusal}
 use Rattle.texts.specs.declared.merge_refusal.MergeRefusal.{MergeRefusal}
 use Rattle.machine.specs.SiteTexts.{SiteTexts, InText}
-use Rattle.machine.specs.Events.{Reply, arrange, ask, copy, done, edit, edit_reply, merge_reply, messages_of}
+use Rattle.machine.specs.Events.{Reply, arrange, ask, copy, done, edit, edit_by_names, edit_reply, merge_reply, messages_of}
 use Rattle.machine.specs.Events.{opens, print, prints, query, refuses, settle, settles, take_reply, untouched}
 use Rattle.machine.specs.Machine.{Replies}
-use Rattle.machine.specs.OnTexts.{CopiesSite, CopiesText, CopiesTextShort, EditsSite, EditsText, EditsTextShort, MergesSite}
+use Rattle.machine.specs.OnTexts.{CopiesSite, CopiesText, CopiesTextShort, EditsNames, EditsNamesShort, EditsNamesSite, EditsSite}
+use Rattle.machine.specs.OnTexts.{EditsText, EditsTextShort, MergesSite}
 use Rattle.machine.specs.OnTexts.{MergesText, MergesTextShort, QueriesSite, SettlesSite, SettlesText, TakesSite, TakesText}
 use Rattle.machine.specs.OnTexts.{Prints, QueriesText, RefusesQuery, Sending, TakesTextShort, is_asked_in, query_refusal}
 use Rattle.machine.specs.State.{AtText, IsTextAt, Refuses, State, with_screen_at}
@@ -117,6 +120,22 @@ module _ (seen : DeskSeen) (d d' new : SiteTexts) (w w' : Screened) (is : record
       let (messages, count, goes) =
       at_text_sending (EditsText e) (EditsTextShort e) text result before after edits told in
       subst (λ (x : DeskSeen). IsEditStep x (λ i. edit i text e) result Then before after) is (
+        messages,
+        count,
+        λ s i stands sent. elim (goes s i stands sent) [
+          | inl does ↦ inl (refl, does)
+          | inr short ↦ inr (refl, short)
+        ],
+      )
+
+  -- so is one by names
+  pub named_edit_step : (text : ℕ) (what : ByNames) (names : List Range) (result : Result ℕ EditRefusal) (before after : List (List ℕ))
+      → EditsNamesSite d text what names result d' before after → Asked d' text new
+      → IsEditStep seen (λ i. edit_by_names i text what names) result Then before after
+  named_edit_step text what names result before after edits told =
+      let (messages, count, goes) =
+      at_text_sending (EditsNames what names) (EditsNamesShort what names) text result before after edits told in
+      subst (λ (x : DeskSeen). IsEditStep x (λ i. edit_by_names i text what names) result Then before after) is (
         messages,
         count,
         λ s i stands sent. elim (goes s i stands sent) [

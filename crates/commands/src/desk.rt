@@ -7,7 +7,7 @@ ghost use Rattle.texts.specs.Text.{IsText};
 ghost use Rattle.texts.specs.TextState.{TextState, shown_of};
 ghost use Rattle.texts.specs.declared.edit_refusal.EditRefusal.TheVariants.{Whole};
 ghost use Rattle.machine.specs.SiteTexts.{IsTextOf, fresh_texts};
-ghost use Rattle.machine.specs.Events.{arrange, ask, copy, edit, print, insert_at_caret, query, settle, settles};
+ghost use Rattle.machine.specs.Events.{arrange, ask, copy, edit, edit_by_names, print, insert_at_caret, query, settle, settles};
 ghost use Rattle.machine.specs.OnTexts.{RefusesQuery};
 ghost use Rattle.machine.specs.Windows.{blank_screen};
 ghost use Rattle.machine.specs.declared.asked.Arrangement.TheVariants.{Close, Move, Open, Point, Scroll, Select};
@@ -20,9 +20,10 @@ use desk_texts::Texts;
 use desk_windows::Windows;
 use looks::{Looks, Refusal, Sel};
 use machine::{MAX_TEXT, Query, View};
+use operations::NameRange;
 use std::alloc::Global;
 use std::marker::Model;
-use texts::{EditRefusal, MergeRefusal, Outbox, Settled, Took};
+use texts::{ByNames, EditRefusal, MergeRefusal, Outbox, Settled, Took};
 use viewers::{MAX_HEIGHT, MAX_WIDTH, MIN_HEIGHT, MIN_WIDTH, Track};
 
 /// One site's desk: its sixteen texts, and a screen of viewers that show them, with a caret and a selection. This project's
@@ -168,6 +169,25 @@ impl Desk {
     {
         self.texts.lemma_has_text(text);
         let outcome = self.texts.restore(text, outbox);
+        tell(&mut self.texts, &mut self.windows, text);
+        outcome
+    }
+
+    /// Takes the characters of these names out of what a text shows, or shows them again. Refused `OutOfRange` where one of the
+    /// names isn't here.
+    pub fn edit_by_names(
+        &mut self,
+        text: TextNo,
+        what: ByNames,
+        names: &[NameRange],
+        outbox: &mut Outbox,
+    ) -> Result<u32, EditRefusal>
+        requires on_desk { text ≤ MAX_TEXT }
+        ensures { IsEditStep self.old (λ i. edit_by_names i text what names.now) result self.new
+            outbox.old outbox.new }
+    {
+        self.texts.lemma_has_text(text);
+        let outcome = self.texts.edit_by_names(text, what, names, outbox);
         tell(&mut self.texts, &mut self.windows, text);
         outcome
     }

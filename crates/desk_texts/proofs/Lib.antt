@@ -6,6 +6,7 @@ pub mod HexDigits
 pub mod Lifting
 pub mod Longest
 pub mod NameRanges
+pub mod NamedEdits
 pub mod Standing
 pub mod Stands
 pub mod TextEdits

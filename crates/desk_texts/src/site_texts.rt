@@ -8,7 +8,8 @@ ghost use Rattle.texts.specs.Text.{IsText};
 ghost use Rattle.texts.specs.TextState.{TextState, all_told, shown_of, with_room};
 ghost use Rattle.texts.specs.contracts.replica.Replica.{the_row as replica_row};
 ghost use Rattle.machine.specs.SiteTexts.{InText, IsTextOf, fresh_texts, with_text};
-ghost use Rattle.machine.specs.OnTexts.{CopiesSite, EditsSite, MergesSite, QueriesSite, RefusesQuery, SettlesSite, TakesSite};
+ghost use Rattle.machine.specs.OnTexts.{CopiesSite, EditsNamesSite, EditsSite, MergesSite, QueriesSite, RefusesQuery, SettlesSite};
+ghost use Rattle.machine.specs.OnTexts.{TakesSite};
 ghost use Rattle.desk_texts.specs.contracts.site_texts.Texts.{the_row};
 
 use crate::editing::{copy_out_of, has_position, has_range};
@@ -21,9 +22,10 @@ use char_files::{Buffer, MAX_FILE, SiteNo, TextNo};
 use list_changes::Change;
 use looks::{Looks, Refusal, Sel};
 use machine::{MAX_TEXT, Query};
+use operations::NameRange;
 use std::alloc::Global;
 use std::marker::Model;
-use texts::{EditRefusal, MergeRefusal, Outbox, Replica, Settled, Took};
+use texts::{ByNames, EditRefusal, MergeRefusal, Outbox, Replica, Settled, Took};
 
 /// One site's texts, 1 to 16, each empty until it is first changed. This project's own.
 #[derive(Drop)]
@@ -163,6 +165,25 @@ impl Texts {
         ensures { EditsSite self.old text restoration result self.new outbox.old outbox.new }
     {
         self.replica_mut(text).restore(outbox)
+    }
+
+    /// Takes the characters of these names out of what a text shows, or shows them again. Refused `OutOfRange` where one of the
+    /// names isn't here, else as the replica refuses it.
+    pub fn edit_by_names(
+        &mut self,
+        text: TextNo,
+        what: ByNames,
+        names: &[NameRange],
+        outbox: &mut Outbox,
+    ) -> Result<u32, EditRefusal>
+        requires on_desk { text ≤ MAX_TEXT }
+        ensures { EditsNamesSite self.old text what names.now result self.new outbox.old outbox.new }
+    {
+        let replica = self.replica_mut(text);
+        if !replica.has_names(names) {
+            return Err(EditRefusal::Whole(Refusal::OutOfRange));
+        }
+        replica.edit_by_names(what, names, outbox)
     }
 
     /// Puts a copy of the characters from `beg` to `end` of a text into another one, or into itself, at a

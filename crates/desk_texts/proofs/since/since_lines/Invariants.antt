@@ -1,4 +1,4 @@
-use Rattle.std.proofs.Common.{◌≡◌, ◌≤◌, length, take}
+use Rattle.std.proofs.Common.{◌≡◌, take}
 use Rattle.machine.specs.Since.{message_lines}
 use Rattle.texts.specs.Fronts.{beyond}
 use Rattle.desk_texts.proofs.since.since_lines.Given as goal
