@@ -1,8 +1,6 @@
 -- The verb of a word, among the rows that are left.
-use Rattle.std.proofs.Common.{◌≡◌, ℕ, ◌+◌, ◌<◌, ◌≤◌, List, [], ◌∷◌, length, drop, get_or, map, Bool, true, false, Option, Some, None}
-use Rattle.std.proofs.Common.{Bor, add-one, drop-cons, refl, sym, ap, ◌∙◌, arith}
-use Rattle.std.specs.Prelude.{option_map}
-use Rattle.std.specs.List.{find}
+use Rattle.std.proofs.Common.{◌≡◌, ℕ, ◌+◌, ◌<◌, ◌≤◌, List, ◌∷◌, length, drop, get_or, map, Bool, true, false, Option, Some, None}
+use Rattle.std.proofs.Common.{Bor, add-one, drop-cons, refl, sym, ap, ◌∙◌}
 use Rattle.std.proofs.lemmas.List.{drop_all}
 use Rattle.script_events.specs.Script.{verb_among}
 use Rattle.script_events.specs.Words.{is_word}

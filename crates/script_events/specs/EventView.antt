@@ -2,7 +2,7 @@
 use Rattle.std.specs.Prelude.{ℕ, ◌<◌, ◌≤◌, Option, length, option_map, unwrap_or}
 use Rattle.texts.specs.Edit.{Edit as AskedEdit, deletion, looks_change, recalling, restoration}
 use Rattle.machine.specs.Events.{Delivery as AskedDelivery, Event as AskedEvent, arrange, ask, bytes as by_bytes, click, copy}
-use Rattle.machine.specs.Events.{edit, keep, merge, print, insert_at_caret, query, reopen, sent, settle, take, unknown}
+use Rattle.machine.specs.Events.{edit, edit_by_names, keep, merge, print, insert_at_caret, query, reopen, sent, settle, take, unknown}
 use Rattle.machine.specs.declared.TheConstants.{MAX_TEXT}
 use Rattle.machine.specs.declared.asked.Arrangement.{Arrangement}
 use Rattle.machine.specs.declared.asked.Arrangement.TheVariants.{Close, Move, Open, Point, Scroll, Select}
@@ -11,7 +11,7 @@ use Rattle.script_events.specs.declared.event.Delivery.TheVariants.{Sent, Bytes}
 use Rattle.script_events.specs.declared.event.Edit.{Edit}
 use Rattle.script_events.specs.declared.event.Edit.TheVariants.{TypeIn, Cut, Looks, Recall, Restore}
 use Rattle.script_events.specs.declared.event.Event.{Event}
-use Rattle.script_events.specs.declared.event.Event.TheVariants.{AsksAt, Edits, Saves, Takes, Settles, Merges, Queries}
+use Rattle.script_events.specs.declared.event.Event.TheVariants.{AsksAt, Edits, EditsByNames, Saves, Takes, Settles, Merges, Queries}
 use Rattle.script_events.specs.declared.event.Event.TheVariants.{Arranges, Clicks, Keeps, Keys, Prints, Reopens}
 use Rattle.script_events.specs.Script.{plain_items, query_at, typing}
 
@@ -31,6 +31,7 @@ delivery_of (Bytes message) = by_bytes message
 -- what was parsed, as the machine's event
 abbrev pub event_of : Event → AskedEvent
 event_of (Edits desk text e) = edit desk text (edit_of e)
+event_of (EditsByNames desk text what names) = edit_by_names desk text what names
 event_of (Saves desk text save) = copy desk text save.beg save.end save.other save.pos
 event_of (Takes desk text d) = take desk text (delivery_of d)
 event_of (Settles desk text) = settle desk text
@@ -60,6 +61,7 @@ OpensDeskText (Select beg end) = Unit {0}
 -- its desks are of the run's count, and its texts are a desk's
 abbrev pub IsInRun : ℕ → Event → Type 0
 IsInRun count (Edits desk text e) = (desk < count) × (text ≤ MAX_TEXT)
+IsInRun count (EditsByNames desk text what names) = (desk < count) × (text ≤ MAX_TEXT)
 IsInRun count (Saves desk text save) = (desk < count) × (text ≤ MAX_TEXT) × (save.other ≤ MAX_TEXT)
 IsInRun count (Takes desk text d) = (desk < count) × (text ≤ MAX_TEXT)
 IsInRun count (Settles desk text) = (desk < count) × (text ≤ MAX_TEXT)
@@ -86,9 +88,10 @@ abbrev pub IsWithin : ℕ → Delivery → Type 0
 IsWithin len (Sent k) = Unit {0}
 IsWithin len (Bytes message) = length message ≤ len
 
--- the bytes that an event tells, typed or of a message, are no more than those of a line of this length
+-- the bytes, fronts and names that an event tells are no more than the bytes of a line of this length
 abbrev pub IsOfLine : ℕ → Event → Type 0
 IsOfLine len (Edits desk text e) = TypesAtMost len e
+IsOfLine len (EditsByNames desk text what names) = length names ≤ len
 IsOfLine len (Saves desk text save) = Unit {0}
 IsOfLine len (Takes desk text d) = IsWithin len d
 IsOfLine len (Settles desk text) = Unit {0}

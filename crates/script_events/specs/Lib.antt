@@ -3,3 +3,4 @@ pub mod LooksWords
 pub mod Script
 pub mod EventView
 pub mod FrontWords
+pub mod NameWords

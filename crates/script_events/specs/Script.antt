@@ -1,28 +1,30 @@
 -- How events are spelled in a script: words with one blank between them.
-use Rattle.std.specs.Prelude.{ℕ, ◌+◌, ◌*◌, ◌^◌, ◌&&◌, not, nat_le, nat_lt, List, [], ◌∷◌, length, map, ◌==◌, if◌then◌else◌}
+use Rattle.std.specs.Prelude.{ℕ, ◌+◌, ◌*◌, ◌&&◌, not, List, [], ◌∷◌, length, map, ◌==◌, if◌then◌else◌}
 use Rattle.std.specs.Prelude.{Option, Some, None, option_map, unwrap_or, codes}
 use Rattle.std.specs.List.{find, list_any}
 use Rattle.std.specs.Option.{option_map_or}
 use Rattle.hex.specs.Hex.{hex_digit_value}
 use Rattle.looks.specs.Looks.{plain_looks}
 use Rattle.char_files.specs.Stretch.{Item}
-use Rattle.char_files.specs.declared.TheConstants.{MAX_FILE}
 use Rattle.operations.specs.NameSet.{Range}
 use Rattle.shelf.specs.Names.{is_file_name}
 use Rattle.texts.specs.Edit.{Edit, insertion, deletion, looks_change, recalling, restoration}
 use Rattle.viewers.specs.declared.screen.Track.{Track}
 use Rattle.viewers.specs.declared.screen.Track.TheVariants.{User, System}
-use Rattle.machine.specs.Events.{Delivery, Event, arrange, ask, bytes as by_bytes, click, copy, edit, keep, merge, print}
-use Rattle.machine.specs.Events.{insert_at_caret, query, reopen, sent as by_number, settle, take as taking, unknown}
+use Rattle.machine.specs.Events.{Delivery, Event, arrange, ask, bytes as by_bytes, click, copy, edit, edit_by_names}
+use Rattle.machine.specs.Events.{keep, merge, print, insert_at_caret, query, reopen, sent as by_number, settle, take as taking, unknown}
 use Rattle.machine.specs.declared.asked.Arrangement.{Arrangement}
 use Rattle.machine.specs.declared.asked.Arrangement.TheVariants.{Close, Move, Open, Point, Scroll, Select}
 use Rattle.machine.specs.declared.asked.Cell.{Cell}
 use Rattle.machine.specs.declared.asked.Query.{Query}
 use Rattle.machine.specs.declared.asked.Query.TheVariants.{Front, Names, Past, WhereShown, Runs, Since, Text}
 use Rattle.machine.specs.declared.asked.View.TheVariants.{Marks, Show, Views}
+use Rattle.texts.specs.declared.by_names.ByNames.{ByNames}
+use Rattle.texts.specs.declared.by_names.ByNames.TheVariants.{Delete, Restore}
 use Rattle.texts.specs.declared.front.Front.{Front as SiteFront}
 use Rattle.script_events.specs.FrontWords.{fronts_in}
 use Rattle.script_events.specs.LooksWords.{change_in}
+use Rattle.script_events.specs.NameWords.{range_of_words, ranges_in}
 use Rattle.script_events.specs.Words.{◌>>=◌, some_if, is_word, split_word, front_word, number_in, split_number, desk_in, text_in}
 use Rattle.script_events.specs.declared.event.verbs.ArrangeVerb.{ArrangeVerb}
 use Rattle.script_events.specs.declared.event.verbs.ArrangeVerb.TheVariants.{Close as Closes, Move as Moves, Open as Opens}
@@ -36,9 +38,9 @@ use Rattle.script_events.specs.declared.event.Side.TheVariants.{Beyond, UpTo}
 use Rattle.script_events.specs.declared.event.verbs.LongVerb.{LongVerb}
 use Rattle.script_events.specs.declared.event.verbs.LongVerb.TheVariants.{Merge, Names as NamesOf, Save, Take, Where}
 use Rattle.script_events.specs.declared.event.verbs.ShortVerb.{ShortVerb}
-use Rattle.script_events.specs.declared.event.verbs.ShortVerb.TheVariants.{Front as FrontOf, Restore, Runs as RunsOf, Settle, Text as TextOf}
+use Rattle.script_events.specs.declared.event.verbs.ShortVerb.TheVariants.{Front as FrontOf, Runs as RunsOf, Settle, Text as TextOf}
 use Rattle.script_events.specs.declared.event.verbs.Verb.{Verb}
-use Rattle.script_events.specs.declared.event.verbs.Verb.TheVariants.{Arrange, Desk, Edit as EditOf, Fronts, Long, Prints, Short}
+use Rattle.script_events.specs.declared.event.verbs.Verb.TheVariants.{Arrange, ByNames as Named, Desk, Edit as EditOf, Fronts, Long, Prints, Short}
 
 -- the byte of two hex digits
 abbrev pub byte_of_digits : ℕ → ℕ → Option ℕ
@@ -120,14 +122,12 @@ save_event desk text rest = do
   pos ← number_in cut.1
   Some (copy desk text beg.0 end.0 other pos)
 
--- names of a site, as a message has them too: the site, the first one's offset, and how many they are
+-- names of a site that end the line
 abbrev pub names_in : List ℕ → Option Range
 names_in rest = do
-  site ← split_number rest
-  at ← split_number site.1
-  len ← number_in at.1
-  some_if (nat_le 1 site.0 && nat_lt site.0 (2 ^ 16) && nat_le 1 len && nat_le (at.0 + len) MAX_FILE)
-      (record { site = site.0; at = at.0; len = len })
+  site ← split_word rest
+  at ← split_word site.1
+  range_of_words site.0 at.0 at.1
 
 -- `where`: names of a site
 abbrev pub where_event : (desk text : ℕ) → List ℕ → Option Event
@@ -217,7 +217,6 @@ filing_in rest = do
 
 -- what a verb asks of a text that ends the line: a row for each verb
 abbrev pub short_event : ShortVerb → (desk text : ℕ) → Event
-short_event Restore desk text = edit desk text restoration
 short_event Settle desk text = settle desk text
 short_event TextOf desk text = query desk text Text
 short_event FrontOf desk text = query desk text Front
@@ -243,6 +242,16 @@ abbrev pub query_at : Side → List SiteFront → Query
 query_at Beyond fronts = Since fronts
 query_at UpTo fronts = Past fronts
 
+-- what a query at fronts goes on with after its text: the fronts
+abbrev pub fronts_event : Side → (desk text : ℕ) → Option (List ℕ) → Option Event
+fronts_event side desk text rest = option_map (λ fronts. query desk text (query_at side fronts)) (fronts_in rest)
+
+-- what an edit by names goes on with after its text: the names; without any, what was cut last is shown again
+abbrev pub by_names_event : ByNames → (desk text : ℕ) → Option (List ℕ) → Option Event
+by_names_event what desk text (Some words) = option_map (λ names. edit_by_names desk text what names) (ranges_in words)
+by_names_event Restore desk text None = Some (edit desk text restoration)
+by_names_event Delete desk text None = None
+
 -- the arrangement that a verb asks for with what stands after it: a row for each verb
 abbrev pub arrangement_in : ArrangeVerb → List ℕ → Option Arrangement
 arrangement_in Opens rest = open_arrangement rest
@@ -264,8 +273,9 @@ abbrev pub verb_event : (first count : ℕ) → Verb → (desk : ℕ) → Option
 verb_event first count (Short verb) desk rest =
     rest >>= λ words. option_map (λ text. short_event verb desk text) (text_in words)
 verb_event first count (Fronts side) desk rest =
-    rest >>= λ words. text_in (front_word words).0 >>= λ text.
-    option_map (λ fronts. query desk text (query_at side fronts)) (fronts_in (front_word words).1)
+    rest >>= λ words. text_in (front_word words).0 >>= λ text. fronts_event side desk text (front_word words).1
+verb_event first count (Named what) desk rest =
+    rest >>= λ words. text_in (front_word words).0 >>= λ text. by_names_event what desk text (front_word words).1
 verb_event first count (EditOf verb) desk rest =
     rest >>= λ words. split_word words >>= λ cut. text_in cut.0 >>= λ text.
     option_map (λ e. edit desk text e) (edit_in verb cut.1)
@@ -284,7 +294,8 @@ verbs =
     (codes "cut", EditOf Cut) ∷
     (codes "looks", EditOf Looks) ∷
     (codes "recall", EditOf Recall) ∷
-    (codes "restore", Short Restore) ∷
+    (codes "restore", Named Restore) ∷
+    (codes "delete", Named Delete) ∷
     (codes "save", Long Save) ∷
     (codes "take", Long Take) ∷
     (codes "settle", Short Settle) ∷

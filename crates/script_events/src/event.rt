@@ -1,8 +1,9 @@
 ghost use Rattle.std.specs.Prelude.{◌≡◌, ℕ, ◌<◌, ◌≤◌, length, option_map, IfSome};
 ghost use Rattle.script_events.specs.EventView.{delivery_of, edit_of, event_of, event_or_unknown, IsInRun, IsOfLine, IsWithin};
 ghost use Rattle.script_events.specs.EventView.{OpensDeskText, TypesAtMost};
-ghost use Rattle.script_events.specs.Script.{arrangement_in, delivery_in, desk_event, edit_in, event_in, long_event, merge_event};
-ghost use Rattle.script_events.specs.Script.{names_event, names_in, where_event, save_event, short_event, verb_event};
+ghost use Rattle.script_events.specs.Script.{arrangement_in, by_names_event, delivery_in, desk_event, edit_in, event_in};
+ghost use Rattle.script_events.specs.Script.{fronts_event, long_event, merge_event, names_event, names_in};
+ghost use Rattle.script_events.specs.Script.{where_event, save_event, short_event, verb_event};
 
 mod arrangements;
 mod edits;
@@ -22,10 +23,12 @@ use crate::event::verbs::{ArrangeVerb, DeskVerb, EditVerb, LongVerb, ShortVerb, 
 use crate::event::words::{desk_in, front_word, number_in, split_number, split_word, text_in};
 use crate::front_words::FrontWords;
 use crate::hex_bytes::Hex;
-use char_files::{MAX_FILE, SiteNo, TextNo};
+use crate::name_words::{NameWords, range_of_words};
+use char_files::TextNo;
 use looks::{Looks, Sel};
 use machine::{Arrangement, Cell, MAX_TEXT, Query, View};
 use operations::NameRange;
+use texts::ByNames;
 
 /// What a line of a script asks; it borrows its bytes from the line.
 ///
@@ -37,6 +40,13 @@ pub enum Event<'a> {
         desk: usize,
         text: TextNo,
         edit: Edit<'a>,
+    },
+    /// An edit of a desk's text by the names of characters.
+    EditsByNames {
+        desk: usize,
+        text: TextNo,
+        what: ByNames,
+        names: NameWords<'a>,
     },
     /// A copy of the characters from one position of a desk's text to another, put into a text of that desk.
     Saves {
@@ -200,17 +210,13 @@ fn save_event(desk: usize, text: TextNo, rest: &[u8]) -> Option<Event<'_>>
     Some(Event::Saves { desk, text, save })
 }
 
-// Names of a site, as a message has them too: the site, the first one's offset, and how many they are.
+// Names of a site that end the line.
 fn names_in(rest: &[u8]) -> Option<NameRange>
     ensures { result ≡ names_in rest.now }
 {
-    let (site, rest) = split_number(rest)?;
-    let (at, len) = split_number(rest)?;
-    let len = u64::from(number_in(len)?);
-    if site > u64::from(u16::MAX) || len == 0 || MAX_FILE < at + len {
-        return None;
-    }
-    Some(NameRange::new(SiteNo::new(site as u16)?, at as u32, len as u32))
+    let (site, rest) = split_word(rest)?;
+    let (at, len) = split_word(rest)?;
+    range_of_words(site, at, len)
 }
 
 // `where`: names of a site.
@@ -256,10 +262,6 @@ fn short_event(verb: ShortVerb, desk: usize, text: TextNo) -> Event<'static>
     ensures within { (len : ℕ) → IsOfLine len result }
 {
     match verb {
-        ShortVerb::Restore => {
-            let edit = Edit::Restore;
-            Event::Edits { desk, text, edit }
-        }
         ShortVerb::Settle => Event::Settles { desk, text },
         ShortVerb::Text => {
             let query = Query::Text;
@@ -316,6 +318,59 @@ fn long_event<'a>(
         LongVerb::Where => where_event(desk, text, rest),
         LongVerb::Names => names_event(desk, text, rest),
     }
+}
+
+// What a query at fronts goes on with after its text: the fronts.
+fn fronts_event<'a>(
+    side: Side,
+    desk: usize,
+    text: TextNo,
+    rest: Option<&'a [u8]>,
+) -> Option<Event<'a>>
+    requires { text ≤ MAX_TEXT }
+    ensures event { option_map event_of result ≡ fronts_event side desk text (option_map (λ rest. rest.now) rest.entry) }
+    ensures in_run { IfSome result (λ event. (count : ℕ) → desk < count → IsInRun count event) }
+    ensures within { IfSome result (λ event. (len : ℕ)
+        → IfSome rest.entry (λ rest. length rest.now ≤ len) → IsOfLine len event) }
+{
+    let fronts = FrontWords::new(rest)?;
+    Some(Event::AsksAt {
+        desk,
+        text,
+        side,
+        fronts,
+    })
+}
+
+// What an edit by names goes on with after its text: the names; without any, what was cut last is shown again.
+fn by_names_event<'a>(
+    what: ByNames,
+    desk: usize,
+    text: TextNo,
+    rest: Option<&'a [u8]>,
+) -> Option<Event<'a>>
+    requires { text ≤ MAX_TEXT }
+    ensures event { option_map event_of result ≡ by_names_event what desk text (option_map (λ rest. rest.now) rest.entry) }
+    ensures in_run { IfSome result (λ event. (count : ℕ) → desk < count → IsInRun count event) }
+    ensures within { IfSome result (λ event. (len : ℕ)
+        → IfSome rest.entry (λ rest. length rest.now ≤ len) → IsOfLine len event) }
+{
+    let Some(words) = rest else {
+        return match what {
+            ByNames::Delete => None,
+            ByNames::Restore => {
+                let edit = Edit::Restore;
+                Some(Event::Edits { desk, text, edit })
+            }
+        };
+    };
+    let names = NameWords::new(words)?;
+    Some(Event::EditsByNames {
+        desk,
+        text,
+        what,
+        names,
+    })
 }
 
 // The arrangement that a verb asks for with what stands after it: a row for each verb.
@@ -384,14 +439,11 @@ fn verb_event<'a>(
         Verb::Short(verb) => Some(short_event(verb, desk, text_in(rest?)?)),
         Verb::Fronts(side) => {
             let (text, rest) = front_word(rest?);
-            let text = text_in(text)?;
-            let fronts = FrontWords::new(rest)?;
-            Some(Event::AsksAt {
-                desk,
-                text,
-                side,
-                fronts,
-            })
+            fronts_event(side, desk, text_in(text)?, rest)
+        }
+        Verb::ByNames(what) => {
+            let (text, rest) = front_word(rest?);
+            by_names_event(what, desk, text_in(text)?, rest)
         }
         Verb::Edit(verb) => {
             let (text, rest) = split_word(rest?)?;

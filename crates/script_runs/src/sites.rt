@@ -1,6 +1,6 @@
 ghost use Rattle.std.specs.Prelude.{◌≡◌, ◌≤◌, ◌<◌, List, ℕ, drop, length, IfOk};
 ghost use Rattle.looks.specs.Refusal.{RefusedForMemoryAlone};
-ghost use Rattle.machine.specs.Events.{copy, edit, edit_reply, merge, merge_reply, sent, settle, settles, take};
+ghost use Rattle.machine.specs.Events.{copy, edit, edit_by_names, edit_reply, merge, merge_reply, sent, settle, settles, take};
 ghost use Rattle.machine.specs.Events.{query, take_reply};
 ghost use Rattle.machine.specs.State.{new_state};
 ghost use Rattle.shelf.specs.Files.{Files};
@@ -23,13 +23,14 @@ use char_files::{SiteNo, TextNo};
 use commands::Desk;
 use looks::Refusal;
 use machine::{Fronts, MAX_TEXT, Query};
-use script_events::{Delivery, Edit, Escaped, Event, FrontWords, Save, Side, event_in};
+use operations::NameRange;
+use script_events::{Delivery, Edit, Escaped, Event, FrontWords, NameWords, Save, Side, event_in};
 use script_io::{MAX_LINE, Output};
 use shelf::Shelf;
 use std::alloc::Global;
 use std::io::Write;
 use std::marker::Model;
-use texts::{EditRefusal, Front, MergeRefusal, Outbox, Settled, Took};
+use texts::{ByNames, EditRefusal, Front, MergeRefusal, Outbox, Settled, Took};
 
 /// The desks of a run's sites, and the messages that they sent.
 #[derive(Drop)]
@@ -39,8 +40,9 @@ pub struct Sites {
     outbox: Outbox,
     // Where the bytes of an event are decoded: there is room for those of any line.
     bytes: Vec<u8>,
-    // The same for fronts.
+    // The same for fronts, and for names.
     fronts: Vec<Front>,
+    names: Vec<NameRange>,
 }
 
 impl Model for Sites {
@@ -54,7 +56,7 @@ impl Model for Sites {
     ghost view = { λ s. record { first = s.first; desks = s.desks.items; sent = s.outbox } };
 
     ghost invariant = { λ s. (length s.desks.items ≤ MAX_SITES) × (MAX_LINE ≤ vec_capacity s.bytes)
-        × (MAX_LINE ≤ vec_capacity s.fronts) };
+        × (MAX_LINE ≤ vec_capacity s.fronts) × (MAX_LINE ≤ vec_capacity s.names) };
 }
 
 // Whether a line is answered by nothing.
@@ -73,6 +75,7 @@ impl Sites {
     {
         let bytes = Vec::with_capacity(alloc, MAX_LINE)?;
         let fronts = Vec::with_capacity(alloc, MAX_LINE)?;
+        let names = Vec::with_capacity(alloc, MAX_LINE)?;
         let Settings {
             first,
             count,
@@ -90,6 +93,7 @@ impl Sites {
             outbox: Outbox::new(alloc),
             bytes,
             fronts,
+            names,
         })
     }
 
@@ -130,6 +134,12 @@ impl Sites {
     {
         match event {
             Event::Edits { desk, text, edit } => Reply::Edited(self.edit(desk, text, &edit)),
+            Event::EditsByNames {
+                desk,
+                text,
+                what,
+                names,
+            } => Reply::Edited(self.edit_by_names(desk, text, what, &names)),
             Event::Saves { desk, text, save } => Reply::Edited(self.save(desk, text, save)),
             Event::Takes {
                 desk,
@@ -207,6 +217,25 @@ impl Sites {
                 self.desks[desk].type_in(text, pos, &self.bytes, &mut self.outbox)
             }
         }
+    }
+
+    // Makes an edit of a desk's text by names.
+    fn edit_by_names(
+        &mut self,
+        desk: usize,
+        text: TextNo,
+        what: ByNames,
+        names: &NameWords,
+    ) -> Result<u32, EditRefusal>
+        requires in_run { desk < length self.old.desks }
+        requires on_desk { text ≤ MAX_TEXT }
+        requires within { length names.now ≤ MAX_LINE }
+        ensures { (messages : List (List ℕ)) × Replied self.old
+            (edit_by_names desk text what names.now) (edit_reply result messages) self.new }
+    {
+        self.names.clear();
+        names.decode(&mut self.names);
+        self.desks[desk].edit_by_names(text, what, &self.names, &mut self.outbox)
     }
 
     // Copies a part of a desk's text into another one.

@@ -5,6 +5,7 @@ ghost use Rattle.script_events.specs.Script.{verb_among, verb_in};
 
 use crate::event::Side;
 use machine::View;
+use texts::ByNames;
 
 // A verb, by what stands after it.
 #[derive(Clone, Copy, Debug)]
@@ -13,6 +14,8 @@ pub(crate) enum Verb {
     Short(ShortVerb),
     // A text, and perhaps fronts.
     Fronts(Side),
+    // A text, and names of characters; or, where hidden ones are shown again, perhaps none.
+    ByNames(ByNames),
     // A text, and what an edit of it goes on with.
     Edit(EditVerb),
     // A text, and what else is asked of it.
@@ -27,7 +30,6 @@ pub(crate) enum Verb {
 
 #[derive(Clone, Copy, Debug)]
 pub(crate) enum ShortVerb {
-    Restore,
     Settle,
     Text,
     Front,
@@ -70,12 +72,13 @@ pub(crate) enum DeskVerb {
 }
 
 // The verbs: a row for each.
-const VERBS: [(&[u8], Verb); 29] = [
+const VERBS: [(&[u8], Verb); 30] = [
     (b"type", Verb::Edit(EditVerb::TypeIn)),
     (b"cut", Verb::Edit(EditVerb::Cut)),
     (b"looks", Verb::Edit(EditVerb::Looks)),
     (b"recall", Verb::Edit(EditVerb::Recall)),
-    (b"restore", Verb::Short(ShortVerb::Restore)),
+    (b"restore", Verb::ByNames(ByNames::Restore)),
+    (b"delete", Verb::ByNames(ByNames::Delete)),
     (b"save", Verb::Long(LongVerb::Save)),
     (b"take", Verb::Long(LongVerb::Take)),
     (b"settle", Verb::Short(ShortVerb::Settle)),

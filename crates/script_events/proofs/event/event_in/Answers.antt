@@ -1,4 +1,4 @@
-use Rattle.std.proofs.Common.{◌≤◌, length, arith}
+use Rattle.std.proofs.Common.{◌≤◌, length}
 use Rattle.script_events.specs.EventView.{IsOfLine}
 use Rattle.script_events.proofs.Words.{applied, shorter}
 use Rattle.script_events.proofs.event.event_in.Goals as goal

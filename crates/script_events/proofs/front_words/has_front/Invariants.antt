@@ -1,5 +1,6 @@
 use Rattle.std.proofs.Common.{option_map}
-use Rattle.script_events.proofs.ReadFronts.{IsLeft, steps_left}
+use Rattle.script_events.proofs.ReadFronts.{IsLeft}
+use Rattle.script_events.proofs.ReadWords.{steps_left}
 use Rattle.script_events.proofs.front_words.has_front.Given as goal
 
 abbrev pub invariant-loop-rest : goal.invariant-loop-rest

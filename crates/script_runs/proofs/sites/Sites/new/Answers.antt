@@ -17,7 +17,7 @@ loop-i-preserved c =
     c.in_ok-push.ensures.items ∙ ap (λ (x : DeskSeen). c.loop-i.desks.items ++ x ∷ []) desk_is ∙ ap (λ (xs : List DeskSeen). xs ++ made (c.args.settings.first + c.loop-i.i) ∷ []) c.loop-i.invariant ∙ sym more
 
 pub invariant_of-result : goal.invariant_of-result
-invariant_of-result c = (rw c.loop-i.invariant (simp (length-map, length-range_with_len) (omega arith)), omega (arith, c.in_ok-bytes.ensures.capacity), omega (arith, c.in_ok-fronts.ensures.capacity))
+invariant_of-result c = (rw c.loop-i.invariant (simp (length-map, length-range_with_len) (omega arith)), omega (arith, c.in_ok-bytes.ensures.capacity), omega (arith, c.in_ok-fronts.ensures.capacity), omega (arith, c.in_ok-names.ensures.capacity))
 
 pub returns-clause-ok : goal.returns-clause-ok
 returns-clause-ok c = λ files.

@@ -1,5 +1,5 @@
 use Rattle.std.proofs.Common.{length, drop}
-use Rattle.machine.specs.Events.{arrange, ask, click, copy, edit, keep, merge, merge_reply, print, insert_at_caret, query, reopen, settle}
+use Rattle.machine.specs.Events.{arrange, ask, click, copy, edit, edit_by_names, keep, merge, merge_reply, print, insert_at_caret, query, reopen, settle}
 use Rattle.machine.specs.Events.{settles, take, take_reply}
 use Rattle.commands.specs.Steps.{print_reply, shelf_seen}
 use Rattle.script_events.specs.EventView.{delivery_of, edit_of}
@@ -16,6 +16,13 @@ returns-in-Edits g c =
     let new = c.edit.new.self in
     let asked = edit c.in-Edits.desk c.in-Edits.text (edit_of c.in-Edits.edit) in
     rw c.in-Edits.is (stepped_over (shelf_seen (g.S.Shelf.files c.args.shelf.now) (g.S.Shelf.faults c.args.shelf.now)) s new asked (change_lines s c.edit.result new) (change_step s new asked c.edit.result c.edit.ensures))
+
+pub returns-in-EditsByNames : goal.returns-in-EditsByNames
+returns-in-EditsByNames g c =
+    let s = c.args.self.now in
+    let new = c.edit_by_names.new.self in
+    let asked = edit_by_names c.in-EditsByNames.desk c.in-EditsByNames.text c.in-EditsByNames.what c.in-EditsByNames.names in
+    rw c.in-EditsByNames.is (stepped_over (shelf_seen (g.S.Shelf.files c.args.shelf.now) (g.S.Shelf.faults c.args.shelf.now)) s new asked (change_lines s c.edit_by_names.result new) (change_step s new asked c.edit_by_names.result c.edit_by_names.ensures))
 
 pub returns-in-Saves : goal.returns-in-Saves
 returns-in-Saves g c =
