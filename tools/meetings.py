@@ -28,6 +28,8 @@ class Run:
 
     process: subprocess.Popen[str]
     asked: list[str] = field(default_factory=list)
+    # The names that each site deleted, as words of an event.
+    deleted: dict[int, list[str]] = field(default_factory=lambda: {site: [] for site in SITES})
 
     def ask(self, line: str) -> list[str]:
         self.asked.append(line)
@@ -44,6 +46,10 @@ class Run:
 
     def text(self, site: int, event: str = "text 1") -> str:
         return self.ask(f"{site} {event}")[0]
+
+    def names(self, site: int, beg: int, end: int) -> list[str]:
+        """The names of what a site shows there, as words of an event."""
+        return [line.split(" ", 2)[2] for line in self.ask(f"{site} names 1 {beg} {end}")[:-1]]
 
     def fronts(self, site: int) -> str:
         """A site's fronts, as words of a query."""
@@ -67,9 +73,29 @@ def edit(run: Run, site: int, draw: random.Random) -> None:
         [f"type 1 {beg} {draw.choice('abcdefgh') * draw.randint(1, 3)}"] * 3
         + [f"cut 1 {beg} {min(end, beg + 4)}", f"looks 1 {beg} {end} colour={draw.randint(1, 15)}", f"recall 1 {beg}", "restore 1"]
     )
+    if line.startswith("cut"):
+        run.deleted[site] += run.names(site, beg, min(end, beg + 4))
     answer = run.ask(f"{site} {line}")
     if answer[-1] != "ok":
         raise Fault(f"{line!r} is answered {answer[-1]!r}")
+
+
+def edit_by_names(run: Run, site: int, draw: random.Random) -> None:
+    """Takes characters out of what is shown, or shows some again that were deleted, wherever they stand now."""
+    length = int(run.text(site).split(" ", 2)[1])
+    beg = draw.randint(0, length)
+    verb, among = draw.choice([("delete", run.names(site, beg, min(length, beg + 6))), ("restore", run.deleted[site])])
+    names = draw.choices(among, k=min(len(among), 3))
+    if not names:
+        return
+    if verb == "delete":
+        run.deleted[site] += names
+    if (answer := run.ask(f"{site} {verb} 1 {' '.join(names)}"))[-1] != "ok":
+        raise Fault(f"{verb} is answered {answer[-1]!r}")
+    for name in names:
+        found = sum(int(line.split(" ", 4)[3]) for line in run.ask(f"{site} where 1 {name}")[:-1])
+        if found != (0 if verb == "delete" else int(name.rsplit(" ", 1)[1])):
+            raise Fault(f"{found} of {name} are shown after {verb}")
 
 
 def hand_over(run: Run, giver: int, taker: int) -> None:
@@ -102,7 +128,7 @@ def play(command: str, seed: int) -> str:
     with running(command) as run:
         try:
             for step in range(1, STEPS + 1):
-                edit(run, draw.choice(SITES), draw)
+                draw.choice([edit, edit, edit_by_names])(run, draw.choice(SITES), draw)
                 site = draw.choice(SITES)
                 noted.append((run.fronts(site), run.text(site)))
                 if step % APART == 0:

@@ -4,7 +4,7 @@ from __future__ import annotations
 from collections.abc import Sequence
 
 QUERIES = {"text", "runs", "front", "where", "names", "since", "past", "views", "marks", "show"}
-EDITS = {"type", "cut", "looks", "recall", "restore", "save", "key", "click"}
+EDITS = {"type", "cut", "looks", "recall", "restore", "delete", "save", "key", "click"}
 # Events whose line names no text after its verb.
 OF_THE_SCREEN = {"close", "move", "scroll", "point", "select", "key", "views", "marks", "show", "click"}
 # How the lines of an answer begin that others follow, by the verb; those of an edit are messages.

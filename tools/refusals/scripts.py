@@ -78,6 +78,11 @@ def of_texts() -> Sequence[Script]:
             "1 type 1 0 Hello; 2 take 1 m1; 2 type 1 2 xyz; 1 take 1 m2; 1 where 1 1 0 5; 1 cut 1 1 4; 1 where 1 1 0 5;"
             "1 where 1 2 0 3; 1 names 1 0 5; 1 names 1 0 6",
         ),
+        events(
+            "edits-by-names",
+            "1 type 1 0 Hello; 2 take 1 m1; 2 type 1 2 xyz; 1 take 1 m2; 1 delete 1 2 1 1 1 0 3 1 1 4; 1 text 1; 1 delete 1 1 0 1;"
+            "1 restore 1 1 0 5 2 0 3; 1 text 1; 1 cut 1 0 2; 1 delete 1 1 3 1; 1 restore 1; 1 text 1; 1 recall 1 0; 1 text 1",
+        ),
         events("what-lies-beyond-fronts", "1 type 1 0 Hello; 1 cut 1 1 4; 1 since 1; 1 since 1 1 1; 1 past 1; 1 past 1 1 1; 1 past 1 1 9"),
     ]
 
