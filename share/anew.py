@@ -13,8 +13,8 @@ from typing import NamedTuple
 from share.disk import Row
 from share.judging import Judge
 from share.looks import DEFAULT, Dressed, dressed
-from share.message import CHANGE_LOOKS, DELETE, MOST_RANGES, RESTORE, Message, Names, inserted, mentioned
-from share.names import Name, has, united
+from share.message import CHANGE_LOOKS, DELETE, RESTORE, Message, Names, inserted, mentioned
+from share.names import Name, united, without
 from share.site import Edited, Site
 from share.telling import Stretch
 from share.undoing import looks_of
@@ -40,9 +40,9 @@ class _Differing(NamedTuple):
     # Other names that may be shown in one of them alone.
     named: list[Names]
 
-    def is_common(self, name: Name) -> bool:
-        """Whether a name is that of one character in both texts."""
-        return not (has(self.seen, name) or has(self.counted, name))
+    def common(self, names: Iterable[Names]) -> list[Names]:
+        """Those of these names that are each of one character in both texts."""
+        return without(without(united(names), self.seen), self.counted)
 
 
 def make_anew(rows: Sequence[Row], lost: Sequence[Message], judge: Judge, site: Site) -> list[Done]:
@@ -72,7 +72,8 @@ def _differing(seen: Sequence[Message], judge: Judge) -> _Differing:
         if counted.get((message.site, message.seq)) == message:
             del counted[message.site, message.seq]
     seen_names, counted_names = (united(filter(None, map(inserted, some))) for some in (only_seen, counted.values()))
-    return _Differing(seen_names, counted_names, united(
+    differing = _Differing(seen_names, counted_names, [])
+    return differing._replace(named=differing.common(
         names for message in (*only_seen, *counted.values()) if message.kind in (DELETE, RESTORE)
         for names in mentioned(message)))
 
@@ -83,21 +84,20 @@ def _deleted_and_restored(lost: Sequence[Message], differing: _Differing, old: S
     for message in lost:
         if message.kind not in (DELETE, RESTORE):
             continue
-        was, now = (_shown(of, mentioned(message)).keys() for of in (old, site))
-        wanted = _as_set(filter(differing.is_common, now - was if message.kind == DELETE else was - now))
-        for begin in range(0, len(wanted), MOST_RANGES):
-            edited, _ = site.name(message.kind, wanted[begin:begin + MOST_RANGES])
-            done += _all_of(message, edited)
+        names = mentioned(message)
+        shown = united(Names(one.site, stretch.at, len(stretch.data))
+                       for one, stretches in zip(names, old.where(names)) for stretch in stretches)
+        edited, _ = (site.delete(differing.common(without(names, shown))) if message.kind == DELETE else
+                     site.restore(differing.common(shown)))
+        done += _all_of(message, edited)
     return done
 
 
 def _typed(lost: Sequence[Message], differing: _Differing, old: Site, site: Site) -> list[Done]:
     """Types again what is shown of lost messages in the old text."""
     was, now = _shown(old, differing.named), _shown(site, differing.named)
-    gone = sorted([*_shown(old, differing.seen).values(), *(
-        at for name, at in was.items() if name not in now and differing.is_common(name))])
-    come = sorted([*_shown(site, differing.counted).values(), *(
-        at for name, at in now.items() if name not in was and differing.is_common(name))])
+    gone = sorted([*_shown(old, differing.seen).values(), *(at for name, at in was.items() if name not in now)])
+    come = sorted([*_shown(site, differing.counted).values(), *(at for name, at in now.items() if name not in was)])
     typing = [(message, one) for message in lost if (one := inserted(message))]
     found = old.where([one for _, one in typing]) if typing else []
     stretches = sorted((stretch.position, stretch.data, message)
@@ -133,9 +133,7 @@ def _looked(lost: Sequence[Message], differing: _Differing, old: Site, site: Sit
     for message in lost:
         if message.kind != CHANGE_LOOKS:
             continue
-        names = _as_set((one.site, at) for one in mentioned(message) for at in range(one.at, one.at + one.length)
-                        if differing.is_common((one.site, at)))
-        for parts in looks_of(old, names):
+        for parts in looks_of(old, differing.common(mentioned(message))):
             for part, was in parts:
                 for there, now in chain.from_iterable(looks_of(site, [part])):
                     if was != now:
@@ -179,8 +177,3 @@ def _shown(site: Site, names: list[Names]) -> dict[Name, int]:
             found |= {(one.site, stretch.at + number): stretch.position + number
                       for number in range(len(stretch.data))}
     return found
-
-
-def _as_set(names: Iterable[Name]) -> list[Names]:
-    """Characters' names as the ranges of a set."""
-    return united(Names(site, at, 1) for site, at in names)

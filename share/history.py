@@ -7,8 +7,7 @@ from typing import NamedTuple, TypeVar
 
 from share.looks import Dressed
 from share.measured import Measured
-from share.message import CHANGE_LOOKS, DELETE, HEADER, INSERT, INSERTION, RESTORE, Message, Names
-from share.message import inserted, mentioned, names_of
+from share.message import CHANGE_LOOKS, DELETE, INSERT, RESTORE, Message, Names, inserted, mentioned, names_of
 from share.note_text import boundary
 from share.site import Site
 from share.units import Units
@@ -120,8 +119,7 @@ def _goes_on(last: Message, message: Message) -> bool:
     before = inserted(last)
     if not before:
         return True
-    cause_site, cause, _, _ = INSERTION.unpack_from(message.data, HEADER.size)
-    return bool((cause_site, cause) == (before.site, before.at + before.length - 1))
+    return mentioned(message) == [Names(before.site, before.at + before.length - 1, 1)]
 
 
 def typed(message: Message) -> bytes:

@@ -1,17 +1,15 @@
-"""Looks of characters: what an editor is told of fonts, colours and offsets, and how they are set by the characters'
-names. docs/FORMATS.md has the bytes."""
+"""Looks of characters: what an editor is told of fonts, colours and offsets, and what sets them. docs/FORMATS.md has the
+bytes and words."""
 from collections.abc import Callable, Sequence
 from typing import NamedTuple
 
-from share.message import CHANGE_LOOKS, HEADER, INSERT, INSERTION, LENGTH, LONGEST_FONT, RANGE, RESTORE, TAG, TEXT
-from share.message import Message, Names
+from share.message import CHANGE_LOOKS, HEADER, INSERT, INSERTION, LONGEST_FONT, RESTORE, Names
 
 # The colours of a text, by their numbers.
 COLOURS = ("#000000", "#000000", "#cc2222", "#228822", "#2222cc", "#aa22aa", "#aa7700", "#227777",
            "#555555", "#888888", "#dd6666", "#66aa66", "#6666dd", "#cc66cc", "#ccaa44", "#66aaaa")
 PLAIN_COLOURS = (0, 1)
 LETTERS = "ABCDEFGHIJKLMNOPQRSTUVWXYZabcdefghijklmnopqrstuvwxyz"
-VERSION = 1
 
 
 class Looks(NamedTuple):
@@ -57,6 +55,8 @@ class Looked(NamedTuple):
 
 
 DEFAULT = Looks("Oberon10.Scn.Fnt", 1, 0)
+# The same as an Insert has them.
+DEFAULT_BYTES = b"\x10Oberon10.Scn.Fnt\x01\x00"
 
 
 def is_bold(font: str) -> bool:
@@ -112,26 +112,13 @@ def told(looks: Looks) -> dict[str, object]:
 def may_dress(message: bytes) -> bool:
     """Whether after a message there can be looks where there were none: it sets some, or brings characters back."""
     if message[3] == INSERT:
-        return not message.startswith(_PLAIN, HEADER.size + INSERTION.size - 1)
+        return not message.startswith(DEFAULT_BYTES, HEADER.size + INSERTION.size - 1)
     return message[3] in (CHANGE_LOOKS, RESTORE)
 
 
-def looking(looks: Looks, site: int, seq: int, stamp: int, names: Sequence[Names]) -> Message:
-    """A ChangeLooks of these names, which are in the order of a set."""
-    selection = sum(1 << place for place, value in enumerate(looks) if value is not None)
-    head = HEADER.pack(TAG, VERSION, CHANGE_LOOKS, TEXT, site, seq, stamp)
-    ranges = (RANGE.pack(*one) for one in names)
-    data = b"".join([head, bytes([selection]), _spelled(looks), LENGTH.pack(len(names)), *ranges])
-    return Message(site, seq, stamp, CHANGE_LOOKS, data)
-
-
-def _spelled(looks: Looks) -> bytes:
-    """Looks as a message has them, those that are given."""
-    font = b"" if looks.font is None else bytes([len(looks.font)]) + looks.font.encode("ascii")
-    return font + b"".join(bytes([value & 0xFF]) for value in looks[1:] if isinstance(value, int))
-
-
-_PLAIN = _spelled(DEFAULT)
+def in_words(looks: Looks) -> bytes:
+    """Looks as an event has them, those that are given."""
+    return b" ".join(f"{name}={value}".encode("ascii") for name, value in looks._asdict().items() if value is not None)
 
 
 def setting(bold: bool | None, colour: int | None) -> Callable[[Looks], Looks]:

@@ -1,4 +1,5 @@
-"""Messages as far as sharing reads them: who sent one, which names it inserts and which it speaks of.
+"""Messages as far as sharing reads them: who sent one, which names it inserts and which it speaks of. The program alone
+spells them.
 
 docs/FORMATS.md has them byte by byte.
 """
@@ -95,14 +96,6 @@ def names_of(message: Message) -> list[Names]:
     if one := inserted(message):
         return [one]
     return mentioned(message) if message.kind in (DELETE, RESTORE) else []
-
-
-def naming(kind: int, site: int, seq: int, stamp: int, names: list[Names]) -> Message:
-    """A Delete or a Restore of these names, which are in the order of a set."""
-    version = 2 if kind == RESTORE else 1
-    head = HEADER.pack(TAG, version, kind, TEXT, site, seq, stamp)
-    ranges = (RANGE.pack(*one) for one in names)
-    return Message(site, seq, stamp, kind, b"".join([head, LENGTH.pack(len(names)), *ranges]))
 
 
 def _is_insertion(data: bytes, site: int) -> bool:

@@ -1,8 +1,7 @@
 """Sets of characters' names, as ranges that rise and don't meet."""
-from bisect import bisect_right
 from collections.abc import Iterable, Sequence
 
-from share.message import MOST_OF_A_SITE, Names
+from share.message import Names
 
 # The site and the offset of a character.
 Name = tuple[int, int]
@@ -21,12 +20,6 @@ def united(names: Iterable[Names]) -> list[Names]:
     return out
 
 
-def has(names: Sequence[Names], name: Name) -> bool:
-    """Whether a name is in a set."""
-    at = bisect_right(names, (*name, MOST_OF_A_SITE)) - 1
-    return at >= 0 and names[at].site == name[0] and name[1] < names[at].at + names[at].length
-
-
 def without(names: Sequence[Names], others: Sequence[Names]) -> list[Names]:
     """The names of a set that aren't in another one."""
     out: list[Names] = []
@@ -40,3 +33,13 @@ def without(names: Sequence[Names], others: Sequence[Names]) -> list[Names]:
         if at < end:
             out.append(Names(one.site, at, end - at))
     return out
+
+
+def halves(names: Sequence[Names]) -> tuple[Sequence[Names], Sequence[Names]]:
+    """A set of several names in two parts."""
+    if len(names) > 1:
+        middle = len(names) // 2
+        return names[:middle], names[middle:]
+    (one,) = names
+    middle = one.length // 2
+    return [one._replace(length=middle)], [Names(one.site, one.at + middle, one.length - middle)]

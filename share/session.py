@@ -14,7 +14,7 @@ from share.entry import GREATEST_SITE, Entry, Kind, in_entries
 from share.holdings import Holdings, Who, uncollected, who
 from share.judging import Counted
 from share.log import is_network, open_log
-from share.message import Message, Names
+from share.message import Message
 from share.reading import found_in
 from share.site import SLICE, Edited, Site, Told
 from share.words import NEWER, Trouble, counted, entries
@@ -98,17 +98,6 @@ class Session:
     def cut(self, begin: int, end: int) -> Edited:
         """Deletes a stretch."""
         return self._edited(lambda: self.site.cut(begin, end))
-
-    def name(self, kind: int, names: list[Names]) -> tuple[Edited, Told]:
-        """Deletes or restores characters by their names, and tells what the text has become."""
-        told: list[Told] = []
-
-        def edit() -> Edited:
-            edited, changed = self.site.name(kind, names)
-            told.append(changed)
-            return edited
-
-        return self._edited(edit), told[0]
 
     def edit(self, work: Callable[[Site], Edited]) -> Edited:
         """Does several things at the site as one edit: all that they made is kept, or nothing of it."""

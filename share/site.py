@@ -4,15 +4,15 @@ The messages that it takes in are those that count, in an order in which each is
 in each at once.
 """
 from collections.abc import Callable, Iterable, Iterator, Sequence
-from functools import partial
-from itertools import chain, islice
+from itertools import accumulate, chain, islice
 from typing import NamedTuple
 
-from share.looks import Looks, Run, looking
-from share.message import GREATEST_STAMP, Message, Names, naming
+from share.looks import Looks, Run, in_words
+from share.message import MOST_RANGES, Message, Names
+from share.names import halves, united
 from share.note_text import Change, boundary
 from share.program import MOST_LINES, Ended, Program, escaped, shown
-from share.telling import Stretch, answered, asking, count, stretches
+from share.telling import Stretch, answered, asking, count, stretches, told
 from share.words import Trouble
 
 # One message has so many bytes of an insertion at most.
@@ -26,7 +26,7 @@ MOST_NAMES = 10_000
 # So many messages a note has at most when it is edited, since a run of the program takes so many lines and
 # can't be gone on with by another one. Lines are left for what is asked besides.
 MOST_MESSAGES = MOST_LINES - 50_000
-SCATTERED, STAMPS_SPENT, NO_MEMORY, TOO_MANY = 12, 9, 7, 21
+SCATTERED, NO_MEMORY, UNKNOWN, TOO_MANY = 12, 7, 20, 21
 
 Progress = Callable[[int], None]
 # What a text has become: change by change, or where that isn't told the whole of it.
@@ -47,10 +47,11 @@ class Site:
         self.number = number
         # All that the program was handed and made; a program that ended is given it again.
         self.history: list[bytes] = []
-        self._front = self._stamp = 0
         self._program = Program(number)
-        # A program that can't say where characters are shown is told of as the note is opened.
-        stretches(self._ask([self._program.event("where", number, 0, 1)])[0])
+        # A program that doesn't know edits by names is told of as the note is opened. No name is here yet.
+        if self._edit("delete", number, 0, 1).refused == UNKNOWN:
+            raise Trouble("The program is too old: it can't edit by characters' names. Build it anew, with "
+                          "bin/site_cli < demo/two-sites.script, and open the note again.")
         self.take(messages, progress=progress)
 
     def take(self, messages: Iterable[Message], looks: bool = False,
@@ -69,26 +70,13 @@ class Site:
 
     def insert(self, position: int, data: bytes) -> Edited:
         """Types bytes after the first so many of the text. Each message has whole characters alone."""
-        messages: list[Message] = []
-        for part in split(data):
-            edited = self._edit("type", position, escaped(part))
-            messages += edited.messages
-            position += len(part)
-            if edited.refused:
-                return Edited(messages, edited.refused)
-        return Edited(messages)
+        parts = [*split(data)]
+        places = accumulate(map(len, parts), initial=position)
+        return one_by_one(self._edit("type", place, escaped(part)) for place, part in zip(places, parts))
 
     def cut(self, begin: int, end: int) -> Edited:
         """Deletes a stretch; where it is too scattered for one message, half by half."""
-        edited = self._edit("cut", begin, end)
-        if edited.refused != SCATTERED:
-            return edited
-        middle = (begin + end) // 2
-        last = self.cut(middle, end)
-        if last.refused:
-            return last
-        first = self.cut(begin, middle)
-        return Edited(last.messages + first.messages, first.refused)
+        return self._of_stretch("cut", begin, end)
 
     def replace(self, changes: Sequence[tuple[int, int, bytes]]) -> list[Edited]:
         """Makes changes, each in the text that those before it leave, and asks the program for all of them at once. It
@@ -114,29 +102,18 @@ class Site:
         refused = [int(answer[-1].split()[-1]) for answer in answers if answer[-1] != b"ok"]
         return Edited(messages, refused[0] if refused else None)
 
-    def name(self, kind: int, names: list[Names]) -> tuple[Edited, Told]:
-        """Deletes or restores characters by their names, wherever they are now, and tells what the text has
-        become.
+    def delete(self, names: Iterable[Names]) -> tuple[Edited, Told]:
+        """Deletes those of these characters that are shown, wherever that is, and tells what the text has become."""
+        return self._by_names("delete", united(names))
 
-        No event has names, so the message is made here, with the next seq and a stamp above all others, and
-        handed in: the program judges it as any other."""
-        return self._by_names(partial(naming, kind), names)
+    def restore(self, names: Iterable[Names]) -> tuple[Edited, Told]:
+        """Shows those of these characters again that are hidden, and tells what the text has become."""
+        return self._by_names("restore", united(names))
 
-    def look(self, looks: Looks, names: list[Names]) -> Edited:
-        """Gives looks to characters by their names, wherever they are now."""
-        return self._by_names(partial(looking, looks), names)[0]
-
-    def _by_names(self, makes: Callable[[int, int, int, list[Names]], Message],
-                  names: list[Names]) -> tuple[Edited, Told]:
-        """Hands a message in that is made for these names."""
-        if refused := self._full():
-            return Edited([], refused), []
-        if self._stamp >= GREATEST_STAMP:
-            return Edited([], STAMPS_SPENT), []
-        message = makes(self.number, self._front + 1, self._stamp + 1, names)
-        changes = self._hand_in([message], looks=True)
-        self._holds([message])
-        return Edited([message]), self.text() if changes is None else changes
+    def look(self, looks: Looks, names: Iterable[Names]) -> Edited:
+        """Gives looks to those of these characters that are shown, wherever that is."""
+        found = sorted((one.position, one.position + len(one.data)) for part in self.where(united(names)) for one in part)
+        return one_by_one(self._of_stretch("looks", begin, end, in_words(looks)) for begin, end in _joined(found))
 
     def where(self, names: list[Names]) -> list[list[Stretch]]:
         """Where characters are shown, of each of these names."""
@@ -157,7 +134,6 @@ class Site:
 
     def go_back(self, length: int) -> None:
         """Goes on as if what was made here since the history had so many messages hadn't been, since it isn't kept."""
-        self._front -= len(self.history) - length
         del self.history[length:]
         self._start_again(1)
 
@@ -183,11 +159,32 @@ class Site:
         return [one for _, changed in told for one in changed or ()]
 
     def _holds(self, messages: list[Message]) -> None:
-        for message in messages:
-            self.history.append(message.data)
-            self._stamp = max(self._stamp, message.stamp)
-            if message.site == self.number:
-                self._front = message.seq
+        self.history += [message.data for message in messages]
+
+    def _by_names(self, verb: str, names: list[Names]) -> tuple[Edited, Told]:
+        tells = sum(one.length for one in names) <= MOST_NAMES
+        earlier = self.where(names) if tells else []
+        edited = one_by_one(self._of_names(verb, names[begin:begin + MOST_RANGES])
+                            for begin in range(0, len(names), MOST_RANGES))
+        if not edited.messages:
+            return edited, []
+        return edited, told(names, earlier, self.where(names)) if tells else self.text()
+
+    def _of_names(self, verb: str, names: Sequence[Names]) -> Edited:
+        """An edit by names, which a line has room for; where those that change are too scattered for one message, half
+        by half."""
+        edited = self._edit(verb, *chain.from_iterable(names))
+        if edited.refused != SCATTERED:
+            return edited
+        return one_by_one(self._of_names(verb, half) for half in halves(names))
+
+    def _of_stretch(self, verb: str, begin: int, end: int, *words: bytes) -> Edited:
+        """An edit of a stretch; where it is too scattered for one message, half by half from its end."""
+        edited = self._edit(verb, begin, end, *words)
+        if edited.refused != SCATTERED:
+            return edited
+        middle = (begin + end) // 2
+        return one_by_one(self._of_stretch(verb, *half, *words) for half in ((middle, end), (begin, middle)))
 
     def _edit(self, verb: str, *words: int | bytes) -> Edited:
         if refused := self._full():
@@ -227,6 +224,16 @@ class Site:
                           "kept.") from why
 
 
+def one_by_one(edits: Iterable[Edited]) -> Edited:
+    """Several edits as one, up to the first one that is refused."""
+    messages: list[Message] = []
+    for edited in edits:
+        messages += edited.messages
+        if edited.refused is not None:
+            return Edited(messages, edited.refused)
+    return Edited(messages)
+
+
 def split(data: bytes) -> Iterator[bytes]:
     """Bytes in parts that fit a message, parted between characters of UTF-8."""
     while len(data) > MOST_BYTES:
@@ -235,3 +242,13 @@ def split(data: bytes) -> Iterator[bytes]:
         data = data[end:]
     if data:
         yield data
+
+
+def _joined(stretches_of: Iterable[tuple[int, int]]) -> list[tuple[int, int]]:
+    """Stretches that rise, those that follow one another in one."""
+    out: list[tuple[int, int]] = []
+    for begin, end in stretches_of:
+        if out and out[-1][1] == begin:
+            begin, _ = out.pop()
+        out.append((begin, end))
+    return out

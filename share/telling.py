@@ -48,9 +48,6 @@ def answered(message: Message, answers: list[list[bytes]]) -> tuple[bytes, list[
 def stretches(answer: list[bytes]) -> list[Stretch]:
     """Where an answer to `where` says that names are shown."""
     *lines, end = answer
-    if end == b"refused 20":
-        raise Trouble("The program is too old: it can't say where characters are shown. Build it anew, with "
-                      "bin/site_cli < demo/two-sites.script, and open the note again.")
     if end != b"ok":
         raise Trouble(f"The program was asked where characters are shown and answered {end[:60]!r}. End "
                       "other programs and open the note again.")

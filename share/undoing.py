@@ -2,12 +2,12 @@
 from bisect import bisect_right
 from collections.abc import Iterable, Iterator
 from dataclasses import dataclass, field
-from itertools import accumulate
+from itertools import accumulate, chain
 
 from share.looks import Looked, Looks
-from share.message import DELETE, INSERT, MOST_RANGES, RESTORE, Message, Names, names_of
+from share.message import INSERT, Message, Names, names_of
 from share.names import united, without
-from share.site import Edited, Site, Told
+from share.site import Edited, Site, Told, one_by_one
 
 
 @dataclass
@@ -70,25 +70,19 @@ def do(site: Site, step: Step, redo: bool, told: list[Told], changed: Step) -> E
     changed, as the edit which brings that about or is taken back so."""
     came = step.came if redo else without(step.went, step.came)
     went = step.went if redo else step.came
-    # Others may have deleted some meanwhile, or brought some back.
-    goes, comes = _shown(site, went), without(united(came), _shown(site, came))
-    changed.came, changed.went = (comes, goes) if redo else (goes, comes)
+    goes, comes = (changed.went, changed.came) if redo else (changed.came, changed.went)
     messages: list[Message] = []
-    for kind, names in (DELETE, goes), (RESTORE, comes):
-        for begin in range(0, len(names), MOST_RANGES):
-            edited, became = site.name(kind, names[begin:begin + MOST_RANGES])
-            messages += edited.messages
-            told.append(became)
-            if edited.refused:
-                return Edited(messages, edited.refused)
+    # Others may have deleted some meanwhile, or brought some back: the messages say what changes.
+    for by_names, names, changes in (site.delete, went, goes), (site.restore, came, comes):
+        edited, became = by_names(names)
+        messages += edited.messages
+        changes += chain.from_iterable(map(names_of, edited.messages))
+        told.append(became)
+        if edited.refused is not None:
+            return Edited(messages, edited.refused)
     changed.looked = _to_look(site, step.looked, redo)
-    for looks, of_looks in _by_looks(changed.looked, redo).items():
-        for begin in range(0, len(of_looks), MOST_RANGES):
-            edited = site.look(looks, of_looks[begin:begin + MOST_RANGES])
-            messages += edited.messages
-            if edited.refused:
-                return Edited(messages, edited.refused)
-    return Edited(messages)
+    edited = one_by_one(site.look(*one) for one in _by_looks(changed.looked, redo).items())
+    return Edited(messages + edited.messages, edited.refused)
 
 
 def looks_of(site: Site, names: list[Names]) -> Iterator[list[tuple[Names, Looks]]]:
@@ -127,11 +121,4 @@ def _by_looks(looked: list[Looked], redo: bool) -> dict[Looks, list[Names]]:
     found: dict[Looks, list[Names]] = {}
     for names, was, became in looked:
         found.setdefault(became.differing(was) if redo else was.differing(became), []).append(names)
-    return {looks: united(names) for looks, names in found.items()}
-
-
-def _shown(site: Site, names: list[Names]) -> list[Names]:
-    """Those names whose characters are shown."""
-    found = site.where(names) if names else []
-    return united(Names(one.site, stretch.at, len(stretch.data)) for one, stretches in zip(names, found)
-                  for stretch in stretches)
+    return found

@@ -11,7 +11,7 @@ REFUSALS = {
     8: "a message waits that shows that this site was further once",
     9: "a message with the greatest stamp came in, and no edit can follow it",
     10: "one site types at most 16,777,216 bytes; open the note with a new data folder for a new site number",
-    11: "a position lies outside the text",
+    11: "a position or a name isn't in the text",
     12: "it is scattered over more than 1,024 stretches",
     20: "the program can't read it",
     21: "a note has about a million messages at most; save it as a file and begin a new one",

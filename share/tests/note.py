@@ -6,7 +6,7 @@ from dataclasses import dataclass
 from share.message import DELETE, RESTORE, Message, Names, names_of
 from share.note_text import LINE_END, Change, boundary, change, make
 from share.session import Session
-from share.site import Edited, Told
+from share.site import Edited, Site, Told
 from share.words import Refused, Trouble
 
 
@@ -61,7 +61,7 @@ class Note:
         undo = self._done.pop()
         for done, names in enumerate(undo.names):
             told: list[Told] = []
-            if self._edited(lambda: self._named(undo.kind, names, told)) is None:
+            if self._edited(lambda: self.session.edit(lambda site: self._named(site, undo.kind, names, told))) is None:
                 # What was refused, and what comes after it, can be taken back later.
                 self._done.append(Undo(undo.kind, undo.names[done:]))
                 return True
@@ -94,8 +94,9 @@ class Note:
             self._done.append(Undo(DELETE, [[names]]))
         self._goes_on = True
 
-    def _named(self, kind: int, names: list[Names], told: list[Told]) -> Edited:
-        edited, changed = self.session.name(kind, names)
+    @staticmethod
+    def _named(site: Site, kind: int, names: list[Names], told: list[Told]) -> Edited:
+        edited, changed = (site.delete if kind == DELETE else site.restore)(names)
         told.append(changed)
         return edited
 

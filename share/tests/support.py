@@ -10,6 +10,7 @@ import subprocess
 import sys
 import tempfile
 import unittest
+from collections.abc import Callable
 
 from share import link as links
 from share import opening
@@ -17,7 +18,6 @@ from share.disk import Disk
 from share.entry import Form, Plain, in_entries
 from share.judging import Judge
 from share.log import START, Log, open_log
-from share.message import Names
 from share.program import Program
 from share.reading import found_in, shown
 from share.session import Session, Status
@@ -158,10 +158,9 @@ class Carried:
         """Deletes a stretch."""
         return self._kept(self.site.cut(begin, end))
 
-    def name(self, kind: int, names: list[Names]) -> tuple[Edited, Told]:
-        """Deletes or restores by names."""
-        edited, told = self.site.name(kind, names)
-        return self._kept(edited), told
+    def edit(self, work: Callable[[Site], Edited]) -> Edited:
+        """Does something at the site."""
+        return self._kept(work(self.site))
 
     def _kept(self, edited: Edited) -> Edited:
         for part in in_entries(edited.messages):

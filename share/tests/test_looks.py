@@ -5,8 +5,9 @@ import random
 import shutil
 import subprocess
 
-from share.looks import DEFAULT, Looks, is_bold, is_slanted, looking, may_dress, setting, with_weight
-from share.message import Names, is_spelled, mentioned
+from share.looks import DEFAULT, Looks, Run, is_bold, is_slanted, may_dress, setting, with_weight
+from share.message import Names, mentioned
+from share.site import Edited, Site
 from share.tests.editors import Editor, Engines
 from share.tests.support import NOTE, Case, wait_for
 
@@ -27,13 +28,23 @@ class Fonts(Case):
             self.assertEqual(with_weight(font, True), "Oberon10b.Scn.Fnt")
         self.assertFalse(is_bold("bold.Fnt"))
 
-    def test_a_message_is_spelled_as_the_program_spells_it(self) -> None:
-        names = [Names(7, 0, 3), Names(9, 5, 1)]
+    def test_looks_are_given_to_what_is_shown(self) -> None:
+        site = Site(7)
+        self.addCleanup(site.close)
+        (typed,) = site.insert(0, b"abcdef").messages
+        self.assertFalse(may_dress(typed.data))
+        (deleted,) = site.cut(3, 4).messages
+        self.assertFalse(may_dress(deleted.data))
         for looks in Looks("Oberon10b.Scn.Fnt"), Looks(None, 15), Looks(None, None, -128), Looks("A", 0, 127):
-            message = looking(looks, 7, 4, 9, names)
-            self.assertTrue(is_spelled(message.data), looks)
-            self.assertEqual(mentioned(message), names)
+            (message,) = site.look(looks, [Names(7, 2, 3)]).messages
+            self.assertEqual(mentioned(message), [Names(7, 2, 1), Names(7, 4, 1)])
             self.assertTrue(may_dress(message.data))
+        self.assertEqual(site.runs(), [Run(*DEFAULT, 2), Run("A", 0, 127, 2), Run(*DEFAULT, 1)])
+        messages = site.look(Looks(None, 3), [Names(7, 5, 1), Names(7, 0, 2), Names(7, 3, 1)]).messages
+        self.assertEqual([mentioned(one) for one in messages], [[Names(7, 0, 2)], [Names(7, 5, 1)]])
+        self.assertEqual(site.look(Looks(None, 4), [Names(7, 3, 1)]), Edited([]))
+
+    def test_what_is_set(self) -> None:
         self.assertEqual(setting(True, 2)(DEFAULT), Looks("Oberon10b.Scn.Fnt", 2, 0))
         self.assertEqual(setting(None, 2)(DEFAULT).differing(DEFAULT), Looks(None, 2, None))
 

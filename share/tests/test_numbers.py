@@ -11,10 +11,11 @@ from share.disk import Client, Disk
 from share.entry import LENGTH, Entry, Form
 from share.judging import rank
 from share.log import Log
-from share.message import Message, naming
-from share.tests.note import Note
+from share.message import DELETE, Message
 from share.program import Program
 from share.session import Session
+from share.tests.naive import about
+from share.tests.note import Note
 from share.tests.servers import RedisServer
 from share.tests.support import Case, Person, type_at_the_end, wait_for, written
 
@@ -307,7 +308,7 @@ class Numbers(Case):
         form, log = self.form(), self.log()
         author = form.new_author()
         claim = form.claim(4_711, author)
-        message = naming(2, 4_711, 1, 2**48 - 1, [(self.site_of(), 0, 1)])
+        message = about(DELETE, 4_711, 1, 2**48 - 1, [(self.site_of(), 0, 1)])
         log.append([claim.raw, form.entry(claim, [message], author).raw])
         note, other = self.opened(self.anna), self.opened(self.person("other"), link=link)
         for one, words in (note, "four "), (other, "five "):

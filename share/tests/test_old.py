@@ -13,8 +13,9 @@ import unittest
 import zlib
 from unittest import mock
 
-from share.message import DELETE, Message, Names, naming
+from share.message import DELETE, Message
 from share.old import JOURNAL_BEGIN, RECORD, Old, is_old_note, messages_of_old_note, messages_of_old_server
+from share.tests.naive import about
 from share.tests.servers import RedisServer
 from share.words import Trouble
 
@@ -24,7 +25,7 @@ LOCAL, SERVED = "e1dbd51f7c5d1601", "14bb5b4405555f78"
 
 def deletion(site: int, seq: int, at: int = 0) -> Message:
     """A message of a site."""
-    return naming(DELETE, site, seq, seq, [Names(1, at, 1)])
+    return about(DELETE, site, seq, seq, [(1, at, 1)])
 
 
 def record(message: Message) -> bytes:
@@ -288,7 +289,7 @@ class Servers(OldCase):
         self.assertEqual(old.left_out, ["5 entries of the log can't be read, and left out."])
 
     def test_a_large_one(self) -> None:
-        data = naming(DELETE, 5, 1, 1, [Names(1, 2 * at, 1) for at in range(1024)]).data
+        data = about(DELETE, 5, 1, 1, [(1, 2 * at, 1) for at in range(1024)]).data
         value = struct.pack(">I", zlib.crc32(data)) + data
         hexed = "".join(f"\\x{byte:02x}" for byte in value)
         subprocess.run(["redis-cli", "-p", str(self.server.port)], check=True, capture_output=True,

@@ -11,8 +11,9 @@ from share import link
 from share.entry import HEAD, MOST_BODY, MOST_BYTES, Author, Bad, Entry, Form, Plain, in_entries
 from share.link import Link, url_of
 from share.log import MOST_PRESENCE
-from share.message import DELETE, Message, Names, naming
+from share.message import DELETE, Message
 from share.sealing import KEY_BYTES, SIGNATURE_BYTES, Sealed, identity_of, new_key
+from share.tests.naive import about
 from share.words import Trouble
 
 KEY = bytes(range(KEY_BYTES))
@@ -20,7 +21,7 @@ KEY = bytes(range(KEY_BYTES))
 
 def deletion(site: int, seq: int, at: int = 0, ranges: int = 1) -> Message:
     """A message of a site that deletes some names."""
-    return naming(DELETE, site, seq, seq, [Names(1, at + 2 * number, 1) for number in range(ranges)])
+    return about(DELETE, site, seq, seq, [(1, at + 2 * number, 1) for number in range(ranges)])
 
 
 def chain(form: Form, author: Author, site: int = 7, entries: int = 3) -> list[Entry]:

@@ -17,7 +17,8 @@ from share.courier import PRESENCE
 from share.disk import About
 from share.entry import MOST_BYTES, Author, Entry, Form
 from share.link import Link, read
-from share.message import DELETE, HEADER, INSERT, INSERTION, LENGTH, TAG, TEXT, Message, Names, naming
+from share.message import DELETE, Message
+from share.tests.naive import about, inserting
 from share.tests.note import Note
 from share.tests.servers import Hostile
 from share.tests.servers import RedisServer as Server
@@ -85,8 +86,7 @@ class Tapped:
 
 def insertion(site: int, seq: int, stamp: int, at: int, data: bytes) -> Message:
     """A message that types at the front of the text."""
-    head = HEADER.pack(TAG, 1, INSERT, TEXT, site, seq, stamp) + INSERTION.pack(0, 0, at, 1) + b"A" + bytes(2)
-    return Message.read(head + LENGTH.pack(len(data)) + data)
+    return inserting(site, seq, stamp, None, at, data)
 
 
 class Shared(Case):
@@ -304,7 +304,7 @@ class Peers(Shared):
         self.assertEqual(bob.session.status().waiting, 1)
 
     def test_a_message_that_names_what_isnt_there(self) -> None:
-        _, made = self.peer(7, naming(DELETE, 7, 1, 9, [Names(60_000, 5, 3)]))
+        _, made = self.peer(7, about(DELETE, 7, 1, 9, [(60_000, 5, 3)]))
         _, wrong = self.peer(8, insertion(8, 1, 9, 5, b"far"))
         self.append(*(one.raw for one in (*made, *wrong)))
         bob = self.assert_others_go_on()

@@ -3,12 +3,15 @@
 Messages are made at random with fields at their bounds and beyond, and are damaged at random. With
 VIALSHOAL_EXAMPLES=N it tries N times as many, and others each time.
 """
+import ast
 import os
+import pathlib
 import random
 import unittest
 
+from share import message as messages
 from share.message import (CHANGE_LOOKS, DELETE, INSERT, LONGEST_MESSAGE, RESTORE, Message, Names, inserted,
-                           is_spelled, mentioned, names_of, naming)
+                           is_spelled, mentioned, names_of)
 from share.program import Program
 from share.tests.naive import about, head, reading
 
@@ -201,8 +204,6 @@ class SecondReading(unittest.TestCase):
             new = Names(read.site, read.at, read.length) if read.kind == INSERT else None
             self.assertEqual((inserted(message), mentioned(message)), (new, ranges))
             self.assertEqual(names_of(message), [new] if new else ranges if read.kind in (DELETE, RESTORE) else [])
-            if read.kind in (DELETE, RESTORE):
-                self.assertEqual(naming(read.kind, read.site, read.seq, read.stamp, ranges), message)
 
     def test_what_does_not_begin_as_a_message(self) -> None:
         raw = head(INSERT, 1, 1, 1)
@@ -210,6 +211,21 @@ class SecondReading(unittest.TestCase):
         for bad in b"", raw[:19], b"OU" + raw[2:]:
             self.assertRaises(ValueError, Message.read, bad)
             self.assertFalse(is_spelled(bad))
+
+
+class TheProgramAlone(unittest.TestCase):
+    """Messages are spelled by the program, and read here."""
+
+    def test_no_file_packs_a_message(self) -> None:
+        reads = pathlib.Path(messages.__file__)
+        for path in [*reads.parent.glob("*.py"), *reads.parent.glob("web/*.py")]:
+            nodes = [*ast.walk(ast.parse(path.read_bytes()))]
+            packs = {ast.unparse(one.value) for one in nodes if isinstance(one, ast.Attribute) and one.attr.startswith("pack")}
+            forms = {name.name for one in nodes if isinstance(one, ast.ImportFrom) and one.module == "share.message"
+                     for name in one.names}
+            tags = [one for one in nodes if isinstance(one, ast.Constant) and one.value == messages.TAG]
+            self.assertEqual(packs if path == reads else packs & forms, set(), path.name)
+            self.assertEqual(bool(tags or "TAG" in forms), path == reads, path.name)
 
 
 if __name__ == "__main__":

@@ -2,21 +2,25 @@
 after doesn't show which one that is."""
 import random
 import shlex
+import unittest
 from unittest import mock
 
-from share.tests.note import Note
-from share.note_text import boundary
+from share.message import MOST_OF_A_SITE, MOST_RANGES, Names, names_of
+from share.note_text import boundary, make
 from share.program import Program, command
-from share.site import MOST_BYTES, MOST_NAMES, Edited, Site
+from share.site import MOST_BYTES, MOST_NAMES, TOO_MANY, Edited, Site, Told
 from share.telling import stretches
+from share.tests.note import Note
 from share.tests.support import Pair, edit_at_random
 
 ROUNDS = 150
+# The number by which the program refuses names that aren't here.
+NOT_HERE = 11
 # So many bytes each of two sites types in all of them at most.
 TYPED = 5_000
 
 
-class Told(Pair):
+class Tells(Pair):
     """Two notes, of which one has its cursor where the other changes the text."""
 
     def cursors(self, one: int, two: int) -> None:
@@ -162,7 +166,7 @@ class Told(Pair):
 
     def test_a_program_that_is_too_old(self) -> None:
         old = self.folder / "old"
-        old.write_text(f'#!/bin/sh\nsed -u "s/ where / nowhere /" | {shlex.join(command())} "$@"\n')
+        old.write_text(f'#!/bin/sh\nsed -u "s/ delete / erase /" | {shlex.join(command())} "$@"\n')
         old.chmod(0o755)
         self.person().open("empty").session.close()
         run = self.note("empty", "--print", VIALSHOAL_PROGRAM=str(old))
@@ -217,3 +221,65 @@ class Told(Pair):
         self.shows("a" + "b" * MOST_BYTES + "c")
         one.take_back()
         self.shows("a" + "b" * MOST_BYTES)
+
+
+class ByNames(unittest.TestCase):
+    """A site deletes and restores by names, and tells what its text has become."""
+
+    def setUp(self) -> None:
+        self.site = Site(1)
+        self.addCleanup(self.site.close)
+        self.text = bytearray()
+
+    def typed(self, data: bytes) -> None:
+        """Has the site show this."""
+        self.site.insert(0, data)
+        self.text = bytearray(data)
+
+    def ranges(self, done: tuple[Edited, Told], text: bytes) -> list[list[Names]]:
+        """The names of each message of an edit, which makes this text."""
+        edited, told = done
+        assert isinstance(told, list)
+        make(self.text, told)
+        self.assertEqual((self.text, edited.refused), (text, None))
+        self.assertEqual(self.site.text(), text)
+        return [names_of(message) for message in edited.messages]
+
+    def test_what_changes_alone_is_named(self) -> None:
+        self.typed(b"abcdef")
+        self.assertEqual(self.ranges(self.site.delete([Names(1, 4, 1), Names(1, 1, 1)]), b"acdf"),
+                         [[Names(1, 1, 1), Names(1, 4, 1)]])
+        self.assertEqual(self.ranges(self.site.delete([Names(1, 3, 3), Names(1, 0, 4)]), b""),
+                         [[Names(1, 0, 1), Names(1, 2, 2), Names(1, 5, 1)]])
+        self.assertEqual(self.ranges(self.site.restore([Names(1, 0, 3)]), b"abc"), [[Names(1, 0, 3)]])
+        self.assertEqual(self.ranges(self.site.restore([Names(1, 1, 4)]), b"abcde"), [[Names(1, 3, 2)]])
+
+    def test_where_nothing_changes_there_is_no_message(self) -> None:
+        self.typed(b"abc")
+        self.assertEqual(self.ranges(self.site.restore([Names(1, 0, 3)]), b"abc"), [])
+        self.assertEqual(self.ranges(self.site.delete([]), b"abc"), [])
+
+    def test_more_ranges_than_a_message_has(self) -> None:
+        self.typed(b"ab" * 2_500)
+        ranges = self.ranges(self.site.delete(Names(1, 2 * at, 1) for at in range(2_500)), b"b" * 2_500)
+        self.assertEqual([len(one) for one in ranges], [MOST_RANGES, MOST_RANGES, 2_500 - 2 * MOST_RANGES])
+        # Of these names every other one is shown.
+        ranges = self.ranges(self.site.delete([Names(1, 0, 5_000)]), b"")
+        self.assertEqual([len(one) for one in ranges], [625] * 4)
+        self.assertEqual(self.ranges(self.site.restore([Names(1, 0, 5_000)]), b"ab" * 2_500), [[Names(1, 0, 5_000)]])
+
+    def test_a_line_has_room_for_the_ranges_of_a_message(self) -> None:
+        # These have the longest numbers, and aren't here.
+        far = [Names(65_535, MOST_OF_A_SITE - 2 * number, 1) for number in range(1, MOST_RANGES + 1)]
+        self.assertEqual(self.site.delete(far), (Edited([], NOT_HERE), []))
+        self.assertEqual(self.site.restore(far), (Edited([], NOT_HERE), []))
+
+    def test_what_is_refused_leaves_what_was_done_before(self) -> None:
+        self.typed(b"ab" * 2_000)
+        with mock.patch("share.site.MOST_MESSAGES", len(self.site.history) + 1):
+            edited, told = self.site.delete(Names(1, 2 * at, 1) for at in range(2_000))
+        self.assertEqual((len(edited.messages), edited.refused), (1, TOO_MANY))
+        assert isinstance(told, list)
+        make(self.text, told)
+        self.assertEqual(self.text, self.site.text())
+        self.assertEqual(len(self.text), 4_000 - MOST_RANGES)
