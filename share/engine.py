@@ -21,7 +21,6 @@ from share.log import Unreachable
 from share.looks import COLOURS, Looked, setting
 from share.measured import Measured, Outside, Split, shown, swapped
 from share.message import MOST_RANGES, Message, Names, inserted
-from share.named import Named
 from share.names import united
 from share.note_text import Change, change
 from share.ops import Op, in_text, of_changes
@@ -53,7 +52,6 @@ class Engine:
         self.peers: list[Peer] = []
         self.session: Session | None = None
         self._text = Measured(b"")
-        self._named: Named | None = None
         self._dress = Dress()
         self._number = 0
         self._status: Status | None = None
@@ -274,8 +272,8 @@ class Engine:
         """The character before a place, by its name."""
         if not place:
             return None if place is None else FRONT
-        names = self._names_of_all().at(place - 1)
-        return (names.site, names.at) if names else None
+        found = self._open_session().site.names(place - 1, min(place, self._text.size))
+        return (found[0].site, found[0].at) if found else None
 
     # Edits.
 
@@ -418,7 +416,7 @@ class Engine:
         places = [(self._place(peer, begin), self._place(peer, end)) for begin, end in lines.ranges(request)]
         session = self._open_session()
         self._sees_that_it_can_type(session)
-        names = united(chain.from_iterable(self._names_of_all().stretches(*one) for one in places))
+        names = united(chain.from_iterable(session.site.names(*one) for one in places))
         looked = [Looked(*one, sets(one[1])) for parts in looks_of(session.site, names) for one in parts]
         peer.typed_end = None
         changed = self._do(peer, session, Step(looked=looked), redo=True)
@@ -504,11 +502,7 @@ class Engine:
             carrying.changed(ops[carrying.units])
 
     def _moved(self, one: Change, names: list[Names] | None) -> None:
-        """Has names and places follow a change."""
-        if names is None or sum(part.length for part in names) != len(one.new):
-            self._named = None
-        elif self._named:
-            self._named.replace(one.begin, one.end, names)
+        """Has places follow a change; the names of what it brings may be known."""
         self._company.moved(one, names)
         self._dress.moved(one)
         for peer in self.peers:
@@ -544,25 +538,11 @@ class Engine:
         peer.carry.void(lines.number(request, "edits"))
         return {}
 
-    def _names_of_all(self) -> Named:
-        """The names of what is shown."""
-        if self._named is None:
-            session = self._open_session()
-            asked = [Names(site, 0, length) for site, length in session.lengths().items() if length]
-            found = session.site.where(asked) if asked else []
-            shown_ones = sorted((one.position, Names(names.site, one.at, len(one.data)))
-                                for names, stretches in zip(asked, found) for one in stretches)
-            self._named = Named(names for _, names in shown_ones)
-        return self._named
-
     def _who(self, peer: Peer, request: Line) -> Line:
         peer.carry.seen(lines.number(request, "version"))
         begin, end = (self._place(peer, lines.number(request, name)) for name in ("begin", "end"))
-        wrote, at = [], begin
-        for names in self._names_of_all().stretches(begin, end):
-            wrote.append(Wrote(at, at + names.length, names.site))
-            at += names.length
-        found = history.in_units(self._text, history.joined(wrote), peer.carry.units)
+        wrote = history.wrote(self._open_session().site, begin, end)
+        found = history.in_units(self._text, wrote, peer.carry.units)
         return {"edits": peer.carry.edits, "stretches": self._with_names(found)}
 
     def _with_names(self, wrote: Sequence[Wrote]) -> list[Line]:

@@ -87,7 +87,8 @@ class Replays:
             self._site, self._at = Site(REPLAYING), 0
         self._site.take(map(Message.read, self._history[self._at:at]))
         self._at = at
-        return Past(self._site.text(), wrote(self._site, _lengths(self._history[:at])))
+        text = self._site.text()
+        return Past(text, wrote(self._site, 0, len(text)))
 
 
 def steps(history: Sequence[bytes], begin: int, most: int) -> list[Step]:
@@ -128,22 +129,16 @@ def typed(message: Message) -> bytes:
     return message.data[-names.length:] if names else b""
 
 
-def wrote(site: Site, lengths: dict[int, int]) -> list[Wrote]:
-    """Who wrote what of the text that a site shows; sites have inserted so many characters."""
-    names = [Names(one, 0, length) for one, length in lengths.items() if length]
-    found = site.where(names) if names else []
-    return joined(sorted(Wrote(one.position, one.position + len(one.data), names.site)
-                         for names, stretches in zip(names, found) for one in stretches))
-
-
-def joined(stretches: Iterable[Wrote]) -> list[Wrote]:
-    """The same, those that follow one another and are of one site in one."""
+def wrote(site: Site, begin: int, end: int) -> list[Wrote]:
+    """Who wrote what of the text that a site shows, from one position to another."""
     out: list[Wrote] = []
-    for one in stretches:
-        if out and out[-1].site == one.site and out[-1].end == one.begin:
-            out[-1] = out[-1]._replace(end=one.end)
+    at = begin
+    for names in site.names(begin, end):
+        if out and out[-1].site == names.site:
+            out[-1] = out[-1]._replace(end=at + names.length)
         else:
-            out.append(one)
+            out.append(Wrote(at, at + names.length, names.site))
+        at += names.length
     return out
 
 
@@ -155,13 +150,3 @@ def in_units(text: Measured, stretches: Iterable[Of], units: Units) -> list[Of]:
         if begin < end:
             out.append(one._replace(begin=begin, end=end))
     return out
-
-
-def _lengths(history: Iterable[bytes]) -> dict[int, int]:
-    """How many characters each site has inserted."""
-    found: dict[int, int] = {}
-    for names in filter(None, (inserted(Message.read(data)) for data in history)):
-        found[names.site] = names.at + names.length
-    return found
-
-

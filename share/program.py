@@ -21,7 +21,7 @@ F_SETPIPE_SZ = 1031
 HANGS_SECONDS = 30
 CLOSE_SECONDS = 1
 # The lines of an answer that others follow.
-FOLLOWED = (b"send ", b"front ", b"run ", b"shown ")
+FOLLOWED = (b"send ", b"front ", b"run ", b"shown ", b"name ")
 
 
 class Ended(Exception):

@@ -103,11 +103,6 @@ class Session:
         """Does several things at the site as one edit: all that they made is kept, or nothing of it."""
         return self._edited(lambda: work(self.site))
 
-    def lengths(self) -> dict[int, int]:
-        """How many characters count of each site that is known, those that aren't shown among them."""
-        judge = self._holdings.judge
-        return {site: judge.length(site) for site in judge.claimed()}
-
     def messages(self) -> list[Message]:
         """All messages that count, each after its causes."""
         return self._holdings.judge.let_through_in_order()

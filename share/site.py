@@ -120,13 +120,15 @@ class Site:
         answers = self._ask([self._program.event("where", *one) for one in names])
         return [stretches(answer) for answer in answers]
 
+    def names(self, begin: int, end: int) -> list[Names]:
+        """The names of what is shown from one position to a later one, in their order there."""
+        found = self._lines("names", begin, end) if begin < end else []
+        return [Names(int(site), int(at), int(length)) for _, _, site, at, length in found]
+
     def runs(self) -> list[Run]:
         """Each longest stretch of equal looks."""
-        *found, end = self._ask([self._program.event("runs")])[0]
-        if end != b"ok":
-            raise Trouble(f"The program was asked for the looks and answered {end[:60]!r}.")
-        words = [line.decode("ascii").split(" ") for line in found]
-        return [Run(font, int(colour), int(offset), int(length)) for _, font, colour, offset, length in words]
+        return [Run(font, int(colour), int(offset), int(length))
+                for _, font, colour, offset, length in self._lines("runs")]
 
     def text(self) -> bytes:
         """What the program shows."""
@@ -157,6 +159,13 @@ class Site:
         if not tells or any(changed is None for _, changed in told):
             return None
         return [one for _, changed in told for one in changed or ()]
+
+    def _lines(self, verb: str, *words: int) -> list[list[str]]:
+        """The words of each line that a question is answered by."""
+        *found, end = self._ask([self._program.event(verb, *words)])[0]
+        if end != b"ok":
+            raise Trouble(f"The program was asked for {verb} and answered {end[:60].decode('ascii', 'replace')}.")
+        return [line.decode("ascii").split(" ") for line in found]
 
     def _holds(self, messages: list[Message]) -> None:
         self.history += [message.data for message in messages]

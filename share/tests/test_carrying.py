@@ -10,7 +10,6 @@ from share.carrying import Carrying
 from share.lines import Line, Wrong
 from share.measured import Measured, Outside, Split, shown, swapped
 from share.mirror import Mirror
-from share.named import Named
 from share.message import Names
 from share.note_text import Change, boundary
 from share.ops import carried_over, composed, growth, in_text, in_turn, moved, of_changes
@@ -211,22 +210,6 @@ class Parts(unittest.TestCase):
             for position in -1, ends[-1] + 1:
                 with self.assertRaises(Outside):
                     text.place(position, units)
-
-    def test_names(self) -> None:
-        chance = random.Random(5)
-        with mock.patch("share.named.PART", 4):
-            for _ in range(40):
-                named, flat = Named(), []
-                for _ in range(50):
-                    begin = chance.randrange(len(flat) + 1)
-                    end = min(len(flat), begin + chance.choice((0, 0, 1, 3, 10)))
-                    new = [Names(chance.randint(1, 3), chance.randrange(50), chance.randint(1, 4))
-                           for _ in range(chance.choice((0, 1, 2, 9)))]
-                    named.replace(begin, end, new)
-                    flat[begin:end] = self.one_by_one(new)
-                    self.assertEqual(self.one_by_one(named.stretches(0, len(flat))), flat)
-                    place = chance.randrange(len(flat) + 1)
-                    self.assertEqual(self.one_by_one(filter(None, [named.at(place)])), flat[place:place + 1])
 
     @staticmethod
     def one_by_one(names) -> list[tuple[int, int]]:

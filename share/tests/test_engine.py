@@ -157,6 +157,7 @@ class Sessions(Engines):
         self.assertEqual(first.ask("history", **{"from": 1}, most=1)["steps"][0]["begin"], 1)
         who = second.ask("who", version=second.mirror.version, begin=1, end=4)
         self.assertEqual([(one["begin"], one["end"], one["own"]) for one in who["stretches"]], [(1, 4, True)])
+        self.assertEqual(second.ask("who", version=second.mirror.version, begin=2, end=1)["stretches"], [])
 
     def test_bytes_that_are_no_text(self) -> None:
         first, second = self.others("ada", "bo")

@@ -12,6 +12,7 @@ from share.site import MOST_BYTES, MOST_NAMES, TOO_MANY, Edited, Site, Told
 from share.telling import stretches
 from share.tests.note import Note
 from share.tests.support import Pair, edit_at_random
+from share.words import Trouble
 
 ROUNDS = 150
 # The number by which the program refuses names that aren't here.
@@ -253,6 +254,24 @@ class ByNames(unittest.TestCase):
                          [[Names(1, 0, 1), Names(1, 2, 2), Names(1, 5, 1)]])
         self.assertEqual(self.ranges(self.site.restore([Names(1, 0, 3)]), b"abc"), [[Names(1, 0, 3)]])
         self.assertEqual(self.ranges(self.site.restore([Names(1, 1, 4)]), b"abcde"), [[Names(1, 3, 2)]])
+
+    def test_names_are_the_inverse_of_where(self) -> None:
+        chance = random.Random(8)
+        for _ in range(60):
+            length = len(self.site.text())
+            begin = chance.randrange(length + 1)
+            self.site.insert(begin, bytes(chance.choices(b"abc", k=chance.randint(1, 9))))
+            self.site.cut(begin // 2, min(length, begin // 2 + chance.randrange(5)))
+            text = self.site.text()
+            begin, end = sorted(chance.choices(range(len(text) + 1), k=2))
+            names = self.site.names(begin, end)
+            found = [stretch for one in self.site.where(names) for stretch in one]
+            self.assertEqual(b"".join(one.data for one in found), text[begin:end])
+            self.assertEqual([(one.at, len(one.data)) for one in found], [(one.at, one.length) for one in names])
+            self.assertEqual([one.position for one in found],
+                             [begin + sum(one.length for one in names[:number]) for number in range(len(names))])
+        self.assertEqual([self.site.names(3, 3), self.site.names(3, 2)], [[], []])
+        self.assertRaises(Trouble, self.site.names, 0, len(text) + 1)
 
     def test_where_nothing_changes_there_is_no_message(self) -> None:
         self.typed(b"abc")
