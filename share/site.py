@@ -111,7 +111,7 @@ class Site:
         return self._by_names("restore", united(names))
 
     def look(self, looks: Looks, names: Iterable[Names]) -> Edited:
-        """Gives looks to those of these characters that are shown, wherever that is."""
+        """Gives looks to those of these characters that are shown, wherever that is: no event gives them by names."""
         found = sorted((one.position, one.position + len(one.data)) for part in self.where(united(names)) for one in part)
         return one_by_one(self._of_stretch("looks", begin, end, in_words(looks)) for begin, end in _joined(found))
 
@@ -148,17 +148,17 @@ class Site:
         tells = looks and count(messages) <= MOST_NAMES and len(self.history) < MOST_MESSAGES
         asked = [asking(self._program, message, tells) for message in messages]
         found = iter(self._ask([*chain.from_iterable(asked)]))
-        told = [answered(message, [*islice(found, len(events))]) for message, events in zip(messages, asked)]
-        for message, (answer, _) in zip(messages, told):
+        done = [answered(message, [*islice(found, len(events))]) for message, events in zip(messages, asked)]
+        for message, (answer, _) in zip(messages, done):
             if answer == b"refused %d" % NO_MEMORY:
                 raise Trouble("There is no memory for what came in. End other programs and open the note "
                               "again.")
             if answer not in (b"taken 0 0", b"repeat"):
                 raise Trouble(f"The program answered message {message.seq} of site {message.site} with "
                               f"{answer[:60].decode('ascii', 'replace')}. Save the note as a file.")
-        if not tells or any(changed is None for _, changed in told):
+        if not tells or any(changed is None for _, changed in done):
             return None
-        return [one for _, changed in told for one in changed or ()]
+        return [one for _, changed in done for one in changed or ()]
 
     def _lines(self, verb: str, *words: int) -> list[list[str]]:
         """The words of each line that a question is answered by."""
@@ -253,10 +253,10 @@ def split(data: bytes) -> Iterator[bytes]:
         yield data
 
 
-def _joined(stretches_of: Iterable[tuple[int, int]]) -> list[tuple[int, int]]:
-    """Stretches that rise, those that follow one another in one."""
+def _joined(places: Iterable[tuple[int, int]]) -> list[tuple[int, int]]:
+    """Stretches that rise, by where they begin and end; those that follow one another in one."""
     out: list[tuple[int, int]] = []
-    for begin, end in stretches_of:
+    for begin, end in places:
         if out and out[-1][1] == begin:
             begin, _ = out.pop()
         out.append((begin, end))
