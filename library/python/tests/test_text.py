@@ -26,7 +26,7 @@ def spelled(data: bytes) -> str:
     return "".join(f"\\{byte:02x}" for byte in data)
 
 
-def edited(text: Text, edit: tuple[str, int, int, bytes]) -> tuple[Optional[str], list[bytes]]:
+def edited(text: Text[bytes], edit: tuple[str, int, int, bytes]) -> tuple[Optional[str], list[bytes]]:
     """Does an edit, and answers the event that does it too, if there is one, and the messages."""
     verb, one, two, data = edit
     beg, end = sorted((one % (len(text) + 1), two % (len(text) + 1)))
@@ -41,7 +41,7 @@ def edited(text: Text, edit: tuple[str, int, int, bytes]) -> tuple[Optional[str]
     return "restore 1", text.restore()
 
 
-def followed(shown: bytes, text: Text) -> bytes:
+def followed(shown: bytes, text: Text[bytes]) -> bytes:
     """What the changes of a text make of what was shown."""
     for change in text.changes():
         if change.kind is ChangeKind.DELETE:

@@ -10,6 +10,17 @@
 
 An edit answers the messages that it made; the other sites' texts take these, in any order and any number of times. Texts
 that took the same show the same.
+
+A text is bytes, and so positions count bytes. A `Text[str]` shows them as UTF-8, and its positions count code points:
+
+>>> with Text(1, site=3, units="code points") as c:
+...     _ = c.insert(0, "na\N{LATIN SMALL LETTER I WITH DIAERESIS}ve")
+...     _ = c.insert(len(c), "!")
+...     c[3:], len(c), len(bytes(c))
+('ve!', 6, 7)
+
+What another site made may be no UTF-8: a byte that is of no character is one code point, shown as Python's handler
+"surrogateescape" does, and the same byte again where it is put in.
 """
 from __future__ import annotations
 
@@ -18,13 +29,17 @@ import enum
 from ctypes import byref, c_uint32, c_uint64
 from dataclasses import dataclass
 from types import TracebackType
-from typing import Optional, Union, overload
+from typing import Any, AnyStr, Generic, Iterator, Literal, Optional, Union, cast, overload
 
 from . import _library as c
+from ._code_points import CodePoints, Triple, begins, decoded, encoded
 
-__all__ = ["Change", "ChangeKind", "Misused", "Name", "Place", "Refused", "Run", "Settling", "Taking", "TakingKind", "Text"]
+__all__ = ["Change", "ChangeKind", "Misused", "Name", "Place", "Refused", "Run", "Settling", "Taking", "TakingKind", "Text",
+           "Units"]
 
 _calls = c.load()
+# What positions and lengths count.
+Units = Literal["bytes", "code points"]
 # No message is longer than this.
 _MESSAGE = 10_297
 
@@ -80,7 +95,7 @@ class Name:
 
 @dataclass(frozen=True)
 class Place:
-    """How many shown characters are this one or stand before it, and whether it is shown itself."""
+    """How many bytes, or code points, are this character or stand before it, and whether it is shown itself."""
 
     pos: int
     is_shown: bool
@@ -132,24 +147,42 @@ def _number(number: int, most: int) -> int:
     return number
 
 
-class Text:
-    """A site's replica of a text: bytes that it and other sites edit."""
+class Text(Generic[AnyStr]):
+    """A site's replica of a text: bytes that it and other sites edit. Of a `Text[str]`, which is one of the units "code
+    points", all positions and lengths count code points."""
 
-    def __init__(self, text: int = 1, *, site: int) -> None:
-        self._begin()
+    @overload
+    def __init__(self: Text[bytes], text: int = 1, *, site: int, units: Literal["bytes"] = "bytes") -> None: ...
+
+    @overload
+    def __init__(self: Text[str], text: int = 1, *, site: int, units: Literal["code points"]) -> None: ...
+
+    def __init__(self, text: int = 1, *, site: int, units: Units = "bytes") -> None:
+        self._begin(units)
         _done(_calls.vialshoal_new(self._handle, _number(text, 65535), _number(site, 65535)))
 
-    def _begin(self) -> None:
+    def _begin(self, units: Units) -> None:
+        if units not in ("bytes", "code points"):
+            raise ValueError(f"no units: {units!r}")
+        self._points = CodePoints() if units == "code points" else None
         self._handle = c.Handle()
         self._sent = c_uint32()
         self._long = c_uint64()
         self._room = ctypes.create_string_buffer(_MESSAGE)
 
+    @overload
     @classmethod
-    def load(cls, file: bytes) -> Text:
+    def load(cls, file: bytes, *, units: Literal["bytes"] = "bytes") -> Text[bytes]: ...
+
+    @overload
+    @classmethod
+    def load(cls, file: bytes, *, units: Literal["code points"]) -> Text[str]: ...
+
+    @classmethod
+    def load(cls, file: bytes, *, units: Units = "bytes") -> Text[Any]:
         """The text of a file that `store` answered, at its site. No edit may have been made since it was stored."""
         file, text = bytes(file), cls.__new__(cls)
-        text._begin()
+        text._begin(units)
         _done(_calls.vialshoal_load(text._handle, file, len(file)))
         return text
 
@@ -171,12 +204,42 @@ class Text:
         if hasattr(self, "_handle"):
             self.close()
 
-    def __enter__(self) -> Text:
+    def __enter__(self) -> Text[AnyStr]:
         return self
 
     def __exit__(self, kind: Optional[type[BaseException]], error: Optional[BaseException],
                  trace: Optional[TracebackType]) -> None:
         self.close()
+
+    # -- units
+
+    def _spelled(self, data: Union[bytes, str]) -> bytes:
+        if isinstance(data, str) == (self._points is None):
+            raise TypeError("str goes into a text of code points, and bytes into another one")
+        return encoded(data) if isinstance(data, str) else bytes(data)
+
+    def _shown(self, data: bytes) -> AnyStr:
+        return cast(AnyStr, data if self._points is None else decoded(data))
+
+    def _byte(self, pos: int) -> int:
+        """How many bytes stand before a position."""
+        if self._points is None:
+            return _position(pos)
+        if not 0 <= pos <= len(self):
+            raise Misused(c.OUT_OF_TEXT)
+        return self._points.byte(pos)
+
+    def _pos(self, byte: int) -> int:
+        """The position behind so many bytes, or behind the code point that these end within."""
+        if self._points is None:
+            return byte
+        self._follow(self._points)
+        return self._points.point(byte)
+
+    def _follow(self, points: CodePoints) -> None:
+        changes = self._changes()
+        if changes:
+            points.follow(changes, self._range)
 
     # -- edits
 
@@ -195,14 +258,14 @@ class Text:
             raise (Misused if number > 100 else Refused)(number, messages)
         return messages
 
-    def insert(self, pos: int, data: bytes) -> list[bytes]:
-        """Puts bytes after the first `pos` ones, and answers the messages that tell it."""
-        data = bytes(data)
-        return self._edited(_calls.vialshoal_insert(self._handle, _position(pos), data, len(data), byref(self._sent)))
+    def insert(self, pos: int, data: AnyStr) -> list[bytes]:
+        """Puts bytes, or characters, after the first `pos` ones, and answers the messages that tell it."""
+        put = self._spelled(data)
+        return self._edited(_calls.vialshoal_insert(self._handle, self._byte(pos), put, len(put), byref(self._sent)))
 
     def delete(self, beg: int, end: int) -> list[bytes]:
         """Deletes a range."""
-        return self._edited(_calls.vialshoal_delete(self._handle, _position(beg), _position(end), byref(self._sent)))
+        return self._edited(_calls.vialshoal_delete(self._handle, self._byte(beg), self._byte(end), byref(self._sent)))
 
     def change_looks(self, beg: int, end: int, *, font: Optional[str] = None, colour: Optional[int] = None,
                      offset: Optional[int] = None) -> list[bytes]:
@@ -212,7 +275,7 @@ class Text:
         if offset is not None and not -128 <= offset <= 127:
             raise Misused(c.NO_NUMBER)
         return self._edited(_calls.vialshoal_change_looks(
-            self._handle, _position(beg), _position(end), selected, spelled, len(spelled), _number(colour or 0, 255),
+            self._handle, self._byte(beg), self._byte(end), selected, spelled, len(spelled), _number(colour or 0, 255),
             offset or 0, byref(self._sent)))
 
     def restore(self) -> list[bytes]:
@@ -220,8 +283,8 @@ class Text:
         return self._edited(_calls.vialshoal_restore(self._handle, byref(self._sent)))
 
     def recall(self, pos: int) -> list[bytes]:
-        """Puts a copy of what this site deleted last after the first `pos` bytes."""
-        return self._edited(_calls.vialshoal_recall(self._handle, _position(pos), byref(self._sent)))
+        """Puts a copy of what this site deleted last after the first `pos` bytes, or characters."""
+        return self._edited(_calls.vialshoal_recall(self._handle, self._byte(pos), byref(self._sent)))
 
     # -- what other sites made
 
@@ -243,7 +306,7 @@ class Text:
         _done(_calls.vialshoal_forget(self._handle, byref(count)))
         return count.value
 
-    def merge(self, other: Text) -> int:
+    def merge(self, other: Text[Any]) -> int:
         """Takes in all that another text holds, and answers how many of its operations were new."""
         if other is self:
             return 0
@@ -275,9 +338,13 @@ class Text:
 
     # -- what is shown
 
-    def __len__(self) -> int:
+    def _length(self) -> int:
         _done(_calls.vialshoal_length(self._handle, byref(self._long)))
         return self._long.value
+
+    def __len__(self) -> int:
+        length = self._length()
+        return length if self._points is None else self._pos(length)
 
     def _range(self, beg: int, end: int) -> bytes:
         room = ctypes.create_string_buffer(max(end - beg, 1))
@@ -285,50 +352,73 @@ class Text:
         return room.raw[:end - beg]
 
     def __bytes__(self) -> bytes:
-        return self._range(0, len(self))
+        return self._range(0, self._length())
+
+    def __str__(self) -> str:
+        return decoded(bytes(self))
 
     @overload
-    def __getitem__(self, where: int) -> int: ...
+    def __iter__(self: Text[bytes]) -> Iterator[int]: ...
 
     @overload
-    def __getitem__(self, where: slice) -> bytes: ...
+    def __iter__(self: Text[str]) -> Iterator[str]: ...
 
-    def __getitem__(self, where: Union[int, slice]) -> Union[int, bytes]:
+    def __iter__(self) -> Iterator[Any]:
+        return iter(self._shown(bytes(self)))
+
+    @overload
+    def __getitem__(self: Text[bytes], where: int) -> int: ...
+
+    @overload
+    def __getitem__(self: Text[str], where: int) -> str: ...
+
+    @overload
+    def __getitem__(self, where: slice) -> AnyStr: ...
+
+    def __getitem__(self, where: Union[int, slice]) -> Any:
         if isinstance(where, slice):
             beg, end, step = where.indices(len(self))
-            return bytes(self)[where] if step != 1 else self._range(beg, max(beg, end))
+            if step != 1:
+                return self._shown(bytes(self))[where]
+            return self._shown(self._range(self._byte(beg), self._byte(max(beg, end))))
         at = where + len(self) if where < 0 else where
         if not 0 <= at < len(self):
             raise IndexError("a position lies outside the text")
-        return self._range(at, at + 1)[0]
+        return self._shown(self._range(self._byte(at), self._byte(at + 1)))[0]
 
     def runs(self) -> list[Run]:
-        """What the characters look like, range by range."""
+        """What the characters look like, range by range. A code point looks as its first byte does."""
         found: list[Run] = []
-        beg, length, run = 0, len(self), c.CLooksRun()
+        beg, length, run = 0, self._length(), c.CLooksRun()
         while beg < length:
             _done(_calls.vialshoal_looks(self._handle, beg, byref(run), self._room, _MESSAGE, byref(self._long)))
             font = self._room.raw[:self._long.value].decode("ascii")
-            found.append(Run(beg, run.end, font, run.colour, run.offset))
+            found.append(Run(self._pos(beg), self._pos(run.end), font, run.colour, run.offset))
             beg = run.end
-        return found
+        return [run for run in found if run.beg < run.end]
+
+    def _names(self, beg: int, end: int) -> list[Name]:
+        room = (c.CName * max(min(end, self._length()) - beg, 1))()
+        _done(_calls.vialshoal_names(self._handle, beg, end, room, len(room), byref(self._long)))
+        return [Name(it.site, it.offset) for it in room[:self._long.value]]
 
     def names(self, beg: int, end: int) -> list[Name]:
-        """The names of the characters of a range."""
-        room = (c.CName * max(min(end, len(self)) - beg, 1))()
-        _done(_calls.vialshoal_names(self._handle, _position(beg), _position(end), room, len(room), byref(self._long)))
-        return [Name(it.site, it.offset) for it in room[:self._long.value]]
+        """The names of the characters of a range: of each code point that of its first byte."""
+        first, last = self._byte(beg), self._byte(end)
+        names = self._names(first, last)
+        if len(names) == end - beg:
+            return names
+        return [names[at] for at in begins(self._range(first, last))]
 
     def place(self, name: Name) -> Place:
         """Where the character of a name is."""
         place = c.CPlace()
         _done(_calls.vialshoal_find(self._handle, _number(name.site, 65535), _number(name.offset, (1 << 32) - 1),
                                      byref(place)))
-        return Place(place.pos, place.is_shown)
+        return Place(self._pos(place.pos), place.is_shown)
 
-    def changes(self) -> list[Change]:
-        """What changed of what is shown since this was called last, one after the other."""
-        found: list[Change] = []
+    def _changes(self) -> list[Triple]:
+        found: list[Triple] = []
         room = (c.CChange * 64)()
         while True:
             number = _calls.vialshoal_changes(self._handle, room, len(room), byref(self._long))
@@ -338,4 +428,13 @@ class Text:
             _done(number)
             if not self._long.value:
                 return found
-            found += [Change(ChangeKind(it.kind), it.beg, it.end) for it in room[:self._long.value]]
+            found += [(it.kind, it.beg, it.end) for it in room[:self._long.value]]
+
+    def changes(self) -> list[Change]:
+        """What changed of what is shown since this was called last, one after the other."""
+        if self._points is None:
+            told = self._changes()
+        else:
+            self._follow(self._points)
+            told = self._points.tell()
+        return [Change(ChangeKind(kind), beg, end) for kind, beg, end in told]
