@@ -1,6 +1,7 @@
 'use strict';
 
 const addon = require('./vialshoal.node');
+const { Positions, begins, decoded } = require('./positions.js');
 
 const TAKINGS = [undefined, 'taken', 'repeat', 'waits'];
 const CHANGES = [undefined, 'insert', 'delete', 'replace'];
@@ -33,15 +34,63 @@ function number(value, least, most) {
 
 class Text {
     #handle;
+    // Where the UTF-16 units are, if positions count these.
+    #units;
 
-    constructor(text, site, file) {
+    constructor(text, site, { units = 'bytes' } = {}, file = undefined) {
+        if (units !== 'bytes' && units !== 'utf-16') throw new TypeError(`no units: ${units}`);
         const made = file === undefined ? addon.open(number(text, 0, 65535), number(site, 0, 65535)) : addon.load(file);
         if (Array.isArray(made)) throw new Refused(made[0]);
         this.#handle = made;
+        this.#units = units === 'bytes' ? undefined : new Positions();
     }
 
-    static load(file) {
-        return new Text(0, 0, file);
+    static load(file, options) {
+        return new Text(0, 0, options, file);
+    }
+
+    #bytes(beg, end) {
+        const found = addon.bytes(this.#handle, beg, end);
+        if (Array.isArray(found)) throw new Refused(found[0]);
+        return found;
+    }
+
+    #byteLength() {
+        return done(addon.length(this.#handle))[0];
+    }
+
+    #changes() {
+        const changes = [];
+        // Those that a call before this one couldn't hand out come first, and alone.
+        for (;;) {
+            const numbers = done(addon.changes(this.#handle));
+            if (numbers.length === 0) return changes;
+            for (let i = 0; i < numbers.length; i += 3) {
+                changes.push({ kind: numbers[i], beg: numbers[i + 1], end: numbers[i + 2] });
+            }
+        }
+    }
+
+    // The positions in units as they are now.
+    #followed() {
+        const changes = this.#changes();
+        if (changes.length > 0) this.#units.follow(changes, (beg, end) => this.#bytes(beg, end));
+        return this.#units;
+    }
+
+    // How many bytes stand before a position.
+    #byte(pos) {
+        position(pos);
+        if (this.#units === undefined) return pos;
+        const units = this.#followed();
+        const byte = pos <= units.length ? units.byte(pos) : undefined;
+        if (byte === undefined) throw new Refused(OUT_OF_TEXT);
+        return byte;
+    }
+
+    // The position behind so many bytes, or behind the character that these end within.
+    #pos(byte) {
+        return this.#units === undefined ? byte : this.#followed().unit(byte);
     }
 
     store() {
@@ -61,17 +110,17 @@ class Text {
     }
 
     insert(pos, data) {
-        return this.#edited(addon.insert(this.#handle, position(pos), typeof data === 'string' ? Buffer.from(data) : data));
+        return this.#edited(addon.insert(this.#handle, this.#byte(pos), typeof data === 'string' ? Buffer.from(data) : data));
     }
 
     delete(beg, end) {
-        return this.#edited(addon.delete(this.#handle, position(beg), position(end)));
+        return this.#edited(addon.delete(this.#handle, this.#byte(beg), this.#byte(end)));
     }
 
     changeLooks(beg, end, { font, colour, offset }) {
         const selected = (font !== undefined) + 2 * (colour !== undefined) + 4 * (offset !== undefined);
-        return this.#edited(addon.looks(this.#handle, position(beg), position(end), selected, Buffer.from(font ?? ''),
-            number(colour ?? 0, 0, 255), number(offset ?? 0, -128, 127)));
+        return this.#edited(addon.looks(this.#handle, this.#byte(beg), this.#byte(end), selected,
+            Buffer.from(font ?? ''), number(colour ?? 0, 0, 255), number(offset ?? 0, -128, 127)));
     }
 
     restore() {
@@ -79,7 +128,7 @@ class Text {
     }
 
     recall(pos) {
-        return this.#edited(addon.recall(this.#handle, position(pos)));
+        return this.#edited(addon.recall(this.#handle, this.#byte(pos)));
     }
 
     take(message) {
@@ -105,7 +154,7 @@ class Text {
     }
 
     get length() {
-        return done(addon.length(this.#handle))[0];
+        return this.#pos(this.#byteLength());
     }
 
     front(site) {
@@ -117,46 +166,44 @@ class Text {
     }
 
     bytes(beg = 0, end = this.length) {
-        const found = addon.bytes(this.#handle, position(beg), position(end));
-        if (Array.isArray(found)) throw new Refused(found[0]);
-        return found;
+        return this.#bytes(this.#byte(beg), this.#byte(end));
+    }
+
+    slice(beg = 0, end = this.length) {
+        return decoded(this.bytes(beg, end));
     }
 
     toString() {
-        return this.bytes().toString();
+        return decoded(this.#bytes(0, this.#byteLength()));
     }
 
     runs() {
         const found = [];
-        for (let beg = 0; beg < this.length; beg = found.at(-1).end) {
-            const [end, colour, offset, ...font] = done(addon.look(this.#handle, beg));
-            found.push({ beg, end, font: String.fromCharCode(...font), colour, offset });
+        const length = this.#byteLength();
+        for (let beg = 0, end = 0; beg < length; beg = end) {
+            let colour, offset, font;
+            [end, colour, offset, ...font] = done(addon.look(this.#handle, beg));
+            found.push({ beg: this.#pos(beg), end: this.#pos(end), font: String.fromCharCode(...font), colour, offset });
         }
-        return found;
+        return found.filter(({ beg, end }) => beg < end);
     }
 
     names(beg, end) {
-        const numbers = done(addon.names(this.#handle, position(beg), position(end)));
-        const names = [];
-        for (let i = 0; i < numbers.length; i += 2) names.push({ site: numbers[i], offset: numbers[i + 1] });
-        return names;
+        const [first, last] = [this.#byte(beg), this.#byte(end)];
+        const numbers = done(addon.names(this.#handle, first, last));
+        const name = (at) => ({ site: numbers[2 * at], offset: numbers[2 * at + 1] });
+        const begun = this.#units === undefined ? Array(last - first).keys() : begins(this.#bytes(first, last));
+        return Array.from(begun, name);
     }
 
     find({ site, offset }) {
         const [pos, isShown] = done(addon.find(this.#handle, number(site, 0, 65535), number(offset, 0, 2 ** 32 - 1)));
-        return { pos, isShown: isShown !== 0 };
+        return { pos: this.#pos(pos), isShown: isShown !== 0 };
     }
 
     changes() {
-        const changes = [];
-        // Those that a call before this one couldn't hand out come first, and alone.
-        for (;;) {
-            const numbers = done(addon.changes(this.#handle));
-            if (numbers.length === 0) return changes;
-            for (let i = 0; i < numbers.length; i += 3) {
-                changes.push({ kind: CHANGES[numbers[i]], beg: numbers[i + 1], end: numbers[i + 2] });
-            }
-        }
+        const changes = this.#units === undefined ? this.#changes() : this.#followed().tell();
+        return changes.map(({ kind, beg, end }) => ({ kind: CHANGES[kind], beg, end }));
     }
 }
 

@@ -1,0 +1,176 @@
+'use strict';
+
+// Positions in UTF-16 units against plain bytes, against positions in bytes, and against the program that plays scripts.
+const assert = require('assert');
+const { spawnSync } = require('child_process');
+const { existsSync } = require('fs');
+const path = require('path');
+const { Refused, Text } = require('../out/node');
+const { Positions } = require('../out/node/positions.js');
+
+const PROGRAM = process.env.VIALSHOAL_PROGRAM ?? path.join(__dirname, '../../crates/site_cli/out/site_cli');
+const ROUNDS = 400;
+// Whole characters of one to four bytes, and bytes that are of none until others stand beside them.
+const ATOMS = ['61', '6263', 'c3a9', 'e282ac', 'f09f9880', '80', 'e2', '82', 'ac', 'f09f', '9880', 'eda080', 'c0', 'c3', 'f490',
+    'f0', 'efbfbd'].map((hex) => Buffer.from(hex, 'hex'));
+const UTF_16 = { units: 'utf-16' };
+
+// Numbers below a bound, drawn from a seed (xorshift).
+function drawn(seed) {
+    let state = seed;
+    return (bound) => {
+        state ^= state << 13;
+        state ^= state >>> 17;
+        state ^= state << 5;
+        return (state >>> 0) % bound;
+    };
+}
+
+// A character's units where one begins with these bytes: the longest that the platform's decoder takes as one.
+function characters(bytes) {
+    const found = [];
+    const strict = new TextDecoder('utf-8', { fatal: true, ignoreBOM: true });
+    for (let at = 0; at < bytes.length;) {
+        let shown = '\ufffd', length = 1;
+        for (let long = Math.min(4, bytes.length - at); long >= 1; long -= 1) {
+            try {
+                const one = strict.decode(bytes.subarray(at, at + long));
+                if ([...one].length !== 1) continue;
+                [shown, length] = [one, long];
+                break;
+            } catch {
+                // (no character)
+            }
+        }
+        found.push({ shown, at, length });
+        at += length;
+    }
+    return found;
+}
+
+function shownOf(bytes) {
+    return characters(bytes).map(({ shown }) => shown).join('');
+}
+
+function isWithinPair(shown, pos) {
+    return /[\ud800-\udbff]/.test(shown[pos - 1] ?? '') && /[\udc00-\udfff]/.test(shown[pos] ?? '');
+}
+
+// A position between the characters of a text, and how many bytes stand before it.
+function place(draw, shown) {
+    let pos = draw(shown.length + 1);
+    while (isWithinPair(shown, pos)) pos -= 1;
+    return pos;
+}
+
+function edited(draw, text) {
+    const shown = `${text}`;
+    const [beg, end] = [place(draw, shown), place(draw, shown)].sort((a, b) => a - b);
+    const byte = (pos) => text.bytes(0, pos).length;
+    switch (draw(6)) {
+        case 0: return [`cut 1 ${byte(beg)} ${byte(end)}`, text.delete(beg, end)];
+        case 1: return [`looks 1 ${byte(beg)} ${byte(end)} colour=${end % 16}`, text.changeLooks(beg, end, { colour: end % 16 })];
+        case 2: return draw(2) === 0 ? ['restore 1', text.restore()] : [`recall 1 ${byte(beg)}`, text.recall(beg)];
+        default: {
+            const data = Buffer.concat(Array.from({ length: draw(6) }, () => ATOMS[draw(ATOMS.length)]));
+            const spelled = [...data].map((one) => `\\${one.toString(16).padStart(2, '0')}`).join('');
+            return [`type 1 ${byte(beg)} ${spelled}`, text.insert(beg, data)];
+        }
+    }
+}
+
+// What one sees who has nothing of a text but its changes; what is put in is unknown until the end.
+class Reader {
+    #shown = [];
+
+    follows(text) {
+        for (const { kind, beg, end } of text.changes()) {
+            if (kind === 'insert') this.#shown.splice(beg, 0, ...Array(end - beg).fill(undefined));
+            if (kind === 'delete') this.#shown.splice(beg, end - beg);
+        }
+        const shown = `${text}`.split('');
+        assert.strictEqual(this.#shown.length, shown.length);
+        this.#shown.forEach((unit, at) => assert.ok(unit === undefined || unit === shown[at]));
+        this.#shown = shown;
+    }
+}
+
+function agrees(text) {
+    const bytes = text.bytes();
+    const found = characters(bytes);
+    const shown = shownOf(bytes);
+    assert.strictEqual(`${text}`, shown);
+    assert.strictEqual(text.length, shown.length);
+    const names = text.names(0, text.length);
+    assert.strictEqual(names.length, found.length);
+    let pos = 0;
+    found.forEach((one, index) => {
+        const end = pos + one.shown.length;
+        assert.strictEqual(text.slice(pos, end), one.shown);
+        assert.deepStrictEqual(text.bytes(pos, end), bytes.subarray(one.at, one.at + one.length));
+        assert.deepStrictEqual(text.find(names[index]), { pos: end, isShown: true });
+        pos = end;
+    });
+}
+
+function runsInUnits(text, bytes) {
+    const unit = (end) => characters(bytes).filter(({ at }) => at < end).reduce((sum, { shown }) => sum + shown.length, 0);
+    return text.runs().map((run) => ({ ...run, beg: unit(run.beg), end: unit(run.end) })).filter(({ beg, end }) => beg < end);
+}
+
+function meet(draw) {
+    const a = new Text(1, 1, UTF_16), b = new Text(1, 2), reader = new Reader();
+    const events = [];
+    for (let edits = draw(12); edits > 0; edits -= 1) {
+        events.push(edited(draw, a));
+        if (draw(3) === 0) reader.follows(a);
+    }
+    agrees(a);
+    b.merge(a);
+    for (let edits = draw(6); edits > 0; edits -= 1) {
+        const beg = draw(b.length + 1);
+        if (draw(2) === 0) b.insert(beg, ATOMS[draw(ATOMS.length)]);
+        else b.delete(beg, Math.min(beg + 2, b.length));
+        if (b.length > 0) b.changeLooks(draw(b.length), b.length, { offset: draw(5) });
+    }
+    const sent = Array.from({ length: draw(4) }, () => edited(draw, a)[1]).flat();
+    a.merge(b);
+    reader.follows(a);
+    agrees(a);
+    sent.forEach((message) => b.take(message));
+    assert.deepStrictEqual(a.bytes(), b.bytes());
+    assert.deepStrictEqual(a.runs(), runsInUnits(b, b.bytes()));
+    const again = Text.load(a.store(), UTF_16);
+    new Reader().follows(again);
+    agrees(again);
+    [a, b, again].forEach((text) => text.close());
+    return events;
+}
+
+function playedByTheProgram(events) {
+    const script = events.map(([event]) => `1 ${event}\n`).join('');
+    const { stdout } = spawnSync(PROGRAM, { input: script, encoding: 'latin1' });
+    const sent = stdout.split('\n').filter((line) => line.startsWith('send ')).map((line) => line.split(' ')[2]);
+    assert.deepStrictEqual(sent, events.flatMap(([, messages]) => messages.map((message) => message.toString('hex'))));
+}
+
+for (const block of [3, 2048]) {
+    Positions.BLOCK = block;
+    for (let seed = 1; seed <= ROUNDS; seed += 1) {
+        const events = meet(drawn(seed));
+        if (seed % 40 === 0 && existsSync(PROGRAM)) playedByTheProgram(events);
+    }
+}
+
+const text = new Text(1, 1, UTF_16);
+text.insert(0, 'a\u{1f600}b');
+assert.deepStrictEqual([text.length, text.bytes().length, text.slice(1, 3)], [4, 6, '\u{1f600}']);
+for (const call of [() => text.insert(2, 'x'), () => text.insert(5, 'x'), () => text.insert(-1, 'x'), () => text.delete(1, 2),
+    () => text.delete(3, 1), () => text.bytes(0, 5), () => text.names(2, 3), () => text.recall(2)]) {
+    assert.throws(call, (error) => error instanceof Refused && error.number === 103);
+}
+assert.throws(() => new Text(1, 1, { units: 'lines' }), TypeError);
+assert.deepStrictEqual([0, 1, 2, 3, 4, 5].map((offset) => text.find({ site: 1, offset }).pos), [1, 3, 3, 3, 3, 4]);
+text.insert(1, '\ud800');
+assert.strictEqual(`${text}`, 'a\ufffd\u{1f600}b');
+console.log('node, UTF-16 units: all is so');
