@@ -225,21 +225,21 @@ class Text(Generic[AnyStr]):
         """How many bytes stand before a position."""
         if self._points is None:
             return _position(pos)
-        if not 0 <= pos <= len(self):
+        points = self._followed(self._points)
+        if not 0 <= pos <= len(points):
             raise Misused(c.OUT_OF_TEXT)
-        return self._points.byte(pos)
+        return points.byte(pos)
 
     def _pos(self, byte: int) -> int:
         """The position behind so many bytes, or behind the code point that these end within."""
-        if self._points is None:
-            return byte
-        self._follow(self._points)
-        return self._points.point(byte)
+        return byte if self._points is None else self._followed(self._points).point(byte)
 
-    def _follow(self, points: CodePoints) -> None:
+    def _followed(self, points: CodePoints) -> CodePoints:
+        """The code points as they are now."""
         changes = self._changes()
         if changes:
             points.follow(changes, self._range)
+        return points
 
     # -- edits
 
@@ -343,8 +343,7 @@ class Text(Generic[AnyStr]):
         return self._long.value
 
     def __len__(self) -> int:
-        length = self._length()
-        return length if self._points is None else self._pos(length)
+        return self._length() if self._points is None else len(self._followed(self._points))
 
     def _range(self, beg: int, end: int) -> bytes:
         room = ctypes.create_string_buffer(max(end - beg, 1))
@@ -432,9 +431,5 @@ class Text(Generic[AnyStr]):
 
     def changes(self) -> list[Change]:
         """What changed of what is shown since this was called last, one after the other."""
-        if self._points is None:
-            told = self._changes()
-        else:
-            self._follow(self._points)
-            told = self._points.tell()
+        told = self._changes() if self._points is None else self._followed(self._points).tell()
         return [Change(ChangeKind(kind), beg, end) for kind, beg, end in told]
