@@ -48,8 +48,6 @@ class Step(enum.Enum):
 
 # What is done to so many bytes, from a text's begin on; those that it doesn't reach stay.
 Delta = list[tuple[Step, int]]
-
-
 # A change: its kind, and its range, in the text after an insertion, else in the text before.
 Triple = tuple[int, int, int]
 
