@@ -197,7 +197,8 @@ class Writer(ABC):
         """What a command says that talks to this editor."""
         done = subprocess.run(words, stdin=subprocess.DEVNULL, stdout=subprocess.PIPE, stderr=subprocess.STDOUT, text=True,
                               timeout=CALL_SECONDS, check=False)
-        if done.returncode:
+        # One that is killed while it answers says nothing, and the command takes that for an answer.
+        if done.returncode or not done.stdout.strip():
             raise Silent(f"{words}: {done.stdout}")
         return done.stdout
 
