@@ -60,6 +60,7 @@ static void refuses_a_closed_one(void) {
     vialshoal_taking taking = {0};
     vialshoal_settling settling = {0};
     vialshoal_name name;
+    vialshoal_name_range names = {1, 0, 1};
     vialshoal_place place;
     vialshoal_change change;
     vialshoal_looks_run run;
@@ -70,6 +71,10 @@ static void refuses_a_closed_one(void) {
     IS(vialshoal_change_looks(&none, 0, 0, 2, BYTES("a"), 1, 3, 0, &few) == VIALSHOAL_NOT_OPEN);
     IS(vialshoal_restore(&none, &few) == VIALSHOAL_NOT_OPEN);
     IS(vialshoal_recall(&none, 0, &few) == VIALSHOAL_NOT_OPEN);
+    few = 7;
+    IS(vialshoal_delete_names(&none, &names, 1, &few) == VIALSHOAL_NOT_OPEN && few == 0);
+    few = 7;
+    IS(vialshoal_restore_names(&none, &names, 1, &few) == VIALSHOAL_NOT_OPEN && few == 0);
     IS(vialshoal_messages(&none, &many) == VIALSHOAL_NOT_OPEN && many == 7);
     IS(vialshoal_message(&none, 0, room, 1, &many) == VIALSHOAL_NOT_OPEN && many == 0);
     IS(vialshoal_let_go(&none) == VIALSHOAL_NOT_OPEN);
@@ -88,6 +93,23 @@ static void refuses_a_closed_one(void) {
     IS(vialshoal_find(&none, 1, 0, &place) == VIALSHOAL_NOT_OPEN);
     IS(vialshoal_changes(&none, &change, 1, &many) == VIALSHOAL_NOT_OPEN);
     IS(none.at == NULL);
+}
+
+/* Ranges that are none, and names that aren't here, of a text that shows "abc". Nothing is done to it. */
+static void refuses_names(vialshoal_text *a) {
+    static const vialshoal_name_range none[] = {{0, 0, 1}, {1, 0, 0}, {1, (1 << 24) - 1, 2}, {1, UINT32_MAX, 1}};
+    static const vialshoal_name_range missing[] = {{1, 3, 1}, {1, 2, 2}, {2, 0, 1}, {1, (1 << 24) - 1, 1}};
+    static const vialshoal_name_range both[] = {{1, 0, 1}, {1, 3, 1}, {1, 0, 0}};
+    for (size_t i = 0; i < 4; i++) {
+        uint32_t sent = 7;
+        IS(vialshoal_delete_names(a, &none[i], 1, &sent) == VIALSHOAL_NO_NUMBER && sent == 0);
+        IS(vialshoal_restore_names(a, &none[i], 1, &sent) == VIALSHOAL_NO_NUMBER);
+        IS(vialshoal_delete_names(a, &missing[i], 1, &sent) == VIALSHOAL_OUT_OF_TEXT && sent == 0);
+        IS(vialshoal_restore_names(a, &missing[i], 1, &sent) == VIALSHOAL_OUT_OF_TEXT);
+    }
+    uint32_t sent;
+    IS(vialshoal_delete_names(a, both, 2, &sent) == VIALSHOAL_OUT_OF_TEXT && sent == 0);
+    IS(vialshoal_delete_names(a, both, 3, &sent) == VIALSHOAL_NO_NUMBER && sent == 0);
 }
 
 static void refuses_misuse(void) {
@@ -120,6 +142,7 @@ static void refuses_misuse(void) {
     IS(vialshoal_bytes(&a, 0, 3, room, 2, &need) == VIALSHOAL_TOO_SHORT && need == 3);
     IS(vialshoal_names(&a, 0, 3, names, 2, &need) == VIALSHOAL_TOO_SHORT && need == 3);
     IS(vialshoal_merge(&a, &none, &taken) == VIALSHOAL_NOT_OPEN && none.at == NULL);
+    refuses_names(&a);
     shows(&a, "abc");
     IS(vialshoal_free(&a) == 0 && a.at == NULL);
     IS(vialshoal_free(&a) == VIALSHOAL_NOT_OPEN);
@@ -241,8 +264,50 @@ static void two_meet(void) {
     IS(vialshoal_free(&a) == 0 && vialshoal_free(&b) == 0);
 }
 
+/* Characters are deleted and shown again by names, which don't go with what another site put between them. */
+static void edits_by_names(void) {
+    static const vialshoal_name_range some[] = {{1, 4, 2}, {1, 0, 1}, {1, 5, 1}}, all[] = {{1, 0, 6}};
+    vialshoal_text a = {0}, b = {0};
+    uint32_t sent;
+    IS(vialshoal_new(&a, 1, 1) == 0 && vialshoal_new(&b, 1, 2) == 0);
+    IS(vialshoal_insert(&a, 0, BYTES("Oberon"), 6, &sent) == 0);
+    hand_over(&a, &b);
+    IS(vialshoal_insert(&b, 3, BYTES("xx"), 2, &sent) == 0);
+    IS(vialshoal_delete_names(&b, some, 3, &sent) == 0 && sent == 1);
+    shows(&b, "bexxr");
+    IS(vialshoal_delete_names(&b, some, 3, &sent) == 0 && sent == 0);
+    IS(vialshoal_delete_names(&b, some, 0, &sent) == 0 && sent == 0);
+    IS(vialshoal_restore(&b, &sent) == 0 && sent == 0);
+    hand_over(&b, &a);
+    shows(&a, "bexxr");
+    IS(vialshoal_restore_names(&a, all, 1, &sent) == 0 && sent == 1);
+    hand_over(&a, &b);
+    shows(&a, "Obexxron");
+    shows(&b, "Obexxron");
+    IS(vialshoal_free(&a) == 0 && vialshoal_free(&b) == 0);
+}
+
+/* Names in more ranges than an operation may have. */
+static void refuses_scattered_names(void) {
+    static vialshoal_name_range names[1025];
+    static const uint8_t bytes[2050];
+    vialshoal_text a = {0};
+    uint32_t sent;
+    uint64_t length;
+    for (uint32_t i = 0; i < 1025; i++) {
+        names[i] = (vialshoal_name_range){1, 2 * i, 1};
+    }
+    IS(vialshoal_new(&a, 1, 1) == 0 && vialshoal_insert(&a, 0, bytes, sizeof bytes, &sent) == 0);
+    IS(vialshoal_delete_names(&a, names, 1025, &sent) == 12 && sent == 0);
+    IS(vialshoal_length(&a, &length) == 0 && length == 2050);
+    IS(vialshoal_delete_names(&a, names, 1024, &sent) == 0 && sent == 1);
+    IS(vialshoal_length(&a, &length) == 0 && length == 1026);
+    IS(vialshoal_free(&a) == 0);
+}
+
 /* Each allocation of a short run is refused in turn. What stands afterwards can be edited, and met. */
 static void each_allocation_is_refused(void) {
+    static const vialshoal_name_range some[] = {{1, 2, 1}, {1, 4, 1}}, all[] = {{1, 0, 6}};
     for (long at = 1;; at++) {
         vialshoal_text a = {0}, b = {0};
         uint32_t sent;
@@ -255,6 +320,8 @@ static void each_allocation_is_refused(void) {
         worst += vialshoal_insert(&a, 0, BYTES("Oberon"), 6, &sent) % 101;
         worst += vialshoal_delete(&a, 0, 2, &sent) % 101;
         worst += vialshoal_recall(&a, 0, &sent) % 101;
+        worst += vialshoal_delete_names(&a, some, 2, &sent) % 101;
+        worst += vialshoal_restore_names(&a, all, 1, &sent) % 101;
         if (vialshoal_message(&a, 0, room, sizeof room, &need) == 0) {
             worst += vialshoal_take(&b, room, need, &taking) % 101;
         }
@@ -310,6 +377,8 @@ int main(int count, char **words) {
     refuses_too_much();
     answers_a_part();
     two_meet();
+    edits_by_names();
+    refuses_scattered_names();
     each_allocation_is_refused();
     many_edits(count > 1 ? (uint32_t)atoi(words[1]) : 100000);
     puts("border: all is so");

@@ -1,4 +1,5 @@
 mod Filling
+mod Names
 mod Places
 mod Runs
 pub mod Values

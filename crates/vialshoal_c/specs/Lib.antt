@@ -2,6 +2,7 @@ pub mod Asking
 pub mod Editing
 pub mod Feeding
 pub mod Keeping
+pub mod Naming
 pub mod Opened
 pub mod Outputs
 pub mod Owned

@@ -25,14 +25,14 @@ pub(crate) struct Edited {
 
 impl Edited {
     // Nothing was done, for misuse.
-    fn misused(number: u32) -> Edited
+    pub(crate) fn misused(number: u32) -> Edited
         ensures { (result.number ≡ number) × (result.sent ≡ 0) }
     {
         Edited { number, sent: 0 }
     }
 
     // What a replica answered.
-    fn of(answer: Result<u32, EditRefusal>) -> Edited
+    pub(crate) fn of(answer: Result<u32, EditRefusal>) -> Edited
         ensures { (result.number ≡ number_of_edit answer) × (result.sent ≡ sent_by answer) }
     {
         match answer {

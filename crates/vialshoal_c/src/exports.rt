@@ -9,14 +9,17 @@ ghost use Rattle.vialshoal_c.specs.Asking.{PutsSites, TellsRun, names_of};
 ghost use Rattle.vialshoal_c.specs.Editing.{Begins, BeginsText, Dresses, Edits, Inserts};
 ghost use Rattle.vialshoal_c.specs.Feeding.{Forgets, MergesHandle, Settles, TakesIn};
 ghost use Rattle.vialshoal_c.specs.Keeping.{Opens, OpensFile, PutsFile};
+ghost use Rattle.vialshoal_c.specs.Naming.{EditsNames};
 ghost use Rattle.vialshoal_c.specs.Opened.{OnOpen, Reads};
 
 use crate::handle::Handle;
+use crate::inputs::CharNames;
 use crate::numbers::{ALREADY_OPEN, NO_NUMBER, NOT_OPEN};
 use crate::outputs::{CharName, LooksRun, Place, Settling, Taking, TextChange};
 use crate::session::Session;
 use char_files::{SiteNo, TextNo};
 use std::alloc::Global;
+use texts::ByNames;
 
 // Begins a text in an empty handle.
 fn begin(alloc: Global, handle: &mut Handle, text: TextNo, site: SiteNo) -> u32
@@ -213,6 +216,48 @@ pub extern "C" fn vialshoal_recall(
         return NOT_OPEN;
     };
     let edited = session.recall(pos);
+    handle.close(alloc, session);
+    *sent = edited.sent;
+    edited.number
+}
+
+/// Takes the characters of these names out of what is shown, wherever they stand.
+#[unsafe(no_mangle)]
+pub extern "C" fn vialshoal_delete_names(
+    alloc: Global,
+    handle: &mut Handle,
+    names: &[CharNames],
+    sent: &mut u32,
+) -> u32
+    ensures { OnOpen handle.old.value handle.new.value result (sent.new ≡ 0)
+        (λ s new. EditsNames s ByNames.Delete names.now result sent.new new) }
+{
+    *sent = 0;
+    let Some(mut session) = handle.open(alloc) else {
+        return NOT_OPEN;
+    };
+    let edited = session.edit_by_names(alloc, ByNames::Delete, names);
+    handle.close(alloc, session);
+    *sent = edited.sent;
+    edited.number
+}
+
+/// Shows the characters of these names again, each at its own place.
+#[unsafe(no_mangle)]
+pub extern "C" fn vialshoal_restore_names(
+    alloc: Global,
+    handle: &mut Handle,
+    names: &[CharNames],
+    sent: &mut u32,
+) -> u32
+    ensures { OnOpen handle.old.value handle.new.value result (sent.new ≡ 0)
+        (λ s new. EditsNames s ByNames.Restore names.now result sent.new new) }
+{
+    *sent = 0;
+    let Some(mut session) = handle.open(alloc) else {
+        return NOT_OPEN;
+    };
+    let edited = session.edit_by_names(alloc, ByNames::Restore, names);
     handle.close(alloc, session);
     *sent = edited.sent;
     edited.number

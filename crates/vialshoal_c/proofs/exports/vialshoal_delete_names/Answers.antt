@@ -1,0 +1,11 @@
+use Rattle.std.proofs.Common.{subst}
+use Rattle.texts.specs.declared.by_names.ByNames.TheVariants.{Delete}
+use Rattle.vialshoal_c.specs.SessionState.{SessionState}
+use Rattle.vialshoal_c.specs.Naming.{EditsNames}
+use Rattle.vialshoal_c.proofs.exports.vialshoal_delete_names.Goals as goal
+
+pub returns : goal.returns
+returns c =
+    rw c.in-Some.ensures.some (rw c.close.ensures (subst (λ (s : SessionState). EditsNames s Delete c.args.names.now
+    c.edit_by_names-edited.result.number c.edit_by_names-edited.result.sent c.edit_by_names-edited.new.self)
+    c.deref_mut.ensures.value c.edit_by_names-edited.ensures))

@@ -1,0 +1,63 @@
+-- What the calls that edit by names answer and do.
+use Rattle.std.specs.Prelude.{◌≡◌, ℕ, ◌+◌, ◌<◌, ◌⊎◌, ◌&&◌, Bool, nat_lt, nat_le, MatchBool, if◌then◌else◌, List, length, map}
+use Rattle.std.specs.Prelude.{Option, Some, None, Result, Err}
+use Rattle.std.specs.List.{list_all}
+use Rattle.looks.specs.declared.refusal.Refusal.TheVariants.{OutOfMemory}
+use Rattle.char_files.specs.declared.TheConstants.{MAX_FILE}
+use Rattle.operations.specs.NameSet.{Range}
+use Rattle.set_laws.specs.Fronts.{file_len}
+use Rattle.texts.specs.Named.{EditsByNamesSending}
+use Rattle.texts.specs.TextState.{TextState}
+use Rattle.texts.specs.declared.by_names.ByNames.{ByNames}
+use Rattle.texts.specs.declared.edit_refusal.EditRefusal.{EditRefusal}
+use Rattle.texts.specs.declared.edit_refusal.EditRefusal.TheVariants.{Whole}
+use Rattle.vialshoal_c.specs.Editing.{number_of_edit, sent_by}
+use Rattle.vialshoal_c.specs.Opened.{IsMisused}
+use Rattle.vialshoal_c.specs.SessionState.{SessionState}
+use Rattle.vialshoal_c.specs.declared.inputs.CharNames.{CharNames}
+use Rattle.vialshoal_c.specs.declared.numbers.TheConstants.{NO_NUMBER, OUT_OF_TEXT}
+
+-- whether these are names: one at least, of a site, within its file
+abbrev pub is_range : CharNames → Bool
+is_range names = nat_lt 0 names.site && (nat_lt 0 names.len && nat_le (names.offset + names.len) MAX_FILE)
+
+-- the names, as a replica takes them
+abbrev pub range_of : CharNames → Range
+range_of names = record { site = names.site; at = names.offset; len = names.len }
+
+abbrev pub ranges_of : List CharNames → List Range
+ranges_of names = map range_of names
+
+-- names as a replica takes them, if they are names
+abbrev pub range_in : CharNames → Option Range
+range_in names = if is_range names then Some (range_of names) else None
+
+-- whether these are names of characters: their site's file has them
+abbrev pub is_here : TextState → CharNames → Bool
+is_here t names = is_range names && nat_le (names.offset + names.len) (file_len t.operations names.site)
+
+-- nothing is done, for want of memory
+abbrev pub IsCutShort : SessionState → Result ℕ EditRefusal → SessionState → Type 0
+IsCutShort s answer new = (answer ≡ Err (Whole OutOfMemory)) × (new.text ≡ s.text) × (new.sent ≡ s.sent)
+
+-- The text does this edit by names and answers it, and its message comes after those that are kept; or, where there are
+-- names at all, memory to hand them on was refused.
+abbrev pub AnswersNames : SessionState → ByNames → List CharNames → Result ℕ EditRefusal → SessionState → Type 0
+AnswersNames s what names answer new =
+    (EditsByNamesSending s.text what (ranges_of names) answer new.text s.sent new.sent
+    ⊎ ((0 < length names) × IsCutShort s answer new))
+    × (new.told ≡ s.told)
+
+-- the same as numbers
+abbrev pub NamesEdited : SessionState → ByNames → List CharNames → (number sent : ℕ) → SessionState → Type 0
+NamesEdited s what names number sent new =
+    (answer : Result ℕ EditRefusal) × AnswersNames s what names answer new
+    × (number ≡ number_of_edit answer) × (sent ≡ sent_by answer)
+
+-- The same where all of them are names, and names of characters that were taken in; elsewhere nothing is done.
+abbrev pub EditsNames : SessionState → ByNames → List CharNames → (number sent : ℕ) → SessionState → Type 0
+EditsNames s what names number sent new =
+    MatchBool (list_all is_range names)
+    (MatchBool (list_all (is_here s.text) names) (NamesEdited s what names number sent new)
+    (IsMisused OUT_OF_TEXT s number new × (sent ≡ 0)))
+    (IsMisused NO_NUMBER s number new × (sent ≡ 0))

@@ -1,0 +1,32 @@
+//! What calls read of memory that C owns.
+
+ghost use Rattle.std.specs.Prelude.{◌≡◌};
+ghost use Rattle.vialshoal_c.specs.Naming.{range_in};
+
+use char_files::{MAX_FILE, SiteNo};
+use operations::NameRange;
+
+/// Lasting names of neighbouring characters: so many of a site, from an offset on.
+#[repr(C)]
+#[derive(Clone, Copy, Debug, PartialEq, Eq)]
+pub struct CharNames {
+    /// The site that put them in.
+    pub site: u16,
+    /// The first one's offset among all that this site ever put into the text.
+    pub offset: u32,
+    /// How many they are.
+    pub len: u32,
+}
+
+impl CharNames {
+    // These names as a replica takes them, or `None` where the numbers are those of no names.
+    pub(crate) fn range(self) -> Option<NameRange>
+        ensures { result ≡ range_in self }
+    {
+        let site = SiteNo::new(self.site)?;
+        if self.len == 0 || MAX_FILE < u64::from(self.offset) + u64::from(self.len) {
+            return None;
+        }
+        Some(NameRange::new(site, self.offset, self.len))
+    }
+}
