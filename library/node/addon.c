@@ -189,6 +189,38 @@ static napi_value recall(napi_env env, napi_callback_info info) {
     return ANSWER(number, sent);
 }
 
+typedef uint32_t by_names(vialshoal_text *text, const vialshoal_name_range *names, size_t count, uint32_t *sent);
+
+/* An edit by names, which are given as a site, an offset and a length each. */
+static napi_value edit_names(napi_env env, napi_callback_info info, by_names *edit) {
+    arguments given;
+    napi_typedarray_type type;
+    void *data;
+    size_t length;
+    uint32_t sent;
+    if (!taken(env, info, 2, &given)) return NULL;
+    TRY(napi_get_typedarray_info(env, given.at[1], &type, &length, &data, NULL, NULL));
+    TRY(type == napi_uint32_array ? napi_ok : napi_invalid_arg);
+    const uint32_t *numbers = data;
+    size_t count = length / 3;
+    vialshoal_name_range *names = malloc((count + 1) * sizeof *names);
+    if (names == NULL) return ANSWER(7, 0);
+    for (size_t i = 0; i < count; i++) {
+        names[i] = (vialshoal_name_range){(uint16_t)numbers[3 * i], numbers[3 * i + 1], numbers[3 * i + 2]};
+    }
+    uint32_t number = edit(given.text, names, count, &sent);
+    free(names);
+    return ANSWER(number, sent);
+}
+
+static napi_value delete_names(napi_env env, napi_callback_info info) {
+    return edit_names(env, info, vialshoal_delete_names);
+}
+
+static napi_value restore_names(napi_env env, napi_callback_info info) {
+    return edit_names(env, info, vialshoal_restore_names);
+}
+
 /* All messages that are kept, which are let go. */
 static napi_value messages(napi_env env, napi_callback_info info) {
     arguments given;
@@ -397,6 +429,7 @@ NAPI_MODULE_INIT() {
         {"open", open_text},  {"load", load},        {"store", store},
         {"close", close_text}, {"insert", insert},       {"delete", delete_range},
         {"looks", change_looks}, {"restore", restore}, {"recall", recall},     {"messages", messages},
+        {"deleteNames", delete_names}, {"restoreNames", restore_names},
         {"take", take},       {"settle", settle},    {"forget", forget},       {"merge", merge},
         {"waiting", waiting}, {"front", front},      {"sites", sites},
              {"length", length_of},    {"bytes", bytes},

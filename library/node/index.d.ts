@@ -29,6 +29,13 @@ export interface Name {
     offset: number;
 }
 
+/** The names of neighbouring characters: so many of a site, from an offset on. */
+export interface NameRange {
+    site: number;
+    offset: number;
+    length: number;
+}
+
 /** How many bytes, or units, are this character or stand before it, and whether it is shown itself. */
 export interface Place {
     pos: number;
@@ -80,6 +87,10 @@ export class Text {
     restore(): Buffer[];
     /** Puts a copy of what this site deleted last after a position. */
     recall(pos: number): Buffer[];
+    /** Deletes the characters of these names that are shown, wherever they stand, by one message at most. */
+    deleteNames(names: Iterable<NameRange>): Buffer[];
+    /** Shows the characters of these names again, each at its own place, by one message at most. */
+    restoreNames(names: Iterable<NameRange>): Buffer[];
     take(message: Uint8Array): Taking;
     settle(): Settling;
     /** Throws away what waits, and answers how many messages it was. */

@@ -32,6 +32,11 @@ function number(value, least, most) {
     return value;
 }
 
+function ranges(names) {
+    return Uint32Array.from([...names].flatMap(({ site, offset, length }) =>
+        [number(site, 0, 65535), number(offset, 0, 0xffffffff), number(length, 0, 0xffffffff)]));
+}
+
 class Text {
     #handle;
     // Where the UTF-16 units are, if positions count these.
@@ -129,6 +134,14 @@ class Text {
 
     recall(pos) {
         return this.#edited(addon.recall(this.#handle, this.#byte(pos)));
+    }
+
+    deleteNames(names) {
+        return this.#edited(addon.deleteNames(this.#handle, ranges(names)));
+    }
+
+    restoreNames(names) {
+        return this.#edited(addon.restoreNames(this.#handle, ranges(names)));
     }
 
     take(message) {

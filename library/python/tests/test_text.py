@@ -13,7 +13,7 @@ from typing import Optional
 from hypothesis import given, settings
 from hypothesis import strategies as st
 
-from vialshoal import ChangeKind, Misused, Name, Refused, TakingKind, Text
+from vialshoal import ChangeKind, Misused, Name, NameRange, Refused, TakingKind, Text
 
 TOP = Path(__file__).resolve().parents[3]
 PROGRAM = os.environ.get("VIALSHOAL_PROGRAM", str(TOP / "crates" / "site_cli" / "out" / "site_cli"))
@@ -94,6 +94,23 @@ class AgainstAList(unittest.TestCase):
                 self.assertTrue(place.is_shown and place.pos == at + 1)
 
 
+class ByNames(unittest.TestCase):
+    def test_characters_go_and_come_by_their_names(self) -> None:
+        some = [NameRange(1, 4, 2), NameRange(1, 0, 1), NameRange(1, 5, 1)]
+        with Text(1, site=1) as a, Text(1, site=2) as b:
+            a.insert(0, b"Oberon")
+            b.merge(a)
+            b.insert(3, b"xx")
+            [message] = b.delete_names(some)
+            self.assertEqual((bytes(b), b.delete_names(some), b.delete_names([])), (b"bexxr", [], []))
+            a.merge(b)
+            self.assertIs(a.take(message).kind, TakingKind.REPEAT)
+            self.assertEqual(bytes(a), b"bexxr")
+            [message] = a.restore_names([NameRange(1, 0, 6)])
+            self.assertIs(b.take(message).kind, TakingKind.TAKEN)
+            self.assertEqual((bytes(a), bytes(b)), (b"Obexxron", b"Obexxron"))
+
+
 class AgainstTheProgram(unittest.TestCase):
     @given(edits, edits)
     @settings(max_examples=25, deadline=None)
@@ -137,6 +154,10 @@ class Refusals(unittest.TestCase):
             self.refused(103, a.insert, 4, b"")
             self.refused(103, a.insert, -1, b"")
             self.refused(103, a.delete, 2, 1)
+            self.refused(103, a.delete_names, [NameRange(1, 0, 1), NameRange(1, 3, 1)])
+            self.refused(103, a.restore_names, [NameRange(2, 0, 1)])
+            self.refused(105, a.delete_names, [NameRange(1, 0, 0)])
+            self.refused(105, a.restore_names, [NameRange(1, 0, 1 << 32)])
             self.refused(105, a.change_looks, 0, 1)
             self.refused(105, a.change_looks, 0, 1, colour=16)
             self.refused(105, a.change_looks, 0, 1, font="1")

@@ -27,6 +27,7 @@ from __future__ import annotations
 import ctypes
 import enum
 from ctypes import byref, c_uint32, c_uint64
+from collections.abc import Iterable
 from dataclasses import dataclass
 from types import TracebackType
 from typing import Any, AnyStr, Generic, Iterator, Literal, Optional, Union, cast, overload
@@ -34,8 +35,8 @@ from typing import Any, AnyStr, Generic, Iterator, Literal, Optional, Union, cas
 from . import _library as c
 from ._code_points import CodePoints, Triple, begins, decoded, encoded
 
-__all__ = ["Change", "ChangeKind", "Misused", "Name", "Place", "Refused", "Run", "Settling", "Taking", "TakingKind", "Text",
-           "Units"]
+__all__ = ["Change", "ChangeKind", "Misused", "Name", "NameRange", "Place", "Refused", "Run", "Settling", "Taking", "TakingKind",
+           "Text", "Units"]
 
 _calls = c.load()
 # What positions and lengths count.
@@ -93,6 +94,15 @@ class Name:
     offset: int
 
 
+@dataclass(frozen=True, order=True)
+class NameRange:
+    """The names of neighbouring characters: so many of a site, from an offset on."""
+
+    site: int
+    offset: int
+    length: int
+
+
 @dataclass(frozen=True)
 class Place:
     """How many bytes, or code points, are this character or stand before it, and whether it is shown itself."""
@@ -145,6 +155,12 @@ def _number(number: int, most: int) -> int:
     if not 0 <= number <= most:
         raise Misused(c.NO_NUMBER)
     return number
+
+
+def _ranges(names: Iterable[NameRange]) -> ctypes.Array[c.CNameRange]:
+    most = (1 << 32) - 1
+    ranges = [c.CNameRange(_number(it.site, 65535), _number(it.offset, most), _number(it.length, most)) for it in names]
+    return (c.CNameRange * len(ranges))(*ranges)
 
 
 class Text(Generic[AnyStr]):
@@ -285,6 +301,16 @@ class Text(Generic[AnyStr]):
     def recall(self, pos: int) -> list[bytes]:
         """Puts a copy of what this site deleted last after the first `pos` bytes, or characters."""
         return self._edited(_calls.vialshoal_recall(self._handle, self._byte(pos), byref(self._sent)))
+
+    def delete_names(self, names: Iterable[NameRange]) -> list[bytes]:
+        """Deletes the characters of these names that are shown, wherever they stand, by one message at most."""
+        ranges = _ranges(names)
+        return self._edited(_calls.vialshoal_delete_names(self._handle, ranges, len(ranges), byref(self._sent)))
+
+    def restore_names(self, names: Iterable[NameRange]) -> list[bytes]:
+        """Shows the characters of these names again, each at its own place, by one message at most."""
+        ranges = _ranges(names)
+        return self._edited(_calls.vialshoal_restore_names(self._handle, ranges, len(ranges), byref(self._sent)))
 
     # -- what other sites made
 

@@ -32,7 +32,7 @@ REASONS = {
     23: "the site has made its last operation in the text",
     NOT_OPEN: "the text is closed",
     ALREADY_OPEN: "the text is open already",
-    OUT_OF_TEXT: "a position lies outside the text",
+    OUT_OF_TEXT: "a position or a name lies outside the text",
     TOO_LONG: "more than 2^24 bytes are to be put in",
     NO_NUMBER: "a number or a font is none",
     NO_NAME: "the name is that of no character here",
@@ -53,6 +53,10 @@ class CSettling(ctypes.Structure):
 
 class CName(ctypes.Structure):
     _fields_ = [("site", c_uint16), ("offset", c_uint32)]
+
+
+class CNameRange(ctypes.Structure):
+    _fields_ = [("site", c_uint16), ("offset", c_uint32), ("length", c_uint32)]
 
 
 class CPlace(ctypes.Structure):
@@ -80,6 +84,8 @@ CALLS = {
     "change_looks": (HANDLE, c_uint64, c_uint64, c_uint8, c_char_p, c_size_t, c_uint8, c_int8, U32),
     "restore": (HANDLE, U32),
     "recall": (HANDLE, c_uint64, U32),
+    "delete_names": (HANDLE, POINTER(CNameRange), c_size_t, U32),
+    "restore_names": (HANDLE, POINTER(CNameRange), c_size_t, U32),
     "messages": (HANDLE, U64),
     "message": (HANDLE, c_uint64, c_char_p, c_size_t, U64),
     "let_go": (HANDLE,),
