@@ -18,12 +18,23 @@ from vialshoal import ChangeKind, Misused, Name, NameRange, Refused, TakingKind,
 TOP = Path(__file__).resolve().parents[3]
 PROGRAM = os.environ.get("VIALSHOAL_PROGRAM", str(TOP / "crates" / "site_cli" / "out" / "site_cli"))
 
-edits = st.lists(st.tuples(st.sampled_from(("type", "cut", "looks", "recall", "restore")), st.integers(0, 2**16),
-                           st.integers(0, 2**16), st.binary(max_size=6)), max_size=30)
+edits = st.lists(st.tuples(st.sampled_from(("type", "cut", "looks", "recall", "restore", "hide", "show")),
+                           st.integers(0, 2**16), st.integers(0, 2**16), st.binary(max_size=6)), max_size=30)
 
 
 def spelled(data: bytes) -> str:
     return "".join(f"\\{byte:02x}" for byte in data)
+
+
+def put_in(text: Text[bytes], site: int) -> int:
+    """How many characters a site ever put into a text."""
+    count = 0
+    try:
+        while text.place(Name(site, count)):
+            count += 1
+    except Misused:
+        pass
+    return count
 
 
 def edited(text: Text[bytes], edit: tuple[str, int, int, bytes]) -> tuple[Optional[str], list[bytes]]:
@@ -38,6 +49,13 @@ def edited(text: Text[bytes], edit: tuple[str, int, int, bytes]) -> tuple[Option
         return f"looks 1 {beg} {end} colour={one % 16} offset=-3", text.change_looks(beg, end, colour=one % 16, offset=-3)
     if verb == "recall":
         return f"recall 1 {beg}", text.recall(beg)
+    ever = put_in(text, 1)
+    if verb == "hide" and beg < end:
+        shown = [NameRange(name.site, name.offset, 1) for name in text.names(beg, end)]
+        named = " ".join(f"{it.site} {it.offset} {it.length}" for it in shown)
+        return f"delete 1 {named}", text.delete_names(shown)
+    if verb == "show" and ever:
+        return f"restore 1 1 0 {ever}", text.restore_names([NameRange(1, 0, ever)])
     return "restore 1", text.restore()
 
 
