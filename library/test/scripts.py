@@ -19,7 +19,7 @@ sys.path.insert(0, str(TOP))
 
 from tools import rows
 from tools.running import Stream
-from vialshoal import Misused, Name, Refused, TakingKind, Text
+from vialshoal import Misused, Name, NameRange, Refused, TakingKind, Text
 
 SCRIPT_ROWS = TOP / "crates" / "script_rows"
 MAX_LINES, MAX_LINE = 1 << 20, 32_768
@@ -129,6 +129,15 @@ class Looks:
     offset: Optional[int]
 
 
+def names(words: list[bytes]) -> list[NameRange]:
+    """Names of sites: one range or more, each a site, an offset and a length."""
+    numbers = [number(word) for word in words]
+    needs(len(numbers) >= 3 and len(numbers) % 3 == 0)
+    ranges = [NameRange(*numbers[at:at + 3]) for at in range(0, len(numbers), 3)]
+    needs(all(1 <= it.site <= 65535 and it.length >= 1 and it.offset + it.length <= 1 << 24 for it in ranges))
+    return ranges
+
+
 def looks(words: list[bytes]) -> Looks:
     found = re.fullmatch(rb"(?:font=([A-Za-z][A-Za-z0-9.]{0,30}))?(?: ?colour=(\d{1,10}))?(?: ?offset=(-?\d{1,10}))?",
                          b" ".join(words))
@@ -169,6 +178,10 @@ class Run:
             needs(len(words) >= 3)
             beg, end, given = number(words[0]), number(words[1]), looks(words[2:])
             return text.change_looks(beg, end, font=given.font, colour=given.colour, offset=given.offset)
+        if verb == b"delete":
+            return text.delete_names(names(words))
+        if verb == b"restore" and words:
+            return text.restore_names(names(words))
         numbers = [number(word) for word in words]
         needs(len(numbers) == {b"cut": 2, b"recall": 1, b"restore": 0}[verb])
         if verb == b"cut":
@@ -200,7 +213,7 @@ class Run:
     def answer(self, line: bytes) -> list[bytes]:
         site, verb, of, *words = line.split(b" ") if line.count(b" ") >= 2 else [b"", b"", b""]
         text = self.text(number(site), number(of, 1, 16))
-        if verb in (b"type", b"cut", b"looks", b"recall", b"restore"):
+        if verb in (b"type", b"cut", b"looks", b"recall", b"restore", b"delete"):
             return self.edited(verb, text, words)
         if verb == b"take" and len(words) == 1:
             return [self.take(text, words[0])]
@@ -290,9 +303,9 @@ def where_asked(text: Text[bytes], words: list[int]) -> Iterator[bytes]:
 
 def names_asked(text: Text[bytes], words: list[int]) -> Iterator[bytes]:
     beg, end = words
-    names = text.names(beg, end)
+    shown = text.names(beg, end)
     # (no stretch is of two sites, whose offsets lie 2^32 apart here)
-    for pos, at, many in stretches([(pos, (name.site << 32) + name.offset) for pos, name in enumerate(names, beg)]):
+    for pos, at, many in stretches([(pos, (name.site << 32) + name.offset) for pos, name in enumerate(shown, beg)]):
         yield b"name %d %d %d %d" % (pos, at >> 32, at % (1 << 32), many)
     yield b"ok"
 
