@@ -41,7 +41,7 @@ typedef struct vialshoal_text {
 enum {
     VIALSHOAL_NOT_OPEN = 101,     /* the handle is {0}: it wasn't opened, or was freed */
     VIALSHOAL_ALREADY_OPEN = 102, /* the handle holds a text already */
-    VIALSHOAL_OUT_OF_TEXT = 103,  /* a position or a name lies outside the text, or a range ends before its begin */
+    VIALSHOAL_OUT_OF_TEXT = 103,  /* a position lies outside the text, or a range ends before its begin */
     VIALSHOAL_TOO_LONG = 104,     /* more than 2^24 bytes are to be put in */
     VIALSHOAL_NO_NUMBER = 105,    /* a number is that of no text, site, name, selection or colour; a font is none */
     VIALSHOAL_NO_NAME = 106,      /* the name is that of no character that was taken in */
@@ -158,7 +158,7 @@ uint32_t vialshoal_recall(vialshoal_text *text, uint64_t pos, uint32_t *sent);
 /* Deletes the characters of these names that are shown, wherever they stand, by one operation and so one message; none
  * where nothing of them is shown. Names may come in any order and more than once. What vialshoal_restore and
  * vialshoal_recall give stays as it was. VIALSHOAL_NO_NUMBER where a range is that of no names: a site of 0, a length of
- * 0, or an end past 2^24; else VIALSHOAL_OUT_OF_TEXT where a name is that of no character that was taken in. 12 for more
+ * 0, or an end past 2^24; else VIALSHOAL_NO_NAME where a name is that of no character that was taken in. 12 for more
  * than 1,024 ranges of names that change, however they were told; 7, which may come wherever `count` isn't 0. */
 uint32_t vialshoal_delete_names(vialshoal_text *text, const vialshoal_name_range *names, size_t count, uint32_t *sent);
 

@@ -45,7 +45,7 @@ assert.strictEqual(`${c}`, 'ber');
 assert.deepStrictEqual([c.deleteNames(some), c.deleteNames([])], [[], []]);
 assert.strictEqual(c.restoreNames([{ site: 1, offset: 0, length: 6 }]).length, 1);
 assert.strictEqual(`${c}`, 'Oberon');
-refuses(103, () => c.deleteNames([{ site: 1, offset: 6, length: 1 }]));
+refuses(106, () => c.deleteNames([{ site: 1, offset: 6, length: 1 }]));
 refuses(105, () => c.restoreNames([{ site: 1, offset: 0, length: 0 }]));
 refuses(13, () => Text.load(Buffer.from('none')));
 refuses(103, () => a.insert(5, 'x'));

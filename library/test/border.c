@@ -104,11 +104,11 @@ static void refuses_names(vialshoal_text *a) {
         uint32_t sent = 7;
         IS(vialshoal_delete_names(a, &none[i], 1, &sent) == VIALSHOAL_NO_NUMBER && sent == 0);
         IS(vialshoal_restore_names(a, &none[i], 1, &sent) == VIALSHOAL_NO_NUMBER);
-        IS(vialshoal_delete_names(a, &missing[i], 1, &sent) == VIALSHOAL_OUT_OF_TEXT && sent == 0);
-        IS(vialshoal_restore_names(a, &missing[i], 1, &sent) == VIALSHOAL_OUT_OF_TEXT);
+        IS(vialshoal_delete_names(a, &missing[i], 1, &sent) == VIALSHOAL_NO_NAME && sent == 0);
+        IS(vialshoal_restore_names(a, &missing[i], 1, &sent) == VIALSHOAL_NO_NAME);
     }
     uint32_t sent;
-    IS(vialshoal_delete_names(a, both, 2, &sent) == VIALSHOAL_OUT_OF_TEXT && sent == 0);
+    IS(vialshoal_delete_names(a, both, 2, &sent) == VIALSHOAL_NO_NAME && sent == 0);
     IS(vialshoal_delete_names(a, both, 3, &sent) == VIALSHOAL_NO_NUMBER && sent == 0);
 }
 

@@ -241,8 +241,8 @@ class Run:
         except NoEvent:
             return [b"refused 20"]
         except Misused as why:
-            # (nothing else that a script says is misuse)
-            assert why.number == 103
+            # (nothing but positions outside the text and names that aren't here is misuse)
+            assert why.number in (103, 106)
             return [b"refused 11"]
         except Refused as why:
             return [b"refused %d" % why.number]

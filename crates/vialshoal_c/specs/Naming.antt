@@ -15,7 +15,7 @@ use Rattle.vialshoal_c.specs.Editing.{number_of_edit, sent_by}
 use Rattle.vialshoal_c.specs.Opened.{IsMisused}
 use Rattle.vialshoal_c.specs.SessionState.{SessionState}
 use Rattle.vialshoal_c.specs.declared.inputs.CharNames.{CharNames}
-use Rattle.vialshoal_c.specs.declared.numbers.TheConstants.{NO_NUMBER, OUT_OF_TEXT}
+use Rattle.vialshoal_c.specs.declared.numbers.TheConstants.{NO_NAME, NO_NUMBER}
 
 -- whether these are names: one at least, of a site, within its file
 abbrev pub is_range : CharNames → Bool
@@ -59,5 +59,5 @@ abbrev pub EditsNames : SessionState → ByNames → List CharNames → (number 
 EditsNames s what names number sent new =
     MatchBool (list_all is_range names)
     (MatchBool (list_all (is_here s.text) names) (NamesEdited s what names number sent new)
-    (IsMisused OUT_OF_TEXT s number new × (sent ≡ 0)))
+    (IsMisused NO_NAME s number new × (sent ≡ 0)))
     (IsMisused NO_NUMBER s number new × (sent ≡ 0))

@@ -8,7 +8,7 @@ ghost use Rattle.vialshoal_c.specs.Naming.{AnswersNames, EditsNames, is_here, is
 
 use crate::editing::Edited;
 use crate::inputs::CharNames;
-use crate::numbers::{NO_NUMBER, OUT_OF_TEXT};
+use crate::numbers::{NO_NAME, NO_NUMBER};
 use crate::session::Session;
 use looks::Refusal;
 use operations::NameRange;
@@ -97,7 +97,7 @@ impl Session {
             return Edited::misused(NO_NUMBER);
         }
         if !has_all(&self.replica, names) {
-            return Edited::misused(OUT_OF_TEXT);
+            return Edited::misused(NO_NAME);
         }
         Edited::of(self.change_names(alloc, what, names))
     }

@@ -6,7 +6,7 @@ pub const NOT_OPEN: u32 = 101;
 /// The handle has a text already.
 pub const ALREADY_OPEN: u32 = 102;
 
-/// A position or a name lies outside the text, or a range ends before its begin.
+/// A position lies outside the text, or a range ends before its begin.
 pub const OUT_OF_TEXT: u32 = 103;
 
 /// More than 2^24 bytes are to be put in.

@@ -32,7 +32,7 @@ REASONS = {
     23: "the site has made its last operation in the text",
     NOT_OPEN: "the text is closed",
     ALREADY_OPEN: "the text is open already",
-    OUT_OF_TEXT: "a position or a name lies outside the text",
+    OUT_OF_TEXT: "a position lies outside the text",
     TOO_LONG: "more than 2^24 bytes are to be put in",
     NO_NUMBER: "a number or a font is none",
     NO_NAME: "the name is that of no character here",
