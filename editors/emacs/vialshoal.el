@@ -914,10 +914,24 @@ or the LINK by which another's note is joined."
         (vialshoal--close))))
   (let ((end (+ (vialshoal--now) vialshoal--end-patience)))
     (dolist (process (process-list))
-      (while (and (process-get process 'vialshoal-buffer)
-                  (process-live-p process)
-                  (< (vialshoal--now) end))
-        (accept-process-output process 0.05)))))
+      (when (process-get process 'vialshoal-buffer)
+        (vialshoal--wait-for-end process end)))))
+
+(defun vialshoal--wait-for-end (process end)
+  "Wait until PROCESS has ended, but not past the time END.
+Where its terminal is gone, Emacs may wait for output without end."
+  (while (and (vialshoal--runs process)
+              (< (vialshoal--now) end))
+    (with-timeout (0.2)
+      (accept-process-output process 0.05 nil t))))
+
+(defun vialshoal--runs (process)
+  "Say whether PROCESS is still there.
+The signal that ends Emacs may keep it from hearing that a process has."
+  (and (process-live-p process)
+       (not (equal "Z" (alist-get 'state
+                                  (process-attributes
+                                   (process-id process)))))))
 
 ;;;; Commands
 
