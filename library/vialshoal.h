@@ -149,10 +149,10 @@ uint32_t vialshoal_delete(vialshoal_text *text, uint64_t beg, uint64_t end, uint
 uint32_t vialshoal_change_looks(vialshoal_text *text, uint64_t beg, uint64_t end, uint8_t selected, const uint8_t *font,
                                 size_t font_length, uint8_t colour, int8_t offset, uint32_t *sent);
 
-/* Shows again, each at its own place, what this replica deleted last. */
+/* Shows again, each at its own place, what vialshoal_delete took out last. */
 uint32_t vialshoal_restore(vialshoal_text *text, uint32_t *sent);
 
-/* Puts a copy of what this replica deleted last after the first `pos` bytes. */
+/* Puts a copy of what vialshoal_delete took out last after the first `pos` bytes. */
 uint32_t vialshoal_recall(vialshoal_text *text, uint64_t pos, uint32_t *sent);
 
 /* Deletes the characters of these names that are shown, wherever they stand, by one operation and so one message; none

@@ -83,9 +83,9 @@ export class Text {
     insert(pos: number, data: Uint8Array | string): Buffer[];
     delete(beg: number, end: number): Buffer[];
     changeLooks(beg: number, end: number, looks: Looks): Buffer[];
-    /** Shows again what this site deleted last. */
+    /** Shows again what `delete` took out last. */
     restore(): Buffer[];
-    /** Puts a copy of what this site deleted last after a position. */
+    /** Puts a copy of what `delete` took out last after a position. */
     recall(pos: number): Buffer[];
     /** Deletes the characters of these names that are shown, wherever they stand, by one message at most. */
     deleteNames(names: Iterable<NameRange>): Buffer[];

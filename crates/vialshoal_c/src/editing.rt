@@ -139,14 +139,14 @@ impl Session {
         }
     }
 
-    /// Shows again what was deleted last.
+    /// Shows again what was cut last by positions.
     pub(crate) fn restore(&mut self) -> Edited
         ensures { Edits self.old restoration result.number result.sent self.new }
     {
         Edited::of(self.replica.restore(&mut self.outbox))
     }
 
-    /// Puts a copy of what was deleted last after the first `pos` characters.
+    /// Puts a copy of what was cut last by positions after the first `pos` characters.
     pub(crate) fn recall(&mut self, pos: u64) -> Edited
         ensures { Edits self.old (recalling pos) result.number result.sent self.new }
     {

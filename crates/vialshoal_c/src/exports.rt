@@ -184,7 +184,7 @@ pub extern "C" fn vialshoal_change_looks(
     edited.number
 }
 
-/// Shows again what was deleted last.
+/// Shows again what was cut last by positions.
 #[unsafe(no_mangle)]
 pub extern "C" fn vialshoal_restore(alloc: Global, handle: &mut Handle, sent: &mut u32) -> u32
     ensures { OnOpen handle.old.value handle.new.value result (sent.new ≡ 0)
@@ -200,7 +200,7 @@ pub extern "C" fn vialshoal_restore(alloc: Global, handle: &mut Handle, sent: &m
     edited.number
 }
 
-/// Puts a copy of what was deleted last after the first `pos` characters.
+/// Puts a copy of what was cut last by positions after the first `pos` characters.
 #[unsafe(no_mangle)]
 pub extern "C" fn vialshoal_recall(
     alloc: Global,
@@ -221,6 +221,27 @@ pub extern "C" fn vialshoal_recall(
     edited.number
 }
 
+// Edits a text by names.
+fn edit_names(
+    alloc: Global,
+    handle: &mut Handle,
+    what: ByNames,
+    names: &[CharNames],
+    sent: &mut u32,
+) -> u32
+    ensures { OnOpen handle.old.value handle.new.value result (sent.new ≡ 0)
+        (λ s new. EditsNames s what names.now result sent.new new) }
+{
+    *sent = 0;
+    let Some(mut session) = handle.open(alloc) else {
+        return NOT_OPEN;
+    };
+    let edited = session.edit_by_names(alloc, what, names);
+    handle.close(alloc, session);
+    *sent = edited.sent;
+    edited.number
+}
+
 /// Takes the characters of these names out of what is shown, wherever they stand.
 #[unsafe(no_mangle)]
 pub extern "C" fn vialshoal_delete_names(
@@ -232,14 +253,7 @@ pub extern "C" fn vialshoal_delete_names(
     ensures { OnOpen handle.old.value handle.new.value result (sent.new ≡ 0)
         (λ s new. EditsNames s ByNames.Delete names.now result sent.new new) }
 {
-    *sent = 0;
-    let Some(mut session) = handle.open(alloc) else {
-        return NOT_OPEN;
-    };
-    let edited = session.edit_by_names(alloc, ByNames::Delete, names);
-    handle.close(alloc, session);
-    *sent = edited.sent;
-    edited.number
+    edit_names(alloc, handle, ByNames::Delete, names, sent)
 }
 
 /// Shows the characters of these names again, each at its own place.
@@ -253,14 +267,7 @@ pub extern "C" fn vialshoal_restore_names(
     ensures { OnOpen handle.old.value handle.new.value result (sent.new ≡ 0)
         (λ s new. EditsNames s ByNames.Restore names.now result sent.new new) }
 {
-    *sent = 0;
-    let Some(mut session) = handle.open(alloc) else {
-        return NOT_OPEN;
-    };
-    let edited = session.edit_by_names(alloc, ByNames::Restore, names);
-    handle.close(alloc, session);
-    *sent = edited.sent;
-    edited.number
+    edit_names(alloc, handle, ByNames::Restore, names, sent)
 }
 
 /// Takes in a message of any site, or lets it wait.

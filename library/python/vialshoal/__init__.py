@@ -295,11 +295,11 @@ class Text(Generic[AnyStr]):
             offset or 0, byref(self._sent)))
 
     def restore(self) -> list[bytes]:
-        """Shows again what this site deleted last."""
+        """Shows again what `delete` took out last."""
         return self._edited(_calls.vialshoal_restore(self._handle, byref(self._sent)))
 
     def recall(self, pos: int) -> list[bytes]:
-        """Puts a copy of what this site deleted last after the first `pos` bytes, or characters."""
+        """Puts a copy of what `delete` took out last after the first `pos` bytes, or characters."""
         return self._edited(_calls.vialshoal_recall(self._handle, self._byte(pos), byref(self._sent)))
 
     def delete_names(self, names: Iterable[NameRange]) -> list[bytes]:
