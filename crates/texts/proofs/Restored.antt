@@ -1,4 +1,4 @@
--- Where all that was deleted last is shown, to show it again changes nothing.
+-- Where all that was cut last is shown, to show it again changes nothing.
 use Rattle.std.proofs.Common.{◌≡◌, Bool, true, false, refl}
 use Rattle.std.specs.Prelude.{◌||◌}
 use Rattle.std.proofs.lemmas.List.Elements.{filter_agree}

@@ -63,7 +63,7 @@ first_len_of looks (b ∷ bytes) len some few many =
       | inr gt ↦ let gt = leb-false _ _ gt in first_of_many looks b bytes gt ∙ sym (many gt)
     ]
 
--- what was deleted last is put in as any stretch is
+-- what was cut last is put in as any stretch is
 pub recalled : (t : TextState) (pos : ℕ) (why : EditRefusal) (sent : List (List ℕ))
     → EditsSending t (insertion pos t.last_stretch) (Err why) t sent sent → EditsSending t (recalling pos) (Err why) t sent sent
 recalled t pos (Whole why) sent sends = sends

@@ -20,7 +20,7 @@ use Rattle.texts.specs.Order.{chars_from, cut, dress, is_named, order_after, ins
 use Rattle.texts.specs.TextState.{TextState, shown_of}
 
 -- What an edit asks: to put characters after the first pos shown; to take those from beg to end out of what is
--- shown, or to give them looks; to show again those that were deleted last, or to put them in anew, as a copy.
+-- shown, or to give them looks; to show again those that were cut last, or to put them in anew, as a copy.
 pub data Edit : Type 0 where
   insertion : (pos : ℕ) (items : List Item) → Edit
   deletion : (beg end : ℕ) → Edit
@@ -69,7 +69,7 @@ names_shown t beg end = set_of (map (λ c. c.name) (slice_range (shown_of t) beg
 abbrev pub stretch_named : TextState → List Range → List Item
 stretch_named t names = map (λ c. (c.byte, c.looks)) (filter (is_named names) (shown_of t))
 
--- the stretch that was deleted last, after one more operation of the site's own: a Delete keeps what it hides
+-- the stretch that was cut last, after one more operation of the site's own: a Delete keeps what it hides
 abbrev pub stretch_after : TextState → OpKind → List Item
 stretch_after t (insert cause at looks bytes) = t.last_stretch
 stretch_after t (delete names) = stretch_named t names
@@ -125,7 +125,7 @@ inserts t pos (p ∷ pieces) =
 abbrev pub unless_empty : TextState → (beg end : ℕ) → OpKind → List Operation
 unless_empty t beg end kind = if nat_lt beg end then own_op t kind ∷ [] else []
 
--- whether all that was deleted last is shown
+-- whether all that was cut last is shown
 abbrev pub is_restored : TextState → Bool
 is_restored t = list_all (λ c. is_visible t.operations c) (names_in t.last_set)
 
@@ -142,7 +142,7 @@ plan t (recalling pos) = inserts t pos (pieces_of t.last_stretch)
 abbrev pub shown_with : TextState → ℕ → List Item → List Char
 shown_with t pos items = insert_at (shown_of t) pos (chars_from t.site (file_len t.operations t.site) items)
 
--- what is shown with those that were deleted last beside those that are shown, each at its place among all
+-- what is shown with those that were cut last beside those that are shown, each at its place among all
 abbrev pub shown_again : TextState → List Char
 shown_again t = filter (λ c. is_named t.last_set c || is_visible t.operations c.name) t.order
 

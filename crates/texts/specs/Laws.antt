@@ -170,7 +170,7 @@ ThePastIsTheTextOfThen = (t was p : TextState) (fronts : List Front) → IsText 
     → IsPastOf t fronts p → AreAlike p was
 
 -- an edit by names that was done shows what it is to show: those that it names are hidden, or shown, and all others are as they
--- were; what the site deleted last stays that
+-- were; what the site cut last stays that
 abbrev pub EditsByNamesArePlain : Type 0
 EditsByNamesArePlain = (t new : TextState) (what : ByNames) (names : List Range) (count : ℕ) (messages : List (List ℕ)) → IsText t
     → IsTrue (are_here t names) → EditsByNames what names t (Ok count) new messages

@@ -62,7 +62,7 @@ refusal_of_names t names =
 abbrev pub IsLeft : TextState → Result ℕ EditRefusal → Result ℕ EditRefusal → TextState → List (List ℕ) → Type 0
 IsLeft t answer result new messages = (result ≡ answer) × (new ≡ t) × (messages ≡ [])
 
--- an operation is made and sent; what the site deleted last stays that
+-- an operation is made and sent; what the site cut last stays that
 abbrev pub IsMade : TextState → Operation → Result ℕ EditRefusal → TextState → List (List ℕ) → Type 0
 IsMade t op result new messages = (result ≡ Ok 1) × HasTaken t op new × (messages ≡ spelling op ∷ [])
 

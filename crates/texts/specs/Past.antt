@@ -15,7 +15,7 @@ pub data HasSomeOf : List Operation → List Operation → Type 0 where
   keeps : {ops some : List Operation} (op : Operation) → HasSomeOf ops some → HasSomeOf (op ∷ ops) (op ∷ some)
 
 -- The same text, at the same site, of the operations up to the fronts: it has taken in all that can be, the greatest
--- good part of them, in their order. Nothing waits in it, nothing was deleted last, and no changes were asked for.
+-- good part of them, in their order. Nothing waits in it, nothing was cut last, and no changes were asked for.
 pub record IsPastOf (t : TextState) (fronts : List Front) (p : TextState) : Type 0 where
   pub is : IsText p
   pub text : p.text ≡ t.text

@@ -23,7 +23,7 @@ pub record AreWaitingFor (text : ℕ) (room : List Operation) : Type 0 where
   pub few : length room ≤ MAX_WAITING
 
 -- the operations taken in are good and of this text, each after its causes; seqs count from 1, the characters are
--- theirs, and so is what was deleted last; and those that wait are a room's
+-- theirs, and so is what was cut last; and those that wait are a room's
 pub record IsText (t : TextState) : Type 0 where
   pub good : Good t.operations
   pub in_order : KeepsCauses t.operations

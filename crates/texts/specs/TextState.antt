@@ -8,7 +8,7 @@ use Rattle.tree_order.specs.Shown.{is_visible}
 
 -- The text and the site; the operations taken in, in the order of taking; all characters in order, deleted
 -- ones too, each with its byte and the looks that hold; the operations that wait, in order of arrival; the
--- stretch that the site deleted last, and the set of its names; how many operations had been taken in when the
+-- stretch that the site cut last, and the set of its names; how many operations had been taken in when the
 -- changes were last asked for.
 pub record TextState : Type 0 where
   pub text : ℕ
@@ -20,7 +20,7 @@ pub record TextState : Type 0 where
   pub last_set : List Range
   pub asked : ℕ
 
--- a text of these operations and characters, with these that wait, and this deleted last, of which so many
+-- a text of these operations and characters, with these that wait, and this cut last, of which so many
 -- operations were told
 abbrev pub state_of : (text site : ℕ) → List Operation → List Char → List Operation → List Item → List Range
     → ℕ → TextState

@@ -37,7 +37,7 @@ pub struct Replica {
     taken: TakenText,
     // The operations that wait for a cause.
     room: Room,
-    // The stretch that the site deleted last, and its names; empty before that.
+    // The stretch that the site cut last, and its names; empty before that.
     stretch: Buffer,
     set: NameSet,
     alloc: Global,

@@ -64,7 +64,7 @@ impl Replica {
         self.make(Kind::ChangeLooks { sel, looks, names }, outbox)
     }
 
-    // Shows again what was deleted last, by one Restore. An `Err` changes nothing.
+    // Shows again what was cut last, by one Restore. An `Err` changes nothing.
     pub(crate) fn show_again(&mut self, outbox: &mut Outbox) -> Result<(), Refusal>
         requires some { 0 < length self.old.last_set }
         ensures { SendsOne self.old (own_op self.old (restore self.old.last_set)) result self.new

@@ -59,7 +59,7 @@ impl Replica {
         answer_of_one(self.dress_some(beg, end, sel, looks, outbox))
     }
 
-    /// Shows again what was deleted last, under its own names, by one Restore. What was deleted last stays so.
+    /// Shows again what was cut last, under its own names, by one Restore. What was cut last stays so.
     ///
     /// Answers how many messages it added to the Outbox. Refused, in this order, `Behind`, `SeqSpent` and
     /// `StampsSpent` as in `insert`, and `OutOfMemory`. Where nothing was deleted yet, or all of it is shown, it
@@ -89,7 +89,7 @@ impl Replica {
         self.taken.stretch(beg, end)
     }
 
-    /// The stretch that the site deleted last; empty before that. Refused `OutOfMemory` alone, and never where
+    /// The stretch that the site cut last; empty before that. Refused `OutOfMemory` alone, and never where
     /// it is empty.
     pub fn recall(&self) -> Result<Buffer, Refusal>
         ensures ok { IfOk result (λ buffer. buffer ≡ self.now.last_stretch) }

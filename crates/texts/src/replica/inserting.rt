@@ -193,7 +193,7 @@ impl Replica {
         }
     }
 
-    /// Puts a copy of the stretch that the site deleted last after the first `pos` characters shown, as `insert` does:
+    /// Puts a copy of the stretch that the site cut last after the first `pos` characters shown, as `insert` does:
     /// the copy takes memory after all that refuses the first Insert.
     pub fn insert_recalled(&mut self, pos: u64, outbox: &mut Outbox) -> Result<u32, EditRefusal>
         requires in_text { pos ≤ length (shown_of self.old) }
