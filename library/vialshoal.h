@@ -11,10 +11,10 @@
  * docs/FORMATS.md. From 101 on: it was misused (VIALSHOAL_NOT_OPEN and so on). A call that was refused or misused changed
  * nothing, but for an edit of which a part stands: see `sent`.
  *
- * Memory. The library allocates what a handle holds, by the program's malloc, realloc and free, and vialshoal_free frees
- * it. All else is the caller's: what is written goes into rooms that the caller passes. `need` is set to how many elements
- * there are to be written; where the room is shorter, nothing is written and the number is VIALSHOAL_TOO_SHORT, so a
- * length of 0 asks how long a room has to be.
+ * Memory. The library allocates what a handle holds, by the program's malloc, realloc and free, and vialshoal_free, or
+ * vialshoal_past_free, frees it. All else is the caller's: what is written goes into rooms that the caller passes. `need`
+ * is set to how many elements there are to be written; where the room is shorter, nothing is written and the number is
+ * VIALSHOAL_TOO_SHORT, so a length of 0 asks how long a room has to be.
  *
  * What the caller owes, and nothing checks: a handle is {0} before it is used first, and isn't copied; every pointer
  * points to as much memory as the call reads or writes, and isn't null, even at length 0; what is written lies apart from
@@ -37,6 +37,12 @@ typedef struct vialshoal_text {
     void *at;
 } vialshoal_text;
 
+/* A text as it was, or none, which is {0}. The word is the library's alone. It is only read, and what is owed for a
+ * handle of the other kind is owed for this one. */
+typedef struct vialshoal_past_text {
+    void *at;
+} vialshoal_past_text;
+
 /* Numbers of misuse. */
 enum {
     VIALSHOAL_NOT_OPEN = 101,     /* the handle is {0}: it wasn't opened, or was freed */
@@ -46,7 +52,7 @@ enum {
     VIALSHOAL_NO_NUMBER = 105,    /* a number is that of no text, site, name, selection or colour; a font is none */
     VIALSHOAL_NO_NAME = 106,      /* the name is that of no character that was taken in */
     VIALSHOAL_TOO_SHORT = 107,    /* the room is too short, and nothing was changed; see `need` */
-    VIALSHOAL_NO_MESSAGE = 108    /* no message that is kept has this index */
+    VIALSHOAL_NO_MESSAGE = 108    /* no message that is kept has this index, or none is left */
 };
 
 /* What the taking of a message did. */
@@ -96,6 +102,14 @@ typedef struct vialshoal_name_range {
     uint32_t length;
 } vialshoal_name_range;
 
+/* How far a site's operations go: the number of the last that is meant, 0 for none. Fronts are some of these, in any
+ * order; a site that they don't name has the front 0, of one that they name twice the first counts, and a number above
+ * that of the last operation that was taken in means this one. */
+typedef struct vialshoal_site_front {
+    uint16_t site;
+    uint32_t seq;
+} vialshoal_site_front;
+
 typedef struct vialshoal_place {
     uint64_t pos;  /* how many shown characters are this one or stand before it */
     bool is_shown; /* whether it is shown itself, at pos - 1 then */
@@ -139,6 +153,12 @@ uint32_t vialshoal_load(vialshoal_text *text, const uint8_t *file, size_t length
 
 /* Puts bytes in default looks after the first `pos` ones. VIALSHOAL_TOO_LONG. */
 uint32_t vialshoal_insert(vialshoal_text *text, uint64_t pos, const uint8_t *bytes, size_t length, uint32_t *sent);
+
+/* Puts bytes in these looks after the first `pos` ones: a font's name (1 to 31 letters, digits and full stops, the first a
+ * letter), a colour (0 to 15), an offset. VIALSHOAL_NO_NUMBER where the font or the colour is none; else
+ * VIALSHOAL_TOO_LONG, VIALSHOAL_OUT_OF_TEXT; 7, which may come wherever `length` isn't 0. */
+uint32_t vialshoal_insert_in_looks(vialshoal_text *text, uint64_t pos, const uint8_t *bytes, size_t length,
+                                   const uint8_t *font, size_t font_length, uint8_t colour, int8_t offset, uint32_t *sent);
 
 /* Deletes the range. */
 uint32_t vialshoal_delete(vialshoal_text *text, uint64_t beg, uint64_t end, uint32_t *sent);
@@ -203,6 +223,14 @@ uint32_t vialshoal_sites(vialshoal_text *text, uint16_t *room, size_t length, ui
 /* The front of a site: how many of its operations were taken in. VIALSHOAL_NO_NUMBER for 0. */
 uint32_t vialshoal_front(vialshoal_text *text, uint16_t site, uint32_t *front);
 
+/* A message of what was taken in past these fronts, in the order of taking: what brings a replica that has the operations
+ * up to them to what this one has, if it takes all. One a call: `*index` is 0 at first, and each call that is done moves
+ * it on to where the next one looks. What is taken in between two calls comes after the rest. VIALSHOAL_NO_MESSAGE where
+ * none is left, VIALSHOAL_TOO_SHORT, and *index stays; no message has more than 10,297 bytes. VIALSHOAL_NO_NUMBER for a
+ * site of 0; 7. */
+uint32_t vialshoal_since(vialshoal_text *text, const vialshoal_site_front *fronts, size_t count, uint64_t *index,
+                         uint8_t *room, size_t length, uint64_t *need);
+
 /* -- What is shown -- */
 
 /* How many bytes are shown. */
@@ -228,6 +256,30 @@ uint32_t vialshoal_find(vialshoal_text *text, uint16_t site, uint32_t offset, vi
  * other. They are handed out once. Where the room is too short they stay, and are what the next call hands out, before
  * any that come later: so call until `need` is 0. VIALSHOAL_TOO_SHORT. */
 uint32_t vialshoal_changes(vialshoal_text *text, vialshoal_change *room, size_t length, uint64_t *need);
+
+/* Puts the text as an Oberon text file into the room: its characters with their looks, and nothing of who wrote them
+ * (docs/FORMATS.md, "Text files"). 13 for more than 2^20 characters; 7; VIALSHOAL_TOO_SHORT. */
+uint32_t vialshoal_save(vialshoal_text *text, uint8_t *room, size_t length, uint64_t *need);
+
+/* -- A text as it was. It is a copy of its own: it stays as it is when the text changes or is freed. -- */
+
+/* Opens an empty past handle with the text as it was, up to these fronts: what of the operations within them can be taken
+ * in, which leaves out one that builds on an operation past them. It takes as long as taking these operations in.
+ * VIALSHOAL_NOT_OPEN of the text, VIALSHOAL_ALREADY_OPEN of the past; VIALSHOAL_NO_NUMBER for a site of 0; 7. */
+uint32_t vialshoal_past(vialshoal_text *text, const vialshoal_site_front *fronts, size_t count, vialshoal_past_text *past);
+
+/* Frees what the handle holds; it is {0} then. VIALSHOAL_NOT_OPEN. */
+uint32_t vialshoal_past_free(vialshoal_past_text *past);
+
+/* These ask the text as it was what vialshoal_length, _bytes, _looks, _names and _find ask a text, and answer as they do. */
+uint32_t vialshoal_past_length(vialshoal_past_text *past, uint64_t *length);
+uint32_t vialshoal_past_bytes(vialshoal_past_text *past, uint64_t beg, uint64_t end, uint8_t *room, size_t length,
+                              uint64_t *need);
+uint32_t vialshoal_past_looks(vialshoal_past_text *past, uint64_t pos, vialshoal_looks_run *run, uint8_t *font,
+                              size_t length, uint64_t *need);
+uint32_t vialshoal_past_names(vialshoal_past_text *past, uint64_t beg, uint64_t end, vialshoal_name *room, size_t length,
+                              uint64_t *need);
+uint32_t vialshoal_past_find(vialshoal_past_text *past, uint16_t site, uint32_t offset, vialshoal_place *place);
 
 #ifdef __cplusplus
 }

@@ -17,29 +17,47 @@
         }                                                                  \
     } while (0)
 
+/* What index.js has of a text, or of one as it was. */
+typedef struct {
+    bool is_past;
+    vialshoal_text text;
+    vialshoal_past_text past;
+} shown;
+
 typedef struct {
     napi_value at[MOST];
+    shown *shown;
     vialshoal_text *text;
 } arguments;
+
+static uint32_t freed(shown *it) { return it->is_past ? vialshoal_past_free(&it->past) : vialshoal_free(&it->text); }
 
 static void let_go(napi_env env, void *data, void *hint) {
     (void)env;
     (void)hint;
-    vialshoal_free(data);
+    freed(data);
     free(data);
+}
+
+/* The arguments of a call, the first of which is a text, or one as it was. */
+static bool taken_shown(napi_env env, napi_callback_info info, size_t count, arguments *given) {
+    size_t found = MOST;
+    void *data;
+    if (napi_get_cb_info(env, info, &found, given->at, NULL, NULL) != napi_ok || found != count ||
+        napi_get_value_external(env, given->at[0], &data) != napi_ok) {
+        napi_throw_error(env, NULL, "vialshoal: a text was expected");
+        return false;
+    }
+    given->shown = data;
+    given->text = &given->shown->text;
+    return true;
 }
 
 /* The arguments of a call, the first of which is a text. */
 static bool taken(napi_env env, napi_callback_info info, size_t count, arguments *given) {
-    size_t found = MOST;
-    void *text;
-    if (napi_get_cb_info(env, info, &found, given->at, NULL, NULL) != napi_ok || found != count ||
-        napi_get_value_external(env, given->at[0], &text) != napi_ok) {
-        napi_throw_error(env, NULL, "vialshoal: a text was expected");
-        return false;
-    }
-    given->text = text;
-    return true;
+    if (!taken_shown(env, info, count, given)) return false;
+    if (given->shown->is_past) napi_throw_error(env, NULL, "vialshoal: a text was expected");
+    return !given->shown->is_past;
 }
 
 static bool number_of(napi_env env, napi_value value, uint64_t *number) {
@@ -60,6 +78,16 @@ static bool bytes_of(napi_env env, napi_value value, const uint8_t **bytes, size
     return true;
 }
 
+static bool numbers_of(napi_env env, napi_value value, const uint32_t **numbers, size_t *length) {
+    void *data;
+    napi_typedarray_type type;
+    if (napi_get_typedarray_info(env, value, &type, length, &data, NULL, NULL) != napi_ok || type != napi_uint32_array) {
+        return false;
+    }
+    *numbers = data;
+    return true;
+}
+
 /* The numbers as an array: the first is the call's own. */
 static napi_value answer(napi_env env, size_t count, const double *numbers) {
     napi_value list, number;
@@ -74,58 +102,63 @@ static napi_value answer(napi_env env, size_t count, const double *numbers) {
 #define ANSWER(...)                                                    \
     answer(env, sizeof((double[]){__VA_ARGS__}) / sizeof(double), (double[]){__VA_ARGS__})
 
+/* What was opened, or the number that refused it. */
+static napi_value opened(napi_env env, shown *it, uint32_t number) {
+    napi_value made;
+    if (number != 0) {
+        free(it);
+        return ANSWER(number);
+    }
+    TRY(napi_create_external(env, it, let_go, NULL, &made));
+    return made;
+}
+
 static napi_value open_text(napi_env env, napi_callback_info info) {
     size_t found = 2;
-    napi_value at[2], made;
-    uint32_t text, site, number;
+    napi_value at[2];
+    uint32_t text, site;
     TRY(napi_get_cb_info(env, info, &found, at, NULL, NULL));
     TRY(napi_get_value_uint32(env, at[0], &text));
     TRY(napi_get_value_uint32(env, at[1], &site));
-    vialshoal_text *handle = calloc(1, sizeof *handle);
-    number = handle == NULL ? 7 : vialshoal_new(handle, (uint16_t)text, (uint16_t)site);
-    if (number != 0) {
-        free(handle);
-        return ANSWER(number);
-    }
-    TRY(napi_create_external(env, handle, let_go, NULL, &made));
-    return made;
+    shown *it = calloc(1, sizeof *it);
+    return opened(env, it, it == NULL ? 7 : vialshoal_new(&it->text, (uint16_t)text, (uint16_t)site));
 }
 
 static napi_value load(napi_env env, napi_callback_info info) {
     size_t found = 1, length;
-    napi_value at[1], made;
+    napi_value at[1];
     const uint8_t *bytes;
     TRY(napi_get_cb_info(env, info, &found, at, NULL, NULL));
     TRY(bytes_of(env, at[0], &bytes, &length) ? napi_ok : napi_invalid_arg);
-    vialshoal_text *handle = calloc(1, sizeof *handle);
-    uint32_t number = handle == NULL ? 7 : vialshoal_load(handle, bytes, length);
-    if (number != 0) {
-        free(handle);
-        return ANSWER(number);
-    }
-    TRY(napi_create_external(env, handle, let_go, NULL, &made));
-    return made;
+    shown *it = calloc(1, sizeof *it);
+    return opened(env, it, it == NULL ? 7 : vialshoal_load(&it->text, bytes, length));
 }
 
-/* The text's file, as a buffer; or the number that refuses it. */
-static napi_value store(napi_env env, napi_callback_info info) {
+typedef uint32_t as_file(vialshoal_text *text, uint8_t *room, size_t length, uint64_t *need);
+
+/* A file of the text, as a buffer; or the number that refuses it. */
+static napi_value file_of(napi_env env, napi_callback_info info, as_file *write) {
     arguments given;
     uint64_t need;
     uint8_t none[1];
     napi_value buffer;
     void *room;
     if (!taken(env, info, 1, &given)) return NULL;
-    uint32_t number = vialshoal_store(given.text, none, 0, &need);
+    uint32_t number = write(given.text, none, 0, &need);
     if (number != VIALSHOAL_TOO_SHORT) return ANSWER(number);
     TRY(napi_create_buffer(env, need, &room, &buffer));
-    number = vialshoal_store(given.text, room, need, &need);
+    number = write(given.text, room, need, &need);
     return number == 0 ? buffer : ANSWER(number);
 }
 
-static napi_value close_text(napi_env env, napi_callback_info info) {
+static napi_value store(napi_env env, napi_callback_info info) { return file_of(env, info, vialshoal_store); }
+
+static napi_value save(napi_env env, napi_callback_info info) { return file_of(env, info, vialshoal_save); }
+
+static napi_value close_shown(napi_env env, napi_callback_info info) {
     arguments given;
-    if (!taken(env, info, 1, &given)) return NULL;
-    return ANSWER(vialshoal_free(given.text));
+    if (!taken_shown(env, info, 1, &given)) return NULL;
+    return ANSWER(freed(given.shown));
 }
 
 static napi_value insert(napi_env env, napi_callback_info info) {
@@ -138,6 +171,24 @@ static napi_value insert(napi_env env, napi_callback_info info) {
     TRY(number_of(env, given.at[1], &pos) ? napi_ok : napi_invalid_arg);
     TRY(bytes_of(env, given.at[2], &bytes, &length) ? napi_ok : napi_invalid_arg);
     uint32_t number = vialshoal_insert(given.text, pos, bytes, length, &sent);
+    return ANSWER(number, sent);
+}
+
+static napi_value insert_in_looks(napi_env env, napi_callback_info info) {
+    arguments given;
+    uint64_t pos, colour;
+    int32_t offset;
+    const uint8_t *bytes, *font;
+    size_t length, font_length;
+    uint32_t sent;
+    if (!taken(env, info, 6, &given)) return NULL;
+    TRY(number_of(env, given.at[1], &pos) ? napi_ok : napi_invalid_arg);
+    TRY(bytes_of(env, given.at[2], &bytes, &length) ? napi_ok : napi_invalid_arg);
+    TRY(bytes_of(env, given.at[3], &font, &font_length) ? napi_ok : napi_invalid_arg);
+    TRY(number_of(env, given.at[4], &colour) ? napi_ok : napi_invalid_arg);
+    TRY(napi_get_value_int32(env, given.at[5], &offset));
+    uint32_t number = vialshoal_insert_in_looks(given.text, pos, bytes, length, font, font_length, (uint8_t)colour,
+                                                (int8_t)offset, &sent);
     return ANSWER(number, sent);
 }
 
@@ -194,14 +245,11 @@ typedef uint32_t by_names(vialshoal_text *text, const vialshoal_name_range *name
 /* An edit by names, which are given as a site, an offset and a length each. */
 static napi_value edit_names(napi_env env, napi_callback_info info, by_names *edit) {
     arguments given;
-    napi_typedarray_type type;
-    void *data;
+    const uint32_t *numbers;
     size_t length;
     uint32_t sent;
     if (!taken(env, info, 2, &given)) return NULL;
-    TRY(napi_get_typedarray_info(env, given.at[1], &type, &length, &data, NULL, NULL));
-    TRY(type == napi_uint32_array ? napi_ok : napi_invalid_arg);
-    const uint32_t *numbers = data;
+    TRY(numbers_of(env, given.at[1], &numbers, &length) ? napi_ok : napi_invalid_arg);
     size_t count = length / 3;
     vialshoal_name_range *names = malloc((count + 1) * sizeof *names);
     if (names == NULL) return ANSWER(7, 0);
@@ -268,11 +316,13 @@ static napi_value forget(napi_env env, napi_callback_info info) {
 
 static napi_value merge(napi_env env, napi_callback_info info) {
     arguments given;
-    void *other;
+    void *data;
     uint64_t count = 0;
     if (!taken(env, info, 2, &given)) return NULL;
-    TRY(napi_get_value_external(env, given.at[1], &other));
-    uint32_t number = other == (void *)given.text ? 0 : vialshoal_merge(given.text, other, &count);
+    TRY(napi_get_value_external(env, given.at[1], &data));
+    shown *other = data;
+    TRY(other->is_past ? napi_invalid_arg : napi_ok);
+    uint32_t number = other == given.shown ? 0 : vialshoal_merge(given.text, &other->text, &count);
     return ANSWER(number, (double)count);
 }
 
@@ -315,11 +365,84 @@ static napi_value sites(napi_env env, napi_callback_info info) {
     return list == NULL ? ANSWER(7) : list;
 }
 
+/* Fronts, which are given as a site and a number each; they are to be freed. */
+static bool fronts_of(napi_env env, napi_value value, vialshoal_site_front **fronts, size_t *count) {
+    const uint32_t *numbers;
+    size_t length;
+    if (!numbers_of(env, value, &numbers, &length)) return false;
+    *count = length / 2;
+    *fronts = malloc((*count + 1) * sizeof **fronts);
+    for (size_t i = 0; *fronts != NULL && i < *count; i++) {
+        (*fronts)[i] = (vialshoal_site_front){(uint16_t)numbers[2 * i], numbers[2 * i + 1]};
+    }
+    return true;
+}
+
+/* Where the next message past fronts is looked for, from where the last one was found, and this message. */
+static napi_value since(napi_env env, napi_callback_info info) {
+    arguments given;
+    vialshoal_site_front *fronts;
+    size_t count;
+    uint64_t index, need;
+    uint8_t room[MESSAGE];
+    napi_value list, message;
+    if (!taken(env, info, 3, &given)) return NULL;
+    TRY(number_of(env, given.at[2], &index) ? napi_ok : napi_invalid_arg);
+    TRY(fronts_of(env, given.at[1], &fronts, &count) ? napi_ok : napi_invalid_arg);
+    uint32_t number = 7;
+    if (fronts != NULL) number = vialshoal_since(given.text, fronts, count, &index, room, sizeof room, &need);
+    free(fronts);
+    list = ANSWER(number, (double)index);
+    if (number != 0 || list == NULL) return list;
+    TRY(napi_create_buffer_copy(env, need, room, NULL, &message));
+    TRY(napi_set_element(env, list, 2, message));
+    return list;
+}
+
+static napi_value past(napi_env env, napi_callback_info info) {
+    arguments given;
+    vialshoal_site_front *fronts;
+    size_t count;
+    if (!taken(env, info, 2, &given)) return NULL;
+    TRY(fronts_of(env, given.at[1], &fronts, &count) ? napi_ok : napi_invalid_arg);
+    shown *it = calloc(1, sizeof *it);
+    uint32_t number = 7;
+    if (fronts != NULL && it != NULL) {
+        it->is_past = true;
+        number = vialshoal_past(given.text, fronts, count, &it->past);
+    }
+    free(fronts);
+    return opened(env, it, number);
+}
+
+/* -- What is asked of a text, and of one as it was */
+
+static uint32_t asked_bytes(shown *it, uint64_t beg, uint64_t end, uint8_t *room, size_t length, uint64_t *need) {
+    return it->is_past ? vialshoal_past_bytes(&it->past, beg, end, room, length, need)
+                       : vialshoal_bytes(&it->text, beg, end, room, length, need);
+}
+
+static uint32_t asked_looks(shown *it, uint64_t pos, vialshoal_looks_run *run, uint8_t *font, size_t length, uint64_t *need) {
+    return it->is_past ? vialshoal_past_looks(&it->past, pos, run, font, length, need)
+                       : vialshoal_looks(&it->text, pos, run, font, length, need);
+}
+
+static uint32_t asked_names(shown *it, uint64_t beg, uint64_t end, vialshoal_name *room, size_t length, uint64_t *need) {
+    return it->is_past ? vialshoal_past_names(&it->past, beg, end, room, length, need)
+                       : vialshoal_names(&it->text, beg, end, room, length, need);
+}
+
+static uint32_t asked_find(shown *it, uint16_t site, uint32_t offset, vialshoal_place *place) {
+    return it->is_past ? vialshoal_past_find(&it->past, site, offset, place)
+                       : vialshoal_find(&it->text, site, offset, place);
+}
+
 static napi_value length_of(napi_env env, napi_callback_info info) {
     arguments given;
     uint64_t length = 0;
-    if (!taken(env, info, 1, &given)) return NULL;
-    uint32_t number = vialshoal_length(given.text, &length);
+    if (!taken_shown(env, info, 1, &given)) return NULL;
+    shown *it = given.shown;
+    uint32_t number = it->is_past ? vialshoal_past_length(&it->past, &length) : vialshoal_length(&it->text, &length);
     return ANSWER(number, (double)length);
 }
 
@@ -330,13 +453,13 @@ static napi_value bytes(napi_env env, napi_callback_info info) {
     uint8_t none[1];
     napi_value buffer;
     void *room;
-    if (!taken(env, info, 3, &given)) return NULL;
+    if (!taken_shown(env, info, 3, &given)) return NULL;
     TRY(number_of(env, given.at[1], &beg) ? napi_ok : napi_invalid_arg);
     TRY(number_of(env, given.at[2], &end) ? napi_ok : napi_invalid_arg);
-    uint32_t number = vialshoal_bytes(given.text, beg, end, none, 0, &need);
+    uint32_t number = asked_bytes(given.shown, beg, end, none, 0, &need);
     if (number != 0 && number != VIALSHOAL_TOO_SHORT) return ANSWER(number);
     TRY(napi_create_buffer(env, need, &room, &buffer));
-    if (need > 0) vialshoal_bytes(given.text, beg, end, room, need, &need);
+    if (need > 0) asked_bytes(given.shown, beg, end, room, need, &need);
     return buffer;
 }
 
@@ -347,9 +470,9 @@ static napi_value look(napi_env env, napi_callback_info info) {
     uint8_t font[31];
     vialshoal_looks_run run = {0};
     double numbers[4 + sizeof font];
-    if (!taken(env, info, 2, &given)) return NULL;
+    if (!taken_shown(env, info, 2, &given)) return NULL;
     TRY(number_of(env, given.at[1], &pos) ? napi_ok : napi_invalid_arg);
-    uint32_t number = vialshoal_looks(given.text, pos, &run, font, sizeof font, &need);
+    uint32_t number = asked_looks(given.shown, pos, &run, font, sizeof font, &need);
     if (number != 0) return ANSWER(number);
     numbers[0] = 0;
     numbers[1] = (double)run.end;
@@ -364,15 +487,15 @@ static napi_value names(napi_env env, napi_callback_info info) {
     arguments given;
     uint64_t beg, end, need;
     vialshoal_name none;
-    if (!taken(env, info, 3, &given)) return NULL;
+    if (!taken_shown(env, info, 3, &given)) return NULL;
     TRY(number_of(env, given.at[1], &beg) ? napi_ok : napi_invalid_arg);
     TRY(number_of(env, given.at[2], &end) ? napi_ok : napi_invalid_arg);
-    uint32_t number = vialshoal_names(given.text, beg, end, &none, 0, &need);
+    uint32_t number = asked_names(given.shown, beg, end, &none, 0, &need);
     if (number != 0 && number != VIALSHOAL_TOO_SHORT) return ANSWER(number);
     vialshoal_name *room = malloc((need + 1) * sizeof *room);
     double *numbers = malloc((2 * need + 1) * sizeof *numbers);
     napi_value list = NULL;
-    if (room != NULL && numbers != NULL && vialshoal_names(given.text, beg, end, room, need, &need) == 0) {
+    if (room != NULL && numbers != NULL && asked_names(given.shown, beg, end, room, need, &need) == 0) {
         numbers[0] = 0;
         for (uint64_t i = 0; i < need; i++) {
             numbers[2 * i + 1] = room[i].site;
@@ -389,10 +512,10 @@ static napi_value find(napi_env env, napi_callback_info info) {
     arguments given;
     uint64_t site, offset;
     vialshoal_place place = {0};
-    if (!taken(env, info, 3, &given)) return NULL;
+    if (!taken_shown(env, info, 3, &given)) return NULL;
     TRY(number_of(env, given.at[1], &site) ? napi_ok : napi_invalid_arg);
     TRY(number_of(env, given.at[2], &offset) ? napi_ok : napi_invalid_arg);
-    uint32_t number = vialshoal_find(given.text, (uint16_t)site, (uint32_t)offset, &place);
+    uint32_t number = asked_find(given.shown, (uint16_t)site, (uint32_t)offset, &place);
     return ANSWER(number, (double)place.pos, place.is_shown);
 }
 
@@ -426,14 +549,35 @@ NAPI_MODULE_INIT() {
         const char *name;
         napi_callback call;
     } calls[] = {
-        {"open", open_text},  {"load", load},        {"store", store},
-        {"close", close_text}, {"insert", insert},       {"delete", delete_range},
-        {"looks", change_looks}, {"restore", restore}, {"recall", recall},     {"messages", messages},
-        {"deleteNames", delete_names}, {"restoreNames", restore_names},
-        {"take", take},       {"settle", settle},    {"forget", forget},       {"merge", merge},
-        {"waiting", waiting}, {"front", front},      {"sites", sites},
-             {"length", length_of},    {"bytes", bytes},
-        {"look", look},       {"names", names},     {"find", find},        {"changes", changes},
+        {"open", open_text},
+        {"load", load},
+        {"store", store},
+        {"save", save},
+        {"close", close_shown},
+        {"insert", insert},
+        {"insertInLooks", insert_in_looks},
+        {"delete", delete_range},
+        {"looks", change_looks},
+        {"restore", restore},
+        {"recall", recall},
+        {"deleteNames", delete_names},
+        {"restoreNames", restore_names},
+        {"messages", messages},
+        {"take", take},
+        {"settle", settle},
+        {"forget", forget},
+        {"merge", merge},
+        {"waiting", waiting},
+        {"front", front},
+        {"sites", sites},
+        {"since", since},
+        {"past", past},
+        {"length", length_of},
+        {"bytes", bytes},
+        {"look", look},
+        {"names", names},
+        {"find", find},
+        {"changes", changes},
     };
     for (size_t i = 0; i < sizeof calls / sizeof calls[0]; i++) {
         napi_value made;

@@ -58,6 +58,8 @@ export interface Run {
     offset: number;
 }
 
+/** What characters look like. What isn't given stays, or of an insertion is the default: Oberon10.Scn.Fnt, 1, 0. A run is such
+ * looks as well. */
 export interface Looks {
     font?: string;
     colour?: number;
@@ -69,18 +71,41 @@ export interface Options {
     units?: 'bytes' | 'utf-16';
 }
 
+/** How far the operations of sites go, each a site and the number of the last that is meant; a site that isn't named has the
+ * front 0. What `fronts` answers is such. */
+export type Fronts = Iterable<readonly [site: number, seq: number]>;
+
+/** What a text shows, now (a `Text`) or as it was (a `Past`), to be read. */
+export abstract class Shown {
+    protected constructor();
+    /** Frees it; all other calls are refused after this. */
+    close(): void;
+    readonly length: number;
+    /** The bytes of a range. */
+    bytes(beg?: number, end?: number): Buffer;
+    /** The range as a string. */
+    slice(beg?: number, end?: number): string;
+    toString(): string;
+    /** What the characters look like; one of more bytes as its first one does. */
+    runs(): Run[];
+    /** The names of the bytes of a range; with `units: 'utf-16'` of each character that of its first byte. */
+    names(beg: number, end: number): Name[];
+    find(name: Name): Place;
+}
+
 /** A site's replica of a text. Edits answer the messages that they made, which other sites' texts take. */
-export class Text {
+export class Text extends Shown {
     constructor(text: number, site: number, options?: Options);
     /** The text of a file that `store` answered, at its site. No edit may have been made since it was stored. */
     static load(file: Uint8Array, options?: Options): Text;
     /** The text as a file, with all that was taken in, from which its site goes on. */
     store(): Buffer;
-    /** Frees the text; all other calls are refused after it. */
-    close(): void;
-    /** Puts bytes, or a string as UTF-8, after a position. One within a pair of surrogates is refused as one outside the
-     * text is, here and elsewhere. */
-    insert(pos: number, data: Uint8Array | string): Buffer[];
+    /** The text as an Oberon text file: its characters and their looks, and nothing of who wrote them (docs/FORMATS.md, "Text
+     * files"). A text of more than 1,048,576 bytes is refused (13). */
+    save(): Buffer;
+    /** Puts bytes, or a string as UTF-8, after a position, in these looks or the default ones. A position within a pair of
+     * surrogates is refused as one outside the text is, here and elsewhere. */
+    insert(pos: number, data: Uint8Array | string, looks?: Looks): Buffer[];
     delete(beg: number, end: number): Buffer[];
     changeLooks(beg: number, end: number, looks: Looks): Buffer[];
     /** Shows again what `delete` took out last. */
@@ -98,21 +123,24 @@ export class Text {
     /** Takes in all that another text holds, and answers how many of its operations were new. */
     merge(other: Text): number;
     readonly waiting: number;
-    readonly length: number;
     /** How many of a site's operations were taken in. */
     front(site: number): number;
     /** How many operations of each site were taken in, by the sites that have some. */
     fronts(): Map<number, number>;
-    /** The bytes of a range. */
-    bytes(beg?: number, end?: number): Buffer;
-    /** The range as a string. */
-    slice(beg?: number, end?: number): string;
-    toString(): string;
-    /** What the characters look like; one of more bytes as its first one does. */
-    runs(): Run[];
-    /** The names of the bytes of a range; with `units: 'utf-16'` of each character that of its first byte. */
-    names(beg: number, end: number): Name[];
-    find(name: Name): Place;
+    /** The messages of what was taken in past these fronts, in the order of taking: they bring a text that has the operations
+     * up to the fronts to what this one has. The fronts are read at once, and the messages one by one: what is taken in
+     * between two steps comes as well, last. So when the iterator ends, it gave all that this text has by then. */
+    since(fronts: Fronts): IterableIterator<Buffer>;
+    /** The text as it was, up to these fronts. */
+    past(fronts: Fronts): Past;
     /** What changed of what is shown since this was called last, one after the other. */
     changes(): Change[];
+}
+
+/** A text as it was, up to fronts: what of the operations within them can be taken in, which leaves out one that builds on an
+ * operation past them. It takes as long as taking these operations in, and is a copy that stays as it is, also when the text
+ * is closed; close it when it is done with, since the collector doesn't see how much memory it holds. It counts what its text
+ * counts. */
+export class Past extends Shown {
+    constructor(text: Text, fronts: Fronts);
 }

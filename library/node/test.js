@@ -2,7 +2,7 @@
 
 // What the addon adds to the library: numbers in and out, buffers, errors. `node library/node/test.js`
 const assert = require('assert');
-const { Refused, Text } = require('../out/node');
+const { Past, Refused, Shown, Text } = require('../out/node');
 
 function refuses(number, call) {
     assert.throws(call, (error) => error instanceof Refused && error.number === number);
@@ -47,6 +47,51 @@ assert.strictEqual(c.restoreNames([{ site: 1, offset: 0, length: 6 }]).length, 1
 assert.strictEqual(`${c}`, 'Oberon');
 refuses(106, () => c.deleteNames([{ site: 1, offset: 6, length: 1 }]));
 refuses(105, () => c.restoreNames([{ site: 1, offset: 0, length: 0 }]));
+
+// What was taken in past fronts, and the text as it was up to them.
+const d = new Text(2, 2);
+assert.deepStrictEqual([...c.since(d.fronts())].map((message) => d.take(message).kind), ['taken', 'taken', 'taken']);
+assert.deepStrictEqual([...c.since(d.fronts())], []);
+const past = d.past(new Map([[1, 2]]));
+assert.ok(past instanceof Past && past instanceof Shown && d instanceof Shown && !(past instanceof Text));
+const messages = d.since([[1, 2]]);
+const [last] = c.insert(0, '!');
+d.take(last);
+assert.deepStrictEqual([...messages].length, 2);
+d.close();
+assert.deepStrictEqual([`${past}`, past.length, past.bytes(0, 2).toString(), past.slice(1)], ['ber', 3, 'be', 'er']);
+assert.deepStrictEqual(past.names(0, 1), [{ site: 1, offset: 1 }]);
+assert.deepStrictEqual(past.find({ site: 1, offset: 0 }), { pos: 0, isShown: false });
+assert.deepStrictEqual(past.runs(), [{ beg: 0, end: 3, font: 'Oberon10.Scn.Fnt', colour: 1, offset: 0 }]);
+refuses(106, () => past.find({ site: 1, offset: 6 }));
+refuses(103, () => past.bytes(0, 4));
+assert.throws(() => c.merge(past), TypeError);
+assert.throws(() => new Past(past, []), TypeError);
+assert.throws(() => new Shown(), TypeError);
+for (const wrong of [[[0, 1]], [[65536, 1]], [[1, -1]], [[1, 2 ** 32]]]) {
+    refuses(105, () => c.since(wrong));
+    refuses(105, () => c.past(wrong));
+}
+past.close();
+refuses(101, () => past.length);
+refuses(101, () => d.since([]));
+refuses(101, () => d.past([]));
+
+// Looks from the start, and a text file.
+const e = new Text(3, 1), f = new Text(3, 1);
+assert.deepStrictEqual(e.insert(0, 'Oberon', {}), f.insert(0, 'Oberon'));
+assert.strictEqual(e.insert(2, 'xy', { font: 'a', colour: 7, offset: -3 }).length, 1);
+for (const run of e.runs().slice(1, 2)) f.insert(run.beg, e.bytes(run.beg, run.end), run);
+assert.deepStrictEqual([`${f}`, f.runs()], ['Obxyeron', e.runs()]);
+assert.strictEqual(e.save().toString('latin1'), ['OTF1\0\0\0\x03', '\x10Oberon10.Scn.Fnt\x01\0\0\0\0\x02', '\x01a\x07\xfd\0\0\0\x02',
+    '\x10Oberon10.Scn.Fnt\x01\0\0\0\0\x04', '\0\0\0\x08Obxyeron'].join(''));
+refuses(105, () => e.insert(0, 'x', { font: '1' }));
+refuses(105, () => e.insert(0, 'x', { colour: 16 }));
+refuses(105, () => e.insert(0, 'x', { offset: -129 }));
+refuses(103, () => e.insert(9, 'x', {}));
+e.insert(0, Buffer.alloc(1 << 20));
+refuses(13, () => e.save());
+
 refuses(13, () => Text.load(Buffer.from('none')));
 refuses(103, () => a.insert(5, 'x'));
 refuses(103, () => a.insert(-1, 'x'));

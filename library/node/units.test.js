@@ -118,6 +118,26 @@ function runsInUnits(text, bytes) {
     return text.runs().map((run) => ({ ...run, beg: unit(run.beg), end: unit(run.end) })).filter(({ beg, end }) => beg < end);
 }
 
+function taken(messages, ...words) {
+    const text = new Text(...words);
+    for (const message of messages) text.take(message);
+    return text;
+}
+
+// A text as it was is a text that took the messages up to these fronts alone; what waits there builds on others.
+function hasAPast(draw, text) {
+    const log = [...text.since([])];
+    const fronts = new Map([[1, draw(14)], [2, draw(14)]]);
+    const past = text.past(fronts);
+    const fresh = taken(log.filter((one) => one.readUInt32BE(8) <= fronts.get(one.readUInt16BE(6))), 1, 9, UTF_16);
+    agrees(past);
+    assert.deepStrictEqual([past.bytes(), past.runs(), past.length], [fresh.bytes(), fresh.runs(), fresh.length]);
+    assert.deepStrictEqual(past.names(0, past.length), fresh.names(0, fresh.length));
+    const all = taken(log, 1, 9);
+    assert.deepStrictEqual([all.bytes(), [...all.since([])]], [text.bytes(), log]);
+    [past, fresh, all].forEach((one) => one.close());
+}
+
 function meet(draw) {
     const a = new Text(1, 1, UTF_16), b = new Text(1, 2), reader = new Reader();
     const events = [];
@@ -140,6 +160,7 @@ function meet(draw) {
     sent.forEach((message) => b.take(message));
     assert.deepStrictEqual(a.bytes(), b.bytes());
     assert.deepStrictEqual(a.runs(), runsInUnits(b, b.bytes()));
+    hasAPast(draw, a);
     const again = Text.load(a.store(), UTF_16);
     new Reader().follows(again);
     agrees(again);

@@ -52,7 +52,28 @@ static void shows(vialshoal_text *text, const char *bytes) {
     IS(memcmp(shown, bytes, length) == 0);
 }
 
-/* All calls over a handle that isn't open. */
+/* All calls over a past handle that isn't open, and those that open one of a text that isn't. */
+static void refuses_a_closed_past(void) {
+    vialshoal_text text = {0};
+    vialshoal_past_text none = {0};
+    vialshoal_site_front front = {1, 1};
+    uint64_t many = 7, index = 0;
+    vialshoal_name name;
+    vialshoal_place place;
+    vialshoal_looks_run run;
+    IS(vialshoal_past(&text, &front, 1, &none) == VIALSHOAL_NOT_OPEN && none.at == NULL);
+    IS(vialshoal_past_free(&none) == VIALSHOAL_NOT_OPEN);
+    IS(vialshoal_past_length(&none, &many) == VIALSHOAL_NOT_OPEN);
+    IS(vialshoal_past_bytes(&none, 0, 0, room, 1, &many) == VIALSHOAL_NOT_OPEN);
+    IS(vialshoal_past_looks(&none, 0, &run, room, 31, &many) == VIALSHOAL_NOT_OPEN);
+    IS(vialshoal_past_names(&none, 0, 0, &name, 1, &many) == VIALSHOAL_NOT_OPEN);
+    IS(vialshoal_past_find(&none, 1, 0, &place) == VIALSHOAL_NOT_OPEN);
+    IS(vialshoal_since(&text, &front, 1, &index, room, 1, &many) == VIALSHOAL_NOT_OPEN && index == 0);
+    IS(vialshoal_save(&text, room, 1, &many) == VIALSHOAL_NOT_OPEN);
+    IS(none.at == NULL && text.at == NULL);
+}
+
+/* All other calls over a handle that isn't open. */
 static void refuses_a_closed_one(void) {
     vialshoal_text none = {0}, other = {0};
     uint32_t few = 7;
@@ -67,6 +88,7 @@ static void refuses_a_closed_one(void) {
     uint16_t sites[2];
     IS(vialshoal_free(&none) == VIALSHOAL_NOT_OPEN);
     IS(vialshoal_insert(&none, 0, BYTES("a"), 1, &few) == VIALSHOAL_NOT_OPEN && few == 0);
+    IS(vialshoal_insert_in_looks(&none, 0, BYTES("a"), 1, BYTES("a"), 1, 3, 0, &few) == VIALSHOAL_NOT_OPEN && few == 0);
     IS(vialshoal_delete(&none, 0, 0, &few) == VIALSHOAL_NOT_OPEN);
     IS(vialshoal_change_looks(&none, 0, 0, 2, BYTES("a"), 1, 3, 0, &few) == VIALSHOAL_NOT_OPEN);
     IS(vialshoal_restore(&none, &few) == VIALSHOAL_NOT_OPEN);
@@ -112,6 +134,33 @@ static void refuses_names(vialshoal_text *a) {
     IS(vialshoal_delete_names(a, both, 3, &sent) == VIALSHOAL_NO_NUMBER && sent == 0);
 }
 
+/* Fonts and colours that are none, and fronts of no site, of a text that shows "abc". Nothing is done to it. */
+static void refuses_looks_and_fronts(vialshoal_text *a) {
+    static const vialshoal_site_front none[] = {{1, 1}, {0, 0}};
+    static const char *const fonts[] = {"", "1", "a b", "a234567890123456789012345678901b"};
+    vialshoal_past_text past = {0};
+    uint32_t sent;
+    uint64_t index = 0, need;
+    for (size_t i = 0; i < 4; i++) {
+        sent = 7;
+        IS(vialshoal_insert_in_looks(a, 0, BYTES("x"), 1, BYTES(fonts[i]), strlen(fonts[i]), 3, 0, &sent) ==
+           VIALSHOAL_NO_NUMBER && sent == 0);
+    }
+    IS(vialshoal_insert_in_looks(a, 0, BYTES("x"), 1, BYTES("a"), 1, 16, 0, &sent) == VIALSHOAL_NO_NUMBER);
+    IS(vialshoal_insert_in_looks(a, 4, BYTES("x"), 1, BYTES("1"), 1, 3, 0, &sent) == VIALSHOAL_NO_NUMBER);
+    IS(vialshoal_insert_in_looks(a, 4, BYTES("x"), 1, BYTES("a"), 1, 3, 0, &sent) == VIALSHOAL_OUT_OF_TEXT && sent == 0);
+    IS(vialshoal_insert_in_looks(a, UINT64_MAX, BYTES(""), 0, BYTES("a"), 1, 3, 0, &sent) == VIALSHOAL_OUT_OF_TEXT);
+    IS(vialshoal_insert_in_looks(a, 0, BYTES(""), 0, BYTES("a"), 1, 3, 0, &sent) == 0 && sent == 0);
+    IS(vialshoal_since(a, none, 2, &index, room, sizeof room, &need) == VIALSHOAL_NO_NUMBER && index == 0);
+    IS(vialshoal_since(a, none, 1, &index, room, sizeof room, &need) == VIALSHOAL_NO_MESSAGE && index == 0);
+    IS(vialshoal_past(a, none, 2, &past) == VIALSHOAL_NO_NUMBER && past.at == NULL);
+    IS(vialshoal_past(a, none, 1, &past) == 0 && past.at != NULL);
+    void *held = past.at;
+    IS(vialshoal_past(a, none, 1, &past) == VIALSHOAL_ALREADY_OPEN && past.at == held);
+    IS(vialshoal_past_free(&past) == 0 && past.at == NULL);
+    IS(vialshoal_past_free(&past) == VIALSHOAL_NOT_OPEN);
+}
+
 static void refuses_misuse(void) {
     vialshoal_text a = {0}, none = {0};
     uint32_t sent;
@@ -143,6 +192,7 @@ static void refuses_misuse(void) {
     IS(vialshoal_names(&a, 0, 3, names, 2, &need) == VIALSHOAL_TOO_SHORT && need == 3);
     IS(vialshoal_merge(&a, &none, &taken) == VIALSHOAL_NOT_OPEN && none.at == NULL);
     refuses_names(&a);
+    refuses_looks_and_fronts(&a);
     shows(&a, "abc");
     IS(vialshoal_free(&a) == 0 && a.at == NULL);
     IS(vialshoal_free(&a) == VIALSHOAL_NOT_OPEN);
@@ -151,12 +201,17 @@ static void refuses_misuse(void) {
 static void refuses_too_much(void) {
     vialshoal_text a = {0};
     uint32_t sent;
+    uint64_t need;
     size_t much = (1 << 24) + 1;
     uint8_t *bytes = calloc(1, much);
     IS(bytes != NULL && vialshoal_new(&a, 1, 1) == 0);
     IS(vialshoal_insert(&a, 0, bytes, much, &sent) == VIALSHOAL_TOO_LONG && sent == 0);
+    IS(vialshoal_insert_in_looks(&a, 0, bytes, much, BYTES("1"), 1, 3, 0, &sent) == VIALSHOAL_NO_NUMBER && sent == 0);
+    IS(vialshoal_insert_in_looks(&a, 0, bytes, much, BYTES("a"), 1, 3, 0, &sent) == VIALSHOAL_TOO_LONG && sent == 0);
     IS(vialshoal_insert(&a, 0, bytes, much - 1, &sent) == 0 && sent == 4096);
     IS(vialshoal_insert(&a, 0, bytes, 1, &sent) == 10 && sent == 0);
+    IS(vialshoal_insert_in_looks(&a, 0, bytes, 1, BYTES("a"), 1, 3, 0, &sent) == 10 && sent == 0);
+    IS(vialshoal_save(&a, room, sizeof room, &need) == 13);
     IS(vialshoal_free(&a) == 0);
     free(bytes);
 }
@@ -305,39 +360,327 @@ static void refuses_scattered_names(void) {
     IS(vialshoal_free(&a) == 0);
 }
 
+/* What both show, and what it looks like, is the same. */
+static void shows_as(vialshoal_text *one, vialshoal_text *other) {
+    uint8_t mine[31], its[31];
+    uint64_t length, count, need;
+    vialshoal_looks_run run, as;
+    IS(vialshoal_length(one, &length) == 0 && vialshoal_length(other, &count) == 0 && length == count);
+    uint8_t *bytes = malloc(length + 1), *others = malloc(length + 1);
+    IS(vialshoal_bytes(one, 0, length, bytes, length, &need) == 0);
+    IS(vialshoal_bytes(other, 0, length, others, length, &need) == 0 && memcmp(bytes, others, length) == 0);
+    free(bytes);
+    free(others);
+    for (uint64_t pos = 0; pos < length; pos = run.end) {
+        IS(vialshoal_looks(one, pos, &run, mine, sizeof mine, &count) == 0);
+        IS(vialshoal_looks(other, pos, &as, its, sizeof its, &need) == 0 && count == need);
+        IS(memcmp(mine, its, need) == 0 && run.end == as.end && run.colour == as.colour && run.offset == as.offset);
+    }
+}
+
+/* A font's name of 1 to 31 letters, by a number. */
+static size_t font_of(uint32_t number, uint8_t *font) {
+    size_t length = 1 + number % 31;
+    memset(font, 'a' + (int)(number % 26), length);
+    return length;
+}
+
+/* Bytes that are put in in looks are shown as if they had got them afterwards, and come by one operation where these take
+ * two; in the default looks they are what vialshoal_insert puts in. */
+static void inserts_in_looks(void) {
+    static const uint8_t bytes[5000] = "Oberon";
+    vialshoal_text a = {0}, b = {0};
+    uint8_t font[31], message[sizeof room];
+    uint32_t sent, also, random = 1;
+    uint64_t length, need, count;
+    IS(vialshoal_new(&a, 1, 1) == 0 && vialshoal_new(&b, 1, 1) == 0);
+    IS(vialshoal_insert_in_looks(&a, 0, bytes, 6, BYTES("Oberon10.Scn.Fnt"), 16, 1, 0, &sent) == 0 && sent == 1);
+    IS(vialshoal_insert(&b, 0, bytes, 6, &sent) == 0 && vialshoal_message(&a, 0, room, sizeof room, &need) == 0);
+    IS(vialshoal_message(&b, 0, message, need, &count) == 0 && count == need && memcmp(room, message, need) == 0);
+    for (uint32_t i = 0; i < 40; i++) {
+        random = random * 1103515245 + 12345;
+        IS(vialshoal_length(&a, &length) == 0);
+        uint64_t pos = (random >> 8) % (length + 1), many = i == 38 ? sizeof bytes : 1 + random % 6;
+        size_t letters = font_of(random >> 16, font);
+        IS(vialshoal_insert_in_looks(&a, pos, bytes, many, font, letters, i % 16, (int8_t)(random >> 9), &sent) == 0);
+        IS(vialshoal_insert(&b, pos, bytes, many, &also) == 0 && sent == also);
+        IS(vialshoal_change_looks(&b, pos, pos + many, 7, font, letters, i % 16, (int8_t)(random >> 9), &also) == 0);
+        shows_as(&a, &b);
+    }
+    IS(vialshoal_free(&a) == 0 && vialshoal_free(&b) == 0);
+}
+
+static void edits_at_random(vialshoal_text *text, uint32_t *random) {
+    uint32_t sent;
+    uint64_t length;
+    *random = *random * 1103515245 + 12345;
+    IS(vialshoal_length(text, &length) == 0);
+    uint64_t pos = (*random >> 8) % (length + 1);
+    if (*random % 7 == 0 && pos < length) {
+        IS(vialshoal_delete(text, pos, pos + 1, &sent) == 0);
+    } else {
+        IS(vialshoal_insert(text, pos, BYTES("x"), 1, &sent) == 0);
+    }
+}
+
+/* The fronts of a text of at most four sites. */
+static size_t fronts_of(vialshoal_text *text, vialshoal_site_front *fronts) {
+    uint16_t sites[4];
+    uint64_t count;
+    IS(vialshoal_sites(text, sites, 4, &count) == 0);
+    for (uint64_t i = 0; i < count; i++) {
+        fronts[i].site = sites[i];
+        IS(vialshoal_front(text, sites[i], &fronts[i].seq) == 0);
+    }
+    return count;
+}
+
+/* The next message past fronts, asked for with no room and one byte too few first; none where the length is 0. */
+static uint64_t next_since(vialshoal_text *from, const vialshoal_site_front *fronts, size_t count, uint64_t *index) {
+    uint64_t was = *index, long_one, need;
+    uint32_t number = vialshoal_since(from, fronts, count, index, room, 0, &long_one);
+    IS(*index == was);
+    if (number == VIALSHOAL_NO_MESSAGE) {
+        IS(vialshoal_since(from, fronts, count, index, room, sizeof room, &need) == VIALSHOAL_NO_MESSAGE && *index == was);
+        return 0;
+    }
+    IS(number == VIALSHOAL_TOO_SHORT && long_one > 0);
+    IS(vialshoal_since(from, fronts, count, index, room, long_one - 1, &need) == VIALSHOAL_TOO_SHORT && *index == was);
+    IS(need == long_one);
+    IS(vialshoal_since(from, fronts, count, index, room, long_one, &need) == 0 && *index > was && need == long_one);
+    return need;
+}
+
+/* Hands over what the other one lacks, by its fronts. */
+static void brings(vialshoal_text *from, vialshoal_text *to) {
+    vialshoal_site_front fronts[4], mine[4];
+    vialshoal_taking taking;
+    size_t count = fronts_of(to, fronts), sites = fronts_of(from, mine);
+    uint64_t index = 0, need, left = 0;
+    for (size_t i = 0; i < sites; i++) {
+        uint32_t front;
+        IS(vialshoal_front(to, mine[i].site, &front) == 0);
+        left += mine[i].seq > front ? mine[i].seq - front : 0;
+    }
+    for (; (need = next_since(from, fronts, count, &index)) > 0; left--) {
+        IS(vialshoal_take(to, room, need, &taking) == 0 && taking.kind == VIALSHOAL_TAKEN);
+    }
+    IS(left == 0);
+}
+
+/* Two that edit apart meet now and then by what they have past one another's fronts. */
+static void meets_by_since(uint32_t edits) {
+    vialshoal_text a = {0}, b = {0};
+    uint32_t random = 1;
+    IS(vialshoal_new(&a, 1, 1) == 0 && vialshoal_new(&b, 1, 2) == 0);
+    for (uint32_t i = 0; i < edits; i++) {
+        edits_at_random(i % 3 ? &a : &b, &random);
+        if (random % 100 == 0 || i + 1 == edits) {
+            brings(&a, &b);
+            brings(&b, &a);
+            shows_as(&a, &b);
+        }
+    }
+    IS(vialshoal_free(&a) == 0 && vialshoal_free(&b) == 0);
+}
+
+/* What is taken in between two calls comes after the rest; of two fronts of a site the first counts. */
+static void goes_on_since(void) {
+    static const vialshoal_site_front fronts[] = {{1, 1}, {2, 9}, {1, 2}};
+    vialshoal_text a = {0};
+    uint32_t sent;
+    uint64_t index = 0, need;
+    IS(vialshoal_new(&a, 1, 1) == 0);
+    IS(vialshoal_insert(&a, 0, BYTES("a"), 1, &sent) == 0 && vialshoal_insert(&a, 1, BYTES("b"), 1, &sent) == 0);
+    need = next_since(&a, fronts, 3, &index);
+    IS(need > 0 && room[need - 1] == 'b' && next_since(&a, fronts, 3, &index) == 0);
+    IS(vialshoal_insert(&a, 0, BYTES("c"), 1, &sent) == 0);
+    need = next_since(&a, fronts, 3, &index);
+    IS(need > 0 && room[need - 1] == 'c' && next_since(&a, fronts, 3, &index) == 0);
+    IS(vialshoal_free(&a) == 0);
+}
+
+/* A text as it was answers what a text does that took those operations alone. */
+static void was(vialshoal_past_text *past, vialshoal_text *text) {
+    uint8_t bytes[64], others[64];
+    vialshoal_name names[64], its[64];
+    vialshoal_looks_run run, as;
+    vialshoal_place place, there;
+    uint64_t length, count, need;
+    IS(vialshoal_past_length(past, &length) == 0 && vialshoal_length(text, &count) == 0 && length == count && length < 64);
+    IS(vialshoal_past_bytes(past, 0, length, bytes, 64, &need) == 0 && need == length);
+    IS(vialshoal_bytes(text, 0, length, others, 64, &need) == 0 && memcmp(bytes, others, length) == 0);
+    IS(vialshoal_past_names(past, 0, length, names, 64, &need) == 0 && need == length);
+    IS(vialshoal_names(text, 0, length, its, 64, &need) == 0);
+    for (uint64_t pos = 0; pos < length; pos++) {
+        IS(names[pos].site == its[pos].site && names[pos].offset == its[pos].offset);
+        IS(vialshoal_past_looks(past, pos, &run, bytes, 31, &count) == 0);
+        IS(vialshoal_looks(text, pos, &as, others, 31, &need) == 0 && count == need && memcmp(bytes, others, need) == 0);
+        IS(run.end == as.end && run.colour == as.colour && run.offset == as.offset);
+    }
+    for (uint16_t site = 1; site <= 2; site++) {
+        for (uint32_t offset = 0; offset < 64; offset++) {
+            uint32_t number = vialshoal_past_find(past, site, offset, &place);
+            IS(vialshoal_find(text, site, offset, &there) == number);
+            IS(number != 0 || (place.pos == there.pos && place.is_shown == there.is_shown));
+        }
+    }
+}
+
+/* A text of the messages that another one has up to fronts. What builds on later ones waits in it. */
+static void take_up_to(vialshoal_text *from, const vialshoal_site_front *fronts, vialshoal_text *made) {
+    static const vialshoal_site_front nothing = {1, 0};
+    uint64_t index = 0, need;
+    vialshoal_taking taking;
+    IS(vialshoal_new(made, 1, 9) == 0);
+    while ((need = next_since(from, &nothing, 0, &index)) > 0) {
+        uint16_t site = (uint16_t)(room[6] << 8 | room[7]);
+        uint32_t seq = (uint32_t)room[8] << 24 | room[9] << 16 | room[10] << 8 | room[11];
+        if ((site == 1 || site == 2) && seq <= fronts[site - 1].seq) {
+            IS(vialshoal_take(made, room, need, &taking) == 0);
+        }
+    }
+}
+
+/* Each text of two sites as it was, twice at once; and one that outlives its text. */
+static void has_a_past(void) {
+    vialshoal_text a = {0}, b = {0}, then = {0};
+    vialshoal_past_text past = {0}, other = {0};
+    uint32_t sent, random = 1;
+    IS(vialshoal_new(&a, 1, 1) == 0 && vialshoal_new(&b, 1, 2) == 0);
+    for (uint32_t i = 0; i < 24; i++) {
+        edits_at_random(i % 2 ? &a : &b, &random);
+        if (i % 5 == 0) {
+            brings(&a, &b);
+            brings(&b, &a);
+        }
+    }
+    brings(&b, &a);
+    for (vialshoal_site_front fronts[2] = {{1, 0}, {2, 0}}; fronts[0].seq <= 13; fronts[0].seq++) {
+        for (fronts[1].seq = fronts[0].seq % 3; fronts[1].seq <= 13; fronts[1].seq += 3) {
+            take_up_to(&a, fronts, &then);
+            IS(vialshoal_past(&a, fronts, 2, &past) == 0 && vialshoal_past(&a, fronts, 2, &other) == 0);
+            was(&past, &then);
+            IS(vialshoal_past_free(&past) == 0);
+            was(&other, &then);
+            IS(vialshoal_past_free(&other) == 0 && vialshoal_free(&then) == 0);
+        }
+    }
+    vialshoal_site_front fronts[4];
+    size_t count = fronts_of(&a, fronts);
+    IS(vialshoal_past(&a, fronts, count, &past) == 0 && vialshoal_past(&a, fronts, 0, &other) == 0);
+    take_up_to(&a, fronts, &then);
+    IS(vialshoal_insert(&a, 0, BYTES("later"), 5, &sent) == 0);
+    was(&past, &then);
+    IS(vialshoal_free(&a) == 0 && vialshoal_free(&b) == 0);
+    was(&past, &then);
+    IS(vialshoal_past_free(&past) == 0 && vialshoal_past_free(&other) == 0 && vialshoal_free(&then) == 0);
+}
+
+/* What a text as it was refuses, which shows "abc" then. */
+static void past_refuses(void) {
+    vialshoal_text a = {0};
+    vialshoal_past_text past = {0};
+    static const vialshoal_site_front front = {1, 1};
+    vialshoal_name names[3];
+    vialshoal_place place;
+    vialshoal_looks_run run;
+    uint32_t sent;
+    uint64_t need;
+    IS(vialshoal_new(&a, 1, 1) == 0 && vialshoal_insert(&a, 0, BYTES("abc"), 3, &sent) == 0);
+    IS(vialshoal_insert(&a, 3, BYTES("d"), 1, &sent) == 0 && vialshoal_past(&a, &front, 1, &past) == 0);
+    IS(vialshoal_past_length(&past, &need) == 0 && need == 3);
+    IS(vialshoal_past_bytes(&past, 0, 4, room, sizeof room, &need) == VIALSHOAL_OUT_OF_TEXT);
+    IS(vialshoal_past_bytes(&past, 2, 1, room, sizeof room, &need) == VIALSHOAL_OUT_OF_TEXT);
+    IS(vialshoal_past_bytes(&past, 0, 3, room, 2, &need) == VIALSHOAL_TOO_SHORT && need == 3);
+    IS(vialshoal_past_names(&past, 0, 4, names, 3, &need) == VIALSHOAL_OUT_OF_TEXT);
+    IS(vialshoal_past_names(&past, 0, 3, names, 2, &need) == VIALSHOAL_TOO_SHORT && need == 3);
+    IS(vialshoal_past_looks(&past, 3, &run, room, 31, &need) == VIALSHOAL_OUT_OF_TEXT);
+    IS(vialshoal_past_looks(&past, 1, &run, room, 15, &need) == VIALSHOAL_TOO_SHORT && need == 16 && run.end == 3);
+    IS(vialshoal_past_find(&past, 1, 3, &place) == VIALSHOAL_NO_NAME);
+    IS(vialshoal_past_find(&past, 0, 0, &place) == VIALSHOAL_NO_NUMBER);
+    IS(vialshoal_past_find(&past, 1, 1 << 24, &place) == VIALSHOAL_NO_NUMBER);
+    IS(vialshoal_past_free(&past) == 0 && vialshoal_free(&a) == 0);
+}
+
+/* A text is saved as a text file, byte for byte. */
+static void saves(void) {
+    static const uint8_t wanted[] = "OTF1\0\0\0\2\x10Oberon10.Scn.Fnt\1\0\0\0\0\2\1a\7\xfd\0\0\0\1\0\0\0\3Oxb";
+    vialshoal_text a = {0};
+    uint32_t sent;
+    uint64_t need;
+    IS(vialshoal_new(&a, 1, 1) == 0);
+    IS(vialshoal_save(&a, room, sizeof room, &need) == 0 && need == 12 && memcmp(room, "OTF1\0\0\0\0\0\0\0\0", 12) == 0);
+    IS(vialshoal_insert(&a, 0, BYTES("Ob"), 2, &sent) == 0);
+    IS(vialshoal_insert_in_looks(&a, 2, BYTES("b"), 1, BYTES("a"), 1, 7, -3, &sent) == 0);
+    IS(vialshoal_insert(&a, 1, BYTES("x"), 1, &sent) == 0 && vialshoal_delete(&a, 2, 3, &sent) == 0);
+    IS(vialshoal_save(&a, room, 0, &need) == VIALSHOAL_TOO_SHORT && need == sizeof wanted - 1);
+    IS(vialshoal_save(&a, room, need - 1, &need) == VIALSHOAL_TOO_SHORT && need == sizeof wanted - 1);
+    IS(vialshoal_save(&a, room, need, &need) == 0 && memcmp(room, wanted, sizeof wanted - 1) == 0);
+    IS(vialshoal_free(&a) == 0);
+}
+
+/* A short run of two texts, in which an allocation may be refused: 0 where none was. */
+static uint32_t short_run(vialshoal_text *a, vialshoal_text *b) {
+    static const vialshoal_name_range some[] = {{1, 2, 1}, {1, 4, 1}}, all[] = {{1, 0, 6}};
+    uint32_t sent;
+    uint64_t taken, need;
+    vialshoal_taking taking;
+    uint32_t worst = vialshoal_new(a, 1, 1);
+    worst += vialshoal_new(b, 1, 2);
+    worst += vialshoal_insert(a, 0, BYTES("Oberon"), 6, &sent) % 101;
+    worst += vialshoal_insert_in_looks(a, 0, BYTES("ab"), 2, BYTES("a"), 1, 3, 0, &sent) % 101;
+    worst += vialshoal_delete(a, 0, 2, &sent) % 101;
+    worst += vialshoal_recall(a, 0, &sent) % 101;
+    worst += vialshoal_delete_names(a, some, 2, &sent) % 101;
+    worst += vialshoal_restore_names(a, all, 1, &sent) % 101;
+    if (vialshoal_message(a, 0, room, sizeof room, &need) == 0) {
+        worst += vialshoal_take(b, room, need, &taking) % 101;
+    }
+    return worst + vialshoal_merge(b, a, &taken) % 101;
+}
+
+/* What is read of a text, likewise. Nothing of it changes the text, and a past that isn't opened is none. */
+static uint32_t short_look(vialshoal_text *a) {
+    static const vialshoal_site_front front = {1, 3};
+    vialshoal_past_text past = {0};
+    uint64_t index = 0, need;
+    uint32_t worst = vialshoal_since(a, &front, 1, &index, room, sizeof room, &need) % 101;
+    IS((index > 0) == (worst == 0 && a->at != NULL));
+    worst += vialshoal_save(a, room, sizeof room, &need) % 101;
+    uint32_t number = vialshoal_past(a, &front, 1, &past);
+    IS((number == 0) == (past.at != NULL));
+    worst += number % 101;
+    if (number == 0) {
+        IS(vialshoal_past_length(&past, &need) == 0 && vialshoal_past_bytes(&past, 0, need, room, need, &need) == 0);
+        IS(vialshoal_past_free(&past) == 0);
+    }
+    return worst;
+}
+
 /* Each allocation of a short run is refused in turn. What stands afterwards can be edited, and met. */
 static void each_allocation_is_refused(void) {
-    static const vialshoal_name_range some[] = {{1, 2, 1}, {1, 4, 1}}, all[] = {{1, 0, 6}};
     for (long at = 1;; at++) {
         vialshoal_text a = {0}, b = {0};
         uint32_t sent;
-        uint64_t taken, need, length = 0;
-        vialshoal_taking taking;
+        uint64_t taken, length = 0;
         asked = 0;
         refused_at = at;
-        uint32_t worst = vialshoal_new(&a, 1, 1);
-        worst += vialshoal_new(&b, 1, 2);
-        worst += vialshoal_insert(&a, 0, BYTES("Oberon"), 6, &sent) % 101;
-        worst += vialshoal_delete(&a, 0, 2, &sent) % 101;
-        worst += vialshoal_recall(&a, 0, &sent) % 101;
-        worst += vialshoal_delete_names(&a, some, 2, &sent) % 101;
-        worst += vialshoal_restore_names(&a, all, 1, &sent) % 101;
-        if (vialshoal_message(&a, 0, room, sizeof room, &need) == 0) {
-            worst += vialshoal_take(&b, room, need, &taking) % 101;
-        }
-        worst += vialshoal_merge(&b, &a, &taken) % 101;
-        bool was = asked >= refused_at;
+        uint32_t worst = short_run(&a, &b);
+        worst += short_look(&a);
+        bool was_refused = asked >= refused_at;
         refused_at = 0;
         if (a.at != NULL && b.at != NULL) {
             IS(vialshoal_insert(&a, 0, BYTES("x"), 1, &sent) == 0 && sent == 1);
             IS(vialshoal_merge(&b, &a, &taken) == 0);
             IS(vialshoal_length(&a, &length) == 0);
             IS(vialshoal_length(&b, &taken) == 0 && length == taken);
+            IS(short_look(&a) == 0);
         }
         vialshoal_free(&a);
         vialshoal_free(&b);
-        IS(was ? worst > 0 : worst == 0);
-        if (!was) {
+        IS(was_refused ? worst > 0 : worst == 0);
+        if (!was_refused) {
             printf("allocations refused in turn: %ld\n", at - 1);
             return;
         }
@@ -346,32 +689,22 @@ static void each_allocation_is_refused(void) {
 
 static void many_edits(uint32_t edits) {
     vialshoal_text a = {0}, b = {0};
-    uint32_t sent, random = 1;
-    uint64_t length, other;
+    uint32_t random = 1;
+    uint64_t length;
     IS(vialshoal_new(&a, 1, 1) == 0 && vialshoal_new(&b, 1, 2) == 0);
     for (uint32_t i = 0; i < edits; i++) {
-        vialshoal_text *one = i % 2 ? &b : &a;
-        random = random * 1103515245 + 12345;
-        IS(vialshoal_length(one, &length) == 0);
-        uint64_t pos = (random >> 8) % (length + 1);
-        if (random % 7 == 0 && pos < length) {
-            IS(vialshoal_delete(one, pos, pos + 1, &sent) == 0);
-        } else {
-            IS(vialshoal_insert(one, pos, BYTES("x"), 1, &sent) == 0);
-        }
-        hand_over(one, i % 2 ? &a : &b);
+        edits_at_random(i % 2 ? &b : &a, &random);
+        hand_over(i % 2 ? &b : &a, i % 2 ? &a : &b);
     }
-    IS(vialshoal_length(&a, &length) == 0 && vialshoal_length(&b, &other) == 0 && length == other);
-    uint8_t *one = malloc(length), *two = malloc(length);
-    IS(vialshoal_bytes(&a, 0, length, one, length, &other) == 0 && vialshoal_bytes(&b, 0, length, two, length, &other) == 0);
-    IS(memcmp(one, two, length) == 0);
-    free(one);
-    free(two);
+    shows_as(&a, &b);
+    IS(vialshoal_length(&a, &length) == 0);
     IS(vialshoal_free(&a) == 0 && vialshoal_free(&b) == 0);
     printf("edits: %u, length: %llu\n", edits, (unsigned long long)length);
 }
 
 int main(int count, char **words) {
+    uint32_t edits = count > 1 ? (uint32_t)atoi(words[1]) : 100000;
+    refuses_a_closed_past();
     refuses_a_closed_one();
     refuses_misuse();
     refuses_too_much();
@@ -379,8 +712,14 @@ int main(int count, char **words) {
     two_meet();
     edits_by_names();
     refuses_scattered_names();
+    inserts_in_looks();
+    goes_on_since();
+    meets_by_since(edits / 10);
+    has_a_past();
+    past_refuses();
+    saves();
     each_allocation_is_refused();
-    many_edits(count > 1 ? (uint32_t)atoi(words[1]) : 100000);
+    many_edits(edits);
     puts("border: all is so");
     return 0;
 }

@@ -10,7 +10,7 @@ import re
 import sys
 from collections import Counter
 from collections.abc import Callable, Iterator
-from dataclasses import dataclass
+from dataclasses import dataclass, field
 from pathlib import Path
 from typing import Optional
 
@@ -18,17 +18,14 @@ TOP = Path(__file__).resolve().parents[2]
 sys.path.insert(0, str(TOP))
 
 from tools import rows
-from tools.running import Stream
-from vialshoal import Misused, Name, NameRange, Refused, TakingKind, Text
+from tools.running import Files, Stream
+from vialshoal import Misused, Name, NameRange, Refused, Shown, TakingKind, Text
 
 SCRIPT_ROWS = TOP / "crates" / "script_rows"
 MAX_LINES, MAX_LINE = 1 << 20, 32_768
-SCREEN = "open close move scroll point select key views marks show click".split()
-NOT_PLAYED = {
-    **dict.fromkeys(SCREEN, "events of the screen"),
-    **dict.fromkeys(("keep", "reopen"), "events of files"),
-    **dict.fromkeys(("save", "since", "past"), "events that the library hasn't"),
-}
+# The library has texts alone.
+SCREEN = frozenset(b"open close move scroll point select key views marks show click".split())
+NO_FILE, NOT_WRITTEN = 21, 22
 
 # -- scripts
 
@@ -44,12 +41,15 @@ class Script:
     is_right: Callable[[bytes], bool]
     # Why it can't be played, if so.
     left_out: Optional[str]
+    # What lies in its folder before and after it.
+    files: Files = field(default_factory=dict)
+    files_after: Files = field(default_factory=dict)
 
 
 def reason(lines: bytes) -> Optional[str]:
     """Why the library can't play these lines, if it can't."""
-    verbs = {words[1].decode("latin-1") for words in (line.split(b" ") for line in lines.split(b"\n")) if len(words) > 1}
-    return next((why for verb, why in NOT_PLAYED.items() if verb in verbs), None)
+    verbs = {words[1] for words in (line.split(b" ") for line in lines.split(b"\n")) if len(words) > 1}
+    return "events of the screen" if verbs & SCREEN else None
 
 
 def of_the_program(row: rows.Row) -> bool:
@@ -68,7 +68,7 @@ def script_of(row: rows.Row) -> Script:
         return hashlib.sha256(answers).hexdigest() == row.digest if row.digest else answers == row.expected
 
     return Script(row.name, int(given.get("--first", 1)), int(given.get("--count", 2)), row.script, is_right,
-                  reason(row.script))
+                  reason(row.script), row.files, row.files_after)
 
 
 def repeated(lines: bytes) -> bytes:
@@ -138,6 +138,18 @@ def names(words: list[bytes]) -> list[NameRange]:
     return ranges
 
 
+def fronts(numbers: list[int]) -> dict[int, int]:
+    """Fronts: a site and a number each, and no site twice."""
+    found = dict(zip(numbers[::2], numbers[1::2]))
+    needs(len(numbers) == 2 * len(found) and all(1 <= site <= 65535 for site in found))
+    return found
+
+
+def file_named(word: bytes) -> str:
+    needs(re.fullmatch(rb"[!-.0-~]{1,31}", word) is not None and word not in (b".", b".."))
+    return word.decode()
+
+
 def looks(words: list[bytes]) -> Looks:
     found = re.fullmatch(rb"(?:font=([A-Za-z][A-Za-z0-9.]{0,30}))?(?: ?colour=(\d{1,10}))?(?: ?offset=(-?\d{1,10}))?",
                          b" ".join(words))
@@ -149,13 +161,29 @@ def looks(words: list[bytes]) -> Looks:
                  None if offset is None else int(offset))
 
 
+def copied(source: Text[bytes], beg: int, end: int, into: Text[bytes], pos: int) -> list[bytes]:
+    """Puts a copy of a range into a text, as the range looks."""
+    if not (beg <= end <= len(source) and pos <= len(into)):
+        raise Refused(11)
+    parts = [(source[max(run.beg, beg):min(run.end, end)], run.looks) for run in source.runs() if beg < run.end and run.beg < end]
+    sent: list[bytes] = []
+    for data, its_looks in parts:
+        try:
+            sent += into.insert(pos, data, its_looks)
+        except Refused as why:
+            raise Refused(why.number, sent + why.messages) from why
+        pos += len(data)
+    return sent
+
+
 class Run:
-    """A script's run: the texts of its sites, the messages that they sent, and the answers."""
+    """A script's run: the texts of its sites, the messages that they sent, the files that they kept, and the answers."""
 
     def __init__(self, script: Script) -> None:
         self.script = script
         self.texts: dict[tuple[int, int], Text[bytes]] = {}
         self.sent: list[bytes] = []
+        self.files = dict(script.files)
         self.answers: list[bytes] = []
 
     def text(self, site: int, text: int) -> Text[bytes]:
@@ -169,7 +197,7 @@ class Run:
         self.sent += messages
         return [b"send m%d %s" % (at, message.hex().encode()) for at, message in enumerate(messages, first)]
 
-    def edit(self, verb: bytes, text: Text[bytes], words: list[bytes]) -> list[bytes]:
+    def edit(self, site: int, verb: bytes, text: Text[bytes], words: list[bytes]) -> list[bytes]:
         if verb == b"type":
             needs(len(words) >= 2)
             pos, data = number(words[0]), bytes_spelled(b" ".join(words[1:]))
@@ -183,14 +211,18 @@ class Run:
         if verb == b"restore" and words:
             return text.restore_names(names(words))
         numbers = [number(word) for word in words]
-        needs(len(numbers) == {b"cut": 2, b"recall": 1, b"restore": 0}[verb])
+        needs(len(numbers) == {b"cut": 2, b"recall": 1, b"restore": 0, b"save": 4}[verb])
+        if verb == b"save":
+            beg, end, into, pos = numbers
+            needs(1 <= into <= 16)
+            return copied(text, beg, end, self.text(site, into), pos)
         if verb == b"cut":
             return text.delete(*numbers)
         return text.recall(*numbers) if verb == b"recall" else text.restore()
 
-    def edited(self, verb: bytes, text: Text[bytes], words: list[bytes]) -> list[bytes]:
+    def edited(self, site: int, verb: bytes, text: Text[bytes], words: list[bytes]) -> list[bytes]:
         try:
-            return [*self.send(self.edit(verb, text, words)), b"ok"]
+            return [*self.send(self.edit(site, verb, text, words)), b"ok"]
         except Refused as why:
             if not why.messages:
                 raise
@@ -210,17 +242,45 @@ class Run:
     def merge(self, text: Text[bytes], of: int, word: bytes) -> bytes:
         return b"merged %d" % text.merge(self.text(number(word), of))
 
+    def is_folder(self, file: str) -> bool:
+        return any(path.startswith(f"{file}/") for path in self.files)
+
+    def keep(self, text: Text[bytes], file: str) -> bytes:
+        data = text.store()
+        if self.is_folder(file):
+            raise Refused(NOT_WRITTEN)
+        self.files[file] = data
+        return b"ok"
+
+    def reopen(self, site: int, of: int, file: str) -> bytes:
+        text = self.text(site, of)
+        if text.fronts() or text.waiting:
+            raise Refused(3)
+        if file not in self.files:
+            raise Refused(NO_FILE)
+        data = self.files[file]
+        loaded = Text.load(data)
+        # (the library opens a file as whose text and site it is)
+        if data[4:8] != of.to_bytes(2, "big") + site.to_bytes(2, "big"):
+            raise Refused(2)
+        self.texts[site, of] = loaded
+        return b"ok"
+
     def answer(self, line: bytes) -> list[bytes]:
-        site, verb, of, *words = line.split(b" ") if line.count(b" ") >= 2 else [b"", b"", b""]
-        text = self.text(number(site), number(of, 1, 16))
-        if verb in (b"type", b"cut", b"looks", b"recall", b"restore", b"delete"):
-            return self.edited(verb, text, words)
+        words = line.split(b" ") if line.count(b" ") >= 2 else [b"", b"", b""]
+        site, verb, of, words = number(words[0]), words[1], number(words[2], 1, 16), words[3:]
+        text = self.text(site, of)
+        if verb in (b"type", b"cut", b"looks", b"recall", b"restore", b"delete", b"save"):
+            return self.edited(site, verb, text, words)
+        if verb in (b"keep", b"reopen") and len(words) == 1:
+            file = file_named(words[0])
+            return [self.keep(text, file) if verb == b"keep" else self.reopen(site, of, file)]
         if verb == b"take" and len(words) == 1:
             return [self.take(text, words[0])]
         if verb == b"merge" and len(words) == 1:
-            return [self.merge(text, number(of), words[0])]
+            return [self.merge(text, of, words[0])]
         numbers = [number(word) for word in words]
-        if verb in ASKED and len(numbers) == ASKED[verb][0]:
+        if verb in ASKED and ASKED[verb][0] in (None, len(numbers)):
             return [*ASKED[verb][1](text, numbers)]
         raise NoEvent
 
@@ -251,7 +311,7 @@ class Run:
 # -- what is asked
 
 
-def text_asked(text: Text[bytes], _: list[int]) -> Iterator[bytes]:
+def text_asked(text: Shown[bytes], _: list[int]) -> Iterator[bytes]:
     yield b"text %d%s%s" % (len(text), b" " * bool(text), printed(bytes(text)))
 
 
@@ -310,22 +370,40 @@ def names_asked(text: Text[bytes], words: list[int]) -> Iterator[bytes]:
     yield b"ok"
 
 
+def since_asked(text: Text[bytes], numbers: list[int]) -> Iterator[bytes]:
+    for message in text.since(fronts(numbers)):
+        yield b"message " + message.hex().encode()
+    yield b"ok"
+
+
+def past_asked(text: Text[bytes], numbers: list[int]) -> Iterator[bytes]:
+    with text.past(fronts(numbers)) as past:
+        yield from text_asked(past, [])
+
+
 Asked = Callable[[Text[bytes], list[int]], Iterator[bytes]]
-# How many numbers each is asked with.
-ASKED: dict[bytes, tuple[int, Asked]] = {
+# How many numbers each is asked with, if that is fixed.
+ASKED: dict[bytes, tuple[Optional[int], Asked]] = {
     b"text": (0, text_asked),
     b"runs": (0, runs_asked),
     b"front": (0, front_asked),
     b"settle": (0, settle_asked),
     b"where": (3, where_asked),
     b"names": (2, names_asked),
+    b"since": (None, since_asked),
+    b"past": (None, past_asked),
 }
+
+
+def is_right(script: Script) -> bool:
+    run = Run(script)
+    return script.is_right(run.play()) and run.files == script.files_after
 
 
 def main() -> int:
     scripts = [*map(script_of, map(rows.load, rows.names())), *scripts_of_script_rows()]
     played = [script for script in scripts if not script.left_out]
-    wrong = [script for script in played if not script.is_right(Run(script).play())]
+    wrong = [script for script in played if not is_right(script)]
     for script in wrong:
         print(f"{script.name}: the library answers otherwise")
     for why, many in Counter(script.left_out for script in scripts if script.left_out).items():

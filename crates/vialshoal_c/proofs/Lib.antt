@@ -1,4 +1,5 @@
 mod Filling
+mod Handing
 mod Names
 mod Places
 mod Runs

@@ -1,4 +1,4 @@
--- The machine values of a loose box and of a handle. Assumes `Logic`.
+-- The machine values of a loose box and of a handle of either kind. Assumes `Logic`.
 use Rattle.std.proofs.Common.{◌≡◌, ℕ, List, [], ◌∷◌, ◌++◌, refl, subst}
 use mathlib.Core.Bool.{Bool, true, false, ◌&&◌}
 use lib.Dec.{T}
@@ -34,6 +34,8 @@ use Rattle.vialshoal_c.specs.Owned.{owned}
 use Rattle.vialshoal_c.specs.contracts.loose.Loose as loose
 use Rattle.vialshoal_c.specs.contracts.handle.Handle as handle
 use Rattle.vialshoal_c.specs.contracts.session.Session as session
+use Rattle.vialshoal_c.specs.contracts.past_handle.PastHandle as past_handle
+use Rattle.texts.specs.contracts.past.Past as past
 
 abbrev pub both : Val → Val → Val
 both v w = vstruct (vcons v (vcons w vnil))
@@ -88,13 +90,27 @@ module _ {M : Type 1} {𝓤 : Ura M} {𝓛 : Logic 𝓤} {K : Type 0} {Γ : List
       nothing t $ feq_i t (List Val) (ptr_val d.at ∷ []) (ptr_val d.at ∷ []) refl $ fjoin t $ feq_i t (List Val) (v ∷ []) (v ∷ []) refl $ fjoin t $
       fpack t (Valss (RawPtr ∷ [])) (within (shape handle.the_type) (d.at, tt) (v ∷ [])) (ptr_val d.at ∷ [], tt) $ fjoin t $ s)
 
+  -- a past handle alike
+  pub past_out : K → (d : past_handle.the_row.Denot) (vs : List Val)
+      → (vs ≡ word (ptr_val d.at) ∷ [] → Seq K 𝓛 (‵ (owned past.the_row d.at d.value) ∷ Γ) G)
+      → Seq K 𝓛 (‵ (past_handle.the_row.own_val d vs) ∷ Γ) G
+  past_out t d vs k =
+      fsplit t $ fpick t (λ vss. fsplit t $ feq_l t (λ ev. fsplit t $ feq_l t (λ ep. drop t $ k
+      (subst (λ (ps : List Val). vs ≡ vstruct (of_list (ps ++ [])) ∷ []) ep ev))))
+
+  pub past_in : K → (d : past_handle.the_row.Denot)
+      → Step K 𝓛 (‵ (past_handle.the_row.own_val d (word (ptr_val d.at) ∷ [])) ∷ Γ) G (‵ (owned past.the_row d.at d.value) ∷ Γ) G
+  past_in t d = step (λ s. let v : Val = word (ptr_val d.at) in
+      nothing t $ feq_i t (List Val) (ptr_val d.at ∷ []) (ptr_val d.at ∷ []) refl $ fjoin t $ feq_i t (List Val) (v ∷ []) (v ∷ []) refl $ fjoin t $
+      fpack t (Valss (RawPtr ∷ [])) (within (shape past_handle.the_type) (d.at, tt) (v ∷ [])) (ptr_val d.at ∷ [], tt) $ fjoin t $ s)
+
   -- what a handle owns is nothing, at null, or a box, whose pointer may be tested
-  pub either : K → (p : Ptr) (v : Option session.the_row.Denot) → (v ≡ None → p ≡ null_ptr → Seq K 𝓛 Γ G)
-      → ((b o : ℕ) (a : Global) (x : session.the_row.Denot) → v ≡ Some x → p ≡ block_ptr b o → Testable (block_ptr b o)
-      → Seq K 𝓛 (‵ (box_owns (ghosts.dealloc_token a) session.the_row (block_ptr b o) x) ∷ Γ) G)
-      → Seq K 𝓛 (‵ (owned session.the_row p v) ∷ Γ) G
-  either t p None none one = fpick t (λ e. drop t $ none refl e)
-  either t p (Some x) none one = fpick t (λ a. let R = session.the_row in let B : Ptr → Fml = λ q. box_owns (ghosts.dealloc_token a) R q x in
+  pub either : K → (R : RattleType) (p : Ptr) (v : Option R.Denot) → (v ≡ None → p ≡ null_ptr → Seq K 𝓛 Γ G)
+      → ((b o : ℕ) (a : Global) (x : R.Denot) → v ≡ Some x → p ≡ block_ptr b o → Testable (block_ptr b o)
+      → Seq K 𝓛 (‵ (box_owns (ghosts.dealloc_token a) R (block_ptr b o) x) ∷ Γ) G)
+      → Seq K 𝓛 (‵ (owned R p v) ∷ Γ) G
+  either t R p None none one = fpick t (λ e. drop t $ none refl e)
+  either t R p (Some x) none one = fpick t (λ a. let B : Ptr → Fml = λ q. box_owns (ghosts.dealloc_token a) R q x in
       let token : Ptr → Fml = λ q. ghosts.dealloc_token a (bare (lone R.mir)) q in
       in_a_block t p B (fst∗ 𝓤 (never 𝓤) (sem 𝓛 (token null_ptr))) (λ b o e. let q : Ptr = block_ptr b o in
       use1 𝓛 (given (Testable q) (‵ (B q))) (fact_use 𝓤 (Testable q) (via 𝓤 _ (snd∗ 𝓤 (sem 𝓛 (lies_at R full_share q x)) (sem 𝓛 (token q)))

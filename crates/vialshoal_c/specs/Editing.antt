@@ -12,7 +12,7 @@ use Rattle.char_files.specs.declared.TheConstants.{MAX_FILE}
 use Rattle.texts.specs.Edit.{Edit, insertion, is_in_text, looks_change}
 use Rattle.texts.specs.Order.{with_selected}
 use Rattle.texts.specs.Outcome.{EditsSending}
-use Rattle.texts.specs.TextState.{empty_text}
+use Rattle.texts.specs.TextState.{TextState, empty_text, shown_of}
 use Rattle.texts.specs.declared.edit_refusal.EditRefusal.{EditRefusal}
 use Rattle.texts.specs.declared.edit_refusal.EditRefusal.TheVariants.{Whole, Partial}
 use Rattle.vialshoal_c.specs.Opened.{IsMisused}
@@ -53,12 +53,55 @@ abbrev pub Edits : SessionState → Edit → (number sent : ℕ) → SessionStat
 Edits s e number sent new =
     MatchBool (is_in_text s.text e) (Edited s e number sent new) (IsMisused OUT_OF_TEXT s number new × (sent ≡ 0))
 
--- these bytes are put in, in these looks, if they aren't too many for any text
+-- this, where these bytes aren't too many for any text, and the place is one in this text; elsewhere nothing is done
+abbrev pub IfTheyFit : SessionState → (pos : ℕ) → (bytes : List ℕ) → (number sent : ℕ) → SessionState → (does : Type 0) → Type 0
+IfTheyFit s pos bytes number sent new does =
+    MatchBool (nat_le (length bytes) MAX_FILE)
+    (MatchBool (nat_le pos (length (shown_of s.text))) does (IsMisused OUT_OF_TEXT s number new × (sent ≡ 0)))
+    (IsMisused TOO_LONG s number new × (sent ≡ 0))
+
+-- these bytes are put in so, in these looks
 abbrev pub Inserts : SessionState → (pos : ℕ) → (bytes : List ℕ) → Looks → (number sent : ℕ) → SessionState → Type 0
 Inserts s pos bytes looks number sent new =
-    MatchBool (nat_le (length bytes) MAX_FILE)
-    (Edits s (insertion pos (map (λ b. (b, looks)) bytes)) number sent new)
-    (IsMisused TOO_LONG s number new × (sent ≡ 0))
+    IfTheyFit s pos bytes number sent new (Edited s (insertion pos (map (λ b. (b, looks)) bytes)) number sent new)
+
+-- text and messages stay as they are, for want of memory
+abbrev pub IsCutShort : SessionState → Result ℕ EditRefusal → SessionState → Type 0
+IsCutShort s answer new = (answer ≡ Err (Whole OutOfMemory)) × (new.text ≡ s.text) × (new.sent ≡ s.sent)
+
+-- An edit is handed all of these, and answered so; or, where they are any at all, memory to hand them on was refused.
+abbrev pub AnswersHanded : {X : Type 0} → List X → SessionState
+    → (Result ℕ EditRefusal → TextState → (sent : List (List ℕ)) → Type 0) → Result ℕ EditRefusal → SessionState → Type 0
+AnswersHanded what s does answer new =
+    (does answer new.text new.sent ⊎ ((0 < length what) × IsCutShort s answer new)) × (new.told ≡ s.told)
+
+-- an edit's answer, as numbers
+abbrev pub Numbered : (Result ℕ EditRefusal → Type 0) → (number sent : ℕ) → Type 0
+Numbered answers number sent =
+    (answer : Result ℕ EditRefusal) × answers answer × (number ≡ number_of_edit answer) × (sent ≡ sent_by answer)
+
+-- the text puts these bytes in, in these looks, and answers it, and its messages come after those that are kept
+abbrev pub AnswersBytes : SessionState → (pos : ℕ) → (bytes : List ℕ) → Looks → Result ℕ EditRefusal → SessionState → Type 0
+AnswersBytes s pos bytes looks answer new =
+    AnswersHanded bytes s (λ answer text sent. EditsSending s.text (insertion pos (map (λ b. (b, looks)) bytes)) answer text
+    s.sent sent) answer new
+
+-- the same as numbers, where they fit
+abbrev pub InsertsBytes : SessionState → (pos : ℕ) → (bytes : List ℕ) → Looks → (number sent : ℕ) → SessionState → Type 0
+InsertsBytes s pos bytes looks number sent new =
+    IfTheyFit s pos bytes number sent new (Numbered (λ answer. AnswersBytes s pos bytes looks answer new) number sent)
+
+-- this font and this colour are those of looks
+abbrev pub HasLooks : (font : List ℕ) → (colour : ℕ) → Type 0
+HasLooks font colour = IsFontName font × (colour ≤ MAX_COLOUR)
+
+-- the same of the looks of this font, colour and offset, if they are looks
+abbrev pub InsertsInLooks : SessionState → (pos : ℕ) → (bytes font : List ℕ) → (colour : ℕ) → (offset : ℤ) → (number sent : ℕ)
+    → SessionState → Type 0
+InsertsInLooks s pos bytes font colour offset number sent new =
+    (HasLooks font colour
+    × InsertsBytes s pos bytes (record { font = font; colour = colour; offset = offset }) number sent new)
+    ⊎ ((HasLooks font colour → ⊥) × IsMisused NO_NUMBER s number new × (sent ≡ 0))
 
 -- the looks that are selected of these, and the default ones elsewhere
 abbrev pub asked_looks : Selection → (font : List ℕ) → (colour : ℕ) → (offset : ℤ) → Looks

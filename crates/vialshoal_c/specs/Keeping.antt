@@ -1,10 +1,13 @@
--- What the calls that keep a text as its site's file, and open it from there, answer and do.
-use Rattle.std.specs.Prelude.{◌≡◌, ◌<◌, ◌⊎◌, ℕ, List, length, Option, Some, None}
+-- What the calls that keep a text as its site's file, open it from there, and save what it shows as a text's file, answer
+-- and do.
+use Rattle.std.specs.Prelude.{◌≡◌, ◌<◌, ◌≤◌, ◌⊎◌, ℕ, List, length, Option, Some, None}
 use Rattle.looks.specs.Refusal.{number_of}
 use Rattle.looks.specs.declared.refusal.Refusal.TheVariants.{BadFile, OutOfMemory}
+use Rattle.text_file.specs.Files.{formatted}
+use Rattle.text_file.specs.declared.TheConstants.{MAX_TEXT}
 use Rattle.texts.specs.SiteFiles.{IsNoSiteFile, IsSiteFileOf, site_bytes}
 use Rattle.texts.specs.Taking.{HasTakenAll}
-use Rattle.texts.specs.TextState.{TextState, empty_text}
+use Rattle.texts.specs.TextState.{TextState, empty_text, shown_items}
 use Rattle.texts.specs.declared.TheConstants.{MAX_KEPT}
 use Rattle.vialshoal_c.specs.Outputs.{Puts, PutsNone}
 use Rattle.vialshoal_c.specs.SessionState.{SessionState, session_of}
@@ -30,6 +33,13 @@ Opens None file number new = OpensFile file number new
 -- The text's file is put into a room; or it has too much for a file; or memory was refused.
 abbrev pub PutsFile : TextState → (old : List ℕ) → (number need : ℕ) → (new : List ℕ) → Type 0
 PutsFile t old number need new =
-    Puts (site_bytes t.text t.site t.operations) old number need new
+    ((length t.operations ≤ MAX_KEPT) × Puts (site_bytes t.text t.site t.operations) old number need new)
     ⊎ (((MAX_KEPT < length t.operations) × PutsNone (number_of BadFile) old number need new)
+    ⊎ PutsNone (number_of OutOfMemory) old number need new)
+
+-- The formatted file of what the text shows is put into a room; or that is too much for a file; or memory was refused.
+abbrev pub PutsText : TextState → (old : List ℕ) → (number need : ℕ) → (new : List ℕ) → Type 0
+PutsText t old number need new =
+    ((length (shown_items t) ≤ MAX_TEXT) × Puts (formatted (shown_items t)) old number need new)
+    ⊎ (((MAX_TEXT < length (shown_items t)) × PutsNone (number_of BadFile) old number need new)
     ⊎ PutsNone (number_of OutOfMemory) old number need new)

@@ -1,6 +1,7 @@
 pub mod Asking
 pub mod Editing
 pub mod Feeding
+pub mod History
 pub mod Keeping
 pub mod Naming
 pub mod Opened

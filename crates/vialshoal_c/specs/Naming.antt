@@ -1,8 +1,7 @@
 -- What the calls that edit by names answer and do.
-use Rattle.std.specs.Prelude.{◌≡◌, ℕ, ◌+◌, ◌<◌, ◌⊎◌, ◌&&◌, Bool, nat_lt, nat_le, MatchBool, if◌then◌else◌, List, length, map}
-use Rattle.std.specs.Prelude.{Option, Some, None, Result, Err}
+use Rattle.std.specs.Prelude.{◌≡◌, ℕ, ◌+◌, ◌&&◌, Bool, nat_lt, nat_le, MatchBool, if◌then◌else◌, List, length, map}
+use Rattle.std.specs.Prelude.{Option, Some, None, Result}
 use Rattle.std.specs.List.{list_all}
-use Rattle.looks.specs.declared.refusal.Refusal.TheVariants.{OutOfMemory}
 use Rattle.char_files.specs.declared.TheConstants.{MAX_FILE}
 use Rattle.operations.specs.NameSet.{Range}
 use Rattle.set_laws.specs.Fronts.{file_len}
@@ -10,8 +9,7 @@ use Rattle.texts.specs.Named.{EditsByNamesSending}
 use Rattle.texts.specs.TextState.{TextState}
 use Rattle.texts.specs.declared.by_names.ByNames.{ByNames}
 use Rattle.texts.specs.declared.edit_refusal.EditRefusal.{EditRefusal}
-use Rattle.texts.specs.declared.edit_refusal.EditRefusal.TheVariants.{Whole}
-use Rattle.vialshoal_c.specs.Editing.{number_of_edit, sent_by}
+use Rattle.vialshoal_c.specs.Editing.{AnswersHanded, Numbered}
 use Rattle.vialshoal_c.specs.Opened.{IsMisused}
 use Rattle.vialshoal_c.specs.SessionState.{SessionState}
 use Rattle.vialshoal_c.specs.declared.inputs.CharNames.{CharNames}
@@ -36,23 +34,15 @@ range_in names = if is_range names then Some (range_of names) else None
 abbrev pub is_here : TextState → CharNames → Bool
 is_here t names = is_range names && nat_le (names.offset + names.len) (file_len t.operations names.site)
 
--- nothing is done, for want of memory
-abbrev pub IsCutShort : SessionState → Result ℕ EditRefusal → SessionState → Type 0
-IsCutShort s answer new = (answer ≡ Err (Whole OutOfMemory)) × (new.text ≡ s.text) × (new.sent ≡ s.sent)
-
--- The text does this edit by names and answers it, and its message comes after those that are kept; or, where there are
--- names at all, memory to hand them on was refused.
+-- the text does this edit by names and answers it, and its message comes after those that are kept
 abbrev pub AnswersNames : SessionState → ByNames → List CharNames → Result ℕ EditRefusal → SessionState → Type 0
 AnswersNames s what names answer new =
-    (EditsByNamesSending s.text what (ranges_of names) answer new.text s.sent new.sent
-    ⊎ ((0 < length names) × IsCutShort s answer new))
-    × (new.told ≡ s.told)
+    AnswersHanded names s (λ answer text sent. EditsByNamesSending s.text what (ranges_of names) answer text s.sent sent) answer
+    new
 
 -- the same as numbers
 abbrev pub NamesEdited : SessionState → ByNames → List CharNames → (number sent : ℕ) → SessionState → Type 0
-NamesEdited s what names number sent new =
-    (answer : Result ℕ EditRefusal) × AnswersNames s what names answer new
-    × (number ≡ number_of_edit answer) × (sent ≡ sent_by answer)
+NamesEdited s what names number sent new = Numbered (λ answer. AnswersNames s what names answer new) number sent
 
 -- The same where all of them are names, and names of characters that were taken in; elsewhere nothing is done.
 abbrev pub EditsNames : SessionState → ByNames → List CharNames → (number sent : ℕ) → SessionState → Type 0

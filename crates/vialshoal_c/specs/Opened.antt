@@ -10,8 +10,8 @@ abbrev pub OnOpen : (old new : Option SessionState) → (number : ℕ) → (idle
 OnOpen None new number idle does = (number ≡ NOT_OPEN) × idle × (new ≡ None)
 OnOpen (Some s) new number idle does = MatchOption new ⊥ (does s)
 
--- the same of a call that changes nothing, and says this of the text
-abbrev pub Reads : (old new : Option SessionState) → (number : ℕ) → (idle : Type 0) → (SessionState → Type 0) → Type 0
+-- the same of a call that changes nothing, and says this of the text; of a past handle alike
+abbrev pub Reads : {S : Type 0} → (old new : Option S) → (number : ℕ) → (idle : Type 0) → (S → Type 0) → Type 0
 Reads None new number idle says = (number ≡ NOT_OPEN) × idle × (new ≡ None)
 Reads (Some s) new number idle says = says s × (new ≡ Some s)
 

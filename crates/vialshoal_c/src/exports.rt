@@ -6,17 +6,19 @@ ghost use Rattle.texts.specs.Edit.{deletion, recalling, restoration};
 ghost use Rattle.texts.specs.TextState.{shown_of};
 ghost use Rattle.vialshoal_c.specs.Asking.{FindsName, PutsMessage, PutsShown, TellsChanges, TellsFront, bytes_of};
 ghost use Rattle.vialshoal_c.specs.Asking.{PutsSites, TellsRun, names_of};
-ghost use Rattle.vialshoal_c.specs.Editing.{Begins, BeginsText, Dresses, Edits, Inserts};
+ghost use Rattle.vialshoal_c.specs.Editing.{Begins, BeginsText, Dresses, Edits, Inserts, InsertsInLooks};
 ghost use Rattle.vialshoal_c.specs.Feeding.{Forgets, MergesHandle, Settles, TakesIn};
-ghost use Rattle.vialshoal_c.specs.Keeping.{Opens, OpensFile, PutsFile};
+ghost use Rattle.vialshoal_c.specs.History.{TellsSince};
+ghost use Rattle.vialshoal_c.specs.Keeping.{Opens, OpensFile, PutsFile, PutsText};
 ghost use Rattle.vialshoal_c.specs.Naming.{EditsNames};
 ghost use Rattle.vialshoal_c.specs.Opened.{OnOpen, Reads};
 
 use crate::handle::Handle;
-use crate::inputs::CharNames;
+use crate::inputs::{CharNames, SiteFront};
 use crate::numbers::{ALREADY_OPEN, NO_NUMBER, NOT_OPEN};
 use crate::outputs::{CharName, LooksRun, Place, Settling, Taking, TextChange};
 use crate::session::Session;
+use crate::showing::{find_name, put_shown_bytes, put_shown_names, tell_run};
 use char_files::{SiteNo, TextNo};
 use std::alloc::Global;
 use texts::ByNames;
@@ -99,6 +101,27 @@ pub extern "C" fn vialshoal_store(
     put.number
 }
 
+/// The formatted file of what is shown, which keeps looks.
+#[unsafe(no_mangle)]
+pub extern "C" fn vialshoal_save(
+    alloc: Global,
+    handle: &mut Handle,
+    room: &mut [u8],
+    need: &mut u64,
+) -> u32
+    ensures { Reads handle.old.value handle.new.value result ((need.new ≡ 0) × (room.new ≡ room.old))
+        (λ s. PutsText s.text room.old result need.new room.new) }
+{
+    *need = 0;
+    let Some(session) = handle.open(alloc) else {
+        return NOT_OPEN;
+    };
+    let put = session.save(alloc, room);
+    handle.close(alloc, session);
+    *need = put.need;
+    put.number
+}
+
 /// Frees what a handle holds.
 #[unsafe(no_mangle)]
 pub extern "C" fn vialshoal_free(alloc: Global, handle: &mut Handle) -> u32
@@ -131,6 +154,31 @@ pub extern "C" fn vialshoal_insert(
         return NOT_OPEN;
     };
     let edited = session.insert(pos, bytes);
+    handle.close(alloc, session);
+    *sent = edited.sent;
+    edited.number
+}
+
+/// Puts bytes in looks of this font, colour and offset after the first `pos` characters.
+#[unsafe(no_mangle)]
+pub extern "C" fn vialshoal_insert_in_looks(
+    alloc: Global,
+    handle: &mut Handle,
+    pos: u64,
+    bytes: &[u8],
+    font: &[u8],
+    colour: u8,
+    offset: i8,
+    sent: &mut u32,
+) -> u32
+    ensures { OnOpen handle.old.value handle.new.value result (sent.new ≡ 0)
+        (λ s new. InsertsInLooks s pos bytes.now font.now colour offset result sent.new new) }
+{
+    *sent = 0;
+    let Some(mut session) = handle.open(alloc) else {
+        return NOT_OPEN;
+    };
+    let edited = session.insert_in_looks(alloc, pos, bytes, font, colour, offset);
     handle.close(alloc, session);
     *sent = edited.sent;
     edited.number
@@ -394,7 +442,7 @@ pub extern "C" fn vialshoal_bytes(
     let Some(session) = handle.open(alloc) else {
         return NOT_OPEN;
     };
-    let put = session.bytes(beg, end, room);
+    let put = put_shown_bytes(&session.replica, beg, end, room);
     handle.close(alloc, session);
     *need = put.need;
     put.number
@@ -418,7 +466,7 @@ pub extern "C" fn vialshoal_looks(
     let Some(session) = handle.open(alloc) else {
         return NOT_OPEN;
     };
-    let put = session.run(pos, run, font);
+    let put = tell_run(&session.replica, pos, run, font);
     handle.close(alloc, session);
     *need = put.need;
     put.number
@@ -441,7 +489,7 @@ pub extern "C" fn vialshoal_names(
     let Some(session) = handle.open(alloc) else {
         return NOT_OPEN;
     };
-    let put = session.names(beg, end, room);
+    let put = put_shown_names(&session.replica, beg, end, room);
     handle.close(alloc, session);
     *need = put.need;
     put.number
@@ -462,7 +510,7 @@ pub extern "C" fn vialshoal_find(
     let Some(session) = handle.open(alloc) else {
         return NOT_OPEN;
     };
-    let number = session.place(site, offset, place);
+    let number = find_name(&session.replica, site, offset, place);
     handle.close(alloc, session);
     number
 }
@@ -502,6 +550,30 @@ pub extern "C" fn vialshoal_sites(
         return NOT_OPEN;
     };
     let put = session.sites(room);
+    handle.close(alloc, session);
+    *need = put.need;
+    put.number
+}
+
+/// A message of what was taken in past these fronts: of the first that is, from the place on that the index has.
+#[unsafe(no_mangle)]
+pub extern "C" fn vialshoal_since(
+    alloc: Global,
+    handle: &mut Handle,
+    fronts: &[SiteFront],
+    index: &mut u64,
+    room: &mut [u8],
+    need: &mut u64,
+) -> u32
+    ensures { Reads handle.old.value handle.new.value result
+        ((need.new ≡ 0) × (index.new ≡ index.old) × (room.new ≡ room.old))
+        (λ s. TellsSince s.text fronts.now index.old room.old result need.new room.new index.new) }
+{
+    *need = 0;
+    let Some(session) = handle.open(alloc) else {
+        return NOT_OPEN;
+    };
+    let put = session.since(alloc, fronts, index, room);
     handle.close(alloc, session);
     *need = put.need;
     put.number

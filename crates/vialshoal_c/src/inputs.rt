@@ -1,10 +1,12 @@
 //! What calls read of memory that C owns.
 
 ghost use Rattle.std.specs.Prelude.{◌≡◌};
+ghost use Rattle.vialshoal_c.specs.History.{front_given};
 ghost use Rattle.vialshoal_c.specs.Naming.{range_in};
 
 use char_files::{MAX_FILE, SiteNo};
 use operations::NameRange;
+use texts::Front;
 
 /// Lasting names of neighbouring characters: so many of a site, from an offset on.
 #[repr(C)]
@@ -28,5 +30,28 @@ impl CharNames {
             return None;
         }
         Some(NameRange::new(site, self.offset, self.len))
+    }
+}
+
+/// How far the operations of a site go.
+#[repr(C)]
+#[derive(Clone, Copy, Debug, PartialEq, Eq)]
+pub struct SiteFront {
+    /// The site.
+    pub site: u16,
+    /// The number of the last of its operations that is meant, 0 for none.
+    pub seq: u32,
+}
+
+impl SiteFront {
+    // This front as a replica takes it, or `None` where the number is that of no site.
+    pub(crate) fn front(self) -> Option<Front>
+        ensures { result ≡ front_given self }
+    {
+        let site = SiteNo::new(self.site)?;
+        Some(Front {
+            site,
+            seq: self.seq,
+        })
     }
 }

@@ -1,8 +1,8 @@
-//! A session as its site's file.
+//! A session as its site's file, and what it shows as a text's.
 
 ghost use Rattle.std.specs.Prelude.{◌≡◌, ◌⊎◌, IfErr, IfOk, IsErrOf};
 ghost use Rattle.texts.specs.SiteFiles.{IsNoSiteFile};
-ghost use Rattle.vialshoal_c.specs.Keeping.{IsOfFile, PutsFile};
+ghost use Rattle.vialshoal_c.specs.Keeping.{IsOfFile, PutsFile, PutsText};
 ghost use Rattle.vialshoal_c.specs.SessionState.{session_of};
 
 use crate::asking::{Put, put_bytes};
@@ -29,6 +29,17 @@ impl Session {
         let mut file = Vec::new(alloc);
         match store_site(&self.replica, &mut file) {
             Ok(()) => put_bytes(&file, room),
+            Err(why) => Put::none(u32::from(why.number())),
+        }
+    }
+
+    /// Puts the formatted file of what the text shows into a room.
+    pub(crate) fn save(&self, alloc: Global, room: &mut [u8]) -> Put
+        ensures { PutsText self.now.text room.old result.number result.need room.new }
+    {
+        let mut saved = Vec::new(alloc);
+        match text_file::store(&self.replica, &mut saved) {
+            Ok(()) => put_bytes(&saved, room),
             Err(why) => Put::none(u32::from(why.number())),
         }
     }

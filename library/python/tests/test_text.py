@@ -18,8 +18,10 @@ from vialshoal import ChangeKind, Misused, Name, NameRange, Refused, TakingKind,
 TOP = Path(__file__).resolve().parents[3]
 PROGRAM = os.environ.get("VIALSHOAL_PROGRAM", str(TOP / "crates" / "site_cli" / "out" / "site_cli"))
 
-edits = st.lists(st.tuples(st.sampled_from(("type", "cut", "looks", "recall", "restore", "hide", "show")),
-                           st.integers(0, 2**16), st.integers(0, 2**16), st.binary(max_size=6)), max_size=30)
+Edit = tuple[str, int, int, bytes]
+one_edit = st.tuples(st.sampled_from(("type", "cut", "looks", "recall", "restore", "hide", "show")), st.integers(0, 2**16),
+                     st.integers(0, 2**16), st.binary(max_size=6))
+edits = st.lists(one_edit, max_size=30)
 
 
 def spelled(data: bytes) -> str:
@@ -37,7 +39,7 @@ def put_in(text: Text[bytes], site: int) -> int:
     return count
 
 
-def edited(text: Text[bytes], edit: tuple[str, int, int, bytes]) -> tuple[Optional[str], list[bytes]]:
+def edited(text: Text[bytes], edit: Edit) -> tuple[Optional[str], list[bytes]]:
     """Does an edit, and answers the event that does it too, if there is one, and the messages."""
     verb, one, two, data = edit
     beg, end = sorted((one % (len(text) + 1), two % (len(text) + 1)))
@@ -72,7 +74,7 @@ def followed(shown: bytes, text: Text[bytes]) -> bytes:
 class AgainstAList(unittest.TestCase):
     @given(edits)
     @settings(max_examples=200, deadline=None)
-    def test_edits_are_those_of_a_list(self, given_edits: list[tuple[str, int, int, bytes]]) -> None:
+    def test_edits_are_those_of_a_list(self, given_edits: list[Edit]) -> None:
         plain = b""
         with Text(1, site=1) as text:
             for verb, one, two, data in given_edits:
@@ -88,8 +90,7 @@ class AgainstAList(unittest.TestCase):
 
     @given(edits, edits)
     @settings(max_examples=100, deadline=None)
-    def test_two_that_meet_show_the_same(self, here: list[tuple[str, int, int, bytes]],
-                                         there: list[tuple[str, int, int, bytes]]) -> None:
+    def test_two_that_meet_show_the_same(self, here: list[Edit], there: list[Edit]) -> None:
         with Text(1, site=1) as a, Text(1, site=2) as b, Text(1, site=3) as c:
             sent = [message for edit in here for message in edited(a, edit)[1]]
             back = [message for edit in there for message in edited(b, edit)[1]]
@@ -132,8 +133,7 @@ class ByNames(unittest.TestCase):
 class AgainstTheProgram(unittest.TestCase):
     @given(edits, edits)
     @settings(max_examples=25, deadline=None)
-    def test_messages_and_text_are_the_programs(self, here: list[tuple[str, int, int, bytes]],
-                                                there: list[tuple[str, int, int, bytes]]) -> None:
+    def test_messages_and_text_are_the_programs(self, here: list[Edit], there: list[Edit]) -> None:
         if not Path(PROGRAM).exists():
             self.skipTest("the program isn't built")
         script, wanted = "", ""

@@ -5,6 +5,7 @@ import ctypes
 import os
 from ctypes import POINTER, c_bool, c_char_p, c_int8, c_size_t, c_uint8, c_uint16, c_uint32, c_uint64, c_void_p
 from pathlib import Path
+from typing import Callable, NamedTuple, Union
 
 NOT_OPEN = 101
 ALREADY_OPEN = 102
@@ -27,7 +28,7 @@ REASONS = {
     8: "what waits shows that the site was further once",
     9: "the greatest stamp was taken in",
     10: "the site's file, or a stretch, would pass 2^24 bytes",
-    13: "the bytes are no site's file",
+    13: "the bytes are no site's file, or the text is too long for a file",
     12: "a set of names needs more than 1,024 ranges",
     23: "the site has made its last operation in the text",
     NOT_OPEN: "the text is closed",
@@ -41,6 +42,14 @@ REASONS = {
 
 class Handle(ctypes.Structure):
     _fields_ = [("at", c_void_p)]
+
+
+class PastHandle(ctypes.Structure):
+    _fields_ = [("at", c_void_p)]
+
+
+class CSiteFront(ctypes.Structure):
+    _fields_ = [("site", c_uint16), ("seq", c_uint32)]
 
 
 class CTaking(ctypes.Structure):
@@ -72,6 +81,8 @@ class CLooksRun(ctypes.Structure):
 
 
 HANDLE = POINTER(Handle)
+PAST = POINTER(PastHandle)
+FRONTS = POINTER(CSiteFront)
 U32 = POINTER(c_uint32)
 U64 = POINTER(c_uint64)
 CALLS = {
@@ -80,6 +91,7 @@ CALLS = {
     "load": (HANDLE, c_char_p, c_size_t),
     "store": (HANDLE, c_char_p, c_size_t, U64),
     "insert": (HANDLE, c_uint64, c_char_p, c_size_t, U32),
+    "insert_in_looks": (HANDLE, c_uint64, c_char_p, c_size_t, c_char_p, c_size_t, c_uint8, c_int8, U32),
     "delete": (HANDLE, c_uint64, c_uint64, U32),
     "change_looks": (HANDLE, c_uint64, c_uint64, c_uint8, c_char_p, c_size_t, c_uint8, c_int8, U32),
     "restore": (HANDLE, U32),
@@ -96,13 +108,32 @@ CALLS = {
     "waiting": (HANDLE, U32),
     "sites": (HANDLE, POINTER(c_uint16), c_size_t, U64),
     "front": (HANDLE, c_uint16, U32),
-    "length": (HANDLE, U64),
-    "bytes": (HANDLE, c_uint64, c_uint64, c_char_p, c_size_t, U64),
-    "looks": (HANDLE, c_uint64, POINTER(CLooksRun), c_char_p, c_size_t, U64),
-    "names": (HANDLE, c_uint64, c_uint64, POINTER(CName), c_size_t, U64),
-    "find": (HANDLE, c_uint16, c_uint32, POINTER(CPlace)),
+    "since": (HANDLE, FRONTS, c_size_t, U64, c_char_p, c_size_t, U64),
     "changes": (HANDLE, POINTER(CChange), c_size_t, U64),
+    "save": (HANDLE, c_char_p, c_size_t, U64),
+    "past": (HANDLE, FRONTS, c_size_t, PAST),
+    "past_free": (PAST,),
 }
+# What a handle of either kind is asked.
+READS = {
+    "length": (U64,),
+    "bytes": (c_uint64, c_uint64, c_char_p, c_size_t, U64),
+    "looks": (c_uint64, POINTER(CLooksRun), c_char_p, c_size_t, U64),
+    "names": (c_uint64, c_uint64, POINTER(CName), c_size_t, U64),
+    "find": (c_uint16, c_uint32, POINTER(CPlace)),
+}
+
+
+class Reads(NamedTuple):
+    """A kind of handle, and the calls that free and read it."""
+
+    handle: Callable[[], Union[Handle, PastHandle]]
+    free: Callable[..., int]
+    length: Callable[..., int]
+    bytes: Callable[..., int]
+    looks: Callable[..., int]
+    names: Callable[..., int]
+    find: Callable[..., int]
 
 
 def path() -> str:
@@ -118,8 +149,14 @@ def path() -> str:
 def load() -> ctypes.CDLL:
     # (a PyDLL keeps Python's lock, which a call that takes microseconds is not worth letting go)
     library = ctypes.PyDLL(path())
-    for name, arguments in CALLS.items():
+    reads = {f"{kind}{name}": (handle, *arguments)
+             for kind, handle in (("", HANDLE), ("past_", PAST)) for name, arguments in READS.items()}
+    for name, arguments in {**CALLS, **reads}.items():
         call = getattr(library, f"vialshoal_{name}")
         call.argtypes = arguments
         call.restype = c_uint32
     return library
+
+
+def reads(library: ctypes.CDLL, handle: Callable[[], Union[Handle, PastHandle]], kind: str) -> Reads:
+    return Reads(handle, *(getattr(library, f"vialshoal_{kind}{name}") for name in ("free", *READS)))

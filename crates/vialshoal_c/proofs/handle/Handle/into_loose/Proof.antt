@@ -49,7 +49,7 @@ into_loose_spec 𝓤 𝓛 𝓜 𝓡 wired =
     split ! $ move ! (1 ∷ []) $ fsplit ! $ handle_out ! d z.0.4.0 (λ ws. move ! (1 ∷ []) $ fsplit ! $
     rewrite ! 0 (λ (us : List Val). ‵ (Z.own_val a us)) h.1 refl $
     -- [the allocator; nothing; what the handle owns; the tokens; the `requires`]
-    move ! (2 ∷ []) $ either ! d.at d.value
+    move ! (2 ∷ []) $ either ! R d.at d.value
     (λ no is. let w : Val = word (ptr_val null_ptr) in let nothing_there : Option Lr.Denot = None in
     suffices ! (Run (w ∷ h.0 ∷ [])) (subst (λ (us : List Val). ent 𝓤 (Run (w ∷ h.0 ∷ [])) (Run us)) (sym (λ i. (ws ∙ ap (λ (p : Ptr). word (ptr_val p) ∷ []) is) i ++ (h.1 i ++ []))) (id⊢ 𝓤 (Run (w ∷ h.0 ∷ [])))) $
     enter ! 𝓣.C 𝓣.Λ fn (w ∷ h.0 ∷ []) Post $ alloc_all ! (λ l. pass_all ! refl ((tt, (record { fits = lit< tt }, tt)), (h.2, tt)) $ let Ev = env fn.locals l in

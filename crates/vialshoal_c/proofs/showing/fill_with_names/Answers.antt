@@ -2,7 +2,7 @@ use Rattle.std.proofs.Common.{◌≡◌, ◌+◌, ◌++◌, ◌≤◌, List, len
 use Rattle.char_files.specs.declared.character.Char.{Char}
 use Rattle.vialshoal_c.specs.declared.outputs.CharName.{CharName}
 use Rattle.vialshoal_c.proofs.Filling.{IsFilled, name_of, fill_begins, fill_ends, fill_more, has_room}
-use Rattle.vialshoal_c.proofs.asking.fill_with_names.Goals as goal
+use Rattle.vialshoal_c.proofs.showing.fill_with_names.Goals as goal
 
 pub loop-char-init : goal.loop-char-init
 loop-char-init c = (

@@ -5,7 +5,7 @@ use Rattle.std.proofs.lemmas.List.{take_rest}
 use Rattle.char_files.specs.declared.character.Char.{Char}
 use Rattle.texts.specs.TextState.{shown_of}
 use Rattle.vialshoal_c.proofs.Runs.{IsFollowed, run_begins, run_ends, run_goes_on, run_stops}
-use Rattle.vialshoal_c.proofs.asking.end_of_run.Goals as goal
+use Rattle.vialshoal_c.proofs.showing.end_of_run.Goals as goal
 
 pub loop-char-init : goal.loop-char-init
 loop-char-init c =

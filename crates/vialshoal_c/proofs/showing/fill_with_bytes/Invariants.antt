@@ -1,5 +1,5 @@
 use Rattle.vialshoal_c.proofs.Filling.{IsFilled, byte_of}
-use Rattle.vialshoal_c.proofs.asking.fill_with_bytes.Given as goal
+use Rattle.vialshoal_c.proofs.showing.fill_with_bytes.Given as goal
 
 abbrev pub invariant-loop-char : goal.invariant-loop-char
 invariant-loop-char l =

@@ -1,7 +1,7 @@
 use Rattle.std.proofs.Common.{◌++◌, ◌≤◌, List, length, map, drop, ap, subst, sym, ◌∙◌, rules}
 use Rattle.char_files.specs.declared.character.Char.{Char}
 use Rattle.vialshoal_c.proofs.Filling.{IsFilled, byte_of, fill_begins, fill_ends, fill_more, has_room}
-use Rattle.vialshoal_c.proofs.asking.fill_with_bytes.Goals as goal
+use Rattle.vialshoal_c.proofs.showing.fill_with_bytes.Goals as goal
 
 pub loop-char-init : goal.loop-char-init
 loop-char-init c = (

@@ -1,0 +1,134 @@
+//! What a session has taken in past some fronts, and its text as it was up to them.
+
+ghost use Rattle.std.specs.Prelude.{◌≡◌, ◌+◌, ◌++◌, ◌≤◌, length, IfNone, IfOk, IfSome, IsTrue};
+ghost use Rattle.std.specs.Prelude.{vec_capacity, vec_len};
+ghost use Rattle.std.specs.List.{list_all};
+ghost use Rattle.looks.specs.Refusal.{RefusedForMemoryAlone};
+ghost use Rattle.texts.specs.Fronts.{front_in, is_beyond};
+ghost use Rattle.texts.specs.Past.{IsPastOf};
+ghost use Rattle.vialshoal_c.specs.History.{IsFirstBeyond, NoneIsBeyond, PutsSpelling, TellsSince, fronts_of, is_front};
+
+use crate::asking::{Put, put_bytes};
+use crate::inputs::SiteFront;
+use crate::numbers::{NO_MESSAGE, NO_NUMBER};
+use crate::session::Session;
+use char_files::SiteNo;
+use looks::Refusal;
+use operations::{Op, encode};
+use std::alloc::Global;
+use texts::{Front, Past, Replica};
+
+// Whether all of these are fronts.
+pub(crate) fn are_fronts(fronts: &[SiteFront]) -> bool
+    ensures { result ≡ list_all is_front fronts.now }
+{
+    fronts.iter().all(|some| some.front().is_some())
+}
+
+// The number that these fronts give a site: of the first that is its, 0 where there is none.
+fn front_in(fronts: &[SiteFront], site: SiteNo) -> u32
+    ensures { result ≡ front_in (fronts_of fronts.now) site }
+{
+    for some in fronts {
+        if some.site == site.get() {
+            return some.seq;
+        }
+    }
+    0
+}
+
+// Whether an operation is beyond the fronts.
+fn is_beyond(fronts: &[SiteFront], op: &Op) -> bool
+    ensures { result ≡ is_beyond (fronts_of fronts.now) op.now }
+{
+    front_in(fronts, op.site()) < op.seq()
+}
+
+// The place of the first operation beyond the fronts that was taken in at this place or after it.
+fn first_beyond(replica: &Replica, fronts: &[SiteFront], from: u64) -> Option<u64>
+    ensures some { IfSome result (IsFirstBeyond replica.now.operations (fronts_of fronts.now) from) }
+    ensures none { IfNone result
+        (NoneIsBeyond replica.now.operations (fronts_of fronts.now) from (length replica.now.operations)) }
+{
+    for place in from..replica.taken_len() {
+        if is_beyond(fronts, replica.taken(place)) {
+            return Some(place);
+        }
+    }
+    None
+}
+
+// Puts an operation's message into a room.
+fn put_spelling(alloc: Global, op: &Op, room: &mut [u8]) -> Put
+    ensures { PutsSpelling op.now room.old result.number result.need room.new }
+{
+    let mut message = Vec::new(alloc);
+    match encode(op, &mut message) {
+        Ok(()) => put_bytes(&message, room),
+        Err(why) => Put::none(u32::from(why.number())),
+    }
+}
+
+// Puts fronts into a vector that has the room.
+fn put(fronts: &[SiteFront], taken: &mut Vec<Front>)
+    requires fronts { IsTrue (list_all is_front fronts.now) }
+    requires room { vec_len taken.old + length fronts.now ≤ vec_capacity taken.old }
+    ensures { taken.new.items ≡ taken.old.items ++ fronts_of fronts.now }
+{
+    for some in fronts {
+        // They were checked.
+        let Some(front) = some.front() else {
+            return;
+        };
+        taken.push_reserved(front);
+    }
+}
+
+// The fronts as a replica takes them. Refused `OutOfMemory` alone.
+fn fronts_of(alloc: Global, fronts: &[SiteFront]) -> Result<Vec<Front>, Refusal>
+    requires { IsTrue (list_all is_front fronts.now) }
+    ensures ok { IfOk result (λ taken. taken.items ≡ fronts_of fronts.now) }
+    ensures errors { RefusedForMemoryAlone result }
+{
+    let mut taken = Vec::with_capacity(alloc, fronts.len())?;
+    put(fronts, &mut taken);
+    Ok(taken)
+}
+
+impl Session {
+    /// Puts a message of what was taken in past these fronts into a room: of the first that is, from a place on. With
+    /// it the place is that after its.
+    pub(crate) fn since(
+        &self,
+        alloc: Global,
+        fronts: &[SiteFront],
+        index: &mut u64,
+        room: &mut [u8],
+    ) -> Put
+        ensures { TellsSince self.now.text fronts.now index.old room.old result.number result.need room.new index.new }
+    {
+        if !are_fronts(fronts) {
+            return Put::none(NO_NUMBER);
+        }
+        let Some(place) = first_beyond(&self.replica, fronts, *index) else {
+            return Put::none(NO_MESSAGE);
+        };
+        let put = put_spelling(alloc, self.replica.taken(place), room);
+        // No more is taken in than a `u64` counts.
+        let _ = self.replica.taken_len();
+        if put.number == 0 {
+            *index = place + 1;
+        }
+        put
+    }
+
+    /// The text as it was up to these fronts. Refused `OutOfMemory` alone.
+    pub(crate) fn past(&self, alloc: Global, fronts: &[SiteFront]) -> Result<Box<Past>, Refusal>
+        requires { IsTrue (list_all is_front fronts.now) }
+        ensures ok { IfOk result (λ past. IsPastOf self.now.text (fronts_of fronts.now) past.value) }
+        ensures errors { RefusedForMemoryAlone result }
+    {
+        let taken = fronts_of(alloc, fronts)?;
+        Ok(Box::new(alloc, self.replica.past(&taken)?)?)
+    }
+}
