@@ -17,5 +17,5 @@ pub use limits::the_limits;
 pub use name_set::{MAX_RANGES, NameRange, NameSet};
 pub use name_walk::{NameWalk, named};
 pub use op::{MAX_STAMP, Op};
-pub use reading::{decode, lemma_one_spelling, read_looks};
-pub use writing::{encode, write_looks};
+pub use reading::{decode, lemma_one_spelling, read_looks, sel_at, selected_at};
+pub use writing::{encode, put_selected, write_looks};

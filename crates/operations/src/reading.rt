@@ -22,7 +22,8 @@ use crate::kind::{
 use crate::op::{MAX_STAMP, Op};
 use byte_fields::{site_at, stretch_at, text_at, u16_at, u32_at};
 use char_files::{Anchor, SiteNo, TextNo};
-use fields::{anchor_at, looks_at, positive_u32_at, positive_u64_at, sel_at, selected_at};
+use fields::{anchor_at, looks_at, positive_u32_at, positive_u64_at};
+pub use fields::{sel_at, selected_at};
 use looks::{Looks, Refusal, Sel};
 use sets::{Ranges, set_at};
 use std::alloc::Global;

@@ -33,8 +33,8 @@ fn put_looks(out: &mut Vec<u8>, looks: &Looks) -> Result<(), AllocError>
     Ok(())
 }
 
-// Of looks the selected values alone.
-fn put_selected(out: &mut Vec<u8>, sel: Sel, looks: &Looks) -> Result<(), AllocError>
+/// Appends of looks the selected values alone, as a ChangeLooks spells them. After an `Err` some of it may stand there.
+pub fn put_selected(out: &mut Vec<u8>, sel: Sel, looks: &Looks) -> Result<(), AllocError>
     ensures { Appends result out.old.items out.new.items (selected_spelling sel looks.now) }
 {
     if sel.font() {

@@ -125,9 +125,10 @@ fn offset_or_default(selected: bool, bytes: &[u8]) -> Option<(i8, &[u8])>
     }
 }
 
-// Looks of which the selected values alone stand there; each other one is the default.
+/// The looks that the bytes begin with, as a ChangeLooks spells them, and the bytes after them: the selected values alone
+/// stand there, and each other one is the default. `None` where they begin with none.
 #[tactic(auto, unfolding(crate::specs::Reading::selected_at))]
-pub(super) fn selected_at(sel: Sel, bytes: &[u8]) -> Option<(Looks, &[u8])>
+pub fn selected_at(sel: Sel, bytes: &[u8]) -> Option<(Looks, &[u8])>
     ensures { Finds (λ x. (x.0, x.1.now)) result (selected_at sel bytes.now) }
 {
     let Some((font, rest)) = font_or_default(sel.font(), bytes) else {
@@ -145,8 +146,9 @@ pub(super) fn selected_at(sel: Sel, bytes: &[u8]) -> Option<(Looks, &[u8])>
     Some((looks, rest))
 }
 
+/// The selection that the bytes begin with, and the bytes after it; `None` where they begin with none.
 #[tactic(auto, unfolding(crate::specs::Reading::sel_at), using(crate::proofs::Fields::selection_is))]
-pub(super) fn sel_at(bytes: &[u8]) -> Option<(Sel, &[u8])>
+pub fn sel_at(bytes: &[u8]) -> Option<(Sel, &[u8])>
     ensures { Finds (λ x. (x.0, x.1.now)) result (sel_at bytes.now) }
 {
     let (bits, rest) = u8_at(bytes)?;

@@ -1,0 +1,29 @@
+use Rattle.std.proofs.Common.{◌≡◌, ℕ, ◌+◌, ◌-◌, Option, ◌++◌, ap, subst, ◌∙◌, arith}
+use Rattle.byte_fields.specs.Fields.{Appends}
+use Rattle.byte_fields.proofs.Appended.{Appends-after}
+use Rattle.packed.specs.declared.expected.Expected.{Expected}
+use Rattle.packed.specs.Told.{Told, expected}
+use Rattle.packed.specs.Spelling.{time_lead, edit_spelling}
+use Rattle.packed.proofs.history.History.put_next.Goals as goal
+
+pub returns : goal.returns
+returns c =
+    let told = c.args.self.now in
+    let op = c.args.op.now in
+    let old = c.args.out.now.items in
+    let mid = c.put_time.new.out.items in
+    let e : Expected = expected told op.site in
+    let e_is : c.expected-expected.result ≡ e = c.expected-expected.ensures ∙ ap (expected told) c.site.ensures in
+    let stamp : c.expected-expected.result.stamp ≡ e.stamp = ap (λ (x : Expected). x.stamp) e_is in
+    let more : c.stamp.result - c.expected-expected.result.stamp - 1 ≡ op.stamp - (e.stamp + 1) =
+    omega (arith, c.stamp.ensures, stamp) in
+    let last : c.self.inside.last ≡ told.last = ap (λ (t : Told). t.last) c.self.view_is in
+    let timed : mid ≡ old ++ time_lead told.last op.site (op.stamp - (e.stamp + 1)) =
+    c.in_ok-put_time.ensures
+    ∙ ap (λ (l : Option ℕ). old ++ time_lead l c.site-2.result (c.stamp.result - c.expected-expected.result.stamp - 1)) last
+    ∙ ap (λ (s : ℕ). old ++ time_lead told.last s (c.stamp.result - c.expected-expected.result.stamp - 1)) c.site-2.ensures
+    ∙ ap (λ (n : ℕ). old ++ time_lead told.last op.site n) more in
+    Appends-after c.put_edit.result old mid c.put_edit.new.out.items
+    (time_lead told.last op.site (op.stamp - (e.stamp + 1))) (edit_spelling e op.kind) timed
+    (subst (λ (x : Expected). Appends c.put_edit.result mid c.put_edit.new.out.items (edit_spelling x op.kind)) e_is
+    c.put_edit.ensures)

@@ -1,0 +1,5 @@
+pub mod Laws
+pub mod Reading
+pub mod Seen
+pub mod Spelling
+pub mod Told

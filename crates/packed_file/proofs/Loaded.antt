@@ -1,0 +1,288 @@
+-- A packed file, read from left to right, and its operations taken in.
+use Rattle.std.proofs.Common.{◌≡◌, ℕ, ◌+◌, ◌<◌, ◌≤◌, List, [], ◌∷◌, ◌++◌, length, take, get_or, Option, Some, None}
+use Rattle.std.proofs.Common.{refl, sym, ap, subst, ◌∙◌, append_assoc, length-append, arith}
+use Rattle.std.specs.Prelude.{Contains, IfOk, Result, Ok, Err}
+use Rattle.std.proofs.lemmas.List.{append-nil, get_or-append-add, get_or_append_left, take_at}
+use Rattle.std.proofs.lemmas.List.Elements.{All-contains, Contains-append_left, Contains-append_right}
+use Rattle.std.proofs.Math.Seq.{get_or-append_seam}
+use Rattle.looks.specs.declared.refusal.Refusal.{Refusal}
+use Rattle.operations.specs.Operation.{Operation}
+use Rattle.operations.specs.Spelling.{HasSpelling}
+use Rattle.byte_fields.proofs.Readers.{IsBytes, some_is}
+use Rattle.tree_order.specs.Good.{Good}
+use Rattle.set_laws.specs.Verdict.{IsNew, ready}
+use Rattle.set_laws.proofs.ByVerdict.{grows_by_verdict}
+use Rattle.texts.specs.Taking.{HasTaken, HasTakenAll, IsJudged}
+use Rattle.texts.specs.Text.{IsText}
+use Rattle.texts.specs.TextState.{TextState, empty_text}
+use Rattle.packed.specs.Laws.{IsHistory}
+use Rattle.packed.specs.Reading.{CanBeNext}
+use Rattle.packed.specs.Spelling.{packed, packed_after, packed_next}
+use Rattle.packed.specs.Told.{Told, nothing_told, told, told_on}
+use Rattle.packed.proofs.PackedLists.{adds_at_the_end}
+use Rattle.packed_file.specs.declared.TheConstants.{MAX_PACKED}
+use Rattle.packed_file.specs.declared.reading.Head.{Head}
+use Rattle.packed_file.specs.PackedFiles.{BeginsAsPackedFile, HasPackedFile, IsPackedFileOf, tag}
+use Rattle.packed_file.specs.Parts.{ArePacked, IsFirst, head_at, head_spelling}
+use Rattle.packed_file.proofs.Fields.{head_reads}
+use Rattle.packed_file.proofs.OnePacked.{are_good, are_history, file_parts, head_of, head_told}
+use Rattle.packed_file.proofs.Packings.{all_spelled, follow_more, next_at, told_first}
+use Rattle.packed_file.proofs.Takings.{same_room}
+
+-- so many operations were read and taken in; what they tell, and the bytes that are left
+pub record SoFar (start now : TextState) (t : Told) (bytes : List ℕ) (n : ℕ) (rest : List ℕ) : Type 0 where
+  pub done : List Operation
+  pub counted : length done ≡ n
+  pub are : IsHistory start.text done
+  pub tells : t ≡ told done
+  pub taken : HasTakenAll start done now
+  pub parts : bytes ≡ packed done ++ rest
+
+pub none_yet : (start : TextState) (bytes : List ℕ) → IsText start → SoFar start start nothing_told bytes 0 bytes
+none_yet start bytes is = record {
+  done = [];
+  counted = refl;
+  are = tt;
+  tells = refl;
+  taken = record {
+    is = is;
+    grown = ap (λ (ops : List Operation). record start { operations = ops }) (sym (append-nil start.operations));
+  };
+  parts = refl;
+}
+
+-- the next one was read and taken in
+abbrev pub TakesFirst : (now new : TextState) (t u : Told) (bytes rest : List ℕ) → Type 0
+TakesFirst now new t u bytes rest =
+    (op : Operation) × IsFirst t now.text bytes op rest × (u ≡ told_on t op) × HasTaken now op new
+
+pub one_more : (start now new : TextState) (t u : Told) (bytes : List ℕ) (n : ℕ) (rest after : List ℕ)
+    → SoFar start now t bytes n rest → TakesFirst now new t u rest after → SoFar start new u bytes (n + 1) after
+one_more start now new t u bytes n rest after s (op, first, next, has) =
+    let more : List Operation → TextState = λ ops. record start { operations = ops; order = new.order } in
+    let text : now.text ≡ start.text = ap (λ (v : TextState). v.text) s.taken.grown in
+    let can : CanBeNext (told s.done) start.text op =
+    subst (λ (v : Told). CanBeNext v start.text op) s.tells (subst (λ (n : ℕ). CanBeNext t n op) text first.can) in
+    record {
+      done = s.done ++ op ∷ [];
+      counted = omega (arith, length-append s.done (op ∷ []), s.counted);
+      are = follow_more nothing_told start.text s.done op s.are can;
+      tells = next ∙ ap (λ (v : Told). told_on v op) s.tells ∙ sym (adds_at_the_end s.done op).1;
+      taken = record {
+        is = has.is;
+        grown =
+            has.grown
+            ∙ ap (λ (v : TextState). record v { operations = v.operations ++ op ∷ []; order = new.order }) s.taken.grown
+            ∙ ap more (append_assoc start.operations s.done (op ∷ []));
+      };
+      parts = s.parts ∙ ap (λ (r : List ℕ). packed s.done ++ r) first.parts ∙ joined op;
+    }
+  where
+    joined : (op : Operation) → packed s.done ++ (packed_next t op ++ after) ≡ packed (s.done ++ op ∷ []) ++ after
+    joined op =
+        ap (λ (v : Told). packed s.done ++ (packed_next v op ++ after)) s.tells
+        ∙ sym (append_assoc (packed s.done) (packed_next (told s.done) op) after)
+        ∙ ap (λ (l : List ℕ). l ++ after) (sym (adds_at_the_end s.done op).0)
+
+-- nothing waits
+pub nothing_waits : (start now : TextState) (t : Told) (bytes : List ℕ) (n : ℕ) (rest : List ℕ)
+    → SoFar start now t bytes n rest → start ≡ empty_text start.text start.site → now.waiting_room ≡ []
+nothing_waits start now t bytes n rest s empty =
+    same_room start now s.done s.taken ∙ ap (λ (u : TextState). u.waiting_room) empty
+
+-- ---- where the bytes are the operations of a packed file
+
+module _ (start now : TextState) (t : Told) (bytes : List ℕ) (n : ℕ) (rest : List ℕ)
+    (s : SoFar start now t bytes n rest) (empty : start ≡ empty_text start.text start.site) (ops : List Operation)
+    (tells : HasPackedFile start.text start.site ops) (spells : bytes ≡ packed ops) where
+  ops_now : now.operations ≡ s.done
+  ops_now =
+      ap (λ (u : TextState). u.operations) s.taken.grown
+      ∙ ap (λ (u : TextState). u.operations ++ s.done) empty
+
+  module _ (op : Operation) (todo : List Operation) (e : ops ≡ s.done ++ op ∷ todo) where
+    here : Contains ops op
+    here =
+        subst (λ (l : List Operation). Contains l op) (sym e)
+        (Contains-append_right s.done (op ∷ todo) op (0, omega arith, refl))
+
+    not_done : Contains s.done op → ⊥
+    not_done (k, lt, is) =
+        let len : length ops ≡ length s.done + length (op ∷ todo) =
+        ap length e ∙ length-append s.done (op ∷ todo) in
+        let first : get_or ops k op ≡ op =
+        ap (λ (l : List Operation). get_or l k op) e ∙ get_or_append_left s.done (op ∷ todo) op k lt ∙ is in
+        let second : get_or ops (length s.done) op ≡ op =
+        ap (λ (l : List Operation). get_or l (length s.done) op) e ∙ get_or-append_seam s.done op todo op in
+        tells.once k (length s.done) op lt (omega arith) (first ∙ sym second)
+
+    is_new : HasSpelling op → IsNew now.operations op
+    is_new spelled = record {
+      counted = spelled.seq.0;
+      unheld = λ h. let (o, held, site, seq) = h in
+          let done : Contains s.done o = subst (λ (l : List Operation). Contains l o) ops_now held in
+          let there : Contains ops o =
+          subst (λ (l : List Operation). Contains l o) (sym e) (Contains-append_left s.done (op ∷ todo) o done) in
+          let same : o ≡ op =
+          (are_good start.text start.site ops tells).identities o op there here site seq in
+          not_done (subst (Contains s.done) same done);
+    }
+
+    next_good : Good (now.operations ++ op ∷ [])
+    next_good =
+        let first : List Operation = s.done ++ op ∷ [] in
+        let cut : take (length s.done + 1) ops ≡ first =
+        ap (take (length s.done + 1)) (e ∙ sym (append_assoc s.done (op ∷ []) todo))
+        ∙ take_at first todo (length s.done + 1) (length-append s.done (op ∷ [])) in
+        subst Good (cut ∙ ap (λ (l : List Operation). l ++ op ∷ []) (sym ops_now)) (tells.in_order (length s.done + 1))
+
+    of_text : op.text ≡ now.text
+    of_text =
+        All-contains (λ (o : Operation). o.text ≡ start.text) ops op tells.of_text here
+        ∙ sym (ap (λ (u : TextState). u.text) s.taken.grown)
+
+    next_judged : HasSpelling op → IsJudged now op ready
+    next_judged spelled =
+        let new : IsNew now.operations op = is_new spelled in (
+          of_text,
+          new,
+          (grows_by_verdict now.operations op s.taken.is.good s.taken.is.identified new).ready.1 next_good,
+        )
+
+    next_first : rest ≡ packed_after (told s.done) (op ∷ todo)
+        → IsFirst t now.text rest op (packed_after (told_on (told s.done) op) todo)
+    next_first left =
+        let follow : IsHistory start.text (s.done ++ op ∷ todo) =
+        subst (IsHistory start.text) e (are_history start.text start.site ops tells) in
+        let can : CanBeNext (told s.done) start.text op = next_at nothing_told start.text s.done op todo follow in
+        record {
+          can =
+              subst (λ (n : ℕ). CanBeNext t n op) (sym (ap (λ (v : TextState). v.text) s.taken.grown))
+              (subst (λ (v : Told). CanBeNext v start.text op) (sym s.tells) can);
+          parts =
+              left
+              ∙ ap (λ (v : Told). packed_next v op ++ packed_after (told_on (told s.done) op) todo) (sym s.tells);
+        }
+
+  -- what is to be read and taken in
+  record IsLeft : Type 0 where
+    op : Operation
+    after : List ℕ
+    first : IsFirst t now.text rest op after
+    judged : IsJudged now op ready
+    more : n < length ops
+
+  -- where bytes are left, there is a next one
+  left_there : 0 < length rest → IsLeft
+  left_there some =
+      let (todo, e, left) =
+      told_first start.text s.done ops rest s.are (are_history start.text start.site ops tells)
+      (sym spells ∙ s.parts) in
+      go todo e left
+    where
+      go : (todo : List Operation) → ops ≡ s.done ++ todo → rest ≡ packed_after (told s.done) todo → IsLeft
+      go [] e left = absurd (omega (arith, ap length left, some))
+      go (op ∷ todo) e left =
+          let first = next_first op todo e left in
+          record {
+            op = op;
+            after = packed_after (told_on (told s.done) op) todo;
+            first = first;
+            judged = next_judged op todo e first.can.spelled;
+            more = omega (arith, ap length e, length-append s.done (op ∷ todo), s.counted);
+          }
+
+  -- which isn't refused
+  pub left_ready : 0 < length rest
+      → ((op : Operation) (after : List ℕ) → IsFirst t now.text rest op after → IsJudged now op ready → ⊥) → ⊥
+  left_ready some none = let it = left_there some in none it.op it.after it.first it.judged
+
+  -- and not all were read
+  pub left_few : 0 < length rest → n ≡ MAX_PACKED → ⊥
+  left_few some all =
+      let it = left_there some in
+      let more = it.more in
+      let few = tells.few in
+      omega (arith, more, few, all)
+
+-- all operations were read
+pub all_read : (start now : TextState) (t : Told) (bytes : List ℕ) (n : ℕ) (rest : List ℕ)
+    → SoFar start now t bytes n rest → n ≤ MAX_PACKED → rest ≡ []
+    → (ops : List Operation) × ArePacked ops bytes × HasTakenAll start ops now
+all_read start now t bytes n rest s few none = (
+  s.done,
+  record {
+    few = omega (arith, s.counted, few);
+    spelled = all_spelled nothing_told start.text s.done s.are;
+    parts = s.parts ∙ ap (λ (r : List ℕ). packed s.done ++ r) none ∙ append-nil (packed s.done);
+  },
+  s.taken,
+)
+
+-- ---- the whole file
+
+-- what is to be known of the text that was made of the operations after a head
+abbrev pub IsTextOf : Head → List ℕ → TextState → Type 0
+IsTextOf head bytes r =
+    (r.text ≡ head.text) × (r.site ≡ head.site) × HasPackedFile r.text r.site r.operations
+    × (bytes ≡ packed r.operations) × HasTakenAll (empty_text r.text r.site) r.operations r
+
+-- what stands after others is bytes where all is
+pub fits_after : (front rest : List ℕ) → IsBytes (front ++ rest) → IsBytes rest
+fits_after front rest fits i =
+    subst (λ (b : ℕ). b < 256) (get_or-append-add front rest i 0) (fits (length front + i))
+
+module _ (file rest bytes : List ℕ) (head : Head) (tagged : file ≡ tag ++ rest)
+    (found : head_at rest ≡ Some (head, bytes)) where
+  -- the file begins as one
+  pub begins : IsBytes file → BeginsAsPackedFile file
+  begins fits =
+      let took = head_reads.takes rest head bytes (fits_after tag rest (subst IsBytes tagged fits)) found in
+      let is = took.in_range in
+      record {
+        text = head.text;
+        site = head.site;
+        rest = bytes;
+        text_number = is.text;
+        site_number = is.site;
+        parts = tagged ∙ ap (λ (l : List ℕ). tag ++ l) took.parts ∙ (simp append_assoc);
+      }
+
+  -- it has this file
+  has_file : (r : TextState) → IsBytes file → IsTextOf head bytes r → IsPackedFileOf r.text r.site r.operations file
+  has_file r fits (text, site, tells, are, taken) =
+      let after : rest ≡ head_spelling head ++ bytes =
+      (head_reads.takes rest head bytes (fits_after tag rest (subst IsBytes tagged fits)) found).parts in
+      let made : ℕ → ℕ → Head = λ t s. record { text = t; site = s } in
+      let same : head ≡ head_of r.text r.site =
+      ap (λ (t : ℕ). made t head.site) (sym text) ∙ ap (λ (s : ℕ). made r.text s) (sym site) in
+      record {
+        tells = tells;
+        spelled =
+            tagged ∙ ap (λ (l : List ℕ). tag ++ l) (after ∙ ap (λ (h : Head). head_spelling h ++ bytes) same
+            ∙ ap (λ (l : List ℕ). head_spelling (head_of r.text r.site) ++ l) are)
+            ∙ sym (file_parts r.text r.site r.operations);
+      }
+
+  pub loaded : (r : Result TextState Refusal) → IsBytes file → IfOk r (IsTextOf head bytes)
+      → IfOk r (λ t. IsPackedFileOf t.text t.site t.operations file
+      × HasTakenAll (empty_text t.text t.site) t.operations t)
+  loaded (Ok r) fits is = (has_file r fits is, is.4)
+  loaded (Err why) fits is = tt
+
+  -- where the operations are no text's, it is no packed file
+  pub no_file : ((ops : List Operation) → HasPackedFile head.text head.site ops → bytes ≡ packed ops → ⊥)
+      → (text site : ℕ) (ops : List Operation) → IsPackedFileOf text site ops file → ⊥
+  no_file none text site ops of =
+      let same : ◌≡◌ {A = Head × List ℕ} (head, bytes) (head_of text site, packed ops) =
+      some_is _ _ (sym found ∙ head_told text site ops file rest of tagged) in
+      let heads : head ≡ head_of text site = ap (λ (p : Head × List ℕ). p.0) same in
+      none ops (subst (λ (h : Head). HasPackedFile h.text h.site ops) (sym heads) of.tells)
+      (ap (λ (p : Head × List ℕ). p.1) same)
+
+-- where no head stands after the tag, it is no packed file
+pub no_head : (file rest : List ℕ) → file ≡ tag ++ rest → head_at rest ≡ None → (text site : ℕ)
+    (ops : List Operation) → IsPackedFileOf text site ops file → ⊥
+no_head file rest tagged none text site ops of =
+    let same : ◌≡◌ {A = Option (Head × List ℕ)} None (Some (head_of text site, packed ops)) =
+    sym none ∙ head_told text site ops file rest of tagged in absurd cc

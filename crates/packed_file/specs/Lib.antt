@@ -1,0 +1,2 @@
+pub mod PackedFiles
+pub mod Parts

@@ -1,0 +1,47 @@
+-- The parts of a packed file.
+use Rattle.std.specs.Prelude.{◌≡◌, ℕ, ◌≤◌, List, ◌++◌, length, All, Option, Some}
+use Rattle.std.specs.Int.{w16}
+use Rattle.byte_fields.specs.Fields.{◌>>=◌, number_spelling, positive_at}
+use Rattle.operations.specs.Operation.{Operation}
+use Rattle.operations.specs.Spelling.{HasSpelling}
+use Rattle.texts.specs.SiteFiles.{IsNumber}
+use Rattle.texts.specs.declared.took.Took.{Took}
+use Rattle.texts.specs.declared.took.Took.TheVariants.{Taken, Repeat, Waits}
+use Rattle.packed.specs.Reading.{CanBeNext}
+use Rattle.packed.specs.Spelling.{packed, packed_next}
+use Rattle.packed.specs.Told.{Told}
+use Rattle.packed_file.specs.declared.TheConstants.{MAX_PACKED}
+use Rattle.packed_file.specs.declared.reading.Head.{Head}
+
+-- what stands between the tag and the operations: the text and the site
+abbrev pub head_spelling : Head → List ℕ
+head_spelling h = number_spelling w16 h.text ++ number_spelling w16 h.site
+
+-- the text and the site are in range
+pub record IsHead (h : Head) : Type 0 where
+  pub text : IsNumber h.text
+  pub site : IsNumber h.site
+
+-- the text and the site
+unfoldable pub head_at : List ℕ → Option (Head × List ℕ)
+head_at bytes = do
+  text ← positive_at w16 bytes
+  site ← positive_at w16 text.1
+  Some (record { text = text.0; site = site.0 }, site.1)
+
+-- the bytes begin with this operation on the text, packed after those that told this, and the rest follows it
+pub record IsFirst (told : Told) (text : ℕ) (bytes : List ℕ) (op : Operation) (rest : List ℕ) : Type 0 where
+  pub can : CanBeNext told text op
+  pub parts : bytes ≡ packed_next told op ++ rest
+
+-- the bytes are these operations, packed, of which a file can tell so many
+pub record ArePacked (ops : List Operation) (bytes : List ℕ) : Type 0 where
+  pub few : length ops ≤ MAX_PACKED
+  pub spelled : All HasSpelling ops
+  pub parts : bytes ≡ packed ops
+
+-- an operation was taken in, rather than that it is held already or waits
+abbrev pub IsTaken : Took → Type 0
+IsTaken (Taken drained dropped stopped) = Unit {0}
+IsTaken Repeat = ⊥
+IsTaken Waits = ⊥

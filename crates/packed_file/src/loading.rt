@@ -1,0 +1,143 @@
+ghost use Rattle.std.specs.Prelude.{◌≡◌, ◌++◌, ◌⊎◌, ℕ, List, [], IfErr, IfOk, IsErrOf, OnOk};
+ghost use Rattle.operations.specs.Operation.{Operation};
+ghost use Rattle.operations.specs.Spelling.{HasSpelling};
+ghost use Rattle.set_laws.specs.Verdict.{ready};
+ghost use Rattle.texts.specs.Taking.{HasTaken, HasTakenAll, IsJudged};
+ghost use Rattle.texts.specs.TextState.{empty_text};
+ghost use Rattle.packed.specs.Spelling.{packed};
+ghost use Rattle.packed.specs.Told.{told_on};
+ghost use Rattle.packed_file.specs.PackedFiles.{BeginsAsPackedFile, HasPackedFile, IsNoPackedFile, IsPackedFileOf};
+ghost use Rattle.packed_file.specs.Parts.{ArePacked, IsFirst, IsTaken};
+
+use crate::MAX_PACKED;
+use crate::reading::{Head, head_at, rest_of_tag};
+use looks::Refusal;
+use operations::Op;
+use packed::History;
+use std::alloc::Global;
+use texts::{Replica, Took};
+
+// Why a file is refused, one of whose operations is refused for this.
+fn refusal_of_file(why: Refusal) -> Refusal
+    ensures short { (why ≡ Refusal.OutOfMemory) → result ≡ Refusal.OutOfMemory }
+    ensures value { (result ≡ Refusal.BadFile) ⊎ (result ≡ Refusal.OutOfMemory) }
+{
+    match why {
+        Refusal::OutOfMemory { .. } => why,
+        _ => Refusal::BadFile,
+    }
+}
+
+// What a file's operation does is that it is taken in. Refused `BadFile` alone.
+fn only_taken(took: Took) -> Result<(), Refusal>
+    ensures ok { OnOk result (IsTaken took) }
+    ensures errors { IfErr result (λ e. (e ≡ Refusal.BadFile) × (¬ IsTaken took)) }
+{
+    match took {
+        Took::Taken { .. } => Ok(()),
+        Took::Repeat | Took::Waits => Err(Refusal::BadFile),
+    }
+}
+
+// Takes in an operation. Refused `BadFile` where it isn't ready.
+fn take_next(replica: &mut Replica, op: Op) -> Result<(), Refusal>
+    requires { replica.old.waiting_room ≡ [] }
+    ensures ok { OnOk result (HasTaken replica.old op replica.new) }
+    ensures refused { IsErrOf result Refusal.BadFile → IsJudged replica.old op ready → ⊥ }
+    ensures errors { IfErr result (λ e. (e ≡ Refusal.BadFile) ⊎ (e ≡ Refusal.OutOfMemory)) }
+{
+    match replica.take_op(op) {
+        Ok(took) => only_taken(took),
+        Err(why) => Err(refusal_of_file(why)),
+    }
+}
+
+// Takes in the first of packed operations, and answers the bytes after it. Refused `BadFile` where none is there that is
+// ready.
+fn take_first<'a>(
+    replica: &mut Replica,
+    history: &mut History,
+    alloc: Global,
+    bytes: &'a [u8],
+) -> Result<&'a [u8], Refusal>
+    requires { replica.old.waiting_room ≡ [] }
+    ensures ok { IfOk result (λ rest. (op : Operation)
+        × IsFirst history.old replica.old.text bytes.now op rest.now
+        × (history.new ≡ told_on history.old op) × HasTaken replica.old op replica.new) }
+    ensures refused { IsErrOf result Refusal.BadFile → (op : Operation) (rest : List ℕ)
+        → IsFirst history.old replica.old.text bytes.now op rest → IsJudged replica.old op ready → ⊥ }
+    ensures errors { IfErr result (λ e. (e ≡ Refusal.BadFile) ⊎ (e ≡ Refusal.OutOfMemory)) }
+{
+    match history.next(alloc, replica.text(), bytes) {
+        Ok((op, rest)) => {
+            op.lemma_has_spelling();
+            take_next(replica, op)?;
+            Ok(rest)
+        }
+        Err(why) => Err(why),
+    }
+}
+
+// Takes in packed operations, of which there may be `MAX_PACKED`.
+fn take_all(replica: &mut Replica, alloc: Global, bytes: &[u8]) -> Result<(), Refusal>
+    requires { replica.old ≡ empty_text replica.old.text replica.old.site }
+    ensures ok { OnOk result ((ops : List Operation) × ArePacked ops bytes.now
+        × HasTakenAll replica.old ops replica.new) }
+    ensures refused { IsErrOf result Refusal.BadFile → (ops : List Operation)
+        → HasPackedFile replica.old.text replica.old.site ops → bytes.now ≡ packed ops → ⊥ }
+    ensures errors { IfErr result (λ e. (e ≡ Refusal.BadFile) ⊎ (e ≡ Refusal.OutOfMemory)) }
+{
+    replica.lemma_is_text();
+    let mut history = History::new(alloc);
+    let mut rest = bytes;
+    for _ in 0..MAX_PACKED {
+        if rest.is_empty() {
+            return Ok(());
+        }
+        rest = take_first(replica, &mut history, alloc, rest)?;
+    }
+    if !rest.is_empty() {
+        return Err(Refusal::BadFile);
+    }
+    Ok(())
+}
+
+// The text of a file, of which these bytes stand after its head.
+fn text_of(alloc: Global, head: Head, bytes: &[u8]) -> Result<Replica, Refusal>
+    ensures ok { IfOk result (λ r. (r.text ≡ head.text) × (r.site ≡ head.site)
+        × HasPackedFile r.text r.site r.operations × (bytes.now ≡ packed r.operations)
+        × HasTakenAll (empty_text r.text r.site) r.operations r) }
+    ensures refused { IsErrOf result Refusal.BadFile → (ops : List Operation)
+        → HasPackedFile head.text head.site ops → bytes.now ≡ packed ops → ⊥ }
+    ensures errors { IfErr result (λ e. (e ≡ Refusal.BadFile) ⊎ (e ≡ Refusal.OutOfMemory)) }
+{
+    let mut replica = Replica::new(alloc, head.text, head.site)?;
+    take_all(&mut replica, alloc, bytes)?;
+    replica.lemma_are_taken_once();
+    replica.lemma_is_text();
+    Ok(replica)
+}
+
+/// The text of a packed file, as its site kept it: with the same operations, taken in in the same order. Nothing waits
+/// for it, and nothing was cut last.
+///
+/// Refused `BadFile` where no text of a site has this file. Where it doesn't begin as one this is told before memory is
+/// asked for; where an operation is at fault, `OutOfMemory` may come in the place of it, as of all else. The time, and the
+/// memory, are those of taking the operations in, of which a file has `MAX_PACKED` at most. This project's own.
+pub fn load_packed(alloc: Global, bytes: &[u8]) -> Result<Replica, Refusal>
+    // What is loaded has this file, and nothing else was done to it.
+    ensures ok { IfOk result (λ r. IsPackedFileOf r.text r.site r.operations bytes.now
+        × HasTakenAll (empty_text r.text r.site) r.operations r) }
+    ensures refused { IsErrOf result Refusal.BadFile → IsNoPackedFile bytes.now }
+    // Whether there is memory or not.
+    ensures short { IsErrOf result Refusal.OutOfMemory → BeginsAsPackedFile bytes.now }
+    ensures errors { IfErr result (λ e. (e ≡ Refusal.BadFile) ⊎ (e ≡ Refusal.OutOfMemory)) }
+{
+    let Some(rest) = rest_of_tag(bytes) else {
+        return Err(Refusal::BadFile);
+    };
+    let Some((head, operations)) = head_at(rest) else {
+        return Err(Refusal::BadFile);
+    };
+    text_of(alloc, head, operations)
+}
