@@ -156,7 +156,7 @@ IsSoundTask (arrange (Scroll v line)) = ⊥
 IsSoundTask (arrange (Point cell)) = ⊥
 IsSoundTask (arrange (Select beg end)) = ⊥
 IsSoundTask (print v) = ⊤
-IsSoundTask (keep text name) = ⊥
+IsSoundTask (keep form text name) = ⊥
 IsSoundTask (reopen text name) = ⊥
 
 module _ (s : State) (i : ℕ) (d : SiteTexts) (w : Screened) where
@@ -189,7 +189,7 @@ module _ (s : State) (i : ℕ) (d : SiteTexts) (w : Screened) where
   does_sound (arrange (Point cell)) r new sound does = absurd sound
   does_sound (arrange (Select beg end)) r new sound does = absurd sound
   does_sound (print v) r new sound (part, is, same) = subst IsSoundReply (sym is) tt
-  does_sound (keep text name) r new sound does = absurd sound
+  does_sound (keep form text name) r new sound does = absurd sound
   does_sound (reopen text name) r new sound does = absurd sound
 
   short_sound : (task : Task) (r : Reply) (new : State) → ShortTask s i d w task untouched r new → IsSoundReply r
@@ -210,7 +210,7 @@ module _ (s : State) (i : ℕ) (d : SiteTexts) (w : Screened) where
   short_sound (arrange (Point cell)) r new short = absurd short
   short_sound (arrange (Select beg end)) r new short = absurd short
   short_sound (print v) r new (part, (is, same)) = subst IsSoundReply (sym is) refl
-  short_sound (keep text name) r new (part, few, (is, same)) = subst IsSoundReply (sym is) refl
+  short_sound (keep form text name) r new (part, few, (is, same)) = subst IsSoundReply (sym is) refl
   short_sound (reopen text name) r new (fresh, does) = absurd does
 
 replies_sound : (s : State) (i : ℕ) (task : Task) (r : Reply) (new : State) → IsSoundTask task

@@ -6,12 +6,12 @@ use Rattle.looks.specs.declared.refusal.Refusal.{Refusal}
 use Rattle.looks.specs.declared.refusal.Refusal.TheVariants.{BadFile, Conflict, OutOfMemory, ReadFault, WrongText}
 use Rattle.operations.specs.Operation.{Operation}
 use Rattle.shelf.specs.Files.{Counts, Files, HasFile, IsThere, SameFiles}
-use Rattle.texts.specs.SiteFiles.{IsNoSiteFile, IsSiteFileOf}
 use Rattle.texts.specs.Taking.{HasTakenAll}
 use Rattle.texts.specs.Text.{IsText}
 use Rattle.texts.specs.TextState.{TextState, all_told, empty_text}
 use Rattle.texts.specs.declared.edit_refusal.EditRefusal.{EditRefusal}
 use Rattle.texts.specs.declared.edit_refusal.EditRefusal.TheVariants.{Whole}
+use Rattle.kept_file.specs.KeptFiles.{IsKeptFileOf, IsNoKeptFile}
 use Rattle.machine.specs.SiteTexts.{SiteTexts, InText, IsTextOf, with_text}
 use Rattle.machine.specs.Events.{Part, Reply, ask, done, failed, refuses, reopen, untouched, went_well}
 use Rattle.machine.specs.State.{IsDeskAt, State}
@@ -120,7 +120,7 @@ module _ (d : SiteTexts) (w : Screened) (text : ℕ) (t : TextState) (there : Is
         inr ((t, (d, stands.texts, there), fresh), (file, ap (λ (f : Files). f name) is ∙ read, refused)))
 
     -- the file is no site's
-    bad : (file : List ℕ) → told'.faults ≡ told.faults → HasFile told.files name file → IsNoSiteFile file
+    bad : (file : List ℕ) → told'.faults ≡ told.faults → HasFile told.files name file → IsNoKeptFile file
         → ReopensSo (Err (Whole BadFile)) seen sent told told'
     bad file unfailed has none =
         let (files, files', are, stay, read) = files_read told.files told'.files name file same has in
@@ -128,7 +128,7 @@ module _ (d : SiteTexts) (w : Screened) (text : ℕ) (t : TextState) (there : Is
         (λ s i new stands is refused. inl (reopens s i went_well (refuses BadFile) new stands
         (file, ap (λ (f : Files). f name) is ∙ read, inl (none, refused))))
 
-    pub unread_step : (why : Refusal) → ReadsNot IsNoSiteFile told told' name why → ReopensSo (Err (Whole why)) seen sent told told'
+    pub unread_step : (why : Refusal) → ReadsNot IsNoKeptFile told told' name why → ReopensSo (Err (Whole why)) seen sent told told'
     unread_step why (inl (fault, counted)) =
         subst (λ (e : Refusal). ReopensSo (Err (Whole e)) seen sent told told') (sym fault) (unread counted)
     unread_step why (inr (inl (memory, has, unfailed))) =
@@ -137,7 +137,7 @@ module _ (d : SiteTexts) (w : Screened) (text : ℕ) (t : TextState) (there : Is
         subst (λ (e : Refusal). ReopensSo (Err (Whole e)) seen sent told told') (sym is_bad) (bad file unfailed has none)
 
     module _ (kept : TextState) (file : List ℕ) (has : HasFile told.files name file)
-        (of : IsSiteFileOf kept.text kept.site kept.operations file)
+        (of : IsKeptFileOf kept.text kept.site kept.operations file)
         (taken : HasTakenAll (empty_text kept.text kept.site) kept.operations kept)
         (unfailed : told'.faults ≡ told.faults) where
       -- it is another text's, or another site's

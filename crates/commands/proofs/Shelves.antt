@@ -10,9 +10,9 @@ use Rattle.text_file.specs.declared.TheConstants.{MAX_TEXT as MAX_STORED}
 use Rattle.command_words.specs.declared.command.Command.{Command}
 use Rattle.reader_scanner.specs.declared.token.TokenValue.{TokenValue}
 use Rattle.shelf.specs.Files.{Counts, Files, HasFile, IsThere, OthersStay, SameFiles}
-use Rattle.texts.specs.SiteFiles.{site_bytes}
 use Rattle.texts.specs.TextState.{TextState, shown_items}
-use Rattle.texts.specs.declared.TheConstants.{MAX_KEPT}
+use Rattle.kept_file.specs.KeptFiles.{kept_bytes, most_kept}
+use Rattle.kept_file.specs.declared.form.KeptForm.{KeptForm}
 use Rattle.texts.specs.declared.edit_refusal.EditRefusal.{EditRefusal}
 use Rattle.texts.specs.declared.edit_refusal.EditRefusal.TheVariants.{Whole}
 use Rattle.machine.specs.SiteTexts.{SiteTexts, IsTextOf}
@@ -366,11 +366,11 @@ module _ (d : SiteTexts) (w : Screened) (text : ℕ) (t : TextState) (there : Is
       (λ s i part r new stands does. (t, (d, stands.texts, there), does))
       (λ s i r new stands few refused. (refl, (t, (d, stands.texts, there), few), refused)) result writes
 
-  pub keep_step : WritesSite t name told told' result
-      → IsShelfStep (record { texts = d; screen = w }) (λ i. ask i (keep text name)) (written_answer result)
+  pub keep_step : (form : KeptForm) → WritesSite form t name told told' result
+      → IsShelfStep (record { texts = d; screen = w }) (λ i. ask i (keep form text name)) (written_answer result)
       (record { texts = d; screen = w }) sent sent told told'
-  keep_step writes =
-      writes_step d w (keep text name) (length t.operations) MAX_KEPT name (site_bytes t.text t.site t.operations) told told' sent
+  keep_step form writes =
+      writes_step d w (keep form text name) (length t.operations) (most_kept form) name (kept_bytes form t.text t.site t.operations) told told' sent
       (λ s i part r new stands does. (t, (d, stands.texts, there), does))
       (λ s i r new stands few refused. (refl, (t, (d, stands.texts, there), few), refused)) result writes
 

@@ -6,10 +6,10 @@ use Rattle.char_files.specs.Stretch.{Item}
 use Rattle.text_file.specs.Files.{IsFileOf, IsNoFile, formatted}
 use Rattle.text_file.specs.declared.TheConstants.{MAX_TEXT as MAX_STORED}
 use Rattle.shelf.specs.Files.{Counts, HasFile, IsThere, OthersStay, Write, with_write}
-use Rattle.texts.specs.SiteFiles.{IsNoSiteFile, IsSiteFileOf, site_bytes}
 use Rattle.texts.specs.Taking.{HasTakenAll}
 use Rattle.texts.specs.TextState.{TextState, all_told, empty_text, shown_items}
-use Rattle.texts.specs.declared.TheConstants.{MAX_KEPT}
+use Rattle.kept_file.specs.KeptFiles.{IsKeptFileOf, IsNoKeptFile, kept_bytes, most_kept}
+use Rattle.kept_file.specs.declared.form.KeptForm.{KeptForm}
 use Rattle.texts.specs.declared.edit_refusal.EditRefusal.{EditRefusal}
 use Rattle.texts.specs.declared.edit_refusal.EditRefusal.TheVariants.{Whole}
 use Rattle.machine.specs.SiteTexts.{IsTextOf, with_text}
@@ -33,9 +33,9 @@ ReadsText reported reported' name (Err why) = ReadsNot IsNoFile reported reporte
 
 -- a text was read from its site's file, with nothing else done to it; or not
 abbrev pub ReadsSite : (reported reported' : ShelfSeen) → (name : List ℕ) → Result TextState Refusal → Type 0
-ReadsSite reported reported' name (Ok t) = (file : List ℕ) × HasFile reported.files name file × IsSiteFileOf t.text t.site t.operations file
+ReadsSite reported reported' name (Ok t) = (file : List ℕ) × HasFile reported.files name file × IsKeptFileOf t.text t.site t.operations file
     × HasTakenAll (empty_text t.text t.site) t.operations t × (reported'.faults ≡ reported.faults)
-ReadsSite reported reported' name (Err why) = ReadsNot IsNoSiteFile reported reported' name why
+ReadsSite reported reported' name (Err why) = ReadsNot IsNoKeptFile reported reported' name why
 
 -- why a file wasn't written: there is too much for one, and memory may be short, and no file changed; or the shelf failed
 abbrev pub WritesNot : (much most : ℕ) → (name : List ℕ) → (reported reported' : ShelfSeen) → Refusal → Type 0
@@ -54,9 +54,9 @@ WritesFile much most name file reported reported' (Err why) = WritesNot much mos
 abbrev pub WritesText : TextState → (name : List ℕ) → (reported reported' : ShelfSeen) → Result (Unit {0}) Refusal → Type 0
 WritesText t name = WritesFile (length (shown_items t)) MAX_STORED name (formatted (shown_items t))
 
--- all that a text has taken in was written as its site's file
-abbrev pub WritesSite : TextState → (name : List ℕ) → (reported reported' : ShelfSeen) → Result (Unit {0}) Refusal → Type 0
-WritesSite t name = WritesFile (length t.operations) MAX_KEPT name (site_bytes t.text t.site t.operations)
+-- all that a text has taken in was written as its site's file in this form
+abbrev pub WritesSite : KeptForm → TextState → (name : List ℕ) → (reported reported' : ShelfSeen) → Result (Unit {0}) Refusal → Type 0
+WritesSite form t name = WritesFile (length t.operations) (most_kept form) name (kept_bytes form t.text t.site t.operations)
 
 -- a text begins as it was kept, and has told its changes; or that is another text's, or another site's
 abbrev pub BeginsSo : DeskSeen → (text : ℕ) → (kept : TextState) → Result Answer EditRefusal → DeskSeen → Type 0
@@ -77,8 +77,8 @@ WritesOnce fault name file was now (Err why) =
 abbrev pub StoresOnce : TextState → (name : List ℕ) → (was now : Option (List Write)) → Result Answer EditRefusal → Type 0
 StoresOnce t name = WritesOnce (Whole WriteFault) name (formatted (shown_items t))
 
-abbrev pub KeepsOnce : TextState → (name : List ℕ) → (was now : Option (List Write)) → Result Answer EditRefusal → Type 0
-KeepsOnce t name = WritesOnce (Whole WriteFault) name (site_bytes t.text t.site t.operations)
+abbrev pub KeepsOnce : KeptForm → TextState → (name : List ℕ) → (was now : Option (List Write)) → Result Answer EditRefusal → Type 0
+KeepsOnce form t name = WritesOnce (Whole WriteFault) name (kept_bytes form t.text t.site t.operations)
 
 -- the shelf was asked for one write at most
 abbrev pub WritesOnceAtMost : (was now : Option (List Write)) → Type 0

@@ -2,9 +2,9 @@
 
 ghost use Rattle.std.specs.Prelude.{◌≡◌, ◌≤◌, ◌==◌, ◌&&◌, ℕ, List, IsErrOf, IsFalse};
 ghost use Rattle.shelf.specs.Files.{Counts, SameFiles};
-ghost use Rattle.texts.specs.SiteFiles.{site_bytes};
 ghost use Rattle.texts.specs.Taking.{HasTakenAll};
 ghost use Rattle.texts.specs.TextState.{TextState, empty_text};
+ghost use Rattle.kept_file.specs.KeptFiles.{kept_bytes};
 ghost use Rattle.machine.specs.SiteTexts.{IsTextOf};
 ghost use Rattle.machine.specs.Events.{ask, keep, reopen};
 ghost use Rattle.machine.specs.Tasks.{has_begun};
@@ -17,6 +17,7 @@ use crate::desk::Desk;
 use crate::executing::written;
 use crate::telling::tell;
 use char_files::TextNo;
+use kept_file::{KeptForm, load_kept, store_kept};
 use looks::Refusal;
 use shelf::Shelf;
 use std::alloc::Global;
@@ -44,51 +45,54 @@ fn read_site<S: Shelf>(alloc: Global, name: &str, shelf: &mut S) -> Result<Repli
     ensures writes { S.writes shelf.new ≡ S.writes shelf.old }
 {
     let file = shelf.read(alloc, name)?;
-    site_file::load_site(alloc, file.as_slice())
+    load_kept(alloc, file.as_slice())
 }
 
-// Writes all that a text has taken in.
+// Writes all that a text has taken in, in this form.
 fn write_site<S: Shelf>(
     alloc: Global,
+    form: KeptForm,
     replica: &Replica,
     name: &str,
     shelf: &mut S,
 ) -> Result<(), Refusal>
-    ensures writes { WritesSite replica.now name.now (shelf_seen (S.files shelf.old) (S.faults shelf.old)) (shelf_seen (S.files shelf.new) (S.faults shelf.new)) result }
+    ensures writes { WritesSite form replica.now name.now (shelf_seen (S.files shelf.old) (S.faults shelf.old)) (shelf_seen (S.files shelf.new) (S.faults shelf.new)) result }
     ensures once { WritesOnce Refusal.WriteFault name.now
-        (site_bytes replica.now.text replica.now.site replica.now.operations) (S.writes shelf.old) (S.writes shelf.new) result }
+        (kept_bytes form replica.now.text replica.now.site replica.now.operations) (S.writes shelf.old) (S.writes shelf.new) result }
     ensures fault { IsErrOf result Refusal.WriteFault → Counts (S.faults shelf.old) (S.faults shelf.new) }
 {
     let mut file = Vec::new(alloc);
-    site_file::store_site(replica, &mut file)?;
+    store_kept(form, replica, &mut file)?;
     shelf.write(name, file.as_slice())
 }
 
 impl Desk {
-    /// Keeps a text in its site's file of this name: all that it has taken in, so that the site can go on from there.
+    /// Keeps a text in its site's file of this name, in this form: all that it has taken in, so that the site can go on from
+    /// there.
     ///
-    /// Refused, in this order, `BadFile` where this is more than 2^32 - 1 operations, `OutOfMemory`, and `WriteFault` where the
+    /// Refused, in this order, `BadFile` where this is more operations than such a file tells, `OutOfMemory`, and `WriteFault` where the
     /// shelf fails: then nothing is said of that file.
     pub fn keep<S: Shelf>(
         &self,
+        form: KeptForm,
         text: TextNo,
         name: &str,
         shelf: &mut S,
     ) -> Result<Answer, EditRefusal>
         requires on_desk { text ≤ MAX_TEXT }
-        ensures step { (sent : List (List ℕ)) → IsShelfStep self.now (λ i. ask i (keep text name.now)) result self.now sent sent
+        ensures step { (sent : List (List ℕ)) → IsShelfStep self.now (λ i. ask i (keep form text name.now)) result self.now sent sent
             (shelf_seen (S.files shelf.old) (S.faults shelf.old)) (shelf_seen (S.files shelf.new) (S.faults shelf.new)) }
         ensures once { (t : TextState) × IsTextOf self.now.texts text t
-            × KeepsOnce t name.now (S.writes shelf.old) (S.writes shelf.new) result }
+            × KeepsOnce form t name.now (S.writes shelf.old) (S.writes shelf.new) result }
         ensures fault { IsFault result → Counts (S.faults shelf.old) (S.faults shelf.new) }
     {
-        written(write_site(self.alloc, self.texts.replica(text), name, shelf))
+        written(write_site(self.alloc, form, self.texts.replica(text), name, shelf))
     }
 
     /// Begins a text, in which nothing was done yet, as its site's file of this name tells.
     ///
     /// Refused, in this order, `Conflict` where the text has taken something in or something waits for it; `ReadFault` where the
-    /// shelf fails; `BadFile` where the file is no site's file; `WrongText` where it is another text's, or another site's.
+    /// shelf fails; `BadFile` where the file is no site's file, in either form; `WrongText` where it is another text's, or another site's.
     /// `OutOfMemory` may come in the place of any from `ReadFault` on. Nothing is changed then.
     ///
     /// No own operation may have been made since the file was kept: the next one gets the number of that again.

@@ -11,6 +11,7 @@ use Rattle.texts.specs.declared.edit_refusal.EditRefusal.TheVariants.{Whole, Par
 use Rattle.texts.specs.declared.merge_refusal.MergeRefusal.{MergeRefusal}
 use Rattle.texts.specs.declared.merge_refusal.MergeRefusal.TheVariants.{Whole as MergesNothing, Stopped}
 use Rattle.texts.specs.declared.took.Took.{Took}
+use Rattle.kept_file.specs.declared.form.KeptForm.{KeptForm}
 use Rattle.machine.specs.declared.asked.Arrangement.{Arrangement}
 use Rattle.machine.specs.declared.asked.Query.{Query}
 use Rattle.machine.specs.declared.asked.View.{View}
@@ -21,8 +22,8 @@ pub data Delivery : Type 0 where
   bytes : (message : List ℕ) → Delivery
 
 -- What a desk is asked beside the events of its texts. To put characters in, or the recalled stretch, or a file's text, is
--- done at the caret, and a search begins there; a text that is kept is written to its site's file with all that it has taken
--- in, and a text in which nothing was done yet begins as such a file tells; a command that can't be done is refused for this.
+-- done at the caret, and a search begins there; a text that is kept is written to its site's file, in one of two forms, with all
+-- that it has taken in, and a text in which nothing was done yet begins as such a file tells; a command that can't be done is refused for this.
 pub data Task : Type 0 where
   refuse : (why : Refusal) → Task
   insert_at_caret : (items : List Item) → Task
@@ -34,7 +35,7 @@ pub data Task : Type 0 where
   forget : (text : ℕ) → Task
   arrange : (a : Arrangement) → Task
   print : (v : View) → Task
-  keep : (text : ℕ) (name : List ℕ) → Task
+  keep : (form : KeptForm) (text : ℕ) (name : List ℕ) → Task
   reopen : (text : ℕ) (name : List ℕ) → Task
 
 -- What may happen. A desk is told by its index among the run's. An edit is a site's own, of one of its texts, by positions or by

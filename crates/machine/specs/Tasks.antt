@@ -13,10 +13,10 @@ use Rattle.shelf.specs.Files.{Files}
 use Rattle.text_file.specs.Files.{IsFileOf, IsNoFile, formatted}
 use Rattle.text_file.specs.declared.TheConstants.{MAX_TEXT as MAX_STORED}
 use Rattle.texts.specs.Edit.{Edit, anchor_before, insertion, recalling}
-use Rattle.texts.specs.SiteFiles.{IsNoSiteFile, IsSiteFileOf, site_bytes}
 use Rattle.texts.specs.Taking.{HasTakenAll}
 use Rattle.texts.specs.TextState.{TextState, empty_text, shown_items, shown_of, with_room}
-use Rattle.texts.specs.declared.TheConstants.{MAX_KEPT}
+use Rattle.kept_file.specs.KeptFiles.{IsKeptFileOf, IsNoKeptFile, kept_bytes, most_kept}
+use Rattle.kept_file.specs.declared.form.KeptForm.{KeptForm}
 use Rattle.machine.specs.SiteTexts.{SiteTexts}
 use Rattle.machine.specs.Events.{Part, Reply, Task, arrange, change, done, failed, forget, forgot, found, keep, load, messages_of}
 use Rattle.machine.specs.Events.{not_found, opens, print, prints, insert_at_caret, recall_at_caret, refuse, refuses, reopen, search, store}
@@ -126,10 +126,10 @@ Writes s much most name file (failed left) r new =
 abbrev pub Stores : State → TextState → (name : List ℕ) → Part → Reply → State → Type 0
 Stores s t name part r new = Writes s (length (shown_items t)) MAX_STORED name (formatted (shown_items t)) part r new
 
--- a keeping of all that a text has taken in
-abbrev pub Keeps : State → TextState → (name : List ℕ) → Part → Reply → State → Type 0
-Keeps s t name part r new =
-    Writes s (length t.operations) MAX_KEPT name (site_bytes t.text t.site t.operations) part r new
+-- a keeping, in this form, of all that a text has taken in
+abbrev pub Keeps : State → KeptForm → TextState → (name : List ℕ) → Part → Reply → State → Type 0
+Keeps s form t name part r new =
+    Writes s (length t.operations) (most_kept form) name (kept_bytes form t.text t.site t.operations) part r new
 
 -- whether a text has taken something in, or something waits for it
 abbrev pub has_begun : TextState → Bool
@@ -143,8 +143,8 @@ BeginsWith s i text ops r new =
 -- a text begins as a file tells: that is no site's file, or another text's or site's; or it is this one's
 abbrev pub BeginsAs : State → (i text : ℕ) → TextState → (file : List ℕ) → Reply → State → Type 0
 BeginsAs s i text t file r new =
-    (IsNoSiteFile file × Refuses s BadFile r new)
-    ⊎ ((of_text of_site : ℕ) × (ops : List Operation) × IsSiteFileOf of_text of_site ops file
+    (IsNoKeptFile file × Refuses s BadFile r new)
+    ⊎ ((of_text of_site : ℕ) × (ops : List Operation) × IsKeptFileOf of_text of_site ops file
     × MatchBool (of_text == t.text && of_site == t.site) (BeginsWith s i text ops r new) (Refuses s WrongText r new))
 
 -- a reopening of a text in which nothing was done yet: the file wasn't read; or the text begins as it tells
@@ -198,7 +198,8 @@ DoesTask s i d w (forget text) part r new = (part ≡ untouched) × Forgets s i 
 DoesTask s i d w (arrange a) part r new = (part ≡ untouched) × Arranges s i d w a r new
 DoesTask s i d w (print v) part r new =
     (part ≡ untouched) × (r ≡ prints (lines_of_view d w v)) × (new ≡ s)
-DoesTask s i d w (keep text name) part r new = (t : TextState) × IsTextAt s i text t × Keeps s t name part r new
+DoesTask s i d w (keep form text name) part r new =
+    (t : TextState) × IsTextAt s i text t × Keeps s form t name part r new
 DoesTask s i d w (reopen text name) part r new =
     (t : TextState) × IsTextAt s i text t
     × MatchBool (has_begun t) ((part ≡ untouched) × Refuses s Conflict r new) (Reopens s i text t name part r new)
@@ -225,8 +226,8 @@ ShortTask s i d w (arrange (Open track text row)) part r new =
     (part ≡ untouched) × IsOk (arranged d w (Open track text row)) × Refuses s OutOfMemory r new
 ShortTask s i d w (arrange a) part r new = ⊥
 ShortTask s i d w (print v) part r new = (part ≡ untouched) × Refuses s OutOfMemory r new
-ShortTask s i d w (keep text name) part r new =
-    (part ≡ untouched) × ((t : TextState) × IsTextAt s i text t × (length t.operations ≤ MAX_KEPT))
+ShortTask s i d w (keep form text name) part r new =
+    (part ≡ untouched) × ((t : TextState) × IsTextAt s i text t × (length t.operations ≤ most_kept form))
     × Refuses s OutOfMemory r new
 ShortTask s i d w (reopen text name) part r new =
     ((t : TextState) × IsTextAt s i text t × IsFalse (has_begun t)) × ReopensShort s name part r new

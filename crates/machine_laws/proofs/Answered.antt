@@ -28,11 +28,12 @@ use Rattle.operations.specs.Spelling.{spelling}
 use Rattle.texts.specs.Edit.{Edit, after, insertion, is_in_text, looks_change, plan, recalling}
 use Rattle.texts.specs.Laws.{OwnEditsArePlain}
 use Rattle.texts.specs.Outcome.{Edits, Shows, count_standing, first_refusal}
-use Rattle.texts.specs.SiteFiles.{HasSiteFile, IsNoSiteFile, IsSiteFileOf, site_bytes}
+use Rattle.texts.specs.SiteFiles.{HasSiteFile}
 use Rattle.texts.specs.Text.{IsText}
 use Rattle.texts.specs.Taking.{HasTakenAll}
 use Rattle.texts.specs.TextState.{TextState, all_told, empty_text, shown_items, with_room}
-use Rattle.texts.specs.declared.TheConstants.{MAX_KEPT}
+use Rattle.kept_file.specs.KeptFiles.{IsKeptFileOf, IsNoKeptFile, kept_bytes, most_kept}
+use Rattle.kept_file.proofs.KeptFiles.{has_site_file}
 use Rattle.texts.specs.declared.edit_refusal.EditRefusal.{EditRefusal}
 use Rattle.texts.specs.declared.edit_refusal.EditRefusal.TheVariants.{Whole, Partial}
 use Rattle.convergence.proofs.OwnOperations.{standing_within}
@@ -266,11 +267,11 @@ module _ (plain : OwnEditsArePlain) (s : State) (i : ℕ) (d : SiteTexts) (w : S
       by false other = ((refuses WrongText), s, (refl, refl))
 
   begins_as : (text : ℕ) (t : TextState) (file : List ℕ) → IsTextAt s i text t
-      → IsNoSiteFile file ⊎ ((number site : ℕ) × (ops : List Operation) × IsSiteFileOf number site ops file)
+      → IsNoKeptFile file ⊎ ((number site : ℕ) × (ops : List Operation) × IsKeptFileOf number site ops file)
       → (r : Reply) × (new : State) × BeginsAs s i text t file r new
   begins_as text t file there (inl none) = ((refuses BadFile), s, inl (none, (refl, refl)))
   begins_as text t file there (inr (number, site, ops, is)) =
-      let (r, new, goes) = begins_of text t number site ops there is.tells in
+      let (r, new, goes) = begins_of text t number site ops there (has_site_file number site ops file is) in
       (r, new, inr (number, site, ops, is, goes))
 
   -- what is done where something was done in the text already, or nothing was yet
@@ -332,11 +333,11 @@ module _ (plain : OwnEditsArePlain) (s : State) (i : ℕ) (d : SiteTexts) (w : S
       (forgot (length t.waiting_room), new, (free, forgotten text t there new goes))
   tasks (arrange a) part text free = let (r, new, g) = arranges s i (arranged d w a) in (r, new, (free, g))
   tasks (print v) part text free = (prints (lines_of_view d w v), s, (free, refl, refl))
-  tasks (keep text name) untouched lemma_has_text (t, there, long) = ((refuses BadFile), s, (t, there, (long, (refl, refl))))
-  tasks (keep text name) went_well lemma_has_text (t, there, few) =
-      let file : List ℕ = site_bytes t.text t.site t.operations in
+  tasks (keep form text name) untouched lemma_has_text (t, there, long) = ((refuses BadFile), s, (t, there, (long, (refl, refl))))
+  tasks (keep form text name) went_well lemma_has_text (t, there, few) =
+      let file : List ℕ = kept_bytes form t.text t.site t.operations in
       (done, with_file name (Some file), (t, there, (few, refl, becomes name (Some file))))
-  tasks (keep text name) (failed left) lemma_has_text (t, there, few) =
+  tasks (keep form text name) (failed left) lemma_has_text (t, there, few) =
       ((refuses WriteFault), with_file name left, (t, there, (few, refl, becomes name left)))
   tasks (reopen text name) untouched lemma_has_text (t, there, begun) =
       ((refuses Conflict), s, (t, there, by_begun text t name untouched _ s true begun (refl, (refl, refl))))
@@ -365,7 +366,7 @@ module _ (plain : OwnEditsArePlain) (s : State) (i : ℕ) (d : SiteTexts) (w : S
   parts (forget text) lemma_has_text = (untouched, refl)
   parts (arrange a) text = (untouched, refl)
   parts (print v) text = (untouched, refl)
-  parts (keep text name) (t, there) = elim (cases_lt MAX_KEPT (length t.operations)) [
+  parts (keep form text name) (t, there) = elim (cases_lt (most_kept form) (length t.operations)) [
     | inl long ↦ (untouched, (t, there, long))
     | inr few ↦ (went_well, (t, there, few))
   ]

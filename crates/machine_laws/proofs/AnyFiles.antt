@@ -91,7 +91,7 @@ module _ (now : Files) where
     task_over (forget text) r new (free, does) = (free, at_text_over _ s new i text [] does)
     task_over (arrange a) r new (free, does) = (free, arranged_over (arranged d w a) r new does)
     task_over (print v) r new (free, is, same) = (free, is, ap over same)
-    task_over (keep text name) r new (t, there, does) = (t, there, written_over _ _ name [] r new does)
+    task_over (keep form text name) r new (t, there, does) = (t, there, written_over _ _ name [] r new does)
     task_over (reopen text name) r new (t, there, does) = (t, there, reopened_over (has_begun t) r new does)
 
     short_over : (t : Task) (r : Reply) (new : State) → ShortTask s i d w t untouched r new
@@ -114,7 +114,7 @@ module _ (now : Files) where
     short_over (arrange (Point cell)) r new does = absurd does
     short_over (arrange (Select beg end)) r new does = absurd does
     short_over (print v) r new (free, refused) = (free, refused_over s new OutOfMemory r refused)
-    short_over (keep text name) r new (free, there, refused) = (free, there, refused_over s new OutOfMemory r refused)
+    short_over (keep form text name) r new (free, there, refused) = (free, there, refused_over s new OutOfMemory r refused)
     short_over (reopen text name) r new (there, does) = absurd does
 
   at_over : (s : State) (i : ℕ) (d : SiteTexts) (w : Screened) → IsDeskAt s i d w → IsDeskAt (over s) i d w
@@ -186,7 +186,7 @@ task_asks_for_none s i d w (change text e) part r new none does = does.0
 task_asks_for_none s i d w (forget text) part r new none does = does.0
 task_asks_for_none s i d w (arrange a) part r new none does = does.0
 task_asks_for_none s i d w (print v) part r new none does = does.0
-task_asks_for_none s i d w (keep text name) part r new none does = absurd none
+task_asks_for_none s i d w (keep form text name) part r new none does = absurd none
 task_asks_for_none s i d w (reopen text name) part r new none does = absurd none
 
 short_task_asks_for_none : (s : State) (i : ℕ) (d : SiteTexts) (w : Screened) (t : Task) (part : Part) (r : Reply) (new : State)
@@ -206,7 +206,7 @@ short_task_asks_for_none s i d w (arrange (Scroll v line)) part r new none does 
 short_task_asks_for_none s i d w (arrange (Point cell)) part r new none does = absurd does
 short_task_asks_for_none s i d w (arrange (Select beg end)) part r new none does = absurd does
 short_task_asks_for_none s i d w (print v) part r new none does = does.0
-short_task_asks_for_none s i d w (keep text name) part r new none does = absurd none
+short_task_asks_for_none s i d w (keep form text name) part r new none does = absurd none
 short_task_asks_for_none s i d w (reopen text name) part r new none does = absurd none
 
 whole_asks_for_none : (s : State) (e : Event) (part : Part) (r : Reply) (new : State) → AsksForNoFile e → Does s e part r new

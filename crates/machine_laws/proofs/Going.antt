@@ -305,7 +305,7 @@ module _ (s : State) (i : ℕ) (d : SiteTexts) (w : Screened) (at : IsDeskAt s i
   task_goes (forget text) part r new does = forgot_room text r new does.1
   task_goes (arrange a) part r new does = arranges a (arranged d w a) r new refl does.1
   task_goes (print v) part r new (free, is, is_new) = same_goes s new r (prints (lines_of_view d w v)) is refl is_new
-  task_goes (keep text name) part r new (t, there, does) = written _ _ name _ part r new does
+  task_goes (keep form text name) part r new (t, there, does) = written _ _ name _ part r new does
   task_goes (reopen text name) part r new (t, there, does) = elim (by_test (has_begun t) _ _ does) [
     | inl begun ↦ refused_goes s new Conflict r begun.1.1
     | inr fresh ↦ reopened text t there fresh.0 name part r new fresh.1
@@ -330,7 +330,7 @@ module _ (s : State) (i : ℕ) (d : SiteTexts) (w : Screened) (at : IsDeskAt s i
   task_goes_short (arrange (Point cell)) part r new does = absurd does
   task_goes_short (arrange (Select beg end)) part r new does = absurd does
   task_goes_short (print v) part r new (free, refused) = refused_goes s new OutOfMemory r refused
-  task_goes_short (keep text name) part r new (free, there, refused) = refused_goes s new OutOfMemory r refused
+  task_goes_short (keep form text name) part r new (free, there, refused) = refused_goes s new OutOfMemory r refused
   task_goes_short (reopen text name) part r new (there, short) = reopened_short name part r new short
 
 -- a message that is told, or not

@@ -25,7 +25,7 @@ use Rattle.text_file.specs.Files.{IsFileOf, OneText}
 use Rattle.operations.specs.Operation.{Operation}
 use Rattle.operations.specs.Spelling.{spelling}
 use Rattle.texts.specs.Edit.{Edit, anchor_before, insertion, plan, recalling}
-use Rattle.texts.specs.SiteFiles.{OneSite}
+use Rattle.kept_file.specs.KeptFiles.{OneKept}
 use Rattle.texts.specs.Taking.{HasTakenAll}
 use Rattle.texts.specs.TextState.{TextState, all_told, empty_text, shown_of, with_room}
 use Rattle.texts.specs.declared.took.Took.TheVariants.{Repeat, Taken, Waits}
@@ -234,27 +234,27 @@ begins_of : (s : State) (i text : ℕ) (t : TextState) (number site : ℕ) (ops 
 begins_of s i text t number site ops r r' new new' = by_case (number == t.text && site == t.site) _ _ _ _ _
     (begins_with s i text ops r r' new new') (refuses_one s WrongText r r' new new')
 
-begins_as : OneSite → (s : State) (i text : ℕ) (t : TextState) (file : List ℕ) (r r' : Reply) (new new' : State)
+begins_as : OneKept → (s : State) (i text : ℕ) (t : TextState) (file : List ℕ) (r r' : Reply) (new new' : State)
     → BeginsAs s i text t file r new → BeginsAs s i text t file r' new' → AreSame r r' new new'
-begins_as sites_so s i text t file r r' new new' (inl a) (inl b) = refuses_one s BadFile r r' new new' a.1 b.1
-begins_as sites_so s i text t file r r' new new' (inl a) (inr (number, site, ops, is, goes)) =
+begins_as kept_so s i text t file r r' new new' (inl a) (inl b) = refuses_one s BadFile r r' new new' a.1 b.1
+begins_as kept_so s i text t file r r' new new' (inl a) (inr (number, site, ops, is, goes)) =
     absurd (a.0 number site ops is)
-begins_as sites_so s i text t file r r' new new' (inr (number, site, ops, is, goes)) (inl b) =
+begins_as kept_so s i text t file r r' new new' (inr (number, site, ops, is, goes)) (inl b) =
     absurd (b.0 number site ops is)
-begins_as sites_so s i text t file r r' new new' (inr (number, site, ops, is, goes))
+begins_as kept_so s i text t file r r' new new' (inr (number, site, ops, is, goes))
     (inr (number', site', ops', is', goes')) =
-    let same = sites_so file number' site' number site ops' ops is' is in
+    let same = kept_so file number' site' number site ops' ops is' is in
     begins_of s i text t number site ops r r' new new' goes
     (subst (λ (x : List Operation). BeginsOf s i text t number site x r' new') same.2
     (subst (λ (x : ℕ). BeginsOf s i text t number x ops' r' new') same.1
     (subst (λ (x : ℕ). BeginsOf s i text t x site' ops' r' new') same.0 goes')))
 
-reopens : OneSite → (s : State) (i text : ℕ) (t : TextState) (name : List ℕ) (part : Part) (r r' : Reply)
+reopens : OneKept → (s : State) (i text : ℕ) (t : TextState) (name : List ℕ) (part : Part) (r r' : Reply)
     (new new' : State) → Reopens s i text t name part r new → Reopens s i text t name part r' new' → AreSame r r' new new'
-reopens sites_so s i text t name untouched r r' new new' a b = absurd a
-reopens sites_so s i text t name (failed left) r r' new new' a b = refuses_one s ReadFault r r' new new' a b
-reopens sites_so s i text t name went_well r r' new new' (file, at, a) (file', at', b) =
-    begins_as sites_so s i text t file r r' new new' a (subst (λ (x : List ℕ). BeginsAs s i text t x r' new')
+reopens kept_so s i text t name untouched r r' new new' a b = absurd a
+reopens kept_so s i text t name (failed left) r r' new new' a b = refuses_one s ReadFault r r' new new' a b
+reopens kept_so s i text t name went_well r r' new new' (file, at, a) (file', at', b) =
+    begins_as kept_so s i text t file r r' new new' a (subst (λ (x : List ℕ). BeginsAs s i text t x r' new')
     (one_element (s.files name) file' file at' at) b)
 
 -- a text in which something was done already isn't reopened, and one in which nothing was yet is
@@ -263,11 +263,11 @@ abbrev pub ReopensBy : State → (i text : ℕ) → TextState → (name : List �
 ReopensBy s i text t name part begun r new =
     MatchBool begun ((part ≡ untouched) × Refuses s Conflict r new) (Reopens s i text t name part r new)
 
-reopens_by : OneSite → (s : State) (i text : ℕ) (t : TextState) (name : List ℕ) (part : Part) (r r' : Reply)
+reopens_by : OneKept → (s : State) (i text : ℕ) (t : TextState) (name : List ℕ) (part : Part) (r r' : Reply)
     (new new' : State) → ReopensBy s i text t name part (has_begun t) r new
     → ReopensBy s i text t name part (has_begun t) r' new' → AreSame r r' new new'
-reopens_by sites_so s i text t name part r r' new new' = by_case (has_begun t) _ _ _ _ _
-    (λ a b. refuses_one s Conflict r r' new new' a.1 b.1) (reopens sites_so s i text t name part r r' new new')
+reopens_by kept_so s i text t name part r r' new new' = by_case (has_begun t) _ _ _ _ _
+    (λ a b. refuses_one s Conflict r r' new new' a.1 b.1) (reopens kept_so s i text t name part r r' new new')
 
 reopens_short : (s : State) (name : List ℕ) (part : Part) (r r' : Reply) (new new' : State)
     → ReopensShort s name part r new → ReopensShort s name part r' new' → AreSame r r' new new'
@@ -295,33 +295,33 @@ arranges s i (Ok out) r r' new new' a b = (a.0 ∙ sym b.0, a.1 ∙ sym b.1)
 arranges s i (Err why) r r' new new' a b = (a.0 ∙ sym b.0, a.1 ∙ sym b.1)
 
 -- what a desk is asked, where memory is there
-tasks : OneText → OneSite → (s : State) (i : ℕ) (d : SiteTexts) (w : Screened) (t : Task) (part : Part) (r r' : Reply)
+tasks : OneText → OneKept → (s : State) (i : ℕ) (d : SiteTexts) (w : Screened) (t : Task) (part : Part) (r r' : Reply)
     (new new' : State) → EditsOne EditsAt s r r' → DoesTask s i d w t part r new → DoesTask s i d w t part r' new'
     → AreSame r r' new new'
-tasks file_so sites_so s i d w (refuse why) part r r' new new' one a b = refuses_one s why r r' new new' a.1 b.1
-tasks file_so sites_so s i d w (insert_at_caret items) part r r' new new' one a b = if_caret s d w part r r' new new' _ _
+tasks file_so kept_so s i d w (refuse why) part r r' new new' one a b = refuses_one s why r r' new new' a.1 b.1
+tasks file_so kept_so s i d w (insert_at_caret items) part r r' new new' one a b = if_caret s d w part r r' new new' _ _
     (λ c window t x y. at_caret EditsAt s i w c window t (λ p. insertion p items) r r' new new' one x.1 y.1) a b
-tasks file_so sites_so s i d w recall_at_caret part r r' new new' one a b = if_caret s d w part r r' new new' _ _
+tasks file_so kept_so s i d w recall_at_caret part r r' new new' one a b = if_caret s d w part r r' new new' _ _
     (λ c window t x y. at_caret EditsAt s i w c window t recalling r r' new new' one x.1 y.1) a b
-tasks file_so sites_so s i d w (load name) part r r' new new' one a b = if_caret s d w part r r' new new' _ _
+tasks file_so kept_so s i d w (load name) part r r' new new' one a b = if_caret s d w part r r' new new' _ _
     (λ c window t x y. loads file_so s i w name part c window t r r' new new' one x y) a b
-tasks file_so sites_so s i d w (store text name) part r r' new new' one (t, there, a) (t', there', b) =
+tasks file_so kept_so s i d w (store text name) part r r' new new' one (t, there, a) (t', there', b) =
     writes s _ _ name _ part r r' new new' a (subst (λ (x : TextState). Stores s x name part r' new')
     (lemma_one_text s i text t' t there' there) b)
-tasks file_so sites_so s i d w (search bytes) part r r' new new' one a b = if_caret s d w part r r' new new' _ _
+tasks file_so kept_so s i d w (search bytes) part r r' new new' one a b = if_caret s d w part r r' new new' _ _
     (λ c window t x y. searches s i w c t bytes r r' new new' x.1 y.1) a b
-tasks file_so sites_so s i d w (change text e) part r r' new new' one a b =
+tasks file_so kept_so s i d w (change text e) part r r' new new' one a b =
     one i text e new new' a.1 b.1
-tasks file_so sites_so s i d w (forget text) part r r' new new' one a b = forgets s i text r r' new new' a.1 b.1
-tasks file_so sites_so s i d w (arrange x) part r r' new new' one a b =
+tasks file_so kept_so s i d w (forget text) part r r' new new' one a b = forgets s i text r r' new new' a.1 b.1
+tasks file_so kept_so s i d w (arrange x) part r r' new new' one a b =
     arranges s i (arranged d w x) r r' new new' a.1 b.1
-tasks file_so sites_so s i d w (print v) part r r' new new' one (p, is, is_new) (p', is', is_new') =
+tasks file_so kept_so s i d w (print v) part r r' new new' one (p, is, is_new) (p', is', is_new') =
     (is ∙ sym is', is_new ∙ sym is_new')
-tasks file_so sites_so s i d w (keep text name) part r r' new new' one (t, there, a) (t', there', b) =
-    writes s _ _ name _ part r r' new new' a (subst (λ (x : TextState). Keeps s x name part r' new')
+tasks file_so kept_so s i d w (keep form text name) part r r' new new' one (t, there, a) (t', there', b) =
+    writes s _ _ name _ part r r' new new' a (subst (λ (x : TextState). Keeps s form x name part r' new')
     (lemma_one_text s i text t' t there' there) b)
-tasks file_so sites_so s i d w (reopen text name) part r r' new new' one (t, there, a) (t', there', b) =
-    reopens_by sites_so s i text t name part r r' new new' a
+tasks file_so kept_so s i d w (reopen text name) part r r' new new' one (t, there, a) (t', there', b) =
+    reopens_by kept_so s i text t name part r r' new new' a
     (subst (λ (x : TextState). ReopensBy s i text x name part (has_begun x) r' new')
     (lemma_one_text s i text t' t there' there) b)
 
@@ -401,7 +401,7 @@ at_task Of s i col row d d' w w' t t' at at' is is' does =
     (at_desk (λ d w. Of d w t') s i d d' w w' at at' does)
 
 module _ (edits_so : EditsOneWay) (takes_so : TakesOneWay) (drains_so : DrainsOneWay) (merges_so : MergesOneWay)
-    (only : NoOtherRuns) (file_so : OneText) (sites_so : OneSite) (s : State) (are : AreTexts s) (part : Part)
+    (only : NoOtherRuns) (file_so : OneText) (kept_so : OneKept) (s : State) (are : AreTexts s) (part : Part)
     (r r' : Reply) (new new' : State) where
   one_whole : (e : Event) → Does s e part r new → Does s e part r' new' → AreSame r r' new new'
   one_whole (edit i text e) a b = one_edit edits_so s i text e are r r' new new' a.1 b.1
@@ -417,11 +417,11 @@ module _ (edits_so : EditsOneWay) (takes_so : TakesOneWay) (drains_so : DrainsOn
   one_whole (query i text q) a b =
       one_query edits_so takes_so drains_so merges_so only s are part r r' new new' i text q a b
   one_whole (ask i t) (d, w, at, does) (d', w', at', does') =
-      tasks file_so sites_so s i d w t part r r' new new'
+      tasks file_so kept_so s i d w t part r r' new new'
       (λ i text e mid mid'. one_edit edits_so s i text e are r r' mid mid') does
       (at_desk (λ d w. DoesTask s i d w t part r' new') s i d d' w w' at at' does')
   one_whole (click i col row) (d, w, t, at, is, does) (d', w', t', at', is', does') =
-      tasks file_so sites_so s i d w t part r r' new new'
+      tasks file_so kept_so s i d w t part r r' new new'
       (λ i text e mid mid'. one_edit edits_so s i text e are r r' mid mid') does
       (at_task (λ d w t. DoesTask s i d w t part r' new') s i col row d d' w w' t t' at at' is is' does')
   one_whole unknown a b = refuses_one s BadEvent r r' new new' a.1 b.1
@@ -553,7 +553,7 @@ tasks_short file_so s i d w (arrange (Point cell)) told part r r' new new' at sh
 tasks_short file_so s i d w (arrange (Select beg end)) told part r r' new new' at shape one a b = absurd a
 tasks_short file_so s i d w (print v) told part r r' new new' at shape one (p, a) (p', b) =
     refuses_one s OutOfMemory r r' new new' a b
-tasks_short file_so s i d w (keep text name) told part r r' new new' at shape one (p, there, a) (p', there', b) =
+tasks_short file_so s i d w (keep form text name) told part r r' new new' at shape one (p, there, a) (p', there', b) =
     refuses_one s OutOfMemory r r' new new' a b
 tasks_short file_so s i d w (reopen text name) told part r r' new new' at shape one (there, a) (there', b) =
     reopens_short s name part r r' new new' a b
@@ -585,11 +585,11 @@ module _ (edits_so : EditsOneWay) (takes_so : TakesOneWay) (drains_so : DrainsOn
   one_short unknown told a b = absurd a
 
 -- each event has one reply
-pub one_reply : EditsOneWay → TakesOneWay → DrainsOneWay → MergesOneWay → NoOtherRuns → OneText → OneSite
+pub one_reply : EditsOneWay → TakesOneWay → DrainsOneWay → MergesOneWay → NoOtherRuns → OneText → OneKept
     → EachEventHasOneReply
-one_reply edits_so takes_so drains_so merges_so only file_so sites_so s e part are = record {
+one_reply edits_so takes_so drains_so merges_so only file_so kept_so s e part are = record {
   whole = λ r r' new new'.
-      one_whole edits_so takes_so drains_so merges_so only file_so sites_so s are part r r' new new' e;
+      one_whole edits_so takes_so drains_so merges_so only file_so kept_so s are part r r' new new' e;
   short = λ told r r' new new' a b shape.
       one_short edits_so takes_so drains_so merges_so file_so s are part r r' new new' shape e told a b;
 }

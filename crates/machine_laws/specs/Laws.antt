@@ -14,10 +14,9 @@ use Rattle.shelf.specs.Files.{Files}
 use Rattle.text_file.specs.Files.{IsFileOf, IsNoFile}
 use Rattle.text_file.specs.declared.TheConstants.{MAX_TEXT as MAX_STORED}
 use Rattle.texts.specs.Edit.{Edit, insertion, recalling, shown_with}
-use Rattle.texts.specs.SiteFiles.{IsNoSiteFile, IsSiteFileOf}
 use Rattle.texts.specs.Text.{IsAnchor, IsText}
 use Rattle.texts.specs.TextState.{TextState, shown_items, shown_of}
-use Rattle.texts.specs.declared.TheConstants.{MAX_KEPT}
+use Rattle.kept_file.specs.KeptFiles.{IsKeptFileOf, IsNoKeptFile, most_kept}
 use Rattle.texts.specs.declared.took.Took.TheVariants.{Taken}
 use Rattle.machine.specs.SiteTexts.{SiteTexts, IsTextOf}
 use Rattle.machine.specs.Commands.{IsTaskAt}
@@ -129,7 +128,7 @@ EachEventHasOneReply = (s : State) (e : Event) (part : Part) → AreTexts s → 
 abbrev pub AsksForNoFile : Event → Type 0
 AsksForNoFile (ask i (load name)) = ⊥
 AsksForNoFile (ask i (store text name)) = ⊥
-AsksForNoFile (ask i (keep text name)) = ⊥
+AsksForNoFile (ask i (keep form text name)) = ⊥
 AsksForNoFile (ask i (reopen text name)) = ⊥
 AsksForNoFile (click i col row) = ⊥
 AsksForNoFile e = Unit {0}
@@ -160,7 +159,7 @@ abbrev pub HasText : State → (i : ℕ) → Task → Type 0
 HasText s i (store text name) = (t : TextState) × IsTextAt s i text t
 HasText s i (change text e) = (t : TextState) × IsTextAt s i text t
 HasText s i (forget text) = (t : TextState) × IsTextAt s i text t
-HasText s i (keep text name) = (t : TextState) × IsTextAt s i text t
+HasText s i (keep form text name) = (t : TextState) × IsTextAt s i text t
 HasText s i (reopen text name) = (t : TextState) × IsTextAt s i text t
 HasText s i t = Unit {0}
 
@@ -174,11 +173,11 @@ abbrev pub IsFileThere : State → (name : List ℕ) → Type 0
 IsFileThere s name =
     (file : List ℕ) × (s.files name ≡ Some file) × (IsNoFile file ⊎ ((items : List Item) × IsFileOf items file))
 
--- a file of this name is there, and it is a site's or no site's
-abbrev pub IsSiteFileThere : State → (name : List ℕ) → Type 0
-IsSiteFileThere s name =
+-- a file of this name is there, and it is a site's, in one of the forms, or no site's
+abbrev pub IsKeptFileThere : State → (name : List ℕ) → Type 0
+IsKeptFileThere s name =
     (file : List ℕ) × (s.files name ≡ Some file)
-    × (IsNoSiteFile file ⊎ ((text site : ℕ) × (ops : List Operation) × IsSiteFileOf text site ops file))
+    × (IsNoKeptFile file ⊎ ((text site : ℕ) × (ops : List Operation) × IsKeptFileOf text site ops file))
 
 -- What the files' part in a task may be: a load at a caret reads a file that is there, or fails; a store of a text that
 -- isn't too long writes one, or fails, whatever is left, and so does a keeping of one that hasn't taken in too much; a
@@ -191,14 +190,14 @@ MayHavePart s i w (store text name) untouched =
     (t : TextState) × IsTextAt s i text t × (MAX_STORED < length (shown_items t))
 MayHavePart s i w (store text name) part =
     (t : TextState) × IsTextAt s i text t × (length (shown_items t) ≤ MAX_STORED)
-MayHavePart s i w (keep text name) untouched =
-    (t : TextState) × IsTextAt s i text t × (MAX_KEPT < length t.operations)
-MayHavePart s i w (keep text name) part =
-    (t : TextState) × IsTextAt s i text t × (length t.operations ≤ MAX_KEPT)
+MayHavePart s i w (keep form text name) untouched =
+    (t : TextState) × IsTextAt s i text t × (most_kept form < length t.operations)
+MayHavePart s i w (keep form text name) part =
+    (t : TextState) × IsTextAt s i text t × (length t.operations ≤ most_kept form)
 MayHavePart s i w (reopen text name) untouched =
     (t : TextState) × IsTextAt s i text t × IsTrue (has_begun t)
 MayHavePart s i w (reopen text name) went_well =
-    ((t : TextState) × IsTextAt s i text t × IsFalse (has_begun t)) × IsSiteFileThere s name
+    ((t : TextState) × IsTextAt s i text t × IsFalse (has_begun t)) × IsKeptFileThere s name
 MayHavePart s i w (reopen text name) (failed left) =
     (t : TextState) × IsTextAt s i text t × IsFalse (has_begun t)
 MayHavePart s i w t part = part ≡ untouched

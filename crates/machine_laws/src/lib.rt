@@ -12,8 +12,8 @@ use convergence::outcomes::{
     lemma_drainings_end_one_way, lemma_edits_end_one_way, lemma_merges_end_one_way,
     lemma_takings_end_one_way,
 };
+use kept_file::lemma_one_kept;
 use set_laws::closures::lemma_nothing_is_good;
-use site_file::lemma_one_site;
 use text_file::lemma_one_text;
 use texts::laws::{
     lemma_own_edits_are_plain, lemma_the_fronts_determine_the_text,
@@ -63,7 +63,7 @@ pub fn each_event_has_one_reply()
     lemma_merges_end_one_way();
     lemma_runs_are_maximal();
     lemma_one_text();
-    lemma_one_site();
+    lemma_one_kept();
 }
 
 /// A law: an event that asks for no file is answered the same over any files, and leaves them as they are.

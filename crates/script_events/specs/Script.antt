@@ -11,6 +11,8 @@ use Rattle.shelf.specs.Names.{is_file_name}
 use Rattle.texts.specs.Edit.{Edit, insertion, deletion, looks_change, recalling, restoration}
 use Rattle.viewers.specs.declared.screen.Track.{Track}
 use Rattle.viewers.specs.declared.screen.Track.TheVariants.{User, System}
+use Rattle.kept_file.specs.declared.form.KeptForm.{KeptForm}
+use Rattle.kept_file.specs.declared.form.KeptForm.TheVariants.{Messages, Packed}
 use Rattle.machine.specs.Events.{Delivery, Event, arrange, ask, bytes as by_bytes, click, copy, edit, edit_by_names}
 use Rattle.machine.specs.Events.{keep, merge, print, insert_at_caret, query, reopen, sent as by_number, settle, take as taking, unknown}
 use Rattle.machine.specs.declared.asked.Arrangement.{Arrangement}
@@ -207,13 +209,27 @@ plain_items bytes = map (λ b. (b, plain_looks)) bytes
 abbrev pub file_in : List ℕ → Option (List ℕ)
 file_in word = some_if (is_file_name word && not (list_any (λ b. b == 32) word)) word
 
--- what `keep` and `reopen` go on with: a text, and the file, which ends the line
+-- what `reopen` goes on with: a text, and the file, which ends the line
 abbrev pub filing_in : List ℕ → Option (ℕ × List ℕ)
 filing_in rest = do
   cut ← split_word rest
   text ← text_in cut.0
   name ← file_in cut.1
   Some (text, name)
+
+-- the form of a file that is told after its name, if one is
+abbrev pub form_in : Option (List ℕ) → Option KeptForm
+form_in None = Some Messages
+form_in (Some word) = some_if (is_word word (codes "packed")) Packed
+
+-- what `keep` goes on with: a text, and the file, after which its form may be told
+abbrev pub keeping_in : List ℕ → Option (KeptForm × (ℕ × List ℕ))
+keeping_in rest = do
+  cut ← split_word rest
+  text ← text_in cut.0
+  name ← file_in (front_word cut.1).0
+  form ← form_in (front_word cut.1).1
+  Some (form, (text, name))
 
 -- what a verb asks of a text that ends the line: a row for each verb
 abbrev pub short_event : ShortVerb → (desk text : ℕ) → Event
@@ -263,7 +279,7 @@ arrangement_in Selects rest = select_arrangement rest
 
 -- what else a verb asks of a desk with what stands after it: a row for each verb
 abbrev pub desk_event : DeskVerb → (desk : ℕ) → List ℕ → Option Event
-desk_event Keep desk rest = option_map (λ filing. ask desk (keep filing.0 filing.1)) (filing_in rest)
+desk_event Keep desk rest = option_map (λ keeping. ask desk (keep keeping.0 keeping.1.0 keeping.1.1)) (keeping_in rest)
 desk_event Reopen desk rest = option_map (λ filing. ask desk (reopen filing.0 filing.1)) (filing_in rest)
 desk_event Key desk rest = option_map (λ bytes. ask desk (insert_at_caret (plain_items bytes))) (bytes_in rest)
 desk_event Click desk rest = option_map (λ cell. click desk cell.col cell.row) (cell_in rest)

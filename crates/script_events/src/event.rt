@@ -18,13 +18,14 @@ use crate::event::arrangements::{
     scroll_arrangement, select_arrangement,
 };
 use crate::event::edits::{cut_edit, looks_edit, recall_edit, type_edit};
-use crate::event::filings::filing_in;
+use crate::event::filings::{filing_in, keeping_in};
 use crate::event::verbs::{ArrangeVerb, DeskVerb, EditVerb, LongVerb, ShortVerb, Verb};
 use crate::event::words::{desk_in, front_word, number_in, split_number, split_word, text_in};
 use crate::front_words::FrontWords;
 use crate::hex_bytes::Hex;
 use crate::name_words::{NameWords, range_of_words};
 use char_files::TextNo;
+use kept_file::KeptForm;
 use looks::{Looks, Sel};
 use machine::{Arrangement, Cell, MAX_TEXT, Query, View};
 use operations::NameRange;
@@ -84,9 +85,10 @@ pub enum Event<'a> {
         side: Side,
         fronts: FrontWords<'a>,
     },
-    /// A keeping of a desk's text in its site's file, with all that it has taken in.
+    /// A keeping of a desk's text in its site's file, in this form, with all that it has taken in.
     Keeps {
         desk: usize,
+        form: KeptForm,
         text: TextNo,
         name: &'a str,
     },
@@ -396,10 +398,15 @@ fn desk_event<'a>(verb: DeskVerb, desk: usize, rest: &'a [u8]) -> Option<Event<'
 {
     match verb {
         DeskVerb::Keep => {
-            let Some((text, name)) = filing_in(rest) else {
+            let Some((form, text, name)) = keeping_in(rest) else {
                 return None;
             };
-            Some(Event::Keeps { desk, text, name })
+            Some(Event::Keeps {
+                desk,
+                form,
+                text,
+                name,
+            })
         }
         DeskVerb::Reopen => {
             let Some((text, name)) = filing_in(rest) else {

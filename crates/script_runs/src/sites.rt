@@ -157,9 +157,12 @@ impl Sites {
                 side,
                 fronts,
             } => Reply::Printed(self.query_at(desk, text, side, &fronts)),
-            Event::Keeps { desk, text, name } => {
-                Reply::Commanded(self.desks[desk].keep(text, name, shelf))
-            }
+            Event::Keeps {
+                desk,
+                form,
+                text,
+                name,
+            } => Reply::Commanded(self.desks[desk].keep(form, text, name, shelf)),
             Event::Reopens { desk, text, name } => {
                 Reply::Commanded(self.desks[desk].reopen(text, name, shelf))
             }

@@ -1,6 +1,7 @@
 //! Lines that spell an event of the screen or of a site's file.
 use super::{COUNT, FIRST, is};
 use char_files::TextNo;
+use kept_file::KeptForm;
 use machine::{Arrangement, Cell, View};
 use script_events::{Escaped, Event, event_in};
 use std::alloc::Global;
@@ -43,18 +44,21 @@ const CLICKED: &[(&str, usize, usize, usize)] = &[
     ("4 click 4294967295 0", 2, 4_294_967_295, 0),
 ];
 
-// Lines, the desk, and the text that is kept in the file of this name.
-const KEPT: &[(&str, usize, u16, &str)] = &[
-    ("2 keep 1 s.ots", 0, 1, "s.ots"),
-    ("4 keep 0000000016 !", 2, 16, "!"),
+// Lines, the desk, and the text that is kept in the file of this name in this form.
+const KEPT: &[(&str, usize, u16, &str, KeptForm)] = &[
+    ("2 keep 1 s.ots", 0, 1, "s.ots", KeptForm::Messages),
+    ("3 keep 16 s.otp packed", 1, 16, "s.otp", KeptForm::Packed),
+    ("2 keep 1 packed packed", 0, 1, "packed", KeptForm::Packed),
+    ("4 keep 0000000016 !", 2, 16, "!", KeptForm::Messages),
     (
         "3 keep 2 abcdefghijklmnopqrstuvwxyz01234",
         1,
         2,
         "abcdefghijklmnopqrstuvwxyz01234",
+        KeptForm::Messages,
     ),
-    ("2 keep 3 ...", 0, 3, "..."),
-    ("2 keep 4 a\\20b", 0, 4, "a\\20b"),
+    ("2 keep 3 packed", 0, 3, "packed", KeptForm::Messages),
+    ("2 keep 4 a\\20b", 0, 4, "a\\20b", KeptForm::Messages),
 ];
 
 // Lines, the desk, and the text that is reopened from the file of this name.
@@ -133,10 +137,21 @@ fn puts(alloc: Global, line: &str, on: usize, want: &[u8]) -> Result<(), Fail> {
     }
 }
 
-fn keeps(line: &str, on: usize, want: TextNo, file: &str) -> Result<(), Fail> {
+fn keeps(
+    line: &str,
+    on: usize,
+    want: TextNo,
+    file: &str,
+    how: KeptForm,
+) -> Result<(), Fail> {
     match event(line)? {
-        Event::Keeps { desk, text, name } => {
-            is(desk == on && text == want && name == file, "a keeping")
+        Event::Keeps {
+            desk,
+            form,
+            text,
+            name,
+        } => {
+            is(desk == on && text == want && name == file && form == how, "a keeping")
         }
         _ => Err("a keeping".into()),
     }
@@ -224,9 +239,9 @@ fn screens_are_asked(rt: HostRuntime) -> Result<(), Fail> {
 
 #[test]
 fn texts_are_kept_and_reopened(_rt: HostRuntime) -> Result<(), Fail> {
-    for (line, desk, text, name) in KEPT {
+    for (line, desk, text, name, form) in KEPT {
         let text = TextNo::new(*text).ok_or("a text")?;
-        keeps(line, *desk, text, name)?;
+        keeps(line, *desk, text, name, *form)?;
     }
     for (line, desk, text, name) in REOPENED {
         let text = TextNo::new(*text).ok_or("a text")?;

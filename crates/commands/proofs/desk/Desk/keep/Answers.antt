@@ -11,9 +11,9 @@ pub returns-clause-step : goal.returns-clause-step
 returns-clause-step g c = λ sent.
     let seen : DeskSeen = c.args.self.now in let told = shelf_seen (g.S.Shelf.files c.args.shelf.now) (g.S.Shelf.faults c.args.shelf.now) in
     let told' = shelf_seen (g.S.Shelf.files c.write_site.new.shelf) (g.S.Shelf.faults c.write_site.new.shelf) in let name = c.args.name.now in
-    subst (λ (r : Result Answer EditRefusal). IsShelfStep seen (λ i. ask i (keep c.args.text name)) r seen sent sent told told')
+    subst (λ (r : Result Answer EditRefusal). IsShelfStep seen (λ i. ask i (keep c.args.form c.args.text name)) r seen sent sent told told')
     (sym c.written.ensures)
-    (subst (λ (x : DeskSeen). IsShelfStep x (λ i. ask i (keep c.args.text name)) (written_answer c.write_site.result) x sent sent
+    (subst (λ (x : DeskSeen). IsShelfStep x (λ i. ask i (keep c.args.form c.args.text name)) (written_answer c.write_site.result) x sent sent
     told told') c.self.view_is
     (keep_step c.self.inside.texts (screened c.self.inside.windows) c.args.text c.replica.result.now c.replica.ensures name told
-    told' sent c.write_site.result c.write_site.ensures.writes))
+    told' sent c.write_site.result c.args.form c.write_site.ensures.writes))

@@ -77,7 +77,7 @@ returns-in-Keeps g c =
     let s : SitesSeen = record { first = c.self-in-Keeps.inside.first; desks = c.self-in-Keeps.inside.desks.items; sent = c.self-in-Keeps.inside.outbox } in
     let in_run = rw (c.in-Keeps.is, ← c.self-in-Keeps.view_is) at c.requires.in_run in
     let at = desk_read s c.in-Keeps.desk c.index-in-Keeps.result.now in_run.0 c.index-in-Keeps.ensures in
-    let step = filed_same s c.in-Keeps.desk c.index-in-Keeps.result.now at (λ i. ask i (keep c.in-Keeps.text c.in-Keeps.name.now)) c.keep.result
+    let step = filed_same s c.in-Keeps.desk c.index-in-Keeps.result.now at (λ i. ask i (keep c.in-Keeps.form c.in-Keeps.text c.in-Keeps.name.now)) c.keep.result
     (shelf_seen (g.S.Shelf.files c.args.shelf.now) (g.S.Shelf.faults c.args.shelf.now)) (shelf_seen (g.S.Shelf.files c.keep.new.shelf) (g.S.Shelf.faults c.keep.new.shelf)) (c.keep.ensures.step s.sent) in
     rw (c.in-Keeps.is, ← c.self-in-Keeps.view_is) step
 

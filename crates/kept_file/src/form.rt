@@ -1,0 +1,8 @@
+/// How a file tells what a text has taken in. This project's own.
+#[derive(Debug, Clone, Copy, PartialEq, Eq, Drop)]
+pub enum KeptForm {
+    /// As messages, some 50 bytes a keystroke.
+    Messages,
+    /// Packed, a byte a keystroke.
+    Packed,
+}
