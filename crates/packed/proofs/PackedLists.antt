@@ -44,8 +44,8 @@ some_bytes : (t : Told) (op : Operation) → 0 < length (packed_next t op)
 some_bytes t op =
     let e = expected t op.site in
     let time : List ℕ = time_lead t.last op.site (op.stamp - (e.stamp + 1)) in
-    let s = edit_starts e op.kind [] in
-    omega (arith, length-append time (edit_spelling e op.kind), ap length s.is, ap length (append-nil (edit_spelling e op.kind)))
+    let s = edit_starts t.in_chunk e op.kind [] in
+    omega (arith, length-append time (edit_spelling t.in_chunk e op.kind), ap length s.is, ap length (append-nil (edit_spelling t.in_chunk e op.kind)))
 
 begins : (ops all : List Operation) (t : Told) (text : ℕ) (rest : List ℕ) → CaretsAreInFiles t → CanFollow t text ops
     → CanFollow t text all → packed_after t all ≡ packed_after t ops ++ rest

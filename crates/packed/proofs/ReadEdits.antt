@@ -36,14 +36,14 @@ many_spelling caret [] e = refl
 many_spelling caret (r ∷ []) e = cond-false (eqb r.len 1) _ _ e
 many_spelling caret (r ∷ s ∷ names) e = refl
 
-delete_taken : (e : Expected) (bytes : List ℕ) (kind : OpKind) (rest : List ℕ) → IsBytes bytes
+delete_taken : (chunk : Bool) (e : Expected) (bytes : List ℕ) (kind : OpKind) (rest : List ℕ) → IsBytes bytes
     → delete_at bytes ≡ Some (kind, rest)
-    → Took (edit_spelling e) (λ kind. Begins kind e.len) (7 ∷ bytes) kind rest
+    → Took (edit_spelling chunk e) (λ kind. Begins kind e.len) (7 ∷ bytes) kind rest
 unfolding delete_at
-delete_taken e bytes kind rest fits h =
+delete_taken chunk e bytes kind rest fits h =
     let s = step _ _ _ packed_set_reads _ bytes (kind, rest) fits h in
     let g = not_stopped (is_one s.x) (Some (delete s.x, s.rest)) (kind, rest) s.goes_on in
-    subst (λ (p : OpKind × List ℕ). Took (edit_spelling e) (λ kind. Begins kind e.len) (7 ∷ bytes) p.0 p.1)
+    subst (λ (p : OpKind × List ℕ). Took (edit_spelling chunk e) (λ kind. Begins kind e.len) (7 ∷ bytes) p.0 p.1)
     (some_is _ _ g.1)
     (record {
       parts = ap (λ (r : List ℕ). 7 ∷ r) s.took.parts
@@ -52,13 +52,13 @@ delete_taken e bytes kind rest fits h =
       in_range = tt;
     })
 
-restore_taken : (e : Expected) (bytes : List ℕ) (kind : OpKind) (rest : List ℕ) → IsBytes bytes
+restore_taken : (chunk : Bool) (e : Expected) (bytes : List ℕ) (kind : OpKind) (rest : List ℕ) → IsBytes bytes
     → restore_at bytes ≡ Some (kind, rest)
-    → Took (edit_spelling e) (λ kind. Begins kind e.len) (12 ∷ bytes) kind rest
+    → Took (edit_spelling chunk e) (λ kind. Begins kind e.len) (12 ∷ bytes) kind rest
 unfolding restore_at
-restore_taken e bytes kind rest fits h =
+restore_taken chunk e bytes kind rest fits h =
     let s = step _ _ _ packed_set_reads _ bytes (kind, rest) fits h in
-    subst (λ (p : OpKind × List ℕ). Took (edit_spelling e) (λ kind. Begins kind e.len) (12 ∷ bytes) p.0 p.1)
+    subst (λ (p : OpKind × List ℕ). Took (edit_spelling chunk e) (λ kind. Begins kind e.len) (12 ∷ bytes) p.0 p.1)
     (some_is _ _ s.goes_on)
     (record { parts = ap (λ (r : List ℕ). 12 ∷ r) s.took.parts; rest_fits = s.took.rest_fits; in_range = tt })
 
@@ -68,18 +68,18 @@ change_split : (sel : Selection) (looks : Looks) (names : List Range) (rest : Li
 change_split sel looks names rest =
     ap (λ (r : List ℕ). bits_of sel ∷ r) (append_assoc (selected_spelling sel looks) (packed_set names) rest)
 
-change_taken : (e : Expected) (bytes : List ℕ) (kind : OpKind) (rest : List ℕ) → IsBytes bytes
+change_taken : (chunk : Bool) (e : Expected) (bytes : List ℕ) (kind : OpKind) (rest : List ℕ) → IsBytes bytes
     → change_at bytes ≡ Some (kind, rest)
-    → Took (edit_spelling e) (λ kind. Begins kind e.len) (11 ∷ bytes) kind rest
+    → Took (edit_spelling chunk e) (λ kind. Begins kind e.len) (11 ∷ bytes) kind rest
 unfolding change_at
-change_taken e bytes kind rest fits h =
+change_taken chunk e bytes kind rest fits h =
     let s = step _ _ _ sel_reads _ bytes (kind, rest) fits h in
     let t = step _ _ _ (selected_looks_reads s.x) _ s.rest (kind, rest) s.took.rest_fits s.goes_on in
     let u = step _ _ _ packed_set_reads _ t.rest (kind, rest) t.took.rest_fits t.goes_on in
     let whole : bytes ≡ (bits_of s.x ∷ selected_spelling s.x t.x ++ packed_set u.x) ++ u.rest =
     s.took.parts ∙ ap (λ (r : List ℕ). bits_of s.x ∷ r) (t.took.parts
     ∙ ap (λ (r : List ℕ). selected_spelling s.x t.x ++ r) u.took.parts) ∙ sym (change_split s.x t.x u.x u.rest) in
-    subst (λ (p : OpKind × List ℕ). Took (edit_spelling e) (λ kind. Begins kind e.len) (11 ∷ bytes) p.0 p.1)
+    subst (λ (p : OpKind × List ℕ). Took (edit_spelling chunk e) (λ kind. Begins kind e.len) (11 ∷ bytes) p.0 p.1)
     (some_is _ _ u.goes_on)
     (record { parts = ap (λ (r : List ℕ). 11 ∷ r) whole; rest_fits = u.took.rest_fits; in_range = tt })
 
@@ -89,26 +89,26 @@ same_from : (a b : Looks) → same_looks a b ≡ true → a ≡ b
 same_from a b h = (same_looks_decides a b).0 h
 
 -- what an Insert or a Delete of one character has after its place
-abbrev here_spelling : OpKind → List ℕ
-here_spelling (insert cause at looks bytes) = bytes_spelling bytes
-here_spelling (delete names) = 8 ∷ []
-here_spelling (restore names) = []
-here_spelling (change_looks sel looks names) = []
+abbrev here_spelling : (chunk : Bool) → OpKind → List ℕ
+here_spelling chunk (insert cause at looks bytes) = bytes_spelling chunk bytes
+here_spelling chunk (delete names) = 8 ∷ []
+here_spelling chunk (restore names) = []
+here_spelling chunk (change_looks sel looks names) = []
 
 -- with these looks, at this place
-record IsHere (e : Expected) (looks : Looks) (place : Anchor) (bytes : List ℕ) (kind : OpKind) (rest : List ℕ)
+record IsHere (chunk : Bool) (e : Expected) (looks : Looks) (place : Anchor) (bytes : List ℕ) (kind : OpKind) (rest : List ℕ)
     : Type 0 where
-  parts : bytes ≡ here_spelling kind ++ rest
+  parts : bytes ≡ here_spelling chunk kind ++ rest
   rest_fits : IsBytes rest
   begins : Begins kind e.len
-  whole : edit_spelling e kind ≡ looks_lead e.looks looks ++ place_lead e.caret place ++ here_spelling kind
+  whole : edit_spelling chunk e kind ≡ looks_lead e.looks looks ++ place_lead e.caret place ++ here_spelling chunk kind
 
-one_taken : (e : Expected) (looks : Looks) (place : Anchor) (bytes : List ℕ) (kind : OpKind) (rest : List ℕ)
-    → IsBytes bytes → one_from e.looks looks place bytes ≡ Some (kind, rest) → IsHere e looks place (8 ∷ bytes) kind rest
-one_taken e looks Root bytes kind rest fits h = absurd cc
-one_taken e looks (At name) bytes kind rest fits h =
+one_taken : (chunk : Bool) (e : Expected) (looks : Looks) (place : Anchor) (bytes : List ℕ) (kind : OpKind) (rest : List ℕ)
+    → IsBytes bytes → one_from e.looks looks place bytes ≡ Some (kind, rest) → IsHere chunk e looks place (8 ∷ bytes) kind rest
+one_taken chunk e looks Root bytes kind rest fits h = absurd cc
+one_taken chunk e looks (At name) bytes kind rest fits h =
     let g = passed (same_looks e.looks looks) (delete (of_name name ∷ []), bytes) (kind, rest) h in
-    subst (λ (p : OpKind × List ℕ). IsHere e looks (At name) (8 ∷ bytes) p.0 p.1) g.1
+    subst (λ (p : OpKind × List ℕ). IsHere chunk e looks (At name) (8 ∷ bytes) p.0 p.1) g.1
     (record {
       parts = refl;
       rest_fits = fits;
@@ -117,156 +117,156 @@ one_taken e looks (At name) bytes kind rest fits h =
           (sym (cond-true (same_looks e.looks looks) [] _ g.0));
     })
 
-insert_taken : (e : Expected) (looks : Looks) (place : Anchor) (bytes : List ℕ) (kind : OpKind) (rest : List ℕ)
-    → IsBytes bytes → insert_from e.len looks place bytes ≡ Some (kind, rest) → IsHere e looks place bytes kind rest
+insert_taken : (chunk : Bool) (e : Expected) (looks : Looks) (place : Anchor) (bytes : List ℕ) (kind : OpKind) (rest : List ℕ)
+    → IsBytes bytes → insert_from chunk e.len looks place bytes ≡ Some (kind, rest) → IsHere chunk e looks place bytes kind rest
 unfolding insert_from
-insert_taken e looks place bytes kind rest fits h =
-    let s = bind_some (bytes_at bytes) _ (kind, rest) h in
-    let t = bytes_taken bytes s.0.0 s.0.1 fits s.1 in
-    subst (λ (p : OpKind × List ℕ). IsHere e looks place bytes p.0 p.1) (some_is _ _ s.2)
+insert_taken chunk e looks place bytes kind rest fits h =
+    let s = bind_some (bytes_at chunk bytes) _ (kind, rest) h in
+    let t = bytes_taken chunk bytes s.0.0 s.0.1 fits s.1 in
+    subst (λ (p : OpKind × List ℕ). IsHere chunk e looks place bytes p.0 p.1) (some_is _ _ s.2)
     (record { parts = t.parts; rest_fits = t.rest_fits; begins = refl; whole = refl })
 
-here_taken : (e : Expected) (looks : Looks) (place : Anchor) (bytes : List ℕ) (kind : OpKind) (rest : List ℕ)
-    → IsBytes bytes → here_at e looks place bytes ≡ Some (kind, rest) → IsHere e looks place bytes kind rest
+here_taken : (chunk : Bool) (e : Expected) (looks : Looks) (place : Anchor) (bytes : List ℕ) (kind : OpKind) (rest : List ℕ)
+    → IsBytes bytes → here_at chunk e looks place bytes ≡ Some (kind, rest) → IsHere chunk e looks place bytes kind rest
 unfolding here_at
-here_taken e looks place bytes kind rest fits h =
+here_taken chunk e looks place bytes kind rest fits h =
     let s = step _ _ _ byte_reads _ bytes (kind, rest) fits h in
     elim (either (eqb s.x 8) _ _ _ s.goes_on) [
       | inl k ↦
-          subst (λ (b : List ℕ). IsHere e looks place b kind rest)
+          subst (λ (b : List ℕ). IsHere chunk e looks place b kind rest)
           (sym (s.took.parts ∙ ap (λ (b : ℕ). b ∷ s.rest) (eqb-true _ _ k.0)))
-          (one_taken e looks place s.rest kind rest s.took.rest_fits k.1)
-      | inr k ↦ insert_taken e looks place bytes kind rest fits k.1
+          (one_taken chunk e looks place s.rest kind rest s.took.rest_fits k.1)
+      | inr k ↦ insert_taken chunk e looks place bytes kind rest fits k.1
     ]
 
 three_parts : (a b c rest : List ℕ) → (a ++ b ++ c) ++ rest ≡ a ++ (b ++ (c ++ rest))
 three_parts a b c rest = append_assoc (a ++ b) c rest ∙ append_assoc a b (c ++ rest)
 
-placed_taken : (e : Expected) (bytes : List ℕ) (kind : OpKind) (rest : List ℕ) → IsInFile e.caret → IsBytes bytes
-    → placed_at e bytes ≡ Some (kind, rest)
-    → Took (edit_spelling e) (λ kind. Begins kind e.len) bytes kind rest
+placed_taken : (chunk : Bool) (e : Expected) (bytes : List ℕ) (kind : OpKind) (rest : List ℕ) → IsInFile e.caret → IsBytes bytes
+    → placed_at chunk e bytes ≡ Some (kind, rest)
+    → Took (edit_spelling chunk e) (λ kind. Begins kind e.len) bytes kind rest
 unfolding placed_at
-placed_taken e bytes kind rest below fits h =
+placed_taken chunk e bytes kind rest below fits h =
     let s = bind_some (typed_at e.looks bytes) _ (kind, rest) h in
     let looks = typed_taken e.looks bytes s.0.0 s.0.1 fits s.1 in
     let t = bind_some (place_at e.caret s.0.1) _ (kind, rest) s.2 in
     let place = place_taken e.caret s.0.1 t.0.0 t.0.1 below looks.rest_fits t.1 in
-    let here = here_taken e s.0.0 t.0.0 t.0.1 kind rest place.rest_fits t.2 in
+    let here = here_taken chunk e s.0.0 t.0.0 t.0.1 kind rest place.rest_fits t.2 in
     record {
       parts = looks.parts
           ∙ ap (λ (r : List ℕ). looks_lead e.looks s.0.0 ++ r) (place.parts
           ∙ ap (λ (r : List ℕ). place_lead e.caret t.0.0 ++ r) here.parts)
-          ∙ sym (three_parts (looks_lead e.looks s.0.0) (place_lead e.caret t.0.0) (here_spelling kind) rest)
+          ∙ sym (three_parts (looks_lead e.looks s.0.0) (place_lead e.caret t.0.0) (here_spelling chunk kind) rest)
           ∙ ap (λ (l : List ℕ). l ++ rest) (sym here.whole);
       rest_fits = here.rest_fits;
       in_range = here.begins;
     }
 
-pub edit_taken : (e : Expected) (bytes : List ℕ) (kind : OpKind) (rest : List ℕ) → IsInFile e.caret → IsBytes bytes
-    → edit_at e bytes ≡ Some (kind, rest)
-    → Took (edit_spelling e) (λ kind. Begins kind e.len) bytes kind rest
+pub edit_taken : (chunk : Bool) (e : Expected) (bytes : List ℕ) (kind : OpKind) (rest : List ℕ) → IsInFile e.caret → IsBytes bytes
+    → edit_at chunk e bytes ≡ Some (kind, rest)
+    → Took (edit_spelling chunk e) (λ kind. Begins kind e.len) bytes kind rest
 unfolding edit_at
-edit_taken e bytes kind rest below fits h =
+edit_taken chunk e bytes kind rest below fits h =
     let s = step _ _ _ byte_reads _ bytes (kind, rest) fits h in
-    let back : (n : ℕ) → eqb s.x n ≡ true → Took (edit_spelling e) (λ kind. Begins kind e.len) (n ∷ s.rest) kind rest
-    → Took (edit_spelling e) (λ kind. Begins kind e.len) bytes kind rest = λ n is t.
-    subst (λ (b : List ℕ). Took (edit_spelling e) (λ kind. Begins kind e.len) b kind rest)
+    let back : (n : ℕ) → eqb s.x n ≡ true → Took (edit_spelling chunk e) (λ kind. Begins kind e.len) (n ∷ s.rest) kind rest
+    → Took (edit_spelling chunk e) (λ kind. Begins kind e.len) bytes kind rest = λ n is t.
+    subst (λ (b : List ℕ). Took (edit_spelling chunk e) (λ kind. Begins kind e.len) b kind rest)
     (sym (s.took.parts ∙ ap (λ (b : ℕ). b ∷ s.rest) (eqb-true _ _ is))) t in
     elim (either (eqb s.x 7) _ _ _ s.goes_on) [
-      | inl k ↦ back 7 k.0 (delete_taken e s.rest kind rest s.took.rest_fits k.1)
+      | inl k ↦ back 7 k.0 (delete_taken chunk e s.rest kind rest s.took.rest_fits k.1)
       | inr k ↦
           elim (either (eqb s.x 11) _ _ _ k.1) [
-            | inl l ↦ back 11 l.0 (change_taken e s.rest kind rest s.took.rest_fits l.1)
+            | inl l ↦ back 11 l.0 (change_taken chunk e s.rest kind rest s.took.rest_fits l.1)
             | inr l ↦
                 elim (either (eqb s.x 12) _ _ _ l.1) [
-                  | inl m ↦ back 12 m.0 (restore_taken e s.rest kind rest s.took.rest_fits m.1)
-                  | inr m ↦ placed_taken e bytes kind rest below fits m.1
+                  | inl m ↦ back 12 m.0 (restore_taken chunk e s.rest kind rest s.took.rest_fits m.1)
+                  | inr m ↦ placed_taken chunk e bytes kind rest below fits m.1
                 ]
           ]
     ]
 
 -- ---- the same again
 
-placed_first : (e : Expected) (bytes : List ℕ) → Starts 2 bytes → edit_at e bytes ≡ placed_at e bytes
+placed_first : (chunk : Bool) (e : Expected) (bytes : List ℕ) → Starts 2 bytes → edit_at chunk e bytes ≡ placed_at chunk e bytes
 unfolding edit_at
-placed_first e bytes s =
+placed_first chunk e bytes s =
     let no = s.start.no_set in rw s.is (rw (no.delete, no.change, no.restore) refl)
 
-insert_again : (e : Expected) (looks : Looks) (place : Anchor) (bytes rest : List ℕ) → 0 < length bytes
+insert_again : (chunk : Bool) (e : Expected) (looks : Looks) (place : Anchor) (bytes rest : List ℕ) → 0 < length bytes
     → length bytes ≤ MAX_INSERT
-    → here_at e looks place (bytes_spelling bytes ++ rest) ≡ Some (insert place e.len looks bytes, rest)
+    → here_at chunk e looks place (bytes_spelling chunk bytes ++ rest) ≡ Some (insert place e.len looks bytes, rest)
 unfolding here_at insert_from
-insert_again e looks place [] rest some few = absurd (omega (arith, some))
-insert_again e looks place (b ∷ []) rest some few =
-    elim (cases_Bool (is_code b)) [
-      | inl code ↦ rw (bytes_again (b ∷ []) rest (some, omega (arith, few)), code) refl
+insert_again chunk e looks place [] rest some few = absurd (omega (arith, some))
+insert_again chunk e looks place (b ∷ []) rest some few =
+    elim (cases_Bool (is_code chunk b)) [
+      | inl code ↦ rw (bytes_again chunk (b ∷ []) rest (some, omega (arith, few)), code) refl
       | inr letter ↦
-          let l = letter_is b letter in
-          rw (bytes_again (b ∷ []) rest (some, omega (arith, few)), letter, l.one) refl
+          let l = letter_is chunk b letter in
+          rw (bytes_again chunk (b ∷ []) rest (some, omega (arith, few)), letter, l.one) refl
     ]
-insert_again e looks place (b ∷ c ∷ bytes) rest some few =
-    rw (bytes_again (b ∷ c ∷ bytes) rest (some, omega (arith, few))) refl
+insert_again chunk e looks place (b ∷ c ∷ bytes) rest some few =
+    rw (bytes_again chunk (b ∷ c ∷ bytes) rest (some, omega (arith, few))) refl
 
 -- read as it is written, where its looks and its place were read
-placed_again : (e : Expected) (looks : Looks) (place : Anchor) (last rest : List ℕ) (kind : OpKind) → IsInFile e.caret
+placed_again : (chunk : Bool) (e : Expected) (looks : Looks) (place : Anchor) (last rest : List ℕ) (kind : OpKind) → IsInFile e.caret
     → IsLooks looks → IsPlace place → Starts 5 (last ++ rest)
-    → here_at e looks place (last ++ rest) ≡ Some (kind, rest)
-    → edit_at e ((looks_lead e.looks looks ++ place_lead e.caret place ++ last) ++ rest) ≡ Some (kind, rest)
+    → here_at chunk e looks place (last ++ rest) ≡ Some (kind, rest)
+    → edit_at chunk e ((looks_lead e.looks looks ++ place_lead e.caret place ++ last) ++ rest) ≡ Some (kind, rest)
 unfolding placed_at
-placed_again e looks place last rest kind below is at start here =
+placed_again chunk e looks place last rest kind below is at start here =
     let after = place_starts e.caret place (last ++ rest) start in
     let whole = looks_start e.looks looks (place_lead e.caret place ++ (last ++ rest)) after in
-    ap (edit_at e) (three_parts (looks_lead e.looks looks) (place_lead e.caret place) last rest)
-    ∙ placed_first e (looks_lead e.looks looks ++ (place_lead e.caret place ++ (last ++ rest))) whole
+    ap (edit_at chunk e) (three_parts (looks_lead e.looks looks) (place_lead e.caret place) last rest)
+    ∙ placed_first chunk e (looks_lead e.looks looks ++ (place_lead e.caret place ++ (last ++ rest))) whole
     ∙ rw (
       typed_again e.looks looks (place_lead e.caret place ++ (last ++ rest)) is after,
       place_again e.caret place (last ++ rest) below at start,
     ) here
 
 -- with no looks of its own
-one_again : (e : Expected) (name : CharName) (rest : List ℕ) → IsInFile e.caret → IsName name
-    → edit_at e ((place_lead e.caret (At name) ++ 8 ∷ []) ++ rest) ≡ Some (delete (of_name name ∷ []), rest)
+one_again : (chunk : Bool) (e : Expected) (name : CharName) (rest : List ℕ) → IsInFile e.caret → IsName name
+    → edit_at chunk e ((place_lead e.caret (At name) ++ 8 ∷ []) ++ rest) ≡ Some (delete (of_name name ∷ []), rest)
 unfolding placed_at here_at
-one_again e name rest below is =
+one_again chunk e name rest below is =
     let start = one_starts rest in
     let after = place_starts e.caret (At name) (8 ∷ rest) start in
-    ap (edit_at e) (append_assoc (place_lead e.caret (At name)) (8 ∷ []) rest)
-    ∙ placed_first e (place_lead e.caret (At name) ++ (8 ∷ rest)) (starts_less 3 2 _ (omega arith) after)
+    ap (edit_at chunk e) (append_assoc (place_lead e.caret (At name)) (8 ∷ []) rest)
+    ∙ placed_first chunk e (place_lead e.caret (At name) ++ (8 ∷ rest)) (starts_less 3 2 _ (omega arith) after)
     ∙ rw (
       typed_not e.looks (place_lead e.caret (At name) ++ (8 ∷ rest)) after,
       place_again e.caret (At name) (8 ∷ rest) below is start,
       same_as_itself e.looks,
     ) refl
 
-delete_again : (e : Expected) (names : List Range) (rest : List ℕ) → IsInFile e.caret → IsNamed names
-    → edit_at e (delete_spelling e.caret names ++ rest) ≡ Some (delete names, rest)
+delete_again : (chunk : Bool) (e : Expected) (names : List Range) (rest : List ℕ) → IsInFile e.caret → IsNamed names
+    → edit_at chunk e (delete_spelling e.caret names ++ rest) ≡ Some (delete names, rest)
 unfolding edit_at delete_at
-delete_again e names rest below is = by (is_one names) refl
+delete_again chunk e names rest below is = by (is_one names) refl
   where
     one : (names : List Range) → IsNamed names → is_one names ≡ true
-        → edit_at e (delete_spelling e.caret names ++ rest) ≡ Some (delete names, rest)
+        → edit_at chunk e (delete_spelling e.caret names ++ rest) ≡ Some (delete names, rest)
     one [] named is = absurd cc
     one (r ∷ s ∷ names) named is = absurd cc
     one (r ∷ []) named is =
         let lone : r.len ≡ 1 = eqb-true _ _ is in
         let name : CharName = record { site = r.site; off = r.at } in
         let range = named.set.ranges 0 r (omega arith) in
-        ap (λ (l : List ℕ). edit_at e (l ++ rest)) (cond-true (eqb r.len 1) _ _ is)
-        ∙ one_again e name rest below (range.0, range.1, omega (arith, range.3))
+        ap (λ (l : List ℕ). edit_at chunk e (l ++ rest)) (cond-true (eqb r.len 1) _ _ is)
+        ∙ one_again chunk e name rest below (range.0, range.1, omega (arith, range.3))
         ∙ ap (λ (n : ℕ). Some (delete (record { site = r.site; at = r.at; len = n } ∷ []), rest)) (sym lone)
 
-    by : (t : Bool) → is_one names ≡ t → edit_at e (delete_spelling e.caret names ++ rest) ≡ Some (delete names, rest)
+    by : (t : Bool) → is_one names ≡ t → edit_at chunk e (delete_spelling e.caret names ++ rest) ≡ Some (delete names, rest)
     by true h = one names is h
     by false h =
-        ap (λ (l : List ℕ). edit_at e (l ++ rest)) (many_spelling e.caret names h)
+        ap (λ (l : List ℕ). edit_at chunk e (l ++ rest)) (many_spelling e.caret names h)
         ∙ rw (packed_set_reads.again names rest is, h) refl
 
-change_again : (e : Expected) (site : ℕ) (sel : Selection) (looks : Looks) (names : List Range) (rest : List ℕ)
+change_again : (chunk : Bool) (e : Expected) (site : ℕ) (sel : Selection) (looks : Looks) (names : List Range) (rest : List ℕ)
     → IsKind site (change_looks sel looks names)
-    → edit_at e ((11 ∷ bits_of sel ∷ selected_spelling sel looks ++ packed_set names) ++ rest)
+    → edit_at chunk e ((11 ∷ bits_of sel ∷ selected_spelling sel looks ++ packed_set names) ++ rest)
     ≡ Some (change_looks sel looks names, rest)
 unfolding edit_at change_at
-change_again e site sel looks names rest is =
+change_again chunk e site sel looks names rest is =
     ap change_at (change_split sel looks names rest)
     ∙ rw (
       sel_reads.again sel (selected_spelling sel looks ++ (packed_set names ++ rest)) is.some,
@@ -274,26 +274,26 @@ change_again e site sel looks names rest is =
       packed_set_reads.again names rest is.named,
     ) refl
 
-restore_again : (e : Expected) (names : List Range) (rest : List ℕ) → IsNamed names
-    → edit_at e ((12 ∷ packed_set names) ++ rest) ≡ Some (restore names, rest)
+restore_again : (chunk : Bool) (e : Expected) (names : List Range) (rest : List ℕ) → IsNamed names
+    → edit_at chunk e ((12 ∷ packed_set names) ++ rest) ≡ Some (restore names, rest)
 unfolding edit_at restore_at
-restore_again e names rest is = rw (packed_set_reads.again names rest is) refl
+restore_again chunk e names rest is = rw (packed_set_reads.again names rest is) refl
 
 place_of_cause : (site at : ℕ) (cause : Anchor) → IsCause site at cause → IsPlace cause
 place_of_cause site at Root is = tt
 place_of_cause site at (At name) is = (is.0, is.1, is.2)
 
-pub edit_again : (e : Expected) (site : ℕ) (kind : OpKind) (rest : List ℕ) → IsInFile e.caret → IsKind site kind
-    → Begins kind e.len → edit_at e (edit_spelling e kind ++ rest) ≡ Some (kind, rest)
-edit_again e site (insert cause at looks bytes) rest below is begins =
-    placed_again e looks cause (bytes_spelling bytes) rest (insert cause at looks bytes) below is.valid_looks
-    (place_of_cause site at cause is.caused) (bytes_start bytes rest)
-    (insert_again e looks cause bytes rest is.some is.few
+pub edit_again : (chunk : Bool) (e : Expected) (site : ℕ) (kind : OpKind) (rest : List ℕ) → IsInFile e.caret → IsKind site kind
+    → Begins kind e.len → edit_at chunk e (edit_spelling chunk e kind ++ rest) ≡ Some (kind, rest)
+edit_again chunk e site (insert cause at looks bytes) rest below is begins =
+    placed_again chunk e looks cause (bytes_spelling chunk bytes) rest (insert cause at looks bytes) below is.valid_looks
+    (place_of_cause site at cause is.caused) (bytes_start chunk bytes rest)
+    (insert_again chunk e looks cause bytes rest is.some is.few
     ∙ ap (λ (n : ℕ). Some (insert cause n looks bytes, rest)) (sym begins))
-edit_again e site (delete names) rest below is begins = delete_again e names rest below is
-edit_again e site (restore names) rest below is begins = restore_again e names rest is
-edit_again e site (change_looks sel looks names) rest below is begins =
-    change_again e site sel looks names rest is
+edit_again chunk e site (delete names) rest below is begins = delete_again chunk e names rest below is
+edit_again chunk e site (restore names) rest below is begins = restore_again chunk e names rest is
+edit_again chunk e site (change_looks sel looks names) rest below is begins =
+    change_again chunk e site sel looks names rest is
 
 -- an edit begins with no lead that tells the time
 delete_starts : (caret : Anchor) (names : List Range) (rest : List ℕ) → AfterTime (delete_spelling caret names ++ rest)
@@ -310,10 +310,10 @@ delete_starts caret (r ∷ []) rest = by (eqb r.len 1)
         subst AfterTime (sym (append_assoc (place_lead caret place) (8 ∷ []) rest))
         (after_time _ (starts_less 3 2 _ (omega arith) (place_starts caret place (8 ∷ rest) (one_starts rest))))
 
-pub edit_starts : (e : Expected) (kind : OpKind) (rest : List ℕ) → AfterTime (edit_spelling e kind ++ rest)
-edit_starts e (insert cause at looks bytes) rest =
-    subst AfterTime (sym (three_parts (looks_lead e.looks looks) (place_lead e.caret cause) (bytes_spelling bytes) rest))
-    (after_time _ (looks_start e.looks looks _ (place_starts e.caret cause _ (bytes_start bytes rest))))
-edit_starts e (delete names) rest = delete_starts e.caret names rest
-edit_starts e (restore names) rest = record { first = 12; after = _; is = refl; past = inr (omega arith) }
-edit_starts e (change_looks sel looks names) rest = record { first = 11; after = _; is = refl; past = inr (omega arith) }
+pub edit_starts : (chunk : Bool) (e : Expected) (kind : OpKind) (rest : List ℕ) → AfterTime (edit_spelling chunk e kind ++ rest)
+edit_starts chunk e (insert cause at looks bytes) rest =
+    subst AfterTime (sym (three_parts (looks_lead e.looks looks) (place_lead e.caret cause) (bytes_spelling chunk bytes) rest))
+    (after_time _ (looks_start e.looks looks _ (place_starts e.caret cause _ (bytes_start chunk bytes rest))))
+edit_starts chunk e (delete names) rest = delete_starts e.caret names rest
+edit_starts chunk e (restore names) rest = record { first = 12; after = _; is = refl; past = inr (omega arith) }
+edit_starts chunk e (change_looks sel looks names) rest = record { first = 11; after = _; is = refl; past = inr (omega arith) }

@@ -24,14 +24,14 @@ parts_taken told text bytes parts rest below fits h =
     let time = time_taken told.last bytes s.0.0 s.0.1 fits s.1 in
     let site : ℕ = s.0.0.0 in
     let e : Expected = expected told site in
-    let t = bind_some (edit_at e s.0.1) _ (parts, rest) s.2 in
-    let edit = edit_taken e s.0.1 t.0.0 t.0.1 (below site) time.rest_fits t.1 in
+    let t = bind_some (edit_at told.in_chunk e s.0.1) _ (parts, rest) s.2 in
+    let edit = edit_taken told.in_chunk e s.0.1 t.0.0 t.0.1 (below site) time.rest_fits t.1 in
     let more : e.stamp + 1 + s.0.0.1 - (e.stamp + 1) ≡ s.0.0.1 = omega arith in
     subst (λ (p : Parts × List ℕ). IsRead told text bytes p.0 p.1) (some_is _ _ t.2)
     (record {
       packed = time.parts ∙ ap (λ (r : List ℕ). time_lead told.last site s.0.0.1 ++ r) edit.parts
-          ∙ sym (append_assoc (time_lead told.last site s.0.0.1) (edit_spelling e t.0.0) t.0.1)
-          ∙ ap (λ (n : ℕ). (time_lead told.last site n ++ edit_spelling e t.0.0) ++ t.0.1) (sym more);
+          ∙ sym (append_assoc (time_lead told.last site s.0.0.1) (edit_spelling told.in_chunk e t.0.0) t.0.1)
+          ∙ ap (λ (n : ℕ). (time_lead told.last site n ++ edit_spelling told.in_chunk e t.0.0) ++ t.0.1) (sym more);
       next = record { seq = refl; begins = edit.in_range; above = omega arith };
     })
 
@@ -46,10 +46,10 @@ parts_again told op rest below next is =
     let e : Expected = expected told op.site in
     let more : ℕ = op.stamp - (e.stamp + 1) in
     let bound : more < 2 ^ 49 = omega (arith, is.stamp.1) in
-    ap (parts_at told) (append_assoc (time_lead told.last op.site more) (edit_spelling e op.kind) rest)
+    ap (parts_at told) (append_assoc (time_lead told.last op.site more) (edit_spelling told.in_chunk e op.kind) rest)
     ∙ rw (
-      time_again told.last op.site more (edit_spelling e op.kind ++ rest) is.site bound (edit_starts e op.kind rest),
-      edit_again e op.site op.kind rest (below op.site) is.kind next.begins,
+      time_again told.last op.site more (edit_spelling told.in_chunk e op.kind ++ rest) is.site bound (edit_starts told.in_chunk e op.kind rest),
+      edit_again told.in_chunk e op.site op.kind rest (below op.site) is.kind next.begins,
     ) refl
 
 -- the operation of its parts

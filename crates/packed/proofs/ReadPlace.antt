@@ -230,15 +230,15 @@ abbrev pub IsText : List ℕ → Type 0
 IsText text = (0 < length text) × (length text < 2 ^ 49)
 
 -- more bytes than one
-long_spelling : (text : List ℕ) → 2 ≤ length text → bytes_spelling text ≡ 6 ∷ sevens (length text - 2) ++ text
-long_spelling [] le = absurd (omega arith)
-long_spelling (b ∷ []) le = absurd (omega arith)
-long_spelling (b ∷ c ∷ text) le = refl
+long_spelling : (chunk : Bool) (text : List ℕ) → 2 ≤ length text → bytes_spelling chunk text ≡ 6 ∷ sevens (length text - 2) ++ text
+long_spelling chunk [] le = absurd (omega arith)
+long_spelling chunk (b ∷ []) le = absurd (omega arith)
+long_spelling chunk (b ∷ c ∷ text) le = refl
 
-long_taken : (bytes text rest : List ℕ) → IsBytes bytes → long_at bytes ≡ Some (text, rest)
-    → Took bytes_spelling (λ text. 0 < length text) (6 ∷ bytes) text rest
+long_taken : (chunk : Bool) (bytes text rest : List ℕ) → IsBytes bytes → long_at bytes ≡ Some (text, rest)
+    → Took (bytes_spelling chunk) (λ text. 0 < length text) (6 ∷ bytes) text rest
 unfolding long_at
-long_taken bytes text rest fits e =
+long_taken chunk bytes text rest fits e =
     let s = step _ _ _ sevens_reads _ bytes (text, rest) fits e in
     let t = (stretch_reads (s.x + 2)).takes s.rest text rest s.took.rest_fits s.goes_on in
     let more : length text - 2 ≡ s.x = omega (arith, t.in_range) in
@@ -247,7 +247,7 @@ long_taken bytes text rest fits e =
           ∙ ap (λ (r : List ℕ). 6 ∷ sevens s.x ++ r) t.parts
           ∙ ap (λ (r : List ℕ). 6 ∷ r) (sym (append_assoc (sevens s.x) text rest))
           ∙ ap (λ (n : ℕ). (6 ∷ sevens n ++ text) ++ rest) (sym more)
-          ∙ ap (λ (l : List ℕ). l ++ rest) (sym (long_spelling text (omega (arith, t.in_range))));
+          ∙ ap (λ (l : List ℕ). l ++ rest) (sym (long_spelling chunk text (omega (arith, t.in_range))));
       rest_fits = t.rest_fits;
       in_range = omega (arith, t.in_range);
     }
@@ -255,22 +255,22 @@ long_taken bytes text rest fits e =
 first_byte : (b : ℕ) (bytes : List ℕ) → stretch_at 1 (b ∷ bytes) ≡ Some (b ∷ [], bytes)
 first_byte b bytes = (stretch_reads 1).again (b ∷ []) bytes refl
 
-one_letter : (b : ℕ) → is_code b ≡ false → bytes_spelling (b ∷ []) ≡ b ∷ []
-one_letter b e = cond-false (is_code b) _ _ e
+one_letter : (chunk : Bool) (b : ℕ) → is_code chunk b ≡ false → bytes_spelling chunk (b ∷ []) ≡ b ∷ []
+one_letter chunk b e = cond-false (is_code chunk b) _ _ e
 
-one_code : (b : ℕ) → is_code b ≡ true → bytes_spelling (b ∷ []) ≡ 14 ∷ b ∷ []
-one_code b e = cond-true (is_code b) _ _ e
+one_code : (chunk : Bool) (b : ℕ) → is_code chunk b ≡ true → bytes_spelling chunk (b ∷ []) ≡ 14 ∷ b ∷ []
+one_code chunk b e = cond-true (is_code chunk b) _ _ e
 
-code_taken : (bytes text rest : List ℕ) → IsBytes bytes → code_at bytes ≡ Some (text, rest)
-    → Took bytes_spelling (λ text. 0 < length text) (14 ∷ bytes) text rest
+code_taken : (chunk : Bool) (bytes text rest : List ℕ) → IsBytes bytes → code_at chunk bytes ≡ Some (text, rest)
+    → Took (bytes_spelling chunk) (λ text. 0 < length text) (14 ∷ bytes) text rest
 unfolding code_at
-code_taken [] text rest fits e = absurd cc
-code_taken (b ∷ bytes) text rest fits e =
-    let g = passed_on (is_code b) (stretch_at 1 (b ∷ bytes)) (text, rest) e in
-    subst (λ (x : List ℕ × List ℕ). Took bytes_spelling (λ text. 0 < length text) (14 ∷ b ∷ bytes) x.0 x.1)
+code_taken chunk [] text rest fits e = absurd cc
+code_taken chunk (b ∷ bytes) text rest fits e =
+    let g = passed_on (is_code chunk b) (stretch_at 1 (b ∷ bytes)) (text, rest) e in
+    subst (λ (x : List ℕ × List ℕ). Took (bytes_spelling chunk) (λ text. 0 < length text) (14 ∷ b ∷ bytes) x.0 x.1)
     (some_is _ _ (sym (first_byte b bytes) ∙ g.1))
     (record {
-      parts = ap (λ (l : List ℕ). l ++ bytes) (sym (one_code b g.0));
+      parts = ap (λ (l : List ℕ). l ++ bytes) (sym (one_code chunk b g.0));
       rest_fits = λ i. fits (suc i);
       in_range = omega arith;
     })
@@ -279,47 +279,48 @@ code_taken (b ∷ bytes) text rest fits e =
     passed_on true o y e = (refl, e)
     passed_on false o y e = absurd cc
 
-pub bytes_taken : (bytes text rest : List ℕ) → IsBytes bytes → bytes_at bytes ≡ Some (text, rest)
-    → Took bytes_spelling (λ text. 0 < length text) bytes text rest
+pub bytes_taken : (chunk : Bool) (bytes text rest : List ℕ) → IsBytes bytes → bytes_at chunk bytes ≡ Some (text, rest)
+    → Took (bytes_spelling chunk) (λ text. 0 < length text) bytes text rest
 unfolding bytes_at
-bytes_taken [] text rest fits e = absurd cc
-bytes_taken (b ∷ bytes) text rest fits e =
+bytes_taken chunk [] text rest fits e = absurd cc
+bytes_taken chunk (b ∷ bytes) text rest fits e =
     let after : IsBytes bytes = λ i. fits (suc i) in
     elim (either (eqb b 6) _ _ _ e) [
       | inl h ↦
-          subst (λ (n : ℕ). Took bytes_spelling (λ text. 0 < length text) (n ∷ bytes) text rest) (sym (eqb-true _ _ h.0))
-          (long_taken bytes text rest after h.1)
+          subst (λ (n : ℕ). Took (bytes_spelling chunk) (λ text. 0 < length text) (n ∷ bytes) text rest) (sym (eqb-true _ _ h.0))
+          (long_taken chunk bytes text rest after h.1)
       | inr h ↦
           elim (either (eqb b 14) _ _ _ h.1) [
             | inl k ↦
-                subst (λ (n : ℕ). Took bytes_spelling (λ text. 0 < length text) (n ∷ bytes) text rest)
+                subst (λ (n : ℕ). Took (bytes_spelling chunk) (λ text. 0 < length text) (n ∷ bytes) text rest)
                 (sym (eqb-true _ _ k.0))
-                (code_taken bytes text rest after k.1)
+                (code_taken chunk bytes text rest after k.1)
             | inr k ↦
-                let g = not_stopped (is_code b) (stretch_at 1 (b ∷ bytes)) (text, rest) k.1 in
-                subst (λ (x : List ℕ × List ℕ). Took bytes_spelling (λ text. 0 < length text) (b ∷ bytes) x.0 x.1)
+                let g = not_stopped (is_code chunk b) (stretch_at 1 (b ∷ bytes)) (text, rest) k.1 in
+                subst (λ (x : List ℕ × List ℕ). Took (bytes_spelling chunk) (λ text. 0 < length text) (b ∷ bytes) x.0 x.1)
                 (some_is _ _ (sym (first_byte b bytes) ∙ g.1))
                 (record {
-                  parts = ap (λ (l : List ℕ). l ++ bytes) (sym (one_letter b g.0));
+                  parts = ap (λ (l : List ℕ). l ++ bytes) (sym (one_letter chunk b g.0));
                   rest_fits = after;
                   in_range = omega arith;
                 })
           ]
     ]
 
-pub bytes_again : (text rest : List ℕ) → IsText text → bytes_at (bytes_spelling text ++ rest) ≡ Some (text, rest)
+pub bytes_again : (chunk : Bool) (text rest : List ℕ) → IsText text
+    → bytes_at chunk (bytes_spelling chunk text ++ rest) ≡ Some (text, rest)
 unfolding bytes_at long_at code_at
-bytes_again [] rest is = absurd (omega (arith, is.0))
-bytes_again (b ∷ []) rest is =
-    elim (cases_Bool (is_code b)) [
+bytes_again chunk [] rest is = absurd (omega (arith, is.0))
+bytes_again chunk (b ∷ []) rest is =
+    elim (cases_Bool (is_code chunk b)) [
       | inl code ↦
-          ap (λ (l : List ℕ). bytes_at (l ++ rest)) (one_code b code) ∙ rw code (first_byte b rest)
+          ap (λ (l : List ℕ). bytes_at chunk (l ++ rest)) (one_code chunk b code) ∙ rw code (first_byte b rest)
       | inr letter ↦
-          let l = letter_is b letter in
-          ap (λ (l : List ℕ). bytes_at (l ++ rest)) (one_letter b letter) ∙ rw (letter, l.long, l.escape)
+          let l = letter_is chunk b letter in
+          ap (λ (l : List ℕ). bytes_at chunk (l ++ rest)) (one_letter chunk b letter) ∙ rw (letter, l.long, l.escape)
           (first_byte b rest)
     ]
-bytes_again (b ∷ c ∷ text) rest is =
+bytes_again chunk (b ∷ c ∷ text) rest is =
     let all : List ℕ = b ∷ c ∷ text in
     let more : length all - 2 + 2 ≡ length all = omega arith in
     ap long_at (append_assoc (sevens (length all - 2)) all rest)

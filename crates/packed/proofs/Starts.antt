@@ -1,7 +1,7 @@
 -- What bytes begin with: by their first byte a reader knows what comes.
-use Rattle.std.proofs.Common.{◌≡◌, ℕ, ◌<◌, ◌≤◌, ◌⊎◌, inl, inr, Bool, true, false, cond, eqb, List, [], ◌∷◌, ◌++◌}
+use Rattle.std.proofs.Common.{◌≡◌, ℕ, ◌<◌, ◌≤◌, ◌⊎◌, inl, inr, Bool, true, false, cond, ◌&&◌, ◌||◌, eqb, ltb, leb, List, [], ◌∷◌, ◌++◌}
 use Rattle.std.proofs.Common.{refl, arith}
-use Rattle.std.proofs.lemmas.Bool.{ne_eqb}
+use Rattle.std.proofs.lemmas.Bool.{ne_eqb, or_parts}
 use Rattle.std.proofs.lemmas.Bool.Decides.{nat_tests}
 use Rattle.char_files.specs.declared.name.Anchor.{Anchor}
 use Rattle.char_files.specs.declared.name.Anchor.TheVariants.{Root, At}
@@ -58,11 +58,15 @@ pub record IsLetter (b : ℕ) : Type 0 where
   pub one : eqb b 8 ≡ false
   pub escape : eqb b 14 ≡ false
 
-past_from : (b : ℕ) → is_code b ≡ false → Past 5 b
+-- a code in files and in chunks
+abbrev is_any_code : ℕ → Bool
+is_any_code b = (ltb 0 b && leb b 8) || eqb b 11 || eqb b 12 || eqb b 14
+
+past_from : (b : ℕ) → is_any_code b ≡ false → Past 5 b
 past_from b e = grind (arith, nat_tests)
 
-pub letter_is : (b : ℕ) → is_code b ≡ false → IsLetter b
-letter_is b e = record {
+no_code_is : (b : ℕ) → is_any_code b ≡ false → IsLetter b
+no_code_is b e = record {
   start = record {
     past = past_from b e;
     no_set = record { delete = grind (arith, nat_tests); change = grind (arith, nat_tests); restore = grind (arith, nat_tests) };
@@ -71,6 +75,9 @@ letter_is b e = record {
   one = grind (arith, nat_tests);
   escape = grind (arith, nat_tests);
 }
+
+pub letter_is : (chunk : Bool) (b : ℕ) → is_code chunk b ≡ false → IsLetter b
+letter_is chunk b e = no_code_is b (or_parts (is_any_code b) (chunk && eqb b 15) e).0
 
 start_by : (n first : ℕ) → n < first → eqb first 7 ≡ false → eqb first 11 ≡ false → eqb first 12 ≡ false → IsStart n first
 start_by n first lt a b c = record { past = inr lt; no_set = record { delete = a; change = b; restore = c } }
@@ -87,14 +94,14 @@ starts_less n m bytes le s = record {
 }
 
 -- the bytes of an Insert
-pub bytes_start : (bytes rest : List ℕ) → Starts 5 (bytes_spelling bytes ++ rest)
-bytes_start [] rest = starts_with 5 6 _ (start_by 5 6 (omega arith) refl refl refl)
-bytes_start (b ∷ []) rest = by (is_code b) refl
+pub bytes_start : (chunk : Bool) (bytes rest : List ℕ) → Starts 5 (bytes_spelling chunk bytes ++ rest)
+bytes_start chunk [] rest = starts_with 5 6 _ (start_by 5 6 (omega arith) refl refl refl)
+bytes_start chunk (b ∷ []) rest = by (is_code chunk b) refl
   where
-    by : (t : Bool) → is_code b ≡ t → Starts 5 (cond t (14 ∷ b ∷ []) (b ∷ []) ++ rest)
+    by : (t : Bool) → is_code chunk b ≡ t → Starts 5 (cond t (14 ∷ b ∷ []) (b ∷ []) ++ rest)
     by true e = starts_with 5 14 _ (start_by 5 14 (omega arith) refl refl refl)
-    by false e = let l = letter_is b e in starts_with 5 b _ l.start
-bytes_start (b ∷ c ∷ bytes) rest = starts_with 5 6 _ (start_by 5 6 (omega arith) refl refl refl)
+    by false e = let l = letter_is chunk b e in starts_with 5 b _ l.start
+bytes_start chunk (b ∷ c ∷ bytes) rest = starts_with 5 6 _ (start_by 5 6 (omega arith) refl refl refl)
 
 -- a Delete of one character
 pub one_starts : (rest : List ℕ) → Starts 5 (8 ∷ rest)

@@ -12,7 +12,7 @@ use Rattle.operations.specs.NameSet.{Range, IsNamed, IsRange}
 use Rattle.operations.specs.Operation.{Operation, OpKind, insert, delete, restore, change_looks}
 use Rattle.operations.specs.Spelling.{HasSpelling, IsKind}
 use Rattle.packed.specs.declared.expected.Expected.{Expected}
-use Rattle.packed.specs.Told.{at_first, before_first, caret_after, after, Told, nothing_told, expected, told_on, told_after}
+use Rattle.packed.specs.Told.{at_first, before_first, caret_after, after, Told, nothing_told, nothing_begun, noted, begun_at, expected, told_on, told_after}
 use Rattle.packed.specs.Told.{IsInFile, CaretsAreInFiles, expected_after, OwnOperationsTell}
 
 eqb_flips : (x y : ℕ) → eqb x y ≡ eqb y x
@@ -67,19 +67,23 @@ module _ {X : Type 0} where
                 ∙ ap (λ (o : Option X). cond (eqb k q) (Some v) o) (sym (cond-false (eqb q e.0) _ _ apart))
           ]
 
--- one operation more tells of its own site, and leaves what is expected of the others
-pub expected_on : (told : Told) (op : Operation) (site : ℕ)
-    → expected (told_on told op) site ≡ cond (eqb op.site site) (after (expected told op.site) op) (expected told site)
-expected_on told op site =
-    let new : Expected = after (expected told op.site) op in
-    ap (λ (o : Option Expected). option_map_or (λ (e : Expected). e) o at_first) (lookup_put told.sites op.site new site)
-    ∙ by (eqb op.site site) new (lookup (nat_eq site) told.sites)
+-- what is noted of a site is expected of it, and leaves what is expected of the others
+pub expected_noted : (told : Told) (of : ℕ) (new : Expected) (site : ℕ)
+    → expected (noted told of new) site ≡ cond (eqb of site) new (expected told site)
+expected_noted told of new site =
+    ap (λ (o : Option Expected). option_map_or (λ (e : Expected). e) o at_first) (lookup_put told.sites of new site)
+    ∙ by (eqb of site) new (lookup (nat_eq site) told.sites)
   where
     by : (b : Bool) (new : Expected) (o : Option Expected)
         → option_map_or (λ (e : Expected). e) (cond b (Some new) o) at_first
         ≡ cond b new (option_map_or (λ (e : Expected). e) o at_first)
     by true new o = refl
     by false new o = refl
+
+-- one operation more tells of its own site alone
+pub expected_on : (told : Told) (op : Operation) (site : ℕ)
+    → expected (told_on told op) site ≡ cond (eqb op.site site) (after (expected told op.site) op) (expected told site)
+expected_on told op site = expected_noted told op.site (after (expected told op.site) op) site
 
 before_in : (names : List Range) → IsNamed names → IsInFile (before_first names)
 before_in [] named = tt
@@ -100,16 +104,33 @@ caret_in site caret (restore names) is below = below
 caret_in site caret (change_looks sel looks names) is below = below
 
 -- the carets stay within the files
-pub carets_on : (told : Told) (op : Operation) → HasSpelling op → CaretsAreInFiles told → CaretsAreInFiles (told_on told op)
-carets_on told op is below site =
-    subst (λ (e : Expected). IsInFile e.caret) (sym (expected_on told op site)) (by (eqb op.site site))
+pub carets_noted : (told : Told) (of : ℕ) (new : Expected) → IsInFile new.caret → CaretsAreInFiles told
+    → CaretsAreInFiles (noted told of new)
+carets_noted told of new here below site =
+    subst (λ (e : Expected). IsInFile e.caret) (sym (expected_noted told of new site)) (by (eqb of site))
   where
-    by : (b : Bool) → IsInFile (cond b (after (expected told op.site) op) (expected told site)).caret
-    by true = caret_in op.site (expected told op.site).caret op.kind is.kind (below op.site)
+    by : (b : Bool) → IsInFile (cond b new (expected told site)).caret
+    by true = here
     by false = below site
+
+pub caret_on : (told : Told) (op : Operation) → HasSpelling op → CaretsAreInFiles told
+    → IsInFile (after (expected told op.site) op).caret
+caret_on told op is below = caret_in op.site (expected told op.site).caret op.kind is.kind (below op.site)
+
+pub carets_on : (told : Told) (op : Operation) → HasSpelling op → CaretsAreInFiles told → CaretsAreInFiles (told_on told op)
+carets_on told op is below =
+    carets_noted told op.site (after (expected told op.site) op) (caret_on told op is below) below
+
+pub carets_begun : (told : Told) (site seq stamp len : ℕ) → CaretsAreInFiles told
+    → CaretsAreInFiles (begun_at told site seq stamp len)
+carets_begun told site seq stamp len below =
+    carets_noted told site (record at_first { seq = seq; stamp = stamp; len = len }) tt below
 
 pub no_carets : CaretsAreInFiles nothing_told
 no_carets site = tt
+
+pub none_begun : CaretsAreInFiles nothing_begun
+none_begun site = tt
 
 -- ---- a site's own operations
 

@@ -117,17 +117,18 @@ long_at bytes = do
   stretch_at (more.0 + 2) more.1
 
 -- a byte that is a code
-unfoldable pub code_at : List ℕ → Option (List ℕ × List ℕ)
-code_at bytes = do
+unfoldable pub code_at : (in_chunk : Bool) → List ℕ → Option (List ℕ × List ℕ)
+code_at in_chunk bytes = do
   first ← byte_at bytes
-  if is_code first.0 then stretch_at 1 bytes else None
+  if is_code in_chunk first.0 then stretch_at 1 bytes else None
 
 -- the bytes of an Insert
-unfoldable pub bytes_at : List ℕ → Option (List ℕ × List ℕ)
-bytes_at bytes = do
+unfoldable pub bytes_at : (in_chunk : Bool) → List ℕ → Option (List ℕ × List ℕ)
+bytes_at in_chunk bytes = do
   first ← byte_at bytes
   if first.0 == 6 then long_at first.1
-      else (if first.0 == 14 then code_at first.1 else (if is_code first.0 then None else stretch_at 1 bytes))
+      else (if first.0 == 14 then code_at in_chunk first.1
+      else (if is_code in_chunk first.0 then None else stretch_at 1 bytes))
 
 -- a Delete of the character at this place, which comes with no looks
 abbrev pub one_from : (typed looks : Looks) → Anchor → List ℕ → Option (OpKind × List ℕ)
@@ -135,23 +136,23 @@ one_from typed looks Root rest = None
 one_from typed looks (At name) rest = if same_looks typed looks then Some (delete (of_name name ∷ []), rest) else None
 
 -- an Insert of these looks at this place
-unfoldable pub insert_from : ℕ → Looks → Anchor → List ℕ → Option (OpKind × List ℕ)
-insert_from at looks place bytes = do
-  text ← bytes_at bytes
+unfoldable pub insert_from : (in_chunk : Bool) → ℕ → Looks → Anchor → List ℕ → Option (OpKind × List ℕ)
+insert_from in_chunk at looks place bytes = do
+  text ← bytes_at in_chunk bytes
   Some (insert place at looks text.0, text.1)
 
 -- an Insert or a Delete of one character, of these looks at this place
-unfoldable pub here_at : Expected → Looks → Anchor → List ℕ → Option (OpKind × List ℕ)
-here_at e looks place bytes = do
+unfoldable pub here_at : (in_chunk : Bool) → Expected → Looks → Anchor → List ℕ → Option (OpKind × List ℕ)
+here_at in_chunk e looks place bytes = do
   first ← byte_at bytes
-  if first.0 == 8 then one_from e.looks looks place first.1 else insert_from e.len looks place bytes
+  if first.0 == 8 then one_from e.looks looks place first.1 else insert_from in_chunk e.len looks place bytes
 
 -- an Insert or a Delete of one character
-unfoldable pub placed_at : Expected → List ℕ → Option (OpKind × List ℕ)
-placed_at e bytes = do
+unfoldable pub placed_at : (in_chunk : Bool) → Expected → List ℕ → Option (OpKind × List ℕ)
+placed_at in_chunk e bytes = do
   looks ← typed_at e.looks bytes
   place ← place_at e.caret looks.1
-  here_at e looks.0 place.0 place.1
+  here_at in_chunk e looks.0 place.0 place.1
 
 -- a Delete of another set than one character
 unfoldable pub delete_at : List ℕ → Option (OpKind × List ℕ)
@@ -174,12 +175,12 @@ change_at bytes = do
   Some (change_looks sel.0 looks.0 names.0, names.1)
 
 -- what an operation does, where this is expected of its site
-unfoldable pub edit_at : Expected → List ℕ → Option (OpKind × List ℕ)
-edit_at e bytes = do
+unfoldable pub edit_at : (in_chunk : Bool) → Expected → List ℕ → Option (OpKind × List ℕ)
+edit_at in_chunk e bytes = do
   first ← byte_at bytes
   if first.0 == 7 then delete_at first.1
       else (if first.0 == 11 then change_at first.1
-      else (if first.0 == 12 then restore_at first.1 else placed_at e bytes))
+      else (if first.0 == 12 then restore_at first.1 else placed_at in_chunk e bytes))
 
 -- the site, by how much the stamp is above the one expected, and what is done
 pub record Parts : Type 0 where
@@ -191,7 +192,7 @@ pub record Parts : Type 0 where
 unfoldable pub parts_at : Told → List ℕ → Option (Parts × List ℕ)
 parts_at told bytes = do
   time ← time_at told.last bytes
-  kind ← edit_at (expected told time.0.0) time.1
+  kind ← edit_at told.in_chunk (expected told time.0.0) time.1
   Some (record { site = time.0.0; more = time.0.1; kind = kind.0 }, kind.1)
 
 -- the next operation of these parts

@@ -14,9 +14,9 @@ use Rattle.packed_fields.specs.Sets.{packed_set}
 use Rattle.packed.specs.declared.expected.Expected.{Expected}
 use Rattle.packed.specs.Told.{Told, nothing_told, expected, told_on}
 
--- the bytes that don't stand for an Insert of themselves
-abbrev pub is_code : ℕ → Bool
-is_code b = (nat_lt 0 b && nat_le b 8) || b == 11 || b == 12 || b == 14
+-- the bytes that don't stand for an Insert of themselves; 15 is one in a chunk, where it says that a site begins
+abbrev pub is_code : (in_chunk : Bool) → ℕ → Bool
+is_code in_chunk b = (nat_lt 0 b && nat_le b 8) || b == 11 || b == 12 || b == 14 || (in_chunk && b == 15)
 
 -- the operation before is of this site
 abbrev pub is_last : Option ℕ → ℕ → Bool
@@ -42,9 +42,9 @@ place_lead (At caret) (At name) =
     else 5 ∷ sevens name.site ++ sevens name.off
 
 -- the bytes of an Insert: one is spelled as itself, or after 14 where it is a code; more follow their length
-abbrev pub bytes_spelling : List ℕ → List ℕ
-bytes_spelling (b ∷ []) = if is_code b then 14 ∷ b ∷ [] else b ∷ []
-bytes_spelling bytes = 6 ∷ sevens (length bytes - 2) ++ bytes
+abbrev pub bytes_spelling : (in_chunk : Bool) → List ℕ → List ℕ
+bytes_spelling in_chunk (b ∷ []) = if is_code in_chunk b then 14 ∷ b ∷ [] else b ∷ []
+bytes_spelling in_chunk bytes = 6 ∷ sevens (length bytes - 2) ++ bytes
 
 -- a Delete: of one character, which is at the caret if nothing else is said, or of another set
 abbrev pub delete_spelling : Anchor → List Range → List ℕ
@@ -54,18 +54,18 @@ delete_spelling caret (r ∷ []) =
 delete_spelling caret names = 7 ∷ packed_set names
 
 -- what an operation does, where this is expected of its site
-abbrev pub edit_spelling : Expected → OpKind → List ℕ
-edit_spelling e (insert cause at looks bytes) =
-    looks_lead e.looks looks ++ place_lead e.caret cause ++ bytes_spelling bytes
-edit_spelling e (delete names) = delete_spelling e.caret names
-edit_spelling e (restore names) = 12 ∷ packed_set names
-edit_spelling e (change_looks sel looks names) = 11 ∷ bits_of sel ∷ selected_spelling sel looks ++ packed_set names
+abbrev pub edit_spelling : (in_chunk : Bool) → Expected → OpKind → List ℕ
+edit_spelling in_chunk e (insert cause at looks bytes) =
+    looks_lead e.looks looks ++ place_lead e.caret cause ++ bytes_spelling in_chunk bytes
+edit_spelling in_chunk e (delete names) = delete_spelling e.caret names
+edit_spelling in_chunk e (restore names) = 12 ∷ packed_set names
+edit_spelling in_chunk e (change_looks sel looks names) = 11 ∷ bits_of sel ∷ selected_spelling sel looks ++ packed_set names
 
 -- what the next operation adds to what was told
 abbrev pub packed_next : Told → Operation → List ℕ
 packed_next told op =
     let e = expected told op.site in
-    time_lead told.last op.site (op.stamp - (e.stamp + 1)) ++ edit_spelling e op.kind
+    time_lead told.last op.site (op.stamp - (e.stamp + 1)) ++ edit_spelling told.in_chunk e op.kind
 
 -- operations packed one after the other, after those that told this
 abbrev pub packed_after : Told → List Operation → List ℕ

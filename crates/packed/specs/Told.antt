@@ -1,6 +1,6 @@
 -- What a text's operations lead one to expect of each site's next one.
 use Rattle.std.specs.Prelude.{◌≡◌, ℕ, suc, ◌+◌, ◌-◌, ◌<◌, ◌==◌, nat_eq, if◌then◌else◌, List, [], ◌∷◌, length}
-use Rattle.std.specs.Prelude.{Option, Some, None, filter}
+use Rattle.std.specs.Prelude.{Bool, true, false, Option, Some, None, is_some, filter}
 use Rattle.std.specs.Option.{option_map_or}
 use Rattle.std.specs.Map.{lookup}
 use Rattle.indexmap.specs.IndexMap.{insert_entry}
@@ -48,26 +48,40 @@ after e op =
       looks = looks_after e.looks op.kind;
     }
 
--- what operations tell of the next one: the site of the last of them, and what is expected of each site that has some
+-- what operations tell of the next one: the site of the last of them, and what is expected of each site that has some; and
+-- whether they are those of a chunk, whose sites begin where it says
 pub record Told : Type 0 where
+  pub in_chunk : Bool
   pub last : Option ℕ
   pub sites : List (ℕ × Expected)
 
 -- no operations
 abbrev pub nothing_told : Told
-nothing_told = record { last = None; sites = [] }
+nothing_told = record { in_chunk = false; last = None; sites = [] }
+
+-- no operations, where each site has to begin
+abbrev pub nothing_begun : Told
+nothing_begun = record { in_chunk = true; last = None; sites = [] }
 
 -- what is expected of a site
 abbrev pub expected : Told → ℕ → Expected
 expected told site = option_map_or (λ e. e) (lookup (nat_eq site) told.sites) at_first
 
+-- something is told of a site: it has operations, or has begun
+abbrev pub has_begun : Told → ℕ → Bool
+has_begun told site = is_some (lookup (nat_eq site) told.sites)
+
+-- what is told once this is expected of a site, which came last
+abbrev pub noted : Told → ℕ → Expected → Told
+noted told site e = record told { last = Some site; sites = insert_entry nat_eq told.sites site e }
+
+-- what is told where a site begins: its last operation has this seq and stamp, and its file this length
+abbrev pub begun_at : Told → (site seq stamp len : ℕ) → Told
+begun_at told site seq stamp len = noted told site (record at_first { seq = seq; stamp = stamp; len = len })
+
 -- what is told after one operation more
 abbrev pub told_on : Told → Operation → Told
-told_on told op =
-    record {
-      last = Some op.site;
-      sites = insert_entry nat_eq told.sites op.site (after (expected told op.site) op);
-    }
+told_on told op = noted told op.site (after (expected told op.site) op)
 
 -- what is told after operations more
 abbrev pub told_after : Told → List Operation → Told

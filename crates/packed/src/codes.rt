@@ -34,9 +34,13 @@ pub(crate) const RESTORE: u8 = 12;
 // An Insert of a byte that is a code.
 pub(crate) const ESCAPE: u8 = 14;
 
+// In a chunk, a site that begins.
+pub(crate) const BEGIN: u8 = 15;
+
 // Whether the byte doesn't stand for an Insert of itself.
-pub(crate) fn is_code(byte: u8) -> bool
-    ensures { result ≡ is_code byte }
+pub(crate) fn is_code(in_chunk: bool, byte: u8) -> bool
+    ensures { result ≡ is_code in_chunk byte }
 {
     matches!(byte, OTHER_SITE..=DELETE | CHANGE_LOOKS | RESTORE | ESCAPE)
+        || (in_chunk && byte == BEGIN)
 }

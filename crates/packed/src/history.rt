@@ -4,7 +4,7 @@ ghost use Rattle.byte_fields.specs.Fields.{Appends, Finds};
 ghost use Rattle.operations.specs.Operation.{Begins, Operation};
 ghost use Rattle.operations.specs.Spelling.{HasSpelling};
 ghost use Rattle.operations.specs.declared.op.TheConstants.{MAX_STAMP};
-ghost use Rattle.packed.specs.Told.{nothing_told, expected, told_on, IsNext, CaretsAreInFiles};
+ghost use Rattle.packed.specs.Told.{nothing_told, nothing_begun, begun_at, has_begun, noted, expected, told_on, IsNext, IsInFile, CaretsAreInFiles};
 ghost use Rattle.packed.specs.Spelling.{packed_next};
 ghost use Rattle.packed.specs.Reading.{parts_at, next_of_parts, CanBeNext, BeginsWithNone};
 ghost use Rattle.packed.specs.Seen.{view_parts};
@@ -22,6 +22,8 @@ use std::marker::Model;
 /// What a text's operations so far tell of the next one, by which that one is packed and read. This project's own.
 #[derive(Drop)]
 pub struct History {
+    // Whether the operations are those of a chunk.
+    in_chunk: bool,
     // The site of the last operation.
     last: Option<SiteNo>,
     // By the sites' numbers.
@@ -33,9 +35,9 @@ impl Model for History {
 
     ghost Value = { Told };
 
-    ghost view = { λ h. record { last = h.last; sites = h.sites.entries } };
+    ghost view = { λ h. record { in_chunk = h.in_chunk; last = h.last; sites = h.sites.entries } };
 
-    ghost invariant = { λ h. CaretsAreInFiles (record { last = h.last; sites = h.sites.entries }) };
+    ghost invariant = { λ h. CaretsAreInFiles (record { in_chunk = h.in_chunk; last = h.last; sites = h.sites.entries }) };
 }
 
 // The stamp that is so much above the next one; `None` where there is no such number.
@@ -52,6 +54,18 @@ impl History {
         ensures { result ≡ nothing_told }
     {
         History {
+            in_chunk: false,
+            last: None,
+            sites: IndexMap::new(alloc),
+        }
+    }
+
+    /// No operations, in a chunk: each site has to begin before its first one.
+    pub fn of_chunk(alloc: Global) -> History
+        ensures { result ≡ nothing_begun }
+    {
+        History {
+            in_chunk: true,
             last: None,
             sites: IndexMap::new(alloc),
         }
@@ -74,8 +88,53 @@ impl History {
         }
     }
 
-    // Notes that an operation came. Refused `OutOfMemory` alone, and then all is as before.
-    fn note(&mut self, op: &Op) -> Result<(), Refusal>
+    /// Whether something is told of a site: it has operations, or has begun.
+    pub fn has_begun(&self, site: SiteNo) -> bool
+        ensures { result ≡ has_begun self.now site }
+    {
+        self.sites.get(&site.get()).is_some()
+    }
+
+    /// How long a site's file is.
+    pub fn len(&self, site: SiteNo) -> u32
+        ensures { result ≡ (expected self.now site).len }
+    {
+        self.expected(site).len
+    }
+
+    // Notes what is expected of a site. Refused `OutOfMemory` alone, and then all is as before.
+    fn tell(&mut self, site: SiteNo, expected: Expected) -> Result<(), Refusal>
+        requires { IsInFile expected.caret }
+        ensures ok { OnOk result (self.new ≡ noted self.old site expected) }
+        ensures errors { RefusedForMemoryAlone result }
+        ensures err { OnErr result (self.new ≡ self.old) }
+    {
+        self.sites.insert(site.get(), expected)?;
+        self.last = Some(site);
+        Ok(())
+    }
+
+    /// Notes that a site begins: its last operation has this seq and stamp, and its file this length.
+    ///
+    /// Refused `OutOfMemory` alone, and then all is as before.
+    pub fn begin(&mut self, site: SiteNo, seq: u32, stamp: u64, len: u32) -> Result<(), Refusal>
+        ensures ok { OnOk result (self.new ≡ begun_at self.old site seq stamp len) }
+        ensures errors { RefusedForMemoryAlone result }
+        ensures err { OnErr result (self.new ≡ self.old) }
+    {
+        let begun = Expected {
+            seq,
+            len,
+            stamp,
+            ..Expected::at_first()
+        };
+        self.tell(site, begun)
+    }
+
+    /// Notes an operation that is counted without being spelled here.
+    ///
+    /// Refused `OutOfMemory` alone, and then all is as before.
+    pub fn pass(&mut self, op: &Op) -> Result<(), Refusal>
         requires { Begins op.now.kind (expected self.old op.now.site).len }
         ensures ok { OnOk result (self.new ≡ told_on self.old op.now) }
         ensures errors { RefusedForMemoryAlone result }
@@ -84,9 +143,7 @@ impl History {
         op.lemma_has_spelling();
         let site = op.site();
         let expected = self.expected(site).after(op);
-        self.sites.insert(site.get(), expected)?;
-        self.last = Some(site);
-        Ok(())
+        self.tell(site, expected)
     }
 
     // Appends the next operation. After an `Err` some of it may stand there.
@@ -98,7 +155,7 @@ impl History {
         let expected = self.expected(op.site());
         let more = op.stamp() - expected.stamp - 1;
         put_time(out, self.last, op.site(), more)?;
-        put_edit(out, &expected, op)
+        put_edit(out, self.in_chunk, &expected, op)
     }
 
     // Appends the next operation, and notes it.
@@ -110,7 +167,7 @@ impl History {
         ensures err { OnErr result (self.new ≡ self.old) }
     {
         self.put_next(op, out)?;
-        self.note(op)
+        self.pass(op)
     }
 
     /// Appends the bytes of an operation, the next of its site, and takes it into the history.
@@ -140,7 +197,7 @@ impl History {
             return None;
         };
         let expected = self.expected(site);
-        let Some((edit, rest)) = edit_at(&expected, rest) else {
+        let Some((edit, rest)) = edit_at(self.in_chunk, &expected, rest) else {
             return None;
         };
         Some((Read { site, more, edit }, rest))
@@ -189,7 +246,7 @@ impl History {
             Ok(op) => op,
             Err(refused) => return Err(refused),
         };
-        self.note(&op)?;
+        self.pass(&op)?;
         Ok((op, rest))
     }
 }

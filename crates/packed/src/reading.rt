@@ -298,11 +298,11 @@ fn long_at(bytes: &[u8]) -> Option<(&[u8], &[u8])>
 
 // A byte that is a code.
 #[tactic(auto, unfolding(crate::specs::Reading::code_at))]
-fn code_at(bytes: &[u8]) -> Option<(&[u8], &[u8])>
-    ensures { Finds (λ x. (x.0.now, x.1.now)) result (code_at bytes.now) }
+fn code_at(in_chunk: bool, bytes: &[u8]) -> Option<(&[u8], &[u8])>
+    ensures { Finds (λ x. (x.0.now, x.1.now)) result (code_at in_chunk bytes.now) }
 {
     let (first, _) = u8_at(bytes)?;
-    if !is_code(first) {
+    if !is_code(in_chunk, first) {
         return None;
     }
     stretch_at(1, bytes)
@@ -310,14 +310,14 @@ fn code_at(bytes: &[u8]) -> Option<(&[u8], &[u8])>
 
 // The bytes of an Insert.
 #[tactic(auto, unfolding(crate::specs::Reading::bytes_at))]
-fn bytes_at(bytes: &[u8]) -> Option<(&[u8], &[u8])>
-    ensures { Finds (λ x. (x.0.now, x.1.now)) result (bytes_at bytes.now) }
+fn bytes_at(in_chunk: bool, bytes: &[u8]) -> Option<(&[u8], &[u8])>
+    ensures { Finds (λ x. (x.0.now, x.1.now)) result (bytes_at in_chunk bytes.now) }
 {
     let (first, rest) = u8_at(bytes)?;
     match first {
         BYTES => long_at(rest),
-        ESCAPE => code_at(rest),
-        _ if is_code(first) => None,
+        ESCAPE => code_at(in_chunk, rest),
+        _ if is_code(in_chunk, first) => None,
         _ => stretch_at(1, bytes),
     }
 }
@@ -340,14 +340,15 @@ fn one_from<'a>(
 // An Insert of these looks at this place.
 #[tactic(auto, unfolding(crate::specs::Reading::insert_from))]
 fn insert_from<'a>(
+    in_chunk: bool,
     at: u32,
     looks: Looks,
     place: Anchor,
     bytes: &'a [u8],
 ) -> Option<(Edit<'a>, &'a [u8])>
-    ensures { Finds (λ x. (view_edit x.0, x.1.now)) result (insert_from at looks place bytes.now) }
+    ensures { Finds (λ x. (view_edit x.0, x.1.now)) result (insert_from in_chunk at looks place bytes.now) }
 {
-    let (bytes, rest) = bytes_at(bytes)?;
+    let (bytes, rest) = bytes_at(in_chunk, bytes)?;
     let edit = Edit::Insert {
         place,
         at,
@@ -360,24 +361,29 @@ fn insert_from<'a>(
 // An Insert or a Delete of one character, of these looks at this place.
 #[tactic(auto, unfolding(crate::specs::Reading::here_at))]
 fn here_at<'a>(
+    in_chunk: bool,
     expected: &Expected,
     looks: Looks,
     place: Anchor,
     bytes: &'a [u8],
 ) -> Option<(Edit<'a>, &'a [u8])>
-    ensures { Finds (λ x. (view_edit x.0, x.1.now)) result (here_at expected.now looks place bytes.now) }
+    ensures { Finds (λ x. (view_edit x.0, x.1.now)) result (here_at in_chunk expected.now looks place bytes.now) }
 {
     let (first, rest) = u8_at(bytes)?;
     if first == DELETE {
         return one_from(&expected.looks, &looks, place, rest);
     }
-    insert_from(expected.len, looks, place, bytes)
+    insert_from(in_chunk, expected.len, looks, place, bytes)
 }
 
 // An Insert or a Delete of one character.
 #[tactic(auto, unfolding(crate::specs::Reading::placed_at))]
-fn placed_at<'a>(expected: &Expected, bytes: &'a [u8]) -> Option<(Edit<'a>, &'a [u8])>
-    ensures { Finds (λ x. (view_edit x.0, x.1.now)) result (placed_at expected.now bytes.now) }
+fn placed_at<'a>(
+    in_chunk: bool,
+    expected: &Expected,
+    bytes: &'a [u8],
+) -> Option<(Edit<'a>, &'a [u8])>
+    ensures { Finds (λ x. (view_edit x.0, x.1.now)) result (placed_at in_chunk expected.now bytes.now) }
 {
     let Some((looks, rest)) = typed_at(&expected.looks, bytes) else {
         return None;
@@ -385,7 +391,7 @@ fn placed_at<'a>(expected: &Expected, bytes: &'a [u8]) -> Option<(Edit<'a>, &'a 
     let Some((place, rest)) = place_at(expected.caret, rest) else {
         return None;
     };
-    here_at(expected, looks, place, rest)
+    here_at(in_chunk, expected, looks, place, rest)
 }
 
 // A Delete of another set than one character.
@@ -426,14 +432,18 @@ fn change_at(bytes: &[u8]) -> Option<(Edit<'_>, &[u8])>
 
 // What an operation does, where this is expected of its site.
 #[tactic(auto, unfolding(crate::specs::Reading::edit_at))]
-pub(crate) fn edit_at<'a>(expected: &Expected, bytes: &'a [u8]) -> Option<(Edit<'a>, &'a [u8])>
-    ensures { Finds (λ x. (view_edit x.0, x.1.now)) result (edit_at expected.now bytes.now) }
+pub(crate) fn edit_at<'a>(
+    in_chunk: bool,
+    expected: &Expected,
+    bytes: &'a [u8],
+) -> Option<(Edit<'a>, &'a [u8])>
+    ensures { Finds (λ x. (view_edit x.0, x.1.now)) result (edit_at in_chunk expected.now bytes.now) }
 {
     let (first, rest) = u8_at(bytes)?;
     match first {
         DELETE_SET => delete_at(rest),
         CHANGE_LOOKS => change_at(rest),
         RESTORE => restore_at(rest),
-        _ => placed_at(expected, bytes),
+        _ => placed_at(in_chunk, expected, bytes),
     }
 }

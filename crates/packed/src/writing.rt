@@ -144,10 +144,10 @@ fn put_place(out: &mut Vec<u8>, caret: Anchor, place: Anchor) -> Result<(), Allo
 }
 
 // One byte, as itself or, where it is a code, after what says that it isn't one.
-fn put_byte(out: &mut Vec<u8>, byte: u8) -> Result<(), AllocError>
-    ensures { Appends result out.old.items out.new.items (bytes_spelling (byte ∷ [])) }
+fn put_byte(out: &mut Vec<u8>, in_chunk: bool, byte: u8) -> Result<(), AllocError>
+    ensures { Appends result out.old.items out.new.items (bytes_spelling in_chunk (byte ∷ [])) }
 {
-    if is_code(byte) {
+    if is_code(in_chunk, byte) {
         out.push(ESCAPE)?;
     }
     out.push(byte)?;
@@ -155,13 +155,13 @@ fn put_byte(out: &mut Vec<u8>, byte: u8) -> Result<(), AllocError>
 }
 
 // The bytes of an Insert.
-fn put_bytes(out: &mut Vec<u8>, bytes: &[u8]) -> Result<(), AllocError>
+fn put_bytes(out: &mut Vec<u8>, in_chunk: bool, bytes: &[u8]) -> Result<(), AllocError>
     requires some { 0 < length bytes.now }
     requires few { length bytes.now ≤ MAX_INSERT }
-    ensures { Appends result out.old.items out.new.items (bytes_spelling bytes.now) }
+    ensures { Appends result out.old.items out.new.items (bytes_spelling in_chunk bytes.now) }
 {
     if let [byte] = bytes {
-        return put_byte(out, *byte);
+        return put_byte(out, in_chunk, *byte);
     }
     out.push(BYTES)?;
     put_number(out, bytes.len() as u64 - 2)?;
@@ -213,6 +213,7 @@ fn put_change(out: &mut Vec<u8>, sel: Sel, looks: &Looks, names: &NameSet) -> Re
 
 fn put_insert(
     out: &mut Vec<u8>,
+    in_chunk: bool,
     expected: &Expected,
     cause: Anchor,
     looks: &Looks,
@@ -221,16 +222,21 @@ fn put_insert(
     requires some { 0 < length bytes.now }
     requires few { length bytes.now ≤ MAX_INSERT }
     ensures { Appends result out.old.items out.new.items (looks_lead expected.now.looks looks.now
-        ++ place_lead expected.now.caret cause ++ bytes_spelling bytes.now) }
+        ++ place_lead expected.now.caret cause ++ bytes_spelling in_chunk bytes.now) }
 {
     put_looks(out, &expected.looks, looks)?;
     put_place(out, expected.caret, cause)?;
-    put_bytes(out, bytes)
+    put_bytes(out, in_chunk, bytes)
 }
 
 // What the operation does, where this is expected of its site.
-pub(crate) fn put_edit(out: &mut Vec<u8>, expected: &Expected, op: &Op) -> Result<(), AllocError>
-    ensures { Appends result out.old.items out.new.items (edit_spelling expected.now op.now.kind) }
+pub(crate) fn put_edit(
+    out: &mut Vec<u8>,
+    in_chunk: bool,
+    expected: &Expected,
+    op: &Op,
+) -> Result<(), AllocError>
+    ensures { Appends result out.old.items out.new.items (edit_spelling in_chunk expected.now op.now.kind) }
 {
     op.lemma_has_spelling();
     match op.kind() {
@@ -239,7 +245,7 @@ pub(crate) fn put_edit(out: &mut Vec<u8>, expected: &Expected, op: &Op) -> Resul
             looks,
             bytes,
             ..
-        } => put_insert(out, expected, *cause, looks, bytes),
+        } => put_insert(out, in_chunk, expected, *cause, looks, bytes),
         Kind::Delete { names } => put_delete(out, expected.caret, names),
         Kind::Restore { names } => put_names(out, RESTORE, names),
         Kind::ChangeLooks { sel, looks, names } => put_change(out, *sel, looks, names),

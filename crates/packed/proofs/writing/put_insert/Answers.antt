@@ -13,4 +13,4 @@ returns c =
     append_both old c.put_looks.new.out.items c.put_place.new.out.items looks place c.in_ok-put_looks.ensures
     c.in_ok-put_place.ensures in
     Appends-after c.put_bytes.result old c.put_place.new.out.items c.put_bytes.new.out.items (looks ++ place)
-    (bytes_spelling c.args.bytes.now) two c.put_bytes.ensures
+    (bytes_spelling c.args.in_chunk c.args.bytes.now) two c.put_bytes.ensures

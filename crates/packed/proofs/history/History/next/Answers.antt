@@ -24,8 +24,8 @@ returns-in-Err-clause-bad c =
     c.lemma_carets.ensures can e c.in-Some.ensures in
     absurd (c.in-Err.ensures.bad (ap (λ (x : Refusal). Err x) (err_is _ _ is)) (subst HasSpelling (sym read.0) can.spelled))
 
-pub note-requires : goal.note-requires
-note-requires c =
+pub pass-requires : goal.pass-requires
+pass-requires c =
     let taken = parts_taken c.args.self.now c.args.text c.args.bytes.now (view_parts c.in-Some.read) c.in-Some.rest.now
     c.lemma_carets.ensures (λ i. omega (arith, c.type_inv.bytes i)) c.in-Some.ensures in
     subst (λ (op : Operation). Begins op.kind (expected c.args.self.now op.site).len) (sym c.in-Ok.ensures.ok)
