@@ -1,8 +1,8 @@
 -- Files of the two forms begin differently, and tell the same things.
-use Rattle.std.proofs.Common.{◌≡◌, ◌≢◌, ℕ, ◌≤◌, ◌∷◌, List, inl, inr, sym, ap, take, ◌∙◌, arith}
+use Rattle.std.proofs.Common.{◌≡◌, ◌≢◌, ℕ, List, inl, inr, sym, ap, get_or, take, ◌∙◌, arith}
 use Rattle.operations.specs.Operation.{Operation}
-use Rattle.texts.specs.SiteFiles.{HasSiteFile, IsNoSiteFile, IsSiteFileOf, OneSite, tag as site_tag}
-use Rattle.packed_file.specs.PackedFiles.{IsNoPackedFile, IsPackedFileOf, OnePackedFile, tag as packed_tag}
+use Rattle.texts.specs.SiteFiles.{HasSiteFile, IsNoSiteFile, OneSite, tag as site_tag}
+use Rattle.packed_file.specs.PackedFiles.{IsNoPackedFile, OnePackedFile, tag as packed_tag}
 use Rattle.site_file.proofs.OneSite.{file_tagged as site_tagged}
 use Rattle.packed_file.proofs.OnePacked.{file_tagged as packed_tagged}
 use Rattle.kept_file.specs.KeptFiles.{IsKeptFileOf, IsNoKeptFile, OneKept}
@@ -12,7 +12,7 @@ packed_is_no_site : (file : List ℕ) → take 4 file ≡ packed_tag → IsNoSit
 packed_is_no_site file begins text site ops is = differ (sym (site_tagged text site ops file is) ∙ begins)
   where
     differ : site_tag ≢ packed_tag
-    differ same = grind (same)
+    differ same = absurd (omega (arith, ap (λ (l : List ℕ). get_or l 2 0) same))
 
 -- what doesn't begin with it is no packed file
 other_is_no_packed : (file : List ℕ) → take 4 file ≢ packed_tag → IsNoPackedFile file
