@@ -30,7 +30,7 @@ carets_after [] t text follow below = below
 carets_after (o ∷ ops) t text follow below =
     carets_after ops (told_on t o) text follow.1 (carets_on t o follow.0.spelled below)
 
-determined : (t : Told) (text : ℕ) (a b : Operation) (x y : List ℕ) → CaretsAreInFiles t → CanBeNext t text a
+pub determined : (t : Told) (text : ℕ) (a b : Operation) (x y : List ℕ) → CaretsAreInFiles t → CanBeNext t text a
     → CanBeNext t text b → packed_next t a ++ x ≡ packed_next t b ++ y → (a ≡ b) × (x ≡ y)
 determined t text a b x y below can_a can_b e =
     one_packing t a b x y below can_a.next can_a.spelled can_b.next can_b.spelled (can_a.on_text ∙ sym can_b.on_text) e
@@ -40,7 +40,7 @@ next_is_determined text ops a b x y follow can_a can_b e =
     determined (told ops) text a b x y (carets_after ops nothing_told text follow no_carets) can_a can_b e
 
 -- an operation has a byte at least
-some_bytes : (t : Told) (op : Operation) → 0 < length (packed_next t op)
+pub some_bytes : (t : Told) (op : Operation) → 0 < length (packed_next t op)
 some_bytes t op =
     let e = expected t op.site in
     let time : List ℕ = time_lead t.last op.site (op.stamp - (e.stamp + 1)) in

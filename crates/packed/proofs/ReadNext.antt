@@ -1,5 +1,5 @@
 -- The next operation is read as it is written, and no two are written alike.
-use Rattle.std.proofs.Common.{◌≡◌, ℕ, ◌+◌, ◌-◌, ◌^◌, ◌<◌, List, ◌++◌, Option, Some, None, refl}
+use Rattle.std.proofs.Common.{◌≡◌, ℕ, ◌+◌, ◌-◌, ◌^◌, ◌<◌, List, ◌++◌, Bool, true, false, Option, Some, None, ◌∷◌, refl}
 use Rattle.std.proofs.Common.{sym, ap, subst, ◌∙◌, append_assoc, arith}
 use Rattle.byte_fields.proofs.Readers.{IsBytes, bind_some, some_is}
 use Rattle.operations.specs.Operation.{Operation}
@@ -7,6 +7,7 @@ use Rattle.operations.specs.Spelling.{HasSpelling}
 use Rattle.packed.specs.declared.expected.Expected.{Expected}
 use Rattle.packed.specs.Told.{Told, expected, IsNext, CaretsAreInFiles}
 use Rattle.packed.specs.Spelling.{time_lead, edit_spelling, packed_next}
+use Rattle.packed.specs.Reading.{typed_at, place_at, bytes_at, insert_from, here_at, placed_at}
 use Rattle.packed.specs.Reading.{time_at, edit_at, Parts, parts_at, next_of_parts, CanBeNext}
 use Rattle.packed.proofs.ReadParts.{time_taken, time_again}
 use Rattle.packed.proofs.ReadEdits.{edit_taken, edit_again, edit_starts}
@@ -89,6 +90,25 @@ none_read told text bytes op rest below can e h =
   where
     no_some : {A : Type 0} {x : A} → ◌≡◌ {A = Option A} None (Some x) → ⊥
     no_some e = cc
+
+-- in a chunk no operation begins with 15
+edit_is_none : (chunk : Bool) (e : Expected) (bytes : List ℕ) → chunk ≡ true → edit_at chunk e (15 ∷ bytes) ≡ None
+unfolding edit_at placed_at typed_at place_at here_at insert_from bytes_at
+edit_is_none true e bytes in_chunk = refl
+edit_is_none false e bytes in_chunk = absurd cc
+
+begin_is_none : (told : Told) (bytes : List ℕ) → told.in_chunk ≡ true → parts_at told (15 ∷ bytes) ≡ None
+unfolding parts_at time_at
+begin_is_none told bytes in_chunk = by told.last refl
+  where
+    by : (last : Option ℕ) → told.last ≡ last → parts_at told (15 ∷ bytes) ≡ None
+    by None e = rw e refl
+    by (Some site) e = rw e (rw (edit_is_none told.in_chunk (expected told site) bytes in_chunk) refl)
+
+pub begins_none : (told : Told) (text : ℕ) (op : Operation) (rest bytes : List ℕ) → CaretsAreInFiles told
+    → told.in_chunk ≡ true → CanBeNext told text op → packed_next told op ++ rest ≡ 15 ∷ bytes → ⊥
+begins_none told text op rest bytes below in_chunk can e =
+    none_read told text (15 ∷ bytes) op rest below can (sym e) (begin_is_none told bytes in_chunk)
 
 -- after one history no operation's bytes begin another's
 pub one_packing : (told : Told) (a b : Operation) (x y : List ℕ) → CaretsAreInFiles told → IsNext told a → HasSpelling a

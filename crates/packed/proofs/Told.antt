@@ -1,7 +1,7 @@
 -- What operations tell, with one operation more.
 use Rattle.std.proofs.Common.{◌≡◌, ℕ, ◌-◌, Bool, true, false, cond, eqb, List, [], ◌∷◌}
 use Rattle.std.proofs.Common.{filter, Option, Some, None, refl, sym, ap, subst, ◌∙◌, inl, inr, arith}
-use Rattle.std.specs.Prelude.{nat_eq}
+use Rattle.std.specs.Prelude.{nat_eq, is_some}
 use Rattle.std.specs.Option.{option_map_or}
 use Rattle.std.specs.Map.{lookup}
 use Rattle.std.proofs.lemmas.Bool.{cases_Bool, eqb-true, eqb-false, eq-eqb, ne_eqb, cond-true, cond-false}
@@ -12,7 +12,7 @@ use Rattle.operations.specs.NameSet.{Range, IsNamed, IsRange}
 use Rattle.operations.specs.Operation.{Operation, OpKind, insert, delete, restore, change_looks}
 use Rattle.operations.specs.Spelling.{HasSpelling, IsKind}
 use Rattle.packed.specs.declared.expected.Expected.{Expected}
-use Rattle.packed.specs.Told.{at_first, before_first, caret_after, after, Told, nothing_told, nothing_begun, noted, begun_at, expected, told_on, told_after}
+use Rattle.packed.specs.Told.{at_first, before_first, caret_after, after, Told, nothing_told, nothing_begun, noted, has_begun, begun_at, expected, told_on, told_after}
 use Rattle.packed.specs.Told.{IsInFile, CaretsAreInFiles, expected_after, OwnOperationsTell}
 
 eqb_flips : (x y : ℕ) → eqb x y ≡ eqb y x
@@ -24,7 +24,7 @@ eqb_flips x y =
 
 module _ {X : Type 0} where
   -- a key has the value that was put there, and each other key what it had
-  lookup_put : (es : List (ℕ × X)) (k : ℕ) (v : X) (q : ℕ)
+  pub lookup_put : (es : List (ℕ × X)) (k : ℕ) (v : X) (q : ℕ)
       → lookup (nat_eq q) (insert_entry nat_eq es k v) ≡ cond (eqb k q) (Some v) (lookup (nat_eq q) es)
   lookup_put [] k v q = ap (λ (b : Bool). cond b (Some v) None) (eqb_flips q k)
   lookup_put (e ∷ es) k v q =
@@ -79,6 +79,24 @@ expected_noted told of new site =
         ≡ cond b new (option_map_or (λ (e : Expected). e) o at_first)
     by true new o = refl
     by false new o = refl
+
+-- something is told of it, and of those of which something was
+pub has_begun_noted : (told : Told) (of : ℕ) (new : Expected) (site : ℕ)
+    → has_begun (noted told of new) site ≡ cond (eqb of site) true (has_begun told site)
+has_begun_noted told of new site =
+    ap (λ (o : Option Expected). is_some o) (lookup_put told.sites of new site) ∙ by (eqb of site)
+  where
+    by : (b : Bool) → is_some (cond b (Some new) (lookup (nat_eq site) told.sites)) ≡ cond b true (has_begun told site)
+    by true = refl
+    by false = refl
+
+-- where nothing is told of a site its first operation is expected
+pub not_begun : (told : Told) (site : ℕ) → has_begun told site ≡ false → expected told site ≡ at_first
+not_begun told site none = by (lookup (nat_eq site) told.sites) none
+  where
+    by : (o : Option Expected) → is_some o ≡ false → option_map_or (λ (e : Expected). e) o at_first ≡ at_first
+    by None e = refl
+    by (Some new) e = absurd cc
 
 -- one operation more tells of its own site alone
 pub expected_on : (told : Told) (op : Operation) (site : ℕ)

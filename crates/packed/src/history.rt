@@ -1,4 +1,4 @@
-ghost use Rattle.std.specs.Prelude.{◌≡◌, ℕ, ◌+◌, ◌<◌, ◌⊎◌, List, ◌++◌, OnOk, OnErr, IfOk, IfErr, IfSome, IfNone, IsErrOf};
+ghost use Rattle.std.specs.Prelude.{◌≡◌, ℕ, ◌+◌, ◌<◌, ◌⊎◌, List, ◌++◌, OnOk, OnErr, IsOk, true, IfOk, IfErr, IfSome, IfNone, IsErrOf};
 ghost use Rattle.looks.specs.Refusal.{RefusedForMemoryAlone};
 ghost use Rattle.byte_fields.specs.Fields.{Appends, Finds};
 ghost use Rattle.operations.specs.Operation.{Begins, Operation};
@@ -106,6 +106,7 @@ impl History {
     fn tell(&mut self, site: SiteNo, expected: Expected) -> Result<(), Refusal>
         requires { IsInFile expected.caret }
         ensures ok { OnOk result (self.new ≡ noted self.old site expected) }
+        ensures room { has_begun self.old site ≡ true → IsOk result }
         ensures errors { RefusedForMemoryAlone result }
         ensures err { OnErr result (self.new ≡ self.old) }
     {
@@ -137,6 +138,8 @@ impl History {
     pub fn pass(&mut self, op: &Op) -> Result<(), Refusal>
         requires { Begins op.now.kind (expected self.old op.now.site).len }
         ensures ok { OnOk result (self.new ≡ told_on self.old op.now) }
+        // A site that has begun needs no memory.
+        ensures room { has_begun self.old op.now.site ≡ true → IsOk result }
         ensures errors { RefusedForMemoryAlone result }
         ensures err { OnErr result (self.new ≡ self.old) }
     {
@@ -146,8 +149,8 @@ impl History {
         self.tell(site, expected)
     }
 
-    // Appends the next operation. After an `Err` some of it may stand there.
-    fn put_next(&self, op: &Op, out: &mut Vec<u8>) -> Result<(), AllocError>
+    /// Appends the bytes of the next operation, and doesn't note it. After an `Err` some of them may stand there.
+    pub fn spell(&self, op: &Op, out: &mut Vec<u8>) -> Result<(), AllocError>
         requires { IsNext self.now op.now }
         ensures { Appends result out.old.items out.new.items (packed_next self.now op.now) }
     {
@@ -166,7 +169,7 @@ impl History {
         ensures errors { RefusedForMemoryAlone result }
         ensures err { OnErr result (self.new ≡ self.old) }
     {
-        self.put_next(op, out)?;
+        self.spell(op, out)?;
         self.pass(op)
     }
 

@@ -4,7 +4,7 @@ use Rattle.byte_fields.proofs.Appended.{Appends-after}
 use Rattle.packed.specs.declared.expected.Expected.{Expected}
 use Rattle.packed.specs.Told.{Told, expected}
 use Rattle.packed.specs.Spelling.{time_lead, edit_spelling}
-use Rattle.packed.proofs.history.History.put_next.Goals as goal
+use Rattle.packed.proofs.history.History.spell.Goals as goal
 
 pub returns : goal.returns
 returns c =
