@@ -20,6 +20,7 @@ use Rattle.texts.specs.declared.merge_refusal.MergeRefusal.TheVariants.{Whole as
 use Rattle.texts.specs.declared.took.Took.{Took}
 use Rattle.texts.specs.TextState.{TextState, empty_text, shown_of, with_room}
 use Rattle.machine.specs.SiteTexts.{SiteTexts, InText}
+use Rattle.kept_file.proofs.KeptFiles.{has_site_file}
 use Rattle.machine.specs.Events.{Event, Part, Reply, Task, arrange, ask, change, click, copy, done, edit, edit_by_names, failed, forget}
 use Rattle.machine.specs.Events.{forgot, found, keep, load, merge, merge_reply, messages_of, not_found, opens, print, prints}
 use Rattle.machine.specs.Events.{insert_at_caret, recall_at_caret, query, refuse, refuses, reopen, search, settle, store, take, take_reply}
@@ -254,7 +255,7 @@ module _ (s : State) (i : ℕ) (d : SiteTexts) (w : Screened) (at : IsDeskAt s i
     begins_as file r new (inl (none, refused)) = refused_goes s new BadFile r refused
     begins_as file r new (inr (number, site, ops, is, goes)) =
         elim (by_test (number == t.text && site == t.site) _ _ goes) [
-          | inl its ↦ begins_with ops r new is.tells.spelled its.1
+          | inl its ↦ begins_with ops r new (has_site_file number site ops file is).spelled its.1
           | inr other ↦ refused_goes s new WrongText r other.1
         ]
 
