@@ -31,7 +31,7 @@ pub(crate) fn filing_in(rest: &[u8]) -> Option<(TextNo, &str)>
 
 // The form of a file that is told after its name, if one is.
 fn form_in(word: Option<&[u8]>) -> Option<KeptForm>
-    ensures { result ≡ form_in (option_map (λ word. word.now) word) }
+    ensures { result ≡ form_in (option_map (λ word. word.now) word.entry) }
 {
     let Some(word) = word else {
         return Some(KeptForm::Messages);
