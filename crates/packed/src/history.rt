@@ -1,4 +1,4 @@
-ghost use Rattle.std.specs.Prelude.{◌≡◌, ℕ, ◌+◌, ◌<◌, ◌⊎◌, List, ◌++◌, OnOk, OnErr, IsOk, true, IfOk, IfErr, IfSome, IfNone, IsErrOf};
+ghost use Rattle.std.specs.Prelude.{◌≡◌, ℕ, ◌+◌, ◌<◌, ◌⊎◌, List, ◌++◌, ◌↔◌, OnOk, OnErr, IsOk, IsTrue, true, IfOk, IfErr, IfSome, IfNone, IsErrOf};
 ghost use Rattle.looks.specs.Refusal.{RefusedForMemoryAlone};
 ghost use Rattle.byte_fields.specs.Fields.{Appends, Finds};
 ghost use Rattle.operations.specs.Operation.{Begins, Operation};
@@ -100,6 +100,18 @@ impl History {
         ensures { result ≡ (expected self.now site).len }
     {
         self.expected(site).len
+    }
+
+    /// Whether an operation can come next: its number and stamp go on after its site's last ones, and an Insert begins where
+    /// its site's file ends.
+    pub fn is_next(&self, op: &Op) -> bool
+        ensures { IsTrue result ↔ IsNext self.now op.now }
+    {
+        op.lemma_has_spelling();
+        let expected = self.expected(op.site());
+        op.seq() - 1 == expected.seq
+            && expected.stamp < op.stamp()
+            && op.begins_at(u64::from(expected.len))
     }
 
     // Notes what is expected of a site. Refused `OutOfMemory` alone, and then all is as before.
