@@ -132,8 +132,8 @@ class Session:
             return []
 
     def _arrived(self) -> Told:
-        # Only what the log had before the file is read says what is lost.
-        has_read = self._courier.has_read()
+        # Only what the log had before the file is read says what is lost, and which claims come before all others.
+        has_read, in_log = self._courier.has_read(), self._claims_in_log()
         new = self._read()
         holdings = self._holdings
         found = holdings.count()
@@ -141,7 +141,7 @@ class Session:
         if found.anew or any(not row.made and (row.entry.kind is Kind.CLAIM or who(row.entry) in holdings.clients)
                              for row in new):
             self._is_settled = False
-        self._look_at_claims()
+        self._look_at_claims(in_log)
         if self._is_stale:
             found, self._is_stale = Counted(holdings.judge.let_through_in_order(), True), False
         is_other = self._settle(found.messages if found.anew else None, has_read)
@@ -366,21 +366,26 @@ class Session:
         self._holdings.add([claim])
         return client
 
-    def _look_at_claims(self) -> None:
-        """Notes which claims are in the log by now, with no other for their numbers; and has one more number
-        claimed for an editor that is opened while the log is away."""
+    def _claims_in_log(self) -> set[Who]:
+        """The numbers of this person that can't be typed under yet and whose claims were read in the log."""
+        return {who(one) for one in self._holdings.clients.values() if not (one.stood or one.retired)
+                and self._courier.stands(self._form.claim(one.site, one.author))}
+
+    def _look_at_claims(self, in_log: set[Who]) -> None:
+        """Notes which of these claims have no other for their numbers before them; and has one more number claimed for
+        an editor that is opened while the log is away."""
         holdings = self._holdings
         for one in [*holdings.clients.values()]:
-            if one.stood or one.retired or holdings.judge.holder(one.site) != one.author.name:
+            if who(one) not in in_log or one.stood or one.retired or holdings.judge.holder(one.site) != one.author.name:
                 continue
-            if self._courier.stands(self._form.claim(one.site, one.author)):
-                stood = one._replace(stood=True)
-                with suppress(Unkept):
-                    # Where there is no room now the next opening finds it in the log again.
-                    self._mended(lambda: self._disk.stands(stood))
-                holdings.clients[who(one)] = stood
-                if who(one) == who(self._client):
-                    self._client = stood
+            stood = one._replace(stood=True)
+            with suppress(Unkept):
+                # Where there is no room now the next opening finds it in the log again.
+                self._mended(lambda: self._disk.stands(stood))
+            holdings.clients[who(one)] = stood
+        # Another editor of this person may have noted in the file that this one's claim is in the log.
+        if (own := holdings.clients.get(who(self._client))) and own.stood:
+            self._client = own
         if self._client.stood and is_network(self._about.url) and self._courier.has_read() and len(
                 [one for one in holdings.clients.values() if not one.retired and who(one) not in holdings.newer]
                 ) < self._courier.editors_here() + 1:

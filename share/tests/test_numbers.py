@@ -5,19 +5,28 @@ import os
 import shutil
 import threading
 import time
+from collections.abc import Sequence
 from unittest import mock
 
-from share.disk import Client, Disk
-from share.entry import LENGTH, Entry, Form
+from share.courier import Courier
+from share.disk import Client, Disk, Row
+from share.entry import LENGTH, Entry, Form, Kind
 from share.judging import rank
 from share.log import Log
 from share.message import DELETE, Message
 from share.program import Program
 from share.session import Session
+from share.sqlite_log import SqliteLog
 from share.tests.naive import about
 from share.tests.note import Note
 from share.tests.servers import RedisServer
 from share.tests.support import Case, Person, type_at_the_end, wait_for, written
+
+
+def stood(person: Person) -> list[int]:
+    """The numbers of a person whose claims were noted to stand in the log."""
+    with contextlib.closing(person.disk()) as disk:
+        return [one.site for one in disk.clients() if one.stood]
 
 
 class Numbers(Case):
@@ -243,6 +252,49 @@ class Numbers(Case):
         self.assertEqual((second.text, second.notice), (b"one two three four five ", ""))
         self.assertEqual(self.anna.text(), b"one two three four five ")
 
+    def test_a_number_that_another_editor_has_seen_in_the_log(self) -> None:
+        self.begun()
+        first, stands = self.opened(self.anna), Courier.stands
+
+        def stands_there(courier: Courier, entry: Entry) -> bool:
+            return courier is first.session._courier and stands(courier, entry)
+
+        with mock.patch.object(Courier, "stands", stands_there), mock.patch("share.session.OPEN_SECONDS", 0):
+            second = self.opened(self.anna)
+            wait_for(lambda: (first.take_in(), second.session.number in stood(self.anna))[1], "it to be noted in the file")
+            self.assertFalse(second.session.status().can_type)
+            # With what the other one types its numbers are read.
+            written(first, "four ")
+            self.assert_comes_to(second, b"one two three four ")
+        written(second, "five ")
+        self.assertEqual(self.assert_meet(first, second), b"one two three four five ")
+
+    def test_a_number_that_another_claimed_just_before(self) -> None:
+        link = self.begun()
+        form, append, read = self.form(), SqliteLog.append, Session._read
+        rivals: list[Entry] = []
+
+        def appended(log: SqliteLog, raws: Sequence[bytes]) -> None:
+            claims = [entry for entry in map(form.open, raws) if entry.kind is Kind.CLAIM and not rivals]
+            while claims and not (rivals and rank(rivals[-1]) < rank(claims[0])):
+                rivals[:] = [form.claim(claims[0].site, form.new_author())]
+            append(log, [*(one.raw for one in rivals), *raws])
+
+        def read_late(session: Session) -> list[Row]:
+            # Both claims come when the file has just been read.
+            rows = read(session)
+            if hasattr(session, "_courier") and not session._client.stood:
+                claim = form.claim(session.number, session._client.author)
+                wait_for(lambda: session._courier.stands(claim), "a claim to stand in the log")
+            return rows
+
+        with mock.patch.object(SqliteLog, "append", appended), mock.patch.object(Session, "_read", read_late):
+            note = self.opened(self.person("other"), link=link)
+            written(note, "four ")
+        self.assertEqual(len(rivals), 1)
+        self.assertNotIn(rivals[0].site, stood(self.person("other")))
+        self.assert_comes_to(note, b"one two three four ")
+
     def test_entries_under_my_number_while_i_am_off(self) -> None:
         self.begun()
         with contextlib.closing(self.anna.disk()) as disk:
@@ -329,7 +381,7 @@ class OnAServer(Case):
         server, anna = self.redis(), self.person("anna")
         first = self.opened(anna, url=server.url)
         written(first, "first ")
-        wait_for(lambda: (first.take_in(), len(self.stood(anna)))[1] > 1, "a number in advance")
+        wait_for(lambda: (first.take_in(), len(stood(anna)))[1] > 1, "a number in advance")
         server.kill()
         second, third = self.opened(anna), self.opened(anna)
         self.assertTrue(second.session.status().can_type)
@@ -350,7 +402,7 @@ class OnAServer(Case):
         anna = self.person("anna")
         first = self.opened(anna, url=server.url)
         written(first, "first ")
-        wait_for(lambda: (first.take_in(), len(self.stood(anna)))[1] > 1, "a number in advance")
+        wait_for(lambda: (first.take_in(), len(stood(anna)))[1] > 1, "a number in advance")
         first.session.close()
         shutil.copytree(anna.data, self.folder / "backup")
         berta = self.opened(self.person("berta"), link=anna.link())
@@ -414,15 +466,10 @@ class OnAServer(Case):
             text = self.assert_meet(other, berta)
         self.assertEqual(sorted(text.split()), sorted(b"first sent late".split()))
 
-    def stood(self, person: Person) -> list[int]:
-        """The numbers of a person that can be typed under."""
-        with contextlib.closing(person.disk()) as disk:
-            return [one.site for one in disk.clients() if one.stood]
-
     def test_numbers_arent_used_up(self) -> None:
         server, anna = self.redis(), self.person("anna")
         for _ in range(6):
             note = anna.open(url=server.url)
             written(note, "word ")
             note.session.close()
-        self.assertLessEqual(len(self.stood(anna)), 2)
+        self.assertLessEqual(len(stood(anna)), 2)
