@@ -116,6 +116,8 @@ _BEGUN = re.compile(rb"""\x1b(?:
   | [\]P_^X][^\x07\x1b]*\x1b?
   | [\xc0-\xf7][\x80-\xbf]{0,2}
     )\Z""", re.VERBOSE)
+# The rest of a key's sequence, after its Esc.
+_KEY = re.compile(rb"[\[O].", re.DOTALL)
 _STRINGS = (b"\x1b]", b"\x1bP", b"\x1b_", b"\x1b^", b"\x1bX")
 
 
@@ -169,9 +171,11 @@ class Keyboard:
         if self.paste:
             self.paste.add(data, now)
             return self.expire(now)
+        # Where nobody looked in time, a key that was pressed long after Esc isn't Alt with that key.
+        late = self.expire(now) if self._is_escape() and not _KEY.match(data) else []
         self._since = now
         self._bytes += data
-        return [*self._events(now)]
+        return [*late, *self._events(now)]
 
     def due(self) -> float | None:
         """When what waits for more bytes has to do without."""

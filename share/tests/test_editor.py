@@ -92,6 +92,17 @@ class Keys(unittest.TestCase):
         self.assertIsNone(keyboard.due())
         self.assertEqual(pressed(b"\x1b\x1b"), [Key.ESCAPE, Key.ESCAPE])
 
+    def test_an_escape_that_is_looked_at_late(self) -> None:
+        late = 1.0 + ESCAPE_SECONDS
+        for data, events in ((b"Da", [Key.ESCAPE, "Da"]), (b"w", [Key.ESCAPE, "w"]), (b"O", [Key.ESCAPE, "O"]),
+                             (b"\r", [Key.ESCAPE, Key.ENTER]), (b"\x1b[A", [Key.ESCAPE, Key.UP]), (b"[A", [Key.UP]),
+                             (b"OC", [Key.RIGHT])):
+            keyboard = Keyboard()
+            self.assertEqual(keyboard.feed(b"\x1b", 1.0), [])
+            self.assertEqual(keyboard.feed(data, late), events)
+        keyboard.feed(b"\x1b", 2.0)
+        self.assertEqual(keyboard.feed(b"w", 2.0 + ESCAPE_SECONDS / 2), [Key.COPY])
+
     def test_a_sequence_without_its_end(self) -> None:
         for begun, typed in ((b"\x1b[1;5", []), (b"\x1bO", []), (b"\x1b[", []), (b"\x1b]11;x", ["11;x"])):
             keyboard = Keyboard()

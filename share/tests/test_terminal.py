@@ -166,7 +166,10 @@ class Terminals(Case):
         one.shows(" and jam tea and")
         one.press("Home", "C-Space", "Right", "Right", "BSpace")
         one.shows("nd jam tea and")
-        one.press("C-Space", "Right", "Escape")
+        one.press("C-Space", "Right")
+        wait_for(lambda: "\x1b[7m" in one.looks().split("\n")[0], "a selection")
+        # Once Escape has been taken in: with a key right after it, it would be Alt with that key.
+        one.press("Escape")
         wait_for(lambda: "\x1b[7m" not in one.looks().split("\n")[0], "no selection")
         one.type("D")
         one.shows("nDd jam tea and")
