@@ -16,6 +16,7 @@ import unittest
 from share.courier import PRESENCE
 from share.disk import About
 from share.entry import MOST_BYTES, Author, Entry, Form
+from share.judging import rank
 from share.link import Link, read
 from share.message import DELETE, Message
 from share.tests.naive import about, inserting
@@ -137,7 +138,8 @@ class Shared(Case):
     def assert_others_go_on(self, shows: bytes = b"one two ") -> Note:
         """That who is on and who joins have all, and nothing else, and go on."""
         bob = self.opened(self.person("bob"), link=self.link)
-        self.assert_comes_to(bob, shows)
+        # Who is on takes in, too: what was written under a number that is another's now comes from there once more.
+        wait_for(lambda: (self.note_of_ann.take_in(), bob.take_in(), bytes(bob.text) == shows)[2], f"{shows!r} to be shown")
         type_at_the_end(bob, "three ")
         type_at_the_end(self.note_of_ann, "four ")
         wait_for(lambda: (bob.take_in(), self.note_of_ann.take_in(), bob.text == self.note_of_ann.text
@@ -311,13 +313,21 @@ class Peers(Shared):
         self.assertEqual(bob.session.status().waiting, 1)
 
     def test_a_number_that_is_taken_costs_no_text(self) -> None:
-        site = self.note_of_ann.session.number
-        for _ in range(12):
-            _, made = self.peer(site, insertion(site, 1, 1, 0, b"mine "))
-            self.append(made[0].raw)
-        wait_for(lambda: (self.note_of_ann.take_in(), self.note_of_ann.session.status().can_type)[1],
-                 "Ann to have a number")
+        session, site = self.note_of_ann.session, self.note_of_ann.session.number
+        claims = [self.form.claim(site, self.form.new_author()) for _ in range(12)]
+        self.append(*(one.raw for one in claims))
+        # Her number is in question only once the claims have come to her.
+        wait_for(lambda: all(map(session.has_sent, claims)), "the claims to come to Ann")
+        wait_for(lambda: (self.note_of_ann.take_in(), session.status().can_type)[1], "Ann to have a number")
+        holder = min([*claims, self.claim_of_ann(site)], key=rank)
+        self.assertEqual(session.number == site, holder not in claims)
         self.assert_others_go_on()
+
+    def claim_of_ann(self, site: int) -> Entry:
+        """The claim with which Ann got a number."""
+        with contextlib.closing(self.ann.disk()) as disk:
+            (author,) = [one.author for one in disk.clients() if one.site == site]
+        return self.form.claim(site, author)
 
 
 class Accounts(Case):
