@@ -1,0 +1,11 @@
+pub mod Agreeing
+pub mod Begins
+pub mod Divided
+pub mod Firsts
+pub mod Histories
+pub mod OneChunk
+pub mod Opening
+pub mod ReadAll
+pub mod Sizes
+pub mod Whole
+pub mod Written
