@@ -144,7 +144,12 @@ uint32_t vialshoal_free(vialshoal_text *text);
  * the messages that are kept aren't in it. */
 uint32_t vialshoal_store(vialshoal_text *text, uint8_t *room, size_t length, uint64_t *need);
 
-/* Opens an empty handle with the text and the site of such a file. 13 where it is none; 7; VIALSHOAL_ALREADY_OPEN. */
+/* The same in a packed file, which has a byte for most keystrokes where the other has some 50; 13 for more than 2^22
+ * operations. */
+uint32_t vialshoal_store_packed(vialshoal_text *text, uint8_t *room, size_t length, uint64_t *need);
+
+/* Opens an empty handle with the text and the site of a file of either form. 13 where it is none; 7;
+ * VIALSHOAL_ALREADY_OPEN. */
 uint32_t vialshoal_load(vialshoal_text *text, const uint8_t *file, size_t length);
 
 /* -- Edits. `*sent` is set to how many messages the edit made. They come after those that are kept (below). An edit that

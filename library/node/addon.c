@@ -153,6 +153,10 @@ static napi_value file_of(napi_env env, napi_callback_info info, as_file *write)
 
 static napi_value store(napi_env env, napi_callback_info info) { return file_of(env, info, vialshoal_store); }
 
+static napi_value store_packed(napi_env env, napi_callback_info info) {
+    return file_of(env, info, vialshoal_store_packed);
+}
+
 static napi_value save(napi_env env, napi_callback_info info) { return file_of(env, info, vialshoal_save); }
 
 static napi_value close_shown(napi_env env, napi_callback_info info) {
@@ -552,6 +556,7 @@ NAPI_MODULE_INIT() {
         {"open", open_text},
         {"load", load},
         {"store", store},
+        {"storePacked", store_packed},
         {"save", save},
         {"close", close_shown},
         {"insert", insert},

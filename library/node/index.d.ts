@@ -71,6 +71,12 @@ export interface Options {
     units?: 'bytes' | 'utf-16';
 }
 
+export interface StoreOptions {
+    /** Whether the file is packed: a byte for most keystrokes where the other form has some 50. A text of more than 4,194,304
+     * operations is refused then (13). */
+    packed?: boolean;
+}
+
 /** How far the operations of sites go, each a site and the number of the last that is meant; a site that isn't named has the
  * front 0. What `fronts` answers is such. */
 export type Fronts = Iterable<readonly [site: number, seq: number]>;
@@ -96,10 +102,11 @@ export abstract class Shown {
 /** A site's replica of a text. Edits answer the messages that they made, which other sites' texts take. */
 export class Text extends Shown {
     constructor(text: number, site: number, options?: Options);
-    /** The text of a file that `store` answered, at its site. No edit may have been made since it was stored. */
+    /** The text of a file that `store` answered, packed or not, at its site. No edit may have been made since it was
+     * stored. */
     static load(file: Uint8Array, options?: Options): Text;
     /** The text as a file, with all that was taken in, from which its site goes on. */
-    store(): Buffer;
+    store(options?: StoreOptions): Buffer;
     /** The text as an Oberon text file: its characters and their looks, and nothing of who wrote them (docs/FORMATS.md, "Text
      * files"). A text of more than 1,048,576 bytes is refused (13). */
     save(): Buffer;

@@ -181,8 +181,8 @@ class Text extends Shown {
         return new Text(0, 0, options, file);
     }
 
-    store() {
-        return opened(addon.store(this.#handle));
+    store({ packed = false } = {}) {
+        return opened(packed ? addon.storePacked(this.#handle) : addon.store(this.#handle));
     }
 
     save() {

@@ -35,7 +35,6 @@ assert.strictEqual(b.bytes(1, 3).toString(), 'be');
 assert.strictEqual(`${b}`, 'OberonOb');
 assert.strictEqual(b.front(2), 3);
 assert.deepStrictEqual([b.waiting, b.forget(), b.settle()], [0, 0, { drained: 0, dropped: 0, stopped: false }]);
-assert.strictEqual(`${Text.load(b.store())}`, 'OberonOb');
 assert.deepStrictEqual([...b.fronts()], [[1, 2], [2, 3]]);
 const c = new Text(2, 1);
 c.insert(0, 'Oberon');
@@ -47,6 +46,29 @@ assert.strictEqual(c.restoreNames([{ site: 1, offset: 0, length: 6 }]).length, 1
 assert.strictEqual(`${c}`, 'Oberon');
 refuses(106, () => c.deleteNames([{ site: 1, offset: 6, length: 1 }]));
 refuses(105, () => c.restoreNames([{ site: 1, offset: 0, length: 0 }]));
+
+// A text is kept in either form, and its site goes on from there.
+const files = [b.store(), b.store({ packed: true })];
+assert.deepStrictEqual([b.store({}), b.store({ packed: false })], [files[0], files[0]]);
+assert.strictEqual(files[1].subarray(0, 8).toString('latin1'), 'OTP1\0\x01\0\x02');
+assert.ok(2 * files[1].length < files[0].length);
+const wentOn = files.map((file) => {
+    const again = Text.load(file);
+    assert.deepStrictEqual([`${again}`, again.names(0, 8), [...again.fronts()]], ['OberonOb', b.names(0, 8), [...b.fronts()]]);
+    assert.deepStrictEqual([again.store(), again.store({ packed: true })], files);
+    return again.insert(0, '!');
+});
+assert.deepStrictEqual(wentOn[0], wentOn[1]);
+const met = new Text(1, 3);
+met.merge(b);
+assert.deepStrictEqual(wentOn[1].map((message) => met.take(message).kind), ['taken']);
+refuses(13, () => Text.load(files[1].subarray(0, -1)));
+refuses(13, () => Text.load(Buffer.concat([files[1], Buffer.from([0x0e])])));
+const kept = new Text(4, 1);
+for (const letter of 'Oberon') kept.insert(kept.length, letter);
+assert.strictEqual(kept.store({ packed: true }).toString('latin1'), 'OTP1\0\x04\0\x01\x01\x01\0Oberon');
+kept.close();
+refuses(101, () => kept.store({ packed: true }));
 
 // What was taken in past fronts, and the text as it was up to them.
 const d = new Text(2, 2);

@@ -101,6 +101,8 @@ static void refuses_a_closed_one(void) {
     IS(vialshoal_message(&none, 0, room, 1, &many) == VIALSHOAL_NOT_OPEN && many == 0);
     IS(vialshoal_let_go(&none) == VIALSHOAL_NOT_OPEN);
     IS(vialshoal_store(&none, room, 1, &many) == VIALSHOAL_NOT_OPEN && many == 0);
+    many = 7;
+    IS(vialshoal_store_packed(&none, room, 1, &many) == VIALSHOAL_NOT_OPEN && many == 0);
     IS(vialshoal_take(&none, BYTES("a"), 1, &taking) == VIALSHOAL_NOT_OPEN);
     IS(vialshoal_settle(&none, &settling) == VIALSHOAL_NOT_OPEN);
     IS(vialshoal_forget(&none, &few) == VIALSHOAL_NOT_OPEN);
@@ -278,21 +280,58 @@ static void answers(vialshoal_text *a) {
     IS(vialshoal_changes(a, changes, 8, &need) == 0 && need == 0);
 }
 
-/* A text that is kept and opened again is what it was, and what is no file opens none. */
-static void comes_back(vialshoal_text *a) {
-    vialshoal_text again = {0};
+typedef uint32_t storing(vialshoal_text *text, uint8_t *room, size_t length, uint64_t *need);
+
+/* A text that is kept in this form and opened again is what it was, and its site goes on; another one that has what it had
+ * takes its next edit. What is no file opens none. */
+static void comes_back(vialshoal_text *a, storing *store) {
+    vialshoal_text again = {0}, met = {0};
     uint8_t file[2048], other[2048];
+    vialshoal_name names[11], its[11];
     uint64_t need, length;
     uint32_t sent;
-    IS(vialshoal_store(a, file, 8, &need) == VIALSHOAL_TOO_SHORT && need > 8 && need < sizeof file);
-    IS(vialshoal_store(a, file, sizeof file, &need) == 0);
+    IS(store(a, file, 8, &need) == VIALSHOAL_TOO_SHORT && need > 8 && need < sizeof file);
+    memset(other, 7, need);
+    IS(store(a, other, need - 1, &length) == VIALSHOAL_TOO_SHORT && length == need && other[0] == 7);
+    IS(store(a, file, need, &length) == 0 && length == need);
     IS(vialshoal_load(&again, file, need - 1) == 13 && again.at == NULL);
     IS(vialshoal_load(a, file, need) == VIALSHOAL_ALREADY_OPEN);
     IS(vialshoal_load(&again, file, need) == 0);
-    IS(vialshoal_store(&again, other, sizeof other, &length) == 0 && length == need && memcmp(file, other, need) == 0);
+    IS(store(&again, other, sizeof other, &length) == 0 && length == need && memcmp(file, other, need) == 0);
     shows(&again, "Oberon!?Obe");
-    IS(vialshoal_insert(&again, 0, BYTES("x"), 1, &sent) == 0);
-    IS(vialshoal_free(&again) == 0);
+    IS(vialshoal_names(a, 0, 11, names, 11, &length) == 0 && vialshoal_names(&again, 0, 11, its, 11, &length) == 0);
+    for (size_t i = 0; i < 11; i++) {
+        IS(names[i].site == its[i].site && names[i].offset == its[i].offset);
+    }
+    IS(vialshoal_new(&met, 1, 3) == 0 && vialshoal_merge(&met, a, &length) == 0);
+    IS(vialshoal_insert(&again, 0, BYTES("x"), 1, &sent) == 0 && sent == 1);
+    hand_over(&again, &met);
+    shows(&met, "xOberon!?Obe");
+    IS(vialshoal_free(&again) == 0 && vialshoal_free(&met) == 0);
+}
+
+/* A packed file, byte for byte: what is typed where its site goes on is a byte each. One that ends within its head or an
+ * operation is none, nor is one of text 0, or one that begins as the other form. */
+static void packs(void) {
+    static const uint8_t wanted[] = "OTP1\0\1\0\2\1\2\0ab\x06\1cde";
+    static const char *const none[] = {"OTP1", "OTP1\0\0\0\2", "OTP1\0\1\0\2\1\2\0a\x0e", "OTS1\0\1\0\2\1\2\0ab"};
+    static const size_t lengths[] = {4, 8, 13, 13};
+    vialshoal_text a = {0};
+    uint32_t sent;
+    uint64_t need;
+    IS(vialshoal_new(&a, 1, 2) == 0);
+    IS(vialshoal_store_packed(&a, room, 8, &need) == 0 && need == 8 && memcmp(room, wanted, 8) == 0);
+    IS(vialshoal_insert(&a, 0, BYTES("a"), 1, &sent) == 0 && vialshoal_insert(&a, 1, BYTES("b"), 1, &sent) == 0);
+    IS(vialshoal_insert(&a, 2, BYTES("cde"), 3, &sent) == 0);
+    IS(vialshoal_store_packed(&a, room, sizeof room, &need) == 0 && need == sizeof wanted - 1);
+    IS(memcmp(room, wanted, need) == 0);
+    IS(vialshoal_free(&a) == 0);
+    for (size_t i = 0; i < 4; i++) {
+        IS(vialshoal_load(&a, BYTES(none[i]), lengths[i]) == 13 && a.at == NULL);
+    }
+    IS(vialshoal_load(&a, wanted, sizeof wanted - 1) == 0);
+    shows(&a, "abcde");
+    IS(vialshoal_free(&a) == 0);
 }
 
 static void two_meet(void) {
@@ -311,7 +350,8 @@ static void two_meet(void) {
     hand_over(&b, &a);
     shows(&a, "Oberon!?Obe");
     shows(&b, "Oberon!?Obe");
-    comes_back(&a);
+    comes_back(&a, vialshoal_store);
+    comes_back(&a, vialshoal_store_packed);
     IS(vialshoal_front(&a, 2, &count) == 0 && count == 4);
     IS(vialshoal_sites(&a, sites, 1, &need) == VIALSHOAL_TOO_SHORT && need == 2);
     IS(vialshoal_sites(&a, sites, 2, &need) == 0 && sites[0] == 1 && sites[1] == 2);
@@ -658,6 +698,25 @@ static uint32_t short_look(vialshoal_text *a) {
     return worst;
 }
 
+/* What keeps it in either form, and opens it again, likewise. */
+static uint32_t short_keeping(vialshoal_text *a) {
+    static storing *const forms[] = {vialshoal_store, vialshoal_store_packed};
+    uint32_t worst = 0;
+    for (size_t i = 0; i < 2; i++) {
+        vialshoal_text again = {0};
+        uint64_t need;
+        uint32_t number = forms[i](a, room, sizeof room, &need);
+        worst += number % 101;
+        if (number == 0) {
+            number = vialshoal_load(&again, room, need);
+            IS((number == 0 || number == 7) && (number == 0) == (again.at != NULL));
+            worst += number;
+            vialshoal_free(&again);
+        }
+    }
+    return worst;
+}
+
 /* Each allocation of a short run is refused in turn. What stands afterwards can be edited, and met. */
 static void each_allocation_is_refused(void) {
     for (long at = 1;; at++) {
@@ -668,6 +727,7 @@ static void each_allocation_is_refused(void) {
         refused_at = at;
         uint32_t worst = short_run(&a, &b);
         worst += short_look(&a);
+        worst += short_keeping(&a);
         bool was_refused = asked >= refused_at;
         refused_at = 0;
         if (a.at != NULL && b.at != NULL) {
@@ -675,7 +735,7 @@ static void each_allocation_is_refused(void) {
             IS(vialshoal_merge(&b, &a, &taken) == 0);
             IS(vialshoal_length(&a, &length) == 0);
             IS(vialshoal_length(&b, &taken) == 0 && length == taken);
-            IS(short_look(&a) == 0);
+            IS(short_look(&a) == 0 && short_keeping(&a) == 0);
         }
         vialshoal_free(&a);
         vialshoal_free(&b);
@@ -710,6 +770,7 @@ int main(int count, char **words) {
     refuses_too_much();
     answers_a_part();
     two_meet();
+    packs();
     edits_by_names();
     refuses_scattered_names();
     inserts_in_looks();

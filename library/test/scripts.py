@@ -245,8 +245,8 @@ class Run:
     def is_folder(self, file: str) -> bool:
         return any(path.startswith(f"{file}/") for path in self.files)
 
-    def keep(self, text: Text[bytes], file: str) -> bytes:
-        data = text.store()
+    def keep(self, text: Text[bytes], file: str, packed: bool) -> bytes:
+        data = text.store(packed=packed)
         if self.is_folder(file):
             raise Refused(NOT_WRITTEN)
         self.files[file] = data
@@ -272,9 +272,10 @@ class Run:
         text = self.text(site, of)
         if verb in (b"type", b"cut", b"looks", b"recall", b"restore", b"delete", b"save"):
             return self.edited(site, verb, text, words)
-        if verb in (b"keep", b"reopen") and len(words) == 1:
-            file = file_named(words[0])
-            return [self.keep(text, file) if verb == b"keep" else self.reopen(site, of, file)]
+        if verb == b"keep" and words[1:] in ([], [b"packed"]):
+            return [self.keep(text, file_named(b"".join(words[:1])), len(words) == 2)]
+        if verb == b"reopen" and len(words) == 1:
+            return [self.reopen(site, of, file_named(words[0]))]
         if verb == b"take" and len(words) == 1:
             return [self.take(text, words[0])]
         if verb == b"merge" and len(words) == 1:

@@ -20,6 +20,7 @@ use crate::outputs::{CharName, LooksRun, Place, Settling, Taking, TextChange};
 use crate::session::Session;
 use crate::showing::{find_name, put_shown_bytes, put_shown_names, tell_run};
 use char_files::{SiteNo, TextNo};
+use kept_file::KeptForm;
 use std::alloc::Global;
 use texts::ByNames;
 
@@ -66,7 +67,7 @@ fn load(alloc: Global, handle: &mut Handle, file: &[u8]) -> u32
     }
 }
 
-/// Opens an empty handle with the text that a site's file has.
+/// Opens an empty handle with the text that a site's file, in either form, has.
 #[unsafe(no_mangle)]
 pub extern "C" fn vialshoal_load(alloc: Global, handle: &mut Handle, file: &[u8]) -> u32
     ensures { Opens handle.old.value file.now result handle.new.value }
@@ -80,6 +81,21 @@ pub extern "C" fn vialshoal_load(alloc: Global, handle: &mut Handle, file: &[u8]
     }
 }
 
+// The site's file of the text, in this form.
+fn store(alloc: Global, handle: &mut Handle, form: KeptForm, room: &mut [u8], need: &mut u64) -> u32
+    ensures { Reads handle.old.value handle.new.value result ((need.new ≡ 0) × (room.new ≡ room.old))
+        (λ s. PutsFile form s.text room.old result need.new room.new) }
+{
+    *need = 0;
+    let Some(session) = handle.open(alloc) else {
+        return NOT_OPEN;
+    };
+    let put = session.store(alloc, form, room);
+    handle.close(alloc, session);
+    *need = put.need;
+    put.number
+}
+
 /// The site's file of the text, from which it is opened again.
 #[unsafe(no_mangle)]
 pub extern "C" fn vialshoal_store(
@@ -89,16 +105,23 @@ pub extern "C" fn vialshoal_store(
     need: &mut u64,
 ) -> u32
     ensures { Reads handle.old.value handle.new.value result ((need.new ≡ 0) × (room.new ≡ room.old))
-        (λ s. PutsFile s.text room.old result need.new room.new) }
+        (λ s. PutsFile KeptForm.Messages s.text room.old result need.new room.new) }
 {
-    *need = 0;
-    let Some(session) = handle.open(alloc) else {
-        return NOT_OPEN;
-    };
-    let put = session.store(alloc, room);
-    handle.close(alloc, session);
-    *need = put.need;
-    put.number
+    store(alloc, handle, KeptForm::Messages, room, need)
+}
+
+/// The same file packed.
+#[unsafe(no_mangle)]
+pub extern "C" fn vialshoal_store_packed(
+    alloc: Global,
+    handle: &mut Handle,
+    room: &mut [u8],
+    need: &mut u64,
+) -> u32
+    ensures { Reads handle.old.value handle.new.value result ((need.new ≡ 0) × (room.new ≡ room.old))
+        (λ s. PutsFile KeptForm.Packed s.text room.old result need.new room.new) }
+{
+    store(alloc, handle, KeptForm::Packed, room, need)
 }
 
 /// The formatted file of what is shown, which keeps looks.

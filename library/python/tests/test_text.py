@@ -6,6 +6,8 @@ from __future__ import annotations
 
 import os
 import subprocess
+import sys
+import tempfile
 import unittest
 from pathlib import Path
 from typing import Optional
@@ -16,6 +18,10 @@ from hypothesis import strategies as st
 from vialshoal import ChangeKind, Misused, Name, NameRange, Refused, TakingKind, Text
 
 TOP = Path(__file__).resolve().parents[3]
+sys.path.insert(0, str(TOP))
+
+from tools.packed.packed import pack
+
 PROGRAM = os.environ.get("VIALSHOAL_PROGRAM", str(TOP / "crates" / "site_cli" / "out" / "site_cli"))
 
 Edit = tuple[str, int, int, bytes]
@@ -105,12 +111,38 @@ class AgainstAList(unittest.TestCase):
             self.assertEqual(bytes(c), bytes(a))
             self.assertEqual(a.front(1), len(sent))
             self.assertEqual(a.fronts(), {site: n for site, n in ((1, len(sent)), (2, len(back))) if n})
-            with Text.load(a.store()) as again:
-                self.assertEqual((bytes(again), again.runs(), again.store()), (bytes(a), a.runs(), a.store()))
-                self.assertEqual(len(followed(b"", again)), len(a))
             for at, name in enumerate(a.names(0, len(a))):
                 place = b.place(name)
                 self.assertTrue(place.is_shown and place.pos == at + 1)
+
+
+class Kept(unittest.TestCase):
+    @given(edits, edits)
+    @settings(max_examples=100, deadline=None)
+    def test_its_site_goes_on_from_either_form(self, here: list[Edit], there: list[Edit]) -> None:
+        with Text(1, site=1) as a, Text(1, site=2) as b:
+            for text, other, all_edits in ((a, b, here), (b, a, there)):
+                for edit in all_edits:
+                    edited(text, edit)
+                other.merge(text)
+            files = [a.store(), a.store(packed=True)]
+            # (the packer in tools/ was written apart from the library)
+            self.assertEqual(files[1], b"OTP1\0\1\0\1" + pack([*a.since({})]))
+            went_on = []
+            for file in files:
+                with Text.load(file) as again:
+                    self.assertEqual((bytes(again), again.runs(), again.fronts()), (bytes(a), a.runs(), a.fronts()))
+                    self.assertEqual(again.names(0, len(again)), a.names(0, len(a)))
+                    self.assertEqual([again.store(), again.store(packed=True)], files)
+                    self.assertEqual(len(followed(b"", again)), len(a))
+                    went_on.append(again.insert(0, b"x"))
+            self.assertEqual(went_on, [a.insert(0, b"x")] * 2)
+
+    def test_strings_are_kept_too(self) -> None:
+        with Text(1, site=1, units="code points") as a:
+            a.insert(0, "na\N{LATIN SMALL LETTER I WITH DIAERESIS}ve")
+            with Text.load(a.store(packed=True), units="code points") as again:
+                self.assertEqual((str(again), len(again)), (str(a), 5))
 
 
 class ByNames(unittest.TestCase):
@@ -146,8 +178,11 @@ class AgainstTheProgram(unittest.TestCase):
                     for message in messages:
                         other.take(message)
                         script += f"{3 - site} take 1 {message.hex()}\n"
-            shown = bytes(a)
-        ran = subprocess.run([PROGRAM], input=script + "1 text 1\n2 text 1\n", capture_output=True, text=True, check=True)
+            shown, files = bytes(a), [a.store(), a.store(packed=True)]
+        script += "1 keep 1 f\n1 keep 1 p packed\n1 text 1\n2 text 1\n"
+        with tempfile.TemporaryDirectory() as folder:
+            ran = subprocess.run([PROGRAM], input=script, capture_output=True, text=True, check=True, cwd=folder)
+            self.assertEqual([(Path(folder) / name).read_bytes() for name in ("f", "p")], files)
         lines = ran.stdout.splitlines()
         self.assertEqual("".join(f"{line.split()[2]}\n" for line in lines if line.startswith("send ")), wanted)
         plain = "".join(chr(byte) if 32 <= byte < 127 and byte != 92 else f"\\{byte:02x}" for byte in shown)
@@ -169,6 +204,9 @@ class Refusals(unittest.TestCase):
             self.refused(2, a.merge, b)
             self.refused(13, Text.load, b"none")
             self.refused(13, Text.load, a.store()[:-1])
+            self.refused(13, Text.load, a.store(packed=True)[:-1])
+            self.refused(13, Text.load, a.store(packed=True) + b"\x0e")
+            self.refused(13, Text.load, b"OTS1" + a.store(packed=True)[4:])
             self.refused(103, a.insert, 4, b"")
             self.refused(103, a.insert, -1, b"")
             self.refused(103, a.delete, 2, 1)
@@ -186,6 +224,8 @@ class Refusals(unittest.TestCase):
             self.refused(105, Text, 1, site=65536)
             self.assertEqual(bytes(a), b"abc")
         self.refused(101, len, a)
+        self.refused(101, a.store)
+        self.refused(101, a.store, packed=True)
 
     def test_a_part_says_how_much_stands(self) -> None:
         with Text(1, site=1) as text:

@@ -360,7 +360,8 @@ class Text(Shown[AnyStr]):
 
     @classmethod
     def load(cls, file: bytes, *, units: Units = "bytes") -> Text[Any]:
-        """The text of a file that `store` answered, at its site. No edit may have been made since it was stored."""
+        """The text of a file that `store` answered, packed or not, at its site. No edit may have been made since it was
+        stored."""
         file, text = bytes(file), cls.__new__(cls)
         text._begin(units)
         _done(_calls.vialshoal_load(text._handle, file, len(file)))
@@ -380,9 +381,10 @@ class Text(Shown[AnyStr]):
         _done(number)
         return room.raw[:self._long.value]
 
-    def store(self) -> bytes:
-        """The text as a file, with all that was taken in, from which its site goes on."""
-        return self._file(_calls.vialshoal_store)
+    def store(self, *, packed: bool = False) -> bytes:
+        """The text as a file, with all that was taken in, from which its site goes on. A packed one has a byte for most
+        keystrokes where the other has some 50; a text of more than 4,194,304 operations is refused then (13)."""
+        return self._file(_calls.vialshoal_store_packed if packed else _calls.vialshoal_store)
 
     def save(self) -> bytes:
         """The text as an Oberon text file: its characters and their looks, and nothing of who wrote them

@@ -90,6 +90,7 @@ CALLS = {
     "free": (HANDLE,),
     "load": (HANDLE, c_char_p, c_size_t),
     "store": (HANDLE, c_char_p, c_size_t, U64),
+    "store_packed": (HANDLE, c_char_p, c_size_t, U64),
     "insert": (HANDLE, c_uint64, c_char_p, c_size_t, U32),
     "insert_in_looks": (HANDLE, c_uint64, c_char_p, c_size_t, c_char_p, c_size_t, c_uint8, c_int8, U32),
     "delete": (HANDLE, c_uint64, c_uint64, U32),
