@@ -3,6 +3,7 @@ from __future__ import annotations
 
 import os
 import subprocess
+import tempfile
 from collections.abc import Mapping, Sequence
 from contextlib import AbstractContextManager, nullcontext
 from dataclasses import dataclass
@@ -11,6 +12,8 @@ from pathlib import Path
 from typing import Any, Union
 
 SECONDS = 60
+# Here a sync costs nothing.
+IN_MEMORY = Path("/dev/shm")
 
 # The bytes of files, by their paths below a folder.
 Files = dict[str, bytes]
@@ -50,6 +53,11 @@ def lay(files: Files, folder: Path) -> None:
         path = folder / name
         path.parent.mkdir(parents=True, exist_ok=True)
         path.write_bytes(content)
+
+
+def folder_in_memory(prefix: str) -> tempfile.TemporaryDirectory[str]:
+    """A folder in memory where that can be had, else on disk."""
+    return tempfile.TemporaryDirectory(prefix=prefix, dir=IN_MEMORY if os.access(IN_MEMORY, os.W_OK) else None)
 
 
 def unread_pipe() -> int:

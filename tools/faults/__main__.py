@@ -12,7 +12,6 @@ import argparse
 import os
 import signal
 import sys
-import tempfile
 import time
 from collections.abc import Callable, Sequence
 from pathlib import Path
@@ -27,9 +26,8 @@ from tools.faults.trying import Tally, Trial
 from tools.play_rows import NOTHING_BUILT, program
 from tools.refusals.scripts import Script
 from tools.refusals.tally import Difference
+from tools.running import folder_in_memory
 
-# Here a sync costs nothing.
-IN_MEMORY = Path("/dev/shm")
 FEW = ["among-leftovers", "leftovers", "pipe", "link", "two-sites", "past-4-mib", "writer-and-reader"]
 MOST_SHOWN = 20
 
@@ -98,10 +96,6 @@ def parser() -> argparse.ArgumentParser:
     return words
 
 
-def room() -> tempfile.TemporaryDirectory[str]:
-    return tempfile.TemporaryDirectory(prefix="faults-", dir=IN_MEMORY if os.access(IN_MEMORY, os.W_OK) else None)
-
-
 def main(words: Sequence[str]) -> int:
     given, command = parser().parse_args(words), program(BUILT)
     tries = all_tries(given.few)
@@ -116,7 +110,7 @@ def main(words: Sequence[str]) -> int:
     # So that the folder is removed.
     signal.signal(signal.SIGTERM, lambda *_: sys.exit(2))
     try:
-        with room() as made:
+        with folder_in_memory("faults-") as made:
             return 0 if play({name: tries[name] for name in names}, Player(command, Path(made))) else 1
     except KeyboardInterrupt:
         return 2

@@ -11,7 +11,7 @@ from tools import TOP
 from tools.faults.faults import failures
 from tools.faults.judging import BESIDE, hold, sizes
 from tools.faults.playing import Mode, Plain, Player, text_of
-from tools.faults.scripts import SCREEN, left, long_lines, site_file
+from tools.faults.scripts import SCREEN, left, long_lines, packed_file, site_file
 from tools.refusals.scripts import Script, events
 from tools.refusals.tally import Difference
 from tools.running import Ended, Files, Stream, files_below, run
@@ -30,6 +30,7 @@ USES = events(
 )
 TWO_SITES = events("two-sites", "1 type 1 0 abc; 2 take 1 m1; 1 keep 1 s; 2 keep 1 s")
 GOES_ON = events("goes-on", "1 reopen 1 s; 1 front 1; 1 keep 1 t")
+GOES_ON_PACKED = events("goes-on-packed", "1 reopen 1 s; 1 front 1; 1 keep 1 t packed")
 
 
 def ended(player: Player, script: Script, files: Files) -> Ended:
@@ -91,12 +92,12 @@ def equal_lengths(player: Player) -> None:
 
 
 def long_file(inserts: int) -> Callable[[Player], None]:
-    """A long site's file is reopened, and kept as it was."""
+    """A long site's file is reopened, and kept as it was, in either form."""
 
     def holds(player: Player) -> None:
-        whole = site_file(inserts)
         wrote = f"ok\nfront 1 {inserts}\nwaiting 0\nok\n".encode()
-        hold(ended(player, GOES_ON, {"s": whole}), 0, wrote, [{"s": whole, "t": whole}])
+        for script, whole in ((GOES_ON, site_file(inserts)), (GOES_ON_PACKED, packed_file(inserts))):
+            hold(ended(player, script, {"s": whole}), 0, wrote, [{"s": whole, "t": whole}])
 
     return holds
 

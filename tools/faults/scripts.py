@@ -6,7 +6,7 @@ from tools.faults.judging import BESIDE
 from tools.refusals.scripts import LONGEST_INSERT, Script, events, row
 from tools.running import Files, files_below
 
-SITE_FILE_TAG = b"OTS1"
+SITE_FILE_TAG, PACKED_FILE_TAG = b"OTS1", b"OTP1"
 LOOKS = bytes.fromhex("104f6265726f6e31302e53636e2e466e740100")
 SCREEN = ("--width", "40", "--height", "12")
 
@@ -26,6 +26,13 @@ def site_file(inserts: int) -> bytes:
     return SITE_FILE_TAG + bytes([0, 1, 0, 1]) + inserts.to_bytes(4, "big") + listed
 
 
+def packed_file(inserts: int) -> bytes:
+    """The same, packed."""
+    whole = PACKED_FILE_TAG + bytes([0, 1, 0, 1]) + b"\1\1\0"
+    length = b"\6\xfe\x1f"
+    return whole + b"".join(length + bytes([97 + seq % 26]) * LONGEST_INSERT for seq in range(1, 1 + inserts))
+
+
 def left(count: int) -> Files:
     """So many files that killed writes have left."""
     return {f"{BESIDE}{number}": b"OTS1" for number in range(count)}
@@ -33,6 +40,7 @@ def left(count: int) -> Files:
 
 def of_site_files() -> list[Script]:
     kept = files_below(ROWS / "keep-a-site" / "files-after")
+    packed = files_below(ROWS / "keep-a-packed-site" / "files-after")
     return [
         events(
             "reopen-and-keep",
@@ -44,6 +52,13 @@ def of_site_files() -> list[Script]:
             "1 type 1 0 abc; 2 take 1 m1; 1 keep 1 s; 2 keep 1 s; 2 keep 1 s; 1 reopen 2 s; 1 keep 1 s",
             files={"s": b"OTS1"},
         ),
+        events(
+            "reopen-and-keep-packed",
+            "1 reopen 1 s.otp; 1 type 1 0 X; 1 keep 1 s.otp packed; 1 cut 1 0 1; 1 keep 1 t packed; 2 merge 1 1; 2 keep 1 t packed;"
+            "2 reopen 2 t; 2 keep 1 t; 1 keep 1 t packed",
+            files=packed,
+        ),
+        events("both-forms", "1 type 1 0 abc; 1 keep 1 s packed; 1 keep 1 s; 1 keep 1 s packed; 1 keep 2 s; 1 reopen 2 s"),
         events("among-leftovers", "1 type 1 0 abc; 1 keep 1 s; 2 reopen 1 s; 1 keep 1 s", files=left(3)),
         row("keep-what-others-wrote"),
         row("keep-where-a-folder-lies"),

@@ -23,7 +23,8 @@ class Cursor:
         return len(self.data) - self.at
 
     def take(self, count: int) -> bytes:
-        need(count <= self.left, f"{count} bytes are read where {self.left} are left")
+        if self.left < count:
+            raise Refused(f"{count} bytes are read where {self.left} are left")
         self.at += count
         return self.data[self.at - count : self.at]
 

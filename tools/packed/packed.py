@@ -151,17 +151,21 @@ def spelled_kind(kind: Kind, expected: Expected) -> bytes:
     return bytes([DELETE_SET]) + spelled_set(kind.ranges)
 
 
-def pack(messages: Sequence[bytes]) -> bytes:
-    """The history of messages of one text, each the next of its site; others are refused."""
-    known, packed, text = Known(), bytearray(), 0
+def parts(messages: Sequence[bytes]) -> Iterator[bytes]:
+    """What each message adds to the history of messages of one text, each the next of its site; others are refused."""
+    known, text = Known(), 0
     for message in messages:
         operation = read_message(message)
         need(text in (0, operation.text), "the messages are of several texts")
         text, expected = operation.text, known.expected(operation.site)
         need(operation.seq == expected.seq, "a message isn't the next of its site")
-        packed += spelled_stamp(operation, known) + spelled_kind(operation.kind, expected)
+        yield spelled_stamp(operation, known) + spelled_kind(operation.kind, expected)
         known.take(operation)
-    return bytes(packed)
+
+
+def pack(messages: Sequence[bytes]) -> bytes:
+    """The history of messages."""
+    return b"".join(parts(messages))
 
 
 # Reading.

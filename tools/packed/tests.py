@@ -12,6 +12,7 @@ from pathlib import Path
 
 from tools.packed.cursor import Refused
 from tools.packed.drawing import changed, drawn_list
+from tools.packed.files import PackedFile, head, read_file
 from tools.packed.messages import MAX_FILE, MAX_INSERT, Delete, Insert, Name, Operation, Range, read_message, spelled_message
 from tools.packed.packed import CODES, DEFAULT_LOOKS, pack, packed_lines, unpack, unpacked_lines
 
@@ -301,6 +302,33 @@ class Told(Packed):
                 packed_lines(lines, text)
         with self.assertRaises(Refused):
             unpacked_lines([b"", b""], TEXT)
+
+
+class Files(Packed):
+    """What a file's head has, and which operations aren't ready over those before them."""
+
+    def refused(self, *files: str) -> None:
+        for each in files:
+            with self.subTest(each), self.assertRaises(Refused):
+                read_file(bytes.fromhex(each))
+
+    def operations(self, history: str) -> int:
+        return len(read_file(head(TEXT, 1) + bytes.fromhex(history)).operations)
+
+    def test_a_head(self) -> None:
+        self.assertEqual(read_file(b"OTP1\1\2\xff\xff"), PackedFile(258, 65535, ()))
+        self.refused("", "4f545031 0001 00", "4f545032 0001 0001", "4f545331 0001 0001", "4f545031 0000 0001", "4f545031 0001 0000")
+
+    def test_causes_come_before(self) -> None:
+        self.assertEqual(self.operations("01 01 00 61 01 02 01 05 01 00 62"), 2)
+        begin = "4f545031 0001 0001"
+        self.refused(f"{begin} 01 02 01 05 01 00 62 01 01 00 61", f"{begin} 01 01 00 61 01 02 01 05 01 01 62")
+        self.refused(f"{begin} 01 01 00 61 07 00 01 00 01", f"{begin} 01 01 00 61 0c 00 02 00 00", f"{begin} 01 01 00 61 01 02 00 0b 02 03 00 01 01 00")
+
+    def test_stamps_are_above_those_of_causes(self) -> None:
+        self.assertEqual(self.operations("01 01 00 61 62 01 02 02 0c 00 01 00 01"), 3)
+        self.assertEqual(self.operations("01 01 00 61 62 01 02 01 0c 00 01 00 00"), 3)
+        self.refused("4f545031 0001 0001 01 01 00 61 01 02 00 05 01 00 62", "4f545031 0001 0001 01 01 00 61 62 01 02 01 0c 00 01 00 01")
 
 
 def main() -> int:

@@ -157,5 +157,27 @@ def of_sites() -> Sequence[Script]:
     ]
 
 
+def of_packed_sites() -> Sequence[Script]:
+    """Sites that are kept packed, and reopened from that; files that are refused among them."""
+    kept = files_below(ROWS / "keep-a-packed-site" / "files-after")
+    wrong = files_below(ROWS / "reopen-packed-told-wrongly" / "files")
+    return [
+        row("keep-a-packed-site"),
+        row("reopen-a-packed-site"),
+        events(
+            "reopen-packed-and-go-on",
+            "1 open user 1; 1 reopen 1 s.otp; 1 runs 1; 1 show; 1 recall 1 0; 1 type 1 3 d; 2 merge 1 1; 2 text 1;"
+            "1 keep 1 s.otp; 1 keep 1 s.otp packed; 2 reopen 2 s.otp; 1 reopen 1 s.otp",
+            *DRAWN,
+            files=kept,
+        ),
+        events(
+            "reopen-what-is-packed-wrongly",
+            "1 reopen 1 same-stamp; 1 reopen 1 0e-at-the-end; 1 reopen 1 late-cause; 1 reopen 1 tag-2; 1 reopen 1 site-2; 1 reopen 1 good",
+            files={name: wrong[name] for name in ("same-stamp", "0e-at-the-end", "late-cause", "tag-2", "site-2", "good")},
+        ),
+    ]
+
+
 def scripts() -> list[Script]:
-    return [*of_texts(), *of_commands(), *of_the_screen(), *of_sites()]
+    return [*of_texts(), *of_commands(), *of_the_screen(), *of_sites(), *of_packed_sites()]

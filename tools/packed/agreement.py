@@ -1,0 +1,240 @@
+"""Holds the program's packed files to what tools/packed reads and writes, over texts that were written at random.
+
+Of each site's text the program keeps a packed file and prints the messages: one has to be what the other is packed as. Then the
+file is cut and changed, and reopened: the program has to take the files that are read here, and no others, and has to have
+the operations that were read."""
+from __future__ import annotations
+
+import argparse
+import random
+import sys
+import tempfile
+from collections import Counter
+from collections.abc import Iterator, Sequence
+from dataclasses import dataclass, field
+from pathlib import Path
+from typing import NamedTuple
+
+from tools.packed.cursor import Refused
+from tools.packed.events import TEXTS, Draw
+from tools.packed.files import head, read_file
+from tools.packed.messages import Operation, spelled_message
+from tools.packed.packed import CODES, pack, parts
+from tools.play_rows import NOTHING_BUILT, program
+from tools.refusals.asking import Answer, answers_in
+from tools.refusals.scripts import DEFAULT_HEIGHT
+from tools.rows import difference
+from tools.running import Files, folder_in_memory, lay, run
+
+SEEDS = range(1, 41)
+# How many other files are made of one, where not said.
+OTHERS = 100
+SITES = 8
+# So many files can be good in one script, and one text is left.
+AT_ONCE = SITES * TEXTS - 1
+HEAD = len(head(1, 1))
+
+
+class Fault(Exception):
+    """Something that isn't as it has to be."""
+
+
+@dataclass
+class Tally:
+    """What was compared."""
+
+    operations: Counter[str] = field(default_factory=Counter)
+    answers: Counter[str] = field(default_factory=Counter)
+
+    def __str__(self) -> str:
+        return ", ".join(f"{count} {name}" for counts in (self.operations, self.answers) for name, count in sorted(counts.items()))
+
+
+class Kept(NamedTuple):
+    """What a site kept in both forms, and the messages that it printed."""
+
+    text: int
+    site: int
+    packed: bytes
+    plain: bytes
+    messages: list[bytes]
+
+
+class Program:
+    """The program, in a folder of its own for each script."""
+
+    def __init__(self, command: str, room: Path) -> None:
+        self.command, self.room = command, room
+
+    def play(self, lines: Sequence[str], files: Files) -> tuple[bytes, Files]:
+        script = "".join(f"{line}\n" for line in lines).encode()
+        with tempfile.TemporaryDirectory(dir=self.room) as folder:
+            lay(files, Path(folder))
+            ended = run([self.command, "--count", str(SITES)], script, Path(folder))
+        if ended.status != 0 or ended.complained:
+            raise Fault(f"it ended with {ended.status}: {ended.complained.decode(errors='replace')}")
+        return ended.wrote, ended.files
+
+    def answers(self, lines: Sequence[str]) -> tuple[list[Answer], Files]:
+        wrote, files = self.play(lines, {})
+        answers = answers_in(lines, DEFAULT_HEIGHT, wrote)
+        if answers is None:
+            raise Fault("what was written isn't the script's answers")
+        return answers, files
+
+
+def kept_by(runs: Program, draw: Draw) -> Iterator[Kept]:
+    """What each site has at the end of a script."""
+    asked = [f"{site} {verb}" for site in draw.sites for verb in (f"keep {draw.text} p{site} packed", f"keep {draw.text} s{site}")]
+    since = [f"{site} since {draw.text}" for site in draw.sites]
+    answers, files = runs.answers([*draw.lines, *asked, *since])
+    for site, answer in zip(draw.sites, answers[-len(since) :]):
+        messages = [bytes.fromhex(line.removeprefix("message ")) for line in answer[:-1]]
+        yield Kept(draw.text, site, files[f"p{site}"], files[f"s{site}"], messages)
+
+
+def site_file(text: int, site: int, messages: Sequence[bytes]) -> bytes:
+    """The file of messages as they are."""
+    numbers = text.to_bytes(2, "big") + site.to_bytes(2, "big") + len(messages).to_bytes(4, "big")
+    return b"OTS1" + numbers + b"".join(len(each).to_bytes(2, "big") + each for each in messages)
+
+
+def compare(kept: Kept, tally: Tally) -> None:
+    """The files have the messages, and the messages are packed as the file."""
+    read = read_file(kept.packed)
+    if [*map(spelled_message, read.operations)] != kept.messages:
+        raise Fault(f"{kept.packed.hex()} is read as other operations than site {kept.site} has")
+    if (read.text, read.site) != (kept.text, kept.site) or head(kept.text, kept.site) + pack(kept.messages) != kept.packed:
+        raise Fault(f"the messages of site {kept.site} are packed as other bytes than {kept.packed.hex()}")
+    if site_file(kept.text, kept.site, kept.messages) != kept.plain:
+        raise Fault(f"the messages of site {kept.site} are kept as {kept.plain.hex()}")
+    tally.operations.update(f"of {type(operation.kind).__name__}" for operation in read.operations)
+
+
+def other_bytes(history: bytes, rng: random.Random, most: int) -> Iterator[bytes]:
+    """Beginnings, and the history with a byte that is another, is put in, or is left out; at so many places."""
+    for at in rng.sample(range(len(history)), min(len(history), most)):
+        byte = history[at]
+        code = bytes([rng.choice([*CODES, 0, 0x61, 0x80])])
+        yield history[:at]
+        for instead in (bytes([byte ^ 1 << rng.randrange(8)]), code, code + bytes([byte]), b""):
+            yield history[:at] + instead + history[at + 1 :]
+
+
+def other_orders(messages: Sequence[bytes]) -> Iterator[bytes]:
+    """The history with what one operation adds left out, twice, or before what the one before adds."""
+    each = [*parts(messages)]
+    for at, part in enumerate(each):
+        yield b"".join([*each[:at], *each[at + 1 :]])
+        yield b"".join([*each[:at], part, *each[at:]])
+        yield b"".join([*each[: max(0, at - 1)], part, *each[max(0, at - 1) : at], *each[at + 1 :]])
+
+
+def others(kept: Kept, rng: random.Random, most: int) -> list[bytes]:
+    """The history itself, and so many of those that are made of it."""
+    made = [*other_bytes(kept.packed[HEAD:], rng, most), *other_orders(kept.messages)]
+    return [kept.packed[HEAD:], *rng.sample(made, min(len(made), most))]
+
+
+def other_heads(rng: random.Random, text: int, site: int) -> list[bytes]:
+    """The head with each byte changed in turn; the tag isn't made another that is known."""
+    whole = head(text, site)
+    changed = [whole[:at] + bytes([byte ^ 1 << rng.randrange(8)]) + whole[at + 1 :] for at, byte in enumerate(whole)]
+    return [*changed, *(whole[:length] for length in range(HEAD))]
+
+
+def reopened(data: bytes, site: int, text: int) -> tuple[str, Sequence[Operation]]:
+    """What the reopening of a file is to be answered, and the operations that the text has then."""
+    try:
+        file = read_file(data)
+    except Refused:
+        return "refused 13", ()
+    return ("ok", file.operations) if (file.site, file.text) == (site, text) else ("refused 2", ())
+
+
+class Reopening:
+    """A script that reopens files, each in a text of a site in which nothing was done yet, and what it is to be answered."""
+
+    def __init__(self) -> None:
+        self.free = [(site, text) for site in range(1, 1 + SITES) for text in range(1, 1 + TEXTS)]
+        self.lines: list[str] = []
+        self.wanted: list[str] = []
+        self.files: Files = {}
+        self.left: Files = {}
+        self.answers: Counter[str] = Counter()
+
+    def add(self, data: bytes) -> None:
+        """Reopens a file; where it is good, its messages are printed, and it is kept under another name."""
+        site, text = self.free[0]
+        name = f"f{len(self.files)}"
+        self.files[name] = data
+        self.lines.append(f"{site} reopen {text} {name}")
+        answer, operations = reopened(data, site, text)
+        self.wanted.append(answer)
+        self.answers[f"answered {answer}"] += 1
+        if answer == "ok":
+            self.free.pop(0)
+            self.lines += [f"{site} since {text}", f"{site} keep {text} {name}k packed"]
+            self.wanted += [*(f"message {spelled_message(each).hex()}" for each in operations), "ok", "ok"]
+            self.left[f"{name}k"] = data
+
+    def hold(self, runs: Program) -> None:
+        wrote, files = runs.play(self.lines, self.files)
+        wanted = "".join(f"{line}\n" for line in self.wanted).encode()
+        if found := difference("the output", wrote, wanted):
+            raise Fault("\n".join([*found, *self.lines, *(f"{name} {data.hex()}" for name, data in self.files.items())]))
+        for name, data in self.left.items():
+            if files.get(name) != data:
+                raise Fault(f"{data.hex()} is reopened, and then kept as other bytes")
+
+
+def reopen(kept: Kept, histories: Sequence[bytes], runs: Program, rng: random.Random, tally: Tally) -> None:
+    """Reopens histories under their right head, and what was kept under others."""
+    reopening = Reopening()
+    for history in histories:
+        site, text = reopening.free[0]
+        reopening.add(head(text, site) + history)
+    site, text = reopening.free[0]
+    for begin in other_heads(rng, text, site):
+        reopening.add(begin + kept.packed[HEAD:] if len(begin) == HEAD else begin)
+    reopening.hold(runs)
+    tally.answers += reopening.answers
+
+
+def play(runs: Program, seed: int, most: int, tally: Tally) -> str:
+    """What is wrong with a seed's texts, and the script that made them; nothing where all is well."""
+    draw, rng = Draw(seed), random.Random(f"others {seed}")
+    try:
+        kept = [*kept_by(runs, draw)]
+        for each in kept:
+            compare(each, tally)
+        one = rng.choice(kept)
+        histories = others(one, rng, most)
+        for at in range(0, len(histories), AT_ONCE):
+            reopen(one, histories[at : at + AT_ONCE], runs, rng, tally)
+    except (Fault, Refused) as why:
+        return "\n".join([*draw.lines, f"{why}"])
+    return ""
+
+
+def parser() -> argparse.ArgumentParser:
+    words = argparse.ArgumentParser(prog="agreement", description=__doc__, formatter_class=argparse.RawDescriptionHelpFormatter)
+    words.add_argument("--others", type=int, default=OTHERS, help=f"how many other files are made of one ({OTHERS})")
+    words.add_argument("seeds", type=int, nargs="*", help="what the scripts are drawn from (1 to 40)")
+    return words
+
+
+def main(words: Sequence[str]) -> int:
+    given, command = parser().parse_args(words), program()
+    if command is None:
+        print(f"agreement: {NOTHING_BUILT}", file=sys.stderr)
+        return 2
+    seeds, tally, failed = given.seeds or SEEDS, Tally(), 0
+    with folder_in_memory("agreement-") as room:
+        for seed in seeds:
+            if wrong := play(Program(command, Path(room)), seed, given.others, tally):
+                failed += 1
+                print(f"seed {seed}:\n{wrong}")
+    print(tally)
+    print(f"{len(seeds) - failed} passed, {failed} failed")
+    return 1 if failed else 0
