@@ -16,7 +16,7 @@ from pathlib import Path
 from typing import NamedTuple
 
 from tools.packed.cursor import Refused
-from tools.packed.events import TEXTS, Draw
+from tools.packed.events import NO_CODES, TEXTS, Draw
 from tools.packed.files import head, read_file
 from tools.packed.messages import Operation, spelled_message
 from tools.packed.packed import CODES, pack, parts
@@ -115,7 +115,7 @@ def other_bytes(history: bytes, rng: random.Random, most: int) -> Iterator[bytes
     """Beginnings, and the history with a byte that is another, is put in, or is left out; at so many places."""
     for at in rng.sample(range(len(history)), min(len(history), most)):
         byte = history[at]
-        code = bytes([rng.choice([*CODES, 0, 0x61, 0x80])])
+        code = bytes([rng.choice([*CODES, *NO_CODES, 0x61, 0x80])])
         yield history[:at]
         for instead in (bytes([byte ^ 1 << rng.randrange(8)]), code, code + bytes([byte]), b""):
             yield history[:at] + instead + history[at + 1 :]

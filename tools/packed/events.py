@@ -8,6 +8,8 @@ from tools.packed.packed import CODES
 MOST_STEPS = 40
 TEXTS = 16
 LETTERS = b"abcdefghijklmnopqrstuvwxyz \r"
+# Bytes that no code is, among those that are.
+NO_CODES = b"\0\t\n\r\x0f"
 LOOKS = ("font=A", "font=Mono.Fnt", "colour=0", "colour=15", "offset=-128", "font=Syntax12.Scn.Fnt colour=3 offset=127", "colour=2 offset=-1")
 # How many bytes are typed at once, where they are more than a few.
 LONG = (127, 128, 129, 130, 131) * 4 + (4095, 4096, 4097)
@@ -51,7 +53,7 @@ class Draw:
         return begin, min(self.shown[site], begin + self.rng.choice([1, 1, 2, 3, 9, self.shown[site]]))
 
     def byte(self) -> int:
-        byte: int = self.rng.choice([*LETTERS, *CODES, *LETTERS, *CODES, *range(256)])
+        byte: int = self.rng.choice([*LETTERS, *CODES, *LETTERS, *CODES, *NO_CODES, *range(256)])
         return byte
 
     def letters(self, site: int) -> None:
