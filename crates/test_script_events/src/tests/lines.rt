@@ -137,13 +137,7 @@ fn puts(alloc: Global, line: &str, on: usize, want: &[u8]) -> Result<(), Fail> {
     }
 }
 
-fn keeps(
-    line: &str,
-    on: usize,
-    want: TextNo,
-    file: &str,
-    how: KeptForm,
-) -> Result<(), Fail> {
+fn keeps(line: &str, on: usize, want: TextNo, file: &str, how: KeptForm) -> Result<(), Fail> {
     match event(line)? {
         Event::Keeps {
             desk,
@@ -151,7 +145,10 @@ fn keeps(
             text,
             name,
         } => {
-            is(desk == on && text == want && name == file && form == how, "a keeping")
+            is(
+                desk == on && text == want && name == file && form == how,
+                "a keeping",
+            )
         }
         _ => Err("a keeping".into()),
     }
