@@ -18,8 +18,8 @@ from typing import NamedTuple
 from tools.packed.cursor import Refused
 from tools.packed.events import NO_CODES, TEXTS, Draw
 from tools.packed.files import head, read_file
-from tools.packed.messages import Operation, spelled_message
-from tools.packed.packed import CODES, pack, parts
+from tools.packed.messages import Operation, read_message, spelled_message
+from tools.packed.packed import CODES, DEFAULT_LOOKS, pack, parts, spelled_number
 from tools.play_rows import NOTHING_BUILT, program
 from tools.refusals.asking import Answer, answers_in
 from tools.refusals.scripts import DEFAULT_HEIGHT
@@ -117,7 +117,7 @@ def other_bytes(history: bytes, rng: random.Random, most: int) -> Iterator[bytes
         byte = history[at]
         code = bytes([rng.choice([*CODES, *NO_CODES, 0x61, 0x80])])
         yield history[:at]
-        for instead in (bytes([byte ^ 1 << rng.randrange(8)]), code, code + bytes([byte]), b""):
+        for instead in (bytes([byte ^ 1 << rng.randrange(8)]), code, code + bytes([byte]), b"", bytes([byte | 0x80, 0])):
             yield history[:at] + instead + history[at + 1 :]
 
 
@@ -130,9 +130,18 @@ def other_orders(messages: Sequence[bytes]) -> Iterator[bytes]:
         yield b"".join([*each[: max(0, at - 1)], part, *each[max(0, at - 1) : at], *each[at + 1 :]])
 
 
+def needless(messages: Sequence[bytes]) -> Iterator[bytes]:
+    """The history with what needn't be said before what an operation adds: its site, stamp, looks or place as they are expected."""
+    each = [*parts(messages)]
+    for at, message in enumerate(messages):
+        site = spelled_number(read_message(message).site)
+        for said in (b"\1" + site + b"\0", b"\2\0", b"\3" + DEFAULT_LOOKS, b"\4\0"):
+            yield b"".join([*each[:at], said, *each[at:]])
+
+
 def others(kept: Kept, rng: random.Random, most: int) -> list[bytes]:
     """The history itself, and so many of those that are made of it."""
-    made = [*other_bytes(kept.packed[HEAD:], rng, most), *other_orders(kept.messages)]
+    made = [*other_bytes(kept.packed[HEAD:], rng, most), *other_orders(kept.messages), *needless(kept.messages)]
     return [kept.packed[HEAD:], *rng.sample(made, min(len(made), most))]
 
 

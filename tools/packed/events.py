@@ -10,7 +10,7 @@ TEXTS = 16
 LETTERS = b"abcdefghijklmnopqrstuvwxyz \r"
 # Bytes that no code is, among those that are.
 NO_CODES = b"\0\t\n\r\x0f"
-LOOKS = ("font=A", "font=Mono.Fnt", "colour=0", "colour=15", "offset=-128", "font=Syntax12.Scn.Fnt colour=3 offset=127", "colour=2 offset=-1")
+LOOKS = ("font=A", "font=Mono.Fnt", "colour=0", "colour=15", "offset=-128", "colour=2 offset=-1", "font=B.9 colour=3 offset=127")
 # How many bytes are typed at once, where they are more than a few.
 LONG = (127, 128, 129, 130, 131) * 4 + (4095, 4096, 4097)
 

@@ -323,7 +323,8 @@ class Files(Packed):
         self.assertEqual(self.operations("01 01 00 61 01 02 01 05 01 00 62"), 2)
         begin = "4f545031 0001 0001"
         self.refused(f"{begin} 01 02 01 05 01 00 62 01 01 00 61", f"{begin} 01 01 00 61 01 02 01 05 01 01 62")
-        self.refused(f"{begin} 01 01 00 61 07 00 01 00 01", f"{begin} 01 01 00 61 0c 00 02 00 00", f"{begin} 01 01 00 61 01 02 00 0b 02 03 00 01 01 00")
+        self.refused(f"{begin} 01 01 00 61 07 00 01 00 01", f"{begin} 01 01 00 61 0c 00 02 00 00")
+        self.refused(f"{begin} 01 01 00 61 01 02 00 0b 02 03 00 01 01 00")
 
     def test_stamps_are_above_those_of_causes(self) -> None:
         self.assertEqual(self.operations("01 01 00 61 62 01 02 02 0c 00 01 00 01"), 3)
