@@ -5,7 +5,7 @@ import random
 
 from tools.packed.packed import CODES
 
-MOST_STEPS = 40
+MOST_STEPS = 25
 TEXTS = 16
 LETTERS = b"abcdefghijklmnopqrstuvwxyz \r"
 # Bytes that no code is, among those that are.
