@@ -1,4 +1,4 @@
-//! Tests of `packed_fields`, `packed` and `packed_file`, in a crate of their own so that each of those is proved once.
+//! Tests of `packed_fields`, `packed`, `chunks` and `packed_file`, in a crate of their own so that each of those is proved once.
 #![tactic(auto)]
 
 #[cfg(test)]

@@ -1,6 +1,7 @@
 //! Worked lists of operations, which are read from their packed bytes and packed again.
 ghost use Rattle.std.specs.Prelude.{◌≡◌};
 
+mod chunks;
 mod files;
 mod lists;
 
