@@ -1,9 +1,9 @@
 //! Worked lists of operations, which are read from their packed bytes and packed again.
 ghost use Rattle.std.specs.Prelude.{◌≡◌};
 
-mod chunks;
 mod files;
 mod lists;
+mod worked_chunk;
 
 use char_files::TextNo;
 use lists::{LISTS, List};
