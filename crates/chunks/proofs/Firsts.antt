@@ -5,7 +5,7 @@ use Rattle.std.proofs.lemmas.Bool.{cases_Bool, eq-eqb, cond-true, cond-false}
 use Rattle.byte_fields.proofs.Readers.{IsBytes, some_is}
 use Rattle.operations.specs.Operation.{Operation}
 use Rattle.packed.specs.declared.expected.Expected.{Expected}
-use Rattle.packed.specs.Told.{Told, at_first, has_begun, begun_at, expected, told_on}
+use Rattle.packed.specs.Told.{Told, at_first, has_begun, expected, told_on}
 use Rattle.packed.specs.Spelling.{packed_next}
 use Rattle.packed.specs.Reading.{CanBeNext, BeginsWithNone}
 use Rattle.packed.proofs.Told.{not_begun, expected_noted, carets_begun}
@@ -13,17 +13,13 @@ use Rattle.packed.proofs.ReadNext.{begins_none}
 use Rattle.packed.proofs.PackedLists.{determined}
 use Rattle.chunks.specs.declared.reading.Begin.{Begin}
 use Rattle.chunks.specs.Chunks.{Placed, begin_spelling, begun_with, begun, added, CanCome}
-use Rattle.chunks.specs.Parts.{placed, begin_fields, IsBegin, begin_at, BeginsNoSite, IsOpen, IsFirst, ReadsFirst, NoneIsFirst}
+use Rattle.chunks.specs.Parts.{placed, begin_fields, IsBegin, begin_at, BeginsNoSite, IsOpen, IsFirst, ReadsFirst, NoneIsFirst, begun_so}
 use Rattle.chunks.proofs.Begins.{begin_reads}
 use Rattle.chunks.proofs.Opening.{begun_here, begun_first}
 
 -- where its site begins with an operation
 abbrev pub begin_for : Placed → Begin
 begin_for p = record { site = p.op.site; seq = p.op.seq; stamp = p.op.stamp; len = p.len }
-
--- what is told where a site begins so
-abbrev pub begun_so : Told → Begin → Told
-begun_so t b = begun_at t b.site (b.seq - 1) (b.stamp - 1) b.len
 
 pub later_parts : (t : Told) (p : Placed) → has_begun t p.op.site ≡ true → added t p ≡ packed_next t p.op
 later_parts t p h =

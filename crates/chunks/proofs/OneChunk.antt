@@ -15,8 +15,8 @@ use Rattle.packed.proofs.PackedLists.{determined, some_bytes}
 use Rattle.chunks.specs.declared.reading.Begin.{Begin}
 use Rattle.chunks.specs.Chunks.{Placed, begin_lead, begun_with, begun, added, told_by, added_after, tag, CanCome, CanAllCome, IsChunkOf}
 use Rattle.chunks.specs.Laws.{OneChunk}
-use Rattle.chunks.specs.Parts.{placed, begin_fields, IsOpen, IsFirst}
-use Rattle.chunks.proofs.Firsts.{begin_for, begun_so, first_parts, later_parts, first_told, first_is_first}
+use Rattle.chunks.specs.Parts.{placed, begin_fields, begun_so, IsOpen, IsFirst}
+use Rattle.chunks.proofs.Firsts.{begin_for, first_parts, later_parts, first_told, first_is_first}
 use Rattle.chunks.proofs.Opening.{begun_here, begun_first, nothing_is_open, open_after}
 
 same_placed : (a b : Placed) → a.op ≡ b.op → a.len ≡ b.len → a ≡ b

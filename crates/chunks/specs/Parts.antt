@@ -1,11 +1,11 @@
 -- The parts of a chunk, as they are read.
-use Rattle.std.specs.Prelude.{◌≡◌, ℕ, ◌<◌, ◌≤◌, ◌^◌, ◌++◌, ◌∷◌, ◌≢◌, nat_lt, nat_le, ◌&&◌, if◌then◌else◌, true, List, Option, Some, None}
+use Rattle.std.specs.Prelude.{◌≡◌, ℕ, ◌<◌, ◌≤◌, ◌-◌, ◌^◌, ◌++◌, ◌∷◌, ◌≢◌, nat_lt, nat_le, ◌&&◌, if◌then◌else◌, true, List, Option, Some, None}
 use Rattle.byte_fields.specs.Fields.{◌>>=◌}
 use Rattle.char_files.specs.declared.TheConstants.{MAX_FILE}
 use Rattle.operations.specs.declared.op.TheConstants.{MAX_STAMP}
 use Rattle.operations.specs.Operation.{Operation}
 use Rattle.packed_fields.specs.Numbers.{sevens, sevens_at}
-use Rattle.packed.specs.Told.{Told, nothing_begun, has_begun, expected, CaretsAreInFiles}
+use Rattle.packed.specs.Told.{Told, nothing_begun, has_begun, begun_at, expected, CaretsAreInFiles}
 use Rattle.chunks.specs.declared.reading.Begin.{Begin}
 use Rattle.chunks.specs.Chunks.{Placed, operations_of, added, told_by, added_after, CanCome, CanAllCome}
 
@@ -23,6 +23,10 @@ pub record IsBegin (b : Begin) : Type 0 where
   pub seq : (0 < b.seq) × (b.seq < 2 ^ 32)
   pub stamp : (0 < b.stamp) × (b.stamp ≤ MAX_STAMP)
   pub len : b.len ≤ MAX_FILE
+
+-- what is told where a site begins so
+abbrev pub begun_so : Told → Begin → Told
+begun_so told b = begun_at told b.site (b.seq - 1) (b.stamp - 1) b.len
 
 -- a site that begins with these numbers
 abbrev pub begin_of : (site seq stamp len : ℕ) → Option Begin

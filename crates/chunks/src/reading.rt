@@ -1,11 +1,12 @@
-ghost use Rattle.std.specs.Prelude.{◌≡◌, ◌≢◌, ◌++◌, ◌<◌, ◌⊎◌, ◌↔◌, IsTrue, ℕ, List, [], ◌∷◌, length, take, MatchOption, IfOk, IfErr, IsErrOf};
+ghost use Rattle.std.specs.Prelude.{true, false, ◌≡◌, ◌≢◌, ◌++◌, ◌<◌, ◌≤◌, ◌⊎◌, ◌↔◌, IsTrue, ℕ, List, [], ◌∷◌, length, take, MatchOption, OnOk, IfOk, IfErr, IsErrOf};
 ghost use Rattle.byte_fields.specs.Fields.{Finds};
 ghost use Rattle.operations.specs.Operation.{Operation};
-ghost use Rattle.packed.specs.Told.{nothing_begun, told_on, IsNext};
+ghost use Rattle.packed.specs.Told.{nothing_begun, has_begun, told_on, IsNext};
 ghost use Rattle.packed.specs.Spelling.{packed_next};
 ghost use Rattle.packed.specs.Reading.{CanBeNext, BeginsWithNone};
+ghost use Rattle.chunks.specs.declared.TheConstants.{MAX_CHUNK};
 ghost use Rattle.chunks.specs.Chunks.{Placed, operations_of, added_after, tag, CanAllCome, IsChunkOf, IsNoChunk};
-ghost use Rattle.chunks.specs.Parts.{begin_of, begin_at, BeginsNoSite, IsOpen, ReadsFirst, NoneIsFirst, HasAll};
+ghost use Rattle.chunks.specs.Parts.{begin_of, begin_at, begun_so, BeginsNoSite, IsOpen, ReadsFirst, NoneIsFirst, HasAll};
 
 use crate::MAX_CHUNK;
 use crate::codes::{BEGIN, TAG};
@@ -100,6 +101,21 @@ fn next_packed<'a>(
     }
 }
 
+// Notes that a site begins so. Refused `Malformed` where it has begun, else `OutOfMemory` alone.
+fn note_begin(history: &mut History, begin: &Begin) -> Result<(), Refusal>
+    requires seq { 0 < begin.now.seq }
+    requires stamp { 0 < begin.now.stamp }
+    ensures once { OnOk result (has_begun history.old begin.now.site ≡ false) }
+    ensures ok { OnOk result (history.new ≡ begun_so history.old begin.now) }
+    ensures twice { IsErrOf result Refusal.Malformed → has_begun history.old begin.now.site ≡ true }
+    ensures errors { IfErr result (λ e. (e ≡ Refusal.Malformed) ⊎ (e ≡ Refusal.OutOfMemory)) }
+{
+    if history.has_begun(begin.site) {
+        return Err(Refusal::Malformed);
+    }
+    history.begin(begin.site, begin.seq - 1, begin.stamp - 1, begin.len)
+}
+
 // Whether it is the operation that its site was to begin with.
 fn begins_so(op: &Op, begin: &Begin) -> bool
     ensures { IsTrue result ↔ ((op.now.site ≡ begin.now.site) × (op.now.stamp ≡ begin.now.stamp)) }
@@ -122,10 +138,9 @@ fn first_of_site<'a>(
     let Some((begin, rest)) = begin_at(bytes) else {
         return Err(Refusal::Malformed);
     };
-    if history.has_begun(begin.site) {
-        return Err(Refusal::Malformed);
+    if let Err(refused) = note_begin(history, &begin) {
+        return Err(refused);
     }
-    history.begin(begin.site, begin.seq - 1, begin.stamp - 1, begin.len)?;
     match next_packed(history, alloc, text, rest) {
         Ok((op, rest)) => {
             if !begins_so(&op, &begin) {
@@ -135,6 +150,13 @@ fn first_of_site<'a>(
         }
         Err(why) => Err(why),
     }
+}
+
+// Whether it is the first of its site.
+fn is_first(op: &Op) -> bool
+    ensures { IsTrue result ↔ (op.now.seq ≡ 1) }
+{
+    op.seq() == 1
 }
 
 // An operation of a site that has begun.
@@ -153,7 +175,7 @@ fn later_of_site<'a>(
     match next_packed(history, alloc, text, bytes) {
         Ok((op, rest)) => {
             // Of a site that hasn't begun its first operation of all was expected, and of no other site.
-            if op.seq() == 1 {
+            if is_first(&op) {
                 return Err(Refusal::Malformed);
             }
             Ok((op, rest))
@@ -178,6 +200,13 @@ fn next_op<'a>(
         [BEGIN, rest @ ..] => first_of_site(history, alloc, text, rest),
         _ => later_of_site(history, alloc, text, bytes),
     }
+}
+
+// Whether a chunk can have so many bytes.
+fn is_short(bytes: &[u8]) -> bool
+    ensures { IsTrue result ↔ (length bytes.now ≤ MAX_CHUNK) }
+{
+    bytes.len() as u64 <= MAX_CHUNK
 }
 
 // What stands after the tag, where the bytes begin with it.
@@ -238,7 +267,7 @@ pub fn read_chunk(alloc: Global, bytes: &[u8]) -> Result<Chunk, Refusal>
     ensures refused { IsErrOf result Refusal.Malformed → IsNoChunk bytes.now }
     ensures errors { IfErr result (λ e. (e ≡ Refusal.Malformed) ⊎ (e ≡ Refusal.OutOfMemory)) }
 {
-    if MAX_CHUNK < bytes.len() as u64 {
+    if !is_short(bytes) {
         return Err(Refusal::Malformed);
     }
     let Some(rest) = rest_of_tag(bytes) else {

@@ -9,7 +9,7 @@ returns-in_default-text_at-clause-refused c = λ bad.
 pub returns-clause-ok : goal.returns-clause-ok
 returns-clause-ok c =
     made c.args.bytes.now c.in-Some.rest.now c.in-Some.ensures c.in-Some-text_at.found.0 c.in-Some-text_at.found.1.now c.in-Some-text_at.ensures c.chunk_on.result
-    (λ i. omega (arith, c.type_inv.bytes i)) (omega (arith, c.if-bytes-gt-MAX_CHUNK.false)) c.chunk_on.ensures.ok
+    (λ i. omega (arith, c.type_inv.bytes i)) (c.is_short.ensures.0 c.if-not-is_short.false) c.chunk_on.ensures.ok
 
 pub returns-clause-only : goal.returns-clause-only
 returns-clause-only c = λ text ps is.
