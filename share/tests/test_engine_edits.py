@@ -58,7 +58,7 @@ class Carried(Engines):
         first, second = self.others("ada", "bo")
         second.edit((0, 0, "\n"))
         first.shows("\n")
-        end, late, typed, seen = time.monotonic() + 4, [], {}, set()
+        end, late, typed, seen = time.monotonic() + 5, [], {}, set()
         due = 0.0
         while time.monotonic() < end:
             if time.monotonic() > due:
@@ -80,12 +80,12 @@ class Carried(Engines):
                 if word in first.text:
                     seen.add(word)
                     late.append(time.monotonic() - typed[word])
+        # What was typed well before the end is seen while the typing goes on, though a process may stand still for some time.
+        self.assertLessEqual({word for word, at in typed.items() if at < end - 3}, seen)
         self.alike(first, second)
         self.assertGreater(first.mirror.made, 100)
         self.assertGreater(len(late), 5)
-        # Beside other tests a process may stand still for some time.
         self.assertLess(sorted(late)[len(late) // 2], 1.0)
-        self.assertLess(max(late), 2.0)
 
     def test_a_notice_is_sent_anew_at_once(self) -> None:
         first, second = self.editor(), self.editor()
