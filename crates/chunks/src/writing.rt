@@ -133,6 +133,13 @@ impl ChunkWriter {
         &self.bytes
     }
 
+    /// The bytes, where no more is added. It takes no memory.
+    pub fn into_bytes(self) -> Vec<u8>
+        ensures { result.items ≡ self.bytes }
+    {
+        self.bytes
+    }
+
     /// Whether an operation can come next, before which its site's file is so long.
     pub fn can_come(&self, op: &Op, len: u32) -> bool
         ensures { IsTrue result ↔ IsNext (begun self.now.told (placed op.now len)) op.now }
