@@ -11,7 +11,7 @@ use Rattle.operations.specs.Operation.{Operation}
 use Rattle.packed.specs.Told.{nothing_begun}
 use Rattle.chunks.specs.declared.TheConstants.{MAX_CHUNK}
 use Rattle.chunks.specs.declared.reading.Chunk.{Chunk}
-use Rattle.chunks.specs.Chunks.{Placed, operations_of, added_after, tag, CanAllCome, IsChunkOf, IsNoChunk}
+use Rattle.chunks.specs.Chunks.{Placed, operations_of, added_after, tag, CanAllCome, BeginsAsChunk, IsChunkOf, IsNoChunk}
 use Rattle.chunks.specs.Parts.{HasAll}
 use Rattle.chunks.proofs.OneChunk.{after_tag}
 
@@ -36,6 +36,21 @@ no_text bytes rest tagged none text ps is = no_some (sym none ∙ after_tag text
 
 module _ (bytes rest : List ℕ) (tagged : bytes ≡ tag ++ rest) (text : ℕ) (after : List ℕ)
     (found : positive_at w16 rest ≡ Some (text, after)) where
+  -- the bytes begin as a chunk's
+  pub begins : IsBytes bytes → length bytes ≤ MAX_CHUNK → BeginsAsChunk bytes
+  begins fits short =
+      let took =
+      (positive_reads w16 (2 ^ 16) wide16).takes rest text after (fits_after (tag) rest (subst IsBytes tagged fits))
+      found in
+      record {
+        text = text;
+        rest = after;
+        text_number = took.in_range;
+        parts = tagged ∙ ap (λ (l : List ℕ). tag ++ l) took.parts
+            ∙ sym (append_assoc (tag) (number_spelling w16 text) after);
+        short = short;
+      }
+
   -- what a chunk is of is what was read
   pub parts_are : (other : ℕ) (ps : List Placed) → IsChunkOf other ps bytes
       → (text ≡ other) × (after ≡ added_after nothing_begun ps) × CanAllCome nothing_begun text ps

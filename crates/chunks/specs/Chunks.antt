@@ -83,6 +83,14 @@ pub record IsChunkOf (text : ℕ) (ps : List Placed) (bytes : List ℕ) : Type 0
 abbrev pub IsNoChunk : List ℕ → Type 0
 IsNoChunk bytes = (text : ℕ) (ps : List Placed) → IsChunkOf text ps bytes → ⊥
 
+-- the bytes are no more than a chunk may have, and begin with the tag and the number of a text, whatever follows
+pub record BeginsAsChunk (bytes : List ℕ) : Type 0 where
+  pub text : ℕ
+  pub rest : List ℕ
+  pub text_number : (0 < text) × (text < 2 ^ 16)
+  pub parts : bytes ≡ head text ++ rest
+  pub short : length bytes ≤ MAX_CHUNK
+
 -- ---- operations that are cut into chunks
 
 -- a chunk that is being written: what it tells, and its bytes

@@ -5,7 +5,7 @@ ghost use Rattle.packed.specs.Told.{nothing_begun, has_begun, told_on, IsNext};
 ghost use Rattle.packed.specs.Spelling.{packed_next};
 ghost use Rattle.packed.specs.Reading.{CanBeNext, BeginsWithNone};
 ghost use Rattle.chunks.specs.declared.TheConstants.{MAX_CHUNK};
-ghost use Rattle.chunks.specs.Chunks.{Placed, operations_of, added_after, tag, CanAllCome, IsChunkOf, IsNoChunk};
+ghost use Rattle.chunks.specs.Chunks.{Placed, operations_of, added_after, tag, CanAllCome, BeginsAsChunk, IsChunkOf, IsNoChunk};
 ghost use Rattle.chunks.specs.Parts.{begin_of, begin_at, begun_so, BeginsNoSite, IsOpen, ReadsFirst, NoneIsFirst, HasAll};
 
 use crate::MAX_CHUNK;
@@ -257,14 +257,16 @@ fn chunk_on(alloc: Global, text: TextNo, bytes: &[u8]) -> Result<Chunk, Refusal>
 
 /// The text and the operations of a chunk. Nothing else is asked of them here: whether one is ready is a replica's to judge.
 ///
-/// Refused `Malformed` where the bytes are no chunk; where an operation is at fault, `OutOfMemory` may come in the place of
-/// it, as of all else. This project's own.
+/// Refused `Malformed` where the bytes are no chunk. Where they don't begin as one, or are too many, this is told before memory
+/// is asked for; where an operation is at fault, `OutOfMemory` may come in the place of it, as of all else. This project's own.
 pub fn read_chunk(alloc: Global, bytes: &[u8]) -> Result<Chunk, Refusal>
     ensures ok { IfOk result (λ chunk. (ps : List Placed) × (operations_of ps ≡ chunk.operations.items)
         × IsChunkOf chunk.text ps bytes.now) }
     ensures only { (text : ℕ) (ps : List Placed) → IsChunkOf text ps bytes.now
         → IfOk result (λ chunk. (chunk.text ≡ text) × (chunk.operations.items ≡ operations_of ps)) }
     ensures refused { IsErrOf result Refusal.Malformed → IsNoChunk bytes.now }
+    // Whether there is memory or not.
+    ensures short { IsErrOf result Refusal.OutOfMemory → BeginsAsChunk bytes.now }
     ensures errors { IfErr result (λ e. (e ≡ Refusal.Malformed) ⊎ (e ≡ Refusal.OutOfMemory)) }
 {
     if !is_short(bytes) {

@@ -1,10 +1,15 @@
 use Rattle.std.proofs.Common.{arith}
-use Rattle.chunks.proofs.Whole.{no_text, parts_are, made, made_only}
+use Rattle.chunks.proofs.Whole.{begins, no_text, parts_are, made, made_only}
 use Rattle.chunks.proofs.reading.read_chunk.Goals as goal
 
 pub returns-in_default-text_at-clause-refused : goal.returns-in_default-text_at-clause-refused
 returns-in_default-text_at-clause-refused c = λ bad.
     no_text c.args.bytes.now c.in-Some.rest.now c.in-Some.ensures c.in_default-text_at.ensures
+
+pub returns-clause-short : goal.returns-clause-short
+returns-clause-short c = λ memory.
+    begins c.args.bytes.now c.in-Some.rest.now c.in-Some.ensures c.in-Some-text_at.found.0 c.in-Some-text_at.found.1.now
+    c.in-Some-text_at.ensures (λ i. omega (arith, c.type_inv.bytes i)) (c.is_short.ensures.0 c.if-not-is_short.false)
 
 pub returns-clause-ok : goal.returns-clause-ok
 returns-clause-ok c =
