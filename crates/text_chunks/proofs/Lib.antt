@@ -1,0 +1,4 @@
+pub mod Cutting
+pub mod Handed
+pub mod Messages
+pub mod Packed

@@ -1,6 +1,6 @@
 -- Laws of packing and unpacking.
-use Rattle.std.specs.Prelude.{◌≡◌, ◌≢◌, ℕ, ◌↔◌, List, [], ◌∷◌, map, AllPairs, false, Ok}
-use Rattle.operations.specs.Spelling.{spelling}
+use Rattle.std.specs.Prelude.{◌≡◌, ◌≢◌, ℕ, ◌↔◌, List, [], ◌∷◌, map, All, AllPairs, Ok}
+use Rattle.operations.specs.Spelling.{HasSpelling, spelling}
 use Rattle.texts.specs.Fronts.{beyond}
 use Rattle.texts.specs.Take.{Takes}
 use Rattle.texts.specs.Text.{IsText}
@@ -24,8 +24,8 @@ TakesEach t (message ∷ messages) new =
     (took : Took) × (mid : TextState) × Takes t message (Ok took) mid × TakesEach mid messages new
 
 -- To unpack all chunks of what a text has beyond some fronts, and to take all messages of it, does the same to another text of
--- that number, where no operation is refused.
+-- that number, where no operation is refused; each of its operations has a message.
 abbrev pub ChunksHandInTheMessages : Type 0
 ChunksHandInTheMessages = (t u new : TextState) (fronts : List Front) → IsText t → AllPairs (λ a b. a ≢ b) t.operations
-    → u.text ≡ t.text
+    → All HasSpelling t.operations → u.text ≡ t.text
     → UnpacksEach u (chunks_beyond fronts t) new ↔ TakesEach u (map spelling (beyond fronts t.operations)) new

@@ -1,3 +1,4 @@
 pub mod Laws
 pub mod Packing
+pub mod Parts
 pub mod Unpacking

@@ -1,12 +1,31 @@
-ghost use Rattle.std.specs.Prelude.{◌≡◌, IfOk, map};
+ghost use Rattle.std.specs.Prelude.{◌≡◌, true, false, IfOk, OnOk, map};
 ghost use Rattle.looks.specs.Refusal.{RefusedForMemoryAlone};
+ghost use Rattle.chunks.specs.Chunks.{CanCome};
+ghost use Rattle.chunks.specs.Parts.{placed};
+ghost use Rattle.texts.specs.Fronts.{is_beyond};
 ghost use Rattle.text_chunks.specs.Packing.{chunks_beyond};
+ghost use Rattle.text_chunks.specs.Parts.{IsCutOn, told_in};
 
 use crate::cutter::Cutter;
 use looks::Refusal;
+use operations::Op;
 use packed::History;
 use std::alloc::Global;
 use texts::{Front, Replica, front_in};
+
+// Adds an operation that is beyond the fronts, before which its site's file is so long; any other is left out.
+fn add_beyond(fronts: &[Front], cutter: &mut Cutter, op: &Op, len: u32) -> Result<(), Refusal>
+    requires { is_beyond fronts.now op.now ≡ true
+        → CanCome (told_in cutter.old.current) cutter.old.text (placed op.now len) }
+    ensures beyond { is_beyond fronts.now op.now ≡ true → OnOk result (IsCutOn cutter.old (placed op.now len) cutter.new) }
+    ensures up_to { is_beyond fronts.now op.now ≡ false → cutter.new ≡ cutter.old }
+    ensures errors { RefusedForMemoryAlone result }
+{
+    if op.seq() <= front_in(fronts, op.site()) {
+        return Ok(());
+    }
+    cutter.add(op, len)
+}
 
 /// The chunks of what a text has taken in beyond some fronts, in the order of its taking; none where that is nothing.
 ///
@@ -22,9 +41,7 @@ pub fn pack(alloc: Global, replica: &Replica, fronts: &[Front]) -> Result<Vec<Ve
     for place in 0..replica.taken_len() {
         let op = replica.taken(place);
         op.lemma_has_spelling();
-        if front_in(fronts, op.site()) < op.seq() {
-            cutter.add(op, history.len(op.site()))?;
-        }
+        add_beyond(fronts, &mut cutter, op, history.len(op.site()))?;
         history.pass(op)?;
     }
     cutter.finish()

@@ -1,5 +1,8 @@
-ghost use Rattle.std.specs.Prelude.{◌⊎◌};
-ghost use Rattle.text_chunks.specs.Unpacking.{Unpacks, UnpacksShort};
+ghost use Rattle.std.specs.Prelude.{◌≡◌, ◌≤◌, ◌⊎◌, Bool, IfOk, length, nat_lt};
+ghost use Rattle.chunks.specs.declared.TheConstants.{MAX_CHUNK};
+ghost use Rattle.texts.specs.TextState.{TextState};
+ghost use Rattle.text_chunks.specs.Parts.{HandsInOne, HasGrown, HasRoom};
+ghost use Rattle.text_chunks.specs.Unpacking.{HandsInAll, Unpacks, UnpacksShort, counted, nothing_unpacked, refusal_after};
 
 use crate::unpacked::{UnpackRefusal, Unpacked};
 use chunks::read_chunk;
@@ -8,15 +11,20 @@ use operations::Op;
 use std::alloc::Global;
 use texts::{Replica, Took};
 
-// Counts an operation that was answered so; whether the room grew by it.
-fn count(counts: Unpacked, took: Took, grew: bool) -> Unpacked {
+// Counts an operation that was answered so; and whether the room grew then.
+fn count(counts: Unpacked, took: Took, grew: bool) -> Unpacked
+    requires { HasRoom counts }
+    ensures grown { HasGrown counts result }
+    ensures counted { (t new : TextState) → grew ≡ nat_lt (length t.waiting_room) (length new.waiting_room)
+        → result ≡ counted counts t new took }
+{
     match took {
         Took::Taken {
             drained,
             stopped,
             ..
         } => Unpacked {
-            taken: counts.taken + u64::from(drained) + 1,
+            taken: counts.taken + (u64::from(drained) + 1),
             stopped: counts.stopped || stopped,
             ..counts
         },
@@ -32,7 +40,9 @@ fn count(counts: Unpacked, took: Took, grew: bool) -> Unpacked {
 }
 
 // Why a chunk is refused of which so many operations were handed in.
-fn refusal_after(done: u64, why: Refusal) -> UnpackRefusal {
+fn refusal_after(done: u64, why: Refusal) -> UnpackRefusal
+    ensures { result ≡ refusal_after done why }
+{
     if done == 0 {
         UnpackRefusal::Whole(why)
     } else {
@@ -41,7 +51,11 @@ fn refusal_after(done: u64, why: Refusal) -> UnpackRefusal {
 }
 
 // Hands in an operation, and counts it.
-fn hand_in(replica: &mut Replica, op: Op, counts: Unpacked) -> Result<Unpacked, Refusal> {
+fn hand_in(replica: &mut Replica, op: Op, counts: Unpacked) -> Result<Unpacked, Refusal>
+    requires { HasRoom counts }
+    ensures grown { IfOk result (HasGrown counts) }
+    ensures answered { HandsInOne counts replica.old op result replica.new }
+{
     let waiting = replica.waiting();
     match replica.take_op(op) {
         Ok(took) => Ok(count(counts, took, waiting < replica.waiting())),
@@ -50,7 +64,10 @@ fn hand_in(replica: &mut Replica, op: Op, counts: Unpacked) -> Result<Unpacked, 
 }
 
 // Hands in operations, one after the other.
-fn hand_in_all(replica: &mut Replica, operations: Vec<Op>) -> Result<Unpacked, UnpackRefusal> {
+fn hand_in_all(replica: &mut Replica, operations: Vec<Op>) -> Result<Unpacked, UnpackRefusal>
+    requires { length operations.items ≤ MAX_CHUNK }
+    ensures { (short : Bool) × HandsInAll replica.old operations.items short result replica.new }
+{
     let mut counts = Unpacked {
         taken: 0,
         known: 0,
@@ -76,12 +93,9 @@ fn hand_in_all(replica: &mut Replica, operations: Vec<Op>) -> Result<Unpacked, U
 pub fn unpack(alloc: Global, replica: &mut Replica, bytes: &[u8]) -> Result<Unpacked, UnpackRefusal>
     ensures { Unpacks replica.old bytes.now result replica.new ⊎ UnpacksShort replica.old bytes.now result replica.new }
 {
-    let chunk = match read_chunk(alloc, bytes) {
-        Ok(chunk) => chunk,
-        Err(why) => return Err(UnpackRefusal::Whole(why)),
-    };
-    if chunk.text != replica.text() {
-        return Err(UnpackRefusal::Whole(Refusal::WrongText));
+    match read_chunk(alloc, bytes) {
+        Ok(chunk) if chunk.text != replica.text() => Err(UnpackRefusal::Whole(Refusal::WrongText)),
+        Ok(chunk) => hand_in_all(replica, chunk.operations),
+        Err(why) => Err(UnpackRefusal::Whole(why)),
     }
-    hand_in_all(replica, chunk.operations)
 }

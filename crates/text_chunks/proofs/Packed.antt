@@ -1,0 +1,153 @@
+-- What a text has taken in beyond fronts is cut into chunks, operation by operation.
+use Rattle.std.proofs.Common.{◌≡◌, ◌≢◌, ℕ, ◌+◌, true, false, ◌≤◌, List, [], ◌∷◌, ◌++◌, length, take, Some, None}
+use Rattle.std.proofs.Common.{ap, sym, subst, refl, ◌∙◌, append_assoc, append-nil}
+use Rattle.std.specs.Prelude.{AllPairs, slice_get}
+use Rattle.std.proofs.lemmas.Bool.{cond-true, cond-false}
+use Rattle.std.proofs.lemmas.List.{take_all}
+use Rattle.std.proofs.lemmas.List.Elements.{All-contains, filter-append}
+use Rattle.std.proofs.lemmas.Option.{get_or_from_slice_get, slice_get_within}
+use Rattle.operations.specs.Operation.{Operation}
+use Rattle.operations.specs.Spelling.{HasSpelling}
+use Rattle.packed.specs.Laws.{IsHistory}
+use Rattle.packed.specs.Reading.{CanBeNext}
+use Rattle.packed.specs.Told.{Told, IsNext, expected, nothing_begun, nothing_told, told, told_after, told_on}
+use Rattle.packed.proofs.PackedLists.{adds_at_the_end}
+use Rattle.packed_file.proofs.Following.{first_parts, is_next}
+use Rattle.packed_file.proofs.Packings.{follow_more}
+use Rattle.chunks.specs.Chunks.{Placed, CanCome, CanAllCome, chunks, placed_from}
+use Rattle.chunks.specs.Laws.{beyond}
+use Rattle.chunks.specs.Parts.{placed}
+use Rattle.chunks.proofs.Histories.{what_is_beyond_can_come}
+use Rattle.texts.specs.Fronts.{front_in, is_beyond}
+use Rattle.texts.specs.Text.{IsText}
+use Rattle.texts.specs.TextState.{TextState}
+use Rattle.texts.specs.declared.front.Front.{Front}
+use Rattle.text_chunks.specs.Packing.{chunks_beyond}
+use Rattle.text_chunks.specs.Parts.{Cut, IsCutOn, cut_on, told_in}
+
+-- the first of the operations, those beyond the fronts, each with the length of its site's file
+abbrev pub placed_first : List Front → List Operation → ℕ → List Placed
+placed_first fronts ops n = beyond (front_in fronts) (placed_from nothing_told (take n ops))
+
+placed_more : (t : Told) (xs ys : List Operation)
+    → placed_from t (xs ++ ys) ≡ placed_from t xs ++ placed_from (told_after t xs) ys
+placed_more t [] ys = refl
+placed_more t (x ∷ xs) ys =
+    ap (λ (l : List Placed). placed x (expected t x.site).len ∷ l) (placed_more (told_on t x) xs ys)
+
+-- so many of them were passed, and those beyond the fronts cut
+pub record IsPackedTo (fronts : List Front) (ops : List Operation) (number n : ℕ) (h : Told) (c : Cut) : Type 0 where
+  pub history : IsHistory number (take n ops)
+  pub tells : h ≡ told (take n ops)
+  pub text : c.text ≡ number
+  pub cut : (ps : List Placed) → cut_on c ps ≡ chunks number (placed_first fronts ops n ++ ps)
+  pub come : (ps : List Placed) → CanAllCome nothing_begun number (placed_first fronts ops n ++ ps)
+      → CanAllCome (told_in c.current) number ps
+
+-- none was
+pub none_yet : (fronts : List Front) (ops : List Operation) (number : ℕ)
+    → IsPackedTo fronts ops number 0 nothing_told (record { text = number; full = []; current = None })
+none_yet fronts ops number = record {
+  history = tt;
+  tells = refl;
+  text = refl;
+  cut = λ ps. refl;
+  come = λ ps come. come;
+}
+
+-- all were
+pub all_packed : (fronts : List Front) (t : TextState) (n : ℕ) (h : Told) (c : Cut) → length t.operations ≤ n
+    → IsPackedTo fronts t.operations t.text n h c → cut_on c [] ≡ chunks_beyond fronts t
+all_packed fronts t n h c all s =
+    s.cut [] ∙ ap (chunks t.text) (append-nil (placed_first fronts t.operations n))
+    ∙ ap (λ (l : List Operation). chunks t.text (beyond (front_in fronts) (placed_from nothing_told l)))
+    (take_all n t.operations all)
+
+module _ (fronts : List Front) (t : TextState) (is : IsText t) (once : AllPairs (λ a b. a ≢ b) t.operations)
+    (n : ℕ) (op : Operation) (at : slice_get t.operations n ≡ Some op) (spelled : HasSpelling op) (h : Told) (c : Cut)
+    (s : IsPackedTo fronts t.operations t.text n h c) where
+  abbrev first : List Operation
+  first = take n t.operations
+
+  -- the operation is the next of its site
+  pub can_be_next : CanBeNext h t.text op
+  can_be_next = record {
+    next = subst (λ (u : Told). IsNext u op) (sym s.tells) (is_next t.operations is.in_order is.identified once n op at spelled);
+    spelled = spelled;
+    on_text = All-contains (λ (o : Operation). o.text ≡ t.text) t.operations op is.of_text
+        (n, slice_get_within t.operations n op at, get_or_from_slice_get t.operations n op op at);
+  }
+
+  history_more : IsHistory t.text (take (n + 1) t.operations)
+  history_more =
+      subst (IsHistory t.text) (sym (first_parts t.operations n op at))
+      (follow_more nothing_told t.text first op s.history
+      (subst (λ (u : Told). CanBeNext u t.text op) s.tells can_be_next))
+
+  told_more : told_on h op ≡ told (take (n + 1) t.operations)
+  told_more =
+      ap (λ (u : Told). told_on u op) s.tells ∙ sym (adds_at_the_end first op).1
+      ∙ ap told (sym (first_parts t.operations n op at))
+
+  abbrev pub here : Placed
+  here = placed op (expected h op.site).len
+
+  placed_one : placed_first fronts t.operations (n + 1)
+      ≡ placed_first fronts t.operations n ++ beyond (front_in fronts) (here ∷ [])
+  placed_one =
+      ap (λ (l : List Operation). beyond (front_in fronts) (placed_from nothing_told l)) (first_parts t.operations n op at)
+      ∙ ap (beyond (front_in fronts)) (placed_more nothing_told first (op ∷ []))
+      ∙ filter-append _ (placed_from nothing_told first) (placed op (expected (told first) op.site).len ∷ [])
+      ∙ ap (λ (u : Told). placed_first fronts t.operations n
+      ++ beyond (front_in fronts) (placed op (expected u op.site).len ∷ [])) (sym s.tells)
+
+  placed_beyond : is_beyond fronts op ≡ true
+      → placed_first fronts t.operations (n + 1) ≡ placed_first fronts t.operations n ++ here ∷ []
+  placed_beyond b =
+      placed_one ∙ ap (λ (l : List Placed). placed_first fronts t.operations n ++ l) (cond-true (is_beyond fronts op) (here ∷ []) [] b)
+
+  placed_up_to : is_beyond fronts op ≡ false
+      → placed_first fronts t.operations (n + 1) ≡ placed_first fronts t.operations n
+  placed_up_to b =
+      placed_one ∙ ap (λ (l : List Placed). placed_first fronts t.operations n ++ l) (cond-false (is_beyond fronts op) (here ∷ []) [] b)
+      ∙ append-nil _
+
+  -- it can come in the chunk that is being written
+  pub can_come : is_beyond fronts op ≡ true → CanCome (told_in c.current) c.text here
+  can_come b =
+      let all : CanAllCome nothing_begun t.text (placed_first fronts t.operations (n + 1)) =
+      (what_is_beyond_can_come t.text (take (n + 1) t.operations) (front_in fronts) history_more).0 in
+      subst (λ (x : ℕ). CanCome (told_in c.current) x here) (sym s.text)
+      (s.come (here ∷ []) (subst (CanAllCome nothing_begun t.text) (placed_beyond b) all)).0
+
+  -- it was added
+  pub one_beyond : (new : Cut) → is_beyond fronts op ≡ true → IsCutOn c here new
+      → IsPackedTo fronts t.operations t.text (n + 1) (told_on h op) new
+  one_beyond new b on = record {
+    history = history_more;
+    tells = told_more;
+    text = on.text ∙ s.text;
+    cut = λ ps. on.cut ps ∙ s.cut (here ∷ ps) ∙ ap (chunks t.text) (seam ps);
+    come = λ ps all. subst (λ (x : ℕ). CanAllCome (told_in new.current) x ps) s.text
+        (on.come ps (subst (λ (x : ℕ). CanAllCome (told_in c.current) x (here ∷ ps)) (sym s.text)
+        (s.come (here ∷ ps) (subst (CanAllCome nothing_begun t.text) (sym (seam ps)) all))));
+  }
+    where
+      seam : (ps : List Placed) → placed_first fronts t.operations n ++ here ∷ ps
+          ≡ placed_first fronts t.operations (n + 1) ++ ps
+      seam ps =
+          sym (append_assoc (placed_first fronts t.operations n) (here ∷ []) ps)
+          ∙ ap (λ (l : List Placed). l ++ ps) (sym (placed_beyond b))
+
+  -- it was left out
+  pub one_up_to : (new : Cut) → is_beyond fronts op ≡ false → new ≡ c
+      → IsPackedTo fronts t.operations t.text (n + 1) (told_on h op) new
+  one_up_to new b same = record {
+    history = history_more;
+    tells = told_more;
+    text = ap (λ (x : Cut). x.text) same ∙ s.text;
+    cut = λ ps. ap (λ (x : Cut). cut_on x ps) same ∙ s.cut ps
+        ∙ ap (λ (l : List Placed). chunks t.text (l ++ ps)) (sym (placed_up_to b));
+    come = λ ps all. subst (λ (x : Cut). CanAllCome (told_in x.current) t.text ps) (sym same)
+        (s.come ps (subst (λ (l : List Placed). CanAllCome nothing_begun t.text (l ++ ps)) (placed_up_to b) all));
+  }
