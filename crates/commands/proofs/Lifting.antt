@@ -12,11 +12,14 @@ use Rattle.texts.specs.declared.by_names.ByNames.{ByNames}
 use Rattle.texts.specs.declared.took.Took.{Took}
 use Rattle.texts.specs.declared.edit_refusal.EditRefusal.{EditRefusal}
 use Rattle.texts.specs.declared.merge_refusal.MergeRefusal.{MergeRefusal}
+use Rattle.text_chunks.specs.declared.unpacked.UnpackRefusal.{UnpackRefusal}
+use Rattle.text_chunks.specs.declared.unpacked.Unpacked.{Unpacked}
 use Rattle.machine.specs.SiteTexts.{SiteTexts, InText, IsTextOf}
-use Rattle.machine.specs.Events.{edit_reply, settles, take_reply}
-use Rattle.machine.specs.OnTexts.{CopiesSite, EditsNamesSite, EditsSite, EditsText, EditsTextShort, MergesSite, SettlesSite, TakesSite}
+use Rattle.machine.specs.Events.{edit_reply, settles, take_reply, unpack_reply}
+use Rattle.machine.specs.OnTexts.{CopiesSite, EditsNamesSite, EditsSite, EditsText, EditsTextShort, MergesSite, SettlesSite, TakesSite, UnpacksSite}
 use Rattle.machine_laws.proofs.Growing.{copies_grow, copies_short_grow, edits_grow, edits_short_grow, merges_grow}
 use Rattle.machine_laws.proofs.Growing.{merges_short_grow, named_edits_grow, named_edits_short_grow, settles_grow, takes_grow, takes_short_grow}
+use Rattle.machine_laws.proofs.Unpacking.{unpacks_grow, unpacks_short_grow}
 use Rattle.machine_laws.specs.Growing.{Grows}
 
 -- what an edit did to the text that it is for, with the messages that it sent
@@ -77,6 +80,15 @@ take_grows d d' text message result has taken = grows_in d d' text _ has
       | inl does ↦ takes_grow message (take_reply result) t new (result, does, refl) is
       | inr short ↦ takes_short_grow message (take_reply result) t new (result, short, refl) is
     ]) taken
+
+-- after a chunk
+pub unpack_grows : (d d' : SiteTexts) (text : ℕ) (chunk : List ℕ) (result : Result Unpacked UnpackRefusal) → HasText d text
+    → UnpacksSite d text chunk result d' → InText Grows d text d'
+unpack_grows d d' text chunk result has unpacked = grows_in d d' text _ has
+    (λ t new did is. elim did [
+      | inl does ↦ unpacks_grow chunk (unpack_reply result) t new (result, does, refl) is
+      | inr short ↦ unpacks_short_grow chunk (unpack_reply result) t new (result, short, refl) is
+    ]) unpacked
 
 -- and after a merge
 pub merge_grows : (d d' other : SiteTexts) (text : ℕ) (result : Result ℕ MergeRefusal) → HasText d text

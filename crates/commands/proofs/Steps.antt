@@ -15,14 +15,16 @@ use Rattle.texts.specs.declared.by_names.ByNames.{ByNames}
 use Rattle.texts.specs.declared.took.Took.{Took}
 use Rattle.texts.specs.declared.edit_refusal.EditRefusal.{EditRefusal}
 use Rattle.texts.specs.declared.merge_refusal.MergeRefusal.{MergeRefusal}
+use Rattle.text_chunks.specs.declared.unpacked.UnpackRefusal.{UnpackRefusal}
+use Rattle.text_chunks.specs.declared.unpacked.Unpacked.{Unpacked}
 use Rattle.machine.specs.SiteTexts.{SiteTexts, InText}
 use Rattle.machine.specs.Events.{Reply, arrange, ask, copy, done, edit, edit_by_names, edit_reply, merge_reply, messages_of}
-use Rattle.machine.specs.Events.{opens, print, prints, query, refuses, settle, settles, take_reply, untouched}
+use Rattle.machine.specs.Events.{opens, print, prints, query, refuses, settle, settles, take_reply, unpack, unpack_reply, untouched}
 use Rattle.machine.specs.Machine.{Replies}
 use Rattle.machine.specs.OnTexts.{CopiesSite, CopiesText, CopiesTextShort, EditsNames, EditsNamesShort, EditsNamesSite, EditsSite}
 use Rattle.machine.specs.OnTexts.{EditsText, EditsTextShort, MergesSite}
 use Rattle.machine.specs.OnTexts.{MergesText, MergesTextShort, QueriesSite, SettlesSite, SettlesText, TakesSite, TakesText}
-use Rattle.machine.specs.OnTexts.{Prints, QueriesText, RefusesQuery, Sending, TakesTextShort, is_asked_in, query_refusal}
+use Rattle.machine.specs.OnTexts.{Prints, QueriesText, RefusesQuery, Sending, TakesTextShort, UnpacksSite, UnpacksText, UnpacksTextShort, is_asked_in, query_refusal}
 use Rattle.machine.specs.State.{AtText, IsTextAt, Refuses, State, with_screen_at}
 use Rattle.machine.specs.Tasks.{lines_of_view}
 use Rattle.machine.specs.Windows.{Arranged, Screened, arranged}
@@ -176,6 +178,25 @@ module _ (seen : DeskSeen) (d d' new : SiteTexts) (w w' : Screened) (is : record
           → IsStep (record { texts = d; screen = w }) (λ i. settle i text) (settles drained dropped b) Then
       by false drains = λ s i stands. inl (refl, goes false drains s i stands)
       by true drains = λ s i stands. inr (refl, goes true drains s i stands)
+
+  -- a chunk
+  pub unpack_step : (text : ℕ) (chunk : List ℕ) (result : Result Unpacked UnpackRefusal) → UnpacksSite d text chunk result d'
+      → Asked d' text new → IsStep seen (λ i. unpack i text chunk) (unpack_reply result) Then
+  unpack_step text chunk result (t, u, at, did, is_d') told =
+      subst (λ (x : DeskSeen). IsStep x (λ i. unpack i text chunk) (unpack_reply result) Then) is (λ s i stands.
+      let r : Reply = unpack_reply result in
+      elim did [
+        | inl does ↦ inl (
+          refl,
+          at_text_silent s i d w stands (UnpacksText chunk r) text d' new w'
+              (t, u, at, (result, does, refl), is_d') told same,
+        )
+        | inr short ↦ inr (
+          refl,
+          at_text_silent s i d w stands (UnpacksTextShort chunk r) text d' new w'
+              (t, u, at, (result, short, refl), is_d') told same,
+        )
+      ])
 
   -- a message
   pub take_step : (text : ℕ) (message : List ℕ) (result : Result Took Refusal) → TakesSite d text message result d'

@@ -7,7 +7,7 @@ ghost use Rattle.texts.specs.Text.{IsText};
 ghost use Rattle.texts.specs.TextState.{TextState, shown_of};
 ghost use Rattle.texts.specs.declared.edit_refusal.EditRefusal.TheVariants.{Whole};
 ghost use Rattle.machine.specs.SiteTexts.{IsTextOf, fresh_texts};
-ghost use Rattle.machine.specs.Events.{arrange, ask, copy, edit, edit_by_names, print, insert_at_caret, query, settle, settles};
+ghost use Rattle.machine.specs.Events.{arrange, ask, copy, edit, edit_by_names, print, insert_at_caret, query, settle, settles, unpack, unpack_reply};
 ghost use Rattle.machine.specs.OnTexts.{RefusesQuery};
 ghost use Rattle.machine.specs.Windows.{blank_screen};
 ghost use Rattle.machine.specs.declared.asked.Arrangement.TheVariants.{Close, Move, Open, Point, Scroll, Select};
@@ -23,6 +23,7 @@ use machine::{MAX_TEXT, Query, View};
 use operations::NameRange;
 use std::alloc::Global;
 use std::marker::Model;
+use text_chunks::{UnpackRefusal, Unpacked};
 use texts::{ByNames, EditRefusal, MergeRefusal, Outbox, Settled, Took};
 use viewers::{MAX_HEIGHT, MAX_WIDTH, MIN_HEIGHT, MIN_WIDTH, Track};
 
@@ -221,6 +222,17 @@ impl Desk {
     {
         self.texts.lemma_has_text(text);
         let outcome = self.texts.take(text, message);
+        tell(&mut self.texts, &mut self.windows, text);
+        outcome
+    }
+
+    /// Hands the operations of a chunk to a text, one after the other, as messages are handed in.
+    pub fn unpack(&mut self, text: TextNo, chunk: &[u8]) -> Result<Unpacked, UnpackRefusal>
+        requires on_desk { text ≤ MAX_TEXT }
+        ensures { IsStep self.old (λ i. unpack i text chunk.now) (unpack_reply result) self.new }
+    {
+        self.texts.lemma_has_text(text);
+        let outcome = self.texts.unpack(text, chunk);
         tell(&mut self.texts, &mut self.windows, text);
         outcome
     }

@@ -4,6 +4,7 @@
 mod editing;
 mod laws;
 mod names_shown;
+mod packing;
 mod printing;
 mod runs;
 mod since;

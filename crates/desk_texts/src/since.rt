@@ -15,7 +15,7 @@ use std::alloc::{AllocError, Global};
 use texts::{Replica, front_in};
 
 // Appends bytes in hex. After an `Err` of this and of the others that append, some of it may stand there.
-fn put_hex(out: &mut Vec<u8>, bytes: &[u8]) -> Result<(), AllocError>
+pub(crate) fn put_hex(out: &mut Vec<u8>, bytes: &[u8]) -> Result<(), AllocError>
     ensures { OnOk result (out.new.items ≡ out.old.items ++ encode_lower bytes.now) }
 {
     for byte in bytes {

@@ -9,11 +9,12 @@ ghost use Rattle.texts.specs.TextState.{TextState, all_told, shown_of, with_room
 ghost use Rattle.texts.specs.contracts.replica.Replica.{the_row as replica_row};
 ghost use Rattle.machine.specs.SiteTexts.{InText, IsTextOf, fresh_texts, with_text};
 ghost use Rattle.machine.specs.OnTexts.{CopiesSite, EditsNamesSite, EditsSite, MergesSite, QueriesSite, RefusesQuery, SettlesSite};
-ghost use Rattle.machine.specs.OnTexts.{TakesSite};
+ghost use Rattle.machine.specs.OnTexts.{TakesSite, UnpacksSite};
 ghost use Rattle.desk_texts.specs.contracts.site_texts.Texts.{the_row};
 
 use crate::editing::{copy_out_of, has_position, has_range};
 use crate::names_shown::names_lines;
+use crate::packing::pack_lines;
 use crate::printing::{front_lines, past_lines, text_lines};
 use crate::runs::run_lines;
 use crate::since::since_lines;
@@ -25,6 +26,7 @@ use machine::{MAX_TEXT, Query};
 use operations::NameRange;
 use std::alloc::Global;
 use std::marker::Model;
+use text_chunks::{UnpackRefusal, Unpacked, unpack};
 use texts::{ByNames, EditRefusal, MergeRefusal, Outbox, Replica, Settled, Took};
 
 /// One site's texts, 1 to 16, each empty until it is first changed. This project's own.
@@ -216,6 +218,15 @@ impl Texts {
         self.replica_mut(text).take(message)
     }
 
+    /// Hands the operations of a chunk to a text, as `unpack` does.
+    pub fn unpack(&mut self, text: TextNo, chunk: &[u8]) -> Result<Unpacked, UnpackRefusal>
+        requires on_desk { text ≤ MAX_TEXT }
+        ensures { UnpacksSite self.old text chunk.now result self.new }
+    {
+        let alloc = *self.texts.allocator();
+        unpack(alloc, self.replica_mut(text), chunk)
+    }
+
     /// Drains what waits for a text, as its replica does.
     pub fn settle(&mut self, text: TextNo) -> Settled
         requires on_desk { text ≤ MAX_TEXT }
@@ -283,6 +294,7 @@ impl Texts {
             Query::Names { beg, end } => names_lines(alloc, replica, beg, end),
             Query::Since(fronts) => since_lines(alloc, replica, &fronts),
             Query::Past(fronts) => past_lines(alloc, replica, &fronts),
+            Query::Pack(fronts) => pack_lines(alloc, replica, &fronts),
         }
     }
 

@@ -12,6 +12,9 @@ use Rattle.texts.specs.declared.merge_refusal.MergeRefusal.{MergeRefusal}
 use Rattle.texts.specs.declared.merge_refusal.MergeRefusal.TheVariants.{Whole as MergesNothing, Stopped}
 use Rattle.texts.specs.declared.took.Took.{Took}
 use Rattle.kept_file.specs.declared.form.KeptForm.{KeptForm}
+use Rattle.text_chunks.specs.declared.unpacked.UnpackRefusal.{UnpackRefusal}
+use Rattle.text_chunks.specs.declared.unpacked.UnpackRefusal.TheVariants.{Whole as UnpacksNothing, Partial as UnpacksPart}
+use Rattle.text_chunks.specs.declared.unpacked.Unpacked.{Unpacked}
 use Rattle.machine.specs.declared.asked.Arrangement.{Arrangement}
 use Rattle.machine.specs.declared.asked.Query.{Query}
 use Rattle.machine.specs.declared.asked.View.{View}
@@ -39,15 +42,16 @@ pub data Task : Type 0 where
   reopen : (text : ℕ) (name : List ℕ) → Task
 
 -- What may happen. A desk is told by its index among the run's. An edit is a site's own, of one of its texts, by positions or by
--- names; a copy puts what is shown from beg to end of one of its texts into another one, or the same; a taking hands a message to one of its texts; a
--- settling drains what waits there; a merge takes in what the text of this number on another desk, or on the same, holds; a
--- query prints a part of a text; a desk is asked a task, or a cell of its screen is clicked; what else a line asks is nothing
--- that there is.
+-- names; a copy puts what is shown from beg to end of one of its texts into another one, or the same; a taking hands a message
+-- to one of its texts, an unpacking a chunk; a settling drains what waits there; a merge takes in what the text of this number on
+-- another desk, or on the same, holds; a query prints a part of a text; a desk is asked a task, or a cell of its screen is clicked;
+-- what else a line asks is nothing that there is.
 pub data Event : Type 0 where
   edit : (desk text : ℕ) (e : Edit) → Event
   edit_by_names : (desk text : ℕ) (what : ByNames) (names : List Range) → Event
   copy : (desk text beg end other pos : ℕ) → Event
   take : (desk text : ℕ) (d : Delivery) → Event
+  unpack : (desk text : ℕ) (chunk : List ℕ) → Event
   settle : (desk text : ℕ) → Event
   merge : (desk text other : ℕ) → Event
   query : (desk text : ℕ) (q : Query) → Event
@@ -62,13 +66,15 @@ pub data Part : Type 0 where
   went_well : Part
   failed : (left : Option (List ℕ)) → Part
 
--- What is replied: the messages that an edit of which all operations stand sent; what taking a message did; what
--- draining did; how many operations a merge took in; the lines of a query or of a view; the viewer that was opened; up to where
+-- What is replied: the messages that an edit of which all operations stand sent; what taking a message or unpacking a chunk did;
+-- what draining did; how many operations a merge took in; the lines of a query or of a view; the viewer that was opened; up to where
 -- was found what was looked for, or that it wasn't; how many operations that waited were thrown away; that it was done; why
--- nothing was done; or the messages of the first operations of an edit or a merge, how many stand, and why the next one doesn't.
+-- nothing was done; the messages of the first operations of an edit or a merge, how many stand, and why the next one doesn't; or
+-- how many operations of a chunk were handed in, and why the next one was refused.
 pub data Reply : Type 0 where
   sends : (messages : List (List ℕ)) → Reply
   takes : (took : Took) → Reply
+  unpacks : (counts : Unpacked) → Reply
   settles : (drained dropped : ℕ) (stopped : Bool) → Reply
   merges : (count : ℕ) → Reply
   prints : (lines : List ℕ) → Reply
@@ -79,6 +85,7 @@ pub data Reply : Type 0 where
   done : Reply
   refuses : (why : Refusal) → Reply
   stops : (messages : List (List ℕ)) (count : ℕ) (why : Refusal) → Reply
+  unpacks_first : (count : ℕ) (why : Refusal) → Reply
 
 -- the reply to an edit that answered so, with these messages
 abbrev pub edit_reply : Result ℕ EditRefusal → List (List ℕ) → Reply
@@ -90,6 +97,12 @@ edit_reply (Err (Partial count why)) messages = stops messages count why
 abbrev pub take_reply : Result Took Refusal → Reply
 take_reply (Ok took) = takes took
 take_reply (Err why) = refuses why
+
+-- the reply to a chunk that was answered so
+abbrev pub unpack_reply : Result Unpacked UnpackRefusal → Reply
+unpack_reply (Ok counts) = unpacks counts
+unpack_reply (Err (UnpacksNothing why)) = refuses why
+unpack_reply (Err (UnpacksPart count why)) = unpacks_first count why
 
 -- the reply to a merge that was answered so; a merge sends no messages
 abbrev pub merge_reply : Result ℕ MergeRefusal → Reply

@@ -6,10 +6,10 @@ use Rattle.texts.specs.TextState.{TextState}
 use Rattle.machine.specs.Commands.{IsTaskAt}
 use Rattle.machine.specs.SiteTexts.{SiteTexts}
 use Rattle.machine.specs.Events.{Delivery, Event, Part, Reply, Task, ask, bytes, click, copy, edit, edit_by_names, merge, messages_of}
-use Rattle.machine.specs.Events.{query, sent, settle, take, unknown, untouched}
+use Rattle.machine.specs.Events.{query, sent, settle, take, unknown, unpack, untouched}
 use Rattle.machine.specs.OnTexts.{CopiesText, CopiesTextShort, EditsNames, EditsNamesShort, MergesText, MergesTextShort, QueriesText}
 use Rattle.machine.specs.OnTexts.{SettlesText, TakesText}
-use Rattle.machine.specs.OnTexts.{TakesTextShort, is_asked_in}
+use Rattle.machine.specs.OnTexts.{TakesTextShort, UnpacksText, UnpacksTextShort, is_asked_in}
 use Rattle.machine.specs.State.{AtText, IsDeskAt, IsTextAt, Refuses, State}
 use Rattle.machine.specs.Tasks.{DoesTask, EditsAt, EditsShortAt, ShortTask}
 use Rattle.machine.specs.Windows.{Screened}
@@ -30,6 +30,7 @@ Does s (copy i text beg end other pos) part r new =
 Does s (take i text d) part r new =
     (part ≡ untouched)
     × MatchOption (message_in s d) (Refuses s BadEvent r new) (λ message. AtText (TakesText message r) s i text [] new)
+Does s (unpack i text chunk) part r new = (part ≡ untouched) × AtText (UnpacksText chunk r) s i text [] new
 Does s (settle i text) part r new = (part ≡ untouched) × AtText (SettlesText false r) s i text [] new
 Does s (merge i text j) part r new =
     (part ≡ untouched) × ((u : TextState) × IsTextAt s j text u × AtText (MergesText u r) s i text [] new)
@@ -53,6 +54,7 @@ Short s (copy i text beg end other pos) part r new =
 Short s (take i text d) part r new =
     (part ≡ untouched)
     × ((message : List ℕ) × (message_in s d ≡ Some message) × AtText (TakesTextShort message r) s i text [] new)
+Short s (unpack i text chunk) part r new = (part ≡ untouched) × AtText (UnpacksTextShort chunk r) s i text [] new
 Short s (settle i text) part r new = (part ≡ untouched) × AtText (SettlesText true r) s i text [] new
 Short s (merge i text j) part r new =
     (part ≡ untouched) × ((u : TextState) × IsTextAt s j text u × AtText (MergesTextShort u r) s i text [] new)

@@ -21,14 +21,17 @@ use Rattle.texts.specs.declared.by_names.ByNames.{ByNames}
 use Rattle.texts.specs.declared.edit_refusal.EditRefusal.{EditRefusal}
 use Rattle.texts.specs.declared.merge_refusal.MergeRefusal.{MergeRefusal}
 use Rattle.texts.specs.declared.took.Took.{Took}
+use Rattle.text_chunks.specs.Unpacking.{Unpacks, UnpacksShort}
+use Rattle.text_chunks.specs.declared.unpacked.UnpackRefusal.{UnpackRefusal}
+use Rattle.text_chunks.specs.declared.unpacked.Unpacked.{Unpacked}
 use Rattle.machine.specs.SiteTexts.{SiteTexts, InText, IsTextOf}
-use Rattle.machine.specs.Events.{Reply, edit_reply, merge_reply, messages_of, prints, refuses, settles, take_reply}
+use Rattle.machine.specs.Events.{Reply, edit_reply, merge_reply, messages_of, prints, refuses, settles, take_reply, unpack_reply}
 use Rattle.machine.specs.NamesShown.{names_lines}
-use Rattle.machine.specs.Since.{since_lines}
+use Rattle.machine.specs.Since.{pack_lines, since_lines}
 use Rattle.machine.specs.WhereShown.{where_lines}
 use Rattle.machine.specs.Printing.{AreRunsOf, text_lines, front_lines, run_lines}
 use Rattle.machine.specs.declared.asked.Query.{Query}
-use Rattle.machine.specs.declared.asked.Query.TheVariants.{Text, Front, Runs, WhereShown, Names, Past, Since}
+use Rattle.machine.specs.declared.asked.Query.TheVariants.{Text, Front, Runs, WhereShown, Names, Pack, Past, Since}
 
 -- An edit of a text, where memory is there: one whose positions lie outside the text is refused for that
 -- alone, and any other does what its operations do, and where all was done shows what it is to show.
@@ -96,6 +99,16 @@ abbrev pub TakesTextShort : List ℕ → Reply → TextState → TextState → T
 TakesTextShort message r t new =
     (result : Result Took Refusal) × TakesShort t message result new × (r ≡ take_reply result)
 
+-- a chunk for a text, where memory is there
+abbrev pub UnpacksText : List ℕ → Reply → TextState → TextState → Type 0
+UnpacksText chunk r t new =
+    (result : Result Unpacked UnpackRefusal) × Unpacks t chunk result new × (r ≡ unpack_reply result)
+
+-- the same where memory was refused
+abbrev pub UnpacksTextShort : List ℕ → Reply → TextState → TextState → Type 0
+UnpacksTextShort chunk r t new =
+    (result : Result Unpacked UnpackRefusal) × UnpacksShort t chunk result new × (r ≡ unpack_reply result)
+
 -- a settling of a text, which was stopped where memory was refused
 abbrev pub SettlesText : (stopped : Bool) → Reply → TextState → TextState → Type 0
 SettlesText stopped r t new =
@@ -121,6 +134,7 @@ Prints (WhereShown names) t lines = lines ≡ where_lines (shown_of t) (names_of
 Prints (Names beg end) t lines = lines ≡ names_lines (shown_of t) beg end
 Prints (Since fronts) t lines = lines ≡ since_lines fronts t.operations
 Prints (Past fronts) t lines = (past : TextState) × IsPastOf t fronts past × (lines ≡ text_lines past)
+Prints (Pack fronts) t lines = lines ≡ pack_lines fronts t
 
 -- whether the positions of a query lie in the text
 abbrev pub is_asked_in : TextState → Query → Bool
@@ -183,6 +197,11 @@ CopiesSite d text beg end other pos result new before after =
 abbrev pub TakesSite : SiteTexts → ℕ → List ℕ → Result Took Refusal → SiteTexts → Type 0
 TakesSite d text message result new =
     InText (λ t t'. Takes t message result t' ⊎ TakesShort t message result t') d text new
+
+-- a chunk for one of them
+abbrev pub UnpacksSite : SiteTexts → ℕ → List ℕ → Result Unpacked UnpackRefusal → SiteTexts → Type 0
+UnpacksSite d text chunk result new =
+    InText (λ t t'. Unpacks t chunk result t' ⊎ UnpacksShort t chunk result t') d text new
 
 -- a settling
 abbrev pub SettlesSite : SiteTexts → ℕ → (drained dropped : ℕ) → (stopped : Bool) → SiteTexts → Type 0

@@ -56,6 +56,8 @@ pub enum Query<'a> {
     Since(Fronts<'a>),
     /// Its length and its characters as they were, up to these fronts.
     Past(Fronts<'a>),
+    /// Chunks of what was taken in beyond these fronts.
+    Pack(Fronts<'a>),
 }
 
 /// What is to be printed of a screen.

@@ -9,10 +9,10 @@ use Rattle.texts.specs.TextState.{TextState}
 use Rattle.machine.specs.SiteTexts.{SiteTexts}
 use Rattle.machine.specs.Events.{Delivery, Event, Part, Reply, Task, arrange, ask, bytes, change, click, copy, edit, edit_by_names, forget}
 use Rattle.machine.specs.Events.{keep, load, merge, messages_of, print, insert_at_caret, recall_at_caret, query, refuse, reopen, search, sent, settle}
-use Rattle.machine.specs.Events.{store, take, unknown, untouched}
+use Rattle.machine.specs.Events.{store, take, unknown, unpack, untouched}
 use Rattle.machine.specs.Machine.{Does, Replies, Short, message_in}
 use Rattle.machine.specs.OnTexts.{CopiesText, CopiesTextShort, EditsNames, EditsNamesShort, EditsText, EditsTextShort, MergesText, MergesTextShort}
-use Rattle.machine.specs.OnTexts.{SettlesText, TakesText, TakesTextShort}
+use Rattle.machine.specs.OnTexts.{SettlesText, TakesText, TakesTextShort, UnpacksText, UnpacksTextShort}
 use Rattle.machine.specs.State.{AtText, IsDeskAt, Refuses, State}
 use Rattle.machine.specs.Tasks.{AtCaret, DoesTask, EditSteps, EditsAt, EditsShortAt, IfCaret, Searches, ShortTask}
 use Rattle.machine.specs.Tasks.{Writes, has_begun}
@@ -143,6 +143,7 @@ module _ (now : Files) where
         (Refuses (over s) BadEvent r (over new)) (λ message. AtText (TakesText message r) (over s) i text [] (over new)))
         (message_over s d) (taken_over s new i text (message_in s d) r does),
   )
+  does_over s (unpack i text chunk) r new (free, does) = (free, at_text_over (UnpacksText chunk r) s new i text [] does)
   does_over s (settle i text) r new (free, does) = (free, at_text_over (SettlesText false r) s new i text [] does)
   does_over s (merge i text j) r new (free, (u, there, does)) = (free, (u, there, at_text_over (MergesText u r) s new i text [] does))
   does_over s (query i text q) r new (free, same, asked) = (free, ap over same, asked)
@@ -159,6 +160,8 @@ module _ (now : Files) where
       (free, (t, there, at_text_over (CopiesTextShort t beg end pos r) s new i other (messages_of r) does))
   falls_short_over s (take i text d) r new (free, (message, told, does)) =
       (free, (message, sym (message_over s d) ∙ told, at_text_over (TakesTextShort message r) s new i text [] does))
+  falls_short_over s (unpack i text chunk) r new (free, does) =
+      (free, at_text_over (UnpacksTextShort chunk r) s new i text [] does)
   falls_short_over s (settle i text) r new (free, does) = (free, at_text_over (SettlesText true r) s new i text [] does)
   falls_short_over s (merge i text j) r new (free, (u, there, does)) =
       (free, (u, there, at_text_over (MergesTextShort u r) s new i text [] does))
@@ -215,6 +218,7 @@ whole_asks_for_none s (edit i text e) part r new none does = does.0
 whole_asks_for_none s (edit_by_names i text what names) part r new none does = does.0
 whole_asks_for_none s (copy i text beg end other pos) part r new none does = does.0
 whole_asks_for_none s (take i text d) part r new none does = does.0
+whole_asks_for_none s (unpack i text chunk) part r new none does = does.0
 whole_asks_for_none s (settle i text) part r new none does = does.0
 whole_asks_for_none s (merge i text j) part r new none does = does.0
 whole_asks_for_none s (query i text q) part r new none does = does.0
@@ -228,6 +232,7 @@ short_asks_for_none s (edit i text e) part r new none does = does.0
 short_asks_for_none s (edit_by_names i text what names) part r new none does = does.0
 short_asks_for_none s (copy i text beg end other pos) part r new none does = does.0
 short_asks_for_none s (take i text d) part r new none does = does.0
+short_asks_for_none s (unpack i text chunk) part r new none does = does.0
 short_asks_for_none s (settle i text) part r new none does = does.0
 short_asks_for_none s (merge i text j) part r new none does = does.0
 short_asks_for_none s (query i text q) part r new none does = does.0

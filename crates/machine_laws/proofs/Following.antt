@@ -13,16 +13,18 @@ use Rattle.texts.specs.TextState.{TextState, all_told, with_room}
 use Rattle.convergence.proofs.OneWay.{text_with_room}
 use Rattle.machine.specs.SiteTexts.{SiteTexts, InText, IsTextOf}
 use Rattle.machine.specs.OnTexts.{CopiesText, CopiesTextShort, EditsNames, EditsNamesShort, EditsText, EditsTextShort, MergesText, MergesTextShort}
-use Rattle.machine.specs.OnTexts.{SettlesText, TakesText, TakesTextShort}
+use Rattle.machine.specs.OnTexts.{SettlesText, TakesText, TakesTextShort, UnpacksText, UnpacksTextShort}
 use Rattle.machine.specs.State.{State, Tells}
 use Rattle.machine_laws.proofs.Going.{TextGoes, TextsGo, as_they_are, begins, by_text, copies, copies_short, edits}
 use Rattle.machine_laws.proofs.Going.{edits_names, edits_names_short}
 use Rattle.machine_laws.proofs.Going.{edits_short, empties, merges_short, merges_so, settles_so, takes, takes_short}
+use Rattle.machine_laws.proofs.Going.{unpacks_short, unpacks_so}
 use Rattle.machine_laws.proofs.Growing.{named_edits_grow, named_edits_short_grow}
 use Rattle.machine_laws.proofs.Growing.{copies_grow, copies_short_grow, edits_grow, edits_short_grow, merges_grow}
 use Rattle.machine_laws.proofs.Growing.{merges_short_grow, settles_grow, takes_grow, takes_short_grow}
 use Rattle.machine_laws.proofs.Reaching.{set_old}
 use Rattle.machine_laws.proofs.Reopening.{Begins, held_nothing}
+use Rattle.machine_laws.proofs.Unpacking.{unpacks_grow, unpacks_short_grow}
 use Rattle.machine_laws.specs.Growing.{Grows}
 use Rattle.machine_laws.specs.Laws.{AreTexts, HaveTold}
 
@@ -102,6 +104,10 @@ module _ (plain : OwnEditsArePlain) (none : AreIdentified []) (s : State) where
       grown_follows (TakesText message r) (takes_grow message r) t u (t', does, is)
   goes_follows t u (t', takes_short message r does, is) =
       grown_follows (TakesTextShort message r) (takes_short_grow message r) t u (t', does, is)
+  goes_follows t u (t', unpacks_so chunk r does, is) =
+      grown_follows (UnpacksText chunk r) (unpacks_grow chunk r) t u (t', does, is)
+  goes_follows t u (t', unpacks_short chunk r does, is) =
+      grown_follows (UnpacksTextShort chunk r) (unpacks_short_grow chunk r) t u (t', does, is)
   goes_follows t u (t', settles_so stopped r does, is) =
       grown_follows (SettlesText stopped r) (settles_grow stopped r) t u (t', does, is)
   goes_follows t u (t', merges_so j text other r there does, is) =

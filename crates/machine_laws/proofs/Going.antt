@@ -18,16 +18,19 @@ use Rattle.texts.specs.declared.by_names.ByNames.{ByNames}
 use Rattle.texts.specs.declared.merge_refusal.MergeRefusal.{MergeRefusal}
 use Rattle.texts.specs.declared.merge_refusal.MergeRefusal.TheVariants.{Whole as MergesNothing, Stopped}
 use Rattle.texts.specs.declared.took.Took.{Took}
+use Rattle.text_chunks.specs.declared.unpacked.UnpackRefusal.{UnpackRefusal}
+use Rattle.text_chunks.specs.declared.unpacked.UnpackRefusal.TheVariants.{Whole as UnpacksNothing, Partial as UnpacksPart}
+use Rattle.text_chunks.specs.declared.unpacked.Unpacked.{Unpacked}
 use Rattle.texts.specs.TextState.{TextState, empty_text, shown_of, with_room}
 use Rattle.machine.specs.SiteTexts.{SiteTexts, InText}
 use Rattle.kept_file.proofs.KeptFiles.{has_site_file}
 use Rattle.machine.specs.Events.{Event, Part, Reply, Task, arrange, ask, change, click, copy, done, edit, edit_by_names, failed, forget}
 use Rattle.machine.specs.Events.{forgot, found, keep, load, merge, merge_reply, messages_of, not_found, opens, print, prints}
 use Rattle.machine.specs.Events.{insert_at_caret, recall_at_caret, query, refuse, refuses, reopen, search, settle, store, take, take_reply}
-use Rattle.machine.specs.Events.{unknown, untouched, went_well}
+use Rattle.machine.specs.Events.{unknown, unpack, unpack_reply, untouched, went_well}
 use Rattle.machine.specs.Machine.{Does, Replies, Short, message_in}
 use Rattle.machine.specs.OnTexts.{CopiesText, CopiesTextShort, EditsNames, EditsNamesShort, EditsText, EditsTextShort, MergesText, MergesTextShort}
-use Rattle.machine.specs.OnTexts.{Prints, SettlesText, TakesText, TakesTextShort, is_asked_in}
+use Rattle.machine.specs.OnTexts.{Prints, SettlesText, TakesText, TakesTextShort, UnpacksText, UnpacksTextShort, is_asked_in}
 use Rattle.machine.specs.State.{AtText, IsDeskAt, IsTextAt, Refuses, State, Tells}
 use Rattle.machine.specs.Tasks.{AtCaret, BeginsAs, BeginsWith, DoesTask, EditSteps, EditsAt, EditsShortAt, FileBecomes}
 use Rattle.machine.specs.Tasks.{Forgets, IfCaret, Loads, LoadsShort, Reopens, ReopensShort, Searches, ShortTask, Writes}
@@ -42,7 +45,7 @@ use Rattle.machine_laws.proofs.Reopening.{Begins}
 use Rattle.machine_laws.proofs.Rooms.{by_test}
 
 -- The ways in which an event may change a text of the run: an edit, by positions or by names, in either way; a copy out of another one; a message; a
--- settling; a merge of a text that is there; its room is emptied; or nothing was done in it yet, and it begins anew with
+-- chunk; a settling; a merge of a text that is there; its room is emptied; or nothing was done in it yet, and it begins anew with
 -- operations that messages tell.
 pub data TextGoes (s : State) (t u : TextState) : Type 0 where
   edits : (e : Edit) (r : Reply) → EditsText e r t u → TextGoes s t u
@@ -53,6 +56,8 @@ pub data TextGoes (s : State) (t u : TextState) : Type 0 where
   copies_short : (from : TextState) (beg end pos : ℕ) (r : Reply) → CopiesTextShort from beg end pos r t u → TextGoes s t u
   takes : (message : List ℕ) (r : Reply) → TakesText message r t u → TextGoes s t u
   takes_short : (message : List ℕ) (r : Reply) → TakesTextShort message r t u → TextGoes s t u
+  unpacks_so : (chunk : List ℕ) (r : Reply) → UnpacksText chunk r t u → TextGoes s t u
+  unpacks_short : (chunk : List ℕ) (r : Reply) → UnpacksTextShort chunk r t u → TextGoes s t u
   settles_so : (stopped : Bool) (r : Reply) → SettlesText stopped r t u → TextGoes s t u
   merges_so : (j text : ℕ) (other : TextState) (r : Reply) → IsTextAt s j text other → MergesText other r t u → TextGoes s t u
   merges_short : (j text : ℕ) (other : TextState) (r : Reply) → IsTextAt s j text other → MergesTextShort other r t u
@@ -133,6 +138,11 @@ silent_goes F s new i text r goes (d, d', at, (t, u, of_d, (t', does, is_u), is_
 take_tells : (result : Result Took Refusal) → messages_of (take_reply result) ≡ []
 take_tells (Ok took) = refl
 take_tells (Err why) = refl
+
+unpack_tells : (result : Result Unpacked UnpackRefusal) → messages_of (unpack_reply result) ≡ []
+unpack_tells (Ok counts) = refl
+unpack_tells (Err (UnpacksNothing why)) = refl
+unpack_tells (Err (UnpacksPart count why)) = refl
 
 merge_tells : (result : Result ℕ MergeRefusal) → messages_of (merge_reply result) ≡ []
 merge_tells (Ok count) = refl
@@ -355,6 +365,8 @@ does_go s (edit_by_names i text what names) part r new does =
 does_go s (copy i text beg end other pos) part r new (free, (t, there, does)) =
     at_text_goes (CopiesText t beg end pos r) s new i other r (λ u v. copies t beg end pos r) does
 does_go s (take i text d) part r new does = taken_goes s new i text (message_in s d) r does.1
+does_go s (unpack i text chunk) part r new does = silent_goes (UnpacksText chunk r) s new i text r
+    (λ t u there unpacked. (unpacks_so chunk r unpacked, ap messages_of unpacked.2 ∙ unpack_tells unpacked.0)) does.1
 does_go s (settle i text) part r new does = silent_goes (SettlesText false r) s new i text r
     (λ t u there settled. (settles_so false r settled, ap messages_of settled.3)) does.1
 does_go s (merge i text j) part r new (free, (other, there, does)) = silent_goes (MergesText other r) s new i text r
@@ -372,6 +384,8 @@ short_goes s (copy i text beg end other pos) part r new (free, (t, there, short)
     at_text_goes (CopiesTextShort t beg end pos r) s new i other r (λ u v. copies_short t beg end pos r) short
 short_goes s (take i text d) part r new (free, (message, told, short)) = silent_goes (TakesTextShort message r) s new i text r
     (λ t u there taken. (takes_short message r taken, ap messages_of taken.2 ∙ take_tells taken.0)) short
+short_goes s (unpack i text chunk) part r new short = silent_goes (UnpacksTextShort chunk r) s new i text r
+    (λ t u there unpacked. (unpacks_short chunk r unpacked, ap messages_of unpacked.2 ∙ unpack_tells unpacked.0)) short.1
 short_goes s (settle i text) part r new short = silent_goes (SettlesText true r) s new i text r
     (λ t u there settled. (settles_so true r settled, ap messages_of settled.3)) short.1
 short_goes s (merge i text j) part r new (free, (other, there, short)) = silent_goes (MergesTextShort other r) s new i text r

@@ -18,3 +18,4 @@ pub mod Rooms
 pub mod SameScreens
 pub mod ShownLines
 pub mod Telling
+pub mod Unpacking

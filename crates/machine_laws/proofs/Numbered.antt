@@ -37,6 +37,7 @@ use Rattle.texts.specs.declared.merge_refusal.MergeRefusal.{MergeRefusal}
 use Rattle.texts.specs.declared.merge_refusal.MergeRefusal.TheVariants.{Whole as MergesNothing, Stopped}
 use Rattle.texts.specs.declared.took.Took.{Took}
 use Rattle.texts.specs.declared.took.Took.TheVariants.{Waits}
+use Rattle.text_chunks.specs.Unpacking.{TakesOpSo}
 use Rattle.machine.specs.SiteTexts.{SiteTexts, IsTextOf, fresh_texts}
 use Rattle.machine.specs.Events.{Reply}
 use Rattle.machine.specs.OnTexts.{CopiesText, CopiesTextShort, EditsNames, EditsText, EditsTextShort, MergesText, MergesTextShort}
@@ -48,9 +49,10 @@ use Rattle.machine_laws.proofs.Going.{TextGoes, TextsGo, as_they_are, begins as 
 use Rattle.machine_laws.proofs.Going.{edits_names, edits_names_short}
 use Rattle.machine_laws.proofs.NamedEdits.{left_short, made_or_left}
 use Rattle.machine_laws.proofs.Going.{edits as edited, edits_short as in_part, empties, merges_short as merged_short, merges_so}
-use Rattle.machine_laws.proofs.Going.{replies_go, settles_so, takes, takes_short as taken_short}
+use Rattle.machine_laws.proofs.Going.{replies_go, settles_so, takes, takes_short as taken_short, unpacks_short, unpacks_so}
 use Rattle.machine_laws.proofs.Reaching.{set_cases}
 use Rattle.machine_laws.proofs.Reopening.{Begins}
+use Rattle.machine_laws.proofs.Unpacking.{unpacking_keeps, unpacking_short_keeps}
 use Rattle.machine_laws.specs.Laws.{AreNumbered, Reached, WhatIsReachedIsNumbered, begins, goes_on}
 use Rattle.machine_laws.specs.Laws.{others_write}
 
@@ -159,6 +161,14 @@ takes_short : (message : List ℕ) (r : Reply) (t new : TextState) → TakesText
 takes_short message r t new (result, inl left, replied) is = subst HasNumbers (sym left.1.1) is
 takes_short message r t new (result, inr (op, tells, has, does), replied) is =
     taken_in t op true result new (fits_message op tells.valid) does is
+
+-- so do those of a chunk
+op_goes : (one : Bool) (t new : TextState) (op : Operation) (result : Result Took Refusal) → HasSpelling op
+    → TakesOpSo one t op result new → HasNumbers t → HasNumbers new
+op_goes false t new op result valid (fate, has, does) is = becomes t op fate result new (fits_message op valid) does is
+op_goes true t new op result valid (inl (has, out)) is = subst HasNumbers (sym out.1.1) is
+op_goes true t new op result valid (inr (has, inl does)) is = taken_in t op true result new (fits_message op valid) does is
+op_goes true t new op result valid (inr (has, inr stays)) is = subst HasNumbers (sym stays.1) is
 
 -- a merge takes what the other text has
 
@@ -327,6 +337,8 @@ text_goes_so s all t u (copies from beg end pos r does) is = copies_text from be
 text_goes_so s all t u (copies_short from beg end pos r does) is = copies_in_part from beg end pos r t u does is
 text_goes_so s all t u (takes message r does) is = takes_text message r t u does is
 text_goes_so s all t u (taken_short message r does) is = takes_short message r t u does is
+text_goes_so s all t u (unpacks_so chunk r does) is = unpacking_keeps HasNumbers op_goes chunk r t u does is
+text_goes_so s all t u (unpacks_short chunk r does) is = unpacking_short_keeps HasNumbers op_goes chunk r t u does is
 text_goes_so s all t u (settles_so stopped r does) is = settles_text stopped r t u does is
 text_goes_so s all t u (merges_so j text other r there does) is = merges_text other r t u (all j text other there) does is
 text_goes_so s all t u (merged_short j text other r there does) is =

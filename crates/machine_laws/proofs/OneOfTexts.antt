@@ -7,6 +7,7 @@ use Rattle.looks.specs.declared.refusal.Refusal.{Refusal}
 use Rattle.looks.specs.declared.refusal.Refusal.TheVariants.{BadEvent, FileSpent, OutOfMemory, OutOfRange}
 use Rattle.char_files.specs.Runs.{NoOtherRuns}
 use Rattle.char_files.specs.declared.TheConstants.{MAX_FILE}
+use Rattle.chunks.specs.Laws.{OneChunk}
 use Rattle.convergence.specs.Outcomes.{DrainsOneWay, EditsOneWay, MergesOneWay, TakesOneWay}
 use Rattle.operations.specs.NameSet.{Range}
 use Rattle.operations.specs.Operation.{Operation}
@@ -27,16 +28,17 @@ use Rattle.texts.specs.declared.took.Took.{Took}
 use Rattle.texts.specs.declared.took.Took.TheVariants.{Taken}
 use Rattle.machine.specs.SiteTexts.{SiteTexts, InText, IsTextOf}
 use Rattle.machine.specs.Events.{Delivery, Part, Reply, copy, edit_reply, merge, merge_reply, messages_of}
-use Rattle.machine.specs.Events.{query, refuses, settle, settles, stops, take as taking, take_reply, takes}
+use Rattle.machine.specs.Events.{query, refuses, settle, settles, stops, take as taking, take_reply, takes, unpack}
 use Rattle.machine.specs.Machine.{Does, Short, message_in}
 use Rattle.machine.specs.OnTexts.{CopiesText, CopiesTextShort, EditsNames, EditsNamesShort, EditsText, EditsTextShort, MergesText, MergesTextShort}
-use Rattle.machine.specs.OnTexts.{QueriesText, SettlesText, TakesText, TakesTextShort, copied, is_copy_in}
+use Rattle.machine.specs.OnTexts.{QueriesText, SettlesText, TakesText, TakesTextShort, UnpacksText, UnpacksTextShort, copied, is_copy_in}
 use Rattle.machine.specs.State.{AtText, IsTextAt, Refuses, State, Tells}
 use Rattle.machine.specs.Tasks.{EditsAt, EditsShortAt}
 use Rattle.machine.specs.declared.asked.Query.{Query}
 use Rattle.machine_laws.specs.Laws.{AreTexts, HaveOneShape}
 use Rattle.machine_laws.proofs.NamedEdits.{one_named, one_named_short}
 use Rattle.machine_laws.proofs.ShownLines.{one_answer}
+use Rattle.machine_laws.proofs.Unpacking.{unpacks_text, unpacks_text_short}
 
 -- an index has one element
 pub one_element : {A : Type 0} (o : Option A) (x y : A) → o ≡ Some x → o ≡ Some y → x ≡ y
@@ -166,6 +168,12 @@ module _ (edits_so : EditsOneWay) (takes_so : TakesOneWay) (drains_so : DrainsOn
   pub one_take : (i text : ℕ) (d : Delivery) → Does s (taking i text d) part r new → Does s (taking i text d) part r' new'
       → (r ≡ r') × (new ≡ new')
   one_take i text d does does' = taken takes_so s i text (message_in s d) r r' new new' are does.1 does'.1
+
+  pub one_unpack : OneChunk → (i text : ℕ) (chunk : List ℕ) → Does s (unpack i text chunk) part r new
+      → Does s (unpack i text chunk) part r' new' → (r ≡ r') × (new ≡ new')
+  one_unpack one i text chunk does does' =
+      at_text (UnpacksText chunk r) (UnpacksText chunk r') (r ≡ r') s new new' i text [] [] are (λ same. refl)
+      (unpacks_text takes_so one chunk r r') does.1 does'.1
 
   pub one_settling : (i text : ℕ) → Does s (settle i text) part r new → Does s (settle i text) part r' new'
       → (r ≡ r') × (new ≡ new')
@@ -327,6 +335,12 @@ module _ (takes_so : TakesOneWay) (drains_so : DrainsOneWay) (merges_so : Merges
       at_text (TakesTextShort message r) (TakesTextShort message' r') (r ≡ r') s new new' i text [] [] are (λ p. refl)
       (λ t u v is short short'. takes_short takes_so message r r' t u v shape is short
       (subst (λ (x : List ℕ). TakesTextShort x r' t v) same short')) short short'
+
+  pub one_unpack_short : (i text : ℕ) (chunk : List ℕ) → Short s (unpack i text chunk) part r new
+      → Short s (unpack i text chunk) part r' new' → (r ≡ r') × (new ≡ new')
+  one_unpack_short i text chunk short short' =
+      at_text (UnpacksTextShort chunk r) (UnpacksTextShort chunk r') (r ≡ r') s new new' i text [] [] are (λ p. refl)
+      (λ t u v is. unpacks_text_short chunk r r' t u v shape) short.1 short'.1
 
   pub one_settling_short : (i text : ℕ) → Short s (settle i text) part r new → Short s (settle i text) part r' new'
       → (r ≡ r') × (new ≡ new')

@@ -26,6 +26,7 @@ use Rattle.operations.specs.Operation.{Operation}
 use Rattle.operations.specs.Spelling.{spelling}
 use Rattle.texts.specs.Edit.{Edit, anchor_before, insertion, plan, recalling}
 use Rattle.kept_file.specs.KeptFiles.{OneKept}
+use Rattle.chunks.specs.Laws.{OneChunk}
 use Rattle.texts.specs.Taking.{HasTakenAll}
 use Rattle.texts.specs.TextState.{TextState, all_told, empty_text, shown_of, with_room}
 use Rattle.texts.specs.declared.took.Took.TheVariants.{Repeat, Taken, Waits}
@@ -36,7 +37,7 @@ use Rattle.machine.specs.SiteTexts.{SiteTexts, InText, IsTextOf}
 use Rattle.machine.specs.Events.{Event, Part, Reply, Task, arrange, ask, change, click, copy, done, edit, edit_by_names, failed, forget}
 use Rattle.machine.specs.Events.{forgot, found, keep, load, merge, merges, messages_of, not_found, opens, print, prints, insert_at_caret}
 use Rattle.machine.specs.Events.{recall_at_caret, query, refuse, refuses, reopen, search, sends, settle, settles, stops, store}
-use Rattle.machine.specs.Events.{take as taking, takes, unknown, untouched, went_well}
+use Rattle.machine.specs.Events.{take as taking, takes, unknown, unpack, unpacks, unpacks_first, untouched, went_well}
 use Rattle.machine.specs.Machine.{Does, Short}
 use Rattle.machine.specs.State.{AtText, IsDeskAt, IsTextAt, Refuses, State, Tells, with_screen_at}
 use Rattle.machine.specs.Tasks.{AtCaret, BeginsAs, BeginsWith, DoesTask, EditSteps, EditsAt, EditsShortAt, FileBecomes}
@@ -48,7 +49,7 @@ use Rattle.machine.specs.declared.asked.Arrangement.TheVariants.{Close, Move, Op
 use Rattle.machine_laws.proofs.OneOfTexts.{IsPartOfEdit, by_case, in_text, one_copy, one_copy_short, one_edit, one_edit_by_names}
 use Rattle.machine_laws.proofs.OneOfTexts.{one_edit_by_names_short, one_edit_short}
 use Rattle.machine_laws.proofs.OneOfTexts.{one_element, one_merge, one_merge_short, one_query, one_settling}
-use Rattle.machine_laws.proofs.OneOfTexts.{one_settling_short, one_take, one_take_short, lemma_one_text, part_of_edit}
+use Rattle.machine_laws.proofs.OneOfTexts.{one_settling_short, one_take, one_take_short, one_unpack, one_unpack_short, lemma_one_text, part_of_edit}
 use Rattle.machine_laws.proofs.Reopening.{one_begun}
 use Rattle.machine_laws.proofs.Telling.{put_back, told_same}
 use Rattle.machine_laws.specs.Laws.{AreTexts, EachEventHasOneReply, HaveOneShape, HaveTold, IsLoad, MayLoad}
@@ -401,8 +402,8 @@ at_task Of s i col row d d' w w' t t' at at' is is' does =
     (at_desk (λ d w. Of d w t') s i d d' w w' at at' does)
 
 module _ (edits_so : EditsOneWay) (takes_so : TakesOneWay) (drains_so : DrainsOneWay) (merges_so : MergesOneWay)
-    (only : NoOtherRuns) (file_so : OneText) (kept_so : OneKept) (s : State) (are : AreTexts s) (part : Part)
-    (r r' : Reply) (new new' : State) where
+    (only : NoOtherRuns) (file_so : OneText) (kept_so : OneKept) (chunk_so : OneChunk) (s : State) (are : AreTexts s)
+    (part : Part) (r r' : Reply) (new new' : State) where
   one_whole : (e : Event) → Does s e part r new → Does s e part r' new' → AreSame r r' new new'
   one_whole (edit i text e) a b = one_edit edits_so s i text e are r r' new new' a.1 b.1
   one_whole (edit_by_names i text what names) a b = one_edit_by_names s i text what names are r r' new new' a.1 b.1
@@ -410,6 +411,8 @@ module _ (edits_so : EditsOneWay) (takes_so : TakesOneWay) (drains_so : DrainsOn
       one_copy edits_so takes_so drains_so merges_so only s are part r r' new new' i text beg end other pos a b
   one_whole (taking i text d) a b =
       one_take edits_so takes_so drains_so merges_so only s are part r r' new new' i text d a b
+  one_whole (unpack i text chunk) a b =
+      one_unpack edits_so takes_so drains_so merges_so only s are part r r' new new' chunk_so i text chunk a b
   one_whole (settle i text) a b =
       one_settling edits_so takes_so drains_so merges_so only s are part r r' new new' i text a b
   one_whole (merge i text j) a b =
@@ -442,6 +445,7 @@ refusal (sends a) other shape = neither shape
 refusal (takes (Taken a b c)) other shape = neither shape
 refusal (takes Waits) other shape = neither shape
 refusal (takes Repeat) other shape = neither shape
+refusal (unpacks a) other shape = neither shape
 refusal (settles a b c) other shape = neither shape
 refusal (merges a) other shape = neither shape
 refusal (prints a) other shape = neither shape
@@ -451,6 +455,7 @@ refusal not_found other shape = neither shape
 refusal (forgot a) other shape = neither shape
 refusal done other shape = neither shape
 refusal (stops a b c) other shape = neither shape
+refusal (unpacks_first a b) other shape = neither shape
 
 -- a reply that has one shape with a refusal refuses
 refused_first : (r r' : Reply) (why : Refusal) → r' ≡ refuses why → HaveOneShape r r' → IsRefusal r
@@ -569,6 +574,8 @@ module _ (edits_so : EditsOneWay) (takes_so : TakesOneWay) (drains_so : DrainsOn
       one_copy_short takes_so drains_so merges_so s are part r r' new new' shape i text beg end other pos a b
   one_short (taking i text d) told a b =
       one_take_short takes_so drains_so merges_so s are part r r' new new' shape i text d a b
+  one_short (unpack i text chunk) told a b =
+      one_unpack_short takes_so drains_so merges_so s are part r r' new new' shape i text chunk a b
   one_short (settle i text) told a b =
       one_settling_short takes_so drains_so merges_so s are part r r' new new' shape i text a b
   one_short (merge i text j) told a b =
@@ -585,11 +592,11 @@ module _ (edits_so : EditsOneWay) (takes_so : TakesOneWay) (drains_so : DrainsOn
   one_short unknown told a b = absurd a
 
 -- each event has one reply
-pub one_reply : EditsOneWay → TakesOneWay → DrainsOneWay → MergesOneWay → NoOtherRuns → OneText → OneKept
+pub one_reply : EditsOneWay → TakesOneWay → DrainsOneWay → MergesOneWay → NoOtherRuns → OneText → OneKept → OneChunk
     → EachEventHasOneReply
-one_reply edits_so takes_so drains_so merges_so only file_so kept_so s e part are = record {
+one_reply edits_so takes_so drains_so merges_so only file_so kept_so chunk_so s e part are = record {
   whole = λ r r' new new'.
-      one_whole edits_so takes_so drains_so merges_so only file_so kept_so s are part r r' new new' e;
+      one_whole edits_so takes_so drains_so merges_so only file_so kept_so chunk_so s are part r r' new new' e;
   short = λ told r r' new new' a b shape.
       one_short edits_so takes_so drains_so merges_so file_so s are part r r' new new' shape e told a b;
 }

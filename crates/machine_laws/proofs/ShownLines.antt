@@ -12,10 +12,10 @@ use Rattle.texts.proofs.Pasts.{same_pasts}
 use Rattle.tree_order.specs.Laws.{AreSameSet}
 use Rattle.machine_laws.specs.Laws.{AnswerTheSame, IsOfTheSet}
 use Rattle.machine.specs.declared.asked.Query.{Query}
-use Rattle.machine.specs.declared.asked.Query.TheVariants.{Front, Names, Past, WhereShown, Runs, Since, Text}
+use Rattle.machine.specs.declared.asked.Query.TheVariants.{Front, Names, Pack, Past, WhereShown, Runs, Since, Text}
 use Rattle.machine.specs.Events.{Reply, prints, refuses}
 use Rattle.machine.specs.NamesShown.{names_lines}
-use Rattle.machine.specs.Since.{since_lines}
+use Rattle.machine.specs.Since.{pack_lines, since_lines}
 use Rattle.machine.specs.OnTexts.{Prints, QueriesText, is_asked_in}
 use Rattle.machine.specs.WhereShown.{where_lines}
 use Rattle.machine.specs.Printing.{AreRunsOf, front_lines, run_lines, text_lines}
@@ -73,6 +73,9 @@ prints_one only (Past fronts) t u a b alike (past, is, prints_a) (past', is', pr
     prints_a
     ∙ text_lines-shown past past' (same_pasts t u past past' fronts (alike-set (Past fronts) t u alike) is is').shown
     ∙ sym prints_b
+prints_one only (Pack fronts) t u a b (inl same) prints_a prints_b =
+    prints_a ∙ ap (pack_lines fronts) same ∙ sym prints_b
+prints_one only (Pack fronts) t u a b (inr alike) prints_a prints_b = absurd alike.0
 
 -- and its positions lie in both, or in neither
 asked_alike : (q : Query) (t u : TextState) → shown_of t ≡ shown_of u → is_asked_in t q ≡ is_asked_in u q
@@ -83,6 +86,7 @@ asked_alike (WhereShown names) t u same = refl
 asked_alike (Names beg end) t u same = rw same refl
 asked_alike (Since fronts) t u same = refl
 asked_alike (Past fronts) t u same = refl
+asked_alike (Pack fronts) t u same = refl
 
 -- so it is answered in one way
 answers_one : NoOtherRuns → (q : Query) (t u : TextState) (r r' : Reply) (inside : Bool) → PrintAlike q t u

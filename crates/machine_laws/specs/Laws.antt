@@ -28,7 +28,7 @@ use Rattle.machine.specs.State.{IsDeskAt, IsTextAt, State, new_state}
 use Rattle.machine.specs.Tasks.{caret_after, has_begun, lines_of_view}
 use Rattle.machine.specs.Windows.{Caret, Screened, Selected, Window, window_of}
 use Rattle.machine.specs.declared.asked.Query.{Query}
-use Rattle.machine.specs.declared.asked.Query.TheVariants.{Front, Since}
+use Rattle.machine.specs.declared.asked.Query.TheVariants.{Front, Pack, Since}
 use Rattle.machine.specs.declared.asked.View.{View}
 use Rattle.machine.specs.Printing.{waiting_line}
 use Rattle.machine.specs.declared.TheConstants.{MAX_TEXT}
@@ -55,6 +55,7 @@ HaveTold s = (i text : ℕ) (t : TextState) → IsTextAt s i text t → t.asked 
 abbrev pub IsOfTheSet : Query → Type 0
 IsOfTheSet Front = ⊥
 IsOfTheSet (Since fronts) = ⊥
+IsOfTheSet (Pack fronts) = ⊥
 IsOfTheSet q = Unit {0}
 
 -- a query of what is shown is answered the same of two texts, of one run or of two, by its lines or by a refusal
@@ -92,7 +93,8 @@ abbrev pub FrontLinesDetermineFronts : Type 0
 FrontLinesDetermineFronts = (t u : TextState) (lines : List ℕ) → AreNumbered t.operations → AreNumbered u.operations
     → PrintsFronts t lines → PrintsFronts u lines → HaveEqualFronts t.operations u.operations
 
--- what two replies tell of refused memory is one: the same shape, with the same counts
+-- What two replies tell of refused memory is one: the same shape, with the same counts. The counts of an unpacking don't tell to
+-- which of its operations memory was refused, so of it this is said of refusals alone.
 abbrev pub HaveOneShape : Reply → Reply → Type 0
 HaveOneShape (takes (Taken n m stopped)) (takes (Taken n' m' stopped')) = (n ≡ n') × (m ≡ m')
 HaveOneShape (settles n m stopped) (settles n' m' stopped') = (n ≡ n') × (m ≡ m')

@@ -8,6 +8,7 @@ ghost use Rattle.machine_laws.specs.Laws.{EachTaskIsAnswered, FrontsDetermineWha
 ghost use Rattle.machine_laws.specs.Laws.{TheCaretStandsAfterTheLast, TheSameOverAnyFiles, WhatARunReachesIsSound};
 
 use char_files::lemma_runs_are_maximal;
+use chunks::lemma_one_chunk;
 use convergence::outcomes::{
     lemma_drainings_end_one_way, lemma_edits_end_one_way, lemma_merges_end_one_way,
     lemma_takings_end_one_way,
@@ -64,6 +65,7 @@ pub fn each_event_has_one_reply()
     lemma_runs_are_maximal();
     lemma_one_text();
     lemma_one_kept();
+    lemma_one_chunk();
 }
 
 /// A law: an event that asks for no file is answered the same over any files, and leaves them as they are.

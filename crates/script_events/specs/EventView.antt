@@ -2,7 +2,7 @@
 use Rattle.std.specs.Prelude.{ℕ, ◌<◌, ◌≤◌, Option, length, option_map, unwrap_or}
 use Rattle.texts.specs.Edit.{Edit as AskedEdit, deletion, looks_change, recalling, restoration}
 use Rattle.machine.specs.Events.{Delivery as AskedDelivery, Event as AskedEvent, arrange, ask, bytes as by_bytes, click, copy}
-use Rattle.machine.specs.Events.{edit, edit_by_names, keep, merge, print, insert_at_caret, query, reopen, sent, settle, take, unknown}
+use Rattle.machine.specs.Events.{edit, edit_by_names, keep, merge, print, insert_at_caret, query, reopen, sent, settle, take, unknown, unpack}
 use Rattle.machine.specs.declared.TheConstants.{MAX_TEXT}
 use Rattle.machine.specs.declared.asked.Arrangement.{Arrangement}
 use Rattle.machine.specs.declared.asked.Arrangement.TheVariants.{Close, Move, Open, Point, Scroll, Select}
@@ -12,7 +12,7 @@ use Rattle.script_events.specs.declared.event.Edit.{Edit}
 use Rattle.script_events.specs.declared.event.Edit.TheVariants.{TypeIn, Cut, Looks, Recall, Restore}
 use Rattle.script_events.specs.declared.event.Event.{Event}
 use Rattle.script_events.specs.declared.event.Event.TheVariants.{AsksAt, Edits, EditsByNames, Saves, Takes, Settles, Merges, Queries}
-use Rattle.script_events.specs.declared.event.Event.TheVariants.{Arranges, Clicks, Keeps, Keys, Prints, Reopens}
+use Rattle.script_events.specs.declared.event.Event.TheVariants.{Arranges, Clicks, Keeps, Keys, Prints, Reopens, Unpacks}
 use Rattle.script_events.specs.Script.{plain_items, query_at, typing}
 
 -- an edit, with its bytes decoded
@@ -34,6 +34,7 @@ event_of (Edits desk text e) = edit desk text (edit_of e)
 event_of (EditsByNames desk text what names) = edit_by_names desk text what names
 event_of (Saves desk text save) = copy desk text save.beg save.end save.other save.pos
 event_of (Takes desk text d) = take desk text (delivery_of d)
+event_of (Unpacks desk text chunk) = unpack desk text chunk
 event_of (Settles desk text) = settle desk text
 event_of (Merges desk text other) = merge desk text other
 event_of (Queries desk text q) = query desk text q
@@ -64,6 +65,7 @@ IsInRun count (Edits desk text e) = (desk < count) × (text ≤ MAX_TEXT)
 IsInRun count (EditsByNames desk text what names) = (desk < count) × (text ≤ MAX_TEXT)
 IsInRun count (Saves desk text save) = (desk < count) × (text ≤ MAX_TEXT) × (save.other ≤ MAX_TEXT)
 IsInRun count (Takes desk text d) = (desk < count) × (text ≤ MAX_TEXT)
+IsInRun count (Unpacks desk text chunk) = (desk < count) × (text ≤ MAX_TEXT)
 IsInRun count (Settles desk text) = (desk < count) × (text ≤ MAX_TEXT)
 IsInRun count (Merges desk text other) = (desk < count) × (text ≤ MAX_TEXT) × (other < count)
 IsInRun count (Queries desk text q) = (desk < count) × (text ≤ MAX_TEXT)
@@ -94,6 +96,7 @@ IsOfLine len (Edits desk text e) = TypesAtMost len e
 IsOfLine len (EditsByNames desk text what names) = length names ≤ len
 IsOfLine len (Saves desk text save) = Unit {0}
 IsOfLine len (Takes desk text d) = IsWithin len d
+IsOfLine len (Unpacks desk text chunk) = length chunk ≤ len
 IsOfLine len (Settles desk text) = Unit {0}
 IsOfLine len (Merges desk text other) = Unit {0}
 IsOfLine len (Queries desk text q) = Unit {0}

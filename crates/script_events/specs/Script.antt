@@ -15,11 +15,12 @@ use Rattle.kept_file.specs.declared.form.KeptForm.{KeptForm}
 use Rattle.kept_file.specs.declared.form.KeptForm.TheVariants.{Messages, Packed}
 use Rattle.machine.specs.Events.{Delivery, Event, arrange, ask, bytes as by_bytes, click, copy, edit, edit_by_names}
 use Rattle.machine.specs.Events.{keep, merge, print, insert_at_caret, query, reopen, sent as by_number, settle, take as taking, unknown}
+use Rattle.machine.specs.Events.{unpack}
 use Rattle.machine.specs.declared.asked.Arrangement.{Arrangement}
 use Rattle.machine.specs.declared.asked.Arrangement.TheVariants.{Close, Move, Open, Point, Scroll, Select}
 use Rattle.machine.specs.declared.asked.Cell.{Cell}
 use Rattle.machine.specs.declared.asked.Query.{Query}
-use Rattle.machine.specs.declared.asked.Query.TheVariants.{Front, Names, Past, WhereShown, Runs, Since, Text}
+use Rattle.machine.specs.declared.asked.Query.TheVariants.{Front, Names, Pack, Past, WhereShown, Runs, Since, Text}
 use Rattle.machine.specs.declared.asked.View.TheVariants.{Marks, Show, Views}
 use Rattle.texts.specs.declared.by_names.ByNames.{ByNames}
 use Rattle.texts.specs.declared.by_names.ByNames.TheVariants.{Delete, Restore}
@@ -36,9 +37,9 @@ use Rattle.script_events.specs.declared.event.verbs.DeskVerb.TheVariants.{Click,
 use Rattle.script_events.specs.declared.event.verbs.EditVerb.{EditVerb}
 use Rattle.script_events.specs.declared.event.verbs.EditVerb.TheVariants.{Cut, Looks, Recall, TypeIn}
 use Rattle.script_events.specs.declared.event.Side.{Side}
-use Rattle.script_events.specs.declared.event.Side.TheVariants.{Beyond, UpTo}
+use Rattle.script_events.specs.declared.event.Side.TheVariants.{Beyond, Packed, UpTo}
 use Rattle.script_events.specs.declared.event.verbs.LongVerb.{LongVerb}
-use Rattle.script_events.specs.declared.event.verbs.LongVerb.TheVariants.{Merge, Names as NamesOf, Save, Take, Where}
+use Rattle.script_events.specs.declared.event.verbs.LongVerb.TheVariants.{Merge, Names as NamesOf, Save, Take, Unpack, Where}
 use Rattle.script_events.specs.declared.event.verbs.ShortVerb.{ShortVerb}
 use Rattle.script_events.specs.declared.event.verbs.ShortVerb.TheVariants.{Front as FrontOf, Runs as RunsOf, Settle, Text as TextOf}
 use Rattle.script_events.specs.declared.event.verbs.Verb.{Verb}
@@ -249,6 +250,7 @@ edit_in Recall rest = recall_edit rest
 abbrev pub long_event : (first count : ℕ) → LongVerb → (desk text : ℕ) → List ℕ → Option Event
 long_event first count Save desk text rest = save_event desk text rest
 long_event first count Take desk text rest = option_map (λ message. taking desk text message) (delivery_in rest)
+long_event first count Unpack desk text rest = option_map (λ chunk. unpack desk text chunk) (hex_in rest)
 long_event first count Merge desk text rest = merge_event first count desk text rest
 long_event first count Where desk text rest = where_event desk text rest
 long_event first count NamesOf desk text rest = names_event desk text rest
@@ -257,6 +259,7 @@ long_event first count NamesOf desk text rest = names_event desk text rest
 abbrev pub query_at : Side → List SiteFront → Query
 query_at Beyond fronts = Since fronts
 query_at UpTo fronts = Past fronts
+query_at Packed fronts = Pack fronts
 
 -- what a query at fronts goes on with after its text: the fronts
 abbrev pub fronts_event : Side → (desk text : ℕ) → Option (List ℕ) → Option Event
@@ -314,6 +317,7 @@ verbs =
     (codes "delete", Named Delete) ∷
     (codes "save", Long Save) ∷
     (codes "take", Long Take) ∷
+    (codes "unpack", Long Unpack) ∷
     (codes "settle", Short Settle) ∷
     (codes "merge", Long Merge) ∷
     (codes "text", Short TextOf) ∷
@@ -323,6 +327,7 @@ verbs =
     (codes "names", Long NamesOf) ∷
     (codes "since", Fronts Beyond) ∷
     (codes "past", Fronts UpTo) ∷
+    (codes "pack", Fronts Packed) ∷
     (codes "keep", Desk Keep) ∷
     (codes "reopen", Desk Reopen) ∷
     (codes "open", Arrange Opens) ∷

@@ -61,6 +61,12 @@ pub enum Event<'a> {
         text: TextNo,
         message: Delivery<'a>,
     },
+    /// A chunk handed to a desk's text.
+    Unpacks {
+        desk: usize,
+        text: TextNo,
+        chunk: Hex<'a>,
+    },
     /// A draining of what waits for a desk's text.
     Settles {
         desk: usize,
@@ -155,6 +161,8 @@ pub enum Side {
     Beyond,
     /// For its characters as they were, up to them.
     UpTo,
+    /// For chunks of what it has taken in beyond them.
+    Packed,
 }
 
 /// From where to where of a text is copied, into which other one, and to which position there.
@@ -315,6 +323,10 @@ fn long_event<'a>(
                 text,
                 message,
             })
+        }
+        LongVerb::Unpack => {
+            let chunk = Hex::new(rest)?;
+            Some(Event::Unpacks { desk, text, chunk })
         }
         LongVerb::Merge => merge_event(run, desk, text, rest),
         LongVerb::Where => where_event(desk, text, rest),

@@ -6,8 +6,9 @@ use Rattle.looks.specs.declared.refusal.Refusal.{Refusal}
 use Rattle.looks.specs.Refusal.{number_of}
 use Rattle.texts.specs.declared.took.Took.{Took}
 use Rattle.texts.specs.declared.took.Took.TheVariants.{Taken, Repeat, Waits}
+use Rattle.text_chunks.specs.declared.unpacked.Unpacked.{Unpacked}
 use Rattle.machine.specs.Events.{Reply, done, forgot, found, merges, not_found, opens, prints, refuses, sends, settles}
-use Rattle.machine.specs.Events.{stops, takes}
+use Rattle.machine.specs.Events.{stops, takes, unpacks, unpacks_first}
 use Rattle.machine.specs.Printing.{line}
 
 -- the k-th message of the run goes out
@@ -23,20 +24,25 @@ send_lines k (message ∷ messages) = send_line (k + 1) message ++ send_lines (k
 abbrev pub ok_line : List ℕ
 ok_line = line (codes "ok")
 
--- how many that waited were taken in and thrown away, and whether that was stopped
-abbrev pub drained_line : (word : List ℕ) → (drained dropped : ℕ) → (stopped : Bool) → List ℕ
-drained_line word drained dropped stopped =
-    line (word ++ decimal drained ++ 32 ∷ decimal dropped ++ (if stopped then codes " stopped" else []))
+-- two counts after a word, and whether a draining was stopped
+abbrev pub counts_line : (word : List ℕ) → (first second : ℕ) → (stopped : Bool) → List ℕ
+counts_line word first second stopped =
+    line (word ++ decimal first ++ 32 ∷ decimal second ++ (if stopped then codes " stopped" else []))
 
 -- a message was taken in, with how many that waited; or it was held already; or it waits
 abbrev pub took_line : Took → List ℕ
-took_line (Taken drained dropped stopped) = drained_line (codes "taken ") drained dropped stopped
+took_line (Taken drained dropped stopped) = counts_line (codes "taken ") drained dropped stopped
 took_line Repeat = line (codes "repeat")
 took_line Waits = line (codes "waits")
 
+-- a chunk was handed in: how many operations were taken in, how many are known, and how many wait now
+abbrev pub unpacked_line : Unpacked → List ℕ
+unpacked_line counts =
+    codes "unpacked " ++ decimal counts.taken ++ counts_line (codes " ") counts.known counts.waiting counts.stopped
+
 -- the room was drained
 abbrev pub settled_line : (drained dropped : ℕ) → (stopped : Bool) → List ℕ
-settled_line drained dropped stopped = drained_line (codes "settled ") drained dropped stopped
+settled_line drained dropped stopped = counts_line (codes "settled ") drained dropped stopped
 
 -- so many operations of another site were taken in
 abbrev pub merged_line : ℕ → List ℕ
@@ -58,6 +64,7 @@ opened_line viewer = line (codes "viewer " ++ decimal viewer)
 abbrev pub reply_lines : ℕ → Reply → List ℕ
 reply_lines k (sends messages) = send_lines k messages ++ ok_line
 reply_lines k (takes took) = took_line took
+reply_lines k (unpacks counts) = unpacked_line counts
 reply_lines k (settles drained dropped stopped) = settled_line drained dropped stopped
 reply_lines k (merges count) = merged_line count
 reply_lines k (prints lines) = lines
@@ -68,3 +75,4 @@ reply_lines k (forgot count) = line (codes "forgot " ++ decimal count)
 reply_lines k done = ok_line
 reply_lines k (refuses why) = refused_line why
 reply_lines k (stops messages count why) = send_lines k messages ++ partial_line count why
+reply_lines k (unpacks_first count why) = partial_line count why

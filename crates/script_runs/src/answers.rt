@@ -1,11 +1,11 @@
 ghost use Rattle.std.specs.Prelude.{ℕ, ◌≤◌, ◌∷◌, ◌++◌, codes, drop, length};
 ghost use Rattle.std.specs.Fmt.{decimal};
 ghost use Rattle.hex.specs.Hex.{encode_lower};
-ghost use Rattle.machine.specs.Events.{edit_reply, merge_reply, take_reply};
+ghost use Rattle.machine.specs.Events.{edit_reply, merge_reply, take_reply, unpack_reply};
 ghost use Rattle.machine.specs.Printing.{line};
 ghost use Rattle.commands.specs.Steps.{answer_reply, done_reply, open_reply, print_reply};
-ghost use Rattle.script_runs.specs.Answers.{drained_line, refused_line, reply_lines, send_line};
-ghost use Rattle.script_runs.specs.Answers.{send_lines, settled_line};
+ghost use Rattle.script_runs.specs.Answers.{counts_line, refused_line, reply_lines, send_line};
+ghost use Rattle.script_runs.specs.Answers.{send_lines, settled_line, unpacked_line};
 ghost use Rattle.script_runs.specs.Replying.{reply_of};
 ghost use Rattle.script_runs.specs.Writing.{Puts};
 ghost use Rattle.script_runs.specs.declared.answers.TheConstants.{STRETCH};
@@ -15,6 +15,7 @@ use commands::Answer;
 use looks::{OUT_OF_MEMORY, Refusal};
 use script_io::Output;
 use std::io::Write;
+use text_chunks::{UnpackRefusal, Unpacked};
 use texts::{EditRefusal, MergeRefusal, Outbox, Settled, Took};
 
 // How many bytes are written in hex at once.
@@ -136,18 +137,18 @@ fn put_edit<W: Write>(
     }
 }
 
-// Counts of the operations that waited, and whether that ended early, after a word.
-fn put_drained<W: Write>(
+// Two counts after a word, and whether a draining ended early.
+fn put_counts<W: Write>(
     output: &mut Output<W>,
     word: &[u8],
-    drained: u32,
-    dropped: u32,
+    first: u64,
+    second: u64,
     stopped: bool,
 ) -> Result<(), Refusal>
-    ensures { Puts result output.old output.new (drained_line word.now drained dropped stopped) }
+    ensures { Puts result output.old output.new (counts_line word.now first second stopped) }
 {
-    put_numbered(output, word, u64::from(drained))?;
-    put_numbered(output, b" ", u64::from(dropped))?;
+    put_numbered(output, word, first)?;
+    put_numbered(output, b" ", second)?;
     if stopped {
         put(output, b" stopped\n")
     } else {
@@ -169,10 +170,39 @@ fn put_taken<W: Write>(
                 dropped,
                 stopped,
             },
-        ) => put_drained(output, b"taken ", drained, dropped, stopped),
+        ) => put_counts(
+            output,
+            b"taken ",
+            u64::from(drained),
+            u64::from(dropped),
+            stopped,
+        ),
         Ok(Took::Repeat) => put(output, b"repeat\n"),
         Ok(Took::Waits) => put(output, b"waits\n"),
         Err(why) => put_refused(output, why),
+    }
+}
+
+// The line of a chunk of which each operation was handed in.
+#[tactic(auto, using(crate::proofs::WriteLemmas::writes_after, crate::proofs::WriteLemmas::writes_stopped))]
+fn put_unpacked_whole<W: Write>(output: &mut Output<W>, counts: Unpacked) -> Result<(), Refusal>
+    ensures { Puts result output.old output.new (unpacked_line counts) }
+{
+    put_numbered(output, b"unpacked ", counts.taken)?;
+    put_counts(output, b" ", counts.known, counts.waiting, counts.stopped)
+}
+
+// Writes the line of a chunk.
+fn put_unpacked<W: Write>(
+    output: &mut Output<W>,
+    outcome: Result<Unpacked, UnpackRefusal>,
+) -> Result<(), Refusal>
+    ensures { (k : ℕ) → Puts result output.old output.new (reply_lines k (unpack_reply outcome)) }
+{
+    match outcome {
+        Ok(counts) => put_unpacked_whole(output, counts),
+        Err(UnpackRefusal::Whole(why)) => put_refused(output, why),
+        Err(UnpackRefusal::Partial { done, why }) => put_partial(output, done, why.number()),
     }
 }
 
@@ -185,7 +215,13 @@ fn put_settled<W: Write>(output: &mut Output<W>, settled: Settled) -> Result<(),
         dropped,
         stopped,
     } = settled;
-    put_drained(output, b"settled ", drained, dropped, stopped)
+    put_counts(
+        output,
+        b"settled ",
+        u64::from(drained),
+        u64::from(dropped),
+        stopped,
+    )
 }
 
 // Writes the line of a merge.
@@ -271,6 +307,7 @@ pub fn put_reply<W: Write>(
     match reply {
         Reply::Edited(outcome) => put_edit(output, outbox, from, outcome),
         Reply::Taken(outcome) => put_taken(output, outcome),
+        Reply::Unpacked(outcome) => put_unpacked(output, outcome),
         Reply::Settled(settled) => put_settled(output, settled),
         Reply::Merged(outcome) => put_merged(output, outcome),
         Reply::Printed(outcome) => put_printed(output, outcome),

@@ -1,5 +1,6 @@
 use commands::Answer;
 use looks::Refusal;
+use text_chunks::{UnpackRefusal, Unpacked};
 use texts::{EditRefusal, MergeRefusal, Settled, Took};
 
 /// What a run's sites reply to an event: the value of the desk's call. Messages that it sent are in the Outbox.
@@ -9,6 +10,8 @@ pub enum Reply {
     Edited(Result<u32, EditRefusal>),
     /// To a message.
     Taken(Result<Took, Refusal>),
+    /// To a chunk.
+    Unpacked(Result<Unpacked, UnpackRefusal>),
     /// To a settling.
     Settled(Settled),
     /// To a merge, how many operations were taken in.

@@ -1,7 +1,7 @@
 ghost use Rattle.std.specs.Prelude.{◌≡◌, ◌≤◌, ◌<◌, List, ℕ, drop, length, IfOk};
 ghost use Rattle.looks.specs.Refusal.{RefusedForMemoryAlone};
 ghost use Rattle.machine.specs.Events.{copy, edit, edit_by_names, edit_reply, merge, merge_reply, sent, settle, settles, take};
-ghost use Rattle.machine.specs.Events.{query, take_reply};
+ghost use Rattle.machine.specs.Events.{query, take_reply, unpack, unpack_reply};
 ghost use Rattle.machine.specs.State.{new_state};
 ghost use Rattle.shelf.specs.Files.{Files};
 ghost use Rattle.commands.specs.Steps.{print_reply, shelf_seen};
@@ -24,12 +24,15 @@ use commands::Desk;
 use looks::Refusal;
 use machine::{Fronts, MAX_TEXT, Query};
 use operations::NameRange;
-use script_events::{Delivery, Edit, Escaped, Event, FrontWords, NameWords, Save, Side, event_in};
+use script_events::{
+    Delivery, Edit, Escaped, Event, FrontWords, Hex, NameWords, Save, Side, event_in,
+};
 use script_io::{MAX_LINE, Output};
 use shelf::Shelf;
 use std::alloc::Global;
 use std::io::Write;
 use std::marker::Model;
+use text_chunks::{UnpackRefusal, Unpacked};
 use texts::{ByNames, EditRefusal, Front, MergeRefusal, Outbox, Settled, Took};
 
 /// The desks of a run's sites, and the messages that they sent.
@@ -146,6 +149,9 @@ impl Sites {
                 text,
                 message,
             } => Reply::Taken(self.take(desk, text, &message)),
+            Event::Unpacks { desk, text, chunk } => {
+                Reply::Unpacked(self.unpack(desk, text, &chunk))
+            }
             Event::Settles { desk, text } => Reply::Settled(self.settle(desk, text)),
             Event::Merges { desk, text, other } => Reply::Merged(self.merge(desk, text, other)),
             Event::Queries { desk, text, query } => {
@@ -289,6 +295,18 @@ impl Sites {
         self.desks[desk].take(text, message)
     }
 
+    // Hands a chunk to a desk's text.
+    fn unpack(&mut self, desk: usize, text: TextNo, chunk: &Hex) -> Result<Unpacked, UnpackRefusal>
+        requires in_run { desk < length self.old.desks }
+        requires on_desk { text ≤ MAX_TEXT }
+        requires within { length chunk.now ≤ MAX_LINE }
+        ensures { Replied self.old (unpack desk text chunk.now) (unpack_reply result) self.new }
+    {
+        self.bytes.clear();
+        chunk.decode(&mut self.bytes);
+        self.desks[desk].unpack(text, &self.bytes)
+    }
+
     // Prints what a desk's text has on one side of some fronts.
     fn query_at(
         &mut self,
@@ -309,6 +327,7 @@ impl Sites {
         let asked = match side {
             Side::Beyond => Query::Since(fronts),
             Side::UpTo => Query::Past(fronts),
+            Side::Packed => Query::Pack(fronts),
         };
         self.desks[desk].query(text, asked)
     }

@@ -88,8 +88,8 @@ parted (x ∷ xs) ys t new (took, next, takes, others) =
 
 -- ---- an operation and its message
 
-message_of_op : (t new : TextState) (op : Operation) (took : Took) → HasSpelling op → TakesOp t op (Ok took) new
-    → Takes t (spelling op) (Ok took) new
+pub message_of_op : (t new : TextState) (op : Operation) (took : Result Took Refusal) → HasSpelling op → TakesOp t op took new
+    → Takes t (spelling op) took new
 message_of_op t new op took spelled (fate, has, becomes) =
     inr (op, fate, record { valid = spelled; spelled = refl }, has, becomes)
 
@@ -116,7 +116,7 @@ take_messages [] done c all t new spelled last = last.2
 take_messages (op ∷ ops) done c all t new spelled (false, Ok how, mid, takes, rest) = (
   how,
   mid,
-  message_of_op t mid op how (All-head HasSpelling op ops spelled) takes,
+  message_of_op t mid op (Ok how) (All-head HasSpelling op ops spelled) takes,
   take_messages ops (done + 1) (counted c t mid how) all mid new (All-tail HasSpelling op ops spelled) rest,
 )
 take_messages (op ∷ ops) done c all t new spelled (true, Ok how, mid, takes, rest) =

@@ -48,6 +48,7 @@ pub(crate) enum EditVerb {
 pub(crate) enum LongVerb {
     Save,
     Take,
+    Unpack,
     Merge,
     Where,
     Names,
@@ -72,7 +73,7 @@ pub(crate) enum DeskVerb {
 }
 
 // The verbs: a row for each.
-const VERBS: [(&[u8], Verb); 30] = [
+const VERBS: [(&[u8], Verb); 32] = [
     (b"type", Verb::Edit(EditVerb::TypeIn)),
     (b"cut", Verb::Edit(EditVerb::Cut)),
     (b"looks", Verb::Edit(EditVerb::Looks)),
@@ -81,6 +82,7 @@ const VERBS: [(&[u8], Verb); 30] = [
     (b"delete", Verb::ByNames(ByNames::Delete)),
     (b"save", Verb::Long(LongVerb::Save)),
     (b"take", Verb::Long(LongVerb::Take)),
+    (b"unpack", Verb::Long(LongVerb::Unpack)),
     (b"settle", Verb::Short(ShortVerb::Settle)),
     (b"merge", Verb::Long(LongVerb::Merge)),
     (b"text", Verb::Short(ShortVerb::Text)),
@@ -90,6 +92,7 @@ const VERBS: [(&[u8], Verb); 30] = [
     (b"names", Verb::Long(LongVerb::Names)),
     (b"since", Verb::Fronts(Side::Beyond)),
     (b"past", Verb::Fronts(Side::UpTo)),
+    (b"pack", Verb::Fronts(Side::Packed)),
     (b"keep", Verb::Desk(DeskVerb::Keep)),
     (b"reopen", Verb::Desk(DeskVerb::Reopen)),
     (b"open", Verb::Arrange(ArrangeVerb::Open)),

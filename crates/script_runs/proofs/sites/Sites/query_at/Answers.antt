@@ -1,13 +1,13 @@
 use Rattle.std.proofs.Common.{◌≡◌, ◌++◌, List, ap, ◌∙◌}
 use Rattle.texts.specs.declared.front.Front.{Front}
 use Rattle.machine.specs.Events.{query}
-use Rattle.machine.specs.declared.asked.Query.TheVariants.{Past, Since}
+use Rattle.machine.specs.declared.asked.Query.TheVariants.{Pack, Past, Since}
 use Rattle.commands.specs.Steps.{print_reply}
 use Rattle.script_events.specs.Script.{query_at}
 use Rattle.script_runs.specs.Seen.{SitesSeen}
 use Rattle.script_runs.proofs.Standing.{desk_read, replied_same}
 use Rattle.script_runs.proofs.sites.Sites.query_at.Goals as goal
-use Rattle.script_runs.proofs.sites.Sites.query_at.Goals.{in-Beyond, in-UpTo}
+use Rattle.script_runs.proofs.sites.Sites.query_at.Goals.{in-Beyond, in-Packed, in-UpTo}
 
 pub returns : goal.returns
 returns c =
@@ -20,6 +20,7 @@ returns c =
     let asked : c.match-side.asked ≡ query_at c.args.side fronts = elim c.match-side.branch [
       | in-Beyond w ↦ rw w.in-Beyond.is (w.asked-is ∙ ap Since decoded)
       | in-UpTo w ↦ rw w.in-UpTo.is (w.asked-is ∙ ap Past decoded)
+      | in-Packed w ↦ rw w.in-Packed.is (w.asked-is ∙ ap Pack decoded)
     ] in
     let step = rw asked at c.query.ensures.step in
     rw (← c.self.view_is)

@@ -1,6 +1,6 @@
 use Rattle.std.proofs.Common.{length, drop}
 use Rattle.machine.specs.Events.{arrange, ask, click, copy, edit, edit_by_names, keep, merge, merge_reply, print, insert_at_caret, query, reopen, settle}
-use Rattle.machine.specs.Events.{settles, take, take_reply}
+use Rattle.machine.specs.Events.{settles, take, take_reply, unpack, unpack_reply}
 use Rattle.commands.specs.Steps.{print_reply, shelf_seen}
 use Rattle.script_events.specs.EventView.{delivery_of, edit_of}
 use Rattle.script_events.specs.Script.{plain_items, query_at}
@@ -38,6 +38,13 @@ returns-in-Takes g c =
     let new = c.take.new.self in
     let asked = take c.in-Takes.desk c.in-Takes.text (delivery_of c.in-Takes.message) in
     rw c.in-Takes.is (stepped_over (shelf_seen (g.S.Shelf.files c.args.shelf.now) (g.S.Shelf.faults c.args.shelf.now)) s new asked _ (other_step s new asked (take_reply c.take.result) c.take.ensures))
+
+pub returns-in-Unpacks : goal.returns-in-Unpacks
+returns-in-Unpacks g c =
+    let s = c.args.self.now in
+    let new = c.unpack.new.self in
+    let asked = unpack c.in-Unpacks.desk c.in-Unpacks.text c.in-Unpacks.chunk in
+    rw c.in-Unpacks.is (stepped_over (shelf_seen (g.S.Shelf.files c.args.shelf.now) (g.S.Shelf.faults c.args.shelf.now)) s new asked _ (other_step s new asked (unpack_reply c.unpack.result) c.unpack.ensures))
 
 pub returns-in-Settles : goal.returns-in-Settles
 returns-in-Settles g c =
