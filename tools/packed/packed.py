@@ -67,9 +67,10 @@ FIRST = Expected()
 
 
 class Known:
-    """What the operations before one let expect of it."""
+    """What the operations before one let expect of it, and which bytes are codes."""
 
-    def __init__(self) -> None:
+    def __init__(self, codes: frozenset[int] = CODES) -> None:
+        self.codes = codes
         self.sites: dict[int, Expected] = {}
         # The site of the operation before; 0 where there is none.
         self.last = 0
@@ -77,9 +78,13 @@ class Known:
     def expected(self, site: int) -> Expected:
         return self.sites.get(site, FIRST)
 
+    def note(self, site: int, expected: Expected) -> None:
+        """This is expected of a site, which came last."""
+        self.sites[site] = expected
+        self.last = site
+
     def take(self, operation: Operation) -> None:
-        self.sites[operation.site] = self.expected(operation.site).after(operation)
-        self.last = operation.site
+        self.note(operation.site, self.expected(operation.site).after(operation))
 
 
 # Writing.
@@ -126,10 +131,10 @@ def spelled_place(place: Cause, caret: Cause) -> bytes:
     return bytes([NEAR]) + spelled_difference(place.offset - caret.offset)
 
 
-def spelled_bytes(data: bytes) -> bytes:
+def spelled_bytes(data: bytes, codes: frozenset[int]) -> bytes:
     if len(data) > 1:
         return bytes([INSERT_LONG]) + spelled_number(len(data) - 2) + data
-    return bytes([INSERT_CODE]) + data if data[0] in CODES else data
+    return bytes([INSERT_CODE]) + data if data[0] in codes else data
 
 
 def one_character(ranges: Ranges) -> Cause:
@@ -137,11 +142,11 @@ def one_character(ranges: Ranges) -> Cause:
     return Name(ranges[0].site, ranges[0].at) if len(ranges) == 1 and ranges[0].length == 1 else None
 
 
-def spelled_kind(kind: Kind, expected: Expected) -> bytes:
+def spelled_kind(kind: Kind, expected: Expected, codes: frozenset[int]) -> bytes:
     if isinstance(kind, Insert):
         need(kind.at == expected.at, "an Insert begins elsewhere than its site's file ends")
         looks = b"" if kind.looks == expected.looks else bytes([NEW_LOOKS]) + kind.looks
-        return looks + spelled_place(kind.cause, expected.caret) + spelled_bytes(kind.data)
+        return looks + spelled_place(kind.cause, expected.caret) + spelled_bytes(kind.data, codes)
     if isinstance(kind, ChangeLooks):
         return bytes([CHANGE]) + kind.values + spelled_set(kind.ranges)
     if isinstance(kind, Restore):
@@ -151,15 +156,21 @@ def spelled_kind(kind: Kind, expected: Expected) -> bytes:
     return bytes([DELETE_SET]) + spelled_set(kind.ranges)
 
 
+def spelled_operation(operation: Operation, known: Known) -> bytes:
+    """What the next operation of its site adds."""
+    expected = known.expected(operation.site)
+    need(operation.seq == expected.seq, "a message isn't the next of its site")
+    return spelled_stamp(operation, known) + spelled_kind(operation.kind, expected, known.codes)
+
+
 def parts(messages: Sequence[bytes]) -> Iterator[bytes]:
     """What each message adds to the history of messages of one text, each the next of its site; others are refused."""
     known, text = Known(), 0
     for message in messages:
         operation = read_message(message)
         need(text in (0, operation.text), "the messages are of several texts")
-        text, expected = operation.text, known.expected(operation.site)
-        need(operation.seq == expected.seq, "a message isn't the next of its site")
-        yield spelled_stamp(operation, known) + spelled_kind(operation.kind, expected)
+        text = operation.text
+        yield spelled_operation(operation, known)
         known.take(operation)
 
 
@@ -230,11 +241,11 @@ def read_near(cursor: Cursor, caret: Cause) -> Cause:
     return Name(caret.site, caret.offset + difference)
 
 
-def read_bytes(cursor: Cursor, code: int) -> bytes:
+def read_bytes(cursor: Cursor, code: int, codes: frozenset[int]) -> bytes:
     if code == INSERT_LONG:
         return cursor.take(read_number(cursor) + 2)
     data = cursor.take(1) if code == INSERT_CODE else bytes([code])
-    need((data[0] in CODES) == (code == INSERT_CODE), "a byte is spelled as another is, or a code stands where none may")
+    need((data[0] in codes) == (code == INSERT_CODE), "a byte is spelled as another is, or a code stands where none may")
     return data
 
 
@@ -251,7 +262,7 @@ def read_without_place(cursor: Cursor, code: int) -> Kind:
     return Restore(read_set(cursor)) if code == RESTORE else read_delete_set(cursor)
 
 
-def read_kind(cursor: Cursor, expected: Expected) -> Kind:
+def read_kind(cursor: Cursor, expected: Expected, codes: frozenset[int]) -> Kind:
     begin, looks, place = cursor.at, expected.looks, expected.caret
     if cursor.passes(NEW_LOOKS):
         looks = read_looks(cursor)
@@ -269,7 +280,17 @@ def read_kind(cursor: Cursor, expected: Expected) -> Kind:
         if place is None:
             raise Refused("the root is no character")
         return Delete((Range(place.site, place.offset, 1),))
-    return Insert(place, expected.at, looks, read_bytes(cursor, code))
+    return Insert(place, expected.at, looks, read_bytes(cursor, code, codes))
+
+
+def read_operation(cursor: Cursor, text: int, known: Known) -> Operation:
+    """The next operation, which is known then."""
+    site, more = read_site_and_more(cursor, known.last)
+    expected = known.expected(site)
+    kind = read_kind(cursor, expected, known.codes)
+    operation = check(Operation(text, site, expected.seq, expected.stamp + more, kind))
+    known.take(operation)
+    return operation
 
 
 def operations(data: bytes, text: int) -> Iterator[Operation]:
@@ -277,11 +298,7 @@ def operations(data: bytes, text: int) -> Iterator[Operation]:
     need(1 <= text <= MAX_TEXT, "a text is 1 to 65535")
     cursor, known = Cursor(data), Known()
     while cursor.left:
-        site, more = read_site_and_more(cursor, known.last)
-        expected = known.expected(site)
-        operation = check(Operation(text, site, expected.seq, expected.stamp + more, read_kind(cursor, expected)))
-        known.take(operation)
-        yield operation
+        yield read_operation(cursor, text, known)
 
 
 def unpack(data: bytes, text: int) -> list[bytes]:

@@ -1,4 +1,4 @@
-"""Tests of packed histories: lists.txt both ways, lists drawn at random, changed bytes, and all short strings.
+"""Tests of packed histories: lists.txt both ways, lists drawn at random, changed bytes, and all short strings; and of chunks.
 
 `python3 -B -m tools.packed.tests` ends with the line 'N passed, M failed'."""
 from __future__ import annotations
@@ -333,7 +333,7 @@ class Files(Packed):
 
 
 def main() -> int:
-    result = unittest.TextTestRunner().run(unittest.defaultTestLoader.loadTestsFromName("tools.packed.tests"))
+    result = unittest.TextTestRunner().run(unittest.defaultTestLoader.loadTestsFromNames(["tools.packed.tests", "tools.packed.chunk_tests"]))
     failed = len({str(test) for test, _ in [*result.failures, *result.errors]})
     print(f"{result.testsRun - failed} passed, {failed} failed")
     return 1 if failed or not result.testsRun else 0
