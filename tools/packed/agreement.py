@@ -1,96 +1,38 @@
 """Holds the program's packed files to what tools/packed reads and writes, over texts that were written at random.
 
-Of each site's text the program keeps a packed file and prints the messages: one has to be what the other is packed as. Then the
-file is cut and changed, and reopened: the program has to take the files that are read here, and no others, and has to have
-the operations that were read."""
+Of each site's text the program keeps a packed file and prints the messages and the chunks: each has to be what the others are
+packed as. Then the file is cut and changed, and reopened: the program has to take the files that are read here, and no others,
+and has to have the operations that were read. Chunks of these operations, some of them changed, and messages are handed to
+sites: the program has to answer what is worked out here."""
 from __future__ import annotations
 
 import argparse
 import random
 import sys
-import tempfile
 from collections import Counter
 from collections.abc import Iterator, Sequence
-from dataclasses import dataclass, field
 from pathlib import Path
-from typing import NamedTuple
 
+from tools.packed.chunks import pack as chunks_of
 from tools.packed.cursor import Refused
 from tools.packed.events import NO_CODES, TEXTS, Draw
 from tools.packed.files import head, read_file
 from tools.packed.messages import Operation, read_message, spelled_message
 from tools.packed.packed import CODES, DEFAULT_LOOKS, pack, parts, spelled_number
+from tools.packed.runs import SITES, Fault, Kept, Program, Tally, kept_by
+from tools.packed.unpacking import unpack
 from tools.play_rows import NOTHING_BUILT, program
-from tools.refusals.asking import Answer, answers_in
-from tools.refusals.scripts import DEFAULT_HEIGHT
 from tools.rows import difference
-from tools.running import Files, folder_in_memory, lay, run
+from tools.running import Files, folder_in_memory
 
 SEEDS = range(1, 41)
 # How many other files are made of one, where not said.
 OTHERS = 100
-SITES = 8
 # So many files can be good in one script, and one text is left.
 AT_ONCE = SITES * TEXTS - 1
+# How many files are made for one text that is handed chunks.
+FILES_A_TEXT = 4
 HEAD = len(head(1, 1))
-
-
-class Fault(Exception):
-    """Something that isn't as it has to be."""
-
-
-@dataclass
-class Tally:
-    """What was compared."""
-
-    operations: Counter[str] = field(default_factory=Counter)
-    answers: Counter[str] = field(default_factory=Counter)
-
-    def __str__(self) -> str:
-        return ", ".join(f"{count} {name}" for counts in (self.operations, self.answers) for name, count in sorted(counts.items()))
-
-
-class Kept(NamedTuple):
-    """What a site kept in both forms, and the messages that it printed."""
-
-    text: int
-    site: int
-    packed: bytes
-    plain: bytes
-    messages: list[bytes]
-
-
-class Program:
-    """The program, in a folder of its own for each script."""
-
-    def __init__(self, command: str, room: Path) -> None:
-        self.command, self.room = command, room
-
-    def play(self, lines: Sequence[str], files: Files) -> tuple[bytes, Files]:
-        script = "".join(f"{line}\n" for line in lines).encode()
-        with tempfile.TemporaryDirectory(dir=self.room) as folder:
-            lay(files, Path(folder))
-            ended = run([self.command, "--count", str(SITES)], script, Path(folder))
-        if ended.status != 0 or ended.complained:
-            raise Fault(f"it ended with {ended.status}: {ended.complained.decode(errors='replace')}")
-        return ended.wrote, ended.files
-
-    def answers(self, lines: Sequence[str]) -> tuple[list[Answer], Files]:
-        wrote, files = self.play(lines, {})
-        answers = answers_in(lines, DEFAULT_HEIGHT, wrote)
-        if answers is None:
-            raise Fault("what was written isn't the script's answers")
-        return answers, files
-
-
-def kept_by(runs: Program, draw: Draw) -> Iterator[Kept]:
-    """What each site has at the end of a script."""
-    asked = [f"{site} {verb}" for site in draw.sites for verb in (f"keep {draw.text} p{site} packed", f"keep {draw.text} s{site}")]
-    since = [f"{site} since {draw.text}" for site in draw.sites]
-    answers, files = runs.answers([*draw.lines, *asked, *since])
-    for site, answer in zip(draw.sites, answers[-len(since) :]):
-        messages = [bytes.fromhex(line.removeprefix("message ")) for line in answer[:-1]]
-        yield Kept(draw.text, site, files[f"p{site}"], files[f"s{site}"], messages)
 
 
 def site_file(text: int, site: int, messages: Sequence[bytes]) -> bytes:
@@ -108,6 +50,10 @@ def compare(kept: Kept, tally: Tally) -> None:
         raise Fault(f"the messages of site {kept.site} are packed as other bytes than {kept.packed.hex()}")
     if site_file(kept.text, kept.site, kept.messages) != kept.plain:
         raise Fault(f"the messages of site {kept.site} are kept as {kept.plain.hex()}")
+    if chunks_of(kept.text, read.operations) != kept.chunks or chunks_of(kept.text, read.operations, kept.fronts) != kept.beyond:
+        told = [[each.hex() for each in chunks] for chunks in (kept.chunks, kept.beyond)]
+        raise Fault(f"what site {kept.site} has, and what beyond {kept.fronts}, is packed as {told}")
+    tally.answers["chunks printed"] += len(kept.chunks) + len(kept.beyond)
     tally.operations.update(f"of {type(operation.kind).__name__}" for operation in read.operations)
 
 
@@ -221,6 +167,7 @@ def play(runs: Program, seed: int, most: int, tally: Tally) -> str:
         histories = others(one, rng, most)
         for at in range(0, len(histories), AT_ONCE):
             reopen(one, histories[at : at + AT_ONCE], runs, rng, tally)
+        unpack(rng.choice(kept), -(-most // FILES_A_TEXT), runs, rng, tally)
     except (Fault, Refused) as why:
         return "\n".join([*draw.lines, f"{why}"])
     return ""

@@ -115,5 +115,5 @@ def drawn_list(seed: int, count: int) -> tuple[int, list[bytes]]:
 def changed(data: bytes, rng: random.Random) -> bytes:
     """The bytes with one other, one more or one less, or without their end."""
     at = rng.randrange(len(data))
-    other = bytes([rng.choice([*CODES, 0, 97, 127, 128, 255, data[at] ^ 1, data[at] ^ 128])])
+    other = bytes([rng.choice([*CODES, 0, 15, 97, 127, 128, 255, data[at] ^ 1, data[at] ^ 128])])
     return rng.choice([data[:at] + other + data[at + 1 :], data[:at] + other + data[at:], data[:at] + data[at + 1 :], data[:at]])

@@ -33,6 +33,11 @@ class Draw:
         self.sent = 0
         for _ in range(self.rng.randint(0, MOST_STEPS)):
             self.step(self.rng.choice(self.sites))
+        self.fronts = {site: self.some_fronts() for site in self.sites}
+
+    def some_fronts(self) -> dict[int, int]:
+        """Up to which operations of some sites a site may hold; it may be less."""
+        return {site: self.rng.choice([0, 1, 2, 5, 9, 20]) for site in self.sites if self.rng.random() < 0.7}
 
     def add(self, site: int, verb: str, *words: object) -> None:
         self.lines.append(" ".join(map(str, (site, verb, self.text, *words))))

@@ -3,7 +3,7 @@ from __future__ import annotations
 
 from collections.abc import Sequence
 
-QUERIES = {"text", "runs", "front", "where", "names", "since", "past", "views", "marks", "show"}
+QUERIES = {"text", "runs", "front", "where", "names", "since", "past", "pack", "views", "marks", "show"}
 EDITS = {"type", "cut", "looks", "recall", "restore", "delete", "save", "key", "click"}
 # Events whose line names no text after its verb.
 OF_THE_SCREEN = {"close", "move", "scroll", "point", "select", "key", "views", "marks", "show", "click"}
@@ -14,6 +14,7 @@ FOLLOWED = {
     "where": "shown ",
     "names": "name ",
     "since": "message ",
+    "pack": "chunk ",
     "views": "viewer ",
     **dict.fromkeys(EDITS, "send "),
 }
