@@ -1,1 +1,1 @@
-"""Reads and writes packed histories apart from the program, by docs/FORMATS.md alone."""
+"""Reads and writes packed histories and chunks apart from the program, by docs/FORMATS.md alone."""

@@ -1,4 +1,4 @@
-"""Holds the program's packed files to what tools/packed reads and writes, over texts that were written at random.
+"""Holds the program's packed files and chunks to what tools/packed reads and writes, over texts that were written at random.
 
 Of each site's text the program keeps a packed file and prints the messages and the chunks: each has to be what the others are
 packed as. Then the file is cut and changed, and reopened: the program has to take the files that are read here, and no others,
@@ -10,17 +10,18 @@ import argparse
 import random
 import sys
 from collections import Counter
-from collections.abc import Iterator, Sequence
+from collections.abc import Callable, Iterator, Sequence
+from functools import partial
 from pathlib import Path
 
 from tools.packed.chunks import pack as chunks_of
 from tools.packed.cursor import Refused
-from tools.packed.events import NO_CODES, TEXTS, Draw
+from tools.packed.events import NO_CODES, TEXTS, Draw, Pasted, Script
 from tools.packed.files import head, read_file
 from tools.packed.messages import Operation, read_message, spelled_message
 from tools.packed.packed import CODES, DEFAULT_LOOKS, pack, parts, spelled_number
 from tools.packed.runs import SITES, Fault, Kept, Program, Tally, kept_by
-from tools.packed.unpacking import unpack
+from tools.packed.unpacking import unpack, unpack_all
 from tools.play_rows import NOTHING_BUILT, program
 from tools.rows import difference
 from tools.running import Files, folder_in_memory
@@ -156,13 +157,28 @@ def reopen(kept: Kept, histories: Sequence[bytes], runs: Program, rng: random.Ra
     tally.answers += reopening.answers
 
 
+def compared(runs: Program, script: Script, tally: Tally) -> list[Kept]:
+    """What the sites of a script have, where all of it agrees."""
+    kept = [*kept_by(runs, script)]
+    for each in kept:
+        compare(each, tally)
+    return kept
+
+
+def play_pasted(runs: Program, tally: Tally) -> str:
+    """What is wrong with a text of many chunks."""
+    try:
+        unpack_all(compared(runs, Pasted(), tally)[0], runs, tally)
+    except (Fault, Refused) as why:
+        return f"{why}"
+    return ""
+
+
 def play(runs: Program, seed: int, most: int, tally: Tally) -> str:
     """What is wrong with a seed's texts, and the script that made them; nothing where all is well."""
     draw, rng = Draw(seed), random.Random(f"others {seed}")
     try:
-        kept = [*kept_by(runs, draw)]
-        for each in kept:
-            compare(each, tally)
+        kept = compared(runs, draw, tally)
         one = rng.choice(kept)
         histories = others(one, rng, most)
         for at in range(0, len(histories), AT_ONCE):
@@ -185,12 +201,15 @@ def main(words: Sequence[str]) -> int:
     if command is None:
         print(f"agreement: {NOTHING_BUILT}", file=sys.stderr)
         return 2
-    seeds, tally, failed = given.seeds or SEEDS, Tally(), 0
+    tally, failed = Tally(), 0
     with folder_in_memory("agreement-") as room:
-        for seed in seeds:
-            if wrong := play(Program(command, Path(room)), seed, given.others, tally):
+        runs = Program(command, Path(room))
+        plays: dict[str, Callable[[], str]] = {"what is pasted": partial(play_pasted, runs, tally)} if not given.seeds else {}
+        plays |= {f"seed {seed}": partial(play, runs, seed, given.others, tally) for seed in given.seeds or SEEDS}
+        for name, one in plays.items():
+            if wrong := one():
                 failed += 1
-                print(f"seed {seed}:\n{wrong}")
+                print(f"{name}:\n{wrong}")
     print(tally)
-    print(f"{len(seeds) - failed} passed, {failed} failed")
+    print(f"{len(plays) - failed} passed, {failed} failed")
     return 1 if failed else 0

@@ -11,6 +11,7 @@ LETTERS = b"abcdefghijklmnopqrstuvwxyz \r"
 # Bytes that no code is, among those that are.
 NO_CODES = b"\0\t\n\r\x0f"
 LOOKS = ("font=A", "font=Mono.Fnt", "colour=0", "colour=15", "offset=-128", "colour=2 offset=-1", "font=B.9 colour=3 offset=127")
+PASTES, PASTE = 300, 4096
 # How many bytes are typed at once, where they are more than a few.
 LONG = (127, 128, 129, 130, 131) * 4 + (4095, 4096, 4097)
 
@@ -20,7 +21,25 @@ def spelled(data: bytes) -> str:
     return "".join(chr(byte) if 0x20 <= byte <= 0x7E and byte != 0x5C else f"\\{byte:02x}" for byte in data)
 
 
-class Draw:
+class Script:
+    """Events of some sites in a text; and up to which operations of which sites each of them is asked for less than all."""
+
+    sites: range
+    text: int
+    lines: list[str]
+    fronts: dict[int, dict[int, int]]
+
+
+class Pasted(Script):
+    """A site pastes more than many chunks have room for."""
+
+    def __init__(self) -> None:
+        self.sites, self.text = range(1, 2), 1
+        self.lines = [f"1 type 1 0 {LETTERS[at % 26 : at % 26 + 1].decode() * PASTE}" for at in range(PASTES)]
+        self.fronts = {1: {1: PASTES - 4}}
+
+
+class Draw(Script):
     """A script as it is drawn. What a site shows, and which messages were sent, is guessed: an event may be refused."""
 
     def __init__(self, seed: int) -> None:

@@ -9,7 +9,7 @@ from dataclasses import dataclass, field
 from pathlib import Path
 from typing import NamedTuple
 
-from tools.packed.events import Draw
+from tools.packed.events import Script
 from tools.refusals.asking import Answer, answers_in
 from tools.refusals.scripts import DEFAULT_HEIGHT
 from tools.running import Files, lay, run
@@ -74,29 +74,29 @@ def printed(answer: Answer, word: str) -> list[bytes]:
     return [bytes.fromhex(line.removeprefix(word)) for line in answer[:-1]]
 
 
-def asked_of(draw: Draw, site: int) -> list[str]:
+def asked_of(script: Script, site: int) -> list[str]:
     """What is asked of a site at the end of a script."""
-    fronts = "".join(f" {of} {seq}" for of, seq in draw.fronts[site].items())
+    fronts = "".join(f" {of} {seq}" for of, seq in script.fronts[site].items())
     verbs = ("keep", "keep", "text", "since", "pack", "pack")
     more = (f" p{site} packed", f" s{site}", "", "", "", fronts)
-    return [f"{site} {verb} {draw.text}{words}" for verb, words in zip(verbs, more)]
+    return [f"{site} {verb} {script.text}{words}" for verb, words in zip(verbs, more)]
 
 
-def kept_by(runs: Program, draw: Draw) -> Iterator[Kept]:
+def kept_by(runs: Program, script: Script) -> Iterator[Kept]:
     """What each site has at the end of a script."""
-    asked = [line for site in draw.sites for line in asked_of(draw, site)]
-    answers, files = runs.answers([*draw.lines, *asked])
-    told = iter(answers[len(draw.lines) :])
-    for site in draw.sites:
+    asked = [line for site in script.sites for line in asked_of(script, site)]
+    answers, files = runs.answers([*script.lines, *asked])
+    told = iter(answers[len(script.lines) :])
+    for site in script.sites:
         _, _, shown, messages, chunks, beyond = itertools.islice(told, 6)
         yield Kept(
-            draw.text,
+            script.text,
             site,
             files[f"p{site}"],
             files[f"s{site}"],
             shown[0],
             printed(messages, "message "),
             printed(chunks, "chunk "),
-            draw.fronts[site],
+            script.fronts[site],
             printed(beyond, "chunk "),
         )

@@ -3,7 +3,7 @@ from __future__ import annotations
 
 import random
 from collections import Counter
-from collections.abc import Callable, Iterator, Sequence
+from collections.abc import Callable, Iterable, Iterator, Sequence
 from dataclasses import replace
 from functools import partial
 
@@ -170,13 +170,27 @@ def handed(kept: Kept, most: int, rng: random.Random) -> Iterator[Site]:
         yield site
 
 
-def unpack(kept: Kept, most: int, runs: Program, rng: random.Random, tally: Tally) -> None:
-    """Hands what a site has to so many others."""
+def hold(sites: Iterable[Site], runs: Program, tally: Tally) -> None:
+    """Holds the program to what sites are to answer."""
     lines, wanted = [], []
-    for site in handed(kept, most, rng):
+    for site in sites:
         lines += site.lines
         wanted += site.wanted
         tally.answers += site.answers
     wrote, _ = runs.play(lines, {})
     if found := difference("the output", wrote, "".join(f"{line}\n" for line in wanted).encode()):
         raise Fault("\n".join([*found, *lines]))
+
+
+def unpack(kept: Kept, most: int, runs: Program, rng: random.Random, tally: Tally) -> None:
+    """Hands what a site has to so many others."""
+    hold(handed(kept, most, rng), runs, tally)
+
+
+def unpack_all(kept: Kept, runs: Program, tally: Tally) -> None:
+    """Hands a site's chunks to another one, which shows the same then."""
+    site = Site(SITES, kept.text)
+    for chunk in kept.chunks:
+        site.unpack(chunk)
+    site.ask(kept.shown)
+    hold([site], runs, tally)
