@@ -3,7 +3,7 @@ from __future__ import annotations
 
 from tools import ROWS
 from tools.faults.judging import BESIDE
-from tools.refusals.scripts import LONGEST_INSERT, Script, events, row
+from tools.refusals.scripts import LONGEST_INSERT, Script, chunk, events, row
 from tools.running import Files, files_below
 
 SITE_FILE_TAG, PACKED_FILE_TAG = b"OTS1", b"OTP1"
@@ -57,6 +57,11 @@ def of_site_files() -> list[Script]:
             "1 reopen 1 s.otp; 1 type 1 0 X; 1 keep 1 s.otp packed; 1 cut 1 0 1; 1 keep 1 t packed; 2 merge 1 1; 2 keep 1 t packed;"
             "2 reopen 2 t; 2 keep 1 t; 1 keep 1 t packed",
             files=packed,
+        ),
+        events(
+            "unpack-and-keep",
+            f"1 type 1 0 abc; 1 pack 1; 2 unpack 1 {chunk('0f01010100 06 01 616263')}; 2 keep 1 t packed; 2 type 1 3 x; 2 pack 1 1 1;"
+            f"2 keep 1 t packed; 1 unpack 1 {chunk('0f02010200 05 01 02 78')}; 1 keep 1 s; 1 pack 1",
         ),
         events("both-forms", "1 type 1 0 abc; 1 keep 1 s packed; 1 keep 1 s; 1 keep 1 s packed; 1 keep 2 s; 1 reopen 2 s"),
         events("among-leftovers", "1 type 1 0 abc; 1 keep 1 s; 2 reopen 1 s; 1 keep 1 s", files=left(3)),

@@ -4,6 +4,7 @@ from __future__ import annotations
 import re
 from collections.abc import Callable, Sequence
 
+from tools.packed.chunks import chunk_of, read_chunk
 from tools.refusals.asking import QUERIES, Answer, Played, site_of, verb_of
 from tools.refusals.scripts import LONGEST_INSERT
 from tools.refusals.tally import Difference, Outcome, Tally
@@ -71,29 +72,45 @@ class Judge:
         return Outcome.EVENT_REFUSED
 
     def partial(self, at: int, answers: list[Answer], files: Files, done: int) -> Outcome:
-        """Of an edit exactly the first messages were sent; of a merge what makes up for it is to be asked for."""
+        """Of an edit exactly the first messages were sent; of a merge what makes up for it is to be asked for; of a chunk the first
+        operations were handed in."""
         line, wanted = self.played.lines[at], self.wanted[at]
         if verb_of(line) == "merge":
             self.made_up_for(at, answers, files, done)
+            return Outcome.PARTIAL
+        if verb_of(line) == "unpack":
+            self.unpacked_in_part(at, answers, files, done)
             return Outcome.PARTIAL
         if answers[at][:-1] != wanted[:done] or not 0 < done < len(wanted) - 1:
             raise Difference(f"of `{self.line(at)}` other messages were sent than the first {done}")
         self.tally.add_part(verb_of(line), done, len(wanted) - 1)
         if verb_of(line) == "type":
-            self.as_its_part_alone(at, answers, files, done)
+            words = line.split(" ", 4)
+            part = self.as_its_part_alone(at, " ".join(words[:4] + [words[4][: done * LONGEST_INSERT]]), answers, files)
+            if part != wanted[:done] + ["ok"]:
+                raise Difference(f"the first part of `{self.line(at)}` alone is answered {part}")
         else:
             self.mirrored(at, answers)
         return Outcome.PARTIAL
 
-    def as_its_part_alone(self, at: int, answers: list[Answer], files: Files, done: int) -> None:
-        """After a part of a typing all goes on as after an event that types just this part."""
-        words = self.played.lines[at].split(" ", 4)
-        instead = " ".join(words[:4] + [words[4][: done * LONGEST_INSERT]])
-        part, left = self.ample(self.played.lines[:at] + [instead] + self.played.lines[at + 1 :])
-        if part[at] != self.wanted[at][:done] + ["ok"]:
-            raise Difference(f"the first part of `{self.line(at)}` alone is answered {part[at]}")
-        wanted = part[:at] + [answers[at]] + part[at + 1 :]
+    def unpacked_in_part(self, at: int, answers: list[Answer], files: Files, done: int) -> None:
+        """All goes on as after the chunk of the first operations."""
+        site, verb, text, spelled = self.played.lines[at].split()
+        chunk = read_chunk(bytes.fromhex(spelled))
+        if not 0 < done < len(chunk.placed):
+            raise Difference(f"`{self.line(at)}` is answered {answers[at]}, but has {len(chunk.placed)} operations")
+        self.tally.add_part(verb, done, len(chunk.placed))
+        first = chunk_of(chunk.text, chunk.placed[:done])
+        part = self.as_its_part_alone(at, f"{site} {verb} {text} {first.hex()}", answers, files)
+        if not part[0].startswith("unpacked "):
+            raise Difference(f"the first part of `{self.line(at)}` alone is answered {part}")
+
+    def as_its_part_alone(self, at: int, part: str, answers: list[Answer], files: Files) -> Answer:
+        """After a part of an event all goes on as after an event that is just this part; what this is answered."""
+        found, left = self.ample(self.played.lines[:at] + [part] + self.played.lines[at + 1 :])
+        wanted = found[:at] + [answers[at]] + found[at + 1 :]
         self.same(answers, wanted, files, left, f"after `{self.line(at)}`, of which a part was done")
+        return found[at]
 
     def mirrored(self, at: int, answers: list[Answer]) -> None:
         """After a part of an edit, and at the end, a site shows what another one does that takes all its messages."""
@@ -113,13 +130,15 @@ class Judge:
                     )
 
     def made_up_for(self, at: int, answers: list[Answer], files: Files, done: int) -> None:
-        """What makes up for a part brings the rest, and from there on all is as with ample memory."""
+        """What makes up for a part brings the rest, and from there on all is as with ample memory. What a chunk's operation left
+        in the room another one of it may drain."""
         which = self.played.events.index(at)
         if which not in self.mended:
             raise Difference(f"`{self.line(at)}` is answered {answers[at]}, for which nothing makes up here")
         total, mend = self.mended[which], self.played.events[which + 1]
         given = re.fullmatch(r"(?:settled|merged) (\d+)(?: 0)?", answers[mend][-1])
-        if not given or not 0 <= done < total or done + int(given[1]) != total:
+        has_rest = done < total or verb_of(self.played.lines[at]) == "unpack"
+        if not given or not has_rest or done + int(given[1]) != total:
             raise Difference(f"`{self.line(at)}` is answered {answers[at]}, and then {answers[mend]}")
         self.tally.add_part(verb_of(self.played.lines[at]), done, total)
         rest = self.wanted[: mend + 1] + answers[mend + 1 :]

@@ -69,9 +69,9 @@ def with_what_makes_up(player: Player) -> tuple[list[str], dict[int, int]]:
     given = player.script.lines
     for line, answer in zip(given, player.ample(given)[0]):
         lines.append(line)
-        part = re.fullmatch(r"(?:taken|settled|merged) ([1-9]\d*)(?: 0)?", answer[-1])
+        part = re.fullmatch(r"(?:taken|settled|merged) ([1-9]\d*)(?: 0)?|unpacked ([1-9]\d*) \d+ \d+", answer[-1])
         if part:
-            mended[len(lines) - 1] = int(part[1])
+            mended[len(lines) - 1] = int(part[1] or part[2])
             site, verb, text, *_ = line.split()
             lines.append(line if verb == "merge" else f"{site} settle {text}")
     return lines, mended

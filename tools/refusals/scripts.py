@@ -179,5 +179,38 @@ def of_packed_sites() -> Sequence[Script]:
     ]
 
 
+def chunk(*parts: str) -> str:
+    """The hex of a chunk of text 1."""
+    return "4f5443310001" + "".join(parts).replace(" ", "")
+
+
+def of_chunks() -> Sequence[Script]:
+    """Texts that are packed into chunks, and chunks that are unpacked; refused ones among them."""
+    # Site 1 types abc, and then the byte 0f, which is a code in a chunk; site 2 types x after it.
+    typed, after = chunk("0f01010100 06 01 616263 0e0f"), chunk("0f02010300 05 01 03 78")
+    # Site 1 typed an a, and types b and c after it; site 3 types x, and site 5 y, both after the a.
+    later, first = chunk("0f01020201 05 01 00 62 63 0f03010200 05 01 00 78"), chunk("0f01010100 61 0f05010200 05 01 00 79")
+    # Site 7 types z, and site 1 has typed another letter than that a.
+    reused = chunk("0f07010100 7a 0f01010100 62")
+    return [
+        events(
+            "pack-and-unpack",
+            f"1 type 1 0 abc; 1 type 1 3 \\0f; 1 pack 1; 2 unpack 1 {typed}; 2 unpack 1 {typed}; 2 type 1 4 x; 2 pack 1 1 2;"
+            f"1 unpack 1 {after}; 1 pack 1; 1 pack 1 1 1; 1 pack 1 1 2 2 1; 2 merge 1 1; 1 unpack 2 {typed}; 1 pack 2",
+        ),
+        events(
+            "unpack-what-waits",
+            f"2 unpack 1 {later}; 2 unpack 1 {later}; 2 unpack 1 {first}; 2 unpack 1 {later}; 2 text 1; 2 unpack 1 {reused};"
+            f"2 unpack 1 {chunk('0f01010100 62')}; 2 unpack 1 {typed[:-2]}; 2 type 1 0 d; 2 pack 1",
+        ),
+        events(
+            "unpack-in-one-text-what-another-has",
+            f"1 open user 1; 1 unpack 1 {typed}; 1 unpack 1 {chunk('0f02010300 05 01 03 78 79 7a 0f01030400 07 00 01 00 01')}; 1 text 1;"
+            f"1 show; 1 unpack 1 {chunk('0f03010900 0c 00 01 01 00 0b 02 03 00 01 01 01')}; 1 runs 1; 1 show; 1 pack 1",
+            *DRAWN,
+        ),
+    ]
+
+
 def scripts() -> list[Script]:
-    return [*of_texts(), *of_commands(), *of_the_screen(), *of_sites(), *of_packed_sites()]
+    return [*of_texts(), *of_commands(), *of_the_screen(), *of_sites(), *of_packed_sites(), *of_chunks()]
