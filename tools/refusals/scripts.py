@@ -201,7 +201,7 @@ def of_chunks() -> Sequence[Script]:
         events(
             "unpack-what-waits",
             f"2 unpack 1 {later}; 2 unpack 1 {later}; 2 unpack 1 {first}; 2 unpack 1 {later}; 2 text 1; 2 unpack 1 {reused};"
-            f"2 unpack 1 {chunk('0f01010100 62')}; 2 unpack 1 {typed[:-2]}; 2 type 1 0 d; 2 pack 1",
+            f"2 unpack 1 {chunk('0f01010100 62')}; 2 unpack 1 {typed[:-2]}; 2 type 1 0 d; 2 pack 1 1 3 3 1 5 1 7 1",
         ),
         events(
             "unpack-in-one-text-what-another-has",
