@@ -9,7 +9,7 @@
  *
  * Answers. Each call answers a number. 0: it was done. 1 to 23: the replica refused it, by the table "Refusals" of
  * docs/FORMATS.md. From 101 on: it was misused (VIALSHOAL_NOT_OPEN and so on). A call that was refused or misused changed
- * nothing, but for an edit of which a part stands: see `sent`.
+ * nothing, but for an edit or a chunk of which a part stands: see `sent` and `done`.
  *
  * Memory. The library allocates what a handle holds, by the program's malloc, realloc and free, and vialshoal_free, or
  * vialshoal_past_free, frees it. All else is the caller's: what is written goes into rooms that the caller passes. `need`
@@ -88,6 +88,15 @@ typedef struct vialshoal_settling {
     uint32_t dropped;
     bool stopped;
 } vialshoal_settling;
+
+/* What the unpacking of a chunk did. Where it was refused, all but `done` are 0. */
+typedef struct vialshoal_unpacking {
+    uint64_t taken;   /* how many operations were taken in, those that had waited among them */
+    uint64_t known;   /* how many of the chunk's are held already, or wait already */
+    uint64_t waiting; /* how many of the chunk's were put among those that wait */
+    uint64_t done;    /* where one was refused, how many of the chunk's were handed in before it, which stand; else 0 */
+    bool stopped;     /* whether taking in what waited ended early, for want of memory */
+} vialshoal_unpacking;
 
 /* The lasting name of a character: the site that put it in, and how many the site had put into the text before. */
 typedef struct vialshoal_name {
@@ -207,6 +216,11 @@ uint32_t vialshoal_let_go(vialshoal_text *text);
 /* Takes a message in, or lets it wait for what it builds on. Refused as the messages of docs/ORDER.md. */
 uint32_t vialshoal_take(vialshoal_text *text, const uint8_t *message, size_t length, vialshoal_taking *taking);
 
+/* Takes the operations of a chunk (see vialshoal_pack) in, one after the other, or lets them wait for what they build on. 1
+ * where the bytes are no chunk, 2 where it is another text's, 7; and refused as the messages of docs/ORDER.md at the first
+ * operation that is, before which unpacking->done of them were handed in. */
+uint32_t vialshoal_unpack(vialshoal_text *text, const uint8_t *chunk, size_t length, vialshoal_unpacking *unpacking);
+
 /* Takes in what waits, as far as it is ready; after a merge, or where memory was refused, such may be there. */
 uint32_t vialshoal_settle(vialshoal_text *text, vialshoal_settling *settling);
 
@@ -235,6 +249,13 @@ uint32_t vialshoal_front(vialshoal_text *text, uint16_t site, uint32_t *front);
  * site of 0; 7. */
 uint32_t vialshoal_since(vialshoal_text *text, const vialshoal_site_front *fronts, size_t count, uint64_t *index,
                          uint8_t *room, size_t length, uint64_t *need);
+
+/* Puts what was taken in past these fronts into the room, in the order of taking, in chunks: what brings a replica to what
+ * this one has as the messages of vialshoal_since do, in a byte for most keystrokes where these have some 50. Each chunk,
+ * of 16,000 bytes at most, stands after its length in two bytes, the low one first. Where nothing is past the fronts *need
+ * is 0. VIALSHOAL_TOO_SHORT; VIALSHOAL_NO_NUMBER for a site of 0; 7. */
+uint32_t vialshoal_pack(vialshoal_text *text, const vialshoal_site_front *fronts, size_t count, uint8_t *room,
+                        size_t length, uint64_t *need);
 
 /* -- What is shown -- */
 

@@ -69,6 +69,7 @@ static void refuses_a_closed_past(void) {
     IS(vialshoal_past_names(&none, 0, 0, &name, 1, &many) == VIALSHOAL_NOT_OPEN);
     IS(vialshoal_past_find(&none, 1, 0, &place) == VIALSHOAL_NOT_OPEN);
     IS(vialshoal_since(&text, &front, 1, &index, room, 1, &many) == VIALSHOAL_NOT_OPEN && index == 0);
+    IS(vialshoal_pack(&text, &front, 1, room, 1, &many) == VIALSHOAL_NOT_OPEN && many == 0);
     IS(vialshoal_save(&text, room, 1, &many) == VIALSHOAL_NOT_OPEN);
     IS(none.at == NULL && text.at == NULL);
 }
@@ -80,6 +81,7 @@ static void refuses_a_closed_one(void) {
     uint64_t many = 7;
     vialshoal_taking taking = {0};
     vialshoal_settling settling = {0};
+    vialshoal_unpacking unpacking = {7, 7, 7, 7, true};
     vialshoal_name name;
     vialshoal_name_range names = {1, 0, 1};
     vialshoal_place place;
@@ -104,6 +106,7 @@ static void refuses_a_closed_one(void) {
     many = 7;
     IS(vialshoal_store_packed(&none, room, 1, &many) == VIALSHOAL_NOT_OPEN && many == 0);
     IS(vialshoal_take(&none, BYTES("a"), 1, &taking) == VIALSHOAL_NOT_OPEN);
+    IS(vialshoal_unpack(&none, BYTES("a"), 1, &unpacking) == VIALSHOAL_NOT_OPEN && unpacking.taken == 7);
     IS(vialshoal_settle(&none, &settling) == VIALSHOAL_NOT_OPEN);
     IS(vialshoal_forget(&none, &few) == VIALSHOAL_NOT_OPEN);
     IS(vialshoal_merge(&none, &other, &many) == VIALSHOAL_NOT_OPEN);
@@ -155,6 +158,8 @@ static void refuses_looks_and_fronts(vialshoal_text *a) {
     IS(vialshoal_insert_in_looks(a, 0, BYTES(""), 0, BYTES("a"), 1, 3, 0, &sent) == 0 && sent == 0);
     IS(vialshoal_since(a, none, 2, &index, room, sizeof room, &need) == VIALSHOAL_NO_NUMBER && index == 0);
     IS(vialshoal_since(a, none, 1, &index, room, sizeof room, &need) == VIALSHOAL_NO_MESSAGE && index == 0);
+    IS(vialshoal_pack(a, none, 2, room, sizeof room, &need) == VIALSHOAL_NO_NUMBER && need == 0);
+    IS(vialshoal_pack(a, none, 1, room, sizeof room, &need) == 0 && need == 0);
     IS(vialshoal_past(a, none, 2, &past) == VIALSHOAL_NO_NUMBER && past.at == NULL);
     IS(vialshoal_past(a, none, 1, &past) == 0 && past.at != NULL);
     void *held = past.at;
@@ -491,17 +496,25 @@ static uint64_t next_since(vialshoal_text *from, const vialshoal_site_front *fro
     return need;
 }
 
-/* Hands over what the other one lacks, by its fronts. */
-static void brings(vialshoal_text *from, vialshoal_text *to) {
-    vialshoal_site_front fronts[4], mine[4];
-    vialshoal_taking taking;
-    size_t count = fronts_of(to, fronts), sites = fronts_of(from, mine);
-    uint64_t index = 0, need, left = 0;
+/* How many operations the one has that the other one lacks. */
+static uint64_t lacking(vialshoal_text *from, vialshoal_text *to) {
+    vialshoal_site_front mine[4];
+    size_t sites = fronts_of(from, mine);
+    uint64_t left = 0;
     for (size_t i = 0; i < sites; i++) {
         uint32_t front;
         IS(vialshoal_front(to, mine[i].site, &front) == 0);
         left += mine[i].seq > front ? mine[i].seq - front : 0;
     }
+    return left;
+}
+
+/* Hands over what the other one lacks, by its fronts. */
+static void brings(vialshoal_text *from, vialshoal_text *to) {
+    vialshoal_site_front fronts[4];
+    vialshoal_taking taking;
+    size_t count = fronts_of(to, fronts);
+    uint64_t index = 0, need, left = lacking(from, to);
     for (; (need = next_since(from, fronts, count, &index)) > 0; left--) {
         IS(vialshoal_take(to, room, need, &taking) == 0 && taking.kind == VIALSHOAL_TAKEN);
     }
@@ -522,6 +535,149 @@ static void meets_by_since(uint32_t edits) {
         }
     }
     IS(vialshoal_free(&a) == 0 && vialshoal_free(&b) == 0);
+}
+
+/* Unpacks a chunk that has so many operations, none of which is here or has to wait; and again, when all are here. */
+static void unpacks(vialshoal_text *text, const uint8_t *chunk, size_t length, uint64_t operations) {
+    vialshoal_unpacking unpacking;
+    IS(vialshoal_unpack(text, chunk, length, &unpacking) == 0 && unpacking.taken == operations);
+    IS(unpacking.known == 0 && unpacking.waiting == 0 && unpacking.done == 0 && !unpacking.stopped);
+    IS(vialshoal_unpack(text, chunk, length, &unpacking) == 0 && unpacking.known == operations);
+    IS(unpacking.taken == 0 && unpacking.waiting == 0 && unpacking.done == 0 && !unpacking.stopped);
+}
+
+/* Hands over the same in chunks, and answers how many these were. */
+static uint32_t brings_chunks(vialshoal_text *from, vialshoal_text *to) {
+    vialshoal_site_front fronts[4];
+    size_t count = fronts_of(to, fronts);
+    uint64_t need, length, left = lacking(from, to);
+    uint32_t chunks = 0;
+    IS(vialshoal_pack(from, fronts, count, room, 0, &need) == (left == 0 ? 0 : VIALSHOAL_TOO_SHORT));
+    IS((need == 0) == (left == 0));
+    uint8_t *packed = calloc(1, need + 1);
+    IS(packed != NULL);
+    if (need > 0) IS(vialshoal_pack(from, fronts, count, packed, need - 1, &length) == VIALSHOAL_TOO_SHORT);
+    IS(packed[0] == 0 && vialshoal_pack(from, fronts, count, packed, need, &length) == 0 && length == need);
+    for (uint64_t at = 0; at < need; chunks++) {
+        size_t long_one = packed[at] | (size_t)packed[at + 1] << 8;
+        IS(long_one <= 16000 && at + 2 + long_one <= need);
+        uint64_t before = lacking(from, to);
+        vialshoal_unpacking unpacking;
+        IS(vialshoal_unpack(to, packed + at + 2, long_one, &unpacking) == 0);
+        IS(unpacking.taken > 0 && unpacking.taken == before - lacking(from, to));
+        IS(unpacking.known == 0 && unpacking.waiting == 0 && unpacking.done == 0 && !unpacking.stopped);
+        at += 2 + long_one;
+    }
+    free(packed);
+    IS(lacking(from, to) == 0);
+    return chunks;
+}
+
+/* Two that edit apart meet now and then, in chunks. */
+static void meets_by_chunks(uint32_t edits) {
+    vialshoal_text a = {0}, b = {0}, c = {0};
+    uint32_t random = 1, chunks;
+    IS(vialshoal_new(&a, 1, 1) == 0 && vialshoal_new(&b, 1, 2) == 0 && vialshoal_new(&c, 1, 3) == 0);
+    for (uint32_t i = 0; i < edits; i++) {
+        edits_at_random(i % 3 ? &a : &b, &random);
+        if (random % 100 == 0 || i + 1 == edits) {
+            brings_chunks(&a, &b);
+            brings_chunks(&b, &a);
+            shows_as(&a, &b);
+        }
+    }
+    chunks = brings_chunks(&a, &c);
+    IS(edits < 4000 || chunks > 1);
+    shows_as(&a, &c);
+    IS(brings_chunks(&a, &c) == 0);
+    IS(vialshoal_free(&a) == 0 && vialshoal_free(&b) == 0 && vialshoal_free(&c) == 0);
+}
+
+/* Chunks, byte for byte: all of a text, and what it has past a front. */
+static void packs_chunks(void) {
+    static const uint8_t all[] = "\22\0OTC1\0\1\x0f\2\1\1\0ab\x06\1cde";
+    static const uint8_t later[] = "\24\0OTC1\0\1\x0f\2\2\2\1\5\2\0b\x06\1cde";
+    static const vialshoal_site_front fronts[] = {{2, 1}, {2, 3}};
+    vialshoal_text a = {0}, b = {0}, c = {0};
+    vialshoal_unpacking unpacking;
+    uint32_t sent, count;
+    uint64_t need;
+    IS(vialshoal_new(&a, 1, 2) == 0 && vialshoal_new(&b, 1, 1) == 0 && vialshoal_new(&c, 2, 1) == 0);
+    IS(vialshoal_pack(&a, fronts, 0, room, 0, &need) == 0 && need == 0);
+    IS(vialshoal_insert(&a, 0, BYTES("a"), 1, &sent) == 0 && vialshoal_insert(&a, 1, BYTES("b"), 1, &sent) == 0);
+    IS(vialshoal_insert(&a, 2, BYTES("cde"), 3, &sent) == 0);
+    IS(vialshoal_pack(&a, fronts, 0, room, sizeof room, &need) == 0 && need == sizeof all - 1);
+    IS(memcmp(room, all, need) == 0);
+    IS(vialshoal_pack(&a, fronts, 1, room, sizeof room, &need) == 0 && need == sizeof later - 1);
+    IS(memcmp(room, later, need) == 0);
+    IS(vialshoal_pack(&a, fronts + 1, 1, room, sizeof room, &need) == 0 && need == 0);
+    /* What lacks its cause waits, and is drained when that comes. */
+    IS(vialshoal_unpack(&b, later + 2, sizeof later - 3, &unpacking) == 0 && unpacking.waiting == 2);
+    IS(unpacking.taken == 0 && unpacking.known == 0 && unpacking.done == 0 && !unpacking.stopped);
+    IS(vialshoal_unpack(&b, later + 2, sizeof later - 3, &unpacking) == 0 && unpacking.known == 2);
+    IS(vialshoal_unpack(&b, all + 2, sizeof all - 3, &unpacking) == 0 && unpacking.taken == 3 && unpacking.known == 2);
+    IS(unpacking.waiting == 0 && vialshoal_waiting(&b, &count) == 0 && count == 0);
+    shows(&b, "abcde");
+    IS(vialshoal_unpack(&c, all + 2, sizeof all - 3, &unpacking) == 2 && unpacking.done == 0);
+    shows(&c, "");
+    IS(vialshoal_free(&a) == 0 && vialshoal_free(&b) == 0 && vialshoal_free(&c) == 0);
+}
+
+/* A chunk that is cut short, or has another byte somewhere: it is refused, or is another chunk, and the text stays one. */
+static void refuses_chunks(void) {
+    static const uint8_t chunk[] = "OTC1\0\1\x0f\2\1\1\0ab\x06\1cde";
+    static uint8_t long_one[16001] = "OTC1\0\1\x0f\2\1\1\0";
+    vialshoal_unpacking unpacking;
+    uint64_t need, length, refused = 0;
+    for (size_t at = 0; at < sizeof chunk - 1; at++) {
+        for (unsigned change = 0; change < 256; change++) {
+            vialshoal_text a = {0};
+            uint8_t bytes[sizeof chunk];
+            memcpy(bytes, chunk, sizeof chunk);
+            bytes[at] ^= (uint8_t)change;
+            IS(vialshoal_new(&a, 1, 1) == 0);
+            uint32_t number = vialshoal_unpack(&a, bytes, change == 0 ? at : sizeof chunk - 1, &unpacking);
+            IS(vialshoal_length(&a, &length) == 0 && (number == 0 || unpacking.done > 0 || length == 0));
+            IS(at >= 6 || number == (change == 0 || at < 4 ? 1 : bytes[4] == 0 && bytes[5] == 0 ? 1 : 2));
+            IS(number == 0 || unpacking.taken + unpacking.known + unpacking.waiting == 0);
+            refused += number == 1;
+            IS(vialshoal_store(&a, room, sizeof room, &need) == 0 && vialshoal_free(&a) == 0);
+        }
+    }
+    IS(refused > sizeof chunk * 32);
+    vialshoal_text a = {0};
+    IS(vialshoal_new(&a, 1, 1) == 0);
+    memset(long_one + 11, 'x', sizeof long_one - 11);
+    IS(vialshoal_unpack(&a, long_one, 16001, &unpacking) == 1 && unpacking.done == 0);
+    unpacks(&a, long_one, 16000, 16000 - 11);
+    IS(vialshoal_length(&a, &length) == 0 && length == 16000 - 11 && vialshoal_free(&a) == 0);
+}
+
+/* A site that was opened twice and went on from there uses its numbers twice: what is common is known, and the next one is
+ * refused. No more than 64 wait: of 70 that do, 64 were handed in. */
+static void refuses_a_part(void) {
+    static const vialshoal_site_front front = {1, 1};
+    vialshoal_text a = {0}, b = {0}, c = {0};
+    vialshoal_unpacking unpacking;
+    uint32_t sent, count;
+    uint64_t need;
+    IS(vialshoal_new(&a, 1, 1) == 0 && vialshoal_insert(&a, 0, BYTES("x"), 1, &sent) == 0);
+    IS(vialshoal_store(&a, room, sizeof room, &need) == 0 && vialshoal_load(&b, room, need) == 0);
+    IS(vialshoal_insert(&a, 1, BYTES("y"), 1, &sent) == 0 && vialshoal_insert(&b, 1, BYTES("z"), 1, &sent) == 0);
+    IS(vialshoal_pack(&a, &front, 0, room, sizeof room, &need) == 0);
+    IS(vialshoal_unpack(&b, room + 2, need - 2, &unpacking) == 3 && unpacking.done == 1);
+    IS(unpacking.taken == 0 && unpacking.known == 0 && unpacking.waiting == 0 && !unpacking.stopped);
+    IS(vialshoal_pack(&a, &front, 1, room, sizeof room, &need) == 0);
+    IS(vialshoal_unpack(&b, room + 2, need - 2, &unpacking) == 3 && unpacking.done == 0);
+    shows(&b, "xz");
+    for (int i = 0; i < 69; i++) IS(vialshoal_insert(&a, 0, BYTES("w"), 1, &sent) == 0);
+    IS(vialshoal_pack(&a, &front, 1, room, sizeof room, &need) == 0);
+    IS(vialshoal_new(&c, 1, 2) == 0 && vialshoal_unpack(&c, room + 2, need - 2, &unpacking) == 6 && unpacking.done == 64);
+    IS(vialshoal_waiting(&c, &count) == 0 && count == 64);
+    IS(vialshoal_pack(&a, &front, 0, room, sizeof room, &need) == 0);
+    IS(vialshoal_unpack(&c, room + 2, need - 2, &unpacking) == 0 && unpacking.taken == 71 && unpacking.known == 64);
+    shows_as(&a, &c);
+    IS(vialshoal_free(&a) == 0 && vialshoal_free(&b) == 0 && vialshoal_free(&c) == 0);
 }
 
 /* What is taken in between two calls comes after the rest; of two fronts of a site the first counts. */
@@ -687,6 +843,7 @@ static uint32_t short_look(vialshoal_text *a) {
     uint64_t index = 0, need;
     uint32_t worst = vialshoal_since(a, &front, 1, &index, room, sizeof room, &need) % 101;
     IS((index > 0) == (worst == 0 && a->at != NULL));
+    worst += vialshoal_pack(a, &front, 1, room, sizeof room, &need) % 101;
     worst += vialshoal_save(a, room, sizeof room, &need) % 101;
     uint32_t number = vialshoal_past(a, &front, 1, &past);
     IS((number == 0) == (past.at != NULL));
@@ -717,6 +874,26 @@ static uint32_t short_keeping(vialshoal_text *a) {
     return worst;
 }
 
+/* What another text takes of it in chunks, likewise: what lacks its causes first, and then all. */
+static uint32_t short_unpacking(vialshoal_text *a) {
+    static const vialshoal_site_front fronts[] = {{1, 2}, {1, 0}};
+    vialshoal_text other = {0};
+    uint32_t worst = vialshoal_new(&other, 1, 3);
+    for (size_t i = 0; i < 2; i++) {
+        vialshoal_unpacking unpacking = {0};
+        uint64_t need;
+        uint32_t number = vialshoal_pack(a, &fronts[i], 1, room, sizeof room, &need);
+        worst += number % 101;
+        if (number == 0 && need > 0 && other.at != NULL) {
+            number = vialshoal_unpack(&other, room + 2, need - 2, &unpacking);
+            IS(number == 0 || (number == 7 && unpacking.taken + unpacking.known + unpacking.waiting == 0));
+            worst += number + unpacking.stopped;
+        }
+    }
+    vialshoal_free(&other);
+    return worst;
+}
+
 /* Each allocation of a short run is refused in turn. What stands afterwards can be edited, and met. */
 static void each_allocation_is_refused(void) {
     for (long at = 1;; at++) {
@@ -728,6 +905,7 @@ static void each_allocation_is_refused(void) {
         uint32_t worst = short_run(&a, &b);
         worst += short_look(&a);
         worst += short_keeping(&a);
+        worst += short_unpacking(&a);
         bool was_refused = asked >= refused_at;
         refused_at = 0;
         if (a.at != NULL && b.at != NULL) {
@@ -735,7 +913,7 @@ static void each_allocation_is_refused(void) {
             IS(vialshoal_merge(&b, &a, &taken) == 0);
             IS(vialshoal_length(&a, &length) == 0);
             IS(vialshoal_length(&b, &taken) == 0 && length == taken);
-            IS(short_look(&a) == 0 && short_keeping(&a) == 0);
+            IS(short_look(&a) == 0 && short_keeping(&a) == 0 && short_unpacking(&a) == 0);
         }
         vialshoal_free(&a);
         vialshoal_free(&b);
@@ -776,6 +954,10 @@ int main(int count, char **words) {
     inserts_in_looks();
     goes_on_since();
     meets_by_since(edits / 10);
+    packs_chunks();
+    refuses_chunks();
+    refuses_a_part();
+    meets_by_chunks(edits / 10);
     has_a_past();
     past_refuses();
     saves();

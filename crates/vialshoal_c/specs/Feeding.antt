@@ -3,6 +3,10 @@ use Rattle.std.specs.Prelude.{◌≡◌, ℕ, ◌⊎◌, List, [], length, Bool,
 use Rattle.looks.specs.Refusal.{number_of}
 use Rattle.looks.specs.declared.refusal.Refusal.{Refusal}
 use Rattle.looks.specs.declared.refusal.Refusal.TheVariants.{OutOfMemory}
+use Rattle.text_chunks.specs.Unpacking.{Unpacks, UnpacksShort}
+use Rattle.text_chunks.specs.declared.unpacked.UnpackRefusal.{UnpackRefusal}
+use Rattle.text_chunks.specs.declared.unpacked.UnpackRefusal.TheVariants.{Whole as Untouched, Partial}
+use Rattle.text_chunks.specs.declared.unpacked.Unpacked.{Unpacked}
 use Rattle.texts.specs.Draining.{Drains}
 use Rattle.texts.specs.Merge.{IsUnionOf, Merges, MergesShort}
 use Rattle.texts.specs.Take.{Takes, TakesShort}
@@ -15,6 +19,7 @@ use Rattle.vialshoal_c.specs.Opened.{IsMisused}
 use Rattle.vialshoal_c.specs.SessionState.{KeepsTheRest, SessionState}
 use Rattle.vialshoal_c.specs.declared.numbers.TheConstants.{IS_REPEAT, IS_TAKEN, IS_WAITING, NOT_OPEN}
 use Rattle.vialshoal_c.specs.declared.outputs.Taking.{Taking}
+use Rattle.vialshoal_c.specs.declared.outputs.Unpacking.{Unpacking}
 
 -- the number that says what the taking of a message answered
 abbrev pub number_of_taking : Result Took Refusal → ℕ
@@ -39,6 +44,30 @@ TakesIn s message number taking new =
     (answer : Result Took Refusal)
     × (Takes s.text message answer new.text ⊎ TakesShort s.text message answer new.text)
     × (number ≡ number_of_taking answer) × (taking ≡ taking_of answer) × KeepsTheRest s new
+
+-- the number that says what a chunk answered
+abbrev pub number_of_unpacking : Result Unpacked UnpackRefusal → ℕ
+number_of_unpacking (Ok counts) = 0
+number_of_unpacking (Err (Untouched why)) = number_of why
+number_of_unpacking (Err (Partial done why)) = number_of why
+
+-- it was refused after so many of its operations
+abbrev pub refused_after : (done : ℕ) → Unpacking
+refused_after done = record { taken = 0; known = 0; waiting = 0; done = done; stopped = false }
+
+-- and the rest of that answer
+abbrev pub unpacking_of : Result Unpacked UnpackRefusal → Unpacking
+unpacking_of (Ok c) =
+    record { taken = c.taken; known = c.known; waiting = c.waiting; done = 0; stopped = c.stopped }
+unpacking_of (Err (Untouched why)) = refused_after 0
+unpacking_of (Err (Partial done why)) = refused_after done
+
+-- the text unpacks this chunk, whether memory is there or not, and answers it
+abbrev pub UnpacksIn : SessionState → (chunk : List ℕ) → (number : ℕ) → Unpacking → SessionState → Type 0
+UnpacksIn s chunk number unpacking new =
+    (answer : Result Unpacked UnpackRefusal)
+    × (Unpacks s.text chunk answer new.text ⊎ UnpacksShort s.text chunk answer new.text)
+    × (number ≡ number_of_unpacking answer) × (unpacking ≡ unpacking_of answer) × KeepsTheRest s new
 
 -- what waits is taken in as far as it is ready
 abbrev pub Settles : SessionState → (number drained dropped : ℕ) → (stopped : Bool) → SessionState → Type 0

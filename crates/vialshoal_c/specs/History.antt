@@ -1,11 +1,13 @@
 -- What was taken in past some fronts, and the text as it was up to them.
 use Rattle.std.specs.Prelude.{◌≡◌, ℕ, ◌+◌, ◌<◌, ◌≤◌, ◌⊎◌, ◌==◌, Bool, false, true, nat_lt, MatchBool, if◌then◌else◌}
-use Rattle.std.specs.Prelude.{List, length, map, slice_get, Option, Some, None, IfSome}
+use Rattle.std.specs.Prelude.{List, [], ◌∷◌, ◌++◌, length, map, slice_get, Option, Some, None, IfSome}
+use Rattle.std.specs.Int.{to_le_bytes, w16}
 use Rattle.std.specs.List.{list_all}
 use Rattle.looks.specs.Refusal.{number_of}
 use Rattle.looks.specs.declared.refusal.Refusal.TheVariants.{OutOfMemory}
 use Rattle.operations.specs.Operation.{Operation}
 use Rattle.operations.specs.Spelling.{spelling}
+use Rattle.text_chunks.specs.Packing.{chunks_beyond}
 use Rattle.texts.specs.Fronts.{is_beyond}
 use Rattle.texts.specs.Past.{IsPastOf}
 use Rattle.texts.specs.TextState.{TextState}
@@ -63,6 +65,18 @@ abbrev pub TellsSince : TextState → List SiteFront → (index : ℕ) → (old 
 TellsSince t fronts index old number need new index' =
     MatchBool (list_all is_front fronts) (TellsNext t (fronts_of fronts) index old number need new index')
     (PutsNone NO_NUMBER old number need new × (index' ≡ index))
+
+-- chunks one after the other, each after its length in two bytes, the low one first
+abbrev pub framed : List (List ℕ) → List ℕ
+framed [] = []
+framed (chunk ∷ chunks) = to_le_bytes w16 (length chunk) ++ chunk ++ framed chunks
+
+-- the chunks of what the text has past these fronts are put there, if all of these are fronts; or memory was refused
+abbrev pub PutsChunks : TextState → List SiteFront → (old : List ℕ) → (number need : ℕ) → (new : List ℕ) → Type 0
+PutsChunks t fronts old number need new =
+    MatchBool (list_all is_front fronts)
+    (Puts (framed (chunks_beyond (fronts_of fronts) t)) old number need new
+    ⊎ PutsNone (number_of OutOfMemory) old number need new) (PutsNone NO_NUMBER old number need new)
 
 -- the text as it was up to these fronts is opened; or memory was refused
 abbrev pub OpensPastOf : TextState → List SiteFront → (number : ℕ) → Option TextState → Type 0

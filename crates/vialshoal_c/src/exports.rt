@@ -7,8 +7,8 @@ ghost use Rattle.texts.specs.TextState.{shown_of};
 ghost use Rattle.vialshoal_c.specs.Asking.{FindsName, PutsMessage, PutsShown, TellsChanges, TellsFront, bytes_of};
 ghost use Rattle.vialshoal_c.specs.Asking.{PutsSites, TellsRun, names_of};
 ghost use Rattle.vialshoal_c.specs.Editing.{Begins, BeginsText, Dresses, Edits, Inserts, InsertsInLooks};
-ghost use Rattle.vialshoal_c.specs.Feeding.{Forgets, MergesHandle, Settles, TakesIn};
-ghost use Rattle.vialshoal_c.specs.History.{TellsSince};
+ghost use Rattle.vialshoal_c.specs.Feeding.{Forgets, MergesHandle, Settles, TakesIn, UnpacksIn};
+ghost use Rattle.vialshoal_c.specs.History.{PutsChunks, TellsSince};
 ghost use Rattle.vialshoal_c.specs.Keeping.{Opens, OpensFile, PutsFile, PutsText};
 ghost use Rattle.vialshoal_c.specs.Naming.{EditsNames};
 ghost use Rattle.vialshoal_c.specs.Opened.{OnOpen, Reads};
@@ -16,7 +16,7 @@ ghost use Rattle.vialshoal_c.specs.Opened.{OnOpen, Reads};
 use crate::handle::Handle;
 use crate::inputs::{CharNames, SiteFront};
 use crate::numbers::{ALREADY_OPEN, NO_NUMBER, NOT_OPEN};
-use crate::outputs::{CharName, LooksRun, Place, Settling, Taking, TextChange};
+use crate::outputs::{CharName, LooksRun, Place, Settling, Taking, TextChange, Unpacking};
 use crate::session::Session;
 use crate::showing::{find_name, put_shown_bytes, put_shown_names, tell_run};
 use char_files::{SiteNo, TextNo};
@@ -361,6 +361,26 @@ pub extern "C" fn vialshoal_take(
     answer.number
 }
 
+/// Takes in the operations of a chunk, or lets them wait.
+#[unsafe(no_mangle)]
+pub extern "C" fn vialshoal_unpack(
+    alloc: Global,
+    handle: &mut Handle,
+    chunk: &[u8],
+    unpacking: &mut Unpacking,
+) -> u32
+    ensures { OnOpen handle.old.value handle.new.value result (unpacking.new ≡ unpacking.old)
+        (λ s new. UnpacksIn s chunk.now result unpacking.new new) }
+{
+    let Some(mut session) = handle.open(alloc) else {
+        return NOT_OPEN;
+    };
+    let handed = session.unpack(alloc, chunk);
+    handle.close(alloc, session);
+    *unpacking = handed.unpacking;
+    handed.number
+}
+
 /// Takes in what waits, as far as it is ready.
 #[unsafe(no_mangle)]
 pub extern "C" fn vialshoal_settle(
@@ -597,6 +617,28 @@ pub extern "C" fn vialshoal_since(
         return NOT_OPEN;
     };
     let put = session.since(alloc, fronts, index, room);
+    handle.close(alloc, session);
+    *need = put.need;
+    put.number
+}
+
+/// The chunks of what was taken in past these fronts, each after its length.
+#[unsafe(no_mangle)]
+pub extern "C" fn vialshoal_pack(
+    alloc: Global,
+    handle: &mut Handle,
+    fronts: &[SiteFront],
+    room: &mut [u8],
+    need: &mut u64,
+) -> u32
+    ensures { Reads handle.old.value handle.new.value result ((need.new ≡ 0) × (room.new ≡ room.old))
+        (λ s. PutsChunks s.text fronts.now room.old result need.new room.new) }
+{
+    *need = 0;
+    let Some(session) = handle.open(alloc) else {
+        return NOT_OPEN;
+    };
+    let put = session.pack(alloc, fronts, room);
     handle.close(alloc, session);
     *need = put.need;
     put.number

@@ -1,13 +1,16 @@
 //! What other sites made is taken into a session.
 
 ghost use Rattle.std.specs.Prelude.{◌≡◌, Ok, false};
-ghost use Rattle.vialshoal_c.specs.Feeding.{Forgets, MergesIn, Settles, TakesIn};
-ghost use Rattle.vialshoal_c.specs.Feeding.{merged_by, number_of_merge, number_of_taking, taking_of};
+ghost use Rattle.vialshoal_c.specs.Feeding.{Forgets, MergesIn, Settles, TakesIn, UnpacksIn};
+ghost use Rattle.vialshoal_c.specs.Feeding.{merged_by, number_of_merge, number_of_taking, number_of_unpacking};
+ghost use Rattle.vialshoal_c.specs.Feeding.{refused_after, taking_of, unpacking_of};
 
 use crate::numbers::{IS_REPEAT, IS_TAKEN, IS_WAITING};
-use crate::outputs::{Settling, Taking};
+use crate::outputs::{Settling, Taking, Unpacking};
 use crate::session::Session;
 use looks::{OUT_OF_MEMORY, Refusal};
+use std::alloc::Global;
+use text_chunks::{UnpackRefusal, Unpacked, unpack};
 use texts::{MergeRefusal, Settled, Took};
 
 /// The answer to a message: its number, and what the taking did.
@@ -15,6 +18,13 @@ use texts::{MergeRefusal, Settled, Took};
 pub(crate) struct Answered {
     pub(crate) number: u32,
     pub(crate) taking: Taking,
+}
+
+/// The answer to a chunk: its number, and what the unpacking did.
+#[derive(Clone, Copy)]
+pub(crate) struct Handed {
+    pub(crate) number: u32,
+    pub(crate) unpacking: Unpacking,
 }
 
 /// A merge's answer: its number, and how many operations were taken in.
@@ -72,6 +82,58 @@ fn answer_of(answer: Result<Took, Refusal>) -> Answered
     }
 }
 
+// What a chunk did that was refused after so many of its operations.
+fn refused_after(done: u64) -> Unpacking
+    ensures { result ≡ refused_after done }
+{
+    Unpacking {
+        taken: 0,
+        known: 0,
+        waiting: 0,
+        done,
+        stopped: false,
+    }
+}
+
+// What a chunk did that wasn't refused.
+fn unpacking_of(unpacked: Unpacked) -> Unpacking
+    ensures { result ≡ unpacking_of (Ok unpacked) }
+{
+    let Unpacked {
+        taken,
+        known,
+        waiting,
+        stopped,
+    } = unpacked;
+    Unpacking {
+        taken,
+        known,
+        waiting,
+        done: 0,
+        stopped,
+    }
+}
+
+// What a replica answered to a chunk.
+fn handed_of(answer: Result<Unpacked, UnpackRefusal>) -> Handed
+    ensures { (result.number ≡ number_of_unpacking answer) × (result.unpacking ≡ unpacking_of answer) }
+{
+    match answer {
+        Ok(unpacked) => Handed {
+            number: 0,
+            unpacking: unpacking_of(unpacked),
+        },
+        Err(UnpackRefusal::Whole(why)) => Handed {
+            number: u32::from(why.number()),
+            unpacking: refused_after(0),
+        },
+        Err(UnpackRefusal::Partial { done, why }) => Handed {
+            number: u32::from(why.number()),
+            unpacking: refused_after(done),
+        },
+    }
+}
+
 // What a replica answered to a merge.
 fn merge_of(answer: Result<u64, MergeRefusal>) -> Merged
     ensures { (result.number ≡ number_of_merge answer) × (result.taken ≡ merged_by answer) }
@@ -95,6 +157,13 @@ impl Session {
         ensures { TakesIn self.old message.now result.number result.taking self.new }
     {
         answer_of(self.replica.take(message))
+    }
+
+    /// Takes in the operations of a chunk, or lets them wait.
+    pub(crate) fn unpack(&mut self, alloc: Global, chunk: &[u8]) -> Handed
+        ensures { UnpacksIn self.old chunk.now result.number result.unpacking self.new }
+    {
+        handed_of(unpack(alloc, &mut self.replica, chunk))
     }
 
     /// Takes in what waits, as far as it is ready.

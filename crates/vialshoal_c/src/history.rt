@@ -1,12 +1,15 @@
 //! What a session has taken in past some fronts, and its text as it was up to them.
 
-ghost use Rattle.std.specs.Prelude.{◌≡◌, ◌+◌, ◌++◌, ◌≤◌, length, IfNone, IfOk, IfSome, IsTrue};
+ghost use Rattle.std.specs.Prelude.{◌≡◌, ◌+◌, ◌++◌, ◌≤◌, length, map, IfNone, IfOk, IfSome, IsTrue};
 ghost use Rattle.std.specs.Prelude.{vec_capacity, vec_len};
+ghost use Rattle.std.specs.Int.{to_le_bytes, w16};
 ghost use Rattle.std.specs.List.{list_all};
 ghost use Rattle.looks.specs.Refusal.{RefusedForMemoryAlone};
+ghost use Rattle.text_chunks.specs.Packing.{chunks_beyond};
 ghost use Rattle.texts.specs.Fronts.{front_in, is_beyond};
 ghost use Rattle.texts.specs.Past.{IsPastOf};
-ghost use Rattle.vialshoal_c.specs.History.{IsFirstBeyond, NoneIsBeyond, PutsSpelling, TellsSince, fronts_of, is_front};
+ghost use Rattle.vialshoal_c.specs.History.{IsFirstBeyond, NoneIsBeyond, PutsChunks, PutsSpelling, TellsSince};
+ghost use Rattle.vialshoal_c.specs.History.{framed, fronts_of, is_front};
 
 use crate::asking::{Put, put_bytes};
 use crate::inputs::SiteFront;
@@ -16,6 +19,7 @@ use char_files::SiteNo;
 use looks::Refusal;
 use operations::{Op, encode};
 use std::alloc::Global;
+use text_chunks::pack;
 use texts::{Front, Past, Replica};
 
 // Whether all of these are fronts.
@@ -95,6 +99,37 @@ fn fronts_of(alloc: Global, fronts: &[SiteFront]) -> Result<Vec<Front>, Refusal>
     Ok(taken)
 }
 
+// A chunk's length in two bytes, the low one first.
+fn length_bytes(chunk: &[u8]) -> [u8; 2]
+    ensures { result ≡ to_le_bytes w16 (length chunk.now) }
+{
+    let [low, high, ..] = (chunk.len() as u64).to_le_bytes();
+    [low, high]
+}
+
+// Chunks one after the other, each after its length. Refused `OutOfMemory` alone.
+fn framed(alloc: Global, chunks: &[Vec<u8>]) -> Result<Vec<u8>, Refusal>
+    ensures ok { IfOk result (λ bytes. bytes.items ≡ framed (map (λ chunk. chunk.items) chunks.now)) }
+    ensures errors { RefusedForMemoryAlone result }
+{
+    let mut bytes = Vec::new(alloc);
+    for chunk in chunks {
+        bytes.extend_from_slice(&length_bytes(chunk))?;
+        bytes.extend_from_slice(chunk)?;
+    }
+    Ok(bytes)
+}
+
+// The chunks of what a text has taken in past these fronts, each after its length. Refused `OutOfMemory` alone.
+fn packed(alloc: Global, replica: &Replica, fronts: &[SiteFront]) -> Result<Vec<u8>, Refusal>
+    requires { IsTrue (list_all is_front fronts.now) }
+    ensures ok { IfOk result (λ bytes. bytes.items ≡ framed (chunks_beyond (fronts_of fronts.now) replica.now)) }
+    ensures errors { RefusedForMemoryAlone result }
+{
+    let taken = fronts_of(alloc, fronts)?;
+    framed(alloc, &pack(alloc, replica, &taken)?)
+}
+
 impl Session {
     /// Puts a message of what was taken in past these fronts into a room: of the first that is, from a place on. With
     /// it the place is that after its.
@@ -120,6 +155,19 @@ impl Session {
             *index = place + 1;
         }
         put
+    }
+
+    /// Puts the chunks of what was taken in past these fronts into a room, each after its length.
+    pub(crate) fn pack(&self, alloc: Global, fronts: &[SiteFront], room: &mut [u8]) -> Put
+        ensures { PutsChunks self.now.text fronts.now room.old result.number result.need room.new }
+    {
+        if !are_fronts(fronts) {
+            return Put::none(NO_NUMBER);
+        }
+        match packed(alloc, &self.replica, fronts) {
+            Ok(bytes) => put_bytes(&bytes, room),
+            Err(why) => Put::none(u32::from(why.number())),
+        }
     }
 
     /// The text as it was up to these fronts. Refused `OutOfMemory` alone.

@@ -26,6 +26,22 @@ pub struct Settling {
     pub stopped: bool,
 }
 
+/// What the unpacking of a chunk did.
+#[repr(C)]
+#[derive(Clone, Copy, Debug, PartialEq, Eq)]
+pub struct Unpacking {
+    /// How many operations were taken in, those that had waited among them.
+    pub taken: u64,
+    /// How many of the chunk's are held already, or wait already.
+    pub known: u64,
+    /// How many of the chunk's were put among those that wait.
+    pub waiting: u64,
+    /// Where one was refused, how many of the chunk's were handed in before it; else 0.
+    pub done: u64,
+    /// Whether taking in what waited ended early, for want of memory.
+    pub stopped: bool,
+}
+
 /// The lasting name of a character.
 #[repr(C)]
 #[derive(Clone, Copy, Debug, PartialEq, Eq)]
