@@ -239,6 +239,15 @@ class Run:
             return b"taken %d %d%s" % (taking.drained, taking.dropped, b" stopped" * taking.stopped)
         return taking.kind.name.lower().encode()
 
+    def unpack(self, text: Text[bytes], word: bytes) -> bytes:
+        try:
+            it = text.unpack(bytes_in_hex(word))
+        except Refused as why:
+            if not why.done:
+                raise
+            return b"partial %d %d" % (why.done, why.number)
+        return b"unpacked %d %d %d%s" % (it.taken, it.known, it.waiting, b" stopped" * it.stopped)
+
     def merge(self, text: Text[bytes], of: int, word: bytes) -> bytes:
         return b"merged %d" % text.merge(self.text(number(word), of))
 
@@ -278,6 +287,8 @@ class Run:
             return [self.reopen(site, of, file_named(words[0]))]
         if verb == b"take" and len(words) == 1:
             return [self.take(text, words[0])]
+        if verb == b"unpack" and len(words) == 1:
+            return [self.unpack(text, words[0])]
         if verb == b"merge" and len(words) == 1:
             return [self.merge(text, of, words[0])]
         numbers = [number(word) for word in words]
@@ -377,6 +388,12 @@ def since_asked(text: Text[bytes], numbers: list[int]) -> Iterator[bytes]:
     yield b"ok"
 
 
+def pack_asked(text: Text[bytes], numbers: list[int]) -> Iterator[bytes]:
+    for chunk in text.pack(fronts(numbers)):
+        yield b"chunk " + chunk.hex().encode()
+    yield b"ok"
+
+
 def past_asked(text: Text[bytes], numbers: list[int]) -> Iterator[bytes]:
     with text.past(fronts(numbers)) as past:
         yield from text_asked(past, [])
@@ -392,6 +409,7 @@ ASKED: dict[bytes, tuple[Optional[int], Asked]] = {
     b"where": (3, where_asked),
     b"names": (2, names_asked),
     b"since": (None, since_asked),
+    b"pack": (None, pack_asked),
     b"past": (None, past_asked),
 }
 

@@ -87,6 +87,10 @@ class Sites:
         self.script += f"{at + 1} since 1{worded(after)}\n"
         self.answers += "".join(f"message {message.hex()}\n" for message in self.texts[at].since(after))
 
+    def ask_pack(self, at: int, after: Fronts) -> None:
+        self.script += f"{at + 1} pack 1{worded(after)}\n"
+        self.answers += "".join(f"chunk {chunk.hex()}\n" for chunk in self.texts[at].pack(after))
+
     def ask_past(self, at: int, last: Fronts) -> None:
         self.script += f"{at + 1} past 1{worded(last)}\n"
         with self.texts[at].past(last) as past:
@@ -242,9 +246,10 @@ class AgainstTheProgram(unittest.TestCase):
         sites.do(given_steps)
         for at, named in asked:
             sites.ask_since(at, named)
+            sites.ask_pack(at, named)
             sites.ask_past(at, named)
         ran = subprocess.run([PROGRAM, "--count", "3"], input=sites.script, capture_output=True, text=True, check=True)
-        lines = [line for line in ran.stdout.splitlines() if line.startswith(("message ", "text "))]
+        lines = [line for line in ran.stdout.splitlines() if line.startswith(("message ", "chunk ", "text "))]
         self.assertEqual(lines, sites.answers.splitlines())
 
     @given(edits)

@@ -11,16 +11,20 @@
 An edit answers the messages that it made; the other sites' texts take these, in any order and any number of times. Texts
 that took the same show the same.
 
-One that was away takes what the other has past its fronts, and fronts open a text as it was:
+One that was away takes what the other has past its fronts, message by message or in chunks, which are shorter; and fronts
+open a text as it was:
 
 >>> with Text(1, site=1) as a, Text(1, site=2) as b:
-...     _ = a.insert(0, b"Oberon"), a.delete(0, 2)
+...     _ = a.insert(0, b"Oberon"), a.delete(0, 1)
 ...     for message in a.since(b.fronts()):
 ...         _ = b.take(message)
+...     _ = a.delete(0, 1)
+...     for chunk in a.pack(b.fronts()):
+...         _ = b.unpack(chunk)
 ...     _ = b.insert(4, b"!", Looks(colour=3))
 ...     with b.past({1: 1}) as past:
 ...         bytes(b), b.fronts(), bytes(past)
-(b'eron!', {1: 2, 2: 1}, b'Oberon')
+(b'eron!', {1: 3, 2: 1}, b'Oberon')
 
 A text is bytes, and so positions count bytes. A `Text[str]` shows them as UTF-8, and its positions count code points:
 
@@ -48,7 +52,7 @@ from . import _library as c
 from ._code_points import INSERT, CodePoints, Triple, begins, decoded, encoded
 
 __all__ = ["Change", "ChangeKind", "Looks", "Misused", "Name", "NameRange", "Past", "Place", "Refused", "Run", "Settling",
-           "Shown", "Taking", "TakingKind", "Text", "Units"]
+           "Shown", "Taking", "TakingKind", "Text", "Units", "Unpacking"]
 
 _calls = c.load()
 # What positions and lengths count.
@@ -60,13 +64,14 @@ S = TypeVar("S", bound="Shown[Any]")
 
 
 class Refused(Exception):
-    """A text refused what it was asked. `number` says why (docs/FORMATS.md, "Refusals"), and `messages` are those of the
-    part of an edit that stands; mostly nothing does."""
+    """A text refused what it was asked. `number` says why (docs/FORMATS.md, "Refusals"). `messages` are those of the part
+    of an edit that stands, and `done` is how many operations of a chunk were handed in, which stand; mostly nothing does."""
 
-    def __init__(self, number: int, messages: Optional[list[bytes]] = None) -> None:
+    def __init__(self, number: int, messages: Optional[list[bytes]] = None, done: int = 0) -> None:
         super().__init__(c.REASONS.get(number, f"number {number}"))
         self.number = number
         self.messages = messages or []
+        self.done = done
 
 
 class Misused(Refused, ValueError):
@@ -97,6 +102,17 @@ class Settling:
 
     drained: int
     dropped: int
+    stopped: bool
+
+
+@dataclass(frozen=True)
+class Unpacking:
+    """What became of a chunk's operations: how many were taken in, those that had waited among them; how many are held
+    already, or wait already; how many wait from now on. And whether taking in what waited ended early."""
+
+    taken: int
+    known: int
+    waiting: int
     stopped: bool
 
 
@@ -483,6 +499,16 @@ class Text(Shown[AnyStr]):
         _done(_calls.vialshoal_take(self._handle, message, len(message), byref(taking)))
         return Taking(TakingKind(taking.kind), taking.drained, taking.dropped, taking.stopped)
 
+    def unpack(self, chunk: bytes) -> Unpacking:
+        """Takes the operations of a chunk in, one after the other, or lets them wait for what they build on. Where one is
+        refused those before it stand, as many as the refusal's `done` says."""
+        chunk, it = bytes(chunk), c.CUnpacking()
+        number = _calls.vialshoal_unpack(self._handle, chunk, len(chunk), byref(it))
+        if it.done:
+            raise Refused(number, done=it.done)
+        _done(number)
+        return Unpacking(it.taken, it.known, it.waiting, it.stopped)
+
     def settle(self) -> Settling:
         """Takes in what waits, as far as it is ready."""
         settling = c.CSettling()
@@ -548,6 +574,19 @@ class Text(Shown[AnyStr]):
                 return
             _done(number)
             yield self._room.raw[:self._long.value]
+
+    def pack(self, fronts: Mapping[int, int] = {}) -> list[bytes]:
+        """What was taken in past these fronts, in chunks of 16,000 bytes at most, none where that is nothing: to unpack all,
+        in this order, does what taking the messages of `since` does. They have a byte for most keystrokes where messages
+        have some 50."""
+        asked = _fronts(fronts)
+        packed = self._file(lambda handle, *room: _calls.vialshoal_pack(handle, asked, len(asked), *room))
+        chunks, end = [], 0
+        while end < len(packed):
+            beg = end + 2
+            end = beg + int.from_bytes(packed[end:beg], "little")
+            chunks.append(packed[beg:end])
+        return chunks
 
     def past(self, fronts: Mapping[int, int]) -> Past[AnyStr]:
         """The text as it was, up to these fronts."""

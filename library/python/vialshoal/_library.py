@@ -18,8 +18,8 @@ NO_MESSAGE = 108
 
 # The replica's refusals are those of docs/FORMATS.md.
 REASONS = {
-    1: "the bytes are no message",
-    2: "the message is of another text",
+    1: "the bytes are no message, or no chunk",
+    2: "the message, or the chunk, is of another text",
     3: "another operation has this identity",
     4: "the message doesn't fit its site's others",
     5: "the stamp isn't above each cause's",
@@ -58,6 +58,10 @@ class CTaking(ctypes.Structure):
 
 class CSettling(ctypes.Structure):
     _fields_ = [("drained", c_uint32), ("dropped", c_uint32), ("stopped", c_bool)]
+
+
+class CUnpacking(ctypes.Structure):
+    _fields_ = [("taken", c_uint64), ("known", c_uint64), ("waiting", c_uint64), ("done", c_uint64), ("stopped", c_bool)]
 
 
 class CName(ctypes.Structure):
@@ -103,6 +107,7 @@ CALLS = {
     "message": (HANDLE, c_uint64, c_char_p, c_size_t, U64),
     "let_go": (HANDLE,),
     "take": (HANDLE, c_char_p, c_size_t, POINTER(CTaking)),
+    "unpack": (HANDLE, c_char_p, c_size_t, POINTER(CUnpacking)),
     "settle": (HANDLE, POINTER(CSettling)),
     "forget": (HANDLE, U32),
     "merge": (HANDLE, HANDLE, U64),
@@ -110,6 +115,7 @@ CALLS = {
     "sites": (HANDLE, POINTER(c_uint16), c_size_t, U64),
     "front": (HANDLE, c_uint16, U32),
     "since": (HANDLE, FRONTS, c_size_t, U64, c_char_p, c_size_t, U64),
+    "pack": (HANDLE, FRONTS, c_size_t, c_char_p, c_size_t, U64),
     "changes": (HANDLE, POINTER(CChange), c_size_t, U64),
     "save": (HANDLE, c_char_p, c_size_t, U64),
     "past": (HANDLE, FRONTS, c_size_t, PAST),
