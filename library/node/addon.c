@@ -302,6 +302,17 @@ static napi_value take(napi_env env, napi_callback_info info) {
     return ANSWER(number, taking.kind, taking.drained, taking.dropped, taking.stopped);
 }
 
+static napi_value unpack(napi_env env, napi_callback_info info) {
+    arguments given;
+    const uint8_t *bytes;
+    size_t length;
+    vialshoal_unpacking it = {0};
+    if (!taken(env, info, 2, &given)) return NULL;
+    TRY(bytes_of(env, given.at[1], &bytes, &length) ? napi_ok : napi_invalid_arg);
+    uint32_t number = vialshoal_unpack(given.text, bytes, length, &it);
+    return ANSWER(number, (double)it.done, (double)it.taken, (double)it.known, (double)it.waiting, it.stopped);
+}
+
 static napi_value settle(napi_env env, napi_callback_info info) {
     arguments given;
     vialshoal_settling settling = {0};
@@ -401,6 +412,26 @@ static napi_value since(napi_env env, napi_callback_info info) {
     TRY(napi_create_buffer_copy(env, need, room, NULL, &message));
     TRY(napi_set_element(env, list, 2, message));
     return list;
+}
+
+/* The chunks past fronts, each after its length, as a buffer; or the number that refuses them. */
+static napi_value pack(napi_env env, napi_callback_info info) {
+    arguments given;
+    vialshoal_site_front *fronts;
+    size_t count;
+    uint64_t need;
+    uint8_t none[1];
+    napi_value buffer;
+    void *room;
+    if (!taken(env, info, 2, &given)) return NULL;
+    TRY(fronts_of(env, given.at[1], &fronts, &count) ? napi_ok : napi_invalid_arg);
+    uint32_t number = fronts == NULL ? 7 : vialshoal_pack(given.text, fronts, count, none, 0, &need);
+    if (number == 0 || number == VIALSHOAL_TOO_SHORT) {
+        napi_status made = napi_create_buffer(env, need, &room, &buffer);
+        number = made != napi_ok ? 7 : need == 0 ? 0 : vialshoal_pack(given.text, fronts, count, room, need, &need);
+    }
+    free(fronts);
+    return number == 0 ? buffer : ANSWER(number);
 }
 
 static napi_value past(napi_env env, napi_callback_info info) {
@@ -569,6 +600,7 @@ NAPI_MODULE_INIT() {
         {"restoreNames", restore_names},
         {"messages", messages},
         {"take", take},
+        {"unpack", unpack},
         {"settle", settle},
         {"forget", forget},
         {"merge", merge},
@@ -576,6 +608,7 @@ NAPI_MODULE_INIT() {
         {"front", front},
         {"sites", sites},
         {"since", since},
+        {"pack", pack},
         {"past", past},
         {"length", length_of},
         {"bytes", bytes},

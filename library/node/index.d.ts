@@ -2,10 +2,12 @@
  * UTF-16 units, as those of strings do, and a byte that is of no character is one unit, which is shown as U+FFFD. */
 
 /** A text refused what it was asked: `number` says why (docs/FORMATS.md, "Refusals"; from 101 on it was misuse), and
- * `messages` are those of the part of an edit that stands; mostly nothing does. */
+ * `messages` are those of the part of an edit that stands, and `done` is how many operations of a chunk were handed in, which
+ * stand; mostly nothing does. */
 export class Refused extends Error {
     readonly number: number;
     readonly messages: Buffer[];
+    readonly done: number;
 }
 
 /** What became of a message, and of those that waited for it. */
@@ -20,6 +22,15 @@ export interface Taking {
 export interface Settling {
     drained: number;
     dropped: number;
+    stopped: boolean;
+}
+
+/** What became of a chunk's operations: how many were taken in, those that had waited among them; how many are held already, or
+ * wait already; how many wait from now on. And whether taking in what waited ended early. */
+export interface Unpacking {
+    taken: number;
+    known: number;
+    waiting: number;
     stopped: boolean;
 }
 
@@ -124,6 +135,9 @@ export class Text extends Shown {
     /** Shows the characters of these names again, each at its own place, by one message at most. */
     restoreNames(names: Iterable<NameRange>): Buffer[];
     take(message: Uint8Array): Taking;
+    /** Takes the operations of a chunk in, one after the other, or lets them wait for what they build on. Where one is refused
+     * those before it stand, as many as the refusal's `done` says. */
+    unpack(chunk: Uint8Array): Unpacking;
     settle(): Settling;
     /** Throws away what waits, and answers how many messages it was. */
     forget(): number;
@@ -138,6 +152,9 @@ export class Text extends Shown {
      * up to the fronts to what this one has. The fronts are read at once, and the messages one by one: what is taken in
      * between two steps comes as well, last. So when the iterator ends, it gave all that this text has by then. */
     since(fronts: Fronts): IterableIterator<Buffer>;
+    /** What was taken in past these fronts, in chunks of 16,000 bytes at most, none where that is nothing: to unpack all, in this
+     * order, does what taking the messages of `since` does. They have a byte for most keystrokes where messages have some 50. */
+    pack(fronts?: Fronts): Buffer[];
     /** The text as it was, up to these fronts. */
     past(fronts: Fronts): Past;
     /** What changed of what is shown since this was called last, one after the other. */

@@ -99,6 +99,38 @@ refuses(101, () => past.length);
 refuses(101, () => d.since([]));
 refuses(101, () => d.past([]));
 
+// The same in chunks.
+const g = new Text(1, 2), h = new Text(1, 1);
+for (const letters of ['a', 'b', 'cde']) g.insert(g.length, letters);
+const [all] = g.pack(), [later] = g.pack([[2, 1]]);
+assert.strictEqual(all.toString('latin1'), 'OTC1\0\x01\x0f\x02\x01\x01\0ab\x06\x01cde');
+assert.strictEqual(later.toString('latin1'), 'OTC1\0\x01\x0f\x02\x02\x02\x01\x05\x02\0b\x06\x01cde');
+assert.deepStrictEqual([g.pack(g.fronts()), new Text(1, 1).pack()], [[], []]);
+assert.deepStrictEqual(h.unpack(later), { taken: 0, known: 0, waiting: 2, stopped: false });
+assert.deepStrictEqual(h.unpack(new Uint8Array(all)), { taken: 3, known: 2, waiting: 0, stopped: false });
+assert.deepStrictEqual(h.unpack(later), { taken: 0, known: 2, waiting: 0, stopped: false });
+assert.deepStrictEqual([`${h}`, h.pack(new Map()).map(String)], ['abcde', [String(all)]]);
+for (const end of [0, 5, 11, 14]) refuses(1, () => h.unpack(all.subarray(0, end)));
+refuses(1, () => h.unpack(Buffer.concat([all, Buffer.from([15])])));
+refuses(2, () => new Text(2, 1).unpack(all));
+const twice = Text.load(g.store());
+g.insert(5, 'f');
+twice.insert(5, 'g');
+assert.throws(() => twice.unpack(g.pack()[0]), (error) => error instanceof Refused && error.number === 3 && error.done === 3);
+assert.throws(() => twice.unpack(g.pack([[2, 3]])[0]), (error) => error.number === 3 && error.done === 0);
+assert.strictEqual(`${twice}`, 'abcdeg');
+for (let at = 0; at < 10; at++) g.insert(6 + at * 2048, Buffer.alloc(4096, at));
+const many = g.pack([[2, 4]]);
+assert.deepStrictEqual([many.length, many.every((chunk) => chunk.length <= 16000)], [4, true]);
+const whole = new Text(1, 3);
+assert.strictEqual([...g.pack([[2, 0]])].reduce((sum, chunk) => sum + whole.unpack(chunk).taken, 0), 14);
+assert.ok(whole.bytes().equals(g.bytes()));
+for (const wrong of [[[0, 1]], [[65536, 1]], [[1, -1]], [[1, 2 ** 32]]]) refuses(105, () => g.pack(wrong));
+assert.throws(() => g.unpack('none'), /an argument is none/);
+g.close();
+refuses(101, () => g.pack());
+refuses(101, () => g.unpack(all));
+
 // Looks from the start, and a text file.
 const e = new Text(3, 1), f = new Text(3, 1);
 assert.deepStrictEqual(e.insert(0, 'Oberon', {}), f.insert(0, 'Oberon'));
