@@ -15,7 +15,7 @@ STEPS = 120
 APART = 10  # How many edits are made before two sites meet.
 SEEDS = range(1, 11)
 # How the last line of an answer begins.
-LAST = ("ok", "refused", "partial", "text", "waiting", "taken", "repeat", "waits")
+LAST = ("ok", "refused", "partial", "text", "waiting", "taken", "unpacked", "repeat", "waits")
 
 
 class Fault(Exception):
@@ -98,12 +98,25 @@ def edit_by_names(run: Run, site: int, draw: random.Random) -> None:
             raise Fault(f"{found} of {name} are shown after {verb}")
 
 
-def hand_over(run: Run, giver: int, taker: int) -> None:
-    """What the taker lacks is taken in, message by message; then nothing is left."""
+def hand_messages(run: Run, giver: int, taker: int) -> None:
     for line in run.ask(f"{giver} since 1{run.fronts(taker)}")[:-1]:
         answer = run.ask(f"{taker} take 1 {line.removeprefix('message ')}")
         if answer != ["taken 0 0"]:
             raise Fault(f"a message is answered {answer}")
+
+
+def hand_chunks(run: Run, giver: int, taker: int) -> None:
+    lacked = len(run.ask(f"{giver} since 1{run.fronts(taker)}")) - 1
+    answers = [
+        run.ask(f"{taker} unpack 1 {line.removeprefix('chunk ')}") for line in run.ask(f"{giver} pack 1{run.fronts(taker)}")[:-1]
+    ]
+    if answers != [[f"unpacked {lacked} 0 0"]] * min(lacked, 1):
+        raise Fault(f"chunks of {lacked} operations are answered {answers}")
+
+
+def hand_over(run: Run, giver: int, taker: int, draw: random.Random) -> None:
+    """What the taker lacks is taken in, message by message or by chunks; then nothing is left."""
+    draw.choice([hand_messages, hand_chunks])(run, giver, taker)
     left = run.ask(f"{giver} since 1{run.fronts(taker)}")
     if left != ["ok"]:
         raise Fault(f"{len(left) - 1} messages are left")
@@ -114,9 +127,9 @@ def shown(run: Run, site: int) -> list[str]:
     return [line for event in ("text 1", "runs 1", f"names 1 0 {length}") for line in run.ask(f"{site} {event}")]
 
 
-def meet(run: Run, one: int, other: int) -> None:
-    hand_over(run, one, other)
-    hand_over(run, other, one)
+def meet(run: Run, one: int, other: int, draw: random.Random) -> None:
+    hand_over(run, one, other, draw)
+    hand_over(run, other, one, draw)
     if shown(run, one) != shown(run, other):
         raise Fault(f"sites {one} and {other} differ")
 
@@ -132,9 +145,10 @@ def play(command: str, seed: int) -> str:
                 site = draw.choice(SITES)
                 noted.append((run.fronts(site), run.text(site)))
                 if step % APART == 0:
-                    meet(run, *draw.sample(SITES, 2))
+                    one, other = draw.sample(SITES, 2)
+                    meet(run, one, other, draw)
             for one, other in ((1, 2), (2, 3), (1, 2)):
-                meet(run, one, other)
+                meet(run, one, other, draw)
             for fronts, text in noted:
                 for site in SITES:
                     if (then := run.text(site, f"past 1{fronts}")) != text:
