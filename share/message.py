@@ -4,7 +4,7 @@ spells them.
 docs/FORMATS.md has them byte by byte.
 """
 import struct
-from collections.abc import Iterator
+from collections.abc import Iterable, Iterator
 from typing import NamedTuple
 
 TEXT = 1
@@ -87,7 +87,7 @@ def mentioned(message: Message) -> list[Names]:
     if message.kind == INSERT:
         site, at, _, _ = INSERTION.unpack_from(message.data, HEADER.size)
         return [Names(site, at, 1)] if site else []
-    return list(_ranges(message.data, _begin_of_ranges(message.data)))
+    return list(_ranges(message.data, begin_of_ranges(message.data)))
 
 
 def names_of(message: Message) -> list[Names]:
@@ -98,39 +98,14 @@ def names_of(message: Message) -> list[Names]:
     return mentioned(message) if message.kind in (DELETE, RESTORE) else []
 
 
-def _is_insertion(data: bytes, site: int) -> bool:
-    cause_site, cause, at, font = INSERTION.unpack_from(data, HEADER.size)
-    if cause_site == 0 and cause or cause >= MOST_OF_A_SITE or cause_site == site and cause >= at:
-        return False
-    begin = HEADER.size + INSERTION.size
-    if not _is_font(data[begin:begin + font], font) or data[begin + font] > MOST_COLOUR:
-        return False
-    (length,) = LENGTH.unpack_from(data, begin + font + 2)
-    return bool(1 <= length <= MOST_INSERTED and at + length <= MOST_OF_A_SITE
-                and len(data) == begin + font + 2 + LENGTH.size + length)
+def length_after(messages: Iterable[Message], length: int) -> int:
+    """How many characters a site has inserted with messages of its own, where there were so many before them."""
+    for names in filter(None, map(inserted, messages)):
+        length = names.at + names.length
+    return length
 
 
-def _is_font(font: bytes, length: int) -> bool:
-    return (len(font) == length and 1 <= length <= LONGEST_FONT and font[0] in LETTERS
-            and FONT_BYTES.issuperset(font))
-
-
-def _is_change(data: bytes) -> bool:
-    selected, begin = data[HEADER.size], HEADER.size + 1
-    if not 1 <= selected <= 7:
-        return False
-    if selected & 1:
-        if not _is_font(data[begin + 1:begin + 1 + data[begin]], data[begin]):
-            return False
-        begin += 1 + data[begin]
-    if selected & 2:
-        if data[begin] > MOST_COLOUR:
-            return False
-        begin += 1
-    return _are_ranges(data, begin + bool(selected & 4))
-
-
-def _begin_of_ranges(data: bytes) -> int:
+def begin_of_ranges(data: bytes) -> int:
     """Where the set of a message begins that has one."""
     if data[3] != CHANGE_LOOKS:
         return HEADER.size
@@ -138,6 +113,39 @@ def _begin_of_ranges(data: bytes) -> int:
     if selected & 1:
         begin += 1 + data[begin]
     return begin + bool(selected & 2) + bool(selected & 4)
+
+
+def is_font(font: bytes, length: int) -> bool:
+    """Whether bytes are the name of a font of this length."""
+    return (len(font) == length and 1 <= length <= LONGEST_FONT and font[0] in LETTERS
+            and FONT_BYTES.issuperset(font))
+
+
+def _is_insertion(data: bytes, site: int) -> bool:
+    cause_site, cause, at, font = INSERTION.unpack_from(data, HEADER.size)
+    if cause_site == 0 and cause or cause >= MOST_OF_A_SITE or cause_site == site and cause >= at:
+        return False
+    begin = HEADER.size + INSERTION.size
+    if not is_font(data[begin:begin + font], font) or data[begin + font] > MOST_COLOUR:
+        return False
+    (length,) = LENGTH.unpack_from(data, begin + font + 2)
+    return bool(1 <= length <= MOST_INSERTED and at + length <= MOST_OF_A_SITE
+                and len(data) == begin + font + 2 + LENGTH.size + length)
+
+
+def _is_change(data: bytes) -> bool:
+    selected, begin = data[HEADER.size], HEADER.size + 1
+    if not 1 <= selected <= 7:
+        return False
+    if selected & 1:
+        if not is_font(data[begin + 1:begin + 1 + data[begin]], data[begin]):
+            return False
+        begin += 1 + data[begin]
+    if selected & 2:
+        if data[begin] > MOST_COLOUR:
+            return False
+        begin += 1
+    return _are_ranges(data, begin + bool(selected & 4))
 
 
 def _are_ranges(data: bytes, begin: int) -> bool:

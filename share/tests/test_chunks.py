@@ -1,0 +1,176 @@
+"""Chunks: a site's messages both ways, as the program packs and unpacks them; and what is no chunk."""
+import random
+import unittest
+
+from share.chunks import BEGIN, MOST_CHUNK, NoChunk, Writer, messages, packed, runs
+from share.message import DELETE, Message
+from share.messages import Loose, Messages, Part
+from share.program import Program
+from share.tests.naive import about, inserting
+
+# Site 1 has a file of five characters, types an a after them, and then the byte 15, which is a code in a chunk.
+WORKED = BEGIN + b"\x0f\1\3\x09\5" + b"\5\1\4a" + b"\x0e\x0f"
+TURNS, TRIES = 60, 300
+
+
+def typed(site: int, seq: int, at: int, data: bytes) -> list[Message]:
+    """Letters that a site types one after the other at the end of its own."""
+    return [inserting(site, seq + number, seq + number, (site, at + number - 1) if at + number else None, at + number,
+                      bytes([byte])) for number, byte in enumerate(data)]
+
+
+def unpacked(program: Program, chunk: bytes) -> bytes:
+    """What the program answers to a chunk."""
+    return program.ask([program.unpacking(chunk)])[0][-1]
+
+
+class Chunks(unittest.TestCase):
+    """What the program and this package read and write alike."""
+
+    def edits(self, program: Program, chance: random.Random) -> list[Message]:
+        """What some edits at a site send."""
+        sent: list[Message] = []
+        for _ in range(TURNS):
+            length = len(program.text())
+            begin, end = sorted(chance.choices(range(length + 1), k=2))
+            event = chance.choice([
+                program.event("type", length, bytes(chance.choices(b"abc", k=chance.choice([1, 1, 5])))),
+                program.event("type", length, b"x"), program.event("type", begin, b"\\0e\\01\\ff"[:chance.choice([3, 9])]),
+                program.event("cut", begin, min(end, begin + 3)), program.event("restore"),
+                program.event("looks", begin, end, b"font=Syntax12.Scn.Fnt colour=%d" % chance.randrange(16))])
+            sent += [Message.read(bytes.fromhex(line.split()[2].decode())) for line in program.ask([event])[0][:-1]]
+        return sent
+
+    def packs(self, program: Program, *fronts: int) -> list[bytes]:
+        """The chunks that the program makes of what it has beyond fronts."""
+        return [bytes.fromhex(line.split()[1].decode()) for line in program.ask([program.event("pack", *fronts)])[0][:-1]]
+
+    def test_the_program_packs_alike(self) -> None:
+        chance = random.Random(1)
+        one, two = Program(300), Program(7)
+        self.addCleanup(one.close)
+        self.addCleanup(two.close)
+        sent = self.edits(one, chance)
+        self.assertEqual(self.packs(one), [packed(sent)])
+        self.assertEqual(messages(packed(sent) or b""), tuple(sent))
+        self.assertLess(len(runs(packed(sent) or b"")), len(sent))
+        self.assertEqual(unpacked(two, packed(sent) or b""), b"unpacked %d 0 0" % len(sent))
+        self.assertEqual(two.text(), one.text())
+        # What comes next of both, in the order in which the second one took it in.
+        own = self.edits(two, chance)
+        one.ask([one.taking(message.data) for message in own])
+        more = self.edits(one, chance)
+        two.ask([two.taking(message.data) for message in more])
+        self.assertEqual(b"".join(data for data, _ in Messages(own + more).chunks()), self.packs(two, 300, len(sent))[0])
+        length = len(b"".join(run.data for run in runs(packed(sent) or b"")))
+        self.assertEqual(self.packs(one, 300, len(sent), 7, len(own)), [packed(more, length)])
+        self.assertEqual(messages(packed(more, length) or b""), tuple(more))
+        # One that overlaps what is held is judged operation by operation.
+        self.assertEqual(unpacked(two, packed(sent + more) or b""), b"unpacked 0 %d 0" % len(sent + more))
+
+    def test_a_chunk_worked_out_by_hand(self) -> None:
+        first, second = inserting(1, 3, 9, (1, 4), 5, b"a"), inserting(1, 4, 10, (1, 5), 6, b"\x0f")
+        self.assertEqual(messages(WORKED), (first, second))
+        self.assertEqual(packed([first, second]), WORKED)
+        self.assertEqual([(run.size, run.data, run.mentions) for run in runs(WORKED)], [(2, b"a\x0f", [(1, 4, 1)])])
+
+    def test_what_can_not_follow(self) -> None:
+        one = typed(7, 1, 0, b"ab")
+        for bad in (inserting(7, 4, 4, None, 2, b"c"), inserting(7, 3, 2, None, 2, b"c"), inserting(7, 3, 3, None, 1, b"c")):
+            self.assertIsNone(packed([*one, bad]))
+        writer = Writer()
+        self.assertTrue(all(map(writer.add, [*one, *typed(8, 1, 0, b"c"), *typed(7, 3, 2, b"d")])))
+        with self.assertRaises(NoChunk):
+            runs(bytes(writer.data))
+
+    def test_the_bound(self) -> None:
+        room = MOST_CHUNK - len(packed(typed(7, 1, 0, b"a")) or b"")
+        right = packed(typed(7, 1, 0, b"a" * (1 + room)))
+        self.assertEqual(len(right or b""), MOST_CHUNK)
+        self.assertIsNone(packed(typed(7, 1, 0, b"a" * (2 + room))))
+        self.assertEqual(sum(run.size for run in runs(right or b"")), 1 + room)
+        with self.assertRaises(NoChunk):
+            runs((right or b"") + b"a")
+
+    def test_numbers_at_their_bounds(self) -> None:
+        for message in (inserting(65_535, 2**32 - 1, 2**48 - 1, (65_535, 2**24 - 2), 2**24 - 1, b"x"),
+                        about(DELETE, 1, 1, 1, [(65_535, 2**24 - 1, 1)])):
+            chunk = packed([message]) or b""
+            self.assertEqual(messages(chunk), (message,))
+            with self.assertRaises(NoChunk):
+                # One more of either is past a bound.
+                runs(chunk + (b"y" if message.kind != DELETE else b"\4\4\x08"))
+
+    def test_hostile_bytes(self) -> None:
+        chance, program = random.Random(2), Program(9)
+        self.addCleanup(program.close)
+        right = packed(self.edits(program, chance)) or b""
+        taker, told = Program(1), {True: 0, False: 0}
+        self.addCleanup(taker.close)
+        for _ in range(TRIES):
+            bad = bytearray(right)
+            for _ in range(chance.choice([1, 1, 2])):
+                at = chance.randrange(len(bad))
+                bad[at:at + chance.randrange(3)] = chance.choices([*range(16), 0x80, 255, chance.randrange(256)],
+                                                                  k=chance.randrange(3))
+            chunk = bytes(bad[:chance.choice([len(bad), len(bad), chance.randrange(len(bad) + 1)])])
+            answer = unpacked(taker, chunk)
+            try:
+                found = messages(chunk)
+            except NoChunk:
+                # A note's chunks are of one site, and have messages.
+                self.assertTrue(answer in (b"refused 1", b"refused 2") or chunk in (b"", BEGIN) or {1, 15} & {*chunk[7:]}, chunk)
+                told[False] += 1
+            else:
+                self.assertNotIn(answer, (b"refused 1", b"refused 2"))
+                self.assertEqual(packed(found, length_of(chunk)), chunk)
+                told[True] += 1
+        self.assertGreater(min(told.values()), 10)
+
+
+def length_of(chunk: bytes) -> int:
+    """How many characters a chunk says that its site had."""
+    numbers, at = [], len(BEGIN) + 1
+    while len(numbers) < 4:
+        end = next(end for end in range(at, len(chunk)) if chunk[end] < 0x80)
+        numbers.append(sum((byte & 0x7F) << 7 * place for place, byte in enumerate(chunk[at:end + 1])))
+        at = end + 1
+    return numbers[-1]
+
+
+class InARow(unittest.TestCase):
+    """Messages that are kept as they came."""
+
+    def setUp(self) -> None:
+        self.plain = [*typed(1, 1, 0, b"abcdef"), *typed(2, 1, 0, b"gh"), *typed(1, 7, 6, b"ij")]
+        first = Part(Loose(6, tuple(self.plain[:6]), packed(self.plain[:6]) or b""), 0, 6)
+        self.row = Messages(parts=[first._replace(end=2), first._replace(begin=2)])
+        self.row += self.plain[6:]
+
+    def test_as_a_list(self) -> None:
+        self.assertEqual((len(self.row), list(self.row)), (10, self.plain))
+        for begin in range(-11, 12):
+            for end in range(-11, 12):
+                self.assertEqual(list(self.row[begin:end]), self.plain[begin:end])
+                self.assertEqual(self.row[begin:end], Messages(self.plain[begin:end]))
+        for place in range(-10, 10):
+            self.assertEqual(self.row[place], self.plain[place])
+        for place in -11, 10:
+            with self.assertRaises(IndexError):
+                self.row[place]
+        self.assertEqual(list(self.row + self.row[3:5]), self.plain + self.plain[3:5])
+        self.assertNotEqual(self.row, self.row[1:])
+        self.assertNotEqual(self.row[1:], self.row[:-1])
+        self.row.cut(7)
+        self.assertEqual(list(self.row), self.plain[:7])
+
+    def test_chunks(self) -> None:
+        whole, both = [*self.row.chunks()], [*self.row[1:].chunks()]
+        self.assertEqual(whole[0], (packed(self.plain[:6]), 6))
+        self.assertEqual([count for _, count in whole], [6, 4])
+        self.assertEqual([count for _, count in both], [9])
+        self.assertEqual([*Messages().chunks()], [])
+
+
+if __name__ == "__main__":
+    unittest.main()
