@@ -66,7 +66,7 @@ def make_anew(rows: Sequence[Row], lost: Sequence[Message], judge: Judge, site: 
 
 def _differing(seen: Sequence[Message], judge: Judge) -> _Differing:
     """The names of what messages speak of that count in one of the texts alone."""
-    counted = {(message.site, message.seq): message for message in judge.let_through()}
+    counted = {(message.site, message.seq): message for message in judge.let_through_in_order()}
     only_seen = [message for message in seen if counted.get((message.site, message.seq)) != message]
     for message in seen:
         if counted.get((message.site, message.seq)) == message:

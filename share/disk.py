@@ -16,7 +16,7 @@ from collections.abc import Iterable, Iterator, Sequence
 from dataclasses import dataclass, replace
 from typing import NamedTuple
 
-from share.entry import HEAD, MOST_AUTHOR_BYTES, NOTE_BYTES, Author, Bad, Entry, Form, Kind, Plain, digest
+from share.entry import HEAD, MOST_AUTHOR_BYTES, NOTE_BYTES, Author, Bad, Entry, Form, Kind, Plain, check_entry, digest
 from share.words import Trouble
 
 # Tells a note's file from other files of SQLite, in its header.
@@ -39,6 +39,8 @@ PLACES = f"""SELECT place, hash, substr(raw, 1, {HEAD.size + MOST_AUTHOR_BYTES})
              WHERE place > ? AND hash NOT IN (SELECT hash FROM withdrawn) ORDER BY place"""
 FOUND = ("DELETE FROM entry WHERE hash IN (SELECT hash FROM withdrawn WHERE hash = ?)",
          "DELETE FROM withdrawn WHERE hash = ?")
+# Versions of before have no such table, and leave one where it is.
+PACKED = """CREATE TABLE IF NOT EXISTS packed (site INTEGER PRIMARY KEY, digest BLOB NOT NULL, fronts BLOB NOT NULL)"""
 PAGE = 5_000
 # A sealed note's key has so many bytes.
 KEY_BYTES = 32
@@ -198,9 +200,11 @@ class Disk:
     def _row(self, place: int, of: bytes, raw: bytes, body: bytes | None, check: int, made: int) -> Row | None:
         with contextlib.suppress(TypeError, ValueError, struct.error, Bad):
             if digest(raw) == of and zlib.crc32(body or b"") == check:
-                if body is None:
-                    return Row(place, self.form.reopened(raw, self.form.body(raw), of), bool(made))
-                return Row(place, self.form.reopened(raw, body, of), bool(made))
+                entry = self.form.reopened(raw, self.form.body(raw) if body is None else body, of)
+                if entry.chunk:
+                    # A version that didn't know chunks has kept whatever came.
+                    check_entry(entry)
+                return Row(place, entry, bool(made))
         if isinstance(raw, bytes) and len(raw) >= HEAD.size and digest(raw) == of and self.form.kind(raw) is Kind.NEWER:
             # A newer version may keep it in another way, too.
             return None
@@ -279,6 +283,20 @@ class Disk:
                                         "(SELECT hash FROM withdrawn)", (one,)).fetchone() for one in places]
         # What the disk has damaged meanwhile isn't sent.
         return [one[0] for one in found if one and isinstance(one[0], bytes) and digest(one[0]) == one[1]]
+
+    def packed(self, site: int) -> tuple[bytes, bytes] | None:
+        """What was noted of a site's packed file: its digest, and how far it goes."""
+        with self._words():
+            if not self._one("SELECT count(*) FROM sqlite_master WHERE name = 'packed'"):
+                return None
+            found = self._file.execute("SELECT digest, fronts FROM packed WHERE site = ?", (site,)).fetchone()
+        return found if found and all(isinstance(one, bytes) for one in found) else None
+
+    def note_packed(self, site: int, of: bytes, fronts: bytes) -> None:
+        """Notes a site's packed file, that it has this digest, and how far it goes."""
+        with self._words(), self._transaction():
+            self._file.execute(PACKED)
+            self._file.execute("INSERT OR REPLACE INTO packed VALUES (?, ?, ?)", (site, of, fronts))
 
     def stands(self, client: Client) -> None:
         """Notes that a claim stands."""

@@ -3,7 +3,7 @@ import time
 
 from share.looks import Dressed, dressed, may_dress
 from share.note_text import Change
-from share.site import Site
+from share.site import SLICE, Site
 
 # So many stretches of a note are shown in looks, from the front on.
 MOST_STRETCHES = 20_000
@@ -42,7 +42,8 @@ class Dress:
         if site is not self._site or len(site.history) < self._seen:
             self._site, self._seen, self.is_due = site, 0, bool(self.stretches)
         if len(site.history) > self._seen:
-            self.is_due = self.is_due or any(map(may_dress, site.history[self._seen:]))
+            many = len(site.history) - self._seen > SLICE
+            self.is_due = self.is_due or many or any(may_dress(one.data) for one in site.history[self._seen:])
             self._seen = len(site.history)
         now = time.monotonic()
         if not self.is_due or now < self._due:

@@ -559,7 +559,7 @@ class Engine:
 
     def _history(self, peer: Peer, request: Line) -> Line | None:
         begin, most = lines.number(request, "from", 0), lines.number(request, "most", MOST_STEPS)
-        messages = [*self._open_session().site.history]
+        messages = self._open_session().site.history[:]
 
         def work() -> Line:
             found = history.steps(messages, begin, min(most, MOST_STEPS))
@@ -574,7 +574,7 @@ class Engine:
 
     def _past(self, peer: Peer, request: Line) -> Line | None:
         at, units = lines.number(request, "at"), peer.carry.units
-        messages = [*self._open_session().site.history]
+        messages = self._open_session().site.history[:]
         if at > len(messages):
             raise Wrong("outside", f"The history has {len(messages):,} messages.")
 

@@ -4,7 +4,7 @@ site that follow one another, or a word that messages were made anew.
 All numbers are big-endian. An entry has this head:
 
     form      1      1 plain, 2 sealed
-    kind      1      1 a claim, 2 messages, 3 messages that say what they build on, 4 made anew
+    kind      1      1 a claim, 4 made anew, 5 a chunk of messages, 6 a chunk that says what they build on
     note      16     the note's identity
     site      2      1 to 65,528
     first     4      the seq of its first message; 0 without messages
@@ -12,9 +12,10 @@ All numbers are big-endian. An entry has this head:
     before    32     the hash of this site's entry before it; zeros in a claim
     author    16/32  who claims or writes: 128 random bits where plain, an Ed25519 public key where sealed
 
-Then, in kind 3, 32 bytes that say what the messages build on, and the messages, each after its length in two
-bytes: as they are, where the form is plain, with a digest of all before it; else sealed, with the head as what is
-authenticated beside them, and signed.
+Then, in kind 6, 32 bytes that say what the messages build on, and the chunk of them (docs/FORMATS.md): as they are, where
+the form is plain, with a digest of all before it; else sealed, with the head as what is authenticated beside them, and
+signed. Kinds 2 and 3 are 5 and 6 as versions of before wrote them: with the messages, each after its length in two bytes, in
+place of the chunk.
 The hash of an entry is that of all its bytes. So the entries of a site make a chain that begins with its claim. What
 says that messages were made anew is in no chain: it names the last entry of those that it speaks of.
 An entry of another kind is a newer version's: it is kept and carried as it is, and says nothing here.
@@ -22,7 +23,7 @@ An entry of another kind is a newer version's: it is kept and carried as it is, 
 What messages build on is said where they mention characters of other sites: of each of these sites, in the order of
 their numbers, the entry in which the last mentioned one of its characters was inserted; 32 bytes are the hash of
 these entries' hashes. Names alone don't say it, since two copies of one number give theirs the same ones. Entries of
-kind 2 that mention characters of other sites were made before there was kind 3.
+kind 2 may mention characters of other sites: those were made before there was kind 3.
 """
 import hashlib
 import secrets
@@ -30,15 +31,16 @@ import struct
 from abc import ABC, abstractmethod
 from collections.abc import Sequence
 from enum import IntEnum
+from functools import lru_cache
 from typing import NamedTuple
 
+from share import chunks
+from share.chunks import UNFOLDED, NoChunk, Run, Writer, of_message, packed
 from share.log import MOST_PRESENCE
-from share.message import Message, is_spelled
+from share.message import Message, is_spelled, length_after
 
 HEAD = struct.Struct(">BB16sHIH32s")
 LENGTH = struct.Struct(">H")
-# The messages of an entry have so many bytes at most, their lengths among them.
-MOST_BODY = 16_000
 # An entry has so many bytes at most.
 MOST_BYTES = 16_384
 NOTE_BYTES = 16
@@ -57,9 +59,13 @@ class Kind(IntEnum):
     MESSAGES = 2
     BUILDING = 3
     ANEW = 4
+    CHUNK = 5
+    CHUNK_BUILDING = 6
 
 
 KINDS = {int(kind): kind for kind in Kind if kind is not Kind.NEWER}
+SAY_WHAT_THEY_BUILD_ON = (Kind.BUILDING, Kind.CHUNK_BUILDING)
+CHUNKS = (Kind.CHUNK, Kind.CHUNK_BUILDING)
 
 
 class Bad(Exception):
@@ -73,23 +79,41 @@ class Entry(NamedTuple):
     kind: Kind
     site: int
     first: int
+    # How many messages there are.
+    size: int
     before: bytes
     author: bytes
     # What the messages build on, where the entry says it; all that is after the head of what is newer.
     on: bytes
-    messages: tuple[Message, ...]
+    # The messages, as the entry has them.
+    spelled: bytes
     raw: bytes
     hash: bytes
 
     @property
     def last(self) -> int:
         """The seq of the last message, 0 without messages."""
-        return self.first + len(self.messages) - 1 if self.messages else 0
+        return self.first + self.size - 1 if self.size else 0
 
     @property
     def body(self) -> bytes:
         """What the messages build on, and they themselves."""
-        return self.on + body_of(self.messages)
+        return self.on + self.spelled
+
+    @property
+    def chunk(self) -> bytes:
+        """The chunk of the messages, where the entry has them in one."""
+        return self.spelled if self.kind in CHUNKS else b""
+
+    @property
+    def messages(self) -> tuple[Message, ...]:
+        """The messages."""
+        return chunks.messages(self.spelled) if self.kind in CHUNKS else _messages_of(self.spelled)
+
+    @property
+    def runs(self) -> tuple[Run, ...]:
+        """The messages, those in one that are letters typed one after the other."""
+        return chunks.runs(self.spelled) if self.kind in CHUNKS else tuple(map(of_message, self.messages))
 
 
 class Author(NamedTuple):
@@ -135,23 +159,25 @@ class Form(ABC):
 
     def claim(self, site: int, author: Author) -> Entry:
         """The entry with which an author claims a site's number."""
-        return self._made(Kind.CLAIM, site, 0, NO_HASH, author, b"", ())
+        return self._made(Kind.CLAIM, site, 0, 0, NO_HASH, author, b"", b"")
 
-    def entry(self, before: Entry, messages: Sequence[Message], author: Author, on: bytes = b"") -> Entry:
-        """The entry of messages that follow those of an author's entry before it, and of what they build on. They
-        fit one."""
-        kind = Kind.BUILDING if on else Kind.MESSAGES
-        return self._made(kind, before.site, messages[0].seq, before.hash, author, on, tuple(messages))
+    def entry(self, before: Entry, messages: Sequence[Message], author: Author, on: bytes = b"", length: int = 0) -> Entry:
+        """The entry of messages that follow those of an author's entry before it, where the site had so many characters,
+        and of what they build on. They fit one. Those that no chunk has are spelled as versions of before did."""
+        chunk = packed(messages, length)
+        kind = (Kind.CHUNK_BUILDING if on else Kind.CHUNK) if chunk else Kind.BUILDING if on else Kind.MESSAGES
+        return self._made(kind, before.site, messages[0].seq, len(messages), before.hash, author, on,
+                          chunk or body_of(messages))
 
     def made_anew(self, last: Entry, author: Author) -> Entry:
         """The entry with which an author says that of his entries up to this one all that doesn't count was made
         anew."""
-        return self._made(Kind.ANEW, last.site, 0, last.hash, author, b"", ())
+        return self._made(Kind.ANEW, last.site, 0, 0, last.hash, author, b"", b"")
 
     def open(self, raw: bytes) -> Entry:
         """The entry that has these bytes; Bad where they are none of this note's."""
         entry = self.reopened(raw, self._checked(raw), digest(raw))
-        _check(entry)
+        check_entry(entry)
         return entry
 
     def kind(self, raw: bytes) -> Kind:
@@ -174,9 +200,11 @@ class Form(ABC):
 
     def reopened(self, raw: bytes, body: bytes, of: bytes) -> Entry:
         """The entry of bytes that were opened before: its body and its hash were kept."""
-        _, kind, _, site, first, _, before = HEAD.unpack_from(raw)
-        on, parts = _parts_of(kind, body)
-        return Entry(kind_of(kind), site, first, before, self.author(raw), on, tuple(map(Message.read, parts)), raw, of)
+        _, number, _, site, first, count, before = HEAD.unpack_from(raw)
+        kind = kind_of(number)
+        size = len(body) if kind is Kind.NEWER else len(NO_HASH) if kind in SAY_WHAT_THEY_BUILD_ON else 0
+        count = 0 if kind is Kind.NEWER else count
+        return Entry(kind, site, first, count, before, self.author(raw), body[:size], body[size:], raw, of)
 
     def _checked(self, raw: bytes) -> bytes:
         """The body of bytes that are spelled as an entry."""
@@ -185,27 +213,15 @@ class Form(ABC):
         begin = HEAD.size + self.author_bytes
         if len(raw) < begin or raw[0] != self.number:
             raise Bad("isn't spelled as one")
-        head = HEAD.unpack_from(raw)
-        if head[2] != self.note:
+        if raw[2:2 + NOTE_BYTES] != self.note:
             raise Bad("is of another note")
-        body = self._opened(raw[:begin], raw[begin:], raw[HEAD.size:begin])
-        if kind_of(head[1]) is Kind.NEWER:
-            return body
-        try:
-            _, parts = _parts_of(head[1], body)
-        except struct.error as why:
-            raise Bad("has messages that are cut short") from why
-        if len(parts) != head[5]:
-            raise Bad("doesn't have as many messages as it says")
-        if not all(map(is_spelled, parts)):
-            raise Bad("has bytes that are no message")
-        return body
+        return self._opened(raw[:begin], raw[begin:], raw[HEAD.size:begin])
 
-    def _made(self, kind: Kind, site: int, first: int, before: bytes, author: Author, on: bytes,
-              messages: tuple[Message, ...]) -> Entry:
-        head = HEAD.pack(self.number, kind, self.note, site, first, len(messages), before) + author.name
-        raw = self._closed(head, on + body_of(messages), author)
-        return Entry(kind, site, first, before, author.name, on, messages, raw, digest(raw))
+    def _made(self, kind: Kind, site: int, first: int, count: int, before: bytes, author: Author, on: bytes,
+              spelled: bytes) -> Entry:
+        head = HEAD.pack(self.number, kind, self.note, site, first, count, before) + author.name
+        raw = self._closed(head, on + spelled, author)
+        return Entry(kind, site, first, count, before, author.name, on, spelled, raw, digest(raw))
 
 
 class Plain(Form):
@@ -245,17 +261,17 @@ def body_of(messages: Sequence[Message]) -> bytes:
     return b"".join(LENGTH.pack(len(message.data)) + message.data for message in messages)
 
 
-def in_entries(messages: Sequence[Message]) -> list[list[Message]]:
-    """Messages in parts that fit an entry each."""
+def in_entries(messages: Sequence[Message], length: int = 0) -> list[list[Message]]:
+    """Messages of a site, which had so many characters before them, in parts that fit an entry each."""
     parts: list[list[Message]] = []
-    room = 0
+    writer = Writer()
     for message in messages:
-        size = LENGTH.size + len(message.data)
-        if not parts or size > room:
+        if not parts or not writer.add(message, length):
+            writer = Writer()
+            writer.add(message, length)
             parts.append([])
-            room = MOST_BODY
         parts[-1].append(message)
-        room -= size
+        length = length_after([message], length)
     return parts
 
 
@@ -268,41 +284,57 @@ def _short_digest(data: bytes) -> bytes:
     return hashlib.blake2b(data, digest_size=DIGEST_BYTES).digest()
 
 
-def _parts_of(kind: int, body: bytes) -> tuple[bytes, list[bytes]]:
-    """What the messages of a body build on, and the bytes of each."""
-    if kind_of(kind) is Kind.NEWER:
-        return body, []
-    size = len(NO_HASH) if kind == Kind.BUILDING else 0
-    if len(body) < size:
-        raise struct.error("it is cut short")
-    return body[:size], _split(body[size:])
+@lru_cache(UNFOLDED)
+def _messages_of(spelled: bytes) -> tuple[Message, ...]:
+    """The messages of an entry of before, which was opened."""
+    return tuple(map(Message.read, _split(spelled)))
 
 
-def _split(body: bytes) -> list[bytes]:
+def _split(spelled: bytes) -> list[bytes]:
     parts, begin = [], 0
-    while begin < len(body):
-        (length,) = LENGTH.unpack_from(body, begin)
+    while begin < len(spelled):
+        (length,) = LENGTH.unpack_from(spelled, begin)
         begin += LENGTH.size + length
-        if begin > len(body):
+        if begin > len(spelled):
             raise struct.error("a message is cut short")
-        parts.append(body[begin - length:begin])
+        parts.append(spelled[begin - length:begin])
     return parts
 
 
-def _check(entry: Entry) -> None:
-    """Raises Bad where an entry's messages aren't those of its place."""
+def check_entry(entry: Entry) -> None:
+    """Raises Bad where an entry's messages are spelled wrong, or aren't those of its place."""
     if entry.kind is Kind.NEWER:
         return
+    if entry.kind in SAY_WHAT_THEY_BUILD_ON and len(entry.on) < len(NO_HASH):
+        raise Bad("has messages that are cut short")
     if not 1 <= entry.site <= GREATEST_SITE:
         raise Bad("is of a site that can't be")
     if entry.kind is Kind.CLAIM:
-        if entry.first or entry.messages or entry.before != NO_HASH:
+        if entry.first or entry.size or entry.spelled or entry.before != NO_HASH:
             raise Bad("is a claim with more in it than a claim has")
     elif entry.kind is Kind.ANEW:
-        if entry.first or entry.messages or entry.before == NO_HASH:
+        if entry.first or entry.size or entry.spelled or entry.before == NO_HASH:
             raise Bad("says of nothing that it was made anew, or has more in it")
-    elif not entry.messages or entry.before == NO_HASH:
+    elif not entry.size or entry.before == NO_HASH:
         raise Bad("has no messages, or nothing before it")
-    for seq, message in enumerate(entry.messages, entry.first):
-        if message.site != entry.site or message.seq != seq:
+    else:
+        _check_messages(entry)
+
+
+def _check_messages(entry: Entry) -> None:
+    """Raises Bad where an entry's messages are spelled wrong, or aren't those of its place."""
+    try:
+        if entry.kind not in CHUNKS and not all(map(is_spelled, _split(entry.spelled))):
+            raise Bad("has bytes that are no message")
+        runs = entry.runs
+    except struct.error as why:
+        raise Bad("has messages that are cut short") from why
+    except NoChunk as why:
+        raise Bad("has bytes that are no chunk") from why
+    seq = entry.first
+    for run in runs:
+        if run.site != entry.site or run.seq != seq:
             raise Bad("has messages of another place")
+        seq += run.size
+    if seq != entry.first + entry.size:
+        raise Bad("doesn't have as many messages as it says")

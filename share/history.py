@@ -1,13 +1,14 @@
 """A note as it was, and who wrote what, by replays: messages are handed to a run of the program, up to where that is
 asked for. It is done in a thread of its own, since a long history takes seconds."""
 from collections import OrderedDict
-from collections.abc import Iterable, Sequence
+from collections.abc import Iterable
 from contextlib import suppress
 from typing import NamedTuple, TypeVar
 
 from share.looks import Dressed
 from share.measured import Measured
 from share.message import CHANGE_LOOKS, DELETE, INSERT, RESTORE, Message, Names, inserted, mentioned, names_of
+from share.messages import Messages
 from share.note_text import boundary
 from share.site import Site
 from share.units import Units
@@ -54,11 +55,11 @@ class Replays:
 
     def __init__(self) -> None:
         self._kept: OrderedDict[int, Past] = OrderedDict()
-        self._history: list[bytes] = []
+        self._history = Messages()
         self._site: Site | None = None
         self._at = 0
 
-    def past(self, history: list[bytes], at: int) -> Past:
+    def past(self, history: Messages, at: int) -> Past:
         """The text as it was after so many messages."""
         if history[:len(self._history)] != self._history:
             # All was taken in anew, in another order.
@@ -76,7 +77,7 @@ class Replays:
         if self._site:
             with suppress(Trouble):
                 self._site.close()
-        self._site, self._at, self._history = None, 0, []
+        self._site, self._at, self._history = None, 0, Messages()
         self._kept.clear()
 
     def _replayed(self, at: int) -> Past:
@@ -85,18 +86,17 @@ class Replays:
             self._site = None
         if not self._site:
             self._site, self._at = Site(REPLAYING), 0
-        self._site.take(map(Message.read, self._history[self._at:at]))
+        self._site.take(self._history[self._at:at])
         self._at = at
         text = self._site.text()
         return Past(text, wrote(self._site, 0, len(text)))
 
 
-def steps(history: Sequence[bytes], begin: int, most: int) -> list[Step]:
+def steps(history: Messages, begin: int, most: int) -> list[Step]:
     """The steps of a history from a message on, so many at most."""
     found: list[Step] = []
     last: Message | None = None
-    for place in range(begin, len(history)):
-        message = Message.read(history[place])
+    for place, message in enumerate(history[begin:], begin):
         size = sum(names.length for names in names_of(message) or mentioned(message))
         if last and _goes_on(last, message):
             found[-1] = found[-1]._replace(end=place + 1, size=found[-1].size + size)

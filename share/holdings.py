@@ -64,7 +64,7 @@ class Holdings:
         return len(self._unsent)
 
     def _is_edit(self, row: Row) -> bool:
-        return row.made and bool(row.entry.messages)
+        return row.made and bool(row.entry.size)
 
     def read(self, disk: Disk) -> list[Row]:
         """Reads what the file has more; the rows that weren't known."""

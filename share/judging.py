@@ -10,7 +10,8 @@ messages through, in an order in which each is after its causes:
   gaps. Of two that follow the same entry the one with the smaller hash holds, with what is chained to it.
 - **Messages.** Of a chain the messages are let through one after the other, as long as each is right: it mentions
   only characters that are there, its site's characters begin where they ended, and its stamp is above those of
-  its causes. So what is let through is what a replica takes in at once, and nothing ever waits there.
+  its causes. So what is let through is what a replica takes in at once, and nothing ever waits there. Letters that are
+  typed one after the other (a run) are right where the first one is, and are looked at as one.
 - **What they build on.** An entry that says what its messages build on has them let through only where that is
   what counts: else its author saw other characters under the names that they mention. All that an entry mentions
   of other sites was there before its first message.
@@ -31,8 +32,10 @@ from dataclasses import dataclass, field
 from enum import Enum
 from typing import NamedTuple
 
+from share.chunks import Run, of_message
 from share.entry import Entry, Kind, digest
-from share.message import Message, Names, inserted, mentioned
+from share.message import Message, Names
+from share.messages import Messages, Part
 
 # A message may have a stamp so far above the greatest that was let through.
 LEAP = 2**20
@@ -54,7 +57,7 @@ class Counted(NamedTuple):
     """What counts now: the messages let through since this was last asked, or, where what was let through
     before doesn't all count any more, all of them anew."""
 
-    messages: list[Message]
+    messages: Messages
     anew: bool
 
 
@@ -74,43 +77,67 @@ class _Chain:
     # How many of the messages were let through, and how long the site's file is then.
     front: int = 0
     length: int = 0
-    # Where each insertion that was let through begins, its stamp, and the hash of its entry. The first two rise.
+    # Which entry has the message that is next, its runs, and which of these it begins.
+    at: int = 0
+    runs: Sequence[Run] | None = None
+    run: int = 0
+    # Where each insertion that was let through begins, its stamp, whether that of each letter is one above that of the
+    # letter before, and which entry has it. The first two rise.
     begins: list[int] = field(default_factory=list)
     stamps: list[int] = field(default_factory=list)
-    inserted_by: list[bytes] = field(default_factory=list)
+    rise: list[bool] = field(default_factory=list)
+    inserted_by: list[int] = field(default_factory=list)
     # The stamp of the last message that was let through.
     stamp: int = 0
-    # The messages of the chain, and the entry of each; seq 1 is the first.
-    messages: list[Message] = field(default_factory=list)
-    entry_of: list[Entry] = field(default_factory=list)
     # Whether the next message is wrong.
     ended: bool = False
 
-    def next(self) -> Message | None:
-        """The message that is next to be let through."""
-        return self.messages[self.front] if not self.ended and self.front < len(self.messages) else None
+    def next(self) -> Run | None:
+        """The messages that are next to be let through."""
+        if self.ended:
+            return None
+        while self.at < len(self.entries):
+            if self.runs is None:
+                self.runs = self.entries[self.at].runs
+            if self.run < len(self.runs):
+                return self.runs[self.run]
+            self.at, self.runs, self.run = self.at + 1, None, 0
+        return None
 
     def stamp_of(self, at: int) -> int:
         """The stamp of the insertion of the character at an offset, which was let through."""
-        return self.stamps[bisect_right(self.begins, at) - 1]
+        number = bisect_right(self.begins, at) - 1
+        return self.stamps[number] + (at - self.begins[number] if self.rise[number] else 0)
 
     def inserter_of(self, at: int) -> bytes:
         """The hash of the entry in which it was inserted."""
-        return self.inserted_by[bisect_right(self.begins, at) - 1]
+        return self.entries[self.inserted_by[bisect_right(self.begins, at) - 1]].hash
 
-    def pass_on(self, message: Message, names: Names | None) -> None:
-        """Lets the next message through, which inserts these names."""
-        if names:
+    def pass_on(self, run: Run) -> None:
+        """Lets the next messages through."""
+        if names := run.new:
             self.begins.append(names.at)
-            self.stamps.append(message.stamp)
-            self.inserted_by.append(self.entry_of[self.front].hash)
+            self.stamps.append(run.stamp)
+            self.rise.append(run.size > 1)
+            self.inserted_by.append(self.at)
             self.length += names.length
-        self.front, self.stamp = message.seq, message.stamp
+        self.run += 1
+        self.front, self.stamp = run.seq + run.size - 1, run.stamp + run.size - 1
+
+    def holder_of(self, seq: int) -> Entry:
+        """The entry that has a message of the chain."""
+        return self.entries[bisect_right(self.entries, seq, key=lambda entry: entry.first) - 1]
+
+    def message(self, seq: int) -> Message:
+        """A message of the chain."""
+        entry = self.holder_of(seq)
+        return entry.messages[seq - entry.first]
 
     def begin_anew(self) -> None:
         """Lets nothing through yet."""
-        self.front = self.length = self.stamp = 0
-        self.begins, self.stamps, self.inserted_by, self.ended = [], [], [], False
+        self.front = self.length = self.stamp = self.at = self.run = 0
+        self.runs = None
+        self.begins, self.stamps, self.rise, self.inserted_by, self.ended = [], [], [], [], False
 
 
 class Judge:
@@ -138,8 +165,10 @@ class Judge:
         # Whether something can perhaps be let through that couldn't when this was last looked at.
         self._stirred = False
         # What was let through since that was last asked for, and whether it is all anew.
-        self._out: list[Message] = []
+        self._out = Messages()
         self._anew = False
+        # All that is let through, in the order in which it was.
+        self._through = Messages()
         # How many messages something is missing for, where that was asked since the last entry came.
         self._incomplete: int | None = None
         for entry in entries:
@@ -169,7 +198,7 @@ class Judge:
         """What counts since this was last asked."""
         self._let_through()
         counted = Counted(self._out, self._anew)
-        self._out, self._anew = [], False
+        self._out, self._anew = Messages(), False
         return counted
 
     def holder(self, site: int) -> bytes | None:
@@ -197,14 +226,14 @@ class Judge:
         chain = self._chains.get(site)
         return chain.length if chain else 0
 
-    def let_through(self) -> list[Message]:
-        """All messages that are let through, site by site."""
+    def let_through_in_order(self) -> Messages:
+        """All messages that are let through, each after its causes."""
         self._let_through()
-        return [message for chain in self._chains.values() for message in chain.messages[:chain.front]]
+        return Messages(parts=self._through.parts())
 
-    def let_through_in_order(self) -> list[Message]:
-        """The same, each after its causes."""
-        return sorted(self.let_through(), key=lambda message: (message.stamp, message.site))
+    def entry_of(self, site: int, seq: int) -> bytes | None:
+        """The hash of the entry that has a message of a site, where that is let through."""
+        return self._chains[site].holder_of(seq).hash if 0 < seq <= self.front(site) else None
 
     def clipped(self, names: Names) -> Names:
         """The part of a stretch of names that is let through."""
@@ -215,7 +244,10 @@ class Judge:
         """What messages build on, all of which is let through; nothing where they mention no other site's
         characters."""
         self._let_through()
-        last = _last_of_others(messages)
+        return self._built_on([*map(of_message, messages)])
+
+    def _built_on(self, runs: Sequence[Run]) -> bytes:
+        last = _last_of_others(runs)
         return digest(b"".join(self._chains[site].inserter_of(last[site]) for site in sorted(last))) if last else b""
 
     def counts(self, entry: Entry) -> bool:
@@ -228,12 +260,12 @@ class Judge:
         """Whether just this message of its place is let through."""
         self._let_through()
         chain = self._chains.get(message.site)
-        return chain is not None and message.seq <= chain.front and chain.messages[message.seq - 1] == message
+        return chain is not None and message.seq <= chain.front and chain.message(message.seq) == message
 
     def wrong(self) -> list[Message]:
         """The messages that are wrong, and with which what follows of their sites is left out."""
         self._let_through()
-        return [chain.messages[chain.front] for chain in self._chains.values() if chain.ended]
+        return [chain.message(chain.front + 1) for chain in self._chains.values() if chain.ended]
 
     def incomplete(self) -> int:
         """How many messages came that something is missing for. What builds on what was left out isn't among
@@ -245,7 +277,7 @@ class Judge:
             left_out = self._left_out(blocked, {entry.hash for entry in loose}) if blocked else set()
             held = [entry.last - max(entry.first - 1, self._chains[site].front)
                     for site in blocked.keys() - left_out for entry in self.held_up(site)]
-            self._incomplete = sum(held) + sum(len(entry.messages) for entry in loose)
+            self._incomplete = sum(held) + sum(entry.size for entry in loose)
         return self._incomplete
 
     def held_up(self, site: int) -> list[Entry]:
@@ -257,14 +289,15 @@ class Judge:
             return []
         said = [self._at[of] + 1 for of in self._made_anew.get((site, chain.entries[0].author), ())
                 if of in self._at and self.known[of].site == site]
-        return chain.entries[max([self._at[chain.entry_of[chain.front].hash], *said]):]
+        return chain.entries[max([chain.at, *said]):]
 
     def _left_out(self, blocked: dict[int, _Chain], loose: set[bytes]) -> set[int]:
         """The sites whose next message mentions what was left out. What is loose may yet count."""
         ends: dict[int, int] = {}
         for entry in self._outside.values():
-            for names in filter(None, map(inserted, entry.messages if entry.hash not in loose else ())):
-                ends[entry.site] = max(ends.get(entry.site, 0), names.at + names.length)
+            for run in entry.runs if entry.hash not in loose else ():
+                if run.new:
+                    ends[entry.site] = max(ends.get(entry.site, 0), run.new.at + run.new.length)
         found: set[int] = set()
         while more := {site for site, chain in blocked.items()
                        if site not in found and self._lacks_of(chain, found, ends)}:
@@ -276,7 +309,7 @@ class Judge:
         end of what was; or others have the names of those that it builds on, which were left out."""
         lacks = [names for names in _speaks_of(chain) if names.at + names.length > self.length(names.site)]
         if not lacks:
-            last = _last_of_others(chain.entry_of[chain.front].messages)
+            last = _last_of_others(chain.entries[chain.at].runs)
             return not self._has_what_it_builds_on(chain) and any(last[site] < ends.get(site, 0) for site in last)
         return any(names.site in found or max(names.at, self.length(names.site)) < ends.get(names.site, 0)
                    for names in lacks)
@@ -325,8 +358,6 @@ class Judge:
             self._at[last.hash] = len(chain.entries)
             self._outside.pop(last.hash, None)
             chain.entries.append(last)
-            chain.messages += last.messages
-            chain.entry_of += [last] * len(last.messages)
             holding = [one for one in self._after.get(last.hash, ()) if _follows(one, last)]
         self._stirred = True
 
@@ -335,97 +366,107 @@ class Judge:
         for entry in chain.entries[at:]:
             del self._at[entry.hash]
             self._outside[entry.hash] = entry
-        first = chain.entries[at].first
         del chain.entries[at:]
-        del chain.messages[max(0, first - 1):], chain.entry_of[max(0, first - 1):]
-        if chain.front > len(chain.messages) or chain.ended:
+        if chain.ended or chain.front > (chain.entries[-1].last if at else 0):
             self._begin_anew()
+        elif chain.at >= at:
+            chain.at, chain.runs, chain.run = at, None, 0
 
     def _begin_anew(self) -> None:
         """Has all be let through anew."""
-        self._greatest, self._out, self._anew = 0, [], True
+        self._greatest, self._out, self._anew, self._through = 0, Messages(), True, Messages()
         for chain in self._chains.values():
             chain.begin_anew()
 
     def _let_through(self) -> None:
-        """Lets through what can be, the lowest stamp first. A message's causes have lower stamps than it, so
-        one pass is enough: what is let through later in it is no cause of what it passed over."""
+        """Lets through what can be, the lowest stamp first, and with a message those after it in its entry. A message's
+        causes have lower stamps than it, so one pass is enough: what is let through later in it is no cause of what it
+        passed over at its stamp."""
         if not self._stirred:
             return
         self._stirred = False
-        heads = [(message.stamp, site) for site, chain in self._chains.items() if (message := chain.next())]
+        heads = [(run.stamp, site) for site, chain in self._chains.items() if (run := chain.next())]
         heapq.heapify(heads)
         while heads:
-            stamp, site = heads[0]
-            chain = self._chains[site]
-            message = chain.messages[chain.front]
-            names = inserted(message)
-            state = self._state(chain, message, names)
-            if state is State.HIGH:
+            chain = self._chains[heads[0][1]]
+            state, entry = State.RIGHT, chain.entries[chain.at]
+            # What follows in an entry needs nothing else, unless a version of before wrote it: then it has its turn later.
+            while (run := chain.next()) and chain.entries[chain.at] is entry:
+                state = self._state(chain, run)
+                if state is not State.RIGHT:
+                    break
+                self._pass_on(chain, run)
+            if run and (state is State.RIGHT or state is not State.WRONG and run.stamp > heads[0][0]):
+                heapq.heapreplace(heads, (run.stamp, heads[0][1]))
+            elif state is State.HIGH:
                 break
-            if state is State.RIGHT:
-                chain.pass_on(message, names)
-                self._greatest = max(self._greatest, stamp)
-                self._out.append(message)
-            if state is State.RIGHT and (follower := chain.next()):
-                heapq.heapreplace(heads, (follower.stamp, site))
             else:
                 heapq.heappop(heads)
         self._end_wrong()
+
+    def _pass_on(self, chain: _Chain, run: Run) -> None:
+        """Lets a chain's next messages through."""
+        entry = chain.entries[chain.at]
+        chain.pass_on(run)
+        self._greatest = max(self._greatest, chain.stamp)
+        part = Part(entry, run.seq - entry.first, run.seq - entry.first + run.size)
+        self._out.add(part)
+        self._through.add(part)
 
     def _end_wrong(self) -> None:
         """Ends the chains whose next message is wrong, by all that was let through. One that was passed over
         may be so by what was let through after it."""
         for chain in self._chains.values():
-            if message := chain.next():
-                chain.ended = self._state(chain, message, inserted(message)) is State.WRONG
+            if run := chain.next():
+                chain.ended = self._state(chain, run) is State.WRONG
 
-    def _state(self, chain: _Chain, message: Message, new: Names | None) -> State:
-        """What becomes of a chain's next message, which inserts these names."""
-        if message.stamp <= chain.stamp or new and new.at != chain.length:
+    def _state(self, chain: _Chain, run: Run) -> State:
+        """What becomes of a chain's next messages."""
+        if run.stamp <= chain.stamp or run.data and run.at != chain.length:
             return State.WRONG
-        if message.stamp > self._greatest + LEAP:
+        if run.stamp > self._greatest + LEAP:
             return State.HIGH
         lacks, newest = False, 0
         for names in _speaks_of(chain):
             last, of = names.at + names.length - 1, self._chains.get(names.site)
             if of is not None and last < of.length:
                 newest = max(newest, of.stamp_of(last))
-            elif names.site != message.site:
+            elif names.site != run.site:
                 lacks = True
             else:
                 # A site's own characters come with its own messages alone.
                 return State.WRONG
         if lacks or not self._has_what_it_builds_on(chain):
             return State.LACKS
-        return State.WRONG if newest >= message.stamp else State.RIGHT
+        return State.WRONG if newest >= run.stamp else State.RIGHT
 
     def _has_what_it_builds_on(self, chain: _Chain) -> bool:
         """Whether the characters that a chain's next message mentions are those that its author saw."""
-        entry = chain.entry_of[chain.front]
-        return not entry.on or entry.first <= chain.front or self.built_on(entry.messages) == entry.on
+        entry = chain.entries[chain.at]
+        return not entry.on or entry.first <= chain.front or self._built_on(entry.runs) == entry.on
 
 
-def _of_others(messages: Iterable[Message]) -> list[Names]:
+def _of_others(runs: Iterable[Run]) -> list[Names]:
     """The characters of other sites that messages mention."""
-    return [names for message in messages for names in mentioned(message) if names.site != message.site]
+    return [names for run in runs for names in run.mentions if names.site != run.site]
 
 
-def _last_of_others(messages: Iterable[Message]) -> dict[int, int]:
+def _last_of_others(runs: Iterable[Run]) -> dict[int, int]:
     """The offset of the last character that messages mention of each other site."""
     last: dict[int, int] = {}
-    for names in _of_others(messages):
+    for names in _of_others(runs):
         last[names.site] = max(last.get(names.site, 0), names.at + names.length - 1)
     return last
 
 
-def _speaks_of(chain: _Chain) -> list[Names]:
+def _speaks_of(chain: _Chain) -> Sequence[Names]:
     """The characters that have to be there before a chain's next message: those that it mentions. All that the
     others of its entry mention of other sites has to be there with the first one, where the entry says what they
     build on."""
-    entry, message = chain.entry_of[chain.front], chain.messages[chain.front]
-    is_first = entry.on and message.seq == entry.first
-    return mentioned(message) + (_of_others(entry.messages[1:]) if is_first else [])
+    entry, runs = chain.entries[chain.at], chain.runs or ()
+    if not entry.on or chain.run:
+        return runs[chain.run].mentions
+    return [*runs[0].mentions, *_of_others(runs[1:])]
 
 
 def _follows(entry: Entry, before: Entry) -> bool:

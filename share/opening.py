@@ -5,7 +5,7 @@ import pathlib
 import re
 import secrets
 from collections.abc import Callable, Iterable, Mapping, Sequence
-from itertools import count
+from itertools import chain, count
 from typing import NamedTuple
 
 from share import old, reading
@@ -14,7 +14,8 @@ from share.entry import GREATEST_SITE, NOTE_BYTES, Entry, Form, in_entries
 from share.judging import Judge
 from share.link import Link
 from share.log import Unreachable, is_network
-from share.message import Message
+from share.message import Message, length_after
+from share.messages import Messages
 from share.old import Old
 from share.together import with_log
 from share.words import Trouble
@@ -98,7 +99,7 @@ def renew(name: str, url: str | None, password: str | None) -> Renewed:
         judge = Judge(found.entries)
         messages, missing = judge.count().messages, reading.missing(judge, found.faults)
     elif kept := of_before(name, url, password):
-        messages, missing = [one for of_site in kept.messages.values() for one in of_site], [*kept.left_out]
+        messages, missing = Messages(chain.from_iterable(kept.messages.values())), [*kept.left_out]
     else:
         raise Trouble(f"There is no note {name} here.")
     beside = path.with_name(f".renewed.{os.getpid()}{SUFFIX}")
@@ -180,11 +181,12 @@ def in_rows(form: Form, messages: Mapping[int, Sequence[Message]]) -> list[Row]:
     rows = []
     for site, of_site in messages.items():
         author = form.new_author()
-        last = form.claim(site, author)
+        last, length = form.claim(site, author), 0
         rows.append(Row(0, last, False))
         for part in in_entries(of_site):
-            last = form.entry(last, part, author)
+            last = form.entry(last, part, author, length=length)
             rows.append(Row(0, last, False))
+            length = length_after(part, length)
     return rows
 
 

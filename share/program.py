@@ -21,7 +21,7 @@ F_SETPIPE_SZ = 1031
 HANGS_SECONDS = 30
 CLOSE_SECONDS = 1
 # The lines of an answer that others follow.
-FOLLOWED = (b"send ", b"front ", b"run ", b"shown ", b"name ")
+FOLLOWED = (b"send ", b"front ", b"run ", b"shown ", b"name ", b"chunk ")
 
 
 class Ended(Exception):
@@ -39,14 +39,14 @@ def command() -> list[str]:
 
 
 class Program:
-    """A run of the program with one site, which is answered event by event."""
+    """A run of the program with one site, which is answered event by event. Its files are in a folder."""
 
-    def __init__(self, site: int):
+    def __init__(self, site: int, folder: pathlib.Path | None = None):
         self.site, self.lines = site, 0
         words = [*command(), "--first", str(site), "--count", "1"]
         try:
             self.process = subprocess.Popen(words, stdin=subprocess.PIPE, stdout=subprocess.PIPE, bufsize=0,
-                                            stderr=subprocess.DEVNULL, start_new_session=True)
+                                            stderr=subprocess.DEVNULL, start_new_session=True, cwd=folder)
         except OSError as why:
             raise Trouble(f"The program can't be run ({words[0]}: {why.strerror}). VIALSHOAL_PROGRAM names "
                           "it.") from why
@@ -94,6 +94,10 @@ class Program:
     def taking(self, message: bytes) -> bytes:
         """The event that hands a message in."""
         return self.event("take", message.hex().encode())
+
+    def unpacking(self, chunk: bytes) -> bytes:
+        """The event that hands a chunk of messages in."""
+        return self.event("unpack", chunk.hex().encode())
 
     def text(self) -> bytes:
         """What the site shows."""

@@ -10,7 +10,6 @@ from typing import NamedTuple, TypeVar
 from share.disk import APPLICATION, About, Damaged, about_of, as_text
 from share.entry import Bad, Entry
 from share.judging import Judge
-from share.message import Message
 from share.old import copied
 from share.site import Site
 from share.words import NEWER, Trouble, entries
@@ -57,7 +56,7 @@ def found_in(path: pathlib.Path) -> Found:
 def shown(found: Found) -> Shown:
     """What a note shows that has these entries."""
     judge = Judge(found.entries)
-    messages: list[Message] = judge.count().messages
+    messages = judge.count().messages
     with contextlib.closing(Site(1, messages)) as site:
         return Shown(site.text(), missing(judge, found.faults))
 

@@ -20,7 +20,8 @@ from share.judging import Judge
 from share.lines import Line
 from share.measured import shown as as_text
 from share.measured import swapped
-from share.message import INSERT, Message
+from share.message import INSERT
+from share.messages import Messages
 from share.session import Bar, Session
 from share.site import Site
 from share.words import Trouble, counted
@@ -58,7 +59,7 @@ class Scripts:
         opens = self._opener(given, given.name)
         return lambda wake: opens(lambda done, total: None, wake)
 
-    def _found(self, given: argparse.Namespace) -> tuple[list[Message], list[str]]:
+    def _found(self, given: argparse.Namespace) -> tuple[Messages, list[str]]:
         """The messages of a note, each after its causes, and what is missing of it."""
         spelled = self._secret(given.link_file, "VIALSHOAL_LINK")
         found = printing.found(given.name, links.url_of(given.log) if given.log else None,
@@ -95,31 +96,29 @@ class Scripts:
 
     def _history(self, given: argparse.Namespace) -> int:
         messages, missing = self._found(given)
-        datas = [message.data for message in messages]
-        if not 0 <= given.at <= len(datas):
-            raise Trouble(f"The note's history has {counted(len(datas), 'message')}.")
+        if not 0 <= given.at <= len(messages):
+            raise Trouble(f"The note's history has {counted(len(messages), 'message')}.")
         replays = Replays()
-        past = replays.past(datas, given.at)
+        past = replays.past(messages, given.at)
         replays.close()
         text = as_text(swapped(past.text))
         if given.json:
-            return _json({"note": given.name, "at": given.at, "length": len(datas), "text": text,
+            return _json({"note": given.name, "at": given.at, "length": len(messages), "text": text,
                           "stretches": [_stretch(past.text, one) for one in past.wrote]}, missing)
         _print_text(text)
         return _told(missing)
 
     def _log(self, given: argparse.Namespace) -> int:
         messages, missing = self._found(given)
-        datas = [message.data for message in messages]
-        found = history.steps(datas, 0, len(datas))
+        found = history.steps(messages, 0, len(messages))
         own, names = _own_sites(given.name), people.known(given.name)
         if given.json:
             steps = [history.as_line(one) | {"own": one.site in own, "name": names.get(one.site, ""),
-                                             "text": _typed(datas, one)} for one in found]
-            return _json({"note": given.name, "length": len(datas), "steps": steps}, missing)
+                                             "text": _typed(messages, one)} for one in found]
+            return _json({"note": given.name, "length": len(messages), "steps": steps}, missing)
         for one in found:
             who = names.get(one.site) or f"site {one.site}" + (" (you)" if one.site in own else "")
-            what = (f"typed {_short(_typed(datas, one))}" if one.did == "typed" else
+            what = (f"typed {_short(_typed(messages, one))}" if one.did == "typed" else
                     f"{DONE.get(one.did, one.did)} {counted(one.size, 'byte')}")
             _print_text(f"{one.end:>9}  {who:<18}  {what}\n")
         return _told(missing)
@@ -247,7 +246,7 @@ def _replacements(text: str, old: str, new: str) -> list[tuple[int, int, str]]:
     return found[::-1]
 
 
-def _site_of(messages: list[Message]) -> Site:
+def _site_of(messages: Messages) -> Site:
     return Site(history.REPLAYING, messages)
 
 
@@ -270,10 +269,9 @@ def _listed(name: str, path: pathlib.Path) -> Line:
     return line | {"open": bool(running), "log": about.url, "sealed": about.sealed}
 
 
-def _typed(datas: Sequence[bytes], step: Step) -> str:
+def _typed(messages: Messages, step: Step) -> str:
     """What a step typed."""
-    messages = map(Message.read, datas[step.begin:step.end])
-    data = b"".join(history.typed(message) for message in messages if message.kind == INSERT)
+    data = b"".join(history.typed(one) for one in messages[step.begin:step.end] if one.kind == INSERT)
     return as_text(swapped(data))
 
 

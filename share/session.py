@@ -7,6 +7,7 @@ from contextlib import suppress
 from dataclasses import dataclass
 from typing import TypeVar
 
+from share import packing
 from share.anew import make_anew
 from share.courier import Courier
 from share.disk import Anew, Client, Damaged, Disk, Overtaken, Row, Unkept, inode_of, make, set_aside
@@ -14,9 +15,10 @@ from share.entry import GREATEST_SITE, Entry, Kind, in_entries
 from share.holdings import Holdings, Who, uncollected, who
 from share.judging import Counted
 from share.log import is_network, open_log
-from share.message import Message
+from share.message import Message, length_after
+from share.messages import Messages
 from share.reading import found_in
-from share.site import SLICE, Edited, Site, Told
+from share.site import SLICE, Edited, Progress, Site, Told
 from share.words import NEWER, Trouble, counted, entries
 
 # How long opening waits for a log that answers, and closing for what isn't sent.
@@ -65,7 +67,7 @@ class Session:
         self._lacks = False
         self._looked = self._anew_after = 0.0
         # What is let through and to be taken in at the next turn.
-        self._coming: list[Message] = []
+        self._coming = Messages()
         # Whether this editor has a number, and whether another one of this person got it, since the locks were
         # removed.
         self._has_number = self._is_taken = False
@@ -74,7 +76,7 @@ class Session:
         self._client, self._has_number = self._free_client() or self._claim(), True
         messages = self._holdings.count().messages
         self._last = self._holdings.judge.last(self._client.site)
-        self.site = Site(self.number, messages, lambda done: bar(done, len(messages)))
+        self.site = self._new_site(messages, lambda done: bar(done, len(messages)))
         # What the disk damaged the log may bring back; until that was read nothing is made anew.
         self._is_settled = False
         url, note = self._about.url, self._form.note
@@ -103,7 +105,7 @@ class Session:
         """Does several things at the site as one edit: all that they made is kept, or nothing of it."""
         return self._edited(lambda: work(self.site))
 
-    def messages(self) -> list[Message]:
+    def messages(self) -> Messages:
         """All messages that count, each after its causes."""
         return self._holdings.judge.let_through_in_order()
 
@@ -152,10 +154,12 @@ class Session:
             self._lacks = False
             self._drop_what_is_too_much()
             self._courier.ask()
-        coming, self._coming = self._coming + found.messages, []
+        coming, self._coming = self._coming + found.messages, Messages()
         many = len(coming)
-        return self.site.take(coming, looks=True,
+        told = self.site.take(coming, looks=True,
                               progress=lambda done: self._bar(done, many) if many > SLICE else None)
+        self._pack(max(packing.MANY, self._packed // packing.SHARE))
+        return told
 
     def tell(self, words: str) -> None:
         """Has the user be told something."""
@@ -191,7 +195,9 @@ class Session:
     def close(self) -> None:
         """Closes the note; what isn't sent stays in its file."""
         self._courier.close(CLOSE_SECONDS)
+        self._pack(packing.AT_END)
         self.site.close()
+        packing.leave(self._disk, self.number)
         self._disk.close()
 
     def _begin(self) -> None:
@@ -231,10 +237,12 @@ class Session:
 
     def _keep(self, messages: Sequence[Message], retired: Sequence[Client] = (), anew: Sequence[Anew] = ()) -> None:
         """Puts messages that the site made into the file, and has them sent."""
-        made, before = [], self._last
-        for part in in_entries(messages):
-            before = self._form.entry(before, part, self._client.author, self._holdings.judge.built_on(part))
+        judge = self._holdings.judge
+        made, before, length = [], self._last, judge.length(self.number)
+        for part in in_entries(messages, length):
+            before = self._form.entry(before, part, self._client.author, judge.built_on(part), length)
             made.append(before)
+            length = length_after(part, length)
 
         def keep() -> int:
             if self._is_taken:
@@ -392,7 +400,7 @@ class Session:
             with suppress(Unkept):
                 self._claim(locks=False)
 
-    def _settle(self, anew: list[Message] | None, has_read: bool) -> bool:
+    def _settle(self, anew: Messages | None, has_read: bool) -> bool:
         """Gives up the numbers of this person that can't be gone on with, and makes anew what doesn't count.
         `anew` has all messages that count where the site has some that don't. Whether the site began anew."""
         holdings = self._holdings
@@ -443,11 +451,32 @@ class Session:
         self._trouble = f"Edits couldn't be made anew yet ({why}). Make room on the disk."
         self._is_settled, self._anew_after = False, time.monotonic() + AGAIN_SECONDS
 
-    def _begin_anew(self, messages: list[Message]) -> None:
+    def _begin_anew(self, messages: Messages) -> None:
         """Has the site be another one, under the number of now, with these messages."""
-        self._coming = []
+        self._coming = Messages()
         self.site.close()
-        self.site = Site(self.number, messages)
+        self.site = self._new_site(messages)
+
+    def _new_site(self, messages: Messages, progress: Progress = lambda done: None) -> Site:
+        """A site under the number of now, with these messages, which are all that count. It goes on from its packed file
+        where that can be."""
+        fronts, folder = dict[int, int](), packing.folder_of(self._disk, self.number)
+        with suppress(Unkept, Damaged):
+            # Where the note's file can't be read now it is mended later.
+            fronts = packing.fronts_of(self._disk, self._holdings.judge, self.number, folder)
+        packed, others = packing.parted(messages, fronts)
+        self._packed = len(packed)
+        return Site(self.number, others, lambda done: progress(len(packed) + done), folder, packed)
+
+    def _pack(self, least: int) -> None:
+        """Has the packed file be written where so many messages came that it doesn't have."""
+        many = len(self.site.history)
+        folder = packing.folder_of(self._disk, self.number)
+        if folder and many >= self._packed + least and not (self._is_stale or self._is_taken):
+            self._packed = many
+            with suppress(Unkept, Damaged, Trouble):
+                # Where there is no room, or the program ends as it writes, the next opening takes longer.
+                packing.keep(self._disk, self._holdings.judge, self.site, folder)
 
     def _make_anew(self, broken: list[Client]) -> None:
         """Makes anew, under this number, what was made under others and doesn't count."""

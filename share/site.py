@@ -3,12 +3,15 @@
 The messages that it takes in are those that count, in an order in which each is after its causes, so it takes
 in each at once.
 """
+import pathlib
+import re
 from collections.abc import Callable, Iterable, Iterator, Sequence
 from itertools import accumulate, chain, islice
 from typing import NamedTuple
 
 from share.looks import Looks, Run, in_words
 from share.message import MOST_RANGES, Message, Names
+from share.messages import Messages
 from share.names import halves, united
 from share.note_text import Change, boundary
 from share.program import MOST_LINES, Ended, Program, escaped, shown
@@ -17,16 +20,21 @@ from share.words import Trouble
 
 # One message has so many bytes of an insertion at most.
 MOST_BYTES = 4_096
-# So many messages are handed in at once. What more of them together change isn't told.
+# What more messages together change isn't told.
 SLICE = 2_000
+# So many chunks are handed in at once.
+CHUNKS = 50
+# How the packed file is called.
+KEPT = "text"
 # What messages change is told while they have so many names at most. In a note of 1 MB that takes 4 to 8 ms
 # where the names stand in long stretches, shown or hidden, and 110 to 230 where each is by itself; to ask
 # for the whole text takes 60 to 90, and up to 240 on a busy machine.
 MOST_NAMES = 10_000
-# So many messages a note has at most when it is edited, since a run of the program takes so many lines and
-# can't be gone on with by another one. Lines are left for what is asked besides.
-MOST_MESSAGES = MOST_LINES - 50_000
-SCATTERED, NO_MEMORY, UNKNOWN, TOO_MANY = 12, 7, 20, 21
+# So many messages a note has at most when it is edited: the program has half a gigabyte for a million.
+MOST_MESSAGES = 2_000_000
+SCATTERED, NO_MEMORY, TOO_MANY = 12, 7, 21
+# The answer to a chunk of which some are taken in, some were held already, and none waits.
+UNPACKED = re.compile(rb"unpacked (\d+) (\d+) 0")
 
 Progress = Callable[[int], None]
 # What a text has become: change by change, or where that isn't told the whole of it.
@@ -43,30 +51,50 @@ class Edited(NamedTuple):
 class Site:
     """One text at one site."""
 
-    def __init__(self, number: int, messages: Iterable[Message] = (), progress: Progress = lambda done: None):
-        self.number = number
+    def __init__(self, number: int, messages: Iterable[Message] = (), progress: Progress = lambda done: None,
+                 folder: pathlib.Path | None = None, packed: Messages | None = None):
+        """A site with these messages, after those that its packed file has, which is in a folder."""
+        self.number, self._folder = number, folder
         # All that the program was handed and made; a program that ended is given it again.
-        self.history: list[bytes] = []
-        self._program = Program(number)
-        # A program that doesn't know edits by names is told of as the note is opened. No name is here yet.
-        if self._edit("delete", number, 0, 1).refused == UNKNOWN:
-            raise Trouble("The program is too old: it can't edit by characters' names. Build it anew, with "
+        self.history = Messages()
+        self._program = Program(number, folder)
+        # A program that doesn't know chunks is told of as the note is opened. These bytes are none.
+        if self._ask([self._program.unpacking(b"\0")])[0][-1] != b"refused 1":
+            raise Trouble("The program is too old: it can't read chunks of messages. Build it anew, with "
                           "bin/site_cli < demo/two-sites.script, and open the note again.")
+        if packed:
+            self._reopen(packed, progress)
         self.take(messages, progress=progress)
+
+    def _reopen(self, packed: Messages, progress: Progress) -> None:
+        """Goes on from the packed file, or where that can't be has its messages handed in."""
+        if self._ask([self._program.event("reopen", KEPT.encode())])[0] != [b"ok"]:
+            self.take(packed, progress=progress)
+            return
+        self.history += packed
+        progress(len(packed))
+
+    def keep(self) -> dict[int, int]:
+        """Has the program write the packed file; how many messages of each site it has, nothing where it isn't written."""
+        if not self._folder:
+            return {}
+        fronts, kept = self._ask([self._program.event("front"), self._program.event("keep", KEPT.encode(), b"packed")])
+        if kept != [b"ok"]:
+            return {}
+        return {int(site): int(seq) for _, site, seq in (line.split() for line in fronts[:-1])}
 
     def take(self, messages: Iterable[Message], looks: bool = False,
              progress: Progress = lambda done: None) -> Told:
         """Takes in messages. To one who looks at the text it tells what that has become."""
-        coming = list(messages)
-        changes: list[Change] | None = []
-        for begin in range(0, len(coming), SLICE):
-            part = coming[begin:begin + SLICE]
-            changes = self._hand_in(part, looks and len(coming) <= SLICE)
-            self._holds(part)
-            progress(begin + len(part))
-        if not looks:
-            return []
-        return self.text() if changes is None else changes
+        coming = messages if isinstance(messages, Messages) else Messages(messages)
+        if looks and len(coming) <= SLICE and len(self.history) < MOST_MESSAGES:
+            some = [*coming]
+            if count(some) <= MOST_NAMES:
+                changes = self._hand_in(some)
+                self.history += coming
+                return self.text() if changes is None else changes
+        self._hand_in_chunks(coming, progress)
+        return self.text() if looks else []
 
     def insert(self, position: int, data: bytes) -> Edited:
         """Types bytes after the first so many of the text. Each message has whole characters alone."""
@@ -98,7 +126,7 @@ class Site:
     def _sent(self, answers: list[list[bytes]]) -> Edited:
         """What an edit has made that was answered so."""
         messages = [Message.read(bytes.fromhex(line.split()[2].decode())) for answer in answers for line in answer[:-1]]
-        self._holds(messages)
+        self.history += messages
         refused = [int(answer[-1].split()[-1]) for answer in answers if answer[-1] != b"ok"]
         return Edited(messages, refused[0] if refused else None)
 
@@ -136,29 +164,37 @@ class Site:
 
     def go_back(self, length: int) -> None:
         """Goes on as if what was made here since the history had so many messages hadn't been, since it isn't kept."""
-        del self.history[length:]
-        self._start_again(1)
+        self.history.cut(length)
+        self._start_again()
 
     def close(self) -> None:
         """Ends the program."""
         self._program.close()
 
-    def _hand_in(self, messages: list[Message], looks: bool) -> list[Change] | None:
+    def _hand_in(self, messages: list[Message]) -> list[Change] | None:
         """What messages changed that the program takes in; None where that can't be told."""
-        tells = looks and count(messages) <= MOST_NAMES and len(self.history) < MOST_MESSAGES
-        asked = [asking(self._program, message, tells) for message in messages]
+        asked = [asking(self._program, message) for message in messages]
         found = iter(self._ask([*chain.from_iterable(asked)]))
         done = [answered(message, [*islice(found, len(events))]) for message, events in zip(messages, asked)]
         for message, (answer, _) in zip(messages, done):
-            if answer == b"refused %d" % NO_MEMORY:
-                raise Trouble("There is no memory for what came in. End other programs and open the note "
-                              "again.")
             if answer not in (b"taken 0 0", b"repeat"):
-                raise Trouble(f"The program answered message {message.seq} of site {message.site} with "
-                              f"{answer[:60].decode('ascii', 'replace')}. Save the note as a file.")
-        if not tells or any(changed is None for _, changed in done):
+                raise _not_taken(answer, message)
+        if any(changed is None for _, changed in done):
             return None
         return [one for _, changed in done for one in changed or ()]
+
+    def _hand_in_chunks(self, messages: Messages, progress: Progress) -> None:
+        """Has the program take in messages in chunks."""
+        chunks, done = messages.chunks(), 0
+        while some := [*islice(chunks, CHUNKS)]:
+            answers = self._ask([self._program.unpacking(chunk) for chunk, _ in some])
+            for (_, size), (answer,) in zip(some, answers):
+                found = UNPACKED.fullmatch(answer)
+                if not found or int(found[1]) + int(found[2]) != size:
+                    raise _not_taken(answer, messages[done])
+                self.history += messages[done:done + size]
+                done += size
+            progress(done)
 
     def _lines(self, verb: str, *words: int) -> list[list[str]]:
         """The words of each line that a question is answered by."""
@@ -166,9 +202,6 @@ class Site:
         if end != b"ok":
             raise Trouble(f"The program was asked for {verb} and answered {end[:60].decode('ascii', 'replace')}.")
         return [line.decode("ascii").split(" ") for line in found]
-
-    def _holds(self, messages: list[Message]) -> None:
-        self.history += [message.data for message in messages]
 
     def _by_names(self, verb: str, names: list[Names]) -> tuple[Edited, Told]:
         tells = sum(one.length for one in names) <= MOST_NAMES
@@ -207,30 +240,36 @@ class Site:
         """The program's answers. Where it ended it is started again: none of these events was kept, so they
         are asked anew."""
         if self._program.lines + len(events) > MOST_LINES:
-            self._start_again(len(events))
+            self._start_again()
         try:
             return self._program.ask(events)
         except Ended:
-            self._start_again(len(events))
+            self._start_again()
         try:
             return self._program.ask(events)
         except Ended as why:
             raise Trouble("The program ended, was started again and ended again. All that was typed before "
                           "is kept.") from why
 
-    def _start_again(self, more: int) -> None:
-        """Has another run of the program do all that this one did, and leave so many lines more."""
+    def _start_again(self) -> None:
+        """Has another run of the program do all that this one did."""
         self._program.close()
-        if len(self.history) + more > MOST_LINES:
-            raise Trouble(f"The note has {len(self.history):,} messages, more than the program takes in one "
-                          "run. Go on in a new note.")
-        self._program = Program(self.number)
+        self._program = Program(self.number, self._folder)
+        chunks = self.history.chunks()
         try:
-            for begin in range(0, len(self.history), SLICE):
-                self._program.ask([self._program.taking(data) for data in self.history[begin:begin + SLICE]])
+            while some := [*islice(chunks, CHUNKS)]:
+                self._program.ask([self._program.unpacking(chunk) for chunk, _ in some])
         except Ended as why:
             raise Trouble("The program ended and couldn't be started again. All that was typed before is "
                           "kept.") from why
+
+
+def _not_taken(answer: bytes, message: Message) -> Trouble:
+    """What is told where the program doesn't take in what counts: a message, or one of those from it on."""
+    if answer.split()[-1:] == [b"%d" % NO_MEMORY] and answer.split()[0] in (b"refused", b"partial"):
+        return Trouble("There is no memory for what came in. End other programs and open the note again.")
+    return Trouble(f"The program answered message {message.seq} of site {message.site} with "
+                   f"{answer[:60].decode('ascii', 'replace')}. Save the note as a file.")
 
 
 def one_by_one(edits: Iterable[Edited]) -> Edited:

@@ -23,9 +23,9 @@ def count(messages: list[Message]) -> int:
     return sum(names.length for message in messages for names in names_of(message))
 
 
-def asking(program: Program, message: Message, tells: bool) -> list[bytes]:
-    """The events that hand a message in, and ask what it changes where this is to be told."""
-    where = [program.event("where", *names) for names in names_of(message)] if tells else []
+def asking(program: Program, message: Message) -> list[bytes]:
+    """The events that hand a message in, and ask what it changes."""
+    where = [program.event("where", *names) for names in names_of(message)]
     # What is inserted is shown nowhere before that.
     earlier = [] if message.kind == INSERT else where
     return [*earlier, program.taking(message.data), *where]

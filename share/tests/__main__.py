@@ -14,7 +14,7 @@ MODULES = ["test_all_editors", "test_page", "test_web", "test_killed", "test_eng
            "test_engine_faults", "test_editor", "test_lost", "test_numbers", "test_terminal", "test_security", "test_logs", "test_looks",
            "test_installing", "test_closed", "test_judging", "test_opening", "test_bad_input", "test_joining", "test_printing", "test_wire",
            "test_same_text", "test_told", "test_parts", "test_old", "test_sealing", "test_entry", "test_spelling",
-           "test_reviewed", "test_carrying", "test_engine_vectors"]
+           "test_reviewed", "test_carrying", "test_engine_vectors", "test_before", "test_packing", "test_chunks"]
 
 
 def run(module: str) -> tuple[int, int, str]:

@@ -3,8 +3,8 @@ import hashlib
 import random
 import unittest
 
-from share.entry import (GREATEST_SITE, HEAD, LENGTH, MOST_BODY, MOST_BYTES, NO_HASH, Author, Bad, Entry, Kind, Plain,
-                         body_of, in_entries)
+from share.chunks import BEGIN, MOST_CHUNK, number_of, packed
+from share.entry import GREATEST_SITE, HEAD, LENGTH, MOST_BYTES, NO_HASH, Author, Bad, Entry, Kind, Plain, body_of, in_entries
 from share.message import LONGEST_MESSAGE, MOST_RANGES, Message, is_spelled
 from share.tests.naive import CHANGE_LOOKS, DELETE, about, inserting
 
@@ -40,27 +40,47 @@ def longest(seq: int) -> Message:
     return Message.read(plain.data[:20] + looks + plain.data[22:])
 
 
+def chunk(*messages: Message, length: int = 0) -> bytes:
+    """The chunk of messages."""
+    found = packed(messages, length)
+    assert found
+    return found
+
+
+def parts() -> list[tuple[Message, ...]]:
+    """What some entries have, one after the other."""
+    return [typed(1), (*typed(2, first=2), about(DELETE, 7, 4, 9, [(1, 0, 3), (1, 5, 1)])),
+            (about(DELETE, 7, 5, 10, [(1, 0, 3)]),)]
+
+
 def samples() -> list[Entry]:
-    """Entries of each kind, one after another."""
+    """Entries of each kind, one after another; the last two are as versions of before wrote them."""
     entries = [FORM.claim(7, ANNE), FORM.claim(GREATEST_SITE, ANNE)]
-    first = FORM.entry(entries[0], typed(1), ANNE)
-    second = FORM.entry(first, [*typed(2, first=2), about(DELETE, 7, 4, 9, [(1, 0, 3), (1, 5, 1)])], ANNE)
-    third = FORM.entry(second, [about(DELETE, 7, 5, 10, [(1, 0, 3)])], ANNE, b"on" * 16)
-    return [*entries, first, second, third, FORM.made_anew(third, ANNE)]
+    one, two, three = parts()
+    # What is typed second begins where what was typed first does.
+    first = FORM.entry(entries[0], one, ANNE)
+    second = FORM.entry(first, two, ANNE, length=0)
+    third = FORM.entry(second, three, ANNE, b"on" * 16, length=2)
+    old = FORM.open(spelled(before=entries[0].hash, messages=one))
+    older = FORM.open(spelled(kind=3, first=2, before=old.hash, count=3, body=b"on" * 16 + body_of(two)))
+    return [*entries, first, second, third, FORM.made_anew(third, ANNE), old, older]
 
 
 class Spelling(unittest.TestCase):
     """An entry has one spelling, and what is spelled otherwise is none."""
 
     def test_the_bytes_are_those_of_the_table(self) -> None:
-        claim, _, first, second, third, anew = samples()
+        claim, _, first, second, third, anew, old, older = samples()
+        one, two, three = parts()
         self.assertEqual(claim.raw, spelled(kind=1, first=0, before=NO_HASH))
-        self.assertEqual(first.raw, spelled(before=claim.hash, messages=first.messages))
-        self.assertEqual(second.raw, spelled(first=2, before=first.hash, messages=second.messages))
-        self.assertEqual(third.raw, spelled(kind=3, first=5, before=second.hash, count=1,
-                                            body=b"on" * 16 + body_of(third.messages)))
+        self.assertEqual(first.raw, spelled(kind=5, before=claim.hash, count=1, body=chunk(*one)))
+        self.assertEqual(second.raw, spelled(kind=5, first=2, before=first.hash, count=3, body=chunk(*two)))
+        self.assertEqual(third.raw, spelled(kind=6, first=5, before=second.hash, count=1,
+                                            body=b"on" * 16 + chunk(*three, length=2)))
         self.assertEqual(anew.raw, spelled(kind=4, first=0, before=third.hash))
-        self.assertEqual(first.raw[74:76], len(first.messages[0].data).to_bytes(2, "big"))
+        self.assertEqual(old.raw[74:76], len(old.messages[0].data).to_bytes(2, "big"))
+        self.assertEqual(older.raw[74:106], b"on" * 16)
+        self.assertEqual(first.raw[74:89], b"OTC1\0\1\x0f\7\1\1\0x" + first.raw[86:89])
         self.assertEqual(first.hash, hashlib.blake2b(first.raw, digest_size=32).digest())
 
     def test_both_ways(self) -> None:
@@ -68,9 +88,19 @@ class Spelling(unittest.TestCase):
             self.assertEqual(FORM.open(entry.raw), entry)
             self.assertEqual(FORM.reopened(entry.raw, FORM.body(entry.raw), entry.hash), entry)
         self.assertEqual([(entry.kind, entry.first, entry.last) for entry in samples()],
-                         [(Kind.CLAIM, 0, 0), (Kind.CLAIM, 0, 0), (Kind.MESSAGES, 1, 1), (Kind.MESSAGES, 2, 4),
-                          (Kind.BUILDING, 5, 5), (Kind.ANEW, 0, 0)])
+                         [(Kind.CLAIM, 0, 0), (Kind.CLAIM, 0, 0), (Kind.CHUNK, 1, 1), (Kind.CHUNK, 2, 4),
+                          (Kind.CHUNK_BUILDING, 5, 5), (Kind.ANEW, 0, 0), (Kind.MESSAGES, 1, 1), (Kind.BUILDING, 2, 4)])
+        self.assertEqual([entry.messages for entry in samples()], [(), (), *parts(), (), *parts()[:2]])
         self.assertEqual({entry.author for entry in samples()}, {ANNE.name})
+
+    def test_what_no_chunk_has_is_spelled_as_before(self) -> None:
+        before = FORM.claim(7, ANNE)
+        for messages in ((*typed(1), inserting(7, 2, 1, None, 1, b"y")), (*typed(1), inserting(7, 2, 2, None, 5, b"y")),
+                         (*typed(1), *typed(1, first=3))):
+            self.assertIsNone(packed(messages))
+            for on, kind in (b"", Kind.MESSAGES), (b"on" * 16, Kind.BUILDING):
+                entry = FORM.entry(before, messages, ANNE, on)
+                self.assertEqual((entry.kind, entry.messages), (kind, messages))
 
     def test_each_prefix_and_each_bit(self) -> None:
         for entry in samples():
@@ -85,7 +115,7 @@ class Spelling(unittest.TestCase):
                     FORM.open(bad)
 
     def test_kinds_that_only_a_newer_version_knows(self) -> None:
-        for kind in 0, 5, 255:
+        for kind in 0, 7, 255:
             for raw in (spelled(kind=kind), spelled(kind=kind, site=0, first=9, count=3, before=NO_HASH, body=b"\0"),
                         spelled(kind=kind, messages=typed(1))):
                 entry = FORM.open(raw)
@@ -119,7 +149,7 @@ class Wrong(unittest.TestCase):
         self.assert_bad("isn't spelled", spelled(form=0, messages=one))
         self.assert_bad("isn't spelled", spelled(form=2, messages=one))
         self.assert_bad("another note", spelled(note=bytes(16), messages=one))
-        for kind in 0, 5, 255:
+        for kind in 0, 7, 255:
             self.assert_bad("is damaged", spelled(kind=kind, messages=one)[:-1] + b"x")
         for site in 0, GREATEST_SITE + 1, 65_535:
             self.assert_bad("a site that can't be", spelled(kind=1, site=site, first=0, before=NO_HASH))
@@ -147,8 +177,10 @@ class Wrong(unittest.TestCase):
 
     def test_bodies(self) -> None:
         two = typed(2)
-        for count in 0, 1, 3, 65_535:
-            self.assert_bad("as many messages", spelled(messages=two, count=count))
+        for kind, body in (2, body_of(two)), (5, chunk(*two)):
+            self.assert_bad("no messages", spelled(kind=kind, body=body, count=0))
+            for count in 1, 3, 65_535:
+                self.assert_bad("as many messages", spelled(kind=kind, body=body, count=count))
         for body in b"\0", body_of(two)[:-1], body_of(two) + b"\0", body_of(two) + b"\0\1":
             self.assert_bad("cut short", spelled(body=body, count=2))
         for body in b"", bytes(31), bytes(32) + body_of(two)[:-1]:
@@ -156,6 +188,26 @@ class Wrong(unittest.TestCase):
         empty = body_of(two[:1]) + LENGTH.pack(0)
         self.assert_bad("no message", spelled(body=empty, count=2))
         self.assert_bad("no message", spelled(body=LENGTH.pack(20) + two[0].data[:20], count=1))
+
+    def test_chunks(self) -> None:
+        two = typed(2)
+        right = chunk(*two)
+        for body in b"", bytes(31), b"on" * 15:
+            self.assert_bad("cut short", spelled(kind=6, body=body, count=2))
+        # Without its last three bytes it is the chunk of the first message.
+        prefixes = [right[:end] for end in range(len(right)) if end != len(right) - 3]
+        for body in [*prefixes, right + b"\1", b"\0" + right, body_of(two)]:
+            self.assert_bad("no chunk", spelled(kind=5, body=body, count=2))
+        self.assert_bad("as many messages", spelled(kind=5, body=right[:-3], count=2))
+        self.assert_bad("as many messages", spelled(kind=5, body=right + b"y", count=2))
+        for site, first in (8, 1), (7, 2), (7, 9):
+            self.assert_bad("another place", spelled(kind=5, site=site, first=first, body=right, count=2))
+        self.assert_bad("more in it", spelled(kind=1, first=0, before=NO_HASH, body=right))
+        self.assert_bad("says of nothing", spelled(kind=4, first=0, body=right))
+        # One of another text, and one with a message of another site after the first one.
+        self.assert_bad("no chunk", spelled(kind=5, body=right.replace(BEGIN, b"OTC1\0\2"), count=2))
+        other = right + b"".join([b"\x0f", *map(number_of, (8, 1, 3, 0)), b"\5\7\0z"])
+        self.assert_bad("no chunk", spelled(kind=5, body=other, count=3))
 
     def test_a_right_digest_over_anything(self) -> None:
         chance, right = random.Random(4), 0
@@ -176,6 +228,10 @@ class Wrong(unittest.TestCase):
             again = spelled(kind=found.kind, site=found.site, first=found.first, before=found.before,
                             author=found.author, messages=found.messages, body=found.body)
             self.assertEqual(again, raw)
+            if found.kind in (Kind.CHUNK, Kind.CHUNK_BUILDING):
+                # No other bytes are the chunk of these messages, but where the length stands that no insertion says.
+                length = found.runs[0].at or found.chunk[10]
+                self.assertIn(found.chunk, [packed(found.messages, length), packed(found.messages)])
             self.assertTrue(all(is_spelled(one.data) for one in found.messages))
             self.assertEqual([(one.site, one.seq) for one in found.messages],
                              [(found.site, found.first + number) for number in range(len(found.messages))])
@@ -190,20 +246,27 @@ class Sizes(unittest.TestCase):
     def test_the_longest(self) -> None:
         message = longest(1)
         self.assertEqual((len(message.data), is_spelled(message.data)), (LONGEST_MESSAGE, True))
-        self.assertEqual([len(part) for part in in_entries([longest(1), longest(2)])], [1, 1])
-        entry = FORM.entry(FORM.claim(7, ANNE), [message], ANNE)
-        self.assertEqual(FORM.open(entry.raw), entry)
+        far = about(CHANGE_LOOKS, 7, 1, 1, [(60 * number + 200, 2**23 + number, 2**22) for number in range(MOST_RANGES)])
+        far = Message.read(far.data[:20] + b"\x07\x1f" + b"F" * 31 + b"\x0f\xff" + far.data[22:])
+        for one in message, far:
+            self.assertEqual(is_spelled(one.data), True)
+            self.assertEqual([len(part) for part in in_entries([one])], [1])
+            entry = FORM.entry(FORM.claim(7, ANNE), [one], ANNE)
+            self.assertEqual((FORM.open(entry.raw), entry.kind), (entry, Kind.CHUNK))
 
     def test_bounds(self) -> None:
-        # The bytes of an insertion beside its characters.
-        beside = len(typed(1)[0].data) - 1
+        room = MOST_CHUNK - len(chunk(inserting(7, 1, 1, None, 0, b"x")))
+        # All but the first are at the caret, and take a byte each.
         for more in 0, 1:
-            first = inserting(7, 1, 1, None, 0, b"x" * 4_000)
-            rest = MOST_BODY - 2 * LENGTH.size - len(first.data) - LONGEST_MESSAGE - LENGTH.size
-            last = inserting(7, 3, 3, None, 4_000, b"y" * (rest - beside + more))
-            messages = [first, longest(2), last]
-            self.assertEqual(len(body_of(messages)), MOST_BODY + more)
-            self.assertEqual(in_entries(messages), [messages] if not more else [messages[:2], messages[2:]])
+            messages = [inserting(7, 1 + number, 1 + number, (7, number - 1) if number else None, number, b"x")
+                        for number in range(1 + room + more)]
+            self.assertEqual([len(part) for part in in_entries(messages)], [1 + room, more][:1 + more])
+            if not more:
+                self.assertEqual(len(chunk(*messages)), MOST_CHUNK)
+                entry = FORM.entry(FORM.claim(7, ANNE), messages, ANNE)
+                self.assertEqual(FORM.open(entry.raw), entry)
+                self.assertEqual(entry.messages, tuple(messages))
+                self.assertEqual([run.size for run in entry.runs], [1 + room])
 
     def test_no_entry_is_larger(self) -> None:
         room = MOST_BYTES - HEAD.size - 16 - 16
@@ -225,16 +288,16 @@ class Sizes(unittest.TestCase):
         self.assertEqual(in_entries([]), [])
         for _ in range(100):
             messages = [longest(seq) if chance.random() < 0.05 else
-                        inserting(7, seq, seq, None, 0, b"x" * chance.choice([1, 1, 1, 50, 4_096]))
+                        inserting(7, seq, seq, None, 5_000 * seq, b"x" * chance.choice([1, 1, 1, 50, 4_096]))
                         for seq in range(1, chance.randrange(2, 300))]
-            parts = in_entries(messages)
-            self.assertEqual([one for part in parts for one in part], messages)
-            for part, after in zip(parts, [*parts[1:], None]):
-                self.assertLessEqual(len(body_of(part)), MOST_BODY)
+            found = in_entries(messages)
+            self.assertEqual([one for part in found for one in part], messages)
+            for part, after in zip(found, [*found[1:], None]):
+                self.assertLessEqual(len(chunk(*part)), MOST_CHUNK)
                 if after:
-                    self.assertGreater(len(body_of([*part, after[0]])), MOST_BODY)
+                    self.assertIsNone(packed([*part, after[0]]))
             before = FORM.claim(7, ANNE)
-            for part in parts:
+            for part in found:
                 before = FORM.entry(before, part, ANNE)
                 self.assertEqual(FORM.open(before.raw), before)
 

@@ -68,15 +68,21 @@ class Joining(Case):
                 log.append((raws[::-1] if backwards else raws)[begin:begin + 1_000])
         return links.Link("sealed" if about.sealed else "plain", about.secret, url).spelled()
 
-    def timed(self, what: str, person: Person, text: bytes, link: str | None = None) -> tuple[Note, list[bytes]]:
-        """Opens a note, and counts what is handed in of the others' messages."""
-        handed: list[bytes] = []
+    def timed(self, what: str, person: Person, text: bytes, link: str | None = None) -> tuple[Note, int]:
+        """Opens a note, and counts how many messages are handed in, each of which is taken in at once."""
+        handed: list[int] = []
         steps: list[tuple[int, int]] = []
         ask = Program.ask
 
         def counting(program: Program, events: list[bytes]) -> list[list[bytes]]:
             answers = ask(program, events)
-            handed.extend(answer[-1] for event, answer in zip(events, answers) if b" take " in event)
+            for event, (*_, answer) in zip(events, answers):
+                if b" take " in event:
+                    self.assertEqual(answer, b"taken 0 0")
+                    handed.append(1)
+                elif b" unpack " in event and answer != b"refused 1":
+                    self.assertRegex(answer, rb"^unpacked \d+ 0 0$")
+                    handed.append(int(answer.split()[1]))
             return answers
 
         begin = time.monotonic()
@@ -91,7 +97,7 @@ class Joining(Case):
         self.told(f"{what} {len(text):,} messages", time.monotonic() - begin)
         self.addCleanup(note.session.close)
         self.assertTrue(all(total for _, total in steps))
-        return note, handed
+        return note, sum(handed)
 
     def told(self, what: str, seconds: float) -> None:
         """Prints a figure, where these are asked for."""
@@ -117,7 +123,7 @@ class Joining(Case):
         rounds, text = history(LONG)
         link, person = self.fill(url, rounds), self.person("ann")
         note, handed = self.timed(f"{what}: joining", person, text, link)
-        self.assertEqual(handed, [b"taken 0 0"] * len(text))
+        self.assertEqual(handed, len(text))
         self.key(what, note)
         text = bytes(note.text)
         wait_for(lambda: not note.session.status().unsent, "all to be sent")
@@ -125,7 +131,7 @@ class Joining(Case):
         self.timed(f"{what}: opening", person, text)[0].session.close()
         away()
         note, handed = self.timed(f"{what}: opening offline", person, text)
-        self.assertEqual(handed, [b"taken 0 0"] * len(text))
+        self.assertEqual(handed, len(text))
         self.assertTrue(is_network(url) or note.session.status().can_type)
 
     def test_a_long_history_in_a_file(self) -> None:
@@ -139,4 +145,4 @@ class Joining(Case):
         rounds, text = history(BACKWARDS)
         link = self.fill(self.file_log(), rounds, backwards=True)
         _, handed = self.timed("joining backwards", self.person("ann"), text, link)
-        self.assertEqual(handed, [b"taken 0 0"] * len(text))
+        self.assertEqual(handed, len(text))

@@ -308,7 +308,7 @@ class Follower:
             self.replica, self.through = self._new(), []
         self.case.assertEqual(set(self.replica.take(counted.messages)) - {b"taken 0 0"}, set())
         self.through += counted.messages
-        self.case.assertEqual(sorted(self.through), sorted(self.judge.let_through()))
+        self.case.assertEqual(sorted(self.through), sorted(self.judge.let_through_in_order()))
 
     def chains(self) -> set[bytes]:
         """The hashes of the entries that hold."""
@@ -486,7 +486,7 @@ class AnyOrder(unittest.TestCase):
                 after.count()
         after.agrees(lambda entry: (entry.hash not in seen, naive.rank(entry)))
         self.assertLessEqual(seen, after.chains())
-        self.assertLessEqual(set(before.judge.let_through()), set(after.judge.let_through()))
+        self.assertLessEqual(set(before.judge.let_through_in_order()), set(after.judge.let_through_in_order()))
 
     @tries(80)
     @given(histories(), SEEDS)

@@ -8,7 +8,8 @@ from unittest import mock
 
 import share.sealing
 from share import link
-from share.entry import HEAD, MOST_BODY, MOST_BYTES, Author, Bad, Entry, Form, Plain, in_entries
+from share.chunks import MOST_CHUNK
+from share.entry import HEAD, MOST_BYTES, Author, Bad, Entry, Form, Plain, in_entries
 from share.link import Link, url_of
 from share.log import MOST_PRESENCE
 from share.message import DELETE, Message
@@ -53,11 +54,11 @@ class Opened(unittest.TestCase):
                 self.assertEqual(form.open(entry.raw), entry)
 
     def test_the_longest_entry_fits(self) -> None:
-        messages = [deletion(7, seq, ranges=100) for seq in range(1, 40)]
+        messages = [deletion(7, seq, ranges=100) for seq in range(1, 100)]
         part = in_entries(messages)[0]
         entry = self.form.entry(self.made[0], part, self.author)
-        self.assertGreater(len(entry.raw), MOST_BODY - 1100)
-        self.assertLess(HEAD.size + 32 + 24 + MOST_BODY + 16 + 64, MOST_BYTES)
+        self.assertGreater(len(entry.raw), MOST_CHUNK - 1100)
+        self.assertLess(HEAD.size + 32 + 24 + MOST_CHUNK + 16 + 64, MOST_BYTES)
         self.assertEqual(self.form.open(entry.raw).messages, tuple(part))
 
     def test_the_same_entry_is_made_twice_with_the_same_bytes(self) -> None:
@@ -76,6 +77,7 @@ class Opened(unittest.TestCase):
         other = chain(Sealed(new_key()), self.author)[1].raw
         raw, data = self.made[1].raw, self.made[1].messages[0].data
         self.assertNotIn(data, raw)
+        self.assertNotIn(self.made[1].chunk, raw)
         self.assertNotEqual(raw[-SIGNATURE_BYTES:], other[-SIGNATURE_BYTES:])
 
     def test_each_flipped_bit_is_noticed(self) -> None:

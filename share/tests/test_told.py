@@ -167,7 +167,7 @@ class Tells(Pair):
 
     def test_a_program_that_is_too_old(self) -> None:
         old = self.folder / "old"
-        old.write_text(f'#!/bin/sh\nsed -u "s/ delete / erase /" | {shlex.join(command())} "$@"\n')
+        old.write_text(f'#!/bin/sh\nsed -u "s/ unpack / unfold /" | {shlex.join(command())} "$@"\n')
         old.chmod(0o755)
         self.person().open("empty").session.close()
         run = self.note("empty", "--print", VIALSHOAL_PROGRAM=str(old))
