@@ -466,7 +466,7 @@ class Session:
             fronts = packing.fronts_of(self._disk, self._holdings.judge, self.number, folder)
         packed, others = packing.parted(messages, fronts)
         self._packed = len(packed)
-        return Site(self.number, others, lambda done: progress(len(packed) + done), folder, packed)
+        return Site(self.number, others, progress, folder, packed)
 
     def _pack(self, least: int) -> None:
         """Has the packed file be written where so many messages came that it doesn't have."""

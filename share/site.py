@@ -62,9 +62,10 @@ class Site:
         if self._ask([self._program.unpacking(b"\0")])[0][-1] != b"refused 1":
             raise Trouble("The program is too old: it can't read chunks of messages. Build it anew, with "
                           "bin/site_cli < demo/two-sites.script, and open the note again.")
+        before = len(packed) if packed else 0
         if packed:
             self._reopen(packed, progress)
-        self.take(messages, progress=progress)
+        self.take(messages, progress=lambda done: progress(before + done))
 
     def _reopen(self, packed: Messages, progress: Progress) -> None:
         """Goes on from the packed file, or where that can't be has its messages handed in."""

@@ -14,7 +14,7 @@ REFUSALS = {
     11: "a position or a name isn't in the text",
     12: "it is scattered over more than 1,024 stretches",
     20: "the program can't read it",
-    21: "a note has about a million messages at most; save it as a file and begin a new one",
+    21: "a note has two million messages at most; save it as a file and begin a new one",
     23: "this site has made its last edit; open the note with a new data folder for a new site number",
 }
 

@@ -734,7 +734,7 @@ class Hanging(Scripted):
     def test_an_edit_that_is_refused(self) -> None:
         one = self.terminal()
         one.type("REFUSED")
-        one.sees("a note has about a million messages")
+        one.sees("a note has two million messages")
         one.type("more")
         wait_for(lambda: one.lines()[0] == "more", "the next edit")
         self.assertEqual(self.quit(one), b"more")

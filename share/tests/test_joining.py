@@ -1,4 +1,4 @@
-"""A note with a long history is joined, opened and typed into, with a bar, and each message is handed in once. The
+"""A note with a long history is joined, opened and typed into, with a bar, and each message is handed in once at most. The
 figures of a note of 100,000 messages are printed where VIALSHOAL_FIGURES is set, as `share/tests/run` doesn't."""
 import contextlib
 import os
@@ -128,10 +128,13 @@ class Joining(Case):
         text = bytes(note.text)
         wait_for(lambda: not note.session.status().unsent, "all to be sent")
         note.session.close()
-        self.timed(f"{what}: opening", person, text)[0].session.close()
+        # It goes on from its packed file, which has all of it.
+        note, handed = self.timed(f"{what}: opening", person, text)
+        self.assertEqual(handed, 0)
+        note.session.close()
         away()
         note, handed = self.timed(f"{what}: opening offline", person, text)
-        self.assertEqual(handed, len(text))
+        self.assertEqual(handed, 0)
         self.assertTrue(is_network(url) or note.session.status().can_type)
 
     def test_a_long_history_in_a_file(self) -> None:

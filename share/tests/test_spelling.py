@@ -9,6 +9,7 @@ import pathlib
 import random
 import unittest
 
+from share import chunks
 from share import message as messages
 from share.message import (CHANGE_LOOKS, DELETE, INSERT, LONGEST_MESSAGE, RESTORE, Message, Names, inserted,
                            is_spelled, mentioned, names_of)
@@ -214,18 +215,19 @@ class SecondReading(unittest.TestCase):
 
 
 class TheProgramAlone(unittest.TestCase):
-    """Messages are spelled by the program, and read here."""
+    """Messages are made by the program, and read here; one file unfolds them from chunks, as the program does."""
 
     def test_no_file_packs_a_message(self) -> None:
-        reads = pathlib.Path(messages.__file__)
+        reads, unfolds = pathlib.Path(messages.__file__), pathlib.Path(chunks.__file__)
         for path in [*reads.parent.glob("*.py"), *reads.parent.glob("web/*.py")]:
             nodes = [*ast.walk(ast.parse(path.read_bytes()))]
             packs = {ast.unparse(one.value) for one in nodes if isinstance(one, ast.Attribute) and one.attr.startswith("pack")}
             forms = {name.name for one in nodes if isinstance(one, ast.ImportFrom) and one.module == "share.message"
                      for name in one.names}
             tags = [one for one in nodes if isinstance(one, ast.Constant) and one.value == messages.TAG]
-            self.assertEqual(packs if path == reads else packs & forms, set(), path.name)
-            self.assertEqual(bool(tags or "TAG" in forms), path == reads, path.name)
+            self.assertEqual(packs if path == reads else packs & forms,
+                             {"HEADER", "INSERTION", "LENGTH", "RANGE"} if path == unfolds else set(), path.name)
+            self.assertEqual(bool(tags or "TAG" in forms), path in (reads, unfolds), path.name)
 
 
 if __name__ == "__main__":
