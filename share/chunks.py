@@ -252,17 +252,16 @@ class _Reader:
             yield run
 
     def _run(self) -> Run:
-        one, begin = self._one, self._at
+        one, code, is_expected = self._one, self._byte(), True
         looks, place = one.looks, one.caret
-        if self._passes(NEW_LOOKS):
-            looks = self._values(7)
-            if looks == one.looks:
-                raise NoChunk
-        if self._passes(NEAR):
-            place = self._near()
-        elif self._passes(FAR):
-            place = self._far()
-        is_expected, code = self._at == begin, self._byte()
+        if code <= FAR:
+            is_expected = False
+            if code == NEW_LOOKS:
+                looks, code = self._values(7), self._byte()
+                if looks == one.looks:
+                    raise NoChunk
+            if code in (NEAR, FAR):
+                place, code = self._near() if code == NEAR else self._far(), self._byte()
         if code in (CHANGED, RESTORED, SET):
             if not is_expected:
                 raise NoChunk
@@ -368,20 +367,25 @@ class _Reader:
         number = 0
         for sevens in range(MOST_SEVENS):
             byte = self._byte()
+            if byte < 0x80 and not sevens:
+                return byte
             number |= (byte & 0x7F) << 7 * sevens
             if byte < 0x80:
-                if not byte and sevens:
+                if not byte:
                     raise NoChunk
                 return number
         raise NoChunk
 
     def _passes(self, code: int) -> bool:
-        is_there = self._data[self._at:self._at + 1] == bytes([code])
+        is_there = self._at < len(self._data) and self._data[self._at] == code
         self._at += is_there
         return is_there
 
     def _byte(self) -> int:
-        return self._take(1)[0]
+        if self._at == len(self._data):
+            raise NoChunk
+        self._at += 1
+        return self._data[self._at - 1]
 
     def _take(self, count: int) -> bytes:
         self._at += count
