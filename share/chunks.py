@@ -23,7 +23,7 @@ OTHER_SITE, LATER, NEW_LOOKS, NEAR, FAR = 1, 2, 3, 4, 5
 # What a message does.
 LONG, SET, ONE, CHANGED, RESTORED, CODE, SITE = 6, 7, 8, 0x0B, 0x0C, 0x0E, 0x0F
 CODES = frozenset([*range(OTHER_SITE, ONE + 1), CHANGED, RESTORED, CODE, SITE])
-LETTERS = re.compile(rb"[^\x01-\x08\x0b\x0c\x0e\x0f]+")
+LETTERS, CODED = re.compile(rb"[^\x01-\x08\x0b\x0c\x0e\x0f]+"), re.compile(rb"[\x01-\x08\x0b\x0c\x0e\x0f]")
 # A number of more sevens of bits is that of no field.
 MOST_SEVENS = 7
 LEAST_RANGE = 3
@@ -103,7 +103,7 @@ def of_message(message: Message) -> Run:
 def packed(messages: Sequence[Message], length: int = 0) -> bytes | None:
     """The chunk of messages of one site, whose characters were so many before them; None where there is none."""
     writer = Writer()
-    return bytes(writer.data) if all(writer.add(message, length) for message in messages) else None
+    return bytes(writer.data) if all(writer.add(of_message(message), length) for message in messages) else None
 
 
 class _Expected:
@@ -134,30 +134,29 @@ class Writer:
         self._sites: dict[int, _Expected] = {}
         self._last = 0
 
-    def add(self, message: Message, length: int = 0) -> bool:
-        """Adds a message, of whose site there were so many characters as it began; False where it has no place here."""
-        run, one = of_message(message), self._sites.get(message.site)
-        lead = bytearray()
+    def add(self, run: Run, length: int = 0) -> bool:
+        """Adds messages, of whose site there were so many characters as it began; False where they have no place here."""
+        one, lead = self._sites.get(run.site), b""
         if one is None:
             at = run.at if run.kind == INSERT else length
-            one = _Expected(message.site, message.seq, message.stamp, at)
-            lead += bytes([SITE]) + b"".join(map(number_of, (message.site, message.seq, message.stamp, at)))
-        more = message.stamp - one.stamp
-        if message.seq != one.seq or more < 0 or run.kind == INSERT and run.at != one.at:
+            one = _Expected(run.site, run.seq, run.stamp, at)
+            lead = b"".join([bytes([SITE]), *map(number_of, (run.site, run.seq, run.stamp, at))])
+        more = run.stamp - one.stamp
+        if run.seq != one.seq or more < 0 or run.kind == INSERT and run.at != one.at:
             return False
-        if message.site in self._sites and message.site != self._last:
-            lead += bytes([OTHER_SITE]) + number_of(message.site) + number_of(more)
+        if not lead and run.site != self._last:
+            lead = bytes([OTHER_SITE]) + number_of(run.site) + number_of(more)
         elif more:
-            lead += bytes([LATER]) + number_of(more)
-        spelled = _spelled(run, one)
-        if len(self.data) + len(lead) + len(spelled) > MOST_CHUNK:
+            lead = bytes([LATER]) + number_of(more)
+        spelled = lead + _spelled(run, one)
+        if len(self.data) + len(spelled) > MOST_CHUNK:
             return False
-        self.data += lead + spelled
-        self._sites[message.site], self._last = one, message.site
-        one.stamp = message.stamp
+        self.data += spelled
+        self._sites[run.site], self._last = one, run.site
+        one.stamp = run.stamp
         if run.kind == INSERT:
             one.looks = run.looks
-            one.inserted(1, len(run.data))
+            one.inserted(run.size, len(run.data))
         else:
             one.did(run.kind, run.mentions[0])
         return True
@@ -185,7 +184,7 @@ def _spelled(run: Run, one: _Expected) -> bytes:
     """What a message of its site does, where this is expected."""
     if run.kind == INSERT:
         looks = b"" if run.looks == one.looks else bytes([NEW_LOOKS]) + run.looks
-        return looks + _place(run.mentions[0][:2] if run.mentions else None, one.caret) + _bytes(run.data)
+        return looks + _place(run.mentions[0][:2] if run.mentions else None, one.caret) + _bytes(run)
     if run.kind == CHANGE_LOOKS:
         return bytes([CHANGED]) + run.looks + _set(run.mentions)
     if run.kind == RESTORE:
@@ -206,10 +205,10 @@ def _place(place: Place, caret: Place) -> bytes:
     return bytes([NEAR]) + number_of(2 * difference if difference >= 0 else -2 * difference - 1)
 
 
-def _bytes(data: bytes) -> bytes:
-    if len(data) > 1:
-        return bytes([LONG]) + number_of(len(data) - 2) + data
-    return bytes([CODE]) + data if data[0] in CODES else data
+def _bytes(run: Run) -> bytes:
+    if len(run.data) > run.size:
+        return bytes([LONG]) + number_of(len(run.data) - 2) + run.data
+    return CODED.sub(b"\x0e\\g<0>", run.data)
 
 
 def _set(ranges: Sequence[Names]) -> bytes:

@@ -266,9 +266,10 @@ def in_entries(messages: Sequence[Message], length: int = 0) -> list[list[Messag
     parts: list[list[Message]] = []
     writer = Writer()
     for message in messages:
-        if not parts or not writer.add(message, length):
+        run = of_message(message)
+        if not parts or not writer.add(run, length):
             writer = Writer()
-            writer.add(message, length)
+            writer.add(run, length)
             parts.append([])
         parts[-1].append(message)
         length = length_after([message], length)

@@ -4,8 +4,12 @@ from bisect import bisect_right
 from collections.abc import Iterable, Iterator, Sequence
 from typing import NamedTuple, Protocol, overload
 
-from share.chunks import Writer
+from share.chunks import Run, Writer, of_message
 from share.message import Message
+
+
+# A chunk of fewer messages is handed in with others, since the program takes so many lines alone.
+FEW = 16
 
 
 class Holder(Protocol):
@@ -20,6 +24,10 @@ class Holder(Protocol):
         """The messages."""
 
     @property
+    def runs(self) -> Sequence[Run]:
+        """The messages, those in one that are letters typed one after the other."""
+
+    @property
     def chunk(self) -> bytes:
         """Their chunk; nothing where there is none."""
 
@@ -30,6 +38,11 @@ class Loose(NamedTuple):
     size: int
     messages: tuple[Message, ...]
     chunk: bytes = b""
+
+    @property
+    def runs(self) -> Sequence[Run]:
+        """The messages, one by one."""
+        return [*map(of_message, self.messages)]
 
 
 class Part(NamedTuple):
@@ -69,19 +82,20 @@ class Messages(Sequence[Message]):
     def chunks(self) -> Iterator[tuple[bytes, int]]:
         """Chunks of all of them, and how many each has."""
         writer, count = Writer(), 0
-        for part in self._parts:
-            if part.holder.chunk and part.end - part.begin == part.holder.size:
+        for holder, begin, end in self._parts:
+            is_whole = end - begin == holder.size
+            if holder.chunk and is_whole and holder.size >= FEW:
                 if count:
                     yield bytes(writer.data), count
                 writer, count = Writer(), 0
-                yield part.holder.chunk, part.end
+                yield holder.chunk, end
                 continue
-            for message in part.holder.messages[part.begin:part.end]:
-                if not writer.add(message):
+            for run in holder.runs if is_whole else map(of_message, holder.messages[begin:end]):
+                if not writer.add(run):
                     yield bytes(writer.data), count
                     writer, count = Writer(), 0
-                    writer.add(message)
-                count += 1
+                    writer.add(run)
+                count += run.size
         if count:
             yield bytes(writer.data), count
 

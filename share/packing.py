@@ -14,6 +14,7 @@ from share.disk import Disk, make_folder
 from share.entry import Entry, digest
 from share.judging import Judge
 from share.messages import Messages, Part
+from share.saving import PRIVATE
 from share.site import KEPT, Site
 
 # It is written where so many messages came that it doesn't have, and a part of those that it has; and as the note is
@@ -35,7 +36,7 @@ def folder_of(disk: Disk, site: int) -> pathlib.Path | None:
 
 
 def _folder(disk: Disk, site: int) -> pathlib.Path:
-    return disk.path.with_name(disk.path.name + ".packed") / str(site)
+    return disk.path.with_suffix(".packed") / str(site)
 
 
 def leave(disk: Disk, site: int) -> None:
@@ -66,6 +67,7 @@ def keep(disk: Disk, judge: Judge, site: Site, folder: pathlib.Path) -> None:
         fronts = site.keep()
         found = [(of, seq, judge.entry_of(of, seq)) for of, seq in fronts.items()]
         if found and all(by for _, _, by in found):
+            (folder / KEPT).chmod(PRIVATE)
             disk.note_packed(site.number, digest((folder / KEPT).read_bytes()),
                              b"".join(FRONT.pack(of, seq, by or b"") for of, seq, by in found))
 

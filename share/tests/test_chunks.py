@@ -1,8 +1,10 @@
 """Chunks: a site's messages both ways, as the program packs and unpacks them; and what is no chunk."""
 import random
 import unittest
+from unittest import mock
 
-from share.chunks import BEGIN, MOST_CHUNK, NoChunk, Writer, messages, packed, runs
+from share.chunks import BEGIN, MOST_CHUNK, NoChunk, Writer, messages, of_message, packed, runs
+from share.entry import Author, Plain
 from share.message import DELETE, Message
 from share.messages import Loose, Messages, Part
 from share.program import Program
@@ -79,7 +81,7 @@ class Chunks(unittest.TestCase):
         for bad in (inserting(7, 4, 4, None, 2, b"c"), inserting(7, 3, 2, None, 2, b"c"), inserting(7, 3, 3, None, 1, b"c")):
             self.assertIsNone(packed([*one, bad]))
         writer = Writer()
-        self.assertTrue(all(map(writer.add, [*one, *typed(8, 1, 0, b"c"), *typed(7, 3, 2, b"d")])))
+        self.assertTrue(all(writer.add(of_message(message)) for message in [*one, *typed(8, 1, 0, b"c"), *typed(7, 3, 2, b"d")]))
         with self.assertRaises(NoChunk):
             runs(bytes(writer.data))
 
@@ -165,11 +167,20 @@ class InARow(unittest.TestCase):
         self.assertEqual(list(self.row), self.plain[:7])
 
     def test_chunks(self) -> None:
-        whole, both = [*self.row.chunks()], [*self.row[1:].chunks()]
+        with mock.patch("share.messages.FEW", 6):
+            whole, both = [*self.row.chunks()], [*self.row[1:].chunks()]
         self.assertEqual(whole[0], (packed(self.plain[:6]), 6))
         self.assertEqual([count for _, count in whole], [6, 4])
         self.assertEqual([count for _, count in both], [9])
         self.assertEqual([*Messages().chunks()], [])
+
+    def test_few_messages_are_handed_in_with_others(self) -> None:
+        form, author = Plain(bytes(16)), Author(b"sixteen bytes of", b"")
+        made, row, plain = form.claim(7, author), Messages(), typed(7, 1, 0, b"a\x0eb" * 3_000)
+        for message in plain:
+            made = form.entry(made, [message], author)
+            row.add(Part(made, 0, 1))
+        self.assertEqual([*row.chunks()], [(packed(plain), len(plain))])
 
 
 if __name__ == "__main__":

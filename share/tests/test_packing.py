@@ -89,7 +89,7 @@ class Packing(Case):
     def file(self) -> pathlib.Path:
         """The packed file."""
         path = self.ann.path()
-        return path.with_name(path.name + ".packed") / str(self.number) / KEPT
+        return path.with_suffix(".packed") / str(self.number) / KEPT
 
     def shows(self, text: str, packed: bool) -> Note:
         """That the note shows a text, and whether it went on from the packed file; what is typed then stays."""
@@ -286,7 +286,7 @@ class Packing(Case):
     def test_a_folder_without_a_file_is_taken_away(self) -> None:
         with mock.patch.object(packing, "AT_END", 100):
             self.ann.open("other").session.close()
-            self.assertEqual([path.name for path in self.ann.path("other").parent.glob("other.*.packed")], [])
+            self.assertEqual([path.name for path in self.ann.path("other").parent.glob("other.packed")], [])
 
     def test_a_joined_note_is_packed(self) -> None:
         one = self.opened(self.person("one"), url=self.file_log())
