@@ -59,8 +59,9 @@ def fronts_of(disk: Disk, judge: Judge, site: int, folder: pathlib.Path | None) 
     return {of: seq for of, seq, _ in found} if all(judge.entry_of(of, seq) == by for of, seq, by in found) else {}
 
 
-def keep(disk: Disk, judge: Judge, site: Site, folder: pathlib.Path) -> None:
+def keep(disk: Disk, judge: Judge, site: Site) -> None:
     """Has a site's packed file be of all that it has taken in, as far as there is room."""
+    folder = _folder(disk, site.number)
     with contextlib.suppress(OSError):
         for left in folder.glob(LEFT):
             left.unlink()

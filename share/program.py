@@ -44,9 +44,11 @@ class Program:
     def __init__(self, site: int, folder: pathlib.Path | None = None):
         self.site, self.lines = site, 0
         words = [*command(), "--first", str(site), "--count", "1"]
+        # It may have been taken away meanwhile, and what isn't there is no place for files.
+        self.folder = folder if folder and folder.is_dir() else None
         try:
             self.process = subprocess.Popen(words, stdin=subprocess.PIPE, stdout=subprocess.PIPE, bufsize=0,
-                                            stderr=subprocess.DEVNULL, start_new_session=True, cwd=folder)
+                                            stderr=subprocess.DEVNULL, start_new_session=True, cwd=self.folder)
         except OSError as why:
             raise Trouble(f"The program can't be run ({words[0]}: {why.strerror}). VIALSHOAL_PROGRAM names "
                           "it.") from why

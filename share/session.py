@@ -471,12 +471,12 @@ class Session:
     def _pack(self, least: int) -> None:
         """Has the packed file be written where so many messages came that it doesn't have."""
         many = len(self.site.history)
-        folder = packing.folder_of(self._disk, self.number)
-        if folder and many >= self._packed + least and not (self._is_stale or self._is_taken):
-            self._packed = many
-            with suppress(Unkept, Damaged, Trouble):
-                # Where there is no room, or the program ends as it writes, the next opening takes longer.
-                packing.keep(self._disk, self._holdings.judge, self.site, folder)
+        if many < self._packed + least or self._is_stale or self._is_taken:
+            return
+        self._packed = many
+        with suppress(Unkept, Damaged, Trouble):
+            # Where there is no room, or the program ends as it writes, the next opening takes longer.
+            packing.keep(self._disk, self._holdings.judge, self.site)
 
     def _make_anew(self, broken: list[Client]) -> None:
         """Makes anew, under this number, what was made under others and doesn't count."""

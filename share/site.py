@@ -69,7 +69,7 @@ class Site:
 
     def _reopen(self, packed: Messages, progress: Progress) -> None:
         """Goes on from the packed file, or where that can't be has its messages handed in."""
-        if self._ask([self._program.event("reopen", KEPT.encode())])[0] != [b"ok"]:
+        if not self._program.folder or self._ask([self._program.event("reopen", KEPT.encode())])[0] != [b"ok"]:
             self.take(packed, progress=progress)
             return
         self.history += packed
@@ -77,7 +77,7 @@ class Site:
 
     def keep(self) -> dict[int, int]:
         """Has the program write the packed file; how many messages of each site it has, nothing where it isn't written."""
-        if not self._folder:
+        if not self._program.folder:
             return {}
         fronts, kept = self._ask([self._program.event("front"), self._program.event("keep", KEPT.encode(), b"packed")])
         if kept != [b"ok"]:

@@ -283,6 +283,17 @@ class Packing(Case):
         with contextlib.closing(sqlite3.connect(self.ann.path())) as file:
             self.assertEqual(file.execute("SELECT count(*) FROM packed").fetchone(), (1,))
 
+    def test_its_folder_is_gone(self) -> None:
+        note = self.opened(self.ann)
+        shutil.rmtree(self.file().parent)
+        note.session.site._program.process.kill()
+        type_at_the_end(note, "more ")
+        note.session._pack(1)
+        self.assertFalse((pathlib.Path.cwd() / KEPT).exists())
+        note.session.close()
+        self.shows("begin more ", False)
+        self.shows("begin more ", True)
+
     def test_a_folder_without_a_file_is_taken_away(self) -> None:
         with mock.patch.object(packing, "AT_END", 100):
             self.ann.open("other").session.close()
