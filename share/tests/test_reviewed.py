@@ -2,6 +2,7 @@
 full disks between two steps, damaged files, and names that aren't what they are taken for."""
 import contextlib
 import pathlib
+import shutil
 import subprocess
 import time
 from unittest import mock
@@ -56,7 +57,10 @@ class UnderSeveral(Case):
         time.sleep(0.4)
         for pattern in lost:
             for path in person.path().parent.glob(pattern):
-                path.unlink(missing_ok=True)
+                if path.is_dir():
+                    shutil.rmtree(path)
+                else:
+                    path.unlink(missing_ok=True)
         words = [f"{tag}.{number}" for tag, run in zip("abc", runs)
                  for number in range(int(run.communicate()[0]))]
         self.assertGreater(len(words), 2)
