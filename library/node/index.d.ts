@@ -26,7 +26,7 @@ export interface Settling {
 }
 
 /** What became of a chunk's operations: how many were taken in, those that had waited among them; how many are held already, or
- * wait already; how many wait from now on. And whether taking in what waited ended early. */
+ * wait already; how many were put among those that wait. And whether taking in what waited ended early. */
 export interface Unpacking {
     taken: number;
     known: number;

@@ -108,7 +108,7 @@ class Settling:
 @dataclass(frozen=True)
 class Unpacking:
     """What became of a chunk's operations: how many were taken in, those that had waited among them; how many are held
-    already, or wait already; how many wait from now on. And whether taking in what waited ended early."""
+    already, or wait already; how many were put among those that wait. And whether taking in what waited ended early."""
 
     taken: int
     known: int
