@@ -7,12 +7,11 @@ use Rattle.std.proofs.lemmas.List.Elements.{All-append, All-head, All-tail, All-
 use Rattle.char_files.specs.CharName.{CharName}
 use Rattle.char_files.specs.declared.TheConstants.{MAX_FILE}
 use Rattle.operations.specs.NameSet.{Range, IsIn}
-use Rattle.piece_raw.specs.Ring.{Ring, ring, AreTags, IsMember, HasTag, IsAtCursor, with_value}
-use Rattle.piece_raw.specs.Ring.{with_value_at}
+use Rattle.piece_raw.specs.Ring.{AreTags, IsMember, HasTag, with_value}
 use Rattle.tree_order.specs.Registers.{Atom, if_named}
-use Rattle.piece_list.specs.declared.list.changing.Setting.{Setting}
-use Rattle.piece_list.specs.declared.list.changing.Setting.TheVariants.{Switch, Relook}
-use Rattle.piece_list.specs.declared.piece.Piece.{Piece}
+use Rattle.piece_list.specs.declared.setting.Setting.{Setting}
+use Rattle.piece_list.specs.declared.setting.Setting.TheVariants.{Switch, Relook}
+use Rattle.piece_list.specs.Piece.{Piece}
 use Rattle.piece_list.specs.declared.spot.Spot.{Spot}
 use Rattle.piece_list.specs.Changing.{IsEdge, changed_piece, changed_char}
 use Rattle.piece_list.specs.Held.{AreEntered, IsSpotOf}
@@ -21,8 +20,8 @@ use Rattle.piece_list.specs.Pieces.{range_of, IsPiece}
 use Rattle.piece_list.specs.Spelled.{spelled, HasName}
 use Rattle.piece_list.specs.Tables.{Tables, tag_at}
 use Rattle.piece_list.proofs.Changes.{of_its_names}
-use Rattle.piece_list.proofs.Splitting.{before_others, after_others, written}
-use Rattle.piece_list.proofs.SplitList.{at_cursor, is_piece}
+use Rattle.piece_list.proofs.Splitting.{before_others, after_others, written, written_tags}
+use Rattle.piece_list.proofs.SplitList.{is_piece}
 use Rattle.piece_list.proofs.Edges.{entered_holds, begins_there}
 use Rattle.piece_list.proofs.Found.{some_is, one_value, name_has_spot, spot_has_name}
 use Rattle.piece_list.proofs.Gap.{all_left, all_right}
@@ -42,11 +41,6 @@ changes_each (Relook sel looks key) p = (refl, λ c. refl)
 pub keeps_name : (setting : Setting) (k : Atom) → (changed_char setting k).name ≡ k.name
 keeps_name (Switch hidden key) k = refl
 keeps_name (Relook sel looks key) k = refl
-
--- the ring's write
-pub insert_at_cursor : (r : Ring Piece) (items : Items) (tag room : ℕ) (w : Piece)
-    → r ≡ ring items (Some tag) room → with_value_at r.cursor w r.items ≡ with_value tag w items
-insert_at_cursor r items tag room w e = ap (λ (s : Ring Piece). with_value_at s.cursor w s.items) e
 
 -- what the answer of the step says of the names
 pub same_names : (p w : Piece) (name : CharName) → range_of w ≡ range_of p → IsIn (range_of p) name
@@ -184,6 +178,14 @@ module _ (setting : Setting) (old : Items) (tables : Tables) (tag : ℕ) (p w : 
         (after_others xs ys tag p here))
         ∙ sym (ap (λ (l : Items). map (if_named (range_of p ∷ []) (changed_char setting)) (spelled l)) is)
 
+-- what stands under the number after the change
+pub value_after : (items : Items) (tag : ℕ) (p w q : Piece) → AreTags items → IsMember items tag p
+    → IsMember (with_value tag w items) tag q → q ≡ w
+value_after items tag p w q tags (xs, ys, is) held =
+    let whole : with_value tag w items ≡ xs ++ (tag, w) ∷ ys =
+    ap (with_value tag w) is ∙ written xs ys tag p w (subst AreTags is tags) in
+    one_value (with_value tag w items) (written_tags tag w items tags) tag q w held (xs, ys, whole)
+
 -- the piece that a step changes, before it and after it
 pub record IsTurn (items : Items) (tag : ℕ) (p w : Piece) (name : CharName) : Type 0 where
   pub member : IsMember items tag p
@@ -193,12 +195,10 @@ pub record IsTurn (items : Items) (tag : ℕ) (p w : Piece) (name : CharName) : 
   pub end : w.off + w.len ≡ p.off + p.len
   pub fits : p.off + p.len ≤ MAX_FILE
 
-pub turn : (setting : Setting) (r : Ring Piece) (items : Items) (tables : Tables) (tag room : ℕ) (p w : Piece)
-    (name : CharName) → AreTags items → AreEntered items tables → HasName (spelled items) name
-    → IsEdge name.site name.off items → r ≡ ring items (Some tag) room → IsAtCursor r p
+pub turn : (setting : Setting) (items : Items) (tables : Tables) (tag : ℕ) (p w : Piece) (name : CharName) → AreTags items
+    → AreEntered items tables → HasName (spelled items) name → IsEdge name.site name.off items → IsMember items tag p
     → Some tag ≡ tag_at tables name → w ≡ changed_piece setting p → IsTurn items tag p w name
-turn setting r items tables tag room p w name tags are here begins is_ring at entry is_w =
-    let member : IsMember items tag p = at_cursor r items tag room p is_ring at in
+turn setting items tables tag p w name tags are here begins member entry is_w =
     let held : IsIn (range_of p) name =
     entered_holds items tables tags are name here tag p member (sym entry) in
     let same : range_of w ≡ range_of p = ap range_of is_w ∙ (changes_each setting p).0 in

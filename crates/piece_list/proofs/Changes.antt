@@ -10,7 +10,7 @@ use Rattle.std.proofs.lemmas.Grind.{flat_map-append}
 use Rattle.char_files.specs.CharName.{CharName}
 use Rattle.operations.specs.NameSet.{Range, IsIn, range_contains, names_of}
 use Rattle.tree_order.specs.Registers.{Atom, if_named}
-use Rattle.piece_list.specs.declared.piece.Piece.{Piece}
+use Rattle.piece_list.specs.Piece.{Piece}
 use Rattle.piece_list.specs.Pieces.{range_of, char_of, chars_of}
 use Rattle.piece_list.specs.Spelled.{spelled}
 use Rattle.piece_list.specs.Laws.{Avoid, ChangeIsOfItsNames}

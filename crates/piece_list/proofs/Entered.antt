@@ -8,7 +8,7 @@ use Rattle.char_files.specs.CharName.{CharName}
 use Rattle.operations.specs.NameSet.{Range, IsIn, range_contains}
 use Rattle.piece_raw.specs.Ring.{AreTags, HasTag}
 use Rattle.tree_order.specs.Registers.{Atom}
-use Rattle.piece_list.specs.declared.piece.Piece.{Piece}
+use Rattle.piece_list.specs.Piece.{Piece}
 use Rattle.piece_list.specs.Pieces.{range_of, front_of, rest_of, IsPiece}
 use Rattle.piece_list.specs.Held.{AreEntered}
 use Rattle.piece_list.specs.Spelled.{spelled, HasName}

@@ -5,7 +5,7 @@ use Rattle.std.specs.declared.alloc.Global.{Global}
 use Rattle.char_files.specs.CharName.{CharName}
 use Rattle.list_changes.specs.declared.change.Change.{Change}
 use Rattle.operations.specs.NameSet.{Range}
-use Rattle.piece_list.specs.declared.list.changing.Setting.{Setting}
+use Rattle.piece_list.specs.declared.setting.Setting.{Setting}
 use Rattle.piece_list.specs.Noted.{AreNoted, name_count}
 use Rattle.piece_list.specs.Spelled.{spelled}
 use Rattle.piece_list.proofs.Noted.{noted_none, noted_on, noted_more, noted_wider, noted_along, one_range_more, range_among}

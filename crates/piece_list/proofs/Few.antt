@@ -13,7 +13,7 @@ use Rattle.std.proofs.lemmas.Map.Views.{Contains-from_any}
 use Rattle.char_files.specs.CharName.{CharName}
 use Rattle.operations.specs.NameSet.{Range, IsIn, names_of}
 use Rattle.piece_raw.specs.Ring.{AreTags}
-use Rattle.piece_list.specs.declared.piece.Piece.{Piece}
+use Rattle.piece_list.specs.Piece.{Piece}
 use Rattle.piece_list.specs.Pieces.{range_of, chars_of, IsPiece}
 use Rattle.piece_list.specs.Spelled.{spelled, names_of_atoms, ArePieces}
 use Rattle.piece_list.specs.Held.{AreEntered}

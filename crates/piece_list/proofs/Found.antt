@@ -13,7 +13,7 @@ use Rattle.std.specs.Prelude.{IsSome}
 use Rattle.char_files.specs.CharName.{CharName}
 use Rattle.operations.specs.NameSet.{IsIn, names_of}
 use Rattle.piece_raw.specs.Ring.{IsMember, AreTags, tags}
-use Rattle.piece_list.specs.declared.piece.Piece.{Piece}
+use Rattle.piece_list.specs.Piece.{Piece}
 use Rattle.piece_list.specs.declared.spot.Spot.{Spot}
 use Rattle.piece_list.specs.Pieces.{range_of, chars_of}
 use Rattle.piece_list.specs.Held.{IsSpotOf, AreEntered}

@@ -19,7 +19,7 @@ use Rattle.operations.specs.NameSet.{names_of}
 use Rattle.tree_order.specs.Insertion.{IsJustAfter}
 use Rattle.tree_order.specs.AtomInsertion.{IsLongest}
 use Rattle.tree_order.specs.Registers.{Atom}
-use Rattle.piece_list.specs.declared.piece.Piece.{Piece}
+use Rattle.piece_list.specs.Piece.{Piece}
 use Rattle.piece_list.specs.Pieces.{range_of, char_of, chars_of, IsPiece}
 use Rattle.piece_list.specs.Spelled.{spelled, names_of_atoms, ArePieces}
 use Rattle.piece_list.specs.Laws.{EndAt, BeginNotAbove, PieceGoesIntoGap}

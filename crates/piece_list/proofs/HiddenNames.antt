@@ -9,7 +9,7 @@ use Rattle.char_files.specs.declared.TheConstants.{MAX_FILE}
 use Rattle.operations.specs.NameSet.{Range, IsIn, IsAmong}
 use Rattle.piece_raw.specs.Ring.{IsMember, AreTags}
 use Rattle.tree_order.specs.Registers.{Atom}
-use Rattle.piece_list.specs.declared.piece.Piece.{Piece}
+use Rattle.piece_list.specs.Piece.{Piece}
 use Rattle.piece_list.specs.declared.spot.Spot.{Spot}
 use Rattle.piece_list.specs.Held.{IsSpotOf, AreEntered}
 use Rattle.piece_list.specs.Pieces.{IsPiece}

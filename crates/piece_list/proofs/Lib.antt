@@ -26,5 +26,6 @@ pub mod ShownAt
 pub mod ShownTo
 pub mod Tables
 pub mod Turned
+pub mod Recorded
 pub mod Walked
 pub mod Weighed

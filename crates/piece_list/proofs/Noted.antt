@@ -16,10 +16,10 @@ use Rattle.list_changes.specs.declared.change.Change.{Change}
 use Rattle.list_changes.specs.declared.change.ChangeKind.TheVariants.{Replace}
 use Rattle.list_changes.specs.Changes.{AreAlike, IsOfKind, Trades, Makes, Leads}
 use Rattle.list_changes.proofs.Leading.{leads-append, replaces-keep}
-use Rattle.piece_list.specs.declared.list.changing.Setting.{Setting}
-use Rattle.piece_list.specs.declared.list.changing.Setting.TheVariants.{Switch, Relook}
+use Rattle.piece_list.specs.declared.setting.Setting.{Setting}
+use Rattle.piece_list.specs.declared.setting.Setting.TheVariants.{Switch, Relook}
 use Rattle.piece_list.specs.declared.run.Run.{Run}
-use Rattle.piece_list.specs.declared.piece.Piece.{Piece}
+use Rattle.piece_list.specs.Piece.{Piece}
 use Rattle.piece_list.specs.Changing.{changed_piece}
 use Rattle.piece_list.specs.Held.{weighed}
 use Rattle.piece_list.specs.Noted.{appearances, names_shown, SameName, Notes, IsOf, IsNoted, kind_of}

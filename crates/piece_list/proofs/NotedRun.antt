@@ -12,7 +12,7 @@ use Rattle.list_changes.specs.declared.change.Change.{Change}
 use Rattle.list_changes.specs.declared.change.ChangeKind.TheVariants.{Insert}
 use Rattle.list_changes.specs.Changes.{IsOfKind, Makes}
 use Rattle.tree_order.specs.Registers.{Atom}
-use Rattle.piece_list.specs.declared.piece.Piece.{Piece}
+use Rattle.piece_list.specs.Piece.{Piece}
 use Rattle.piece_list.specs.Noted.{appearances, SameName, Notes}
 use Rattle.piece_list.specs.Pieces.{chars_of}
 use Rattle.piece_list.specs.Placing.{IsInsertedInGap}

@@ -5,7 +5,7 @@ use Rattle.std.proofs.Common.{ne_eqb, eq-eqb}
 use Rattle.std.specs.List.{AllByRecursion, IsDistinct}
 use Rattle.std.proofs.lemmas.List.Elements.{All-head, All-tail}
 use Rattle.piece_raw.specs.Ring.{AreTags, HasTag, tags, last_tag}
-use Rattle.piece_list.specs.declared.piece.Piece.{Piece}
+use Rattle.piece_list.specs.Piece.{Piece}
 use Rattle.piece_list.specs.Placing.{IsParted, HasPart}
 use Rattle.piece_list.proofs.Splitting.{before_others, ends_with}
 

@@ -13,8 +13,8 @@ use Rattle.char_files.specs.declared.name.Anchor.{Anchor}
 use Rattle.char_files.specs.declared.name.Anchor.TheVariants.{Root, At}
 use Rattle.operations.specs.NameSet.{Range, IsIn, range_contains, names_of}
 use Rattle.tree_order.specs.Registers.{Atom}
-use Rattle.piece_raw.specs.Ring.{Ring, ring, AreTags, HasTag, IsMember, IsPushed, last_tag}
-use Rattle.piece_list.specs.declared.piece.Piece.{Piece}
+use Rattle.piece_raw.specs.Ring.{AreTags, HasTag, IsMember, IsPushed, last_tag}
+use Rattle.piece_list.specs.Piece.{Piece}
 use Rattle.piece_list.specs.declared.spot.Spot.{Spot}
 use Rattle.piece_list.specs.Pieces.{range_of, chars_of, front_of, rest_of, IsPiece}
 use Rattle.piece_list.specs.Held.{AreEntered, IsSpotOf, IsSplit}
@@ -404,15 +404,6 @@ pushed_entered old new last u v before after (xs, ys, is, at, new_is) are piece 
     (entered_with xs ys u v before after (subst (λ (l : Items). AreEntered l before) is are) piece
     (subst (λ (l : Items). (c : CharName) → IsIn (range_of v) c → HasName (spelled l) c → ⊥) is fresh)
     inside outside)
-
--- where the cursor stands
-pub stood : (r : Ring Piece) (items new : Items) (last : Option ℕ) (room u : ℕ) (v : Piece)
-    → r ≡ ring items last room → IsPushed r.items r.cursor u v new → IsPushed items last u v new
-stood r items new last room u v e insert = subst (λ (s : Ring Piece). IsPushed s.items s.cursor u v new) e insert
-
-pub stood_next : (r : Ring Piece) (items : Items) (last : Option ℕ) (room u : ℕ) → r ≡ ring items last room
-    → u ≡ length r.items → u ≡ length items
-stood_next r items last room u e next = next ∙ ap (λ (s : Ring Piece). length s.items) e
 
 -- the piece stands after the number, whichever way the pieces are parted there
 pub pushed_there : (old new : Items) → AreTags old → (last : Option ℕ) (u : ℕ) (v : Piece)

@@ -4,7 +4,7 @@ use Rattle.std.proofs.Common.{length, refl, sym, ap, subst, arith}
 use Rattle.std.specs.Prelude.{IfSome, slice_get}
 use Rattle.char_files.specs.CharName.{CharName}
 use Rattle.piece_raw.specs.Ring.{AreTags, IsMember}
-use Rattle.piece_list.specs.declared.piece.Piece.{Piece}
+use Rattle.piece_list.specs.Piece.{Piece}
 use Rattle.piece_list.specs.declared.spot.Spot.{Spot}
 use Rattle.piece_list.specs.Held.{AreEntered, IsSpotOf}
 use Rattle.piece_list.specs.Shown.{AreShownTo}

@@ -3,7 +3,7 @@ use Rattle.std.proofs.Common.{◌≡◌, ℕ, ◌+◌, ◌<◌, ◌≤◌, ◌^�
 use Rattle.char_files.specs.CharName.{CharName}
 use Rattle.piece_raw.specs.Ring.{AreTags, IsMember}
 use Rattle.rank_index.specs.Ranked.{IsRank, IsFound}
-use Rattle.piece_list.specs.declared.piece.Piece.{Piece}
+use Rattle.piece_list.specs.Piece.{Piece}
 use Rattle.piece_list.specs.declared.spot.Spot.{Spot}
 use Rattle.piece_list.specs.Held.{AreEntered, IsSpotOf, weighed}
 use Rattle.piece_list.specs.Shown.{AreShownTo}

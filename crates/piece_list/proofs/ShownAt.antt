@@ -9,7 +9,7 @@ use Rattle.char_files.specs.declared.TheConstants.{MAX_FILE}
 use Rattle.looks.specs.declared.looks.Looks.{Looks}
 use Rattle.piece_raw.specs.Ring.{IsMember, HasTag, AreTags}
 use Rattle.tree_order.specs.Registers.{Atom, atom_looks}
-use Rattle.piece_list.specs.declared.piece.Piece.{Piece}
+use Rattle.piece_list.specs.Piece.{Piece}
 use Rattle.piece_list.specs.declared.spot.Spot.{Spot}
 use Rattle.piece_list.specs.Held.{IsSpotOf, AreEntered}
 use Rattle.piece_list.specs.Pieces.{char_of, IsPiece}

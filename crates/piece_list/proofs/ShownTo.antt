@@ -10,7 +10,7 @@ use Rattle.std.proofs.Math.Seq.{take-append_seam}
 use Rattle.char_files.specs.CharName.{CharName}
 use Rattle.operations.specs.NameSet.{names_of}
 use Rattle.tree_order.specs.Registers.{Atom}
-use Rattle.piece_list.specs.declared.piece.Piece.{Piece}
+use Rattle.piece_list.specs.Piece.{Piece}
 use Rattle.piece_list.specs.Pieces.{range_of, chars_of, front_of, rest_of}
 use Rattle.piece_list.specs.Shown.{AreShownTo}
 use Rattle.piece_list.specs.Spelled.{spelled, names_of_atoms, shown_chars}

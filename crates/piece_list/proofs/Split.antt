@@ -6,7 +6,7 @@ use Rattle.std.proofs.lemmas.List.{map-append}
 use Rattle.std.proofs.lemmas.Grind.{flat_map-append}
 use Rattle.char_files.specs.CharName.{CharName}
 use Rattle.tree_order.specs.Registers.{Atom}
-use Rattle.piece_list.specs.declared.piece.Piece.{Piece}
+use Rattle.piece_list.specs.Piece.{Piece}
 use Rattle.piece_list.specs.Pieces.{char_of, chars_of, front_of, rest_of}
 use Rattle.piece_list.specs.Spelled.{spelled}
 use Rattle.piece_list.specs.Laws.{SplitSpellsTheSame}

@@ -6,9 +6,8 @@ use Rattle.std.proofs.lemmas.Bool.{cases_lt}
 use Rattle.std.proofs.lemmas.List.{length-append, get_or_past}
 use Rattle.char_files.specs.CharName.{CharName}
 use Rattle.operations.specs.NameSet.{IsIn}
-use Rattle.piece_raw.specs.Ring.{Ring, ring, AreTags, IsMember, IsAtCursor, IsPushed, with_value}
-use Rattle.piece_raw.specs.Ring.{with_value_at}
-use Rattle.piece_list.specs.declared.piece.Piece.{Piece}
+use Rattle.piece_raw.specs.Ring.{AreTags, IsMember, IsPushed, with_value}
+use Rattle.piece_list.specs.Piece.{Piece}
 use Rattle.piece_list.specs.declared.spot.Spot.{Spot}
 use Rattle.piece_list.specs.Pieces.{range_of, front_of, rest_of, IsPiece}
 use Rattle.piece_list.specs.Held.{AreEntered, HasSpot, IsSpotOf, IsSplit}
@@ -17,7 +16,7 @@ use Rattle.piece_list.specs.Tables.{Tables, table_of, tag_at}
 use Rattle.piece_list.proofs.Split.{split_spells_the_same}
 use Rattle.piece_list.proofs.Splitting.{written, written_tags, pushed}
 use Rattle.piece_list.proofs.Entered.{entered_after}
-use Rattle.piece_list.proofs.Found.{member_at, one_value, entry_of, some_is}
+use Rattle.piece_list.proofs.Found.{member_at, one_value, entry_of}
 
 abbrev pub Items : Type 0
 Items = List (ℕ × Piece)
@@ -58,33 +57,7 @@ same_tags : (xs ys : Items) (tag : ℕ) (p w : Piece) → AreTags (xs ++ (tag, p
 same_tags xs ys tag p w are =
     subst AreTags (written xs ys tag p w are) (written_tags tag w (xs ++ (tag, p) ∷ ys) are)
 
--- what the cursor stands on
-pub at_cursor : (r : Ring Piece) (items : Items) (tag room : ℕ) (v : Piece) → r ≡ ring items (Some tag) room
-    → IsAtCursor r v → IsMember items tag v
-at_cursor r items tag room v e (t, at, is) =
-    let cursor : Some t ≡ Some tag = sym at ∙ ap (λ (s : Ring Piece). s.cursor) e in
-    subst (λ (s : ℕ). IsMember items s v) (some_is t tag cursor)
-    (subst (λ (l : Items). IsMember l t v) (ap (λ (s : Ring Piece). s.items) e) is)
-
-pub insert_after : (r : Ring Piece) (items new : Items) (tag room u : ℕ) (w front b rest : Piece)
-    → r ≡ ring items (Some tag) room → w ≡ front → b ≡ rest
-    → IsPushed (with_value_at r.cursor w r.items) r.cursor u b new
-    → IsPushed (with_value tag front items) (Some tag) u rest new
-insert_after r items new tag room u w front b rest e is_front is_rest insert =
-    let P : Ring Piece → Piece → Piece → Type 0 = λ (s : Ring Piece) (x y : Piece).
-    IsPushed (with_value_at s.cursor x s.items) s.cursor u y new in
-    subst (λ (y : Piece). P (ring items (Some tag) room) front y) is_rest
-    (subst (λ (x : Piece). P (ring items (Some tag) room) x b) is_front
-    (subst (λ (s : Ring Piece). P s w b) e insert))
-
-pub next_number : (r : Ring Piece) (items : Items) (tag room u : ℕ) (w front : Piece)
-    → r ≡ ring items (Some tag) room → w ≡ front → u ≡ length (with_value_at r.cursor w r.items)
-    → u ≡ length (with_value tag front items)
-next_number r items tag room u w front e is_front next =
-    next ∙ ap (λ (s : Ring Piece). length (with_value_at s.cursor w s.items)) e
-    ∙ ap (λ (x : Piece). length (with_value tag x items)) is_front
-
--- the ring's two steps split the piece
+-- the piece is split
 split_parts : (xs ys old new : Items) (tag n u : ℕ) (v : Piece) → AreTags old → old ≡ xs ++ (tag, v) ∷ ys
     → IsPushed (with_value tag (front_of n v) old) (Some tag) u (rest_of n v) new
     → new ≡ xs ++ (tag, front_of n v) ∷ (u, rest_of n v) ∷ ys

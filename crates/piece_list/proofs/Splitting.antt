@@ -10,7 +10,7 @@ use Rattle.std.proofs.lemmas.List.{map-append, length-append, length-map, get_or
 use Rattle.std.proofs.lemmas.List.Elements.{All-head, All-tail}
 use Rattle.std.proofs.Math.Seq.{get_or-append_seam, take-append_seam, drop-append_seam}
 use Rattle.piece_raw.specs.Ring.{AreTags, IsPushed, last_tag, tags, with_value}
-use Rattle.piece_list.specs.declared.piece.Piece.{Piece}
+use Rattle.piece_list.specs.Piece.{Piece}
 use Rattle.piece_list.proofs.Found.{apart}
 
 abbrev Items : Type 0

@@ -5,8 +5,8 @@ use Rattle.piece_raw.specs.Ring.{HasTag, with_value}
 use Rattle.rank_index.specs.Ranked.{weight_of}
 use Rattle.tree_order.specs.Registers.{if_named}
 use Rattle.char_files.specs.CharName.{CharName}
-use Rattle.piece_list.specs.declared.list.changing.Setting.{Setting}
-use Rattle.piece_list.specs.declared.piece.Piece.{Piece}
+use Rattle.piece_list.specs.declared.setting.Setting.{Setting}
+use Rattle.piece_list.specs.Piece.{Piece}
 use Rattle.piece_list.specs.Changing.{AreTheSame, IsEdge, IsNextEdge, changed_char, changed_piece}
 use Rattle.piece_list.specs.Held.{AreHeld}
 use Rattle.piece_list.specs.Spelled.{spelled}

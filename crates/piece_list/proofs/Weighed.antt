@@ -6,7 +6,7 @@ use Rattle.std.proofs.lemmas.List.Sums.{sum-map, sum_by-cons}
 use Rattle.std.specs.Prelude.{IfSome}
 use Rattle.piece_raw.specs.Ring.{AreTags, IsMember, HasTag, IsPushed, last_tag, with_value}
 use Rattle.rank_index.specs.Ranked.{weight_of, IsRank, IsFound}
-use Rattle.piece_list.specs.declared.piece.Piece.{Piece}
+use Rattle.piece_list.specs.Piece.{Piece}
 use Rattle.piece_list.specs.Held.{AreEntered, shown_weight, weighed}
 use Rattle.piece_list.specs.Pieces.{front_of, rest_of}
 use Rattle.piece_list.specs.Placing.{HasPart}

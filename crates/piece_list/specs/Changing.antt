@@ -3,9 +3,9 @@ use Rattle.std.specs.Prelude.{◌≡◌, ℕ, ◌+◌, ◌<◌, ◌≤◌, List,
 use Rattle.char_files.specs.CharName.{CharName}
 use Rattle.operations.specs.NameSet.{Range, IsAmong}
 use Rattle.tree_order.specs.Registers.{Atom, switched, relooked}
-use Rattle.piece_list.specs.declared.piece.Piece.{Piece}
-use Rattle.piece_list.specs.declared.list.changing.Setting.{Setting}
-use Rattle.piece_list.specs.declared.list.changing.Setting.TheVariants.{Switch, Relook}
+use Rattle.piece_list.specs.Piece.{Piece}
+use Rattle.piece_list.specs.declared.setting.Setting.{Setting}
+use Rattle.piece_list.specs.declared.setting.Setting.TheVariants.{Switch, Relook}
 use Rattle.piece_list.specs.Held.{KeepFirsts}
 use Rattle.piece_list.specs.Pieces.{switched_piece, relooked_piece}
 use Rattle.piece_list.specs.Spelled.{spelled, HasName}

@@ -3,11 +3,12 @@ use Rattle.std.specs.Prelude.{◌≡◌, ℕ, ◌+◌, ◌<◌, if◌then◌else
 use Rattle.char_files.specs.CharName.{CharName}
 use Rattle.operations.specs.NameSet.{IsIn}
 use Rattle.piece_raw.specs.Ring.{AreTags, IsMember, HasTag}
-use Rattle.piece_list.specs.declared.piece.Piece.{Piece}
+use Rattle.piece_list.specs.Piece.{Piece}
 use Rattle.piece_list.specs.declared.spot.Spot.{Spot}
 use Rattle.piece_list.specs.Pieces.{range_of, front_of, rest_of}
 use Rattle.piece_list.specs.Spelled.{spelled, ArePieces, HasName}
 use Rattle.piece_list.specs.Tables.{Tables, tag_at}
+use Rattle.piece_list.specs.Values.{Values}
 
 -- how many characters a piece shows: none where they are hidden
 abbrev pub shown_weight : Piece → ℕ
@@ -40,10 +41,11 @@ pub record AreEntered (items : List (ℕ × Piece)) (tables : Tables) : Type 0 w
 abbrev pub weighed : List (ℕ × Piece) → List (ℕ × ℕ)
 weighed items = map (λ m. (m.0, shown_weight m.1)) items
 
--- what is changed together: the pieces in order, each under its number, the tables that find one by a name, and how many
--- more pieces take no memory
+-- what is changed together: the pieces in order, each under its number, the values of their registers, the tables that
+-- find one by a name, and how many more pieces take no memory
 pub record HeldPieces : Type 0 where
   pub items : List (ℕ × Piece)
+  pub values : Values
   pub tables : Tables
   pub room : ℕ
 

@@ -10,7 +10,7 @@ use Rattle.operations.specs.Operation.{Operation, insert, key_of}
 use Rattle.tree_order.specs.Insertion.{IsOneMore, IsInsertAt}
 use Rattle.tree_order.specs.AtomInsertion.{atom_run}
 use Rattle.tree_order.specs.Registers.{Atom, AreAtoms, if_named}
-use Rattle.piece_list.specs.declared.piece.Piece.{Piece}
+use Rattle.piece_list.specs.Piece.{Piece}
 use Rattle.piece_list.specs.declared.run.Run.{Run}
 use Rattle.piece_list.specs.Pieces.{range_of, char_of, chars_of, piece_of, front_of, rest_of}
 use Rattle.piece_list.specs.Placed.{IsPlaced}

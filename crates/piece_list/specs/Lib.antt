@@ -2,10 +2,13 @@ pub mod Changing
 pub mod Held
 pub mod Laws
 pub mod Noted
+pub mod Piece
 pub mod Pieces
 pub mod Placed
 pub mod Placing
+pub mod Ringed
 pub mod RunSplits
 pub mod Shown
 pub mod Spelled
 pub mod Tables
+pub mod Values

@@ -9,9 +9,9 @@ use Rattle.list_changes.specs.declared.change.Change.{Change}
 use Rattle.list_changes.specs.declared.change.ChangeKind.{ChangeKind}
 use Rattle.list_changes.specs.declared.change.ChangeKind.TheVariants.{Insert, Delete, Replace}
 use Rattle.list_changes.specs.Changes.{IsOfKind, Leads}
-use Rattle.piece_list.specs.declared.list.changing.Setting.{Setting}
-use Rattle.piece_list.specs.declared.list.changing.Setting.TheVariants.{Switch, Relook}
-use Rattle.piece_list.specs.declared.piece.Piece.{Piece}
+use Rattle.piece_list.specs.declared.setting.Setting.{Setting}
+use Rattle.piece_list.specs.declared.setting.Setting.TheVariants.{Switch, Relook}
+use Rattle.piece_list.specs.Piece.{Piece}
 use Rattle.piece_list.specs.Shown.{Appearance, appearance_of, looks_of}
 use Rattle.piece_list.specs.Spelled.{spelled, shown_chars}
 

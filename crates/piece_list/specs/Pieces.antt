@@ -7,7 +7,7 @@ use Rattle.char_files.specs.CharName.{CharName}
 use Rattle.char_files.specs.declared.TheConstants.{MAX_FILE}
 use Rattle.operations.specs.NameSet.{Range, names_of}
 use Rattle.tree_order.specs.Registers.{Atom, offered, offered_if}
-use Rattle.piece_list.specs.declared.piece.Piece.{Piece}
+use Rattle.piece_list.specs.Piece.{Piece}
 use Rattle.piece_list.specs.declared.piece.TheConstants.{MAX_PIECE}
 use Rattle.piece_list.specs.declared.run.Run.{Run}
 

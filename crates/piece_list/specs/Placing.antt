@@ -7,7 +7,7 @@ use Rattle.char_files.specs.declared.name.Anchor.{Anchor}
 use Rattle.char_files.specs.declared.name.Anchor.TheVariants.{Root, At}
 use Rattle.piece_raw.specs.Ring.{last_tag}
 use Rattle.tree_order.specs.Registers.{Atom}
-use Rattle.piece_list.specs.declared.piece.Piece.{Piece}
+use Rattle.piece_list.specs.Piece.{Piece}
 use Rattle.piece_list.specs.declared.spot.Spot.{Spot}
 use Rattle.piece_list.specs.Held.{IsSpotOf}
 use Rattle.piece_list.specs.Pieces.{front_of, rest_of}

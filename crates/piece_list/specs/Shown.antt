@@ -6,7 +6,7 @@ use Rattle.looks.specs.declared.looks.Looks.{Looks}
 use Rattle.char_files.specs.CharName.{CharName}
 use Rattle.operations.specs.NameSet.{names_of}
 use Rattle.tree_order.specs.Registers.{Atom, atom_looks}
-use Rattle.piece_list.specs.declared.piece.Piece.{Piece}
+use Rattle.piece_list.specs.Piece.{Piece}
 use Rattle.piece_list.specs.declared.run.Run.{Run}
 use Rattle.piece_list.specs.Spelled.{names_of_atoms, shown_chars}
 

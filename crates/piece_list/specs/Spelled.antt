@@ -3,7 +3,7 @@ use Rattle.std.specs.Prelude.{ℕ, List, map, not, All, Contains}
 use Rattle.std.specs.List.{flat_map, filter}
 use Rattle.char_files.specs.CharName.{CharName}
 use Rattle.tree_order.specs.Registers.{Atom}
-use Rattle.piece_list.specs.declared.piece.Piece.{Piece}
+use Rattle.piece_list.specs.Piece.{Piece}
 use Rattle.piece_list.specs.Pieces.{chars_of, IsPiece}
 
 -- the characters of all pieces, one piece after the other

@@ -4,13 +4,17 @@
 mod limits;
 mod list;
 mod piece;
+mod record;
+mod ring;
 mod run;
+mod setting;
 mod spot;
 mod steps;
 mod tags;
+mod values;
 
 pub use limits::the_limits;
 pub use list::{Between, PieceList, Walk};
-pub use piece::{MAX_PIECE, Piece};
+pub use piece::MAX_PIECE;
 pub use run::Run;
 pub use spot::Spot;

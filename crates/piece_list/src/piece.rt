@@ -1,68 +1,87 @@
-ghost use Rattle.std.specs.Prelude.{◌≡◌, ◌<◌, if◌then◌else◌};
-ghost use Rattle.piece_list.specs.Pieces.{IsPiece, front_of, rest_of, piece_of};
-ghost use Rattle.piece_list.specs.Pieces.{switched_piece, relooked_piece};
+ghost use Rattle.std.specs.Prelude.{◌≡◌, All, if◌then◌else◌};
+ghost use Rattle.std.specs.Iterator.{YieldsFirst, item_count};
 ghost use Rattle.piece_list.specs.Shown.{looks_of, run_of};
+ghost use Rattle.piece_list.specs.Values.{IsWithin, piece_in, pieces_in};
 
+use crate::record::PieceRecord;
 use crate::run::Run;
+use crate::values::ValueTables;
 use char_files::SiteNo;
-use looks::{Colour, FontName, Key, Looks, Register, Sel};
+use looks::{Key, Looks};
+use piece_raw::Members;
+use std::marker::Model;
 
 /// The most characters of a piece. This project's own.
 pub const MAX_PIECE: u32 = 4096;
 
-/// Neighbouring characters of a site's file that one Insert typed, and that all changes since then took
-/// alike.
+/// Neighbouring characters of a site's file that one Insert typed, and that all changes since then took alike.
 ///
-/// Oberon's texts are lists of such pieces (Project Oberon, chapter 5); keys and registers are this
-/// project's own.
-#[derive(Debug, Drop, PartialEq, Eq)]
-pub struct Piece {
-    pub site: SiteNo,
-    /// The first name's offset in the site's file, below 2^24.
-    pub off: u32,
-    /// How many characters there are, 1 to 4,096.
-    pub len: u32,
-    /// The key of their Insert.
-    pub key: Key,
-    pub font: Register<FontName>,
-    pub colour: Register<Colour>,
-    pub offset: Register<i8>,
-    /// Whether they are hidden.
-    pub hidden: Register<bool>,
+/// Oberon's texts are lists of such pieces (Project Oberon, chapter 5); keys and registers are this project's own.
+#[derive(Drop)]
+pub(crate) struct PieceRef<'a> {
+    record: &'a PieceRecord,
+    values: &'a ValueTables,
 }
 
-impl Piece {
-    /// The piece of a run, shown.
-    pub fn of_run(run: Run) -> Piece
-        ensures { result ≡ piece_of run }
+impl<'a> Model for PieceRef<'a> {
+    ghost use Rattle.piece_list.specs.Piece.{Piece};
+    ghost use Rattle.piece_list.specs.Values.{IsWithin, piece_in};
+
+    ghost Value = { Piece };
+
+    ghost view = { λ p. piece_in p.values.now.values p.record.now };
+
+    ghost invariant = { λ p. IsWithin p.values.now.values p.record.now };
+}
+
+impl<'a> PieceRef<'a> {
+    // The piece that a record stands for.
+    pub(crate) fn new(record: &'a PieceRecord, values: &'a ValueTables) -> PieceRef<'a>
+        requires { IsWithin values.now.values record.now }
+        ensures { result ≡ piece_in values.now.values record.now }
     {
-        let Looks {
-            font,
-            colour,
-            offset,
-        } = run.looks;
-        let key = run.key;
-        Piece {
-            site: run.site,
-            off: run.off,
-            len: run.len,
-            key,
-            font: Register { key, value: font },
-            colour: Register { key, value: colour },
-            offset: Register { key, value: offset },
-            hidden: Register { key, value: false },
-        }
+        PieceRef { record, values }
+    }
+
+    pub(crate) fn site(&self) -> SiteNo
+        ensures { result ≡ self.now.site }
+    {
+        self.record.site
+    }
+
+    // The first name's offset in the site's file.
+    pub(crate) fn off(&self) -> u32
+        ensures { result ≡ self.now.off }
+    {
+        self.record.off
+    }
+
+    // How many characters there are.
+    pub(crate) fn len(&self) -> u32
+        ensures { result ≡ self.now.len }
+    {
+        u32::from(self.record.len)
+    }
+
+    // The key of their Insert.
+    pub(crate) fn key(&self) -> Key
+        ensures { result ≡ self.now.key }
+    {
+        self.record.key()
+    }
+
+    // Whether they are hidden.
+    pub(crate) fn is_hidden(&self) -> bool
+        ensures { result ≡ self.now.hidden.value }
+    {
+        self.values.is_hidden(self.record)
     }
 
     // The looks of its characters.
     pub(crate) fn looks(&self) -> Looks
         ensures { result ≡ looks_of self.now }
     {
-        Looks {
-            font: self.font.value.copy(),
-            colour: self.colour.value,
-            offset: self.offset.value,
-        }
+        self.values.looks_of(self.record)
     }
 
     // The run of all its characters.
@@ -70,10 +89,10 @@ impl Piece {
         ensures { result ≡ run_of self.now }
     {
         Run {
-            site: self.site,
-            off: self.off,
-            len: self.len,
-            key: self.key,
+            site: self.site(),
+            off: self.off(),
+            len: self.len(),
+            key: self.key(),
             looks: self.looks(),
         }
     }
@@ -82,52 +101,48 @@ impl Piece {
     pub(crate) fn shown_of(&self, n: u32) -> u32
         ensures { result ≡ (if self.now.hidden.value then 0 else n) }
     {
-        if self.hidden.value { 0 } else { n }
+        if self.is_hidden() { 0 } else { n }
     }
+}
 
-    /// Splits off all after the first `n` characters, of more than so many, and answers it as a piece of its own.
-    pub fn split_off(&mut self, n: u32) -> Piece
-        requires piece { IsPiece self.old }
-        requires within { n < self.old.len }
-        ensures front { self.new ≡ front_of n self.old }
-        ensures rest { result ≡ rest_of n self.old }
-    {
-        let rest = Piece {
-            site: self.site,
-            off: self.off + n,
-            len: self.len - n,
-            key: self.key,
-            font: Register {
-                key: self.font.key,
-                value: self.font.value.copy(),
-            },
-            colour: self.colour,
-            offset: self.offset,
-            hidden: self.hidden,
-        };
-        self.len = n;
-        rest
+/// Pieces in order, each with its number. This project's own.
+#[derive(Drop)]
+pub(crate) struct PieceRefs<'a> {
+    records: Members<'a, PieceRecord>,
+    values: &'a ValueTables,
+}
+
+impl<'a> Model for PieceRefs<'a> {
+    ghost use Rattle.std.specs.Prelude.{ℕ, List, All};
+    ghost use Rattle.piece_list.specs.Piece.{Piece};
+    ghost use Rattle.piece_list.specs.Values.{IsWithin, pieces_in};
+
+    ghost Value = { List (ℕ × Piece) };
+
+    ghost view = { λ p. pieces_in p.values.now.values p.records };
+
+    ghost invariant = { λ p. All (λ m. IsWithin p.values.now.values m.1) p.records };
+}
+
+impl<'a> Iterator for PieceRefs<'a> {
+    type Item = (u64, PieceRef<'a>);
+
+    ghost next_gives = { YieldsFirst (λ rest. rest) };
+
+    ghost remaining = { item_count (λ rest. rest) };
+
+    fn next(&mut self) -> Option<(u64, PieceRef<'a>)> {
+        let (number, record) = self.records.next()?;
+        Some((number, PieceRef::new(record, self.values)))
     }
+}
 
-    /// Hides the characters, or shows them again, unless they were hidden or shown under a greater key.
-    pub fn switch(&mut self, hidden: bool, key: Key)
-        ensures { self.new ≡ switched_piece hidden key self.old }
+impl<'a> PieceRefs<'a> {
+    // The pieces that these records stand for.
+    pub(crate) fn new(records: Members<'a, PieceRecord>, values: &'a ValueTables) -> PieceRefs<'a>
+        requires { All (λ m. IsWithin values.now.values m.1) records }
+        ensures { result ≡ pieces_in values.now.values records.entry }
     {
-        self.hidden.offer(key, hidden);
-    }
-
-    /// Gives the characters the looks that are selected, where they weren't set under a greater key.
-    pub fn relook(&mut self, sel: Sel, looks: &Looks, key: Key)
-        ensures { self.new ≡ relooked_piece sel looks.now key self.old }
-    {
-        if sel.font() {
-            self.font.offer(key, looks.font.copy());
-        }
-        if sel.colour() {
-            self.colour.offer(key, looks.colour);
-        }
-        if sel.offset() {
-            self.offset.offer(key, looks.offset);
-        }
+        PieceRefs { records, values }
     }
 }

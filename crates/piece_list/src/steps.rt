@@ -4,7 +4,7 @@ ghost use Rattle.operations.specs.NameSet.{IsIn};
 ghost use Rattle.piece_list.specs.Pieces.{range_of};
 ghost use Rattle.piece_list.specs.Placing.{IsCounted};
 
-use crate::piece::Piece;
+use crate::piece::PieceRef;
 use char_files::Name;
 use looks::Key;
 use std::marker::Model;
@@ -40,21 +40,21 @@ impl Steps {
     }
 
     // Whether the name is that of one of the piece's characters.
-    pub(crate) fn compare(&mut self, piece: &Piece, name: Name) -> bool
+    pub(crate) fn compare(&mut self, piece: &PieceRef<'_>, name: Name) -> bool
         ensures value { IsTrue result ↔ IsIn (range_of piece.now) name }
         ensures counted { IsCounted self.old 1 self.new }
     {
         self.count = self.count.saturating_add(1);
         let off = name.off();
-        piece.site.get() == name.site().get() && piece.off <= off && off - piece.off < piece.len
+        piece.site().get() == name.site().get() && piece.off() <= off && off - piece.off() < piece.len()
     }
 
     // Whether the piece's key is greater than this one.
-    pub(crate) fn is_above(&mut self, piece: &Piece, key: Key) -> bool
+    pub(crate) fn is_above(&mut self, piece: &PieceRef<'_>, key: Key) -> bool
         ensures value { result ≡ is_below key piece.now.key }
         ensures counted { IsCounted self.old 1 self.new }
     {
         self.count = self.count.saturating_add(1);
-        key < piece.key
+        key < piece.key()
     }
 }

@@ -16,7 +16,7 @@ use Rattle.tree_order.specs.Tree.{IsChar}
 use Rattle.set_laws.specs.Fronts.{IsHere}
 use Rattle.set_laws.proofs.Files.{char_is_here}
 use Rattle.piece_list.specs.Spelled.{spelled, shown_chars, names_of_atoms}
-use Rattle.piece_list.specs.declared.piece.Piece.{Piece}
+use Rattle.piece_list.specs.Piece.{Piece}
 use Rattle.taken_text.specs.Taken.{TakenSeen, IsTaken, char_in, seen_in, shown_of}
 use Rattle.taken_text.proofs.Spelling.{all_tell, shown_of_atoms}
 

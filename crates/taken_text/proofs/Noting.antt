@@ -17,7 +17,7 @@ use Rattle.list_changes.specs.declared.change.Change.{Change}
 use Rattle.tree_order.specs.Registers.{Atom}
 use Rattle.tree_order.specs.Shown.{IsShown}
 use Rattle.list_changes.proofs.Leading.{leads-append, leads-mapped}
-use Rattle.piece_list.specs.declared.piece.Piece.{Piece}
+use Rattle.piece_list.specs.Piece.{Piece}
 use Rattle.piece_list.specs.Noted.{Notes, SameName, IsReplaceOf, appearances, names_shown}
 use Rattle.piece_list.specs.Shown.{Appearance, appearance_of}
 use Rattle.piece_list.specs.Spelled.{spelled, shown_chars}

@@ -16,7 +16,7 @@ use Rattle.tree_order.specs.Shown.{AreChars, IsShown, is_visible}
 use Rattle.tree_order.specs.Tree.{HasByte, byte_by}
 use Rattle.tree_order.proofs.RegistersDetermine.{tell}
 use Rattle.piece_list.specs.Spelled.{spelled, shown_chars}
-use Rattle.piece_list.specs.declared.piece.Piece.{Piece}
+use Rattle.piece_list.specs.Piece.{Piece}
 use Rattle.taken_text.specs.Taken.{IsTaken, HoldBytes, IsDefined, char_in, chars_shown, seen_in}
 
 names_of_chars : (files : Files) (atoms : List Atom) → map (λ (c : Char). c.name) (map (char_in files) atoms) ≡ map (λ (k : Atom). k.name) atoms

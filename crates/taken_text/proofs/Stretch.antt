@@ -15,7 +15,7 @@ use Rattle.tree_order.specs.Registers.{Atom}
 use Rattle.piece_list.specs.RunSplits.{AreWithin}
 use Rattle.piece_list.specs.Shown.{Appearance, appearance_of, appearance_in, appearances_in}
 use Rattle.piece_list.specs.Spelled.{spelled, shown_chars}
-use Rattle.piece_list.specs.declared.piece.Piece.{Piece}
+use Rattle.piece_list.specs.Piece.{Piece}
 use Rattle.piece_list.specs.declared.run.Run.{Run}
 use Rattle.taken_text.specs.Shown.{range_of_run}
 use Rattle.taken_text.specs.Taken.{TakenSeen, IsTaken, char_in, seen_in, shown_of, names_between}

@@ -25,7 +25,7 @@ use Rattle.piece_list.specs.Pieces.{chars_of, piece_of}
 use Rattle.piece_list.specs.Placed.{IsPlaced}
 use Rattle.piece_list.specs.Placing.{HasAnchor}
 use Rattle.piece_list.specs.Spelled.{HasName, spelled}
-use Rattle.piece_list.specs.declared.piece.Piece.{Piece}
+use Rattle.piece_list.specs.Piece.{Piece}
 use Rattle.piece_list.specs.declared.run.Run.{Run}
 use Rattle.taken_text.specs.Taken.{IsTaken}
 use Rattle.taken_text.proofs.Bytes.{hold_more, hold_no_more}

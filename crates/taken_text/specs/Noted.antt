@@ -8,7 +8,7 @@ use Rattle.list_changes.specs.declared.change.Change.{Change}
 use Rattle.list_changes.specs.declared.change.ChangeKind.TheVariants.{Insert, Delete, Replace}
 use Rattle.char_files.specs.CharFiles.{Files}
 use Rattle.tree_order.specs.Shown.{IsShown}
-use Rattle.piece_list.specs.declared.piece.Piece.{Piece}
+use Rattle.piece_list.specs.Piece.{Piece}
 use Rattle.taken_text.specs.Taken.{IsTaken, chars_shown}
 
 -- the same character with the same byte, whatever it looks like

@@ -12,7 +12,7 @@ use Rattle.tree_order.specs.Tree.{HasByte}
 use Rattle.set_laws.specs.Fronts.{file_len}
 use Rattle.set_laws.specs.Sets.{AreIdentified, KeepsCauses}
 use Rattle.piece_list.specs.Spelled.{spelled, shown_chars}
-use Rattle.piece_list.specs.declared.piece.Piece.{Piece}
+use Rattle.piece_list.specs.Piece.{Piece}
 
 -- the operations in the order of taking, and all characters in order, deleted ones too; and how many operations
 -- there were when the changes were last asked for

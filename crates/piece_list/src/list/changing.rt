@@ -12,6 +12,7 @@ ghost use Rattle.piece_list.specs.Held.{KeepFirsts};
 ghost use Rattle.piece_list.specs.Noted.{Notes, IsNoted, AreNoted, IsReplaceOf, ShowsOther, ShowsTheSame, appearances};
 ghost use Rattle.piece_list.specs.Noted.{kind_of, name_count};
 ghost use Rattle.piece_list.specs.Spelled.{spelled, HasName};
+ghost use Rattle.piece_list.specs.Values.{IsEntered};
 ghost use Rattle.piece_raw.specs.Ring.{HasTag};
 ghost use Rattle.rank_index.specs.Ranked.{IsRank, weight_of};
 ghost use Rattle.list_changes.specs.Changes.{IsOfKind};
@@ -19,59 +20,13 @@ ghost use Rattle.list_changes.specs.declared.change.ChangeKind.TheVariants.{Inse
 
 use super::PieceList;
 use super::pieces::Pieces;
-use crate::piece::Piece;
+use crate::setting::Setting;
 use crate::steps::Steps;
 use char_files::{Name, SiteNo};
 use list_changes::{Change, ChangeKind};
 use looks::{Key, Looks, Refusal, Sel};
 use operations::{NameRange, NameSet};
 use rank_index::RankIndex;
-
-// What is set in the registers of each character of a set of names.
-#[derive(Drop)]
-enum Setting {
-    // Hidden, or shown again.
-    Switch { hidden: bool, key: Key },
-    // Given new looks.
-    Relook { sel: Sel, looks: Looks, key: Key },
-}
-
-impl Setting {
-    // What it does to a list of what is shown, where it does something.
-    fn kind(&self) -> ChangeKind
-        ensures { result ≡ kind_of self.now }
-    {
-        match self {
-            Setting::Switch { hidden: true, .. } => ChangeKind::Delete,
-            Setting::Switch { hidden: false, .. } => ChangeKind::Insert,
-            Setting::Relook { .. } => ChangeKind::Replace,
-        }
-    }
-
-    // Applies it to a piece, and tells whether the piece shows something else now, if that is asked.
-    fn apply(&self, piece: &mut Piece, asked: bool) -> bool
-        ensures changed { piece.new ≡ changed_piece self.now piece.old }
-        ensures other { IsTrue result → IsTrue asked × ShowsOther self.now piece.old piece.new }
-        ensures same { IsTrue asked → ¬ IsTrue result → ShowsTheSame piece.old piece.new }
-    {
-        match self {
-            Setting::Switch { hidden, key } => {
-                let was = piece.hidden.value;
-                piece.switch(*hidden, *key);
-                asked && piece.hidden.value != was
-            }
-            Setting::Relook { sel, looks, key } => {
-                let asked = asked && !piece.hidden.value;
-                let was = if asked { Some(piece.looks()) } else { None };
-                piece.relook(*sel, looks, *key);
-                match was {
-                    Some(was) => piece.looks() != was,
-                    None => false,
-                }
-            }
-        }
-    }
-}
 
 // Enters a change of what this piece shows in the note, which has room: `len` characters, before it or after it.
 fn enter(note: &mut Vec<Change>, index: &RankIndex, tag: u64, kind: ChangeKind, len: u32)
@@ -94,6 +49,7 @@ impl Pieces {
         requires room { 0 < self.old.room }
         ensures split { AreSplitOnce self.old.items self.new.items }
         ensures edge { IsEdge site off self.new.items }
+        ensures values { self.new.values ≡ self.old.values }
         ensures room { self.old.room ≤ self.new.room + 1 }
     {
         let tags = &self.tags;
@@ -103,9 +59,10 @@ impl Pieces {
         let Some(tag) = tags.get(name) else {
             return;
         };
-        let piece = self.ring.value_at(tag);
-        if piece.off < off && Steps::none().compare(piece, name) {
-            let within = off - piece.off;
+        let piece = self.ring.piece_at(tag);
+        let from = piece.off();
+        if from < off && Steps::none().compare(&piece, name) {
+            let within = off - from;
             self.split(tag, within);
         }
     }
@@ -113,6 +70,7 @@ impl Pieces {
     // Changes the piece that begins with this name, and answers the offset after its last one. Where that changes what
     // is shown, a note that has room gains an entry, at the piece's rank: all earlier entries are done by then.
     fn change_piece(&mut self, name: Name, setting: &Setting, note: &mut Vec<Change>) -> u32
+        requires entered { IsEntered self.old.values setting.now }
         requires here { HasName (spelled self.old.items) name }
         requires begins { IsEdge name.site name.off self.old.items }
         ensures end { IsNextEdge name result self.old.items }
@@ -121,15 +79,16 @@ impl Pieces {
             (changed_char setting.now)) (spelled self.old.items) }
         ensures same { AreTheSame self.old.items self.new.items }
         ensures room { self.new.room ≡ self.old.room }
+        ensures values { self.new.values ≡ self.old.values }
         ensures noted { AreNoted setting.now (record { site = name.site; at = name.off; len = result - name.off } ∷ [])
             1 note.old note.new self.old.items self.new.items }
     {
         match self.tags.get(name) {
             Some(tag) => {
-                self.ring.seek(tag);
-                let piece = self.ring.value_mut();
-                let shows_other = setting.apply(piece, note.len() < note.capacity());
-                let (off, len) = (piece.off, piece.len);
+                let asked = note.len() < note.capacity();
+                let shows_other = self.ring.change(tag, setting, asked);
+                let piece = self.ring.piece_at(tag);
+                let (off, len) = (piece.off(), piece.len());
                 let weight = piece.shown_of(len);
                 if shows_other {
                     enter(note, &self.index, tag, setting.kind(), len);
@@ -143,6 +102,7 @@ impl Pieces {
 
     // Changes the pieces that hold these names, and only these.
     fn change_range(&mut self, range: NameRange, setting: &Setting, note: &mut Vec<Change>)
+        requires entered { IsEntered self.old.values setting.now }
         requires here { AreHere (range ∷ []) (spelled self.old.items) }
         requires begins { IsEdge range.site range.at self.old.items }
         requires ends { IsEdge range.site (range.at + range.len) self.old.items }
@@ -150,6 +110,7 @@ impl Pieces {
             ≡ map (if_named (range ∷ []) (changed_char setting.now)) (spelled self.old.items) }
         ensures same { AreTheSame self.old.items self.new.items }
         ensures room { self.new.room ≡ self.old.room }
+        ensures values { self.new.values ≡ self.old.values }
         ensures noted { AreNoted setting.now (range ∷ []) range.len note.old note.new self.old.items self.new.items }
     {
         let end = range.at() + range.len();
@@ -164,6 +125,7 @@ impl Pieces {
 
     // Changes the characters of these names, range by range.
     fn change_ranges(&mut self, ranges: &[NameRange], setting: &Setting, note: &mut Vec<Change>)
+        requires entered { IsEntered self.old.values setting.now }
         requires here { AreHere ranges.now (spelled self.old.items) }
         requires set { IsSet ranges.now }
         requires room { 2 * length ranges.now ≤ self.old.room }
@@ -171,6 +133,7 @@ impl Pieces {
             ≡ map (if_named ranges.now (changed_char setting.now)) (spelled self.old.items) }
         ensures few { length self.new.items ≤ length self.old.items + 2 * length ranges.now }
         ensures firsts { KeepFirsts self.old.items self.new.items }
+        ensures values { self.new.values ≡ self.old.values }
         ensures noted { AreNoted setting.now ranges.now (name_count ranges.now)
             note.old note.new self.old.items self.new.items }
     {
@@ -215,6 +178,7 @@ impl PieceList {
             (IsNoted setting.now names.now note.old.items note.new.items self.old.items self.new.items) }
     {
         let ranges = names.ranges();
+        self.pieces.enter(setting)?;
         self.pieces.reserve(2 * ranges.len())?;
         self.pieces.change_ranges(ranges, setting, note);
         Ok(())

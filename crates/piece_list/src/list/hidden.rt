@@ -24,8 +24,8 @@ impl PieceList {
         let pieces = &self.pieces;
         match pieces.locate(name, &mut Steps::none()) {
             Some(spot) => {
-                let piece = pieces.ring.value_at(spot.piece);
-                (piece.hidden.value, piece.off + piece.len)
+                let piece = pieces.ring.piece_at(spot.piece);
+                (piece.is_hidden(), piece.off() + piece.len())
             }
             None => unreachable!(),
         }

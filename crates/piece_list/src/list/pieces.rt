@@ -8,14 +8,15 @@ ghost use Rattle.piece_list.specs.Held.{HasSpot, IsSplit, IsSpotOf};
 ghost use Rattle.piece_list.specs.Placing.{IsCounted};
 ghost use Rattle.piece_list.specs.Spelled.{spelled, HasName};
 ghost use Rattle.piece_list.specs.Tables.{table_of};
+ghost use Rattle.piece_list.specs.Values.{IsEntered};
 
-use crate::piece::Piece;
+use crate::ring::PieceRing;
+use crate::setting::Setting;
 use crate::spot::Spot;
 use crate::steps::Steps;
 use crate::tags::TagTables;
 use char_files::{Name, SiteNo};
 use looks::Refusal;
-use piece_raw::Ring;
 use rank_index::RankIndex;
 use std::alloc::Global;
 use std::marker::Model;
@@ -23,7 +24,7 @@ use std::marker::Model;
 /// Pieces in order, each under its number. A name's piece is found by a table, a position's by an index.
 #[derive(Drop)]
 pub(super) struct Pieces {
-    pub(super) ring: Ring<Piece>,
+    pub(super) ring: PieceRing,
     pub(super) tags: TagTables,
     // How many characters each piece shows, under its number.
     pub(super) index: RankIndex,
@@ -35,7 +36,8 @@ impl Model for Pieces {
 
     ghost Value = { HeldPieces };
 
-    ghost view = { λ p. record { items = p.ring.items; tables = p.tags; room = min p.ring.room p.index.room } };
+    ghost view = { λ p. record { items = p.ring.items; values = p.ring.values; tables = p.tags;
+      room = min p.ring.room p.index.room } };
 
     ghost invariant = { λ p. AreHeld p.ring.items p.tags p.index.items };
 }
@@ -46,7 +48,7 @@ impl Pieces {
         ensures errors { RefusedForMemoryAlone result }
     {
         Ok(Pieces {
-            ring: Ring::new(alloc)?,
+            ring: PieceRing::new(alloc)?,
             tags: TagTables::new(alloc),
             index: RankIndex::new(alloc)?,
         })
@@ -57,9 +59,20 @@ impl Pieces {
         ensures ok { OnOk result (n ≤ self.new.room) }
         ensures errors { RefusedForMemoryAlone result }
         ensures items { self.new.items ≡ self.old.items }
+        ensures values { self.new.values ≡ self.old.values }
     {
         self.ring.reserve(n)?;
         self.index.reserve(n)
+    }
+
+    // Enters a setting, so that pieces can be given it.
+    pub(super) fn enter(&mut self, setting: &Setting) -> Result<(), Refusal>
+        ensures ok { OnOk result (IsEntered self.new.values setting.now) }
+        ensures errors { RefusedForMemoryAlone result }
+        ensures items { self.new.items ≡ self.old.items }
+        ensures room { self.new.room ≡ self.old.room }
+    {
+        self.ring.enter(setting)
     }
 
     // Makes room for the names of a site's file up to this offset.
@@ -81,13 +94,13 @@ impl Pieces {
         ensures uncounted { ¬ IsSome result → steps.new ≡ steps.old }
     {
         let tag = self.tags.get(name)?;
-        let piece = self.ring.value_at(tag);
-        if !steps.compare(piece, name) {
+        let piece = self.ring.piece_at(tag);
+        if !steps.compare(&piece, name) {
             return None;
         }
         Some(Spot {
             piece: tag,
-            within: name.off() - piece.off,
+            within: name.off() - piece.off(),
         })
     }
 
@@ -101,23 +114,17 @@ impl Pieces {
             → IsSpotOf self.new.items (record { piece = result; within = 0 }) c }
         ensures others { (other : Spot) (c : CharName) → IsSpotOf self.old.items other c
             → (other.piece ≢ tag) ⊎ (other.within < n) → IsSpotOf self.new.items other c }
+        ensures values { self.new.values ≡ self.old.values }
         ensures room { self.old.room ≤ self.new.room + 1 }
         ensures long { (site : ℕ) → length (table_of self.new.tables site) ≡ length (table_of self.old.tables site) }
     {
-        self.ring.seek(tag);
-        let front = self.ring.value_mut();
-        let rest = front.split_off(n);
-        let before = front.shown_of(n);
-        let after = rest.shown_of(rest.len);
-        let (site, off, len) = (rest.site, rest.off, rest.len);
-        match self.ring.push_after(rest) {
-            Ok(number) => {
-                self.tags.fill(site, off, len, number);
-                self.index.set_weight(tag, before);
-                self.index.insert_after(Some(tag), number, after);
-                number
-            }
-            Err(_) => unreachable!(),
-        }
+        let whole = self.ring.piece_at(tag);
+        let (site, off, len) = (whole.site(), whole.off() + n, whole.len() - n);
+        let (before, after) = (whole.shown_of(n), whole.shown_of(len));
+        let number = self.ring.split(tag, n);
+        self.tags.fill(site, off, len, number);
+        self.index.set_weight(tag, before);
+        self.index.insert_after(Some(tag), number, after);
+        number
     }
 }

@@ -6,11 +6,11 @@ ghost use Rattle.std.specs.Prelude.{Some as Just, None as Nothing, ◌^◌};
 ghost use Rattle.looks.specs.Refusal.{RefusedForMemoryAlone};
 ghost use Rattle.char_files.specs.CharName.{CharName};
 ghost use Rattle.operations.specs.NameSet.{IsIn};
-ghost use Rattle.piece_raw.specs.Ring.{ring};
 ghost use Rattle.piece_list.specs.Pieces.{range_of, chars_of, IsPiece, piece_of};
 ghost use Rattle.piece_list.specs.Held.{HasSpot};
 ghost use Rattle.piece_list.specs.Laws.{BeginNotAbove};
 ghost use Rattle.piece_list.specs.Noted.{Notes, appearances};
+ghost use Rattle.piece_list.specs.Piece.{Piece};
 ghost use Rattle.piece_list.specs.Placed.{IsPlaced};
 ghost use Rattle.piece_list.specs.Placing.{HasAnchor, compared, IsAnchorSpot, IsParted, HasPart, IsPartedAt};
 ghost use Rattle.piece_list.specs.Placing.{IsCounted, IsNext, IsSkip, IsInsertedInGap, last_look};
@@ -21,17 +21,16 @@ ghost use Rattle.list_changes.specs.declared.change.ChangeKind.TheVariants.{Inse
 
 use super::PieceList;
 use super::pieces::Pieces;
-use crate::piece::Piece;
+use crate::ring::PieceRing;
 use crate::run::Run;
 use crate::spot::Spot;
 use crate::steps::Steps;
 use char_files::{Anchor, Name};
 use list_changes::{Change, ChangeKind};
 use looks::{Key, Refusal};
-use piece_raw::Ring;
 
 // The piece directly after this one, if its key is greater: one look, which is counted. At the front for `None`.
-fn next_above(pieces: &Ring<Piece>, steps: &mut Steps, last: Option<u64>, key: Key) -> Option<u64>
+fn next_above(pieces: &PieceRing, steps: &mut Steps, last: Option<u64>, key: Key) -> Option<u64>
     requires { HasPart pieces.now.items last }
     ensures above { IfSome result (λ next. IsNext pieces.now.items key last next) }
     ensures stops { result ≡ Nothing → (before after : List (ℕ × Piece))
@@ -41,21 +40,10 @@ fn next_above(pieces: &Ring<Piece>, steps: &mut Steps, last: Option<u64>, key: K
 {
     let mut after = pieces.rest_after(last);
     let (next, piece) = after.next()?;
-    if steps.is_above(piece, key) {
+    if steps.is_above(&piece, key) {
         Some(next)
     } else {
         None
-    }
-}
-
-// Sets the cursor on the piece of this number, before the first one for `None`.
-fn stand_on(pieces: &mut Ring<Piece>, last: Option<u64>)
-    requires { HasPart pieces.old.items last }
-    ensures { pieces.new ≡ ring pieces.old.items last pieces.old.room }
-{
-    match last {
-        Some(tag) => pieces.seek(tag),
-        None => pieces.to_trailer(),
     }
 }
 
@@ -83,7 +71,7 @@ impl Pieces {
         ensures room { self.old.room ≤ self.new.room + 1 }
         ensures long { (site : ℕ) → length (table_of self.new.tables site) ≡ length (table_of self.old.tables site) }
     {
-        let len = self.ring.value_at(spot.piece).len;
+        let len = self.ring.piece_at(spot.piece).len();
         let n = spot.within + 1;
         if n < len {
             self.split(spot.piece, n);
@@ -108,27 +96,20 @@ impl Pieces {
         }
     }
 
-    // Inserts a piece directly after the one of this number, at the front for `None`, and enters its names.
-    fn insert(&mut self, last: Option<u64>, piece: Piece)
+    // Inserts a run's piece directly after the one of this number, at the front for `None`, and enters its names.
+    fn insert(&mut self, last: Option<u64>, run: &Run)
         requires part { HasPart self.old.items last }
-        requires piece { IsPiece piece }
-        requires new { (c : CharName) → IsIn (range_of piece) c → ¬ HasName (spelled self.old.items) c }
-        requires fits { piece.off + piece.len ≤ length (table_of self.old.tables piece.site) }
+        requires piece { IsPiece (piece_of run.now) }
+        requires new { (c : CharName) → IsIn (range_of (piece_of run.now)) c → ¬ HasName (spelled self.old.items) c }
+        requires fits { run.now.off + run.now.len ≤ length (table_of self.old.tables run.now.site) }
         requires room { 0 < self.old.room }
         ensures insert { (before after : List (ℕ × Piece)) → IsParted self.old.items last before after
-            → (tag : ℕ) × (self.new.items ≡ before ++ (tag, piece) ∷ after) }
+            → (tag : ℕ) × (self.new.items ≡ before ++ (tag, piece_of run.now) ∷ after) }
         ensures pieces { ArePieces self.new.items }
     {
-        stand_on(&mut self.ring, last);
-        let (site, off, len) = (piece.site, piece.off, piece.len);
-        let weight = piece.shown_of(len);
-        match self.ring.push_after(piece) {
-            Ok(number) => {
-                self.tags.fill(site, off, len, number);
-                self.index.insert_after(last, number, weight);
-            }
-            Err(_) => unreachable!(),
-        }
+        let number = self.ring.insert(last, run);
+        self.tags.fill(run.site, run.off, run.len, number);
+        self.index.insert_after(last, number, run.len);
     }
 }
 
@@ -227,7 +208,7 @@ impl PieceList {
         self.pieces.reserve_names(site, off + len)?;
         let end = self.pieces.end_at(found);
         let last = self.pieces.skip(&mut self.steps, end, run.key);
-        self.pieces.insert(last, Piece::of_run(run));
+        self.pieces.insert(last, &run);
         self.lemma_shown_is_countable();
         match Name::new(site, off) {
             Some(first) => note_run(note, self.shown_to(first), len),

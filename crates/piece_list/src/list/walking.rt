@@ -12,20 +12,19 @@ ghost use Rattle.piece_list.specs.Shown.{AreShownTo, appearance_of, appearances_
 ghost use Rattle.piece_list.specs.Spelled.{spelled, shown_chars, HasName};
 
 use super::PieceList;
-use crate::piece::Piece;
+use crate::piece::PieceRefs;
 use crate::run::Run;
 use crate::spot::Spot;
 use crate::steps::Steps;
 use char_files::Name;
 use looks::Looks;
-use piece_raw::Members;
 use std::marker::Model;
 
 /// The stretches of a text that are shown, one after the other, without memory: seen as the list of the runs
 /// that are left. This project's own.
 #[derive(Drop)]
 pub struct Walk<'a> {
-    members: Members<'a, Piece>,
+    members: PieceRefs<'a>,
 }
 
 impl<'a> Model for Walk<'a> {
@@ -47,7 +46,7 @@ impl<'a> Iterator for Walk<'a> {
 
     fn next(&mut self) -> Option<Run> {
         while let Some((_, piece)) = self.members.next() {
-            if !piece.hidden.value {
+            if !piece.is_hidden() {
                 return Some(piece.run());
             }
         }
@@ -72,7 +71,7 @@ impl PieceList {
     {
         let pieces = &self.pieces;
         let spot = pieces.locate(name, &mut Steps::none())?;
-        let piece = pieces.ring.value_at(spot.piece);
+        let piece = pieces.ring.piece_at(spot.piece);
         let before = pieces.index.rank(spot.piece);
         Some(before + u64::from(piece.shown_of(spot.within + 1)))
     }
@@ -99,8 +98,8 @@ impl PieceList {
     {
         let spot = self.locate_pos(pos);
         let pieces = &self.pieces;
-        let piece = pieces.ring.value_at(spot.piece);
-        match Name::new(piece.site, piece.off + spot.within) {
+        let piece = pieces.ring.piece_at(spot.piece);
+        match Name::new(piece.site(), piece.off() + spot.within) {
             Some(name) => (name, piece.looks()),
             None => unreachable!(),
         }

@@ -1,6 +1,6 @@
 use Rattle.std.proofs.Common.{◌≡◌, ℕ, List, sym, ap, subst, ◌∙◌}
 use Rattle.operations.specs.NameSet.{Range, IsAmong}
-use Rattle.piece_list.specs.declared.piece.Piece.{Piece}
+use Rattle.piece_list.specs.Piece.{Piece}
 use Rattle.piece_list.specs.Held.{PiecesSeen}
 use Rattle.piece_list.specs.Spelled.{spelled, HasName}
 use Rattle.piece_list.proofs.list.PieceList.change.Goals as goal
@@ -8,6 +8,6 @@ use Rattle.piece_list.proofs.list.PieceList.change.Goals as goal
 pub change_ranges-requires-clause-here : goal.change_ranges-requires-clause-here
 change_ranges-requires-clause-here c = λ d is.
     let same : c.reserve.new.self.items ≡ c.args.self.now.items =
-    c.reserve.ensures.items ∙ ap (λ (v : PiecesSeen). v.items) c.self.view_is in
+    c.reserve.ensures.items ∙ c.enter.ensures.items ∙ ap (λ (v : PiecesSeen). v.items) c.self.view_is in
     subst (λ (l : List (ℕ × Piece)). HasName (spelled l) d) (sym same)
     (c.requires d (subst (λ (rs : List Range). IsAmong rs d) c.ranges-ranges.ensures.value is))

@@ -6,7 +6,7 @@ use Rattle.list_changes.specs.declared.change.Change.{Change}
 use Rattle.list_changes.specs.declared.change.ChangeKind.TheVariants.{Insert}
 use Rattle.operations.specs.NameSet.{IsIn}
 use Rattle.tree_order.specs.Registers.{Atom}
-use Rattle.piece_list.specs.declared.piece.Piece.{Piece}
+use Rattle.piece_list.specs.Piece.{Piece}
 use Rattle.piece_list.specs.Held.{PiecesSeen}
 use Rattle.piece_list.specs.Noted.{Notes, appearances}
 use Rattle.piece_list.specs.Pieces.{range_of, piece_of}
@@ -43,7 +43,7 @@ insert-requires-clause-new c = λ d is has.
     let old : Items = c.args.self.now.items in
     let items : Items = c.end_at-end.new.self.items in
     let parted = parted_at (goal.at.insert-requires-clause-new c).After-end_at-end in
-    c.requires.new d (subst (λ (p : Piece). IsIn (range_of p) d) c.of_run.ensures is)
+    c.requires.new d is
     (subst (λ (ks : List Atom). HasName ks d) (parted_spells old items c.end_at-end.result c.args.cause parted)
     has)
 
@@ -61,8 +61,7 @@ insert_is c parted =
     c.skip-last.new.steps parted
     (subst (λ (n : ℕ). (before after : Items) → IsParted items c.end_at-end.result before after
     → IsSkip c.args.run.key before after last n c.skip-last.new.steps) steps c.skip-last.ensures)
-    (subst (λ (p : Piece). (before after : Items) → IsParted items last before after
-    → (tag : ℕ) × (c.insert.new.self.items ≡ before ++ (tag, p) ∷ after)) c.of_run.ensures c.insert.ensures.insert)
+    c.insert.ensures.insert
 
 -- what is answered for the run's first name
 count : (c : After-shown_to) → IfSome c.shown_to.result

@@ -13,8 +13,8 @@ overflow_add-result c =
     rw (← c.pieces.view_is) at c.in_ok-spot.ensures.spot in
     let fits : c.rank-before.result + c.shown_of.result < 2 ^ 64 =
     rank_fits items c.pieces.inside.tags c.pieces.inside.index.items c.in_ok-spot.spot c.args.name
-    c.value_at-piece.result.now c.rank-before.result c.shown_of.result c.pieces.invariant.numbered
-    c.pieces.invariant.entered c.pieces.invariant.indexed at c.value_at-piece.ensures c.rank-before.ensures.rank
+    c.piece_at-piece.result c.rank-before.result c.shown_of.result c.pieces.invariant.numbered
+    c.pieces.invariant.entered c.pieces.invariant.indexed at c.piece_at-piece.ensures c.rank-before.ensures.rank
     c.shown_of.ensures in
     omega (arith, fits, c.from.ensures)
 
@@ -28,6 +28,6 @@ returns-clause-count c =
     (sym c.from.ensures)
     (subst (λ (l : Items). AreShownTo (spelled l) c.args.name (c.rank-before.result + c.shown_of.result)) seen
     (rank_counts items c.pieces.inside.tags c.pieces.inside.index.items c.in_ok-spot.spot c.args.name
-    c.value_at-piece.result.now c.rank-before.result c.shown_of.result c.pieces.invariant.numbered
-    c.pieces.invariant.entered c.pieces.invariant.indexed at c.value_at-piece.ensures c.rank-before.ensures.rank
+    c.piece_at-piece.result c.rank-before.result c.shown_of.result c.pieces.invariant.numbered
+    c.pieces.invariant.entered c.pieces.invariant.indexed at c.piece_at-piece.ensures c.rank-before.ensures.rank
     c.shown_of.ensures))

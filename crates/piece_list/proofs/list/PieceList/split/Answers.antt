@@ -1,6 +1,6 @@
 use Rattle.std.proofs.Common.{◌≡◌, ℕ, List, refl, sym, ap, subst, ◌∙◌}
 use Rattle.char_files.specs.CharName.{CharName}
-use Rattle.piece_list.specs.declared.piece.Piece.{Piece}
+use Rattle.piece_list.specs.Piece.{Piece}
 use Rattle.piece_list.specs.Held.{PiecesSeen, IsSpotOf}
 use Rattle.piece_list.specs.Spelled.{spelled}
 use Rattle.piece_list.proofs.SplitList.{split_spells}

@@ -1,7 +1,7 @@
 use Rattle.std.proofs.Common.{ℕ, List, inl, inr, refl, sym, subst}
 use Rattle.char_files.specs.CharName.{CharName}
 use Rattle.operations.specs.NameSet.{Range, IsAmong}
-use Rattle.piece_list.specs.declared.piece.Piece.{Piece}
+use Rattle.piece_list.specs.Piece.{Piece}
 use Rattle.piece_list.specs.Spelled.{spelled, HasName}
 use Rattle.test_piece_list.proofs.tests.changing.add.Goals as goal
 

@@ -1,6 +1,6 @@
 use Rattle.std.proofs.Common.{ℕ, List, sym, subst, ◌∙◌}
 use Rattle.operations.specs.NameSet.{Range, IsIn}
-use Rattle.piece_list.specs.declared.piece.Piece.{Piece}
+use Rattle.piece_list.specs.Piece.{Piece}
 use Rattle.piece_list.specs.Placing.{HasAnchor}
 use Rattle.piece_list.specs.Spelled.{spelled, HasName}
 use Rattle.test_piece_list.proofs.tests.told.try_place.Goals as goal

@@ -30,6 +30,7 @@ loop-at-init c =
           ∙ no_range each (keeps_name c.args.setting.now) site from (spelled items));
       same = record { many = refl; edges = λ s off edge. edge; firsts = λ tag d is. is };
       room = refl;
+      values = refl;
       noted = entries_none c.args.setting.now (c.args.range ∷ []) (c.at-at.result - from) c.args.note.now items;
     }
 
@@ -81,6 +82,7 @@ loop-at-preserved c =
         firsts = λ tag d is. same.firsts tag d (c.loop-at.invariant.same.firsts tag d is);
       };
       room = c.change_piece-at.ensures.room ∙ c.loop-at.invariant.room;
+      values = c.change_piece-at.ensures.values ∙ c.loop-at.invariant.values;
       noted = entries_on c.args.setting.now c.args.range name to c.args.note.now c.loop-at.note
           c.change_piece-at.new.note was between now site (omega (arith, off, c.loop-at.invariant.low)) on
           (omega (arith, c.loop-at.invariant.end, high))

@@ -12,6 +12,7 @@ use Rattle.piece_list.proofs.list.pieces.Pieces.change_ranges.Goals as goal
 pub loop-range-init : goal.loop-range-init
 loop-range-init c = record {
   room = omega (arith, c.requires.room);
+  values = refl;
   few = omega arith;
   firsts = λ tag d is. is;
   changed = sym (unchanged (changed_char c.args.setting.now) (keeps_name c.args.setting.now) [] (λ d. refl)
@@ -49,6 +50,8 @@ loop-range-preserved c =
         c.split_across.ensures.room,
         c.loop-range.invariant.room,
       );
+      values = c.change_range.ensures.values ∙ c.split_across-in-loop-range.ensures.values
+          ∙ c.split_across.ensures.values ∙ c.loop-range.invariant.values;
       few = omega (
         arith,
         c.change_range.ensures.same.many,

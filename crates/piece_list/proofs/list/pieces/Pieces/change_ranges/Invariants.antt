@@ -9,6 +9,7 @@ use Rattle.piece_list.proofs.list.pieces.Pieces.change_ranges.Given as goal
 abbrev pub invariant-loop-range : goal.invariant-loop-range
 invariant-loop-range l = record {
   room : 2 * length l.ranges ≤ l.self.room + 2 * l.range-index;
+  values : l.self.values ≡ l.initial.self.values;
   few : length l.self.items ≤ length l.initial.self.items + 2 * l.range-index;
   firsts : KeepFirsts l.initial.self.items l.self.items;
   changed : spelled l.self.items

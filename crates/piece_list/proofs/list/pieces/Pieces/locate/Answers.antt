@@ -1,6 +1,6 @@
 use Rattle.std.proofs.Common.{sym, subst, arith}
 use Rattle.operations.specs.NameSet.{IsIn}
-use Rattle.piece_list.specs.declared.piece.Piece.{Piece}
+use Rattle.piece_list.specs.Piece.{Piece}
 use Rattle.piece_list.specs.Held.{HeldPieces}
 use Rattle.piece_list.specs.Pieces.{range_of}
 use Rattle.piece_list.specs.Spelled.{spelled, HasName}
@@ -21,11 +21,11 @@ returns-in_err-tag-clause-here c = (
 is_found : (c : Then-not-compare) → ⊥
 is_found c =
     let items : Items = c.self.inside.ring.items in
-    let p : Piece = c.value_at-piece.result.now in
+    let p : Piece = c.piece_at-piece.result in
     let held : IsIn (range_of p) c.args.name =
     entered_holds items c.self.inside.tags c.self.invariant.numbered c.self.invariant.entered c.args.name
     (c.self.invariant.entered.known c.args.name c.in_ok-tag.tag (sym c.in_ok-tag.ensures)) c.in_ok-tag.tag p
-    c.value_at-piece.ensures (sym c.in_ok-tag.ensures) in
+    c.piece_at-piece.ensures (sym c.in_ok-tag.ensures) in
     let yes = c.compare.ensures.value.1 held in
     grind (arith, yes, c.if-not-compare.true)
 

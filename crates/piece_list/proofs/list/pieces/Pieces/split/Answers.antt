@@ -1,141 +1,148 @@
-use Rattle.std.proofs.Common.{◌≡◌, ◌<◌, Some, ap, arith}
-use Rattle.piece_raw.specs.Ring.{Ring, IsMember, IsPushed, with_value}
+use Rattle.std.proofs.Common.{◌≡◌, ℕ, ◌+◌, ◌-◌, ◌<◌, Some, refl, sym, ap, subst, ◌∙◌, arith}
+use Rattle.piece_raw.specs.Ring.{IsPushed, with_value}
 use Rattle.rank_index.specs.Ranked.{weight_of}
 use Rattle.rank_index.proofs.Tagged.{tags_pushed}
-use Rattle.piece_list.specs.declared.piece.Piece.{Piece}
+use Rattle.piece_list.specs.Piece.{Piece}
 use Rattle.piece_list.specs.Held.{IsSplit}
-use Rattle.piece_list.specs.Pieces.{range_of, front_of, rest_of}
-use Rattle.piece_list.proofs.SplitList.{at_cursor, insert_after, next_number, is_piece, is_within, rest_fits, split_made}
-use Rattle.piece_list.proofs.SplitList.{split_entered, split_spot}
-use Rattle.piece_list.proofs.Splitting.{written_tags}
+use Rattle.piece_list.specs.Pieces.{IsPiece, range_of, front_of, rest_of}
+use Rattle.piece_list.proofs.SplitList.{is_piece, is_within, rest_fits, split_made, split_entered, split_spot}
+use Rattle.piece_list.proofs.Splitting.{written_tags, as_many}
 use Rattle.piece_list.proofs.Entered.{filled_inside, filled_outside}
-use Rattle.piece_list.proofs.Placing.{split_others, same_lengths}
+use Rattle.piece_list.proofs.Found.{one_value}
+use Rattle.piece_list.proofs.Placing.{split_others}
 use Rattle.piece_list.proofs.Positions.{Items}
-use Rattle.piece_list.proofs.Rooms.{one_less}
 use Rattle.piece_list.proofs.Weighed.{split_fits, split_rest_fits, split_weighed}
 use Rattle.piece_list.proofs.list.pieces.Pieces.split.Goals as goal
-use Rattle.piece_list.proofs.list.pieces.Pieces.split.Goals.{After-value_mut-front, In-Ok}
+use Rattle.piece_list.proofs.list.pieces.Pieces.split.Goals.{After-piece_at-whole, After-shown_of-after, After-split-number}
 
--- the piece that is split, and that it is longer than its front
-member : (c : After-value_mut-front) → IsMember c.self.inside.ring.items c.args.tag c.value_mut-front.result.now
-member c =
-    at_cursor c.seek.new.self c.self.inside.ring.items c.args.tag c.self.inside.ring.room c.value_mut-front.result.now
-    c.seek.ensures c.value_mut-front.ensures.value
-
-within : (c : After-value_mut-front) → c.args.n < c.value_mut-front.result.now.len
+-- the piece is longer than its front
+within : (c : After-piece_at-whole) → c.args.n < c.piece_at-whole.result.len
 within c =
-    is_within c.self.inside.ring.items c.self.invariant.numbered c.args.tag c.args.n c.value_mut-front.result.now (member c)
-    (rw (← c.self.view_is) at c.requires.spot)
+    is_within c.self.inside.ring.items c.self.invariant.numbered c.args.tag c.args.n c.piece_at-whole.result
+    c.piece_at-whole.ensures (rw (← c.self.view_is) at c.requires.spot)
+
+piece : (c : After-piece_at-whole) → IsPiece c.piece_at-whole.result
+piece c =
+    is_piece c.self.inside.ring.items c.args.tag c.piece_at-whole.result c.self.invariant.entered.pieces
+    c.piece_at-whole.ensures
+
+-- the rest, as its names are entered
+abbrev rest : After-shown_of-after → Piece
+rest c = record c.piece_at-whole.result {
+  site = c.site-site.result;
+  off = c.off.result + c.args.n;
+  len = c.len.result - c.args.n;
+}
+
+rest_is : (c : After-shown_of-after) → rest c ≡ rest_of c.args.n c.piece_at-whole.result
+rest_is c =
+    let v : Piece = c.piece_at-whole.result in
+    let made : ℕ → ℕ → ℕ → Piece = λ (s o l : ℕ). record v { site = s; off = o + c.args.n; len = l - c.args.n } in
+    ap (λ (s : ℕ). made s c.off.result c.len.result) c.site-site.ensures
+    ∙ ap (λ (o : ℕ). made v.site o c.len.result) c.off.ensures
+    ∙ ap (made v.site v.off) c.len.ensures
 
 -- the rest is inserted after the front
-insert : (c : In-Ok) → IsPushed (with_value c.args.tag (front_of c.args.n c.value_mut-front.result.now) c.self.inside.ring.items)
-    (Some c.args.tag) c.in-Ok.number (rest_of c.args.n c.value_mut-front.result.now) c.push_after.new.self.items
-insert c =
-    let v : Piece = c.value_mut-front.result.now in
-    insert_after c.seek.new.self c.self.inside.ring.items c.push_after.new.self.items c.args.tag c.self.inside.ring.room
-    c.in-Ok.number c.split_off-rest.new.self (front_of c.args.n v) c.split_off-rest.result (rest_of c.args.n v)
-    c.seek.ensures c.split_off-rest.ensures.front c.split_off-rest.ensures.rest c.in-Ok.ensures.pushed
+pushed : (c : After-split-number) → IsPushed (with_value c.args.tag (front_of c.args.n c.piece_at-whole.result) c.self.inside.ring.items)
+    (Some c.args.tag) c.split-number.result (rest_of c.args.n c.piece_at-whole.result) c.split-number.new.self.items
+pushed c =
+    let items : Items = c.self.inside.ring.items in
+    let (p, held, made) = c.split-number.ensures.split in
+    subst (λ (q : Piece). IsPushed (with_value c.args.tag (front_of c.args.n q) items) (Some c.args.tag) c.split-number.result
+    (rest_of c.args.n q) c.split-number.new.self.items)
+    (one_value items c.self.invariant.numbered c.args.tag p c.piece_at-whole.result held c.piece_at-whole.ensures) made
 
-made : (c : In-Ok) → IsMember c.self.inside.ring.items c.args.tag c.value_mut-front.result.now
-    → c.args.n < c.value_mut-front.result.now.len
-    → IsSplit c.args.tag c.args.n c.in-Ok.number c.self.inside.ring.items c.push_after.new.self.items
-made c is lt =
-    split_made c.self.inside.ring.items c.push_after.new.self.items c.args.tag c.args.n c.in-Ok.number
-    c.value_mut-front.result.now c.self.invariant.numbered is lt (insert c)
+made : (c : After-split-number) → c.args.n < c.piece_at-whole.result.len
+    → IsSplit c.args.tag c.args.n c.split-number.result c.self.inside.ring.items c.split-number.new.self.items
+made c lt =
+    split_made c.self.inside.ring.items c.split-number.new.self.items c.args.tag c.args.n c.split-number.result
+    c.piece_at-whole.result c.self.invariant.numbered c.piece_at-whole.ensures lt (pushed c)
 
-pub split_off-rest-requires-clause-piece : goal.split_off-rest-requires-clause-piece
-split_off-rest-requires-clause-piece c =
-    is_piece c.self.inside.ring.items c.args.tag c.value_mut-front.result.now c.self.invariant.entered.pieces
-    (member (goal.at.split_off-rest-requires-clause-piece c).After-value_mut-front)
+pub overflow_add-off : goal.overflow_add-off
+overflow_add-off c =
+    let at : After-piece_at-whole = (goal.at.overflow_add-off c).After-piece_at-whole in
+    omega (arith, c.off.ensures, within at, (piece at).2)
 
-pub split_off-rest-requires-clause-within : goal.split_off-rest-requires-clause-within
-split_off-rest-requires-clause-within c =
-    within (goal.at.split_off-rest-requires-clause-within c).After-value_mut-front
+pub overflow_sub-len : goal.overflow_sub-len
+overflow_sub-len c =
+    omega (arith, c.len.ensures, within (goal.at.overflow_sub-len c).After-piece_at-whole)
+
+pub split-number-requires-clause-within : goal.split-number-requires-clause-within
+split-number-requires-clause-within c = λ p held. (
+  is_piece c.self.inside.ring.items c.args.tag p c.self.invariant.entered.pieces held,
+  is_within c.self.inside.ring.items c.self.invariant.numbered c.args.tag c.args.n p held
+      (rw (← c.self.view_is) at c.requires.spot),
+)
 
 pub fill-requires : goal.fill-requires
 fill-requires c =
-    let at : After-value_mut-front = (goal.at.fill-requires c).After-value_mut-front in
+    let at : After-shown_of-after = (goal.at.fill-requires c).After-shown_of-after in
     rest_fits c.self.inside.ring.items c.self.inside.tags c.self.invariant.entered c.args.tag c.args.n
-    c.value_mut-front.result.now c.split_off-rest.result (member at) (within at) c.split_off-rest.ensures.rest
+    c.piece_at-whole.result (rest at) c.piece_at-whole.ensures (within (goal.at.fill-requires c).After-piece_at-whole) (rest_is at)
 
 pub set_weight-requires-clause-total : goal.set_weight-requires-clause-total
 set_weight-requires-clause-total c =
-    let at : After-value_mut-front = (goal.at.set_weight-requires-clause-total c).After-value_mut-front in
+    let at : After-shown_of-after = (goal.at.set_weight-requires-clause-total c).After-shown_of-after in
     let fits = split_fits c.self.inside.ring.items c.self.inside.tags c.self.inside.index.items c.args.tag c.args.n
-    c.shown_of-before.result c.shown_of-after.result c.value_mut-front.result.now c.split_off-rest.new.self
-    c.split_off-rest.result c.self.invariant.numbered c.self.invariant.entered c.self.invariant.indexed (member at)
-    (within at) c.split_off-rest.ensures.front c.split_off-rest.ensures.rest c.shown_of-before.ensures
+    c.shown_of-before.result c.shown_of-after.result c.piece_at-whole.result (front_of c.args.n c.piece_at-whole.result)
+    (rest at) c.self.invariant.numbered c.self.invariant.entered c.self.invariant.indexed c.piece_at-whole.ensures
+    (within (goal.at.set_weight-requires-clause-total c).After-piece_at-whole) refl (rest_is at) c.shown_of-before.ensures
     c.shown_of-after.ensures in
     omega (arith, fits)
 
 pub insert_after-requires-clause-total : goal.insert_after-requires-clause-total
 insert_after-requires-clause-total c =
-    let at : After-value_mut-front = (goal.at.insert_after-requires-clause-total c).After-value_mut-front in
+    let at : After-shown_of-after = (goal.at.insert_after-requires-clause-total c).After-shown_of-after in
     let fits = split_rest_fits c.self.inside.ring.items c.self.inside.tags c.self.inside.index.items c.args.tag c.args.n
-    c.shown_of-before.result c.shown_of-after.result c.value_mut-front.result.now c.split_off-rest.new.self
-    c.split_off-rest.result c.self.invariant.numbered c.self.invariant.entered c.self.invariant.indexed (member at)
-    (within at) c.split_off-rest.ensures.front c.split_off-rest.ensures.rest c.shown_of-before.ensures
+    c.shown_of-before.result c.shown_of-after.result c.piece_at-whole.result (front_of c.args.n c.piece_at-whole.result)
+    (rest at) c.self.invariant.numbered c.self.invariant.entered c.self.invariant.indexed c.piece_at-whole.ensures
+    (within (goal.at.insert_after-requires-clause-total c).After-piece_at-whole) refl (rest_is at) c.shown_of-before.ensures
     c.shown_of-after.ensures in
     omega (arith, ap weight_of c.set_weight.ensures.items, fits)
 
 pub invariant_of-self : goal.invariant_of-self
 invariant_of-self c =
     let items : Items = c.self.inside.ring.items in
-    let new : Items = c.push_after.new.self.items in
-    let v : Piece = c.value_mut-front.result.now in
-    let w : Piece = front_of c.args.n v in
-    let rest : Piece = c.split_off-rest.result in
-    let at : After-value_mut-front = (goal.at.invariant_of-self c).After-value_mut-front in
-    let insert_in = insert (goal.at.invariant_of-self c).In-Ok in
+    let new : Items = c.split-number.new.self.items in
+    let v : Piece = c.piece_at-whole.result in
+    let front : Piece = front_of c.args.n v in
+    let lt = within (goal.at.invariant_of-self c).After-piece_at-whole in
+    let at : After-shown_of-after = (goal.at.invariant_of-self c).After-shown_of-after in
+    let insert = pushed (goal.at.invariant_of-self c).After-split-number in
     record {
-      numbered = tags_pushed (with_value c.args.tag w items) new (Some c.args.tag) c.in-Ok.number (rest_of c.args.n v)
-          (written_tags c.args.tag w items c.self.invariant.numbered)
-          (next_number c.seek.new.self items c.args.tag c.self.inside.ring.room c.in-Ok.number
-          c.split_off-rest.new.self w c.seek.ensures c.split_off-rest.ensures.front c.in-Ok.ensures.tag.0) insert_in;
-      entered = split_entered items new c.args.tag c.args.n c.in-Ok.number v rest c.self.inside.tags c.fill.new.self
-          c.self.invariant.numbered c.self.invariant.entered c.requires.some (within at) (member at) insert_in
-          c.split_off-rest.ensures.rest
-          (filled_inside (range_of rest) c.in-Ok.number c.self.inside.tags c.fill.new.self c.fill.ensures.inside
+      numbered = tags_pushed (with_value c.args.tag front items) new (Some c.args.tag) c.split-number.result
+          (rest_of c.args.n v) (written_tags c.args.tag front items c.self.invariant.numbered)
+          (c.split-number.ensures.number.0 ∙ sym (as_many c.args.tag front items)) insert;
+      entered = split_entered items new c.args.tag c.args.n c.split-number.result v (rest at) c.self.inside.tags
+          c.fill.new.self c.self.invariant.numbered c.self.invariant.entered c.requires.some lt c.piece_at-whole.ensures
+          insert (rest_is at)
+          (filled_inside (range_of (rest at)) c.split-number.result c.self.inside.tags c.fill.new.self c.fill.ensures.inside
           c.fill.ensures.before c.fill.ensures.after c.fill.ensures.others)
-          (filled_outside (range_of rest) c.in-Ok.number c.self.inside.tags c.fill.new.self c.fill.ensures.inside
+          (filled_outside (range_of (rest at)) c.split-number.result c.self.inside.tags c.fill.new.self c.fill.ensures.inside
           c.fill.ensures.before c.fill.ensures.after c.fill.ensures.others);
       indexed = split_weighed items c.self.inside.tags c.self.inside.index.items c.args.tag c.args.n
-          c.shown_of-before.result c.shown_of-after.result v c.split_off-rest.new.self rest
-          c.self.invariant.numbered c.self.invariant.entered c.self.invariant.indexed (member at) (within at)
-          c.split_off-rest.ensures.front c.split_off-rest.ensures.rest c.shown_of-before.ensures
-          c.shown_of-after.ensures new c.set_weight.new.self.items c.insert_after.new.self.items c.in-Ok.number insert_in
+          c.shown_of-before.result c.shown_of-after.result v front (rest at)
+          c.self.invariant.numbered c.self.invariant.entered c.self.invariant.indexed c.piece_at-whole.ensures lt
+          refl (rest_is at) c.shown_of-before.ensures
+          c.shown_of-after.ensures new c.set_weight.new.self.items c.insert_after.new.self.items c.split-number.result insert
           c.set_weight.ensures.items c.insert_after.ensures.inserted;
     }
 
 pub returns-clause-split : goal.returns-clause-split
 returns-clause-split c =
-    rw (← c.self.view_is) (made (goal.at.returns-clause-split c).In-Ok (member (goal.at.returns-clause-split c).After-value_mut-front)
-    (within (goal.at.returns-clause-split c).After-value_mut-front))
+    rw (← c.self.view_is) (made (goal.at.returns-clause-split c).After-split-number
+    (within (goal.at.returns-clause-split c).After-piece_at-whole))
 
 pub returns-clause-spot : goal.returns-clause-spot
 returns-clause-spot c =
     rw (← c.self.view_is)
-    (split_spot c.self.inside.ring.items c.push_after.new.self.items c.args.tag c.args.n c.in-Ok.number
-    c.self.invariant.numbered (made (goal.at.returns-clause-spot c).In-Ok (member (goal.at.returns-clause-spot c).After-value_mut-front)
-    (within (goal.at.returns-clause-spot c).After-value_mut-front)))
+    (split_spot c.self.inside.ring.items c.split-number.new.self.items c.args.tag c.args.n c.split-number.result
+    c.self.invariant.numbered (made (goal.at.returns-clause-spot c).After-split-number
+    (within (goal.at.returns-clause-spot c).After-piece_at-whole)))
 
 pub returns-clause-others : goal.returns-clause-others
 returns-clause-others c =
     rw (← c.self.view_is)
-    (split_others c.self.inside.ring.items c.push_after.new.self.items c.args.tag c.args.n c.in-Ok.number
-    c.self.invariant.numbered (made (goal.at.returns-clause-others c).In-Ok (member (goal.at.returns-clause-others c).After-value_mut-front)
-    (within (goal.at.returns-clause-others c).After-value_mut-front)))
-
-pub returns-clause-room : goal.returns-clause-room
-returns-clause-room c =
-    let ring_room : c.seek.new.self.room ≡ c.self.inside.ring.room = ap (λ (r : Ring Piece). r.room) c.seek.ensures in
-    rw (← c.self.view_is)
-    (one_less c.self.inside.ring.room c.self.inside.index.room c.push_after.new.self.room c.insert_after.new.self.room
-    (omega (arith, ring_room, c.push_after.ensures.room))
-    (omega (arith, c.set_weight.ensures.room, c.insert_after.ensures.room)))
-
-pub returns-clause-long : goal.returns-clause-long
-returns-clause-long c =
-    rw (← c.self.view_is)
-    (same_lengths c.self.inside.tags c.fill.new.self c.split_off-rest.result.site c.fill.ensures.long
-    c.fill.ensures.others)
+    (split_others c.self.inside.ring.items c.split-number.new.self.items c.args.tag c.args.n c.split-number.result
+    c.self.invariant.numbered (made (goal.at.returns-clause-others c).After-split-number
+    (within (goal.at.returns-clause-others c).After-piece_at-whole)))

@@ -22,5 +22,5 @@ returns-then-n-len-clause-parted c =
 pub returns-else-n-len-clause-parted : goal.returns-else-n-len-clause-parted
 returns-else-n-len-clause-parted c =
     rw (← c.self.view_is)
-    (parted_there c.self.inside.ring.items c.self.invariant.numbered c.args.spot c.value_at.result.now
-    c.value_at.ensures c.if-n-len.false)
+    (parted_there c.self.inside.ring.items c.self.invariant.numbered c.args.spot c.piece_at.result
+    c.piece_at.ensures (omega (arith, c.if-n-len.false, c.len-len.ensures)))
