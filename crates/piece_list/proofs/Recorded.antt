@@ -1,5 +1,5 @@
 -- Numbered records, and the pieces that they stand for.
-use Rattle.std.proofs.Common.{◌≡◌, ℕ, suc, zero, append-nil, append_assoc, ◌+◌, ◌<◌, ◌≤◌, ◌==◌, cond, Bool, true, false, inl, inr, List, [], ◌∷◌, ◌++◌}
+use Rattle.std.proofs.Common.{◌≡◌, ℕ, suc, zero, append-nil, append_assoc, ◌+◌, ◌≤◌, ◌==◌, cond, Bool, true, false, List, [], ◌∷◌, ◌++◌}
 use Rattle.std.proofs.Common.{Option, Some, None, length, map, All, refl, sym, ap, subst, ◌∙◌, arith, if◌then◌else◌}
 use Rattle.std.proofs.lemmas.List.{map-append, length-map, length-append, get_or_append_left}
 use Rattle.std.proofs.lemmas.List.Elements.{All-append, All-head, All-tail, All-cons}
@@ -41,9 +41,14 @@ module _ {A B : Type 0} (f : A → B) where
   parts_off (x ∷ xs) (y ∷ l) r is =
       let head : on x ≡ y = cc in
       let tail : map on xs ≡ l ++ r = cc in
-      let (left, right, whole, is_l, is_r) = parts_off xs l r tail in
-      (x ∷ left, right, ap (λ (zs : List (ℕ × A)). x ∷ zs) whole, ap (λ (z : ℕ × B). z ∷ map on left) head
-      ∙ ap (λ (zs : List (ℕ × B)). y ∷ zs) is_l, is_r)
+      let (left, right, whole, is_l, is_r) = parts_off xs l r tail in (
+        x ∷ left,
+        right,
+        ap (λ (zs : List (ℕ × A)). x ∷ zs) whole,
+        ap (λ (z : ℕ × B). z ∷ map on left) head
+            ∙ ap (λ (zs : List (ℕ × B)). y ∷ zs) is_l,
+        is_r,
+      )
 
   off_parts : (xs left right : List (ℕ × A)) (r : List (ℕ × B)) (t : ℕ) (p : B) → xs ≡ left ++ right
       → map on right ≡ (t, p) ∷ r → (v : A) × IsMember xs t v × (f v ≡ p)

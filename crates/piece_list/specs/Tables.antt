@@ -1,8 +1,13 @@
 -- The tables that say which piece holds a name.
-use Rattle.std.specs.Prelude.{ℕ, nat_eq, List, [], Option, None, slice_index_or}
+use Rattle.std.specs.Prelude.{ℕ, nat_eq, List, [], Option, None, Some, slice_index_or, if◌then◌else◌}
 use Rattle.std.specs.Option.{option_map_or}
 use Rattle.std.specs.Map.{lookup}
 use Rattle.char_files.specs.CharName.{CharName}
+use Rattle.piece_list.specs.declared.tags.TheConstants.{NO_TAG}
+
+-- the number that an entry of four bytes stands for, if it does for one
+abbrev pub tag_of : ℕ → Option ℕ
+tag_of n = if nat_eq n NO_TAG then None else Some n
 
 -- the number of the piece that holds the byte at an offset, if one does
 abbrev pub tag_in : List (Option ℕ) → ℕ → Option ℕ

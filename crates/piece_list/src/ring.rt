@@ -81,7 +81,11 @@ fn set(values: &ValueTables, record: &mut PieceRecord, setting: &Setting, asked:
         }
         Setting::Relook { .. } => {
             let asked = asked && !hidden;
-            let was = if asked { Some(values.looks_of(record)) } else { None };
+            let was = if asked {
+                Some(values.looks_of(record))
+            } else {
+                None
+            };
             values.set(record, setting);
             match was {
                 Some(was) => values.looks_of(record) != was,

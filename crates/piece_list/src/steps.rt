@@ -46,7 +46,9 @@ impl Steps {
     {
         self.count = self.count.saturating_add(1);
         let off = name.off();
-        piece.site().get() == name.site().get() && piece.off() <= off && off - piece.off() < piece.len()
+        piece.site().get() == name.site().get()
+            && piece.off() <= off
+            && off - piece.off() < piece.len()
     }
 
     // Whether the piece's key is greater than this one.

@@ -1,6 +1,7 @@
 ghost use Rattle.std.specs.Prelude.{◌≡◌, ◌≢◌, ℕ, ◌+◌, ◌<◌, ◌≤◌, [], Some as Just, length, OnOk};
 ghost use Rattle.looks.specs.Refusal.{RefusedForMemoryAlone};
 ghost use Rattle.piece_list.specs.Tables.{tag_in, table_of, tag_at};
+ghost use Rattle.piece_list.specs.declared.tags.TheConstants.{NO_TAG};
 
 use char_files::{Name, SiteNo};
 use indexmap::IndexMap;
@@ -8,18 +9,22 @@ use looks::Refusal;
 use std::alloc::Global;
 use std::marker::Model;
 
-// Beside each byte of a site's file, the number of the piece that holds it.
+// What stands where no piece holds a byte.
+const NO_TAG: u32 = u32::MAX;
+
+// Beside each byte of a site's file, the number of the piece that holds it, in four bytes.
 #[derive(Drop)]
 struct SiteTags {
-    tags: Vec<Option<u64>>,
+    tags: Vec<u32>,
 }
 
 impl Model for SiteTags {
-    ghost use Rattle.std.specs.Prelude.{ℕ, List, Option};
+    ghost use Rattle.std.specs.Prelude.{ℕ, List, Option, map};
+    ghost use Rattle.piece_list.specs.Tables.{tag_of};
 
     ghost Value = { List (Option ℕ) };
 
-    ghost view = { λ t. t.tags.items };
+    ghost view = { λ t. map tag_of t.tags.items };
 }
 
 impl SiteTags {
@@ -27,8 +32,8 @@ impl SiteTags {
         ensures { result ≡ tag_in self.now off }
     {
         match self.tags.get(off as usize) {
-            Some(tag) => *tag,
-            None => None,
+            Some(tag) if *tag != NO_TAG => Some(u64::from(*tag)),
+            _ => None,
         }
     }
 
@@ -40,21 +45,22 @@ impl SiteTags {
         ensures same { (off : ℕ) → tag_in self.new off ≡ tag_in self.old off }
     {
         for _ in self.tags.len()..len as usize {
-            self.tags.push(None)?;
+            self.tags.push(NO_TAG)?;
         }
         Ok(())
     }
 
     // Enters a piece.
     fn fill(&mut self, off: u32, len: u32, tag: u64)
-        requires { off + len ≤ length self.old }
+        requires within { off + len ≤ length self.old }
+        requires tag { tag < NO_TAG }
         ensures inside { (at : ℕ) → off ≤ at → at < off + len → tag_in self.new at ≡ Just tag }
         ensures before { (at : ℕ) → at < off → tag_in self.new at ≡ tag_in self.old at }
         ensures after { (at : ℕ) → off + len ≤ at → tag_in self.new at ≡ tag_in self.old at }
         ensures long { length self.new ≡ length self.old }
     {
         for at in off as usize..off as usize + len as usize {
-            self.tags[at] = Some(tag);
+            self.tags[at] = tag as u32;
         }
     }
 }
@@ -114,7 +120,8 @@ impl TagTables {
 
     /// Enters a piece's names, for which the table is long enough.
     pub fn fill(&mut self, site: SiteNo, off: u32, len: u32, tag: u64)
-        requires { off + len ≤ length (table_of self.old site) }
+        requires within { off + len ≤ length (table_of self.old site) }
+        requires tag { tag < NO_TAG }
         ensures inside { (at : ℕ) → off ≤ at → at < off + len → tag_in (table_of self.new site) at
             ≡ Just tag }
         ensures before { (at : ℕ) → at < off → tag_in (table_of self.new site) at

@@ -120,11 +120,17 @@ impl ValueTables {
         match setting {
             Setting::Switch { hidden, key } => {
                 Refusal::within_memory(self.switches.len().saturating_add(1), MAX_ENTRIES)?;
-                self.switches.push(Register { key: *key, value: *hidden })?;
+                self.switches.push(Register {
+                    key: *key,
+                    value: *hidden,
+                })?;
             }
             Setting::Relook { looks, key, .. } => {
                 Refusal::within_memory(self.relooks.len().saturating_add(1), MAX_ENTRIES)?;
-                self.relooks.push(Register { key: *key, value: looks.copy() })?;
+                self.relooks.push(Register {
+                    key: *key,
+                    value: looks.copy(),
+                })?;
             }
         }
         Ok(())

@@ -36,8 +36,12 @@ impl Model for Pieces {
 
     ghost Value = { HeldPieces };
 
-    ghost view = { λ p. record { items = p.ring.items; values = p.ring.values; tables = p.tags;
-      room = min p.ring.room p.index.room } };
+    ghost view = { λ p. record {
+      items = p.ring.items;
+      values = p.ring.values;
+      tables = p.tags;
+      room = min p.ring.room p.index.room;
+    } };
 
     ghost invariant = { λ p. AreHeld p.ring.items p.tags p.index.items };
 }

@@ -1,15 +1,13 @@
-use Rattle.std.proofs.Common.{◌≡◌, ℕ, List, ◌∷◌, ◌++◌, Option, ap, sym, subst, refl, ◌∙◌}
+use Rattle.std.proofs.Common.{◌≡◌, ℕ, List, Option, ap, sym, subst, refl, ◌∙◌}
 use Rattle.std.specs.Prelude.{IfSome}
 use Rattle.char_files.specs.CharName.{CharName}
 use Rattle.list_changes.specs.Changes.{IsOfKind}
 use Rattle.list_changes.specs.declared.change.Change.{Change}
 use Rattle.list_changes.specs.declared.change.ChangeKind.TheVariants.{Insert}
-use Rattle.operations.specs.NameSet.{IsIn}
 use Rattle.tree_order.specs.Registers.{Atom}
-use Rattle.piece_list.specs.Piece.{Piece}
 use Rattle.piece_list.specs.Held.{PiecesSeen}
 use Rattle.piece_list.specs.Noted.{Notes, appearances}
-use Rattle.piece_list.specs.Pieces.{range_of, piece_of}
+use Rattle.piece_list.specs.Pieces.{piece_of}
 use Rattle.piece_list.specs.Placing.{compared, IsAnchorSpot, IsParted, IsPartedAt, IsInsertedInGap, IsSkip}
 use Rattle.piece_list.specs.Shown.{AreShownTo}
 use Rattle.piece_list.specs.Spelled.{spelled, HasName}

@@ -52,8 +52,11 @@ returns-clause-changed c =
     (written_at c.seek.new.self records c.args.number c.self.inside.records.room c.set.new.record c.seek.ensures)
     ∙ written_on (piece_in v) c.args.number c.set.new.record records
     ∙ ap (λ (q : Piece). with_value c.args.number q (pieces_in v records)) changed in
-    rw (← c.self.view_is)
-    (p, member_on (piece_in v) records c.args.number r (member (goal.at.returns-clause-changed c).After-value_mut), items,
-    subst (λ (q : Piece). IsTrue c.set.result → IsTrue c.args.asked × ShowsOther c.args.setting.now p q) changed
-    c.set.ensures.other,
-    subst (λ (q : Piece). IsTrue c.args.asked → ¬ IsTrue c.set.result → ShowsTheSame p q) changed c.set.ensures.same)
+    rw (← c.self.view_is) (
+      p,
+      member_on (piece_in v) records c.args.number r (member (goal.at.returns-clause-changed c).After-value_mut),
+      items,
+      subst (λ (q : Piece). IsTrue c.set.result → IsTrue c.args.asked × ShowsOther c.args.setting.now p q) changed
+          c.set.ensures.other,
+      subst (λ (q : Piece). IsTrue c.args.asked → ¬ IsTrue c.set.result → ShowsTheSame p q) changed c.set.ensures.same,
+    )

@@ -1,6 +1,6 @@
 use Rattle.std.proofs.Common.{sym, subst, ◌∙◌}
 use Rattle.piece_list.specs.Values.{piece_in}
-use Rattle.piece_list.proofs.Recorded.{AreWithin, Records, from_on, from_part, part_within, tag_off_if}
+use Rattle.piece_list.proofs.Recorded.{AreWithin, from_on, from_part, part_within, tag_off_if}
 use Rattle.piece_list.proofs.ring.PieceRing.from.Goals as goal
 
 pub from-requires : goal.from-requires

@@ -3,7 +3,7 @@ use Rattle.piece_raw.specs.Ring.{Ring, IsPushed}
 use Rattle.piece_list.specs.declared.record.PieceRecord.{PieceRecord}
 use Rattle.piece_list.specs.Piece.{Piece}
 use Rattle.piece_list.specs.Pieces.{piece_of}
-use Rattle.piece_list.specs.Values.{IsWithin, Values, piece_in, pieces_in, record_of}
+use Rattle.piece_list.specs.Values.{IsWithin, Values, piece_in, pieces_in}
 use Rattle.piece_list.proofs.Positions.{Items}
 use Rattle.piece_list.proofs.Recorded.{Records, all_within_stay, pieces_stay, pushed_at, pushed_on, pushed_within, run_in, run_within}
 use Rattle.piece_list.proofs.Recorded.{pushed_many, tag_off_if}

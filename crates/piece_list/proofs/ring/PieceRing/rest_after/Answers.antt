@@ -1,6 +1,6 @@
 use Rattle.std.proofs.Common.{sym, subst, ◌∙◌}
 use Rattle.piece_list.specs.Values.{piece_in}
-use Rattle.piece_list.proofs.Recorded.{AreWithin, Records, after_on, after_part, part_within, tag_off_if}
+use Rattle.piece_list.proofs.Recorded.{AreWithin, after_on, after_part, part_within, tag_off_if}
 use Rattle.piece_list.proofs.ring.PieceRing.rest_after.Goals as goal
 
 pub rest_after-requires : goal.rest_after-requires

@@ -1,4 +1,4 @@
-use Rattle.std.proofs.Common.{◌≡◌, ◌-◌, ◌<◌, Some, sym, subst, ap, ◌∙◌, arith}
+use Rattle.std.proofs.Common.{◌≡◌, ◌<◌, Some, sym, subst, ap, ◌∙◌, arith}
 use Rattle.piece_raw.specs.Ring.{Ring, IsMember, IsPushed, with_value}
 use Rattle.piece_list.specs.declared.record.PieceRecord.{PieceRecord}
 use Rattle.piece_list.specs.Piece.{Piece}
@@ -84,8 +84,10 @@ returns-clause-split c =
     ≡ with_value c.args.number (front_of c.args.n p) (pieces_in v records) =
     written_on (piece_in v) c.args.number c.split_off-rest.new.self records
     ∙ ap (λ (f : PieceRecord). with_value c.args.number (piece_in v f) (pieces_in v records)) c.split_off-rest.ensures.front in
-    rw (← c.self.view_is)
-    (p, member_on (piece_in v) records c.args.number r was,
-    subst (λ (l : Items). IsPushed l (Some c.args.number) c.in-Ok.new (rest_of c.args.n p) new) front
-    (subst (λ (q : PieceRecord). IsPushed (pieces_in v (with_value c.args.number c.split_off-rest.new.self records))
-    (Some c.args.number) c.in-Ok.new (piece_in v q) new) c.split_off-rest.ensures.rest made))
+    rw (← c.self.view_is) (
+      p,
+      member_on (piece_in v) records c.args.number r was,
+      subst (λ (l : Items). IsPushed l (Some c.args.number) c.in-Ok.new (rest_of c.args.n p) new) front
+          (subst (λ (q : PieceRecord). IsPushed (pieces_in v (with_value c.args.number c.split_off-rest.new.self records))
+          (Some c.args.number) c.in-Ok.new (piece_in v q) new) c.split_off-rest.ensures.rest made),
+    )

@@ -1,7 +1,7 @@
-use Rattle.std.proofs.Common.{◌≡◌, ℕ, ◌≤◌, length}
-use Rattle.piece_list.specs.Tables.{tag_in}
+use Rattle.std.proofs.Common.{◌≡◌, ℕ, ◌≤◌, get_or, length}
+use Rattle.piece_list.specs.declared.tags.TheConstants.{NO_TAG}
 use Rattle.piece_list.proofs.tags.SiteTags.grow.Given as goal
 
 abbrev pub invariant-loop : goal.invariant-loop
 invariant-loop l = (l.counter ≤ length l.self-inside.tags.items)
-    × ((i : ℕ) → tag_in l.self-inside.tags.items i ≡ tag_in l.initial.self-inside.tags.items i)
+    × ((i : ℕ) → get_or l.self-inside.tags.items i NO_TAG ≡ get_or l.initial.self-inside.tags.items i NO_TAG)

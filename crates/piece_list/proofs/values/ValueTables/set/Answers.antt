@@ -1,13 +1,11 @@
-use Rattle.std.proofs.Common.{◌≡◌, ℕ, Bool, refl, subst, sym, ◌∙◌}
+use Rattle.std.proofs.Common.{◌≡◌, ℕ, Bool, refl, subst, sym}
 use Rattle.looks.specs.Sel.{Selection}
 use Rattle.looks.specs.declared.key.Key.{Key}
 use Rattle.looks.specs.declared.looks.Looks.{Looks}
-use Rattle.tree_order.specs.Registers.{offered_if}
 use Rattle.piece_list.specs.declared.record.PieceRecord.{PieceRecord}
 use Rattle.piece_list.specs.declared.setting.Setting.{Setting}
 use Rattle.piece_list.specs.Changing.{changed_piece}
-use Rattle.piece_list.specs.Piece.{Piece}
-use Rattle.piece_list.specs.Values.{IsEntered, Values, inserted_with, looks_by, piece_in}
+use Rattle.piece_list.specs.Values.{IsEntered, Values, inserted_with, piece_in}
 use Rattle.piece_list.proofs.Recorded.{IsLater, relooked_in}
 use Rattle.piece_list.proofs.values.ValueTables.set.Goals as goal
 

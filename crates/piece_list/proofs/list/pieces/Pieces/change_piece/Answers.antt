@@ -72,7 +72,6 @@ unreachable-requires c =
     (rw (← c.self.view_is) at c.requires.here) in
     none_is_not tag (c.in-None.ensures ∙ is)
 
-
 pub enter-requires-clause-small : goal.enter-requires-clause-small
 enter-requires-clause-small c =
     let at : After-shown_of-weight = (goal.at.enter-requires-clause-small c).After-shown_of-weight in

@@ -74,11 +74,11 @@ split-number-requires-clause-within c = λ p held. (
       (rw (← c.self.view_is) at c.requires.spot),
 )
 
-pub fill-requires : goal.fill-requires
-fill-requires c =
-    let at : After-shown_of-after = (goal.at.fill-requires c).After-shown_of-after in
+pub fill-requires-clause-within : goal.fill-requires-clause-within
+fill-requires-clause-within c =
+    let at : After-shown_of-after = (goal.at.fill-requires-clause-within c).After-shown_of-after in
     rest_fits c.self.inside.ring.items c.self.inside.tags c.self.invariant.entered c.args.tag c.args.n
-    c.piece_at-whole.result (rest at) c.piece_at-whole.ensures (within (goal.at.fill-requires c).After-piece_at-whole) (rest_is at)
+    c.piece_at-whole.result (rest at) c.piece_at-whole.ensures (within (goal.at.fill-requires-clause-within c).After-piece_at-whole) (rest_is at)
 
 pub set_weight-requires-clause-total : goal.set_weight-requires-clause-total
 set_weight-requires-clause-total c =
