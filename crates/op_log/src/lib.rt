@@ -1,8 +1,13 @@
 //! The operations that a replica has taken in, found by their identities at once.
 #![tactic(auto)]
 
+mod limits;
 mod log;
 mod site_log;
 mod site_tables;
 
+pub use limits::the_limits;
 pub use log::Log;
+
+/// The most operations of a log, so that the place of each has 32 bits. This project's own.
+pub const MAX_OPS: usize = 1 << 32;

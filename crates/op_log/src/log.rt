@@ -9,6 +9,7 @@ ghost use Rattle.set_laws.specs.Sets.{AreIdentified, AreHeldToTheFront};
 ghost use Rattle.op_log.specs.Seen.{HasRoom, KeepsRoom};
 ghost use Rattle.op_log.specs.Logged.{first_sites};
 
+use crate::MAX_OPS;
 use crate::site_log::Entry;
 use crate::site_tables::SiteTables;
 use char_files::{MAX_FILE, Name, SiteNo};
@@ -30,16 +31,15 @@ pub struct Log {
 }
 
 impl Model for Log {
-    ghost use Rattle.std.specs.Prelude.{◌-◌, vec_len, vec_capacity};
     ghost use Rattle.op_log.specs.Seen.{LogSeen};
-    ghost use Rattle.op_log.specs.Tables.{rooms_of};
+    ghost use Rattle.op_log.specs.Tables.{list_room, rooms_of};
     ghost use Rattle.op_log.specs.Logged.{AreLogged};
 
     ghost Value = { LogSeen };
 
     ghost view = { λ l. record {
       ops = l.ops.items;
-      room = vec_capacity l.ops - vec_len l.ops;
+      room = list_room l.ops;
       rooms = rooms_of l.sites;
     } };
 
@@ -159,13 +159,15 @@ impl Log {
 
     /// Makes room for one operation more of this site: the next push of one takes no memory.
     ///
-    /// Refused `OutOfMemory` alone. The operations and the room that was there stay in either case.
+    /// Refused `OutOfMemory` alone, which is also where there are 2^32 operations. The operations and the room that was
+    /// there stay in either case.
     pub fn reserve(&mut self, site: SiteNo) -> Result<(), Refusal>
         ensures ok { OnOk result (HasRoom self.new site) }
         ensures errors { RefusedForMemoryAlone result }
         ensures ops { self.new.ops ≡ self.old.ops }
         ensures keeps { KeepsRoom self.old self.new }
     {
+        Refusal::within_memory(self.ops.len() + 1, MAX_OPS)?;
         self.ops.reserve(1)?;
         self.sites.reserve(site)
     }
@@ -181,9 +183,9 @@ impl Log {
         op.lemma_has_spelling();
         let site = op.site();
         let entry = Entry {
-            index: self.ops.len(),
-            end: self.sites.file_len(site) + appended_bytes(&op),
             stamp: op.stamp(),
+            end: self.sites.file_len(site) + appended_bytes(&op),
+            index: self.ops.len() as u32,
         };
         self.ops.push_reserved(op);
         self.sites.push(site, entry);

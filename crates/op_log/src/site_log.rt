@@ -10,13 +10,16 @@ use looks::Refusal;
 use std::alloc::Global;
 use std::marker::Model;
 
-// Where an operation stands in the list of all, where its site's file ends after it, and its stamp.
+// An operation's stamp, where its site's file ends after it, and where it stands in the list of all, which has at most
+// 2^32.
 #[derive(Clone, Copy)]
 pub(crate) struct Entry {
-    pub(crate) index: usize,
-    pub(crate) end: u32,
     pub(crate) stamp: u64,
+    pub(crate) end: u32,
+    pub(crate) index: u32,
 }
+
+const _: () = prove!(size_of::<Entry>() == 16);
 
 // What is known of a site: its operations by their numbers, from 1 on.
 #[derive(Drop)]
@@ -119,7 +122,7 @@ impl SiteLog {
         if seq == 0 {
             return None;
         }
-        Some(self.entries.get(seq as usize - 1)?.index)
+        Some(self.entries.get(seq as usize - 1)?.index as usize)
     }
 
     // The first operation after which the site's file is longer than this.
