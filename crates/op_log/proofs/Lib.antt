@@ -1,5 +1,6 @@
 pub mod Files
 pub mod Finding
+pub mod Joined
 pub mod Lists
 pub mod Logged
 pub mod Pushed

@@ -1,8 +1,9 @@
 -- What the tables of a log tell.
 use Rattle.std.proofs.Common.{◌≡◌, ℕ, zero, suc, ◌-◌, ◌<◌, ◌≤◌, ◌↔◌, inl, inr, List, length}
-use Rattle.std.proofs.Common.{Option, Some, None, option_map, Contains, slice_get, get_or, refl, sym, ap, subst, ◌∙◌, arith}
+use Rattle.std.proofs.Common.{Option, Some, None, Contains, slice_get, get_or, refl, sym, ap, subst, ◌∙◌, arith}
 use Rattle.std.proofs.lemmas.Bool.{cases_lt}
 use Rattle.std.proofs.lemmas.Option.{slice_get-get_or, slice_get_past, slice_get_within}
+use Rattle.std.specs.Prelude.{IfSome, IsSome}
 use Rattle.std.specs.Option.{option_map_or}
 use Rattle.std.specs.List.Sorted.{IsNonDecreasingBy}
 use Rattle.char_files.specs.CharName.{CharName}
@@ -90,39 +91,45 @@ module _ {ops : List Operation} (known : AreIdentified ops) {site : ℕ} {t : Si
           omega arith
 
 -- what the tables tell of an identity: where its operation stands, or that none is held
-abbrev pub Tells : List Operation → ℕ → ℕ → Option ℕ → Type 0
-Tells ops site seq (Some index) =
-    (op : Operation) × (slice_get ops index ≡ Some op) × (op.site ≡ site) × (op.seq ≡ seq)
+abbrev pub Tells : List Operation → ℕ → ℕ → Option Entry → Type 0
+Tells ops site seq (Some e) =
+    (op : Operation) × (slice_get ops e.index ≡ Some op) × (op.site ≡ site) × (op.seq ≡ seq) × (e.stamp ≡ op.stamp)
 Tells ops site seq None = IsHeld ops site seq → ⊥
+
+pub told_here : (ops : List Operation) (site seq : ℕ) (told : Option Entry) → Tells ops site seq told
+    → IsSome told ↔ IsHeld ops site seq
+told_here ops site seq (Some e) (op, there, on, at, stamped) =
+    (λ some. (op, Contains-slice_get ops e.index op there, on, at), λ held. refl)
+told_here ops site seq None none = (λ some. absurd cc, λ held. absurd (none held))
+
+pub told_value : (ops : List Operation) (site seq : ℕ) (told : Option Entry) → Tells ops site seq told
+    → IfSome told (λ e. (op : Operation) × (slice_get ops e.index ≡ Some op) × (op.site ≡ site) × (op.seq ≡ seq)
+    × (e.stamp ≡ op.stamp))
+told_value ops site seq (Some e) told = told
+told_value ops site seq None none = tt
 
 module _ {ops : List Operation} {tables : Tables} {stamp : ℕ} (logged : AreLogged ops tables stamp) where
   -- what was answered by a table tells where the operation stands
-  pub index_tells : (site seq : ℕ) {found told : Option ℕ} → found ≡ told → (seq ≡ 0 → found ≡ None)
-      → (0 < seq
-      → found ≡ option_map (λ (e : Entry). e.index) (slice_get (table_of tables site).entries (seq - 1)))
-      → Tells ops site seq told
-  index_tells site zero is none some =
+  pub entry_tells : (site seq : ℕ) {found told : Option Entry} → found ≡ told → (seq ≡ 0 → found ≡ None)
+      → (0 < seq → found ≡ slice_get (table_of tables site).entries (seq - 1)) → Tells ops site seq told
+  entry_tells site zero is none some =
       subst (Tells ops site 0) (sym (none refl) ∙ is) (λ h. let counted = logged.known.counted h.0 h.1 in
       let at = h.3 in omega arith)
-  index_tells site (suc k) {found} {told} is none some =
+  entry_tells site (suc k) {found} {told} is none some =
       let t = table_of tables site in
       let table = logged.by_site site in
       let front = table.front in
       let index : suc k - 1 ≡ k = omega arith in
-      let by_entry : told ≡ option_map (λ (e : Entry). e.index) (slice_get t.entries k) =
-      sym is ∙ some (omega arith)
-      ∙ ap (λ (i : ℕ). option_map (λ (e : Entry). e.index) (slice_get t.entries i)) index in
+      let by_entry : told ≡ slice_get t.entries k =
+      sym is ∙ some (omega arith) ∙ ap (λ (i : ℕ). slice_get t.entries i) index in
       elim (cases_lt k (length t.entries)) [
         | inl within ↦
             let (e, there) = slice_get-some t.entries k within in
             let entry = table.entries k e there in
-            subst (Tells ops site (suc k))
-            (sym (by_entry ∙ ap (λ (o : Option Entry). option_map (λ (d : Entry). d.index) o) there))
-            (entry.op, entry.there, entry.on, entry.at)
+            subst (Tells ops site (suc k)) (sym (by_entry ∙ there))
+            (entry.op, entry.there, entry.on, entry.at, entry.stamped)
         | inr past ↦
-            subst (Tells ops site (suc k))
-            (sym (by_entry ∙ ap (λ (o : Option Entry). option_map (λ (d : Entry). d.index) o)
-            (slice_get_past t.entries k past)))
+            subst (Tells ops site (suc k)) (sym (by_entry ∙ slice_get_past t.entries k past))
             (λ h. let (op, held, on, at) = h in
             let le = within_front ops op site held on in omega arith)
       ]

@@ -1,6 +1,8 @@
 -- The sites that have operations, by the first operation of each.
 use Rattle.std.proofs.Common.{◌≡◌, ℕ, suc, ◌<◌, ◌↔◌, true, inl, inr, false, eqb, List, [], ◌∷◌, map}
 use Rattle.std.proofs.Common.{AllPairs, Contains, IsPermutation, get_or, sym, ap, subst, ◌∙◌, eq-eqb, arith}
+use Rattle.std.proofs.Common.{zero, ◌+◌, ◌++◌, ◌==◌, length, take, slice_get, if◌then◌else◌}
+use Rattle.std.specs.Prelude.{IfSome}
 use Rattle.std.specs.List.{IsDistinct}
 use Rattle.std.specs.List.Sorted.{IsNonDecreasing}
 use Rattle.std.proofs.lemmas.Bool.{cases_Bool, cases_eq, cond-true, cond-false, eqb-true, ne_eqb, both_ways}
@@ -26,6 +28,40 @@ with_first o ops e = ap (map (λ (x : Operation). x.site)) (cond-true _ _ _ e)
 without_other : (o : Operation) (ops : List Operation) → eqb o.seq 1 ≡ false
     → first_sites (o ∷ ops) ≡ first_sites ops
 without_other o ops e = ap (map (λ (x : Operation). x.site)) (cond-false _ _ _ e)
+
+-- one operation more
+first_of : (ops : List Operation) (k site seq : ℕ) → k < length ops
+    → IfSome (slice_get ops k) (λ op. (site ≡ op.site) × (seq ≡ op.seq))
+    → first_sites (take (suc k) ops) ≡ first_sites (take k ops) ++ (if seq == 1 then site ∷ [] else [])
+first_of [] k site seq lt told = absurd (omega arith)
+first_of (o ∷ ops) zero site seq lt (on, at) =
+    elim (cases_Bool (eqb o.seq 1)) [
+      | inl e ↦
+          with_first o [] e
+          ∙ sym (ap (λ (n : ℕ). if n == 1 then site ∷ [] else []) at ∙ cond-true _ _ _ e ∙ ap (λ (s : ℕ). s ∷ []) on)
+      | inr e ↦
+          without_other o [] e ∙ sym (ap (λ (n : ℕ). if n == 1 then site ∷ [] else []) at ∙ cond-false _ _ _ e)
+    ]
+first_of (o ∷ ops) (suc k) site seq lt told =
+    let more : List ℕ = if seq == 1 then site ∷ [] else [] in
+    let rest = first_of ops k site seq (omega arith) told in
+    elim (cases_Bool (eqb o.seq 1)) [
+      | inl e ↦
+          with_first o (take (suc k) ops) e ∙ ap (λ (xs : List ℕ). o.site ∷ xs) rest
+          ∙ sym (ap (λ (xs : List ℕ). xs ++ more) (with_first o (take k ops) e))
+      | inr e ↦
+          without_other o (take (suc k) ops) e ∙ rest
+          ∙ sym (ap (λ (xs : List ℕ). xs ++ more) (without_other o (take k ops) e))
+    ]
+
+pub first_sites_more : (ops : List Operation) (k site seq : ℕ) → k < length ops
+    → IfSome (slice_get ops k) (λ op. (site ≡ op.site) × (seq ≡ op.seq)) → (old new : List ℕ)
+    → old ≡ first_sites (take k ops) → new ≡ old ++ (if seq == 1 then site ∷ [] else [])
+    → new ≡ first_sites (take (k + 1) ops)
+first_sites_more ops k site seq lt told old new was is =
+    let next : suc k ≡ k + 1 = omega arith in
+    is ∙ ap (λ (xs : List ℕ). xs ++ (if seq == 1 then site ∷ [] else [])) was
+    ∙ sym (first_of ops k site seq lt told) ∙ ap (λ (n : ℕ). first_sites (take n ops)) next
 
 -- such a site has a first operation
 told_by_first : (ops : List Operation) (site : ℕ) → Contains (first_sites ops) site

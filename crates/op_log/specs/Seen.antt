@@ -4,6 +4,11 @@ use Rattle.std.specs.Option.{option_map_or}
 use Rattle.std.specs.Map.{lookup}
 use Rattle.operations.specs.Operation.{Operation}
 
+-- operations in order, and for how many more there is room
+pub record OpsSeen : Type 0 where
+  pub items : List Operation
+  pub room : ℕ
+
 -- the operations in the order of their taking, for how many more the list has room, and for how many more of
 -- each site there is room beside it
 pub record LogSeen : Type 0 where

@@ -1,11 +1,7 @@
 -- The tables that say where a site's operations stand.
 use Rattle.std.specs.Prelude.{◌≡◌, ℕ, ◌-◌, ◌<◌, ◌≤◌, nat_eq, List, [], length, map, slice_get, get_or, Some}
-use Rattle.std.specs.Prelude.{min, vec_len, vec_capacity}
 use Rattle.std.specs.Option.{option_map_or}
 use Rattle.std.specs.Map.{lookup}
-use Rattle.std.specs.declared.vec.Vec.{Vec}
-use Rattle.std.specs.declared.alloc.Global.{Global}
-use Rattle.op_log.specs.declared.TheConstants.{MAX_OPS}
 use Rattle.op_log.specs.declared.site_log.Entry.{Entry}
 
 -- what is known of a site: its operations by their numbers, and how many operations more take no memory
@@ -51,7 +47,3 @@ front_in tables site = length (table_of tables site).entries
 -- how many operations more of each site take no memory
 abbrev pub rooms_of : Tables → List (ℕ × ℕ)
 rooms_of tables = map (λ t. (t.0, t.1.room)) tables
-
--- how many operations more take no memory in the list: there is a place for each, and 32 bits can tell it
-abbrev pub list_room : {T : Type 0} → Vec T Global → ℕ
-list_room ops = min (vec_capacity ops) MAX_OPS - vec_len ops

@@ -3,6 +3,7 @@
 
 mod limits;
 mod log;
+mod op_list;
 mod site_log;
 mod site_tables;
 

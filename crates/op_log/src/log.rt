@@ -1,15 +1,15 @@
 ghost use Rattle.std.specs.Prelude.{◌≡◌, ◌+◌, ◌≤◌, ◌↔◌, [], ◌∷◌, ◌++◌, length, IfSome, IsSome, OnOk};
-ghost use Rattle.std.specs.Prelude.{◌≢◌, AllPairs, Contains, IfOk, IsTrue};
+ghost use Rattle.std.specs.Prelude.{◌≢◌, ◌<◌, AllPairs, Contains, IfOk, IsTrue, MatchBool, Some as Just, slice_get, ◌==◌, if◌then◌else◌};
 ghost use Rattle.looks.specs.Refusal.{RefusedForMemoryAlone};
 ghost use Rattle.operations.specs.Operation.{Operation, appended_len, Begins};
 ghost use Rattle.tree_order.specs.Tree.{IsInsertOf};
 ghost use Rattle.set_laws.specs.Fronts.{front_of, file_len, greatest_stamp};
 ghost use Rattle.set_laws.specs.Fronts.{IsHeld, IsHere, AreSites};
-ghost use Rattle.set_laws.specs.Sets.{AreIdentified, AreHeldToTheFront};
+ghost use Rattle.set_laws.specs.Sets.{AreIdentified, AreHeldToTheFront, IsInConflict};
 ghost use Rattle.op_log.specs.Seen.{HasRoom, KeepsRoom};
 ghost use Rattle.op_log.specs.Logged.{first_sites};
 
-use crate::MAX_OPS;
+use crate::op_list::OpList;
 use crate::site_log::Entry;
 use crate::site_tables::SiteTables;
 use char_files::{MAX_FILE, Name, SiteNo};
@@ -24,7 +24,7 @@ use std::marker::Model;
 #[derive(Drop)]
 pub struct Log {
     // In the order of their taking.
-    ops: Vec<Op>,
+    ops: OpList,
     sites: SiteTables,
     // The greatest stamp.
     stamp: u64,
@@ -32,14 +32,14 @@ pub struct Log {
 
 impl Model for Log {
     ghost use Rattle.op_log.specs.Seen.{LogSeen};
-    ghost use Rattle.op_log.specs.Tables.{list_room, rooms_of};
+    ghost use Rattle.op_log.specs.Tables.{rooms_of};
     ghost use Rattle.op_log.specs.Logged.{AreLogged};
 
     ghost Value = { LogSeen };
 
     ghost view = { λ l. record {
       ops = l.ops.items;
-      room = list_room l.ops;
+      room = l.ops.room;
       rooms = rooms_of l.sites;
     } };
 
@@ -58,13 +58,28 @@ fn appended_bytes(op: &Op) -> u32
     }
 }
 
-// The sites of the operations that are the first of theirs. Refused `OutOfMemory` alone.
-fn first_sites(alloc: Global, ops: &[Op]) -> Result<Vec<SiteNo>, Refusal>
-    ensures ok { IfOk result (λ sites. sites.items ≡ first_sites ops.now) }
+// Puts the site of an operation at the end, if that is its first. Refused `OutOfMemory` alone.
+fn add_first(sites: &mut Vec<SiteNo>, site: SiteNo, seq: u32) -> Result<(), Refusal>
+    ensures ok { OnOk result (sites.new.items ≡ sites.old.items ++ (if seq == 1 then site ∷ [] else [])) }
     ensures errors { RefusedForMemoryAlone result }
 {
-    let firsts = ops.iter().filter(|op| op.seq() == 1);
-    Ok(firsts.map(|op| op.site()).collect(alloc)?)
+    if seq == 1 {
+        sites.push(site)?;
+    }
+    Ok(())
+}
+
+// The sites of the operations that are the first of theirs. Refused `OutOfMemory` alone.
+fn first_sites(ops: &OpList) -> Result<Vec<SiteNo>, Refusal>
+    ensures ok { IfOk result (λ sites. sites.items ≡ first_sites ops.now.items) }
+    ensures errors { RefusedForMemoryAlone result }
+{
+    let mut sites = Vec::new(ops.alloc());
+    for at in 0..ops.len() {
+        let (site, seq) = ops.identity(at);
+        add_first(&mut sites, site, seq)?;
+    }
+    Ok(sites)
 }
 
 impl Log {
@@ -73,7 +88,7 @@ impl Log {
         ensures { result.ops ≡ [] }
     {
         Log {
-            ops: Vec::new(alloc),
+            ops: OpList::new(alloc),
             sites: SiteTables::new(alloc),
             stamp: 0,
         }
@@ -86,21 +101,92 @@ impl Log {
         self.ops.len() as u64
     }
 
-    /// The operations in the order of their taking.
-    pub fn ops(&self) -> &[Op]
-        ensures { result.now ≡ self.now.ops }
+    /// The operation that was taken in at this place, from 0. Refused `OutOfMemory` alone.
+    pub fn op(&self, place: u64) -> Result<Op, Refusal>
+        requires { place < length self.now.ops }
+        ensures ok { IfOk result (λ op. slice_get self.now.ops place ≡ Just op) }
+        ensures errors { RefusedForMemoryAlone result }
     {
-        self.ops.as_slice()
+        self.ops.get(place as usize)
     }
 
-    /// The operation of this identity, if it is held. It reads one entry of a table.
-    pub fn get(&self, site: SiteNo, seq: u32) -> Option<&Op>
-        ensures here { IsSome result ↔ IsHeld self.now.ops site seq }
-        ensures value { IfSome result (λ op.
-            Contains self.now.ops op.now × (op.now.site ≡ site) × (op.now.seq ≡ seq)) }
+    /// Whose the operation is that was taken in at this place, and its number. It takes no memory.
+    pub fn identity(&self, place: u64) -> (SiteNo, u32)
+        requires { place < length self.now.ops }
+        ensures { IfSome (slice_get self.now.ops place) (λ op. (result.0 ≡ op.site) × (result.1 ≡ op.seq)) }
     {
-        let index = self.sites.index(site, seq)?;
-        Some(&self.ops[index])
+        self.ops.identity(place as usize)
+    }
+
+    // What is known of the operation of this identity, if it is held.
+    fn entry(&self, site: SiteNo, seq: u32) -> Option<Entry>
+        ensures here { IsSome result ↔ IsHeld self.now.ops site seq }
+        ensures value { IfSome result (λ e. (op : Operation) × (slice_get self.now.ops e.index ≡ Just op)
+            × (op.site ≡ site) × (op.seq ≡ seq) × (e.stamp ≡ op.stamp)) }
+    {
+        self.sites.entry(site, seq)
+    }
+
+    /// Whether an operation of this identity is held. It reads one entry of a table.
+    pub fn holds(&self, site: SiteNo, seq: u32) -> bool
+        ensures { IsTrue result ↔ IsHeld self.now.ops site seq }
+    {
+        self.entry(site, seq).is_some()
+    }
+
+    /// The stamp of the operation of this identity, which is held.
+    pub fn op_stamp(&self, site: SiteNo, seq: u32) -> u64
+        requires { IsHeld self.now.ops site seq }
+        ensures { (p : Operation) → Contains self.now.ops p → p.site ≡ site → p.seq ≡ seq → result ≡ p.stamp }
+    {
+        self.lemma_are_held_to_the_front();
+        match self.entry(site, seq) {
+            Some(entry) => entry.stamp,
+            None => unreachable!(),
+        }
+    }
+
+    /// Whether no other operation is held under this one's identity. It takes no memory.
+    pub fn agrees_on(&self, op: &Op) -> bool
+        ensures { MatchBool result (AreIdentified (self.now.ops ++ op.now ∷ []))
+            (IsInConflict self.now.ops op.now) }
+    {
+        self.lemma_are_held_to_the_front();
+        op.lemma_has_spelling();
+        match self.entry(op.site(), op.seq()) {
+            Some(entry) => self.ops.is_at(entry.index as usize, op),
+            None => true,
+        }
+    }
+
+    // The same of the operation at a place of another log.
+    fn agrees_at(&self, other: &Log, place: usize) -> bool
+        requires { place < length other.now.ops }
+        ensures { (op : Operation) → slice_get other.now.ops place ≡ Just op
+            → MatchBool result (AreIdentified (self.now.ops ++ op ∷ [])) (IsInConflict self.now.ops op) }
+    {
+        self.lemma_are_held_to_the_front();
+        other.lemma_are_held_to_the_front();
+        let (site, seq) = other.ops.identity(place);
+        match self.entry(site, seq) {
+            Some(entry) => self.ops.is_same_at(entry.index as usize, &other.ops, place),
+            None => true,
+        }
+    }
+
+    /// Whether no identity is held with two operations, here and there. It takes no memory.
+    pub fn agrees_with(&self, other: &Log) -> bool
+        ensures { MatchBool result (AreIdentified (self.now.ops ++ other.now.ops))
+            ((op : Operation) × Contains other.now.ops op × IsInConflict self.now.ops op) }
+    {
+        self.lemma_are_held_to_the_front();
+        other.lemma_are_held_to_the_front();
+        for place in 0..other.ops.len() {
+            if !self.agrees_at(other, place) {
+                return false;
+            }
+        }
+        true
     }
 
     /// The front of a site: the greatest seq of its operations, 0 for none.
@@ -142,7 +228,7 @@ impl Log {
         ensures ok { IfOk result (λ sites. AreSites self.now.ops sites.items) }
         ensures errors { RefusedForMemoryAlone result }
     {
-        let mut sites = first_sites(*self.ops.allocator(), &self.ops)?;
+        let mut sites = first_sites(&self.ops)?;
         sites.sort_unstable_by_key(|site| site.get());
         Ok(sites)
     }
@@ -167,8 +253,7 @@ impl Log {
         ensures ops { self.new.ops ≡ self.old.ops }
         ensures keeps { KeepsRoom self.old self.new }
     {
-        Refusal::within_memory(self.ops.len() + 1, MAX_OPS)?;
-        self.ops.reserve(1)?;
+        self.ops.reserve()?;
         self.sites.reserve(site)
     }
 
@@ -187,7 +272,7 @@ impl Log {
             end: self.sites.file_len(site) + appended_bytes(&op),
             index: self.ops.len() as u32,
         };
-        self.ops.push_reserved(op);
+        self.ops.push(op);
         self.sites.push(site, entry);
         self.stamp = entry.stamp.max(self.stamp);
     }

@@ -114,15 +114,15 @@ impl SiteLog {
         }
     }
 
-    // Where the operation of this number stands in the list of all.
-    pub(crate) fn index(&self, seq: u32) -> Option<usize>
+    // What is known of the operation of this number.
+    pub(crate) fn entry(&self, seq: u32) -> Option<Entry>
         ensures none { seq ≡ 0 → result ≡ Nothing }
-        ensures value { 0 < seq → result ≡ option_map (λ e. e.index) (slice_get self.now.entries (seq - 1)) }
+        ensures value { 0 < seq → result ≡ slice_get self.now.entries (seq - 1) }
     {
         if seq == 0 {
             return None;
         }
-        Some(self.entries.get(seq as usize - 1)?.index as usize)
+        Some(*self.entries.get(seq as usize - 1)?)
     }
 
     // The first operation after which the site's file is longer than this.

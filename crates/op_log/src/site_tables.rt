@@ -60,13 +60,12 @@ impl SiteTables {
         }
     }
 
-    // Where the site's operation of this number stands in the list of all.
-    pub(crate) fn index(&self, site: SiteNo, seq: u32) -> Option<usize>
+    // What is known of the site's operation of this number.
+    pub(crate) fn entry(&self, site: SiteNo, seq: u32) -> Option<Entry>
         ensures none { seq ≡ 0 → result ≡ Nothing }
-        ensures value { 0 < seq → result
-            ≡ option_map (λ e. e.index) (slice_get (table_of self.now site).entries (seq - 1)) }
+        ensures value { 0 < seq → result ≡ slice_get (table_of self.now site).entries (seq - 1) }
     {
-        self.sites.get(&site.get())?.index(seq)
+        self.sites.get(&site.get())?.entry(seq)
     }
 
     // The first operation of the name's site after which that one's file has the name.

@@ -2,7 +2,6 @@ pub mod AllPass
 pub mod Causes
 pub mod Chars
 pub mod Draining
-pub mod Joined
 pub mod Kept
 pub mod KeptStretch
 pub mod Made

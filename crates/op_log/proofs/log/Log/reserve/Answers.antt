@@ -1,22 +1,19 @@
-use Rattle.std.proofs.Common.{rules, ◌<◌, arith}
+use Rattle.std.proofs.Common.{rules, ◌<◌}
 use Rattle.std.proofs.lemmas.Result.{on_ok_weaker}
-use Rattle.op_log.specs.Tables.{list_room}
 use Rattle.op_log.proofs.Rooms.{has_room, rooms_kept}
 use Rattle.op_log.proofs.log.Log.reserve.Goals as goal
 
 pub returns-clause-ok : goal.returns-clause-ok
 returns-clause-ok c =
     let list = c.reserve.new.self in
-    let free : 0 < list_room list = search rules in
+    let free : 0 < list.room = search rules in
     on_ok_weaker c.reserve-2.result
-    (has_room list.items (list_room list) c.reserve-2.new.self c.args.site free)
+    (has_room list.items list.room c.reserve-2.new.self c.args.site free)
     c.reserve-2.ensures.ok
 
 pub returns-clause-keeps : goal.returns-clause-keeps
 returns-clause-keeps c =
-    let len = c.reserve.ensures.len in
-    let cap = c.reserve.ensures.capacity in
     rw (← c.self.view_is) (record {
-      list = omega arith;
+      list = c.reserve.ensures.room;
       sites = rooms_kept c.self.inside.sites c.reserve-2.new.self c.reserve-2.ensures.rooms;
     })

@@ -1,4 +1,4 @@
-use Rattle.std.proofs.Common.{rules, ◌≡◌, ℕ, List, IsPermutation, ap, subst, ◌∙◌}
+use Rattle.std.proofs.Common.{rules, ◌≡◌, ℕ, List, IsPermutation, subst}
 use Rattle.std.specs.List.Sorted.{IsNonDecreasing}
 use Rattle.std.proofs.lemmas.List.Sorted.{IsNonDecreasingBy-from_sort_by_key}
 use Rattle.op_log.specs.Logged.{first_sites}
@@ -11,7 +11,7 @@ returns-clause-ok c =
     let l = c.self.inside in
     let sites = c.sort_unstable_by_key.new.self.items in
     let firsts : c.in_ok-sites.sites.items ≡ first_sites l.ops.items =
-    c.in_ok-sites.ensures.ok ∙ ap first_sites c.deref.ensures.value in
+    c.in_ok-sites.ensures.ok in
     let perm : IsPermutation (first_sites l.ops.items) sites =
     subst (λ (xs : List ℕ). IsPermutation xs sites) firsts c.sort_unstable_by_key.ensures.permutation in
     let sorted : IsNonDecreasing sites =

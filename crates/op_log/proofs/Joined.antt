@@ -1,15 +1,17 @@
 -- Identities of two lists together.
-use Rattle.std.proofs.Common.{◌≡◌, ◌↔◌, ℕ, ◌<◌, inl, inr, Bool, true, false, List, [], ◌∷◌, ◌++◌, length, refl, sym, ap}
-use Rattle.std.proofs.Common.{subst, ◌∙◌, arith, get_or}
+use Rattle.std.proofs.Common.{◌≡◌, ◌↔◌, ℕ, ◌<◌, inl, inr, Bool, true, false, List, [], ◌∷◌, ◌++◌, refl, sym, ap}
+use Rattle.std.proofs.Common.{subst, ◌∙◌}
 use Rattle.std.specs.Prelude.{Contains, MatchBool}
-use Rattle.std.specs.List.{AllWithin, HoldsAt}
+use Rattle.std.proofs.Common.{Some, slice_get}
 use Rattle.std.proofs.lemmas.Bool.{false≢true}
-use Rattle.std.proofs.lemmas.List.Elements.{Contains-append_cases, Contains-append_left, Contains-get_or, Contains-push}
+use Rattle.std.proofs.lemmas.Option.{same_Some}
+use Rattle.std.proofs.lemmas.List.Elements.{Contains-append_cases, Contains-append_left, Contains-push}
 use Rattle.std.proofs.lemmas.List.Elements.{Contains-push_cases}
 use Rattle.operations.specs.Operation.{Operation}
 use Rattle.set_laws.specs.Fronts.{IsHeld}
 use Rattle.set_laws.specs.Sets.{AreIdentified, IsInConflict}
 use Rattle.set_laws.proofs.Lengths.{part_identified}
+use Rattle.op_log.proofs.Lists.{Contains-slice_get}
 
 -- an operation that is held agrees with all that are
 known_with_held : (ops : List Operation) (op : Operation) → AreIdentified ops → Contains ops op
@@ -60,8 +62,17 @@ agrees_by ops op held true known here site seq told =
     known_with_held ops op known (subst (Contains ops) (told.0 refl) here)
 agrees_by ops op held false known here site seq told = (held, here, site, seq, λ is. false≢true (told.1 is))
 
+-- the same, where the one that is held stands at a place of the list
+pub agrees_there : (ops : List Operation) (op held : Operation) (at : ℕ) (same : Bool) → AreIdentified ops
+    → slice_get ops at ≡ Some held → held.site ≡ op.site → held.seq ≡ op.seq
+    → (same ≡ true) ↔ (slice_get ops at ≡ Some op)
+    → MatchBool same (AreIdentified (ops ++ op ∷ [])) (IsInConflict ops op)
+agrees_there ops op held at same known there site seq told =
+    agrees_by ops op held same known (Contains-slice_get ops at held there) site seq
+    (λ is. same_Some held op (sym there ∙ told.0 is), λ is. told.1 (there ∙ ap (λ (o : Operation). Some o) is))
+
 -- where each operation of b agrees with a, they are identified together
-joined : (a b : List Operation) → AreIdentified a → AreIdentified b
+pub joined : (a b : List Operation) → AreIdentified a → AreIdentified b
     → ((op : Operation) → Contains b op → AreIdentified (a ++ op ∷ [])) → AreIdentified (a ++ b)
 joined a b known known' each =
     let mixed : (x y : Operation) → Contains a x → Contains b y → x.site ≡ y.site → x.seq ≡ y.seq → x ≡ y =
@@ -82,20 +93,3 @@ joined a b known known' each =
         ]
       ];
     }
-
--- each operation of b agrees with a, or one doesn't
-abbrev pub AgreeOrNot : (a b : List Operation) → Bool → Type 0
-AgreeOrNot a b r =
-    MatchBool r (AllWithin (λ op. AreIdentified (a ++ op ∷ [])) b 0 (length b))
-    ((k : ℕ) × (k < length b) × HoldsAt (IsInConflict a) b k)
-
--- so both are identified together, or are in conflict
-pub agree_or_not : (a b : List Operation) (r : Bool) → AreIdentified a → AreIdentified b → AgreeOrNot a b r
-    → MatchBool r (AreIdentified (a ++ b)) ((op : Operation) × Contains b op × IsInConflict a op)
-agree_or_not a b true known known' each =
-    joined a b known known'
-    (λ op held. let (k, lt, is) = held in
-    subst (λ (o : Operation). AreIdentified (a ++ o ∷ [])) is (each k op (omega arith) lt))
-agree_or_not a [] false known known' (k, lt, not) = absurd (omega arith)
-agree_or_not a (o ∷ b) false known known' (k, lt, not) =
-    (get_or (o ∷ b) k o, Contains-get_or (o ∷ b) k o lt, not o)
