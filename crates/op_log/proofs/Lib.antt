@@ -6,3 +6,4 @@ pub mod Logged
 pub mod Pushed
 pub mod Rooms
 pub mod Sites
+pub mod Stretches

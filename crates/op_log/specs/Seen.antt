@@ -2,11 +2,13 @@
 use Rattle.std.specs.Prelude.{ℕ, ◌<◌, ◌≤◌, nat_eq, List}
 use Rattle.std.specs.Option.{option_map_or}
 use Rattle.std.specs.Map.{lookup}
+use Rattle.looks.specs.declared.looks.Looks.{Looks}
 use Rattle.operations.specs.Operation.{Operation}
 
--- operations in order, and for how many more there is room
+-- operations in order, the looks that runs of letters among them share, and for how many more there is room
 pub record OpsSeen : Type 0 where
   pub items : List Operation
+  pub looks : List Looks
   pub room : ℕ
 
 -- the operations in the order of their taking, for how many more the list has room, and for how many more of

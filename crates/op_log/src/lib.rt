@@ -1,11 +1,13 @@
 //! The operations that a replica has taken in, found by their identities at once.
 #![tactic(auto)]
 
+mod found;
 mod limits;
 mod log;
 mod op_list;
 mod site_log;
 mod site_tables;
+mod stretch;
 
 pub use limits::the_limits;
 pub use log::Log;

@@ -1,31 +1,76 @@
-ghost use Rattle.std.specs.Prelude.{◌≡◌, ◌+◌, ◌<◌, ◌≤◌, ◌↔◌, [], ◌∷◌, ◌++◌, length, slice_get, IfOk, IfSome, IsTrue, OnOk, Some as Just};
+ghost use Rattle.std.specs.Prelude.{◌≡◌, ℕ, ◌+◌, ◌-◌, ◌<◌, ◌≤◌, ◌↔◌, [], ◌∷◌, ◌++◌, length, slice_get, slice_index_or};
+ghost use Rattle.std.specs.Prelude.{All, IfOk, IfSome, IsTrue, OnOk, Some as Just};
 ghost use Rattle.looks.specs.Refusal.{RefusedForMemoryAlone};
+ghost use Rattle.operations.specs.Operation.{insert};
+ghost use Rattle.op_log.specs.Found.{found_op, IsSound};
+ghost use Rattle.op_log.specs.Stretches.{anchor_of};
 ghost use Rattle.op_log.specs.declared.TheConstants.{MAX_OPS};
 
 use crate::MAX_OPS;
+use crate::found::{Found, are_same, identity_of, made};
+use crate::stretch::{Stretch, TypedRun, lengthen, letter_in, next_byte, number_of, push_single};
 use char_files::SiteNo;
-use looks::Refusal;
+use looks::{Looks, Refusal};
 use operations::Op;
 use std::alloc::Global;
 use std::marker::Model;
 
-/// Operations in order. This project's own.
+// The most looks of a list, so that the number of each has 32 bits.
+const MAX_LOOKS: usize = u32::MAX as usize;
+
+/// Operations in order: letters that were typed one after the other take a byte each. This project's own.
 #[derive(Drop)]
 pub(crate) struct OpList {
-    ops: Vec<Op>,
+    stretches: Vec<Stretch>,
+    // How many operations stand before each stretch.
+    firsts: Vec<u32>,
+    // What the stretches share: the bytes of letters, the looks of runs, and the operations that stand alone.
+    bytes: Vec<u8>,
+    looks: Vec<Looks>,
+    singles: Vec<Op>,
+    len: usize,
     alloc: Global,
 }
 
 impl Model for OpList {
     ghost use Rattle.std.specs.Prelude.{◌-◌, ◌≤◌, min, vec_len, vec_capacity};
     ghost use Rattle.op_log.specs.Seen.{OpsSeen};
+    ghost use Rattle.op_log.specs.Stretches.{AreStretches, all_ops, room_in, shared};
     ghost use Rattle.op_log.specs.declared.TheConstants.{MAX_OPS};
+    ghost use Rattle.op_log.specs.declared.op_list.TheConstants.{MAX_LOOKS};
 
     ghost Value = { OpsSeen };
 
-    ghost view = { λ l. record { items = l.ops.items; room = min (vec_capacity l.ops) MAX_OPS - vec_len l.ops } };
+    ghost view = { λ l. record {
+      looks = l.looks.items;
+      items = all_ops (shared l.bytes.items l.looks.items l.singles.items) l.stretches.items;
+      room = room_in l.stretches l.firsts l.bytes l.looks l.singles l.len;
+    } };
 
-    ghost invariant = { λ l. vec_len l.ops ≤ MAX_OPS };
+    ghost invariant = { λ l.
+        AreStretches (shared l.bytes.items l.looks.items l.singles.items) l.stretches.items l.firsts.items l.len
+        × (l.len ≤ MAX_OPS) × (vec_len l.looks ≤ MAX_LOOKS) };
+}
+
+// The slot of the last number that isn't above this one. The first is 0.
+fn slot_of(firsts: &[u32], at: usize) -> usize
+    requires some { 0 < length firsts.now }
+    requires first { (d : ℕ) → slice_index_or firsts.now 0 d ≡ 0 }
+    ensures within { result < length firsts.now }
+    ensures low { (d : ℕ) → slice_index_or firsts.now result d ≤ at }
+    ensures high { (d : ℕ) → result + 1 < length firsts.now → at < slice_index_or firsts.now (result + 1) d }
+{
+    let mut low = 0;
+    let mut high = firsts.len();
+    while 1 < high - low {
+        let middle = low + (high - low) / 2;
+        if firsts[middle] as usize <= at {
+            low = middle;
+        } else {
+            high = middle;
+        }
+    }
+    low
 }
 
 impl OpList {
@@ -33,7 +78,12 @@ impl OpList {
         ensures { result.items ≡ [] }
     {
         OpList {
-            ops: Vec::new(alloc),
+            stretches: Vec::new(alloc),
+            firsts: Vec::new(alloc),
+            bytes: Vec::new(alloc),
+            looks: Vec::new(alloc),
+            singles: Vec::new(alloc),
+            len: 0,
             alloc,
         }
     }
@@ -46,7 +96,7 @@ impl OpList {
         ensures value { result ≡ length self.now.items }
         ensures few { length self.now.items + self.now.room ≤ MAX_OPS }
     {
-        self.ops.len()
+        self.len
     }
 
     // Makes room for one operation more. Refused `OutOfMemory` alone, which is also where there are 2^32.
@@ -56,9 +106,68 @@ impl OpList {
         ensures items { self.new.items ≡ self.old.items }
         ensures room { self.old.room ≤ self.new.room }
     {
-        Refusal::within_memory(self.ops.len() + 1, MAX_OPS)?;
-        self.ops.reserve(1)?;
+        Refusal::within_memory(self.len + 1, MAX_OPS)?;
+        Refusal::within_memory(self.looks.len() + 1, MAX_LOOKS)?;
+        self.stretches.reserve(1)?;
+        self.firsts.reserve(1)?;
+        self.bytes.reserve(1)?;
+        self.looks.reserve(1)?;
+        self.singles.reserve(1)?;
         Ok(())
+    }
+
+    // Puts a letter at the end that goes on where the last run ends; `false` where the operation is none.
+    fn go_on(&mut self, op: &Op) -> bool
+        requires { 0 < self.old.room }
+        ensures goes_on { IsTrue result → self.new.items ≡ self.old.items ++ op.now ∷ [] }
+        ensures otherwise { ¬ IsTrue result → self.new ≡ self.old }
+    {
+        op.lemma_has_spelling();
+        let Some(byte) = next_byte(&self.stretches, &self.looks, op) else {
+            return false;
+        };
+        self.bytes.push_reserved(byte);
+        lengthen(&mut self.stretches);
+        self.len += 1;
+        true
+    }
+
+    // Puts a letter at the end that begins a run.
+    fn begin(&mut self, op: &Op, cause: (u16, u32), at: u32, looks: &Looks, byte: u8)
+        requires letter { op.now.kind ≡ insert (anchor_of cause.0 cause.1) at looks.now (byte ∷ []) }
+        requires cause { cause.1 < 16777216 }
+        requires room { 0 < self.old.room }
+        ensures { self.new.items ≡ self.old.items ++ op.now ∷ [] }
+    {
+        op.lemma_has_spelling();
+        let run = TypedRun {
+            stamp: op.stamp(),
+            from: self.bytes.len(),
+            seq: op.seq(),
+            at,
+            looks: number_of(&mut self.looks, looks),
+            len: 1,
+            cause_site: cause.0,
+            cause_off: cause.1,
+            text: op.text(),
+            site: op.site(),
+        };
+        self.bytes.push_reserved(byte);
+        self.stretches.push_reserved(Stretch::Typed(run));
+        self.firsts.push_reserved(self.len as u32);
+        self.len += 1;
+    }
+
+    // Puts an operation at the end that stands alone.
+    fn push_single(&mut self, op: Op)
+        requires { 0 < self.old.room }
+        ensures { self.new.items ≡ self.old.items ++ op ∷ [] }
+    {
+        op.lemma_has_spelling();
+        push_single(&mut self.stretches, self.singles.len());
+        self.singles.push_reserved(op);
+        self.firsts.push_reserved(self.len as u32);
+        self.len += 1;
     }
 
     // Puts an operation at the end.
@@ -66,7 +175,30 @@ impl OpList {
         requires { 0 < self.old.room }
         ensures items { self.new.items ≡ self.old.items ++ op ∷ [] }
     {
-        self.ops.push_reserved(op);
+        if self.go_on(&op) {
+            return;
+        }
+        match letter_in(&op) {
+            Some((cause, at, looks, byte)) => self.begin(&op, cause, at, looks, byte),
+            None => self.push_single(op),
+        }
+    }
+
+    // What stands at this place.
+    fn found(&self, at: usize) -> Found<'_>
+        requires { at < length self.now.items }
+        ensures { (slice_get self.now.items at ≡ Just (found_op self.now.looks result)) × IsSound self.now.looks result }
+    {
+        let slot = slot_of(&self.firsts, at);
+        let k = at - self.firsts[slot] as usize;
+        match self.stretches[slot] {
+            Stretch::Typed(run) => Found::Letter {
+                run,
+                k: k as u32,
+                byte: self.bytes[run.from + k],
+            },
+            Stretch::Single(single) => Found::Single(&self.singles[single]),
+        }
     }
 
     // The operation at this place. Refused `OutOfMemory` alone.
@@ -75,7 +207,7 @@ impl OpList {
         ensures ok { IfOk result (λ op. slice_get self.now.items at ≡ Just op) }
         ensures errors { RefusedForMemoryAlone result }
     {
-        self.ops[at].copy()
+        made(self.alloc, &self.looks, &self.found(at))
     }
 
     // Whose it is, and its number.
@@ -83,8 +215,7 @@ impl OpList {
         requires { at < length self.now.items }
         ensures { IfSome (slice_get self.now.items at) (λ op. (result.0 ≡ op.site) × (result.1 ≡ op.seq)) }
     {
-        let op = &self.ops[at];
-        (op.site(), op.seq())
+        identity_of(&self.looks, &self.found(at))
     }
 
     // Whether this one stands at this place.
@@ -92,7 +223,12 @@ impl OpList {
         requires { at < length self.now.items }
         ensures { IsTrue result ↔ (slice_get self.now.items at ≡ Just op.now) }
     {
-        self.ops[at].is_same(op)
+        are_same(
+            &self.looks,
+            &self.found(at),
+            &self.looks,
+            &Found::Single(op),
+        )
     }
 
     // Whether the same one stands at a place of another list.
@@ -101,6 +237,11 @@ impl OpList {
         requires there { there < length other.now.items }
         ensures { IsTrue result ↔ (slice_get self.now.items at ≡ slice_get other.now.items there) }
     {
-        self.ops[at].is_same(&other.ops[there])
+        are_same(
+            &self.looks,
+            &self.found(at),
+            &other.looks,
+            &other.found(there),
+        )
     }
 }
