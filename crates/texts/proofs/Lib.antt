@@ -16,6 +16,7 @@ pub mod OwnParts
 pub mod OwnPieces
 pub mod OwnStep
 pub mod OwnStretch
+pub mod Parts
 pub mod Pasts
 pub mod Pieces
 pub mod Restored

@@ -7,6 +7,7 @@ pub mod Named
 pub mod Order
 pub mod Outcome
 pub mod Own
+pub mod Parts
 pub mod Past
 pub mod Pieces
 pub mod SiteFiles

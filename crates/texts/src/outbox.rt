@@ -1,21 +1,48 @@
-ghost use Rattle.std.specs.Prelude.{◌≡◌, ◌≢◌, ℕ, ◌<◌, ◌↔◌, List, [], ◌∷◌, ◌++◌, length, slice_get, is_ok};
-ghost use Rattle.std.specs.Prelude.{if◌then◌else◌, IsTrue};
+ghost use Rattle.std.specs.Prelude.{◌≡◌, ◌≢◌, ℕ, ◌<◌, ◌≤◌, ◌↔◌, List, [], ◌∷◌, ◌++◌, length, slice_get};
+ghost use Rattle.std.specs.Prelude.{IsTrue, OnErr, OnOk, slice_range};
+ghost use Rattle.looks.specs.Refusal.{RefusedForMemoryAlone};
+ghost use Rattle.operations.specs.Spelling.{spelling};
+ghost use Rattle.texts.specs.Parts.{beg_of};
 
-use std::alloc::{AllocError, Global};
+use looks::Refusal;
+use operations::{Op, encode};
+use std::alloc::Global;
 use std::marker::Model;
 
 /// The messages that were sent, in order. One Outbox may serve many texts. This project's own.
 #[derive(Debug, Drop)]
 pub struct Outbox {
-    messages: Vec<Vec<u8>>,
+    // All messages, one directly after the other, and where each ends.
+    bytes: Vec<u8>,
+    ends: Vec<usize>,
 }
 
 impl Model for Outbox {
-    ghost use Rattle.std.specs.Prelude.{ℕ, List, map};
+    ghost use Rattle.std.specs.Prelude.{ℕ, List, length};
+    ghost use Rattle.texts.specs.Parts.{AreEnds, parts};
 
     ghost Value = { List (List ℕ) };
 
-    ghost view = { λ o. map (λ message. message.items) o.messages.items };
+    ghost view = { λ o. parts o.bytes.items 0 o.ends.items };
+
+    ghost invariant = { λ o. AreEnds 0 o.ends.items (length o.bytes.items) };
+}
+
+// Where the part of this index begins: where the one before it ends.
+fn beg_of(ends: &[usize], index: usize) -> usize
+    requires { index ≤ length ends.now }
+    ensures { result ≡ beg_of ends.now index }
+{
+    if index == 0 { 0 } else { ends[index - 1] }
+}
+
+// The bytes between two positions.
+fn part(bytes: &[u8], beg: usize, end: usize) -> &[u8]
+    requires beg { beg ≤ end }
+    requires end { end ≤ length bytes.now }
+    ensures { result.now ≡ slice_range bytes.now beg end }
+{
+    &bytes[beg..end]
 }
 
 impl Outbox {
@@ -24,7 +51,8 @@ impl Outbox {
         ensures { result ≡ [] }
     {
         Outbox {
-            messages: Vec::new(alloc),
+            bytes: Vec::new(alloc),
+            ends: Vec::new(alloc),
         }
     }
 
@@ -32,14 +60,14 @@ impl Outbox {
     pub fn len(&self) -> usize
         ensures { result ≡ length self.now }
     {
-        self.messages.len()
+        self.ends.len()
     }
 
     /// Whether there is no message.
     pub fn is_empty(&self) -> bool
         ensures { IsTrue result ↔ (self.now ≡ []) }
     {
-        self.messages.is_empty()
+        self.ends.is_empty()
     }
 
     /// The bytes of a message; the first one has the index 0.
@@ -47,14 +75,18 @@ impl Outbox {
         requires { index < length self.now }
         ensures { slice_get self.now index ≡ Some result.now }
     {
-        self.messages[index].as_slice()
+        part(&self.bytes, beg_of(&self.ends, index), self.ends[index])
     }
 
-    // Puts a message at the end. An `Err` changes nothing.
-    pub(crate) fn push(&mut self, message: Vec<u8>) -> Result<(), AllocError>
-        ensures { self.new ≡ (if is_ok result then self.old ++ message.items ∷ [] else self.old) }
+    // Puts the message of an operation at the end. An `Err` changes nothing.
+    pub(crate) fn push(&mut self, op: &Op) -> Result<(), Refusal>
+        ensures ok { OnOk result (self.new ≡ self.old ++ spelling op.now ∷ []) }
+        ensures errors { RefusedForMemoryAlone result }
+        ensures err { OnErr result (self.new ≡ self.old) }
     {
-        self.messages.push(message)?;
+        self.ends.reserve(1)?;
+        encode(op, &mut self.bytes)?;
+        self.ends.push_reserved(self.bytes.len());
         Ok(())
     }
 
@@ -64,6 +96,8 @@ impl Outbox {
         ensures { (messages : List (List ℕ)) (message : List ℕ) → self.old ≡ messages ++ message ∷ []
             → self.new ≡ messages }
     {
-        let _ = self.messages.pop();
+        let _ = self.ends.pop();
+        let ends = self.ends.as_slice();
+        self.bytes.truncate(beg_of(ends, ends.len()));
     }
 }

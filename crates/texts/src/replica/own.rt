@@ -21,11 +21,8 @@ use crate::edit_refusal::EditRefusal;
 use crate::outbox::Outbox;
 use char_files::MAX_FILE;
 use looks::Refusal;
-use operations::{Kind, MAX_RANGES, MAX_STAMP, NameSet, Op, encode};
+use operations::{Kind, MAX_RANGES, MAX_STAMP, NameSet, Op};
 use waiting_room::GoodLog;
-
-// The bytes of a message of few names, or of few characters: with so many it grows no more.
-const SHORT: usize = 64;
 
 // What an edit of one operation answers.
 pub(crate) fn answer_of_one(made: Result<(), Refusal>) -> Result<u32, EditRefusal>
@@ -111,9 +108,7 @@ impl Replica {
         ensures err { OnErr result ((self.new ≡ self.old) × (outbox.new ≡ outbox.old)) }
     {
         let op = self.next_op(kind);
-        let mut message = Vec::with_capacity(self.alloc, SHORT)?;
-        encode(&op, &mut message)?;
-        outbox.push(message)?;
+        outbox.push(&op)?;
         if let Err(why) = self.taken.add(op) {
             outbox.take_back();
             return Err(why);
