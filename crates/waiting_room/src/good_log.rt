@@ -50,11 +50,7 @@ impl<'a> Held for GoodLog<'a> {
     }
 
     fn op_stamp(&self, site: SiteNo, seq: u32) -> u64 {
-        self.log.lemma_are_held_to_the_front();
-        match self.log.get(site, seq) {
-            Some(op) => op.stamp(),
-            None => unreachable!(),
-        }
+        self.log.op_stamp(site, seq)
     }
 
     fn name_stamp(&self, name: Name) -> u64 {
