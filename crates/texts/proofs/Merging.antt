@@ -1,15 +1,15 @@
 -- What a merge takes over of another text's operations, one after the other.
-use Rattle.std.proofs.Common.{◌≡◌, ◌≢◌, ℕ, ◌+◌, ◌<◌, ◌≤◌, inl, inr, true, false, List, [], ◌∷◌, ◌++◌, length, take}
-use Rattle.std.proofs.Common.{drop, Some, Result, Ok, Err, refl, sym, ap, subst, ◌∙◌, arith, append_assoc, get_or}
+use Rattle.std.proofs.Common.{◌≡◌, ◌≢◌, ℕ, zero, suc, ◌+◌, ◌<◌, ◌≤◌, inl, inr, true, false, List, [], ◌∷◌, ◌++◌, length, take}
+use Rattle.std.proofs.Common.{drop, Some, Result, Ok, Err, refl, sym, ap, subst, ◌∙◌, arith, append_assoc}
 use Rattle.std.proofs.Common.{length-append}
-use Rattle.std.specs.Prelude.{AllPairs, Contains, OnErr, OnOk, slice_get}
+use Rattle.std.specs.Prelude.{AllPairs, Contains, IfSome, OnErr, OnOk, slice_get}
 use Rattle.std.specs.Result.{is_err}
 use Rattle.std.proofs.lemmas.Bool.{cases_lt, false≢true, le-ltb, lt-ltb}
 use Rattle.std.proofs.lemmas.List.{append-nil, length-take-le, take_all, take_at}
 use Rattle.std.proofs.lemmas.List.Elements.{All-contains, Contains-append_cases, Contains-append_left}
 use Rattle.std.proofs.lemmas.List.Elements.{Contains-append_right}
 use Rattle.std.proofs.lemmas.List.Sums.{count_by-le-length, length-filter}
-use Rattle.std.proofs.lemmas.Option.{get_or_from_slice_get, slice_get_read, slice_get_within}
+use Rattle.std.proofs.lemmas.Option.{get_or_from_slice_get, slice_get_within}
 use Rattle.operations.specs.Operation.{Operation}
 use Rattle.set_laws.specs.Fronts.{front_of}
 use Rattle.set_laws.specs.Sets.{AreIdentified, HasCausesBefore, HasToTheFront, IsPartOf}
@@ -35,11 +35,17 @@ pub when_ok : {T E P : Type 0} (r : Result T E) → is_err r ≡ false → OnOk 
 when_ok (Ok x) e p = p
 when_ok (Err x) e p = absurd (false≢true (sym e))
 
--- an element that was read at its place
-pub standing_at : (xs ys : List Operation) (i : ℕ) (op : Operation) → xs ≡ ys → i < length xs → op ≡ get_or xs i op
-    → slice_get ys i ≡ Some op
-standing_at xs ys i op same within is =
-    subst (λ (zs : List Operation). slice_get zs i ≡ Some op) same (slice_get_read xs (length xs) i op refl within is)
+-- within a list something stands
+pub standing_within : (ops : List Operation) (i : ℕ) → i < length ops → (op : Operation) × (slice_get ops i ≡ Some op)
+standing_within [] i within = absurd (omega arith)
+standing_within (op ∷ ops) zero within = (op, refl)
+standing_within (op ∷ ops) (suc i) within = standing_within ops i (omega arith)
+
+-- an identity that was read at a place is that of what stands there
+pub read_of : (ops : List Operation) (i : ℕ) (op : Operation) (read : ℕ × ℕ) → slice_get ops i ≡ Some op
+    → IfSome (slice_get ops i) (λ o. (read.0 ≡ o.site) × (read.1 ≡ o.seq)) → (read.0 ≡ op.site) × (read.1 ≡ op.seq)
+read_of ops i op read there told =
+    subst (λ o. IfSome o (λ (x : Operation). (read.0 ≡ x.site) × (read.1 ≡ x.seq))) there told
 
 -- what is to be known of both texts
 pub record CanTakeOver (start other : TextState) : Type 0 where

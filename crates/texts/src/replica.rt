@@ -127,12 +127,21 @@ impl Replica {
         self.taken.log().len()
     }
 
-    /// The operation that was taken in at this place, from 0. It takes no memory.
-    pub fn taken(&self, place: u64) -> &Op
+    /// The operation that was taken in at this place, from 0. Refused `OutOfMemory` alone.
+    pub fn taken(&self, place: u64) -> Result<Op, Refusal>
         requires { place < length self.now.operations }
-        ensures { slice_get self.now.operations place ≡ Some result.now }
+        ensures ok { IfOk result (λ op. slice_get self.now.operations place ≡ Some op) }
+        ensures errors { RefusedForMemoryAlone result }
     {
-        &self.taken.log().ops()[place as usize]
+        self.taken.log().op(place)
+    }
+
+    /// Whose the operation is that was taken in at this place, and its number. It takes no memory.
+    pub fn taken_identity(&self, place: u64) -> (SiteNo, u32)
+        requires { place < length self.now.operations }
+        ensures { IfSome (slice_get self.now.operations place) (λ op. (result.0 ≡ op.site) × (result.1 ≡ op.seq)) }
+    {
+        self.taken.log().identity(place)
     }
 
     /// How many operations wait for a cause, at most 64.

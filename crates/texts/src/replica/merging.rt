@@ -1,8 +1,9 @@
 //! Another replica's operations are taken over.
 
-ghost use Rattle.std.specs.Prelude.{◌≡◌, ◌⊎◌, [], ◌∷◌, ◌++◌, MatchBool, OnErr, OnOk};
+ghost use Rattle.std.specs.Prelude.{◌≡◌, ◌⊎◌, ◌<◌, ◌++◌, length, slice_get, MatchBool, OnErr, OnOk, Some};
 ghost use Rattle.looks.specs.Refusal.{RefusedForMemoryAlone};
-ghost use Rattle.set_laws.specs.Sets.{AreIdentified, IsInConflict};
+ghost use Rattle.operations.specs.Operation.{Operation};
+ghost use Rattle.set_laws.specs.Sets.{AreIdentified};
 ghost use Rattle.set_laws.specs.Verdict.{ready};
 ghost use Rattle.texts.specs.Merge.{AreInConflict, CanMerge, IsUnionOf, Merges, MergesShort};
 ghost use Rattle.texts.specs.Taking.{HasTaken, IsJudged};
@@ -13,40 +14,37 @@ use looks::Refusal;
 use operations::Op;
 
 impl Replica {
-    // Whether no other operation is held under this one's identity.
-    fn agrees_on(&self, op: &Op) -> bool
-        ensures { MatchBool result (AreIdentified (self.now.operations ++ op.now ∷ []))
-            (IsInConflict self.now.operations op.now) }
-    {
-        self.lemma_is_text();
-        op.lemma_has_spelling();
-        match self.taken.log().get(op.site(), op.seq()) {
-            Some(held) => held.is_same(op),
-            None => true,
-        }
-    }
-
     // Whether no identity is held with two operations, here and there.
     fn agrees_with(&self, other: &Replica) -> bool
         ensures { MatchBool result (AreIdentified (self.now.operations ++ other.now.operations))
             (AreInConflict self.now other.now) }
     {
-        self.lemma_is_text();
-        other.lemma_is_text();
-        other.taken.log().ops().iter().all(|op| self.agrees_on(op))
+        self.taken.log().agrees_with(other.taken.log())
     }
 
     // Takes in an operation of another replica that is ready here. An `Err` changes nothing.
-    pub(crate) fn take_over(&mut self, op: &Op) -> Result<(), Refusal>
-        requires { IsJudged self.old op.now ready }
-        ensures ok { OnOk result (HasTaken self.old op.now self.new) }
+    pub(crate) fn take_over(&mut self, op: Op) -> Result<(), Refusal>
+        requires { IsJudged self.old op ready }
+        ensures ok { OnOk result (HasTaken self.old op self.new) }
         ensures errors { RefusedForMemoryAlone result }
         ensures err { OnErr result (self.new ≡ self.old) }
     {
-        let op = op.copy()?;
         self.taken.add(op)?;
         self.lemma_is_text();
         Ok(())
+    }
+
+    // Takes in the operation at this place of another replica, which is ready here. An `Err` changes nothing.
+    fn take_over_at(&mut self, other: &Replica, place: u64) -> Result<(), Refusal>
+        requires within { place < length other.now.operations }
+        requires ready { (op : Operation) → slice_get other.now.operations place ≡ Some op → IsJudged self.old op ready }
+        ensures ok { OnOk result ((op : Operation) → slice_get other.now.operations place ≡ Some op
+            → HasTaken self.old op self.new) }
+        ensures errors { RefusedForMemoryAlone result }
+        ensures err { OnErr result (self.new ≡ self.old) }
+    {
+        let op = other.taken(place)?;
+        self.take_over(op)
     }
 
     // Takes in those of another replica's operations that aren't held here.
@@ -56,11 +54,12 @@ impl Replica {
     {
         self.lemma_is_text();
         other.lemma_is_text();
-        other.taken.log().lemma_are_held_to_the_front();
+        other.lemma_are_taken_once();
         let mut done = 0;
-        for op in other.taken.log().ops() {
-            if self.front(op.site()) < op.seq() {
-                if self.take_over(op).is_err() {
+        for place in 0..other.taken_len() {
+            let (site, seq) = other.taken_identity(place);
+            if self.front(site) < seq {
+                if self.take_over_at(other, place).is_err() {
                     return Err(MergeRefusal::Stopped { done });
                 }
                 done += 1;

@@ -32,9 +32,10 @@ impl Replica {
     {
         self.lemma_is_text();
         other.lemma_is_text();
-        other.taken.log().lemma_are_held_to_the_front();
-        for op in other.taken.log().ops() {
-            if self.is_due(op, fronts) {
+        other.lemma_are_taken_once();
+        for place in 0..other.taken_len() {
+            let op = other.taken(place)?;
+            if self.is_due(&op, fronts) {
                 self.take_over(op)?;
             }
         }

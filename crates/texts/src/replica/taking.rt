@@ -52,10 +52,14 @@ impl Replica {
         if op.text() != self.text {
             return Fate::OtherText;
         }
-        match self.taken.log().get(op.site(), op.seq()) {
-            Some(held) if held.is_same(op) => Fate::Known,
-            Some(_) => Fate::Conflicting,
-            None => self.fate_of_new(op),
+        let log = self.taken.log();
+        if !log.holds(op.site(), op.seq()) {
+            return self.fate_of_new(op);
+        }
+        if log.agrees_on(op) {
+            Fate::Known
+        } else {
+            Fate::Conflicting
         }
     }
 

@@ -29,8 +29,7 @@ impl Replica {
         let op = self.room.get(index);
         op.lemma_has_spelling();
         let log = self.taken.log();
-        log.get(op.site(), op.seq()).is_none()
-            && matches!(judge(op, &GoodLog::new(log)), Verdict::Ready)
+        !log.holds(op.site(), op.seq()) && matches!(judge(op, &GoodLog::new(log)), Verdict::Ready)
     }
 
     // The waiting operation at this index leaves the room: it is taken in if it is ready, which is answered, else

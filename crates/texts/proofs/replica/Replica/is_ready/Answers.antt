@@ -1,4 +1,4 @@
-use Rattle.std.proofs.Common.{◌≡◌, Bool, is_some, MatchBool, List, Some, Contains, slice_get, inl, ap, subst, sym, ◌∙◌}
+use Rattle.std.proofs.Common.{◌≡◌, List, Some, Contains, slice_get, inl, ap, subst, sym, ◌∙◌}
 use Rattle.std.proofs.lemmas.Option.{slice_get_within}
 use Rattle.operations.specs.Operation.{Operation}
 use Rattle.set_laws.specs.Fronts.{IsHeld}
@@ -19,8 +19,8 @@ get-op-requires c =
 pub judge-requires : goal.judge-requires
 judge-requires c =
     is_new c.log-log.result.now.ops c.new.result c.get-op.result.now c.site.result c.seq.result
-    (is_some c.get.result) (sym c.new.ensures) c.site.ensures c.seq.ensures c.lemma_has_spelling.ensures.seq.0
-    c.get.ensures.here.1 c.if-is_none.ensures
+    c.holds.result (sym c.new.ensures) c.site.ensures c.seq.ensures c.lemma_has_spelling.ensures.seq.0
+    c.holds.ensures.1 c.if-not-holds.true
 
 pub returns-in-Ready : goal.returns-in-Ready
 returns-in-Ready c =
@@ -30,8 +30,8 @@ returns-in-Ready c =
     let room = ap (λ (u : TextState). u.waiting_room) c.self.view_is in
     let there = subst (λ (ops : List Operation). slice_get ops i ≡ Some op) room c.get-op.ensures in
     let same = c.log-log.ensures ∙ ap (λ (u : TextState). u.operations) c.self.view_is in
-    let new = is_new c.log-log.result.now.ops t.operations op c.site.result c.seq.result (is_some c.get.result) same
-    c.site.ensures c.seq.ensures c.lemma_has_spelling.ensures.seq.0 c.get.ensures.here.1 c.if-is_none.ensures in
+    let new = is_new c.log-log.result.now.ops t.operations op c.site.result c.seq.result c.holds.result same
+    c.site.ensures c.seq.ensures c.lemma_has_spelling.ensures.seq.0 c.holds.ensures.1 c.if-not-holds.true in
     let has = subst (λ (ops : List Operation). HasVerdict ops op ready) (c.new.ensures ∙ same) c.in-Ready.ensures in
     (op, there, ((is_leaving t i op c.lemma_is_text.ensures c.requires there).0, new, has))
 
@@ -44,28 +44,26 @@ returns-in_default c =
     let room = ap (λ (u : TextState). u.waiting_room) c.self.view_is in
     let there = subst (λ (ops : List Operation). slice_get ops i ≡ Some op) room c.get-op.ensures in
     let same = c.log-log.ensures ∙ ap (λ (u : TextState). u.operations) c.self.view_is in
-    let new = is_new c.log-log.result.now.ops t.operations op c.site.result c.seq.result (is_some c.get.result) same
-    c.site.ensures c.seq.ensures c.lemma_has_spelling.ensures.seq.0 c.get.ensures.here.1 c.if-is_none.ensures in
+    let new = is_new c.log-log.result.now.ops t.operations op c.site.result c.seq.result c.holds.result same
+    c.site.ensures c.seq.ensures c.lemma_has_spelling.ensures.seq.0 c.holds.ensures.1 c.if-not-holds.true in
     let has = subst (λ (ops : List Operation). HasVerdict ops op (verdict_of v)) (c.new.ensures ∙ same)
     c.judge.ensures in
     let (own, leaves) = is_leaving t i op c.lemma_is_text.ensures c.requires there in
     (op, there, thrown_away t op v c.in_default.not-Ready own leaves new has)
 
-pub returns-else-is_none : goal.returns-else-is_none
-returns-else-is_none c =
+pub returns-else-not-holds : goal.returns-else-not-holds
+returns-else-not-holds c =
     let t = c.args.self.now in
     let op = c.get-op.result.now in
     let room = ap (λ (u : TextState). u.waiting_room) c.self.view_is in
     let there = subst (λ (ops : List Operation). slice_get ops c.args.index ≡ Some op) room c.get-op.ensures in
     let same : c.log-log.result.now.ops ≡ t.operations =
     c.log-log.ensures ∙ ap (λ (u : TextState). u.operations) c.self.view_is in
-    let (p, in_log, site, seq) = c.get.ensures.here.0 c.if-is_none.ensures in
+    let (p, in_log, site, seq) = c.holds.ensures.0 c.if-not-holds.false in
     let held : IsHeld t.operations op.site op.seq = (
       p,
       subst (λ (ops : List Operation). Contains ops p) same in_log,
       site ∙ c.site.ensures,
       seq ∙ c.seq.ensures,
     ) in
-    let thrown = subst (λ (b : Bool). MatchBool b (IsJudged t op ready) (IsThrownAway t op)) (sym c.if-is_none.false)
-    (inl held) in
-    (op, there, thrown)
+    rw c.if-not-holds.false (op, there, inl held)

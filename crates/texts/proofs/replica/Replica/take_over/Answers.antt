@@ -3,7 +3,6 @@ use Rattle.std.specs.Prelude.{All}
 use Rattle.operations.specs.Operation.{Operation}
 use Rattle.set_laws.specs.Verdict.{HasVerdict, IsNew, ready}
 use Rattle.taken_text.specs.Taken.{TakenSeen}
-use Rattle.texts.specs.Taking.{IsJudged}
 use Rattle.texts.specs.Text.{AreCharNames}
 use Rattle.texts.specs.TextState.{TextState}
 use Rattle.texts.proofs.Kept.{kept_with}
@@ -11,15 +10,11 @@ use Rattle.texts.proofs.replica.Replica.take_over.Goals as goal
 
 pub add-requires-clause-new : goal.add-requires-clause-new
 add-requires-clause-new c =
-    let op = c.in_ok-op.op in
-    let judged : IsJudged c.args.self.now op ready = subst (λ (op : Operation). IsJudged c.args.self.now op ready) (sym c.in_ok-op.ensures.ok) c.requires in
-    subst (λ (t : TextState). IsNew t.operations op) (sym c.self.view_is) judged.1
+    subst (λ (t : TextState). IsNew t.operations c.args.op) (sym c.self.view_is) c.requires.1
 
 pub add-requires-clause-ready : goal.add-requires-clause-ready
 add-requires-clause-ready c =
-    let op = c.in_ok-op.op in
-    let judged : IsJudged c.args.self.now op ready = subst (λ (op : Operation). IsJudged c.args.self.now op ready) (sym c.in_ok-op.ensures.ok) c.requires in
-    subst (λ (t : TextState). HasVerdict t.operations op ready) (sym c.self.view_is) judged.2
+    subst (λ (t : TextState). HasVerdict t.operations c.args.op ready) (sym c.self.view_is) c.requires.2
 
 pub invariant_of-self : goal.invariant_of-self
 invariant_of-self c =
@@ -30,8 +25,7 @@ invariant_of-self c =
 pub invariant_of-self-2 : goal.invariant_of-self-2
 invariant_of-self-2 c =
     let r = c.self.inside in
-    let op = c.in_ok-op.op in
-    let judged : IsJudged c.args.self.now op ready = subst (λ (op : Operation). IsJudged c.args.self.now op ready) (sym c.in_ok-op.ensures.ok) c.requires in
-    let own : op.text ≡ r.text = subst (λ (t : TextState). op.text ≡ t.text) (sym c.self.view_is) judged.0 in
+    let op = c.args.op in
+    let own : op.text ≡ r.text = subst (λ (t : TextState). op.text ≡ t.text) (sym c.self.view_is) c.requires.0 in
     subst (λ (ops : List Operation). All (λ op. op.text ≡ r.text) ops × All (λ op. op.text ≡ r.text) r.room
     × AreCharNames ops r.set) (sym c.in_ok-add.ensures.ok) (kept_with r.text r.taken.operations r.room r.set op own c.self.invariant)
