@@ -1,5 +1,5 @@
 use super::is;
-use super::told::{Does, Told, is_told, name, site, take_all};
+use super::told::{Does, Told, is_told, name, op_of, site, take_all};
 use op_log::Log;
 use std::alloc::Global;
 use std::test::Fail;
@@ -37,15 +37,61 @@ const LACKING: &[(u16, u32)] = &[(1, 0), (1, 4), (2, 0), (2, 3), (3, 1)];
 
 fn are_lacking(log: &Log, identities: &[(u16, u32)]) -> Result<(), Fail> {
     for (number, seq) in identities {
-        is(log.get(site(*number)?, *seq).is_none(), "not held")?;
+        is(!log.holds(site(*number)?, *seq), "not held")?;
     }
     Ok(())
 }
 
-fn are_found(log: &Log, alloc: Global, told: &[Told]) -> Result<(), Fail> {
+// Those are held, under their stamps.
+fn are_found(log: &Log, told: &[Told]) -> Result<(), Fail> {
     for fields in told {
-        let found = log.get(site(fields.0)?, fields.1).ok_or("held")?;
-        is_told(found, alloc, *fields, "the operation")?;
+        let site = site(fields.0)?;
+        if !log.holds(site, fields.1) {
+            return Err("held".into());
+        }
+        is(log.op_stamp(site, fields.1) == fields.2, "a stamp")?;
+    }
+    Ok(())
+}
+
+// Whether those are the log's operations, in this order.
+fn are_in_order(log: &Log, alloc: Global, told: &[Told]) -> Result<(), Fail> {
+    for place in 0..log.len() {
+        let fields = told.get(place as usize).ok_or("no more")?;
+        let (site, seq) = log.identity(place);
+        is(site.get() == fields.0 && seq == fields.1, "an identity")?;
+        is_told(&log.op(place)?, alloc, *fields, "the operation")?;
+    }
+    Ok(())
+}
+
+// Another operation under the identity of one that is held, and one under an identity that isn't.
+const NOT_X: Told = (2, 1, 2, Does::Insert(Some((1, 0)), 0, b"x"));
+
+const NEW: Told = (3, 1, 2, Does::Insert(Some((1, 0)), 0, b"x"));
+
+// What agrees with the log's operations, and what doesn't.
+const AGREEING: &[(Told, bool)] = &[(X, true), (NOT_X, false), (NEW, true)];
+
+// Whether the log agrees on an operation, and with an empty log that takes it in.
+fn agrees(
+    log: &Log,
+    other: &mut Log,
+    alloc: Global,
+    (told, want): (Told, bool),
+) -> Result<(), Fail> {
+    is(
+        log.agrees_on(&op_of(alloc, told)?) == want,
+        "agrees on an operation",
+    )?;
+    take_all(other, alloc, &[told])?;
+    is(log.agrees_with(other) == want, "agrees with a log")
+}
+
+fn agree(log: &Log, alloc: Global) -> Result<(), Fail> {
+    for case in AGREEING {
+        let mut other = Log::new(alloc);
+        agrees(log, &mut other, alloc, *case)?;
     }
     Ok(())
 }
@@ -81,17 +127,16 @@ fn has_two_sites(log: &Log) -> Result<(), Fail> {
 }
 
 fn answers(log: &mut Log, alloc: Global) -> Result<(), Fail> {
-    is(
-        log.len() == 0 && log.stamp() == 0 && log.ops().is_empty(),
-        "an empty log",
-    )?;
+    is(log.len() == 0 && log.stamp() == 0, "an empty log")?;
     are_counted(log, NO_SITES)?;
     are_lacking(log, LACKING)?;
     take_all(log, alloc, TOLD)?;
     is(log.len() == 5 && log.stamp() == 4, "five operations")?;
     are_counted(log, SITES)?;
     are_lacking(log, LACKING)?;
-    are_found(log, alloc, TOLD)?;
+    are_found(log, TOLD)?;
+    are_in_order(log, alloc, TOLD)?;
+    agree(log, alloc)?;
     have_stamps(log, STAMPS)?;
     has_two_sites(log)
 }

@@ -1,11 +1,10 @@
 //! Rooms in which operations wait.
 use super::is;
-use super::told::{Does, Told, is_told, op_of, site, take_all};
+use super::told::{Does, Told, are_good, is_told, op_of, site, take_all};
 use looks::Refusal;
 use op_log::Log;
 use std::alloc::Global;
 use std::test::Fail;
-use tree_order::is_good;
 use waiting_room::{GoodLog, MAX_WAITING, Offered, Room};
 
 // The first Insert of a text, of six bytes.
@@ -177,7 +176,7 @@ const BEHIND_ONE: &[Leaving] = &[
 const BEHIND_TWO: &[Leaving] = &[("one is held by now", THREE, Some(1))];
 
 fn leave(log: &Log, room: &mut Room, alloc: Global, rows: &[Leaving]) -> Result<(), Fail> {
-    if !is_good(alloc, log.ops())? {
+    if !are_good(log, alloc)? {
         return Err("a good log".into());
     }
     for (what, waiting, want) in rows {
@@ -227,7 +226,7 @@ const BEHIND: &[(&str, &[Told], u16, bool)] = &[
 ];
 
 fn are_behind(log: &Log, room: &mut Room, alloc: Global) -> Result<(), Fail> {
-    if !is_good(alloc, log.ops())? {
+    if !are_good(log, alloc)? {
         return Err("a good log".into());
     }
     for (what, waiting, number, want) in BEHIND {

@@ -1,12 +1,16 @@
 //! Operations by their fields, and logs of them.
 
+ghost use Rattle.std.specs.Prelude.{◌≡◌, IfOk, IsTrue};
+ghost use Rattle.tree_order.specs.Good.{Good};
+
 use super::is;
 use char_files::{Anchor, Name, SiteNo, TextNo};
-use looks::Looks;
+use looks::{Looks, Refusal};
 use op_log::Log;
 use operations::{Kind, NameSet, Op};
 use std::alloc::Global;
 use std::test::Fail;
+use tree_order::is_good;
 
 // What an operation does.
 #[derive(Clone, Copy)]
@@ -92,4 +96,23 @@ pub(super) fn take_all(log: &mut Log, alloc: Global, told: &[Told]) -> Result<()
         take(log, op_of(alloc, *fields)?)?;
     }
     Ok(())
+}
+
+// A log's operations, in the order of their taking.
+fn ops_of(log: &Log, alloc: Global) -> Result<Vec<Op>, Refusal>
+    ensures { IfOk result (λ ops. ops.items ≡ log.now.ops) }
+{
+    let mut ops = Vec::new(alloc);
+    for place in 0..log.len() {
+        ops.push(log.op(place)?)?;
+    }
+    Ok(ops)
+}
+
+// Whether a log's operations are good.
+pub(super) fn are_good(log: &Log, alloc: Global) -> Result<bool, Refusal>
+    ensures { IfOk result (λ good. IsTrue good → Good log.now.ops) }
+{
+    let ops = ops_of(log, alloc)?;
+    is_good(alloc, &ops)
 }

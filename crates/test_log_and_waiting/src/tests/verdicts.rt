@@ -1,10 +1,9 @@
 use super::is;
-use super::told::{Does, Told, op_of, take_all};
+use super::told::{Does, Told, are_good, op_of, take_all};
 use op_log::Log;
 use operations::Op;
 use std::alloc::Global;
 use std::test::Fail;
-use tree_order::is_good;
 use waiting_room::{GoodLog, Verdict, judge};
 
 // The first Insert of a text, and two of site 2: below the first one's first character under the same stamp,
@@ -85,12 +84,12 @@ const BEHIND_IT: &[Case] = &[
 
 // The verdict on an operation that a good log lacks.
 fn verdict_on(log: &Log, op: &Op, alloc: Global) -> Result<Verdict, Fail> {
-    if !is_good(alloc, log.ops())? {
+    if !are_good(log, alloc)? {
         return Err("not good".into());
     }
     let held = GoodLog::new(log);
     op.lemma_has_spelling();
-    if log.get(op.site(), op.seq()).is_some() {
+    if log.holds(op.site(), op.seq()) {
         return Err("not new".into());
     }
     Ok(judge(op, &held))

@@ -102,12 +102,11 @@ const OPERATIONS: &[(u16, u32)] = &[(1, 1), (2, 1)];
 fn has_its_operations(replica: &Replica) -> Result<(), Fail> {
     is(replica.taken_len() == 2, "two operations")?;
     for place in 0..replica.taken_len() {
-        let op = replica.taken(place);
-        let told = (op.site().get(), op.seq());
-        is(
-            OPERATIONS.get(place as usize) == Some(&told),
-            "an operation",
-        )?;
+        let (site, seq) = replica.taken_identity(place);
+        let told = (site.get(), seq);
+        is(OPERATIONS.get(place as usize) == Some(&told), "an identity")?;
+        let op = replica.taken(place)?;
+        is(op.site() == site && op.seq() == seq, "an operation")?;
     }
     Ok(())
 }

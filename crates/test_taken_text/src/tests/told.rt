@@ -102,7 +102,7 @@ fn is_ready(text: &TakenText, op: &Op) -> bool
     op.lemma_has_spelling();
     text.lemma_is_defined();
     let log = text.log();
-    if log.get(op.site(), op.seq()).is_some() {
+    if log.holds(op.site(), op.seq()) {
         return false;
     }
     match judge(op, &GoodLog::new(log)) {

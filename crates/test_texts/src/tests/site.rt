@@ -70,7 +70,8 @@ pub(super) fn hand(replica: &mut Replica, outbox: &Outbox, index: usize) -> Resu
 // What the changes of the last operation that was taken in are to be.
 fn kind_of_last(replica: &Replica) -> Result<ChangeKind, Fail> {
     let last = replica.taken_len().checked_sub(1).ok_or("an operation")?;
-    Ok(match replica.taken(last).kind() {
+    let op = replica.taken(last)?;
+    Ok(match op.kind() {
         Kind::Insert { .. } | Kind::Restore { .. } => ChangeKind::Insert,
         Kind::Delete { .. } => ChangeKind::Delete,
         Kind::ChangeLooks { .. } => ChangeKind::Replace,
