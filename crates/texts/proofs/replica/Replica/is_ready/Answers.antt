@@ -4,8 +4,6 @@ use Rattle.operations.specs.Operation.{Operation}
 use Rattle.set_laws.specs.Fronts.{IsHeld}
 use Rattle.set_laws.specs.Verdict.{HasVerdict, ready}
 use Rattle.waiting_room.specs.Judged.{verdict_of}
-use Rattle.texts.specs.Draining.{IsThrownAway}
-use Rattle.texts.specs.Taking.{IsJudged}
 use Rattle.texts.specs.TextState.{TextState}
 use Rattle.texts.proofs.Draining.{is_leaving, is_new, thrown_away}
 use Rattle.texts.proofs.replica.Replica.is_ready.Goals as goal
