@@ -25,7 +25,7 @@ pub loop-place-preserved : goal.loop-place-preserved
 loop-place-preserved c =
     let at = c.in_ok-op.ensures.ok in
     let passed : c.is_due.result ≡ false
-        → IsPastTo c.args.other.now c.args.fronts.now (c.loop-place.place + 1) c.loop-place.self =
+    → IsPastTo c.args.other.now c.args.fronts.now (c.loop-place.place + 1) c.loop-place.self =
     λ not. one_passed c.loop-place.invariant at (λ due. false≢true (sym not ∙ c.is_due.ensures.1 due)) in
     elim c.if-is_due.branch [
       | then-is_due+in_ok-take_over w ↦
