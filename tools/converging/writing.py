@@ -1,0 +1,164 @@
+"""Sites that write in one text, drawn at random. Each knows some of what the others made, and names characters of that."""
+from __future__ import annotations
+
+import random
+from collections.abc import Callable, Iterator, Sequence
+from dataclasses import dataclass
+from typing import NamedTuple
+
+from tools.packed.chunks import inserted
+from tools.packed.messages import Cause, ChangeLooks, Delete, Insert, Kind, Name, Operation, Range, Ranges, Restore
+from tools.packed.packed import DEFAULT_LOOKS
+
+TEXT = 1
+LETTERS = b"abcdefghijklmnopqrstuvwxyz" * 4 + b"      \r\\\x01\x08\x0f\xe9"
+OTHER_LOOKS = (b"\x01A\x00\x00", b"\x08Mono.Fnt\x07\x7f", b"\x01A\x01\x80")
+# Selections with their values.
+VALUES = (b"\x01\x01A", b"\x01\x08Mono.Fnt", b"\x02\x0f", b"\x02\x02", b"\x04\xff", b"\x06\x01\x01", b"\x07\x01B\x03\x00")
+# How far behind the newest character of a site another is that is named, as a mean; often it is one that others like to name, too.
+NEAR, LIKED = (50, 50, 200, 1000, 100_000), (1, 16, 64, 64)
+# Before one burst in so many there is a meeting; how many bursts this stays so, as a mean.
+APART, STAYS = (3, 20, 100, 400), 2000
+
+
+class Known(NamedTuple):
+    """What is known of a site: how many of its operations, and of its characters."""
+
+    seq: int = 0
+    length: int = 0
+
+
+@dataclass(frozen=True)
+class Burst:
+    """Operations that a site makes one after the other, and the fronts that it had of the other sites before."""
+
+    site: int
+    fronts: dict[int, int]
+    operations: Sequence[Operation]
+
+
+class Writer:
+    """A site that writes."""
+
+    def __init__(self, site: int, sites: Sequence[int], rng: random.Random) -> None:
+        self.site, self.rng = site, rng
+        self.known = dict.fromkeys(sites, Known())
+        self.stamp = 0
+        self.caret: Cause = None
+        self.deleted: list[Range] = []
+
+    def fronts(self) -> dict[int, int]:
+        return {site: known.seq for site, known in self.known.items() if site != self.site and known.seq}
+
+    def meet(self, other: Writer) -> None:
+        """Takes in all that another one has."""
+        self.known = {site: max(known, other.known[site]) for site, known in self.known.items()}
+        self.stamp = max(self.stamp, other.stamp)
+
+    # What it names.
+
+    def name(self, sites: Sequence[int] = ()) -> Cause:
+        """A character that it knows, one of the newest of its site as a rule; none where it knows none."""
+        there = [site for site in sites or self.known if self.known[site].length]
+        if not there:
+            return None
+        site = self.rng.choice(there)
+        newest = self.known[site].length - 1
+        if self.rng.random() < 0.3:
+            return Name(site, newest)
+        at = max(0, newest - int(self.rng.expovariate(1 / self.rng.choice(NEAR))))
+        return Name(site, at - at % self.rng.choice(LIKED))
+
+    def stretch(self, sites: Sequence[int] = ()) -> Range | None:
+        """Some characters that were inserted one after the other."""
+        name = self.name(sites)
+        if name is None:
+            return None
+        return Range(*name, min(self.rng.choice([1, 1, 2, 3, 5, 12, 40]), self.known[name.site].length - name.offset))
+
+    def stretches(self) -> Ranges:
+        """One stretch as a rule, and at most one of a site."""
+        sites = sorted(self.rng.sample([*self.known], self.rng.choice([1, 1, 1, 1, 2, 3])))
+        return tuple(each for each in (self.stretch([site]) for site in sites) if each)
+
+    # What it makes.
+
+    def insert(self, length: int, looks: bytes = DEFAULT_LOOKS) -> Kind:
+        """Bytes at the caret, which goes on after them."""
+        at = self.known[self.site].length
+        cause, self.caret = self.caret, Name(self.site, at + length - 1)
+        return Insert(cause, at, looks, bytes(self.rng.choices(LETTERS, k=length)))
+
+    def place_caret(self) -> None:
+        """It stays, or is set among characters that someone typed in a row."""
+        if self.rng.random() < 0.7:
+            self.caret = self.name() if self.rng.random() < 0.99 else None
+
+    def typed(self) -> Iterator[Kind]:
+        self.place_caret()
+        for _ in range(self.rng.choice([1, 2, 3, 5, 10, 30])):
+            yield self.insert(1)
+
+    def mistyped(self) -> Iterator[Kind]:
+        """Letters that are taken back, from the last one on."""
+        length = self.rng.randint(1, 5)
+        before = self.caret
+        for _ in range(length):
+            yield self.insert(1)
+        for at in range(self.known[self.site].length, self.known[self.site].length - length, -1):
+            yield Delete((Range(self.site, at - 1, 1),))
+        self.caret = before
+
+    def pasted(self) -> Iterator[Kind]:
+        self.place_caret()
+        yield self.insert(self.rng.randint(2, 60), self.rng.choice([DEFAULT_LOOKS, *OTHER_LOOKS]))
+
+    def removed(self) -> Iterator[Kind]:
+        if ranges := self.stretches():
+            self.deleted = [*self.deleted[-20:], *ranges]
+            yield Delete(ranges)
+
+    def restored(self) -> Iterator[Kind]:
+        """Part of what it deleted, or of what another one may have."""
+        ranges = self.stretches()
+        if self.deleted and self.rng.random() < 0.7:
+            site, at, length = self.rng.choice(self.deleted)
+            begin = self.rng.randrange(length)
+            ranges = (Range(site, at + begin, self.rng.randint(1, length - begin)),)
+        if ranges:
+            yield Restore(ranges)
+
+    def changed(self) -> Iterator[Kind]:
+        if ranges := self.stretches():
+            yield ChangeLooks(self.rng.choice(VALUES), ranges)
+
+    def operation(self, kind: Kind) -> Operation:
+        """The next operation, which is known then."""
+        seq, length = self.known[self.site]
+        self.stamp += 1
+        operation = Operation(TEXT, self.site, seq + 1, self.stamp, kind)
+        self.known[self.site] = Known(seq + 1, length + inserted(operation))
+        return operation
+
+    def burst(self) -> Burst:
+        ways: list[Callable[[], Iterator[Kind]]] = [self.typed, self.mistyped, self.pasted, self.removed, self.restored, self.changed]
+        fronts = self.fronts()
+        kinds = self.rng.choices(ways, [6, 1, 1, 3, 2, 2])[0]()
+        return Burst(self.site, fronts, [self.operation(kind) for kind in kinds])
+
+
+def written(count: int, sites: int, seed: str) -> Iterator[Burst]:
+    """So many operations of so many sites. They meet often for a while, and seldom for another while."""
+    rng = random.Random(f"converging {seed}")
+    numbers = range(1, 1 + sites)
+    writers = [Writer(site, numbers, rng) for site in numbers]
+    apart = APART[0]
+    while count > 0:
+        if rng.randrange(STAYS) == 0:
+            apart = rng.choice(APART)
+        writer = rng.choice(writers)
+        if rng.randrange(apart) == 0:
+            writer.meet(rng.choice(writers))
+        burst = writer.burst()
+        yield Burst(burst.site, burst.fronts, burst.operations[:count])
+        count -= len(burst.operations)
