@@ -333,7 +333,8 @@ class Files(Packed):
 
 
 def main() -> int:
-    result = unittest.TextTestRunner().run(unittest.defaultTestLoader.loadTestsFromNames(["tools.packed.tests", "tools.packed.chunk_tests"]))
+    modules = ["tools.packed.tests", "tools.packed.chunk_tests", "tools.converging.tests"]
+    result = unittest.TextTestRunner().run(unittest.defaultTestLoader.loadTestsFromNames(modules))
     failed = len({str(test) for test, _ in [*result.failures, *result.errors]})
     print(f"{result.testsRun - failed} passed, {failed} failed")
     return 1 if failed or not result.testsRun else 0

@@ -1,0 +1,97 @@
+"""Tests of what operations show by the definition, and of the orders in which they are handed in."""
+from __future__ import annotations
+
+import random
+import unittest
+from collections import Counter
+
+from tools.converging.handing import IN_ORDER, handed, turns
+from tools.converging.shown import names_of, runs_of, shown, text_of
+from tools.converging.writing import TEXT, written
+from tools.packed.chunks import read_chunk
+from tools.packed.messages import Cause, ChangeLooks, Delete, Insert, Kind, Name, Operation, Range, Restore
+from tools.packed.packed import DEFAULT_LOOKS
+from tools.packed.replica import Replica
+
+FONT = "Oberon10.Scn.Fnt"
+
+
+def made(site: int, seq: int, stamp: int, kind: Kind) -> Operation:
+    return Operation(TEXT, site, seq, stamp, kind)
+
+
+def insert(cause: Cause, at: int, data: bytes) -> Insert:
+    return Insert(cause, at, DEFAULT_LOOKS, data)
+
+
+# Both sites type after A at the same time, as in docs/ORDER.md.
+WORKED = [
+    made(1, 1, 1, insert(None, 0, b"AC")),
+    made(1, 2, 2, insert(Name(1, 0), 2, b"B")),
+    made(2, 1, 2, insert(Name(1, 0), 0, b"X")),
+    made(2, 2, 3, insert(Name(2, 0), 1, b"Y")),
+]
+A, C = Range(1, 0, 1), Range(1, 1, 1)
+
+
+class Shown(unittest.TestCase):
+    """What a set shows."""
+
+    def text(self, *more: Operation) -> str:
+        operations = [*WORKED, *more]
+        texts = {"".join(text_of(shown(some))) for some in (operations, operations[::-1])}
+        self.assertEqual(len(texts), 1)
+        return texts.pop()
+
+    def test_siblings_come_from_the_greatest_key_on(self) -> None:
+        self.assertEqual(self.text(), "text 5 AXYBC")
+
+    def test_the_greatest_key_decides_what_is_hidden(self) -> None:
+        deleted, restored = made(1, 3, 4, Delete((A, ))), made(2, 3, 4, Restore((A, )))
+        self.assertEqual(self.text(deleted), "text 4 XYBC")
+        self.assertEqual(self.text(deleted, restored), "text 5 AXYBC")
+        self.assertEqual(self.text(restored, made(1, 3, 5, Delete((Range(1, 0, 2), )))), "text 3 XYB")
+
+    def test_looks_are_those_of_the_greatest_key_each(self) -> None:
+        red, low = made(1, 3, 9, ChangeLooks(b"\2\5", (C, ))), made(2, 3, 4, ChangeLooks(b"\7\1A\7\xff", (A, C)))
+        self.assertEqual([*runs_of(shown([*WORKED, red, low]))], ["run A 7 -1 1", f"run {FONT} 1 0 3", "run A 5 -1 1", "ok"])
+
+    def test_names_that_follow_one_another(self) -> None:
+        told = ["name 0 1 0 1", "name 1 2 0 2", "name 3 1 2 1", "name 4 1 1 1", "ok"]
+        self.assertEqual([*names_of(shown(WORKED))], told)
+        self.assertEqual([*names_of(shown(WORKED[:1]))], ["name 0 1 0 2", "ok"])
+        self.assertEqual([*names_of([])], ["ok"])
+
+
+class Handing(unittest.TestCase):
+    """Orders of what was written."""
+
+    def setUp(self) -> None:
+        self.bursts = [*written(3000, 4, "tests")]
+        self.operations = [each for burst in self.bursts for each in burst.operations]
+
+    def test_so_many_operations_are_written(self) -> None:
+        self.assertEqual(len(self.operations), 3000)
+        self.assertEqual({each.site for each in self.operations}, {1, 2, 3, 4})
+
+    def test_an_order_keeps_causes(self) -> None:
+        """Each operation is the next of its site, and comes after what the site had before it."""
+        needed = {(burst.site, burst.operations[0].seq): burst.fronts for burst in self.bursts if burst.operations}
+        order, fronts = [each for some in turns(self.bursts, random.Random("turns")) for each in some], Counter[int]()
+        for each in order:
+            self.assertEqual(each.seq, fronts[each.site] + 1)
+            self.assertTrue(all(fronts[site] >= seq for site, seq in needed.get((each.site, each.seq), {}).items()))
+            fronts[each.site] += 1
+        self.assertEqual(len(order), len(self.operations))
+        self.assertNotEqual(order, self.operations)
+
+    def test_what_comes_in_order_is_taken_in(self) -> None:
+        replica, given = Replica(TEXT), handed(self.bursts, random.Random("handed"))
+        for each in given:
+            if each.when == IN_ORDER:
+                self.assertEqual(replica.unpack(each.chunk), f"unpacked {len(read_chunk(each.chunk).operations)} 0 0")
+        self.assertEqual(set(replica.held), set(self.operations))
+
+
+if __name__ == "__main__":
+    unittest.main()
