@@ -1,8 +1,9 @@
 """Sites that write in one text, drawn at random. Each knows some of what the others made, and names characters of that."""
 from __future__ import annotations
 
+import itertools
 import random
-from collections.abc import Callable, Iterator, Sequence
+from collections.abc import Callable, Iterable, Iterator, Sequence
 from dataclasses import dataclass
 from typing import NamedTuple
 
@@ -162,3 +163,19 @@ def written(count: int, sites: int, seed: str) -> Iterator[Burst]:
         burst = writer.burst()
         yield Burst(burst.site, burst.fronts, burst.operations[:count])
         count -= len(burst.operations)
+
+
+def are_apart(one: tuple[Operation, Burst], other: tuple[Operation, Burst]) -> bool:
+    """Whether neither site had the other's operation."""
+    had = (burst.site == of.site or burst.fronts.get(of.site, 0) >= of.seq for (_, burst), (of, _) in ((one, other), (other, one)))
+    return not any(had)
+
+
+def meeting_places(bursts: Iterable[Burst]) -> int:
+    """After how many characters sites typed that didn't know of each other's typing."""
+    below: dict[Cause, list[tuple[Operation, Burst]]] = {}
+    for burst in bursts:
+        for operation in burst.operations:
+            if isinstance(operation.kind, Insert):
+                below.setdefault(operation.kind.cause, []).append((operation, burst))
+    return sum(any(are_apart(*pair) for pair in itertools.combinations(some, 2)) for some in below.values())
