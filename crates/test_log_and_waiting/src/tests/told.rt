@@ -104,7 +104,8 @@ fn ops_of(log: &Log, alloc: Global) -> Result<Vec<Op>, Refusal>
 {
     let mut ops = Vec::new(alloc);
     for place in 0..log.len() {
-        ops.push(log.op(place)?)?;
+        let op = log.op(place)?;
+        ops.push(op)?;
     }
     Ok(ops)
 }

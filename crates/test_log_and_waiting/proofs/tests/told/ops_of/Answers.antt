@@ -12,7 +12,7 @@ loop-place-preserved c =
     let there = c.in_ok-op.ensures.ok in
     let more = take_more all place op (slice_get_within all place op there)
     ∙ ap (λ (o : Operation). take place all ++ o ∷ []) (get_or_from_slice_get all place op op there) in
-    c.in_ok-push.ensures.ok ∙ ap (λ (ops : List Operation). ops ++ op ∷ []) c.loop-place.invariant ∙ sym more
+    c.in_ok-push.ensures.items ∙ ap (λ (ops : List Operation). ops ++ op ∷ []) c.loop-place.invariant ∙ sym more
 
 pub returns : goal.returns
 returns c =
