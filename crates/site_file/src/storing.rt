@@ -47,7 +47,8 @@ fn put_entries(out: &mut Vec<u8>, replica: &Replica) -> Result<(), Refusal>
 {
     let mut message = Vec::new(*out.allocator());
     for place in 0..replica.taken_len() {
-        put_entry(out, &mut message, replica.taken(place))?;
+        let op = replica.taken(place)?;
+        put_entry(out, &mut message, &op)?;
     }
     Ok(())
 }
