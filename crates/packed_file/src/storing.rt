@@ -34,9 +34,9 @@ fn put_operations(out: &mut Vec<u8>, replica: &Replica) -> Result<(), Refusal>
     replica.lemma_are_taken_once();
     let mut history = History::new(*out.allocator());
     for place in 0..replica.taken_len() {
-        let op = replica.taken(place);
+        let op = replica.taken(place)?;
         op.lemma_has_spelling();
-        history.put(op, out)?;
+        history.put(&op, out)?;
     }
     Ok(())
 }
