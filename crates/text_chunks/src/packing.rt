@@ -39,10 +39,10 @@ pub fn pack(alloc: Global, replica: &Replica, fronts: &[Front]) -> Result<Vec<Ve
     let mut history = History::new(alloc);
     let mut cutter = Cutter::new(alloc, replica.text());
     for place in 0..replica.taken_len() {
-        let op = replica.taken(place);
+        let op = replica.taken(place)?;
         op.lemma_has_spelling();
-        add_beyond(fronts, &mut cutter, op, history.len(op.site()))?;
-        history.pass(op)?;
+        add_beyond(fronts, &mut cutter, &op, history.len(op.site()))?;
+        history.pass(&op)?;
     }
     cutter.finish()
 }
