@@ -1,10 +1,11 @@
 //! What a session has taken in past some fronts, and its text as it was up to them.
 
-ghost use Rattle.std.specs.Prelude.{◌≡◌, ◌+◌, ◌++◌, ◌≤◌, length, map, IfNone, IfOk, IfSome, IsTrue};
+ghost use Rattle.std.specs.Prelude.{◌≡◌, ◌+◌, ◌++◌, ◌<◌, ◌≤◌, length, map, slice_get, IfNone, IfOk, IfSome, IsTrue};
 ghost use Rattle.std.specs.Prelude.{vec_capacity, vec_len};
 ghost use Rattle.std.specs.Int.{to_le_bytes, w16};
 ghost use Rattle.std.specs.List.{list_all};
 ghost use Rattle.looks.specs.Refusal.{RefusedForMemoryAlone};
+ghost use Rattle.operations.specs.Spelling.{spelling};
 ghost use Rattle.text_chunks.specs.Packing.{chunks_beyond};
 ghost use Rattle.texts.specs.Fronts.{front_in, is_beyond};
 ghost use Rattle.texts.specs.Past.{IsPastOf};
@@ -17,7 +18,7 @@ use crate::numbers::{NO_MESSAGE, NO_NUMBER};
 use crate::session::Session;
 use char_files::SiteNo;
 use looks::Refusal;
-use operations::{Op, encode};
+use operations::encode;
 use std::alloc::Global;
 use text_chunks::pack;
 use texts::{Front, Past, Replica};
@@ -41,11 +42,13 @@ fn front_in(fronts: &[SiteFront], site: SiteNo) -> u32
     0
 }
 
-// Whether an operation is beyond the fronts.
-fn is_beyond(fronts: &[SiteFront], op: &Op) -> bool
-    ensures { result ≡ is_beyond (fronts_of fronts.now) op.now }
+// Whether the operation that was taken in at this place is beyond the fronts.
+fn is_beyond(replica: &Replica, fronts: &[SiteFront], place: u64) -> bool
+    requires { place < length replica.now.operations }
+    ensures { IfSome (slice_get replica.now.operations place) (λ op. result ≡ is_beyond (fronts_of fronts.now) op) }
 {
-    front_in(fronts, op.site()) < op.seq()
+    let (site, seq) = replica.taken_identity(place);
+    front_in(fronts, site) < seq
 }
 
 // The place of the first operation beyond the fronts that was taken in at this place or after it.
@@ -55,20 +58,34 @@ fn first_beyond(replica: &Replica, fronts: &[SiteFront], from: u64) -> Option<u6
         (NoneIsBeyond replica.now.operations (fronts_of fronts.now) from (length replica.now.operations)) }
 {
     for place in from..replica.taken_len() {
-        if is_beyond(fronts, replica.taken(place)) {
+        if is_beyond(replica, fronts, place) {
             return Some(place);
         }
     }
     None
 }
 
-// Puts an operation's message into a room.
-fn put_spelling(alloc: Global, op: &Op, room: &mut [u8]) -> Put
-    ensures { PutsSpelling op.now room.old result.number result.need room.new }
+// The message of the operation that was taken in at this place. Refused `OutOfMemory` alone.
+fn spelt(alloc: Global, replica: &Replica, place: u64) -> Result<Vec<u8>, Refusal>
+    requires { place < length replica.now.operations }
+    ensures ok { IfOk result (λ message.
+        IfSome (slice_get replica.now.operations place) (λ op. message.items ≡ spelling op)) }
+    ensures errors { RefusedForMemoryAlone result }
 {
+    let op = replica.taken(place)?;
     let mut message = Vec::new(alloc);
-    match encode(op, &mut message) {
-        Ok(()) => put_bytes(&message, room),
+    encode(&op, &mut message)?;
+    Ok(message)
+}
+
+// Puts the message of the operation that was taken in at this place into a room.
+fn put_spelling(alloc: Global, replica: &Replica, place: u64, room: &mut [u8]) -> Put
+    requires { place < length replica.now.operations }
+    ensures { IfSome (slice_get replica.now.operations place)
+        (λ op. PutsSpelling op room.old result.number result.need room.new) }
+{
+    match spelt(alloc, replica, place) {
+        Ok(message) => put_bytes(&message, room),
         Err(why) => Put::none(u32::from(why.number())),
     }
 }
@@ -148,7 +165,7 @@ impl Session {
         let Some(place) = first_beyond(&self.replica, fronts, *index) else {
             return Put::none(NO_MESSAGE);
         };
-        let put = put_spelling(alloc, self.replica.taken(place), room);
+        let put = put_spelling(alloc, &self.replica, place, room);
         // No more is taken in than a `u64` counts.
         let _ = self.replica.taken_len();
         if put.number == 0 {
