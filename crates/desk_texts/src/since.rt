@@ -25,12 +25,12 @@ pub(crate) fn put_hex(out: &mut Vec<u8>, bytes: &[u8]) -> Result<(), AllocError>
 }
 
 // Appends the line of an operation's message.
-fn put_message(out: &mut Vec<u8>, op: &Op) -> Result<(), Refusal>
-    ensures ok { OnOk result (out.new.items ≡ out.old.items ++ message_line op.now) }
+fn put_message(out: &mut Vec<u8>, op: Op) -> Result<(), Refusal>
+    ensures ok { OnOk result (out.new.items ≡ out.old.items ++ message_line op) }
     ensures errors { RefusedForMemoryAlone result }
 {
     let mut message = Vec::new(*out.allocator());
-    encode(op, &mut message)?;
+    encode(&op, &mut message)?;
     out.extend_from_slice(b"message ")?;
     put_hex(out, &message)?;
     out.push(b'\n')?;
@@ -48,8 +48,9 @@ pub(crate) fn since_lines(
 {
     let mut lines = Vec::new(alloc);
     for place in 0..replica.taken_len() {
-        let op = replica.taken(place);
-        if front_in(fronts.list(), op.site()) < op.seq() {
+        let (site, seq) = replica.taken_identity(place);
+        if front_in(fronts.list(), site) < seq {
+            let op = replica.taken(place)?;
             put_message(&mut lines, op)?;
         }
     }
