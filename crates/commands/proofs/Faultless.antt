@@ -1,6 +1,6 @@
 -- A task in which the files have no part doesn't answer that the shelf failed.
 use Rattle.std.proofs.Common.{◌≡◌, ℕ, Bool, true, false, List, [], ◌∷◌, Option, Some, None, Result, Ok, Err, refl, sym, subst, inl, inr}
-use Rattle.std.specs.Prelude.{⊤, if◌then◌else◌, MatchResult}
+use Rattle.std.specs.Prelude.{⊤, if◌then◌else◌, MatchResult, ◌==◌, ◌&&◌}
 use Rattle.std.specs.Option.{option_map_or}
 use Rattle.looks.specs.declared.refusal.Refusal.{Refusal}
 use Rattle.looks.specs.declared.refusal.Refusal.TheVariants.{Behind, FileSpent, NoRoom, NoSelection, NoViewer, OutOfRange, ReadFault}
@@ -25,6 +25,7 @@ use Rattle.machine.specs.declared.asked.Arrangement.TheVariants.{Close, Move, Op
 use Rattle.machine_laws.proofs.Rooms.{by_test}
 use Rattle.commands.proofs.Shelves.{sent_replies}
 use Rattle.commands.specs.declared.answer.Answer.{Answer}
+use Rattle.commands.specs.Filing.{BeginsSo}
 use Rattle.commands.specs.Steps.{DeskSeen, IsEditStep, IsFault, IsTaskStep, answer_reply, sent_answer, with_desk}
 
 -- whether it is the shelf that failed
@@ -227,6 +228,15 @@ no_fault result messages sound (inl is) =
 no_fault result messages sound (inr is) =
     let lost : true ≡ false = subst (λ (x : Result Answer EditRefusal). IsSoundReply (answer_reply x messages)) is sound in
     absurd cc
+
+-- the begin of a text as it was kept isn't a fault
+pub begins_unfailed : (d : DeskSeen) (text : ℕ) (kept : TextState) (result : Result Answer EditRefusal) (new : DeskSeen)
+    → BeginsSo d text kept result new → IsFault result → ⊥
+begins_unfailed d text kept result new (t, at, begins) =
+    elim (by_test (kept.text == t.text && kept.site == t.site) _ _ begins) [
+      | inl own ↦ no_fault result [] (subst (λ (x : Result Answer EditRefusal). IsSoundReply (answer_reply x [])) (sym own.1.0) tt)
+      | inr other ↦ no_fault result [] (subst (λ (x : Result Answer EditRefusal). IsSoundReply (answer_reply x [])) (sym other.1.0) refl)
+    ]
 
 -- a missing selection isn't a fault
 pub no_selection_sound : (why : Refusal) → why ≡ NoSelection → IsFault (Err (Whole why)) → ⊥

@@ -4,6 +4,7 @@ use Rattle.texts.specs.TextState.{TextState}
 use Rattle.machine.specs.SiteTexts.{IsTextOf}
 use Rattle.machine.specs.Tasks.{has_begun}
 use Rattle.machine_laws.proofs.OneOfTexts.{one_element}
+use Rattle.commands.proofs.Faultless.{begins_unfailed}
 use Rattle.commands.proofs.Reopening.{begun_as, begun_step, unread_step}
 use Rattle.commands.specs.Steps.{DeskSeen, shelf_seen}
 use Rattle.commands.proofs.desk.Desk.reopen.Goals as goal
@@ -36,3 +37,7 @@ returns-in-Err-clause-step g c = λ sent.
     (subst (λ (x : DeskSeen). IsTextOf x.texts c.args.text t) c.self.view_is c.replica.ensures) c.args.name.now
     (sym c.has_begun.ensures ∙ c.if-has_begun.false) (shelf_seen (g.S.Shelf.files c.args.shelf.now) (g.S.Shelf.faults c.args.shelf.now)) (shelf_seen (g.S.Shelf.files c.read_site.new.shelf) (g.S.Shelf.faults c.read_site.new.shelf))
     c.in-Err.ensures.files sent c.in-Err.why c.in-Err.ensures.reads
+
+pub returns-in-Ok-clause-fault : goal.returns-in-Ok-clause-fault
+returns-in-Ok-clause-fault g c = λ failed.
+    absurd (begins_unfailed c.args.self.now c.args.text c.in-Ok.kept c.begin_as.result c.begin_as.new.self c.begin_as.ensures failed)
