@@ -138,9 +138,9 @@ def runs_of(characters: Sequence[Character]) -> Iterator[str]:
     yield "ok"
 
 
-def names_of(characters: Sequence[Character]) -> Iterator[str]:
-    """Of names that follow one another, the offset less the position stays."""
-    numbered = enumerate(each.name for each in characters)
+def names_of(characters: Sequence[Character], first: int = 0) -> Iterator[str]:
+    """The first one has this position. Of names that follow one another, the offset less the position stays."""
+    numbered = enumerate((each.name for each in characters), first)
     for (site, less), some in itertools.groupby(numbered, lambda each: (each[1].site, each[1].offset - each[0])):
         begin, *more = (pos for pos, _ in some)
         yield f"name {begin} {site} {begin + less} {1 + len(more)}"

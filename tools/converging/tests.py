@@ -1,10 +1,13 @@
-"""Tests of what operations show by the definition, and of the orders in which they are handed in."""
+"""Tests of what operations show by the definition, of what scripts are answered by it, and of the orders in which they are handed in."""
 from __future__ import annotations
 
 import random
 import unittest
 from collections import Counter
+from collections.abc import Sequence
 
+from tools import rows
+from tools.converging.answering import answers
 from tools.converging.handing import IN_ORDER, handed, turns
 from tools.converging.shown import names_of, runs_of, shown, text_of
 from tools.converging.writing import TEXT, written
@@ -32,6 +35,23 @@ WORKED = [
     made(2, 2, 3, insert(Name(2, 0), 1, b"Y")),
 ]
 A, C = Range(1, 0, 1), Range(1, 1, 1)
+# Of all kinds of events that are answered by the definition.
+WORKED_ROWS = (
+    "chunk-before-its-causes",
+    "delete-and-concurrent-insert",
+    "dropped-in-the-draining",
+    "full-room",
+    "long-insert-is-cut",
+    "looks-by-attribute",
+    "merge-both-ways",
+    "recall-the-cut",
+    "restore-a-character",
+    "restore-and-concurrent-delete",
+    "save-into-another-text",
+    "subtree-of-a-greater-key",
+    "tie-of-stamps",
+    "two-at-the-start",
+)
 
 
 class Shown(unittest.TestCase):
@@ -61,6 +81,23 @@ class Shown(unittest.TestCase):
         self.assertEqual([*names_of(shown(WORKED))], told)
         self.assertEqual([*names_of(shown(WORKED[:1]))], ["name 0 1 0 2", "ok"])
         self.assertEqual([*names_of([])], ["ok"])
+
+
+class Answers(unittest.TestCase):
+    """What scripts are answered, as the rows have it."""
+
+    def test_rows_that_were_worked_out_by_hand(self) -> None:
+        self.compare(WORKED_ROWS)
+
+    def test_rows_of_runs_that_are_typed_letter_by_letter(self) -> None:
+        self.compare([name for name in rows.names() if name.startswith("typed-run-")])
+
+    def compare(self, names: Sequence[str]) -> None:
+        self.assertGreater(len(names), 6)
+        for name in names:
+            with self.subTest(name):
+                row = rows.load(name)
+                self.assertEqual([*answers(row.script.decode().splitlines())], row.expected.decode().splitlines())
 
 
 class Handing(unittest.TestCase):
