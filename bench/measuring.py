@@ -1,4 +1,6 @@
 """Runs a command that answers scripts: what it answers, how long it takes, and how much memory."""
+from __future__ import annotations
+
 import ctypes
 import dataclasses
 import os
@@ -8,6 +10,8 @@ import subprocess
 import sys
 import tempfile
 import time
+from collections.abc import Sequence
+from typing import TextIO
 
 PR_SET_CHILD_SUBREAPER = 36
 STARTED = """
@@ -21,12 +25,12 @@ STARTED = """
 class Run:
     """The answer lines, the seconds, and the bytes that were resident at the peak."""
 
-    answers: list
+    answers: list[str]
     seconds: float
     peak: int
 
 
-def started(command, folder):
+def started(command: Sequence[str], folder: str) -> tuple[int, TextIO]:
     """The number of a process that is to answer the folder's script, and the pipe on whose first line it begins.
 
     A process takes over the peak of the one that starts it. So a small one starts it here, a shell, and leaves it to us."""
@@ -34,12 +38,13 @@ def started(command, folder):
     words = ["sh", "-c", STARTED, "sh", folder, *command]
     reading, writing = os.pipe()
     with subprocess.Popen(words, stdin=reading, stdout=subprocess.PIPE) as shell:
+        assert shell.stdout
         number = int(shell.stdout.readline())
     os.close(reading)
     return number, os.fdopen(writing, "w")
 
 
-def run(command, script, busy=False):
+def run(command: Sequence[str], script: bytes, busy: bool = False) -> Run:
     """The run of a command over a script of bytes. On a busy machine its seconds are those of processors, and not the clock's."""
     with tempfile.TemporaryDirectory() as folder:
         (pathlib.Path(folder) / "script").write_bytes(script)
