@@ -1,4 +1,5 @@
-"""Tests of what operations show by the definition, of what scripts are answered by it, and of the orders in which they are handed in."""
+"""Tests of what operations show by the definition, of what scripts are answered by it, of the orders in which they are handed in, and of
+how often they cut runs."""
 from __future__ import annotations
 
 import random
@@ -8,9 +9,10 @@ from collections.abc import Sequence
 
 from tools import rows
 from tools.converging.answering import answers
+from tools.converging.counting import FIRST, LAST, MIDST, NAMED, PAST, UNKNOWN, cuts
 from tools.converging.handing import IN_ORDER, handed, turns
 from tools.converging.shown import names_of, runs_of, shown, text_of
-from tools.converging.writing import TEXT, written
+from tools.converging.writing import TEXT, Burst, written
 from tools.packed.chunks import read_chunk
 from tools.packed.messages import Cause, ChangeLooks, Delete, Insert, Kind, Name, Operation, Range, Restore
 from tools.packed.packed import DEFAULT_LOOKS
@@ -128,6 +130,33 @@ class Handing(unittest.TestCase):
             if each.when == IN_ORDER:
                 self.assertEqual(replica.unpack(each.chunk), f"unpacked {len(read_chunk(each.chunk).operations)} 0 0")
         self.assertEqual(set(replica.held), set(self.operations))
+
+
+class Cuts(unittest.TestCase):
+    """How often runs were cut."""
+
+    # Site 2 types a to e.
+    RUN = Burst(2, {}, [made(2, 1 + at, 1 + at, insert(Name(2, at - 1) if at else None, at, b"abcde"[at : at + 1])) for at in range(5)])
+
+    def compare(self, site: int, fronts: dict[int, int], stamp: int, kind: Kind, **found: int) -> None:
+        names = {"first": FIRST, "midst": MIDST, "last": LAST, "past": PAST, "unknown": UNKNOWN, "named": NAMED}
+        wanted = Counter({names[name]: count for name, count in found.items()})
+        self.assertEqual(+cuts([self.RUN, Burst(site, fronts, [made(site, 1, stamp, kind)])]), wanted)
+
+    def test_between_two_letters(self) -> None:
+        for at, found in enumerate(("first", "midst", "midst", "last")):
+            self.compare(3, {2: 5}, 6, insert(Name(2, at), 0, b"X"), **{found: 1})
+        self.compare(3, {2: 5}, 6, insert(Name(2, 4), 0, b"X"))
+        self.compare(3, {}, 1, insert(None, 0, b"X"))
+
+    def test_the_next_letter_is_not_known(self) -> None:
+        self.compare(3, {2: 2}, 3, insert(Name(2, 1), 0, b"X"), midst=1, unknown=1)
+        self.compare(1, {2: 2}, 3, insert(Name(2, 1), 0, b"X"), past=1, unknown=1)
+
+    def test_names_of_some_letters(self) -> None:
+        for at, length in ((0, 1), (1, 3), (4, 1)):
+            self.compare(3, {2: 5}, 6, Delete((Range(2, at, length),)), named=1)
+        self.compare(3, {2: 5}, 6, Delete((Range(2, 0, 5),)))
 
 
 if __name__ == "__main__":

@@ -18,6 +18,10 @@ OTHER_LOOKS = (b"\x01A\x00\x00", b"\x08Mono.Fnt\x07\x7f", b"\x01A\x01\x80")
 VALUES = (b"\x01\x01A", b"\x01\x08Mono.Fnt", b"\x02\x0f", b"\x02\x02", b"\x04\xff", b"\x06\x01\x01", b"\x07\x01B\x03\x00")
 # How far behind the newest character of a site another is that is named, as a mean; often it is one that others like to name, too.
 NEAR, LIKED = (50, 50, 200, 1000, 100_000), (1, 16, 64, 64)
+# How many letters are typed in a row, as a rule; and, one time in so many.
+IN_A_ROW, SELDOM, LONG = (1, 2, 3, 5, 10, 30), 10_000, (5_000, 5_000, 5_000, 70_000)
+# How far behind the newest character of a site another types into what that types.
+INTO = 12
 # Before one burst in so many there is a meeting; how many bursts this stays so, as a mean.
 APART, STAYS = (3, 20, 100, 400), 2000
 
@@ -47,14 +51,21 @@ class Writer:
         self.stamp = 0
         self.caret: Cause = None
         self.deleted: list[Range] = []
+        # Whom it met since it wrote last; what it had of its own, and its stamp, since then and after each operation of its last burst.
+        self.met: int | None = None
+        self.steps = [(Known(), 0)]
 
     def fronts(self) -> dict[int, int]:
         return {site: known.seq for site, known in self.known.items() if site != self.site and known.seq}
 
     def meet(self, other: Writer) -> None:
-        """Takes in all that another one has."""
-        self.known = {site: max(known, other.known[site]) for site, known in self.known.items()}
-        self.stamp = max(self.stamp, other.stamp)
+        """Takes in all that another one has, or had in the midst of its last burst."""
+        last, stamp = self.rng.choice([other.steps[-1], self.rng.choice(other.steps)])
+        has = {**other.known, other.site: last}
+        self.known = {site: max(known, has[site]) for site, known in self.known.items()}
+        self.stamp = max(self.stamp, stamp)
+        self.met = other.site
+        self.steps = [(self.known[self.site], self.stamp)]
 
     # What it names.
 
@@ -95,10 +106,23 @@ class Writer:
         if self.rng.random() < 0.7:
             self.caret = self.name() if self.rng.random() < 0.99 else None
 
+    def typed_on(self) -> Iterator[Kind]:
+        for _ in range(self.rng.choice(IN_A_ROW if self.rng.randrange(SELDOM) else LONG)):
+            yield self.insert(1)
+
     def typed(self) -> Iterator[Kind]:
         self.place_caret()
-        for _ in range(self.rng.choice([1, 2, 3, 5, 10, 30])):
-            yield self.insert(1)
+        yield from self.typed_on()
+
+    def typed_into(self) -> Iterator[Kind]:
+        """A letter or a few among the newest characters that it knows of a site, which may go on there; then its caret goes back."""
+        site = self.met or self.rng.choice([*self.known])
+        before, newest = self.caret, self.known[site].length - 1
+        if newest >= 0:
+            self.caret = Name(site, max(0, newest - self.rng.choice([0, 0, 0, self.rng.randrange(INTO)])))
+            for _ in range(self.rng.choice([1, 1, 2, 3])):
+                yield self.insert(1)
+            self.caret = before
 
     def mistyped(self) -> Iterator[Kind]:
         """Letters that are taken back, from the last one on."""
@@ -139,13 +163,25 @@ class Writer:
         self.stamp += 1
         operation = Operation(TEXT, self.site, seq + 1, self.stamp, kind)
         self.known[self.site] = Known(seq + 1, length + inserted(operation))
+        self.steps.append((self.known[self.site], self.stamp))
         return operation
 
     def burst(self) -> Burst:
-        ways: list[Callable[[], Iterator[Kind]]] = [self.typed, self.mistyped, self.pasted, self.removed, self.restored, self.changed]
-        fronts = self.fronts()
-        kinds = self.rng.choices(ways, [6, 1, 1, 3, 2, 2])[0]()
-        return Burst(self.site, fronts, [self.operation(kind) for kind in kinds])
+        ways: dict[Callable[[], Iterator[Kind]], int] = {
+            self.typed: 4,
+            self.typed_on: 4,
+            self.typed_into: 3,
+            self.mistyped: 1,
+            self.pasted: 1,
+            self.removed: 3,
+            self.restored: 2,
+            self.changed: 2,
+        }
+        self.steps = self.steps[-1:]
+        way = self.typed_into if self.met and self.rng.randrange(2) else self.rng.choices([*ways], [*ways.values()])[0]
+        burst = Burst(self.site, self.fronts(), [self.operation(kind) for kind in way()])
+        self.met = None
+        return burst
 
 
 def written(count: int, sites: int, seed: str) -> Iterator[Burst]:
