@@ -10,13 +10,15 @@ from collections.abc import Callable, Iterator, Sequence
 from pathlib import Path
 
 from tools.converging.answering import Answering
+from tools.packed.messages import read_message
 from tools.packed.runs import Program
 from tools.play_rows import NOTHING_BUILT, program
 from tools.rows import difference
 from tools.running import folder_in_memory
 
 SEEDS = range(1, 101)
-SITES = (1, 2, 3)
+# Sites, and how often each does something: as a rule the last one has the greatest stamps, and others type into what it types.
+SITES = {1: 1, 2: 2, 3: 4}
 STEPS = 60
 TEXT = 1
 LETTERS = "abcdefghijklmnopqrstuvwxyz"
@@ -31,10 +33,11 @@ class Draw:
         self.answering = Answering()
         self.lines: list[str] = []
         self.wanted: list[str] = []
-        # Where each site goes on typing.
+        # Where each site goes on typing; and the numbers of messages, by the identities of their operations.
         self.carets = dict.fromkeys(SITES, 0)
+        self.numbers: dict[tuple[int, int], int] = {}
         for _ in range(STEPS):
-            self.step(self.rng.choice(SITES))
+            self.step(self.rng.choices([*SITES], [*SITES.values()])[0])
         for site in SITES:
             for number in range(1, 1 + len(self.answering.sent)):
                 self.do(site, "take", f"m{number}")
@@ -43,10 +46,13 @@ class Draw:
     def do(self, site: int, verb: str, *words: object) -> None:
         self.lines.append(" ".join(map(str, (site, verb, TEXT, *words))))
         self.wanted += self.answering.answers(self.lines[-1])
+        for number in range(len(self.numbers), len(self.answering.sent)):
+            operation = read_message(self.answering.sent[number])
+            self.numbers[operation.site, operation.seq] = 1 + number
 
     def step(self, site: int) -> None:
-        often: list[Callable[[int], None]] = [self.types, self.types, self.cuts, self.changes, self.meets]
-        self.rng.choice([*often, *often, self.takes_back, self.pastes, self.copies, self.restores])(site)
+        often: list[Callable[[int], None]] = [self.types, self.types, self.types_after, self.types_after, self.cuts, self.meets]
+        self.rng.choice([*often, *often, self.changes, self.takes_back, self.pastes, self.copies, self.restores])(site)
         if self.rng.randrange(3) == 0:
             self.ask(site)
 
@@ -65,9 +71,23 @@ class Draw:
         pos = min(self.carets[site], self.length(site))
         if self.rng.randrange(2):
             pos = self.rng.randint(0, self.length(site))
-        for pos in range(pos, pos + self.rng.choice([1, 1, 2, 3, 6, 12])):
+        self.types_at(site, pos, self.rng.choice([1, 1, 2, 3, 6, 12]))
+
+    def types_at(self, site: int, begin: int, length: int) -> None:
+        for pos in range(begin, begin + length):
             self.do(site, "type", pos, self.rng.choice(LETTERS))
             self.carets[site] = pos + 1
+
+    def types_after(self, site: int) -> None:
+        """It takes some of what another site made since, and types after a letter of that, which may be in the midst of a run."""
+        of, copy = self.rng.choice([each for each in SITES if each != site]), self.answering.copies[site, TEXT]
+        made, known = len(self.answering.copies[of, TEXT].sites.get(of, [])), len(copy.sites.get(of, []))
+        for seq in range(known + 1, self.rng.randint(known, made) + 1):
+            self.do(site, "take", f"m{self.numbers[of, seq]}")
+        newest = len(copy.characters.get(of, [])) - 1 - self.rng.choice([0, 0, 0, 1, 2, 5])
+        for pos, each in enumerate(copy.shown()):
+            if each.name == (of, newest):
+                self.types_at(site, pos + 1, self.rng.choice([1, 1, 2, 3]))
 
     def takes_back(self, site: int) -> None:
         for end in range(min(self.carets[site], self.length(site)), 0, -1)[: self.rng.randint(1, 3)]:
@@ -92,7 +112,7 @@ class Draw:
 
     def restores(self, site: int) -> None:
         """What it cut last, or some characters of a site, which may be shown."""
-        of, copy = self.rng.choice(SITES), self.answering.copies[site, TEXT]
+        of, copy = self.rng.choice([*SITES]), self.answering.copies[site, TEXT]
         length = len(copy.characters.get(of, []))
         if length and self.rng.randrange(3):
             at = self.rng.randrange(length)
@@ -105,7 +125,7 @@ class Draw:
         numbers = list(range(1, 1 + len(self.answering.sent)))
         way = self.rng.randrange(4)
         if way == 0:
-            self.do(site, "merge", self.rng.choice(SITES))
+            self.do(site, "merge", self.rng.choice([*SITES]))
             self.do(site, "settle")
         elif way == 1:
             self.rng.shuffle(numbers)
