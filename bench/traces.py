@@ -106,7 +106,12 @@ def in_prose(rng: random.Random, length: int) -> Iterator[Move]:
     return ((done, length + pos, letter) for done, pos, letter in written(rng))
 
 
-TRACES: dict[str, Callable[[random.Random, int], Iterator[Move]]] = {"at the end": at_the_end, "at random": at_random, "in bursts": in_bursts, "in prose": in_prose}
+TRACES: dict[str, Callable[[random.Random, int], Iterator[Move]]] = {
+    "at the end": at_the_end,
+    "at random": at_random,
+    "in bursts": in_bursts,
+    "in prose": in_prose,
+}
 AT_THE_END, AT_RANDOM, IN_BURSTS, IN_PROSE = TRACES
 
 

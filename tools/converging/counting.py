@@ -20,16 +20,16 @@ def made(bursts: Iterable[Burst]) -> Iterator[Made]:
     return ((operation, burst) for burst in bursts for operation in burst.operations)
 
 
-def letter(operation: Operation | None) -> Cause:
+def letter(operation: Operation) -> Name | None:
     """The character that it inserts, where that is one."""
-    kind = operation and operation.kind
-    return Name(operation.site, kind.at) if operation and isinstance(kind, Insert) and len(kind.data) == 1 else None
+    kind = operation.kind
+    return Name(operation.site, kind.at) if isinstance(kind, Insert) and len(kind.data) == 1 else None
 
 
 def goes_on(before: Operation, operation: Operation) -> bool:
     """Whether a site's operation is the next letter of the run that it typed in before."""
     one, other = before.kind, operation.kind
-    if not (isinstance(one, Insert) and isinstance(other, Insert) and letter(operation)):
+    if not (isinstance(one, Insert) and isinstance(other, Insert) and letter(before) and letter(operation)):
         return False
     return other.cause == letter(before) and other.looks == one.looks and operation.stamp == before.stamp + 1
 

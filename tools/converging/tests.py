@@ -149,6 +149,13 @@ class Cuts(unittest.TestCase):
         self.compare(3, {2: 5}, 6, insert(Name(2, 4), 0, b"X"))
         self.compare(3, {}, 1, insert(None, 0, b"X"))
 
+    def test_what_is_no_run(self) -> None:
+        """Letters after a paste, before it, and with later stamps."""
+        kinds = [insert(None, 0, b"ab"), insert(Name(2, 1), 2, b"c"), insert(None, 3, b"d"), insert(Name(2, 3), 4, b"e")]
+        apart = Burst(2, {}, [made(2, 1 + at, stamp, kind) for at, (stamp, kind) in enumerate(zip((1, 2, 3, 5), kinds))])
+        for cause in (None, *(Name(2, at) for at in range(5))):
+            self.assertFalse(+cuts([apart, Burst(3, {2: 4}, [made(3, 1, 6, insert(cause, 0, b"X"))])]))
+
     def test_the_next_letter_is_not_known(self) -> None:
         self.compare(3, {2: 2}, 3, insert(Name(2, 1), 0, b"X"), midst=1, unknown=1)
         self.compare(1, {2: 2}, 3, insert(Name(2, 1), 0, b"X"), past=1, unknown=1)
