@@ -54,7 +54,7 @@ module _ (each : Atom → Atom) (keeps : (k : Atom) → (each k).name ≡ k.name
   unchanged names none =
       map_same (if_named names each) (λ k. ap (λ (b : Bool). cond b (each k) k) (none k.name))
 
-  name_stays : (names : List Range) (k : Atom) → (if_named names each k).name ≡ k.name
+  pub name_stays : (names : List Range) (k : Atom) → (if_named names each k).name ≡ k.name
   name_stays names k = go (named names k.name)
     where
       go : (b : Bool) → (cond b (each k) k).name ≡ k.name

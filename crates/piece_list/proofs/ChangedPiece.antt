@@ -1,5 +1,10 @@
 -- A list of pieces before and after one of them was changed.
-use Rattle.std.proofs.Common.{◌≡◌, ◌≢◌, ℕ, ◌+◌, ◌-◌, ◌<◌, ◌≤◌, ◌==◌, cond, Bool, inl, inr, ne_eqb, eq-eqb, List, [], ◌∷◌, ◌++◌, Some}
+use Rattle.std.proofs.Common.{◌≡◌, ◌≢◌, ℕ, ◌+◌, ◌-◌, ◌<◌, ◌≤◌, ◌==◌, cond, Bool, true, false, inl, inr, ne_eqb, eq-eqb, List, [], ◌∷◌, ◌++◌}
+use Rattle.std.proofs.Common.{Option, Some, None, if◌then◌else◌}
+use Rattle.std.specs.Prelude.{ℤ}
+use Rattle.looks.specs.Key.{is_below}
+use Rattle.looks.specs.declared.key.Key.{Key}
+use Rattle.looks.specs.declared.register.Register.{Register}
 use Rattle.std.proofs.Common.{map, All, refl, sym, ap, subst, ◌∙◌, arith}
 use Rattle.std.proofs.lemmas.Bool.{cases_eq}
 use Rattle.std.proofs.lemmas.List.{map-append}
@@ -8,15 +13,15 @@ use Rattle.char_files.specs.CharName.{CharName}
 use Rattle.char_files.specs.declared.TheConstants.{MAX_FILE}
 use Rattle.operations.specs.NameSet.{Range, IsIn}
 use Rattle.piece_raw.specs.Ring.{AreTags, IsMember, HasTag, with_value}
-use Rattle.tree_order.specs.Registers.{Atom, if_named}
+use Rattle.tree_order.specs.Registers.{Atom, if_named, offered, offered_if}
 use Rattle.piece_list.specs.declared.setting.Setting.{Setting}
 use Rattle.piece_list.specs.declared.setting.Setting.TheVariants.{Switch, Relook}
-use Rattle.piece_list.specs.Piece.{Piece}
+use Rattle.piece_list.specs.Piece.{Piece, PieceRegister}
 use Rattle.piece_list.specs.declared.spot.Spot.{Spot}
-use Rattle.piece_list.specs.Changing.{IsEdge, changed_piece, changed_char}
+use Rattle.piece_list.specs.Changing.{IsEdge, changed_piece, changed_char, key_of}
 use Rattle.piece_list.specs.Held.{AreEntered, IsSpotOf}
-use Rattle.piece_list.specs.Laws.{Avoid, ChangesEach}
-use Rattle.piece_list.specs.Pieces.{range_of, IsPiece}
+use Rattle.piece_list.specs.Laws.{Avoid, ChangesEach, IsPieceBelow}
+use Rattle.piece_list.specs.Pieces.{range_of, char_of, key_in, offered_to, offered_to_if, register_of, set_under, IsPiece}
 use Rattle.piece_list.specs.Spelled.{spelled, HasName}
 use Rattle.piece_list.specs.Tables.{Tables, tag_at}
 use Rattle.piece_list.proofs.Changes.{of_its_names}
@@ -32,10 +37,54 @@ Items = List (ℕ × Piece)
 abbrev Entered : Tables → ℕ × Piece → Type 0
 Entered tables m = (c : CharName) → IsIn (range_of m.1) c → tag_at tables c ≡ Some m.0
 
+-- what is set in a piece's register is offered to that of each character of a lesser key
+module _ {V : Type 0} (own key : Key) (value : V) (below : is_below own key ≡ true) where
+  either : (set : Key) (old : V) (b : Bool)
+      → register_of (if b then record { by = Some key; value = value } else record { by = Some set; value = old }) own
+      ≡ (if b then record { key = key; value = value } else record { key = set; value = old })
+  either set old true = refl
+  either set old false = refl
+
+  offer : (by : Option Key) (old : V) → register_of (offered_to (record { by = by; value = old }) key value) own
+      ≡ offered (record { key = set_under by own; value = old }) key value
+  offer None old =
+      let made : Bool → Register V =
+      λ (b : Bool). if b then record { key = key; value = value } else record { key = own; value = old } in
+      sym (ap made below)
+  offer (Some set) old = either set old (is_below set key)
+
+  offer_if : (selected : Bool) (r : PieceRegister V) → register_of (offered_to_if selected r key value) own
+      ≡ offered_if selected (register_of r own) key value
+  offer_if true r = offer r.by r.value
+  offer_if false r = refl
+
 -- a change of a piece is one of its characters
-pub changes_each : (setting : Setting) → ChangesEach (changed_piece setting) (changed_char setting)
-changes_each (Switch hidden key) p = (refl, λ c. refl)
-changes_each (Relook sel looks key) p = (refl, λ c. refl)
+pub changes_each : (setting : Setting) → ChangesEach (key_of setting) (changed_piece setting) (changed_char setting)
+changes_each (Switch hidden key) p = (
+  refl,
+  λ c below. ap (λ (h : Register Bool). record (char_of p c) { hidden = h })
+      (offer (key_in p c) key hidden below p.hidden.by p.hidden.value),
+)
+changes_each (Relook sel looks key) p = (
+  refl,
+  λ c below.
+      let own : Key = key_in p c in
+      let k : Atom = char_of p c in
+      let made : Register (List ℕ) → Register ℕ → Register ℤ → Atom =
+      λ font colour offset. record k { font = font; colour = colour; offset = offset } in
+      let colour : Register ℕ = register_of (offered_to_if sel.colour p.colour key looks.colour) own in
+      let offset : Register ℤ = register_of (offered_to_if sel.offset p.offset key looks.offset) own in
+      let new_font : Register (List ℕ) = offered_if sel.font k.font key looks.font in
+      ap (λ (f : Register (List ℕ)). made f colour offset) (offer_if own key looks.font below sel.font p.font)
+      ∙ ap (λ (r : Register ℕ). made new_font r offset) (offer_if own key looks.colour below sel.colour p.colour)
+      ∙ ap (made new_font (offered_if sel.colour k.colour key looks.colour))
+      (offer_if own key looks.offset below sel.offset p.offset),
+)
+
+-- and leaves a piece
+keeps_piece : (setting : Setting) (p : Piece) → IsPiece p → IsPiece (changed_piece setting p)
+keeps_piece (Switch hidden key) p is = is
+keeps_piece (Relook sel looks key) p is = is
 
 -- and keeps their names
 pub keeps_name : (setting : Setting) (k : Atom) → (changed_char setting k).name ≡ k.name
@@ -72,15 +121,12 @@ module _ (tag : ℕ) (p w : Piece) (same : range_of w ≡ range_of p) where
       All-append E xs ((tag, w) ∷ ys) (all_left E xs ((tag, p) ∷ ys) edge)
       (All-cons E (tag, w) ys (subst R (sym same) own) (All-tail E (tag, p) ys here))
 
-  pieces_stay : (xs ys : Items) → All (λ m. IsPiece m.1) (xs ++ (tag, p) ∷ ys)
+  pieces_stay : (IsPiece p → IsPiece w) → (xs ys : Items) → All (λ m. IsPiece m.1) (xs ++ (tag, p) ∷ ys)
       → All (λ m. IsPiece m.1) (xs ++ (tag, w) ∷ ys)
-  pieces_stay xs ys all =
+  pieces_stay keeps xs ys all =
       let Is : ℕ × Piece → Type 0 = λ (m : ℕ × Piece). IsPiece m.1 in
       let here : All Is ((tag, p) ∷ ys) = all_right Is xs ((tag, p) ∷ ys) all in
-      let own : IsPiece p = All-head Is (tag, p) ys here in
-      let P : Range → Type 0 =
-      λ (r : Range). IsPiece (record p { site = r.site; off = r.at; len = r.len }) in
-      let is : IsPiece w = subst P (sym same) own in
+      let is : IsPiece w = keeps (All-head Is (tag, p) ys here) in
       All-append Is xs ((tag, w) ∷ ys) (all_left Is xs ((tag, p) ∷ ys) all)
       (All-cons Is (tag, w) ys is (All-tail Is (tag, p) ys here))
 
@@ -95,7 +141,7 @@ module _ (tag : ℕ) (p w : Piece) (same : range_of w ≡ range_of p) where
       (All-cons (Entered tables) (tag, w) ys is (All-tail (Entered tables) (tag, p) ys here))
 
 -- the numbers stay
-has_tag : (items : Items) (tag s : ℕ) (w : Piece) → HasTag items s → HasTag (with_value tag w items) s
+pub has_tag : (items : Items) (tag s : ℕ) (w : Piece) → HasTag items s → HasTag (with_value tag w items) s
 has_tag items tag s w (v, (xs, ys, is)) =
     let insert : ℕ × Piece → ℕ × Piece = λ (m : ℕ × Piece). (m.0, cond (m.0 == tag) w m.1) in
     (cond (s == tag) w v, (map insert xs, map insert ys, ap (map insert) is ∙ map-append insert xs ((s, v) ∷ ys)))
@@ -151,7 +197,8 @@ module _ (setting : Setting) (old : Items) (tables : Tables) (tag : ℕ) (p w : 
         subst (λ (l : Items). AreEntered l tables) is are in
         let back : xs ++ (tag, w) ∷ ys ≡ new = sym (parts xs ys is) in
         record {
-          pieces = subst (All (λ m. IsPiece m.1)) back (pieces_stay tag p w same_range xs ys whole.pieces);
+          pieces = subst (All (λ m. IsPiece m.1)) back (pieces_stay tag p w same_range
+              (λ piece. subst IsPiece (sym is_w) (keeps_piece setting p piece)) xs ys whole.pieces);
           entered = subst (All (Entered tables)) back
               (entered_stay tag p w same_range tables xs ys whole.entered);
           held = λ c s e. has_tag old tag s w (are.held c s e);
@@ -160,8 +207,9 @@ module _ (setting : Setting) (old : Items) (tables : Tables) (tag : ℕ) (p w : 
               spot_has_name new spot c (spot_stays spot c is);
         }
 
-    pub changed_there : spelled new ≡ map (if_named (range_of p ∷ []) (changed_char setting)) (spelled old)
-    changed_there =
+    pub changed_there : IsPieceBelow (key_of setting) p
+        → spelled new ≡ map (if_named (range_of p ∷ []) (changed_char setting)) (spelled old)
+    changed_there below =
         let (xs, ys, is) = member in
         let here : AreTags (xs ++ (tag, p) ∷ ys) = subst AreTags is tags in
         let all : All (Entered tables) (xs ++ (tag, p) ∷ ys) =
@@ -171,7 +219,7 @@ module _ (setting : Setting) (old : Items) (tables : Tables) (tag : ℕ) (p w : 
         let own : Entered tables (tag, p) = All-head (Entered tables) (tag, p) ys after in
         ap spelled (parts xs ys is)
         ∙ ap (λ (q : Piece). spelled (xs ++ (tag, q) ∷ ys)) is_w
-        ∙ of_its_names (changed_piece setting) (changed_char setting) xs ys tag p (changes_each setting)
+        ∙ of_its_names (key_of setting) (changed_piece setting) (changed_char setting) xs ys tag p (changes_each setting) below
         (avoids tables tag p xs own (all_left (Entered tables) xs ((tag, p) ∷ ys) all)
         (before_others xs ys tag p here))
         (avoids tables tag p ys own (All-tail (Entered tables) (tag, p) ys after)

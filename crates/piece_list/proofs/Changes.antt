@@ -60,13 +60,13 @@ module _ (each : Atom → Atom) (r : Range) where
       ap (λ (k : Atom). k ∷ map changed (map (char_of p) cs)) (stays (char_of p c) here)
       ∙ ap (λ (ks : List Atom). char_of p c ∷ ks) (chars_stay p cs rest)
 
-  chars_change : (p q : Piece) → ((c : CharName) → char_of q c ≡ each (char_of p c)) → (cs : List CharName)
+  chars_change : (p q : Piece) → ((c : CharName) → IsIn r c → char_of q c ≡ each (char_of p c)) → (cs : List CharName)
       → All (IsIn r) cs → map changed (map (char_of p) cs) ≡ map (char_of q) cs
   chars_change p q by [] is = refl
   chars_change p q by (c ∷ cs) is =
       let here = All-head (IsIn r) c cs is in
       let rest = All-tail (IsIn r) c cs is in
-      ap (λ (k : Atom). k ∷ map changed (map (char_of p) cs)) (changes (char_of p c) here ∙ sym (by c))
+      ap (λ (k : Atom). k ∷ map changed (map (char_of p) cs)) (changes (char_of p c) here ∙ sym (by c here))
       ∙ ap (λ (ks : List Atom). char_of q c ∷ ks) (chars_change p q by cs rest)
 
   -- pieces that have none of the names stay
@@ -83,18 +83,16 @@ module _ (each : Atom → Atom) (r : Range) where
       ∙ ap (λ (ks : List Atom). chars_of m.1 ++ ks) (pieces_stay items (All-tail P m items avoid))
 
 pub of_its_names : ChangeIsOfItsNames
-of_its_names change each before after tag p changes_each avoid_before avoid_after =
+of_its_names key change each before after tag p changes_each below avoid_before avoid_after =
     let chars : ℕ × Piece → List Atom = λ (m : ℕ × Piece). chars_of m.1 in
     let r : Range = range_of p in
     let f : Atom → Atom = if_named (r ∷ []) each in
     let a : List Atom = spelled before in
     let c : List Atom = spelled after in
-    let is : (range_of (change p) ≡ range_of p) × ((d : CharName)
-    → char_of (change p) d ≡ each (char_of p d)) =
-    changes_each p in
+    let (same, by) = changes_each p in
     let own : map f (chars_of p) ≡ chars_of (change p) =
-    chars_change each r p (change p) is.1 (names_of r) (in_range p)
-    ∙ ap (λ (s : Range). map (char_of (change p)) (names_of s)) (sym is.0) in
+    chars_change each r p (change p) (λ d is. by d (below d is)) (names_of r) (in_range p)
+    ∙ ap (λ (s : Range). map (char_of (change p)) (names_of s)) (sym same) in
     let new : map f (spelled (before ++ (tag, p) ∷ after)) ≡ a ++ (chars_of (change p) ++ c) =
     ap (map f) (flat_map-append chars before ((tag, p) ∷ after))
     ∙ map-append f a (chars_of p ++ c)

@@ -1,14 +1,15 @@
 -- A character is the one that the piece holding its name has under it.
-use Rattle.std.proofs.Common.{◌≡◌, ℕ, ◌+◌, ◌-◌, ◌<◌, inl, inr, List, [], ◌∷◌, Some}
+use Rattle.std.proofs.Common.{◌≡◌, ℕ, ◌+◌, ◌-◌, ◌<◌, Bool, true, false, inl, inr, List, [], ◌∷◌, Some}
 use Rattle.std.proofs.Common.{Contains, refl, sym, ap, subst, ◌∙◌, arith}
 use Rattle.std.proofs.lemmas.List.Elements.{Contains-append_cases}
+use Rattle.looks.specs.declared.key.Key.{Key}
 use Rattle.char_files.specs.CharName.{CharName}
 use Rattle.operations.specs.NameSet.{IsIn}
 use Rattle.piece_raw.specs.Ring.{IsMember, AreTags}
 use Rattle.tree_order.specs.Registers.{Atom}
 use Rattle.piece_list.specs.Piece.{Piece}
 use Rattle.piece_list.specs.declared.spot.Spot.{Spot}
-use Rattle.piece_list.specs.Pieces.{range_of, char_of, chars_of}
+use Rattle.piece_list.specs.Pieces.{range_of, char_of, chars_of, key_from, risen}
 use Rattle.piece_list.specs.Held.{IsSpotOf, AreEntered}
 use Rattle.piece_list.specs.Spelled.{spelled}
 use Rattle.piece_list.specs.Tables.{Tables, tag_at}
@@ -68,3 +69,23 @@ char_of_spot items tables are entered spot c p at held k has same =
     one_value items are spot.piece of.piece p (subst (λ (t : ℕ). IsMember items t of.piece) one of.member)
     held in
     of.same ∙ ap (char_of of.piece) same ∙ ap (λ (q : Piece). char_of q c) piece
+
+-- the key of a character is the piece's, so many characters on
+key_there : (rising : Bool) (key : Key) (site off within : ℕ)
+    → key_from rising key off (record { site = site; off = off + within }) ≡ risen rising within key
+key_there false key site off within = refl
+key_there true key site off within =
+    let same : key.stamp + (off + within) - off ≡ key.stamp + within = omega arith in
+    let made : ℕ → Key = λ (stamp : ℕ). record { stamp = stamp; site = key.site } in
+    ap made same
+
+pub key_of_spot : (items : Items) (tables : Tables) → AreTags items → AreEntered items tables
+    → (spot : Spot) (c : CharName) (p : Piece) → IsSpotOf items spot c → IsMember items spot.piece p
+    → (k : Atom) → Contains (spelled items) k → k.name ≡ c → k.key ≡ risen p.rising spot.within p.key
+key_of_spot items tables are entered spot c p at held k has same =
+    let (q, member, within, site, off) = at in
+    let one : q ≡ p = one_value items are spot.piece q p member held in
+    let there : c.off ≡ p.off + spot.within = off ∙ ap (λ (r : Piece). r.off + spot.within) one in
+    ap (λ (a : Atom). a.key) (char_of_spot items tables are entered spot c p at held k has same)
+    ∙ ap (λ (o : ℕ). key_from p.rising p.key p.off (record { site = c.site; off = o })) there
+    ∙ key_there p.rising p.key c.site p.off spot.within

@@ -4,12 +4,14 @@ use Rattle.std.proofs.Common.{List, [], ◌∷◌}
 use Rattle.std.proofs.Common.{◌++◌, Option, Some, All, get_or, refl, sym, ap, subst, ◌∙◌, arith}
 use Rattle.std.proofs.lemmas.Bool.{cases_eq, cases_lt}
 use Rattle.std.proofs.lemmas.List.Elements.{All-append, All-head, All-tail, All-cons}
+use Rattle.looks.specs.declared.key.Key.{Key}
 use Rattle.char_files.specs.CharName.{CharName}
 use Rattle.operations.specs.NameSet.{Range, IsIn, range_contains}
-use Rattle.piece_raw.specs.Ring.{AreTags, HasTag}
+use Rattle.std.specs.List.{AllByRecursion}
+use Rattle.piece_raw.specs.Ring.{AreTags, HasTag, tags}
 use Rattle.tree_order.specs.Registers.{Atom}
 use Rattle.piece_list.specs.Piece.{Piece}
-use Rattle.piece_list.specs.Pieces.{range_of, front_of, rest_of, IsPiece}
+use Rattle.piece_list.specs.Pieces.{range_of, front_of, rest_of, risen, IsPiece}
 use Rattle.piece_list.specs.Held.{AreEntered}
 use Rattle.piece_list.specs.Spelled.{spelled, HasName}
 use Rattle.piece_list.specs.Tables.{Tables, tag_in, table_of, tag_at}
@@ -41,6 +43,12 @@ has_tag (m ∷ items) tag (inr h) =
     let (p, (xs, ys, is)) = has_tag items tag h in
     (p, (m ∷ xs, ys, ap (λ (l : Items). m ∷ l) is))
 
+-- a number is below how many there are
+pub tag_below : (items : Items) (n tag : ℕ) → AllByRecursion (λ t. t < n) (tags items) → Held items tag → tag < n
+tag_below [] n tag all h = absurd h
+tag_below (m ∷ items) n tag (lt, all) (inl e) = subst (λ (t : ℕ). t < n) e lt
+tag_below (m ∷ items) n tag (lt, all) (inr h) = tag_below items n tag all h
+
 still_held : (xs ys : Items) (tag u s : ℕ) (p a b : Piece) → Held (xs ++ (tag, p) ∷ ys) s
     → Held (xs ++ (tag, a) ∷ (u, b) ∷ ys) s
 still_held [] ys tag u s p a b (inl e) = inl e
@@ -51,6 +59,10 @@ still_held (m ∷ xs) ys tag u s p a b (inr h) = inr (still_held xs ys tag u s p
 new_held : (xs ys : Items) (tag u : ℕ) (a b : Piece) → Held (xs ++ (tag, a) ∷ (u, b) ∷ ys) u
 new_held [] ys tag u a b = inr (inl refl)
 new_held (m ∷ xs) ys tag u a b = inr (new_held xs ys tag u a b)
+
+-- a key that rose has so much greater a stamp
+pub stamp_risen : (rising : Bool) (n : ℕ) (key : Key) → rising ≡ true → (risen rising n key).stamp ≡ key.stamp + n
+stamp_risen rising n key rises = ap (λ (b : Bool). (risen b n key).stamp) rises
 
 -- what is entered for a range of one site is entered for its names, and for no others
 module _ (r : Range) (tag : ℕ) (old new : Tables)
@@ -165,8 +177,14 @@ module _ (xs ys : Items) (tag u n : ℕ) (p : Piece) (old new : Tables)
           pieces = All-append Is xs ((tag, front_of n p) ∷ (u, rest_of n p) ∷ ys)
               (all_left Is xs ((tag, p) ∷ ys) are.pieces)
               (All-cons Is (tag, front_of n p) ((u, rest_of n p) ∷ ys)
-              (some, omega (arith, whole.1), omega (arith, whole.2), whole.3)
-              (All-cons Is (u, rest_of n p) ys (omega arith, omega (arith, whole.1), omega (arith, whole.2), whole.3)
+              (some, omega (arith, whole.1), omega (arith, whole.2), whole.3, λ rises. omega (arith, whole.4 rises))
+              (All-cons Is (u, rest_of n p) ys (
+                omega arith,
+                omega (arith, whole.1),
+                omega (arith, whole.2),
+                whole.3,
+                λ rises. omega (arith, whole.4 rises, stamp_risen p.rising n p.key rises),
+              )
               (All-tail Is (tag, p) ys here)));
           entered = All-append (Entered new) xs ((tag, front_of n p) ∷ (u, rest_of n p) ∷ ys)
               (all_stay xs (before_others xs ys tag p tags) (all_left (Entered old) xs

@@ -1,7 +1,8 @@
 -- A piece inserted after its cause and the pieces of greater key goes where the insertion law inserts its run.
-use Rattle.std.proofs.Common.{◌≡◌, ℕ, suc, ◌+◌, ◌-◌, ◌<◌, true, false, List, [], ◌∷◌, ◌++◌, Some, length}
+use Rattle.std.proofs.Common.{◌≡◌, ℕ, suc, ◌+◌, ◌-◌, ◌<◌, ◌≤◌, Bool, true, false, List, [], ◌∷◌, ◌++◌, Some, length}
 use Rattle.std.proofs.Common.{get_or, take, drop, map, All, refl, sym, ap, subst, ◌∙◌, arith, append_assoc}
 use Rattle.std.specs.List.{range_with_len}
+use Rattle.std.proofs.lemmas.Bool.Decides.{nat_tests}
 use Rattle.std.proofs.lemmas.List.{map-append, length-append, length-map, get_or_append_left}
 use Rattle.std.proofs.lemmas.List.{get_or-append-add}
 use Rattle.std.proofs.lemmas.List.{get_or-append_right}
@@ -15,14 +16,15 @@ use Rattle.looks.specs.declared.key.Key.{Key}
 use Rattle.char_files.specs.CharName.{CharName}
 use Rattle.char_files.specs.declared.name.Anchor.{Anchor}
 use Rattle.char_files.specs.declared.name.Anchor.TheVariants.{Root, At}
-use Rattle.operations.specs.NameSet.{names_of}
+use Rattle.operations.specs.NameSet.{IsIn, names_of}
 use Rattle.tree_order.specs.Insertion.{IsJustAfter}
 use Rattle.tree_order.specs.AtomInsertion.{IsLongest}
 use Rattle.tree_order.specs.Registers.{Atom}
 use Rattle.piece_list.specs.Piece.{Piece}
-use Rattle.piece_list.specs.Pieces.{range_of, char_of, chars_of, IsPiece}
+use Rattle.piece_list.specs.Pieces.{range_of, char_of, chars_of, key_from, IsPiece}
 use Rattle.piece_list.specs.Spelled.{spelled, names_of_atoms, ArePieces}
 use Rattle.piece_list.specs.Laws.{EndAt, BeginNotAbove, PieceGoesIntoGap}
+use Rattle.piece_list.proofs.Changes.{in_range}
 
 abbrev Above : Key → Atom → Type 0
 Above key c = is_below key c.key ≡ true
@@ -59,12 +61,22 @@ names_around front more tag p =
     ∙ ap (λ (cs : List CharName). earlier ++ cs) (map-append name_only (chars_of p) (spelled more)
     ∙ ap (λ (cs : List CharName). cs ++ later) (names_of_chars p (names_of (range_of p))))
 
+-- keys that rise from a greater one are greater
+key_above : (rising : Bool) (key own : Key) (off : ℕ) (c : CharName) → is_below key own ≡ true → off ≤ c.off
+    → is_below key (key_from rising own off c) ≡ true
+key_above false key own off c above le = above
+key_above true key own off c above le =
+    let more : own.stamp ≤ own.stamp + c.off - off = omega arith in
+    grind (arith, nat_tests, above, more)
+
 -- pieces of greater key have characters of greater key
-piece_above : (key : Key) (p : Piece) (cs : List CharName) → is_below key p.key ≡ true
+piece_above : (key : Key) (p : Piece) (cs : List CharName) → is_below key p.key ≡ true → All (IsIn (range_of p)) cs
     → All (Above key) (map (char_of p) cs)
-piece_above key p [] above = All-nil (Above key)
-piece_above key p (c ∷ cs) above =
-    All-cons (Above key) (char_of p c) (map (char_of p) cs) above (piece_above key p cs above)
+piece_above key p [] above is = All-nil (Above key)
+piece_above key p (c ∷ cs) above is =
+    let here : IsIn (range_of p) c = All-head (IsIn (range_of p)) c cs is in
+    All-cons (Above key) (char_of p c) (map (char_of p) cs) (key_above p.rising key p.key p.off c above here.1)
+    (piece_above key p cs above (All-tail (IsIn (range_of p)) c cs is))
 
 pieces_above : (key : Key) (items : List (ℕ × Piece)) → All (λ m. is_below key m.1.key ≡ true) items
     → All (Above key) (spelled items)
@@ -72,8 +84,16 @@ pieces_above key [] all = All-nil (Above key)
 pieces_above key (m ∷ items) all =
     let P : ℕ × Piece → Type 0 = λ (n : ℕ × Piece). is_below key n.1.key ≡ true in
     All-append (Above key) (chars m) (spelled items)
-    (piece_above key m.1 (names_of (range_of m.1)) (All-head P m items all))
+    (piece_above key m.1 (names_of (range_of m.1)) (All-head P m items all) (in_range m.1))
     (pieces_above key items (All-tail P m items all))
+
+-- keys begin with the first one
+pub key_begins : (rising : Bool) (key : Key) (site off : ℕ) → key_from rising key off (record { site = site; off = off }) ≡ key
+key_begins false key site off = refl
+key_begins true key site off =
+    let same : key.stamp + off - off ≡ key.stamp = omega arith in
+    let made : ℕ → Key = λ (stamp : ℕ). record { stamp = stamp; site = key.site } in
+    ap made same
 
 -- a piece begins with a character of its key
 begins : (p : Piece) → 0 < p.len → (more : List Atom) (d : Atom)
@@ -83,7 +103,7 @@ begins p some more d =
     let P : ℕ → Type 0 = λ (len : ℕ).
     (get_or (map (char_of p) (map name (range_with_len p.off len)) ++ more) 0 d).key ≡ p.key in
     let at : suc (p.len - 1) ≡ p.len = omega arith in
-    subst P at refl
+    subst P at (key_begins p.rising p.key p.site p.off)
 
 not_above : (key : Key) (items : List (ℕ × Piece)) → ArePieces items → BeginNotAbove key items
     → (d : Atom) → 0 < length (spelled items) → is_below key (get_or (spelled items) 0 d).key ≡ false

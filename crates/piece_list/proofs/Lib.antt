@@ -1,3 +1,4 @@
+pub mod Below
 pub mod ChangedNames
 pub mod ChangedPiece
 pub mod Changes
@@ -12,6 +13,7 @@ pub mod Few
 pub mod Found
 pub mod Gap
 pub mod HiddenNames
+pub mod Joined
 pub mod Noted
 pub mod NotedRun
 pub mod Order

@@ -186,31 +186,43 @@ noted_none setting names old was now same = record {
   leads = same;
 }
 
+-- the same keys
+abbrev HaveKeysOf : (p w : Piece) → Type 0
+HaveKeysOf p w = (w.key ≡ p.key) × (w.rising ≡ p.rising)
+
 -- a piece that shows the same
-same_told : (p w : Piece) → range_of w ≡ range_of p → w.key ≡ p.key → ShowsTheSame p w → told_by w ≡ told_by p
-same_told p w same key (hidden, looks) = go p.hidden.value refl
+same_told : (p w : Piece) → range_of w ≡ range_of p → HaveKeysOf p w → ShowsTheSame p w → told_by w ≡ told_by p
+same_told p w same (key, rising) (hidden, looks) = go p.hidden.value refl
   where
     go : (b : Bool) → p.hidden.value ≡ b → told_by w ≡ told_by p
     go true is = hidden_tells w (hidden ∙ is) ∙ sym (hidden_tells p is)
     go false is =
-        let run : Range → Key → Looks → Run =
-        λ (r : Range) (k : Key) (l : Looks). record { site = r.site; off = r.at; len = r.len; key = k; looks = l } in
+        let run : Range → Key → Bool → Looks → Run =
+        λ (r : Range) (k : Key) (b : Bool) (l : Looks). record {
+          site = r.site;
+          off = r.at;
+          len = r.len;
+          key = k;
+          rising = b;
+          looks = l;
+        } in
         let runs : run_of w ≡ run_of p =
-        ap (λ (r : Range). run r w.key (looks_of w)) same
-        ∙ ap (λ (k : Key). run (range_of p) k (looks_of w)) key
-        ∙ ap (run (range_of p) p.key) (looks is) in
+        ap (λ (r : Range). run r w.key w.rising (looks_of w)) same
+        ∙ ap (λ (k : Key). run (range_of p) k w.rising (looks_of w)) key
+        ∙ ap (λ (b : Bool). run (range_of p) p.key b (looks_of w)) rising
+        ∙ ap (run (range_of p) p.key p.rising) (looks is) in
         shown_tells w (hidden ∙ is) ∙ ap appearances_in runs ∙ sym (shown_tells p is)
 
-pub same_shown : (xs ys : Items) (tag : ℕ) (p w : Piece) → range_of w ≡ range_of p → w.key ≡ p.key
+pub same_shown : (xs ys : Items) (tag : ℕ) (p w : Piece) → range_of w ≡ range_of p → HaveKeysOf p w
     → ShowsTheSame p w → appearances (xs ++ (tag, w) ∷ ys) ≡ appearances (xs ++ (tag, p) ∷ ys)
-same_shown xs ys tag p w same key is =
+same_shown xs ys tag p w same keys is =
     parts xs ys tag w
-    ∙ ap (λ (l : List Appearance). appearances xs ++ (l ++ appearances ys)) (same_told p w same key is)
+    ∙ ap (λ (l : List Appearance). appearances xs ++ (l ++ appearances ys)) (same_told p w same keys is)
     ∙ sym (parts xs ys tag p)
 
-keeps_key : (setting : Setting) (p : Piece) → (changed_piece setting p).key ≡ p.key
-keeps_key (Switch hidden key) p = refl
-keeps_key (Relook sel looks key) p = refl
+keeps_keys : (setting : Setting) (p w : Piece) → w ≡ changed_piece setting p → HaveKeysOf p w
+keeps_keys (Switch hidden key) p w is = (ap (λ (q : Piece). q.key) is, ap (λ (q : Piece). q.rising) is)
+keeps_keys (Relook sel looks key) p w is = (ap (λ (q : Piece). q.key) is, ap (λ (q : Piece). q.rising) is)
 
 -- of a piece of a list, before and after it is set
 module _ (setting : Setting) (items : Items) (tag : ℕ) (p w : Piece) (are : AreTags items)
@@ -242,7 +254,7 @@ module _ (setting : Setting) (items : Items) (tag : ℕ) (p w : Piece) (are : Ar
   noted_still names old (xs, ys, is) same =
       noted_none setting names old items (with_value tag w items)
       (ap appearances (set_there xs ys is)
-      ∙ same_shown xs ys tag p w range_stays (ap (λ (q : Piece). q.key) is_w ∙ keeps_key setting p) same
+      ∙ same_shown xs ys tag p w range_stays (keeps_keys setting p w is_w) same
       ∙ sym (ap appearances is))
 
 -- a note of fewer names is one of more

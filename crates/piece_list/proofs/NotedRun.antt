@@ -23,6 +23,7 @@ use Rattle.piece_list.proofs.Noted.{told_by, count_tells, parts}
 use Rattle.piece_list.proofs.Positions.{Items, shown_in}
 use Rattle.piece_list.proofs.Shown.{count_chars, count_both, count_cons, count_more, shown_both}
 use Rattle.piece_list.proofs.ShownTo.{name_at, up_to}
+use Rattle.piece_list.proofs.SplitList.{parts_spell}
 
 abbrev chars : ℕ × Piece → List Atom
 chars m = chars_of m.1
@@ -35,10 +36,14 @@ module _ (cause : Anchor) (p : Piece) (old new : Items) (steps : ℕ) (insert : 
   abbrev first : CharName
   first = record { site = p.site; off = p.off }
 
+  -- what the list spells
+  here : spelled new ≡ spelled (front ++ (insert.tag, p) ∷ insert.after)
+  here = parts_spell insert.tag (front ++ (insert.tag, p) ∷ insert.after) new insert.insert
+
   -- where the first of its names stands among all
   at : (d : CharName) → get_or (names_of_atoms (spelled new)) (length (spelled front) + 0) d ≡ first
   at d =
-      ap (λ (l : Items). get_or (names_of_atoms (spelled l)) (length (spelled front) + 0) d) insert.insert
+      ap (λ (ks : List Atom). get_or (names_of_atoms ks) (length (spelled front) + 0) d) here
       ∙ name_at front insert.after insert.tag p first 0 some refl (omega arith) d
 
   within : length (spelled front) + 0 < length (names_of_atoms (spelled new))
@@ -46,7 +51,7 @@ module _ (cause : Anchor) (p : Piece) (old new : Items) (steps : ℕ) (insert : 
       omega (
         arith,
         length-map (spelled new) name_only,
-        ap (λ (l : Items). length (spelled l)) insert.insert,
+        ap length here,
         ap length (flat_map-append chars front ((insert.tag, p) ∷ insert.after)),
         length-append (spelled front) (spelled ((insert.tag, p) ∷ insert.after)),
         length-append (chars_of p) (spelled insert.after),
@@ -63,7 +68,7 @@ module _ (cause : Anchor) (p : Piece) (old new : Items) (steps : ℕ) (insert : 
       let found : slice_get (names_of_atoms (spelled new)) k ≡ Some first =
       slice_get-get_or (names_of_atoms (spelled new)) k first within ∙ ap (λ (c : CharName). Some c) (at first) in
       count k found
-      ∙ ap (λ (l : Items). length (shown_chars (take (k + 1) (spelled l)))) insert.insert
+      ∙ ap (λ (ks : List Atom). length (shown_chars (take (k + 1) ks))) here
       ∙ ap (λ (ks : List Atom). length (shown_chars ks)) (up_to front insert.after insert.tag p 0 some)
       ∙ count_more front (insert.tag, record p { len = 0 + 1 })
       ∙ omega (arith, ap (λ b. cond b 0 (0 + 1)) shown)
@@ -74,7 +79,7 @@ module _ (cause : Anchor) (p : Piece) (old new : Items) (steps : ℕ) (insert : 
       omega (
         arith,
         count_to_first n count,
-        ap shown_in insert.insert,
+        ap (λ (ks : List Atom). length (shown_chars ks)) here,
         count_both front ((insert.tag, p) ∷ insert.after),
         count_cons (insert.tag, p) insert.after,
         ap (λ b. cond b 0 p.len) shown,
@@ -97,7 +102,7 @@ module _ (cause : Anchor) (p : Piece) (old new : Items) (steps : ℕ) (insert : 
         come = told_by p;
         back = appearances insert.after;
         before = was;
-        after = ap appearances insert.insert ∙ parts front insert.after insert.tag p;
+        after = ap (λ (ks : List Atom). map appearance_of (shown_chars ks)) here ∙ parts front insert.after insert.tag p;
         at = length-map (shown_chars (spelled front)) appearance_of ∙ omega (arith, count_to_first n count);
         trades = (refl, omega (arith, count_tells p shown));
       } in

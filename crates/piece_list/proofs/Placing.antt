@@ -21,12 +21,13 @@ use Rattle.piece_list.specs.Held.{AreEntered, IsSpotOf, IsSplit}
 use Rattle.piece_list.specs.Laws.{Avoid, BeginNotAbove}
 use Rattle.piece_list.specs.Placed.{IsPlaced}
 use Rattle.piece_list.specs.Placing.{compared, IsAnchorSpot, IsParted, HasPart, IsPartedAt, IsSplitAt, IsSplitThere}
-use Rattle.piece_list.specs.Placing.{IsCounted, IsNext, IsSkip, IsInsertedInGap, last_look}
+use Rattle.piece_list.specs.Placing.{AreOrAreJoined, IsCounted, IsNext, IsSkip, IsInsertedInGap, last_look}
 use Rattle.piece_list.specs.Spelled.{spelled, names_of_atoms, HasName, ArePieces}
 use Rattle.piece_list.specs.Tables.{Tables, table_of, tag_at}
 use Rattle.tree_order.proofs.RunNames.{names_have}
 use Rattle.piece_list.proofs.Changes.{contained, is_contained}
 use Rattle.piece_list.proofs.Split.{split_spells_the_same}
+use Rattle.piece_list.proofs.SplitList.{parts_spell}
 use Rattle.piece_list.proofs.Entered.{Held, held, has_tag}
 use Rattle.piece_list.proofs.Found.{one_value, some_is, name_has_spot, spot_has_name}
 use Rattle.piece_list.proofs.Gap.{all_left, all_right, into_gap, name_only, names_of_chars}
@@ -299,7 +300,7 @@ same_lengths old new own len others site =
     ]
 
 -- no piece has a name that isn't spelled
-avoids : (r : Range) (items : Items) → ((c : CharName) → IsIn r c → HasName (spelled items) c → ⊥)
+pub avoids : (r : Range) (items : Items) → ((c : CharName) → IsIn r c → HasName (spelled items) c → ⊥)
     → Avoid r items
 avoids r [] new = All-nil (λ (m : ℕ × Piece). (c : CharName) → IsIn (range_of m.1) c → IsIn r c → ⊥)
 avoids r (m ∷ ms) new =
@@ -440,39 +441,37 @@ pub insert_in_gap : (old items new : Items) (cause : Anchor) (p : Piece) (end la
     → ((before after : Items) → IsParted items end before after
     → IsSkip p.key before after last (compared cause) steps)
     → ((before after : Items) → IsParted items last before after
-    → (tag : ℕ) × (new ≡ before ++ (tag, p) ∷ after))
-    → IsInsertedInGap cause p old new steps
+    → (tag : ℕ) × AreOrAreJoined tag (before ++ (tag, p) ∷ after) new)
+    → (g : IsInsertedInGap cause p old new steps) × (items ≡ g.before ++ g.skipped ++ g.after)
 insert_in_gap old items new cause p end last steps (before, after, parted, at, there) skips insert =
     let s : IsSkip p.key before after last (compared cause) steps = skips before after parted in
     let whole : items ≡ (before ++ s.skipped) ++ s.rest =
     parted.0 ∙ ap (λ (l : Items). before ++ l) s.whole ∙ sym (append_assoc before s.skipped s.rest) in
-    let (tag, is) = insert (before ++ s.skipped) s.rest (whole, s.last_is) in
-    record {
-      before = before;
-      skipped = s.skipped;
-      after = s.rest;
-      tag = tag;
-      gap = record { at_cause = at; greater = s.greater; stops = s.stops };
-      split = subst (IsSplitThere old before) s.whole there;
-      spells = ap spelled (sym whole) ∙ ap spelled parted.0 ∙ split_there_spells old before after there;
-      insert = is;
-      counts = s.counts;
-    }
+    let (tag, is) = insert (before ++ s.skipped) s.rest (whole, s.last_is) in (
+      record {
+        before = before;
+        skipped = s.skipped;
+        after = s.rest;
+        tag = tag;
+        gap = record { at_cause = at; greater = s.greater; stops = s.stops };
+        split = subst (IsSplitThere old before) s.whole there;
+        spells = ap spelled (sym whole) ∙ ap spelled parted.0 ∙ split_there_spells old before after there;
+        insert = is;
+        counts = s.counts;
+      },
+      whole,
+    )
 
-pub placed_in_gap : (old new : Items) (cause : Anchor) (p : Piece) (steps : ℕ) → ArePieces new
-    → IsInsertedInGap cause p old new steps
+pub placed_in_gap : (old items new : Items) (cause : Anchor) (p : Piece) (steps : ℕ) → ArePieces items
+    → (g : IsInsertedInGap cause p old new steps) → items ≡ g.before ++ g.skipped ++ g.after
     → IsPlaced p.key cause (chars_of p) (spelled old) (spelled new)
-placed_in_gap old new cause p steps pieces g =
-    let Is : ℕ × Piece → Type 0 = λ (m : ℕ × Piece). IsPiece m.1 in
+placed_in_gap old items new cause p steps pieces g whole =
     let front : Items = g.before ++ g.skipped in
-    let here : ArePieces (front ++ (g.tag, p) ∷ g.after) = subst ArePieces g.insert pieces in
-    let others : ArePieces (front ++ g.after) =
-    All-append Is front g.after (all_left Is front ((g.tag, p) ∷ g.after) here)
-    (all_right Is (front ++ (g.tag, p) ∷ []) g.after
-    (subst ArePieces (sym (append_assoc front ((g.tag, p) ∷ []) g.after)) here)) in
+    let others : ArePieces (front ++ g.after) = subst ArePieces whole pieces in
     let law : IsPlaced p.key cause (chars_of p) (spelled (front ++ g.after))
     (spelled (front ++ (g.tag, p) ∷ g.after)) =
     into_gap g.before g.skipped g.after cause g.tag p others g.gap in
-    subst (λ (l : Items). IsPlaced p.key cause (chars_of p) (spelled old) (spelled l)) (sym g.insert)
+    subst (λ (ks : List Atom). IsPlaced p.key cause (chars_of p) (spelled old) ks)
+    (sym (parts_spell g.tag (front ++ (g.tag, p) ∷ g.after) new g.insert))
     (subst (λ (ks : List Atom). IsPlaced p.key cause (chars_of p) ks
     (spelled (front ++ (g.tag, p) ∷ g.after))) g.spells law)

@@ -1,5 +1,5 @@
 -- Numbered records, and the pieces that they stand for.
-use Rattle.std.proofs.Common.{◌≡◌, ℕ, suc, zero, append-nil, append_assoc, ◌+◌, ◌≤◌, ◌==◌, cond, Bool, true, false, List, [], ◌∷◌, ◌++◌}
+use Rattle.std.proofs.Common.{◌≡◌, ℕ, suc, zero, append-nil, append_assoc, ◌+◌, ◌-◌, ◌≤◌, ◌==◌, cond, Bool, true, false, List, [], ◌∷◌, ◌++◌}
 use Rattle.std.proofs.Common.{Option, Some, None, length, map, All, refl, sym, ap, subst, ◌∙◌, arith, if◌then◌else◌}
 use Rattle.std.proofs.lemmas.List.{map-append, length-map, length-append, get_or_append_left}
 use Rattle.std.proofs.lemmas.List.Elements.{All-append, All-head, All-tail, All-cons}
@@ -14,14 +14,13 @@ use Rattle.looks.specs.Sel.{Selection}
 use Rattle.looks.specs.declared.key.Key.{Key}
 use Rattle.looks.specs.declared.looks.Looks.{Looks}
 use Rattle.looks.specs.declared.register.Register.{Register}
-use Rattle.tree_order.specs.Registers.{offered_if}
 use Rattle.piece_raw.specs.Ring.{Ring, ring, IsAtCursor, IsMember, HasTag, IsPushed, last_tag, first_tag, with_value, with_value_at}
 use Rattle.piece_list.proofs.Gap.{all_left, all_right}
 use Rattle.piece_list.specs.declared.record.PieceRecord.{PieceRecord}
-use Rattle.piece_list.specs.Piece.{Piece}
-use Rattle.piece_list.specs.Values.{Values, Grows, IsWithin, font_of, colour_of, offset_of, register_by, inserted_with, looks_by}
-use Rattle.piece_list.specs.Values.{key_of, piece_in, pieces_in, record_of}
-use Rattle.piece_list.specs.Pieces.{piece_of, relooked_piece}
+use Rattle.piece_list.specs.Piece.{Piece, PieceRegister}
+use Rattle.piece_list.specs.Values.{Values, FollowsIn, Grows, IsWithin, font_of, colour_of, offset_of, register_by, inserted_with}
+use Rattle.piece_list.specs.Values.{key_of, looks_by, no_entry, piece_in, pieces_in, record_of, rest_in, set_by}
+use Rattle.piece_list.specs.Pieces.{gives_way, inserted, longer, offered_to_if, piece_of, relooked_piece, rest_of, risen}
 use Rattle.piece_list.specs.declared.run.Run.{Run}
 use Rattle.piece_list.proofs.Found.{some_is}
 
@@ -105,32 +104,31 @@ module _ {A B : Type 0} (f : A → B) where
       ∙ ap (λ (zs : List (ℕ × B)). (m.0, cond (m.0 == t) (f w) (f m.1)) ∷ zs) (written_on t w xs)
 
 -- entries that were added change no register
-register_stays : {V : Type 0} (entries more : List (Register V)) (by : ℕ) (inserted : Register V) → by ≤ length entries
-    → register_by (entries ++ more) by inserted ≡ register_by entries by inserted
-register_stays entries more zero inserted le = refl
-register_stays entries more (suc n) inserted le = get_or_append_left entries more inserted n (omega (arith, le))
+register_stays : {V : Type 0} (entries more : List (Register V)) (by : ℕ) (value : V) → by ≤ length entries
+    → register_by (entries ++ more) by value ≡ register_by entries by value
+register_stays entries more zero value le = refl
+register_stays {V} entries more (suc n) value le =
+    ap (λ (r : Register V). set_by r) (get_or_append_left entries more (no_entry value) n (omega (arith, le)))
 
 module _ (v w : Values) (grows : Grows v w) (r : PieceRecord) (within : IsWithin v r) where
   inserted_stays : inserted_with w r ≡ inserted_with v r
   inserted_stays =
       let (more, is) = grows.looks in
-      ap (λ (looks : Looks). record { key = key_of r; value = looks })
-      (ap (λ (ls : List Looks). slice_index_or ls r.looks plain_looks) is
-      ∙ get_or_append_left v.looks more plain_looks r.looks within.looks)
+      ap (λ (ls : List Looks). slice_index_or ls r.looks plain_looks) is
+      ∙ get_or_append_left v.looks more plain_looks r.looks within.looks
 
   looks_stay : (by : ℕ) → by ≤ length v.relooks → looks_by w r by ≡ looks_by v r by
   looks_stay by le =
       let (more, is) = grows.relooks in
-      ap (λ (i : Register Looks). register_by w.relooks by i) inserted_stays
+      ap (λ (looks : Looks). register_by w.relooks by looks) inserted_stays
       ∙ ap (λ (es : List (Register Looks)). register_by es by (inserted_with v r)) is
       ∙ register_stays v.relooks more by (inserted_with v r) le
 
-  hidden_stays : register_by w.switches r.hidden_by (record { key = key_of r; value = false })
-      ≡ register_by v.switches r.hidden_by (record { key = key_of r; value = false })
+  hidden_stays : register_by w.switches r.hidden_by false ≡ register_by v.switches r.hidden_by false
   hidden_stays =
       let (more, is) = grows.switches in
-      ap (λ (es : List (Register Bool)). register_by es r.hidden_by (record { key = key_of r; value = false })) is
-      ∙ register_stays v.switches more r.hidden_by (record { key = key_of r; value = false }) within.hidden
+      ap (λ (es : List (Register Bool)). register_by es r.hidden_by false) is
+      ∙ register_stays v.switches more r.hidden_by false within.hidden
 
   pub piece_stays : piece_in w r ≡ piece_in v r
   piece_stays =
@@ -138,14 +136,14 @@ module _ (v w : Values) (grows : Grows v w) (r : PieceRecord) (within : IsWithin
       let colour = looks_stay r.colour_by within.colour in
       let offset = looks_stay r.offset_by within.offset in
       let hidden = hidden_stays in
-      ap (λ (l : Register Looks). record (piece_in w r) { font = font_of l }) font
-      ∙ ap (λ (l : Register Looks). record (piece_in w r) { font = font_of (looks_by v r r.font_by); colour = colour_of l }) colour
-      ∙ ap (λ (l : Register Looks). record (piece_in w r) {
+      ap (λ (l : PieceRegister Looks). record (piece_in w r) { font = font_of l }) font
+      ∙ ap (λ (l : PieceRegister Looks). record (piece_in w r) { font = font_of (looks_by v r r.font_by); colour = colour_of l }) colour
+      ∙ ap (λ (l : PieceRegister Looks). record (piece_in w r) {
         font = font_of (looks_by v r r.font_by);
         colour = colour_of (looks_by v r r.colour_by);
         offset = offset_of l;
       }) offset
-      ∙ ap (λ (h : Register Bool). record (piece_in v r) { hidden = h }) hidden
+      ∙ ap (λ (h : PieceRegister Bool). record (piece_in v r) { hidden = h }) hidden
 
   pub within_stays : IsWithin w r
   within_stays =
@@ -256,26 +254,26 @@ after_on v records left at is before rest whole last =
     ap (pieces_in v) (is l r parts ends) ∙ is_r
 
 -- a part of looks alone
-abbrev part_of : {V : Type 0} → (Looks → V) → Register Looks → Register V
-part_of part r = record { key = r.key; value = part r.value }
+abbrev part_of : {V : Type 0} → (Looks → V) → PieceRegister Looks → PieceRegister V
+part_of part r = record { by = r.by; value = part r.value }
 
-either_part : {V : Type 0} (part : Looks → V) (b : Bool) (r : Register Looks) (key : Key) (looks : Looks)
-    → part_of part (if b then record { key = key; value = looks } else r)
-    ≡ (if b then record { key = key; value = part looks } else part_of part r)
+either_part : {V : Type 0} (part : Looks → V) (b : Bool) (r : PieceRegister Looks) (key : Key) (looks : Looks)
+    → part_of part (if b then record { by = Some key; value = looks } else r)
+    ≡ (if b then record { by = Some key; value = part looks } else part_of part r)
 either_part part true r key looks = refl
 either_part part false r key looks = refl
 
 -- looks that are offered are offered part by part
-offered_part : {V : Type 0} (part : Looks → V) (selected : Bool) (r : Register Looks) (key : Key) (looks : Looks)
-    → part_of part (offered_if selected r key looks) ≡ offered_if selected (part_of part r) key (part looks)
-offered_part part true r key looks = either_part part (is_below r.key key) r key looks
+offered_part : {V : Type 0} (part : Looks → V) (selected : Bool) (r : PieceRegister Looks) (key : Key) (looks : Looks)
+    → part_of part (offered_to_if selected r key looks) ≡ offered_to_if selected (part_of part r) key (part looks)
+offered_part part true r key looks = either_part part (gives_way r.by key) r key looks
 offered_part part false r key looks = refl
 
 module _ (v : Values) (r w : PieceRecord) (sel : Selection) (key : Key) (looks : Looks) where
   -- the entry that sets a register after new looks are offered
   abbrev pub IsLater : Bool → (was by : ℕ) → Type 0
   IsLater selected was by =
-      looks_by v r by ≡ offered_if selected (looks_by v r was) key looks
+      looks_by v r by ≡ offered_to_if selected (looks_by v r was) key looks
 
   pub relooked_in : w ≡ record r { font_by = w.font_by; colour_by = w.colour_by; offset_by = w.offset_by }
       → IsLater sel.font r.font_by w.font_by → IsLater sel.colour r.colour_by w.colour_by
@@ -283,34 +281,34 @@ module _ (v : Values) (r w : PieceRecord) (sel : Selection) (key : Key) (looks :
   relooked_in is font colour offset =
       let p : Piece = piece_in v r in
       ap (piece_in v) is
-      ∙ ap (λ (l : Register Looks). record p {
+      ∙ ap (λ (l : PieceRegister Looks). record p {
         font = font_of l;
         colour = colour_of (looks_by v r w.colour_by);
         offset = offset_of (looks_by v r w.offset_by);
       }) font
-      ∙ ap (λ (f : Register (List ℕ)). record p {
+      ∙ ap (λ (f : PieceRegister (List ℕ)). record p {
         font = f;
         colour = colour_of (looks_by v r w.colour_by);
         offset = offset_of (looks_by v r w.offset_by);
       }) (offered_part (λ l. l.font) sel.font (looks_by v r r.font_by) key looks)
-      ∙ ap (λ (l : Register Looks). record p {
-        font = offered_if sel.font p.font key looks.font;
+      ∙ ap (λ (l : PieceRegister Looks). record p {
+        font = offered_to_if sel.font p.font key looks.font;
         colour = colour_of l;
         offset = offset_of (looks_by v r w.offset_by);
       }) colour
-      ∙ ap (λ (c : Register ℕ). record p {
-        font = offered_if sel.font p.font key looks.font;
+      ∙ ap (λ (c : PieceRegister ℕ). record p {
+        font = offered_to_if sel.font p.font key looks.font;
         colour = c;
         offset = offset_of (looks_by v r w.offset_by);
       }) (offered_part (λ l. l.colour) sel.colour (looks_by v r r.colour_by) key looks)
-      ∙ ap (λ (l : Register Looks). record p {
-        font = offered_if sel.font p.font key looks.font;
-        colour = offered_if sel.colour p.colour key looks.colour;
+      ∙ ap (λ (l : PieceRegister Looks). record p {
+        font = offered_to_if sel.font p.font key looks.font;
+        colour = offered_to_if sel.colour p.colour key looks.colour;
         offset = offset_of l;
       }) offset
-      ∙ ap (λ (o : Register ℤ). record p {
-        font = offered_if sel.font p.font key looks.font;
-        colour = offered_if sel.colour p.colour key looks.colour;
+      ∙ ap (λ (o : PieceRegister ℤ). record p {
+        font = offered_to_if sel.font p.font key looks.font;
+        colour = offered_to_if sel.colour p.colour key looks.colour;
         offset = o;
       }) (offered_part (λ l. l.offset) sel.offset (looks_by v r r.offset_by) key looks)
 
@@ -352,9 +350,9 @@ pub run_in : (v : Values) (run : Run) (looks : ℕ) → slice_get v.looks looks 
 run_in v run looks there =
     let at : slice_index_or v.looks looks plain_looks ≡ run.looks = get_or_from_slice_get v.looks looks run.looks plain_looks there in
     ap (λ (l : Looks). record (piece_of run) {
-      font = record { key = run.key; value = l.font };
-      colour = record { key = run.key; value = l.colour };
-      offset = record { key = run.key; value = l.offset };
+      font = inserted l.font;
+      colour = inserted l.colour;
+      offset = inserted l.offset;
     }) at
 
 pub run_within : (v : Values) (run : Run) (looks : ℕ) → slice_get v.looks looks ≡ Some run.looks
@@ -367,9 +365,10 @@ run_within v run looks there = record {
   hidden = omega arith;
 }
 
--- as many characters as there are change nothing else of a record
-pub cut_within : (v : Values) (r : PieceRecord) (off len : ℕ) → IsWithin v r → IsWithin v (record r { off = off; len = len })
-cut_within v r off len is = record {
+-- other characters change nothing else of a record
+pub cut_within : (v : Values) (r : PieceRecord) (stamp off len : ℕ) → IsWithin v r
+    → IsWithin v (record r { stamp = stamp; off = off; len = len })
+cut_within v r stamp off len is = record {
   looks = is.looks;
   font = is.font;
   colour = is.colour;
@@ -391,3 +390,62 @@ same_looks a b is =
     ap (λ (f : List ℕ). made f a.colour a.offset) ((bytes_eq-Decides a.font b.font).0 font)
     ∙ ap (λ (c : ℕ). made b.font c a.offset) ((Decides-eqb a.colour b.colour).0 colour)
     ∙ ap (λ (o : ℤ). made b.font b.colour o) ((Decides-int_eq a.offset b.offset).0 offset)
+
+-- the record of the rest stands for the rest
+stamp_on : (rising : Bool) (n : ℕ) (key : Key) → record { stamp = (risen rising n key).stamp; site = key.site } ≡ risen rising n key
+stamp_on true n key = refl
+stamp_on false n key = refl
+
+pub rest_stands : (v : Values) (r : PieceRecord) (n : ℕ) → piece_in v (rest_in n r) ≡ rest_of n (piece_in v r)
+rest_stands v r n =
+    ap (λ (key : Key). record (rest_of n (piece_in v r)) { key = key }) (stamp_on r.rising n (key_of r))
+
+-- a run that follows a record in the same looks goes on where its piece ends
+pub follows_there : (v : Values) (r : PieceRecord) (run : Run) → FollowsIn r run → inserted_with v r ≡ run.looks
+    → piece_of run ≡ rest_of r.len (longer run.len (piece_in v r))
+follows_there v r run f same =
+    let p : Piece = longer run.len (piece_in v r) in
+    let made : ℕ → ℕ → ℕ → Key → Bool → Looks → Piece = λ site off len key rising looks. piece_of (record {
+      site = site;
+      off = off;
+      len = len;
+      key = key;
+      rising = rising;
+      looks = looks;
+    }) in
+    let key : (b : Bool) → b ≡ true → run.key ≡ risen b r.len (key_of r) = λ b rises.
+    let of : ℕ → ℕ → Key = λ (stamp site : ℕ). record { stamp = stamp; site = site } in
+    ap (λ (stamp : ℕ). of stamp run.key.site) f.stamp ∙ ap (of (r.stamp + r.len)) (sym f.key_site)
+    ∙ ap (λ (b : Bool). risen b r.len (key_of r)) (sym rises) in
+    let len : run.len ≡ r.len + run.len - r.len = omega arith in
+    let font : piece_in v r ≡ made r.site r.off r.len (key_of r) r.rising (inserted_with v r) = untouched in
+    ap (λ (site : ℕ). made site run.off run.len run.key run.rising run.looks) (sym f.site)
+    ∙ ap (λ (off : ℕ). made r.site off run.len run.key run.rising run.looks) f.off
+    ∙ ap (λ (n : ℕ). made r.site (r.off + r.len) n run.key run.rising run.looks) len
+    ∙ ap (λ (k : Key). made r.site (r.off + r.len) (r.len + run.len - r.len) k run.rising run.looks) (key r.rising f.rises)
+    ∙ ap (λ (b : Bool). made r.site (r.off + r.len) (r.len + run.len - r.len) (risen r.rising r.len (key_of r)) b run.looks)
+    (f.rising ∙ sym f.rises)
+    ∙ ap (made r.site (r.off + r.len) (r.len + run.len - r.len) (risen r.rising r.len (key_of r)) r.rising) (sym same)
+    ∙ ap (λ (q : Piece). rest_of r.len (longer run.len q)) (sym font)
+  where
+    -- the piece of a record whose registers are as they were inserted
+    untouched : piece_in v r ≡ piece_of (record {
+      site = r.site;
+      off = r.off;
+      len = r.len;
+      key = key_of r;
+      rising = r.rising;
+      looks = inserted_with v r;
+    })
+    untouched =
+        let by : ℕ → ℕ → ℕ → ℕ → Piece =
+        λ font colour offset hidden. piece_in v (record r {
+          font_by = font;
+          colour_by = colour;
+          offset_by = offset;
+          hidden_by = hidden;
+        }) in
+        ap (λ (n : ℕ). by n r.colour_by r.offset_by r.hidden_by) f.untouched.font
+        ∙ ap (λ (n : ℕ). by 0 n r.offset_by r.hidden_by) f.untouched.colour
+        ∙ ap (λ (n : ℕ). by 0 0 n r.hidden_by) f.untouched.offset
+        ∙ ap (by 0 0 0) f.untouched.hidden

@@ -8,22 +8,21 @@ use Rattle.std.proofs.lemmas.Bool.{cases_lt}
 use Rattle.std.proofs.lemmas.List.{append-nil, drop-append-le, drop-map, length-map, take-append-le, take-map}
 use Rattle.std.proofs.lemmas.List.Elements.{All-cons, All-head, All-nil, All-tail}
 use Rattle.std.proofs.lemmas.List.FromFn.{length-map-range_with_len, take-map-range_with_len}
+use Rattle.looks.specs.declared.key.Key.{Key}
 use Rattle.char_files.specs.CharName.{CharName}
 use Rattle.char_files.specs.declared.TheConstants.{MAX_FILE}
 use Rattle.piece_list.specs.declared.run.Run.{Run}
-use Rattle.piece_list.specs.RunSplits.{AreWithin, first_chars}
+use Rattle.piece_list.specs.RunSplits.{AreWithin, after_first, first_chars}
 use Rattle.piece_list.specs.Shown.{Appearance, appearance_in, appearances_in}
+use Rattle.piece_list.proofs.Split.{key_on}
 
 -- what runs tell of their characters
 abbrev pub told : List Run → List Appearance
 told runs = flat_map appearances_in runs
 
--- a run's first n characters, and what it is without them
+-- a run's first n characters
 abbrev pub run_to : ℕ → Run → Run
 run_to n r = record r { len = min r.len n }
-
-abbrev pub run_from : ℕ → Run → Run
-run_from n r = record r { off = r.off + n; len = r.len - n }
 
 abbrev name_in : Run → ℕ → CharName
 name_in r off = record { site = r.site; off = off }
@@ -53,9 +52,18 @@ later_numbers from (suc len) (suc n) le =
     ∙ ap (λ (a : ℕ). range_with_len a (len - n)) on
     ∙ ap (range_with_len (from + suc n)) less
 
-split_before : (n : ℕ) (r : Run) → n ≤ r.len → appearances_in (run_from n r) ≡ drop n (appearances_in r)
+-- what is left of it tells the same of a character
+tells_on : (n : ℕ) (r : Run) (cs : List CharName) → map (appearance_in (after_first n r)) cs ≡ map (appearance_in r) cs
+tells_on n r [] = refl
+tells_on n r (c ∷ cs) =
+    let under : Key → Appearance = λ (key : Key). record { name = c; key = key; looks = r.looks } in
+    ap (λ (s : Appearance). s ∷ map (appearance_in (after_first n r)) cs) (ap under (key_on r.rising r.key r.off n c))
+    ∙ ap (λ (ss : List Appearance). appearance_in r c ∷ ss) (tells_on n r cs)
+
+split_before : (n : ℕ) (r : Run) → n ≤ r.len → appearances_in (after_first n r) ≡ drop n (appearances_in r)
 split_before n r le =
-    ap (λ (offs : List ℕ). map (appearance_in r) (map (name_in r) offs)) (sym (later_numbers r.off r.len n le))
+    tells_on n r (map (name_in r) (range_with_len (r.off + n) (r.len - n)))
+    ∙ ap (λ (offs : List ℕ). map (appearance_in r) (map (name_in r) offs)) (sym (later_numbers r.off r.len n le))
     ∙ ap (map (appearance_in r)) (sym (drop-map (name_in r) n (range_with_len r.off r.len)))
     ∙ sym (drop-map (appearance_in r) n (map (name_in r) (range_with_len r.off r.len)))
 
@@ -144,15 +152,15 @@ first_within (suc n) (r ∷ runs) all =
 
 -- a run's front is left out
 pub skips_front : (n : ℕ) (r : Run) (runs : List Run) → n < r.len
-    → told (run_from n r ∷ runs) ≡ drop n (told (r ∷ runs))
+    → told (after_first n r ∷ runs) ≡ drop n (told (r ∷ runs))
 skips_front n r runs lt =
     let few : n ≤ length (appearances_in r) = omega (arith, told_len r) in
     let le : n ≤ r.len = omega arith in
     ap (λ (front : List Appearance). front ++ told runs) (split_before n r le)
     ∙ sym (drop-append-le n (appearances_in r) (told runs) few)
 
-pub front_within : (n : ℕ) (r : Run) (runs : List Run) → n < r.len → AreWithin (r ∷ runs) → AreWithin (run_from n r ∷ runs)
+pub front_within : (n : ℕ) (r : Run) (runs : List Run) → n < r.len → AreWithin (r ∷ runs) → AreWithin (after_first n r ∷ runs)
 front_within n r runs lt all =
     let Is : Run → Type 0 = λ (run : Run). (0 < run.len) × (run.off + run.len ≤ MAX_FILE) in
     let here : Is r = All-head Is r runs all in
-    All-cons Is (run_from n r) runs (omega arith, omega (arith, here.1)) (All-tail Is r runs all)
+    All-cons Is (after_first n r) runs (omega arith, omega (arith, here.1)) (All-tail Is r runs all)

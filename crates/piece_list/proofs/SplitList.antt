@@ -11,6 +11,7 @@ use Rattle.piece_list.specs.Piece.{Piece}
 use Rattle.piece_list.specs.declared.spot.Spot.{Spot}
 use Rattle.piece_list.specs.Pieces.{range_of, front_of, rest_of, IsPiece}
 use Rattle.piece_list.specs.Held.{AreEntered, HasSpot, IsSpotOf, IsSplit}
+use Rattle.piece_list.specs.Placing.{AreOrAreJoined}
 use Rattle.piece_list.specs.Spelled.{spelled, ArePieces}
 use Rattle.piece_list.specs.Tables.{Tables, table_of, tag_at}
 use Rattle.piece_list.proofs.Split.{split_spells_the_same}
@@ -108,6 +109,11 @@ split_spells old new tag n u split =
     let le : n ≤ split.piece.len = omega (arith, split.within) in
     ap spelled split.parts ∙ split_spells_the_same split.before split.after tag u n split.piece le
     ∙ sym (ap spelled split.whole)
+
+-- nor does joining a piece with the one before it
+pub parts_spell : (tag : ℕ) (parts new : Items) → AreOrAreJoined tag parts new → spelled new ≡ spelled parts
+parts_spell tag parts new (inl is) = ap spelled is
+parts_spell tag parts new (inr (first, n, split)) = sym (split_spells new parts first n tag split)
 
 -- and makes one piece more
 pub split_counts : (old new : Items) (tag n u : ℕ) → IsSplit tag n u old new → length new ≡ length old + 1

@@ -7,7 +7,8 @@ use Rattle.tree_order.specs.Registers.{if_named}
 use Rattle.char_files.specs.CharName.{CharName}
 use Rattle.piece_list.specs.declared.setting.Setting.{Setting}
 use Rattle.piece_list.specs.Piece.{Piece}
-use Rattle.piece_list.specs.Changing.{AreTheSame, IsEdge, IsNextEdge, changed_char, changed_piece}
+use Rattle.piece_list.specs.Changing.{AreTheSame, IsEdge, IsNextEdge, changed_char, changed_piece, key_of}
+use Rattle.piece_list.specs.Laws.{IsPieceBelow}
 use Rattle.piece_list.specs.Held.{AreHeld}
 use Rattle.piece_list.specs.Spelled.{spelled}
 use Rattle.piece_list.specs.Tables.{Tables}
@@ -35,7 +36,7 @@ pub record IsTurned (setting : Setting) (items : Items) (tables : Tables) (weigh
 
 module _ (setting : Setting) (items : Items) (tables : Tables) (weights : Weights) (tag : ℕ) (p w : Piece)
     (name : CharName) (held : AreHeld items tables weights) (t : IsTurn items tag p w name)
-    (is_w : w ≡ changed_piece setting p)
+    (is_w : w ≡ changed_piece setting p) (below : IsPieceBelow (key_of setting) p)
   where
     abbrev new : Items
     new = with_value tag w items
@@ -80,7 +81,7 @@ module _ (setting : Setting) (items : Items) (tables : Tables) (weights : Weight
         ≡ map (if_named (record { site = name.site; at = name.off; len = w.off + w.len - name.off } ∷ [])
         (changed_char setting)) (spelled items)
     names_turned =
-        changed_there setting items tables tag p w held.numbered held.entered t.member is_w
+        changed_there setting items tables tag p w held.numbered held.entered t.member is_w below
         ∙ ap (λ (r : Range). map (if_named (r ∷ []) (changed_char setting)) (spelled items))
         (same_names p w name t.same t.held t.off)
 

@@ -1,5 +1,5 @@
 -- What a walk from a position on tells.
-use Rattle.std.proofs.Common.{◌≡◌, ℕ, ◌+◌, ◌<◌, ◌≤◌, cond, not, List, ◌∷◌, ◌++◌}
+use Rattle.std.proofs.Common.{◌≡◌, ℕ, ◌+◌, ◌<◌, ◌≤◌, ◌^◌, cond, not, true, List, ◌∷◌, ◌++◌}
 use Rattle.std.proofs.Common.{length, map, drop, sym, ap, subst, ◌∙◌}
 use Rattle.std.specs.List.{filter}
 use Rattle.std.proofs.lemmas.List.{length-map, map-append}
@@ -8,7 +8,7 @@ use Rattle.char_files.specs.declared.TheConstants.{MAX_FILE}
 use Rattle.piece_list.specs.Piece.{Piece}
 use Rattle.piece_list.specs.declared.run.Run.{Run}
 use Rattle.piece_list.specs.Pieces.{IsPiece}
-use Rattle.piece_list.specs.RunSplits.{AreWithin, HasFront}
+use Rattle.piece_list.specs.RunSplits.{AreWithin, HasFront, HaveStamps}
 use Rattle.piece_list.specs.Shown.{Appearance, appearance_of, run_of, shown_runs}
 use Rattle.piece_list.specs.Spelled.{spelled, shown_chars, ArePieces}
 use Rattle.piece_list.proofs.Gap.{all_right}
@@ -55,3 +55,10 @@ module _ (items xs ys : Items) (tag : ℕ) (p : Piece) (is : items ≡ xs ++ (ta
       let those : ArePieces after =
       all_right (λ (m : ℕ × Piece). IsPiece m.1) xs after (subst ArePieces is pieces) in
       runs_are Is (λ q piece. (piece.0, piece.2)) after those
+
+  pub stamps_from : ArePieces items → HaveStamps left
+  stamps_from pieces =
+      let Is : Run → Type 0 = λ (run : Run). run.rising ≡ true → run.key.stamp + run.len ≤ 2 ^ 64 in
+      let those : ArePieces after =
+      all_right (λ (m : ℕ × Piece). IsPiece m.1) xs after (subst ArePieces is pieces) in
+      runs_are Is (λ q piece. piece.4) after those

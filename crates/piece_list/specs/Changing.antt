@@ -1,5 +1,7 @@
 -- How the characters of a set of names are changed, piece by piece.
-use Rattle.std.specs.Prelude.{◌≡◌, ℕ, ◌+◌, ◌<◌, ◌≤◌, List, All, length}
+use Rattle.std.specs.Prelude.{◌≡◌, ℕ, ◌+◌, ◌<◌, ◌≤◌, true, List, All, Contains, length}
+use Rattle.looks.specs.Key.{is_below}
+use Rattle.looks.specs.declared.key.Key.{Key}
 use Rattle.char_files.specs.CharName.{CharName}
 use Rattle.operations.specs.NameSet.{Range, IsAmong}
 use Rattle.tree_order.specs.Registers.{Atom, switched, relooked}
@@ -23,6 +25,15 @@ changed_piece (Relook sel looks key) p = relooked_piece sel looks key p
 abbrev pub changed_char : Setting → Atom → Atom
 changed_char (Switch hidden key) k = switched hidden key k
 changed_char (Relook sel looks key) k = relooked sel looks key k
+
+-- the key under which a setting is made
+abbrev pub key_of : Setting → Key
+key_of (Switch hidden key) = key
+key_of (Relook sel looks key) = key
+
+-- the characters of these names have lesser keys
+abbrev pub AreBelow : Key → List Range → List Atom → Type 0
+AreBelow key names chars = (k : Atom) → Contains chars k → IsAmong names k.name → is_below k.key key ≡ true
 
 -- no piece of the site reaches across this offset
 abbrev pub IsEdge : ℕ → ℕ → List (ℕ × Piece) → Type 0

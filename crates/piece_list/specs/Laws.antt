@@ -12,7 +12,7 @@ use Rattle.tree_order.specs.AtomInsertion.{atom_run}
 use Rattle.tree_order.specs.Registers.{Atom, AreAtoms, if_named}
 use Rattle.piece_list.specs.Piece.{Piece}
 use Rattle.piece_list.specs.declared.run.Run.{Run}
-use Rattle.piece_list.specs.Pieces.{range_of, char_of, chars_of, piece_of, front_of, rest_of}
+use Rattle.piece_list.specs.Pieces.{range_of, char_of, chars_of, key_in, piece_of, front_of, rest_of}
 use Rattle.piece_list.specs.Placed.{IsPlaced}
 use Rattle.piece_list.specs.Spelled.{spelled, ArePieces}
 
@@ -55,10 +55,10 @@ PlacedAreAtoms =
     → IsOneMore ops i → IsInsertAt i cause → AreAtoms ops old
     → IsPlaced (key_of i) cause (atom_run i) old new → AreAtoms (ops ++ i ∷ []) new
 
--- the run is what an Insert inserts, under its key
+-- the run is what an Insert inserts, under its key, which rises at most where there is one character alone
 abbrev pub IsRunOf : Operation → Run → Type 0
 IsRunOf i r = (cause : Anchor) × (bytes : List ℕ) × (i.kind ≡ insert cause r.off r.looks bytes)
-    × (r.site ≡ i.site) × (r.len ≡ length bytes) × (r.key ≡ key_of i)
+    × (r.site ≡ i.site) × (r.len ≡ length bytes) × (r.key ≡ key_of i) × (r.rising ≡ true → r.len ≡ 1)
 
 -- the piece of this run has these characters
 abbrev pub PieceIsFirstAtoms : Type 0
@@ -68,15 +68,19 @@ PieceIsFirstAtoms = (i : Operation) (r : Run) → IsRunOf i r → chars_of (piec
 abbrev pub Avoid : Range → List (ℕ × Piece) → Type 0
 Avoid r items = All (λ m. (c : CharName) → IsIn (range_of m.1) c → IsIn r c → ⊥) items
 
--- a change of a piece is this one, character by character
-abbrev pub ChangesEach : (Piece → Piece) → (Atom → Atom) → Type 0
-ChangesEach change each = (p : Piece)
-    → (range_of (change p) ≡ range_of p) × ((c : CharName) → char_of (change p) c ≡ each (char_of p c))
+-- a change under a key is this one, character by character, where the characters have lesser keys
+abbrev pub ChangesEach : Key → (Piece → Piece) → (Atom → Atom) → Type 0
+ChangesEach key change each = (p : Piece) → (range_of (change p) ≡ range_of p)
+    × ((c : CharName) → is_below (key_in p c) key ≡ true → char_of (change p) c ≡ each (char_of p c))
+
+-- all of a piece's characters have lesser keys
+abbrev pub IsPieceBelow : Key → Piece → Type 0
+IsPieceBelow key p = (c : CharName) → IsIn (range_of p) c → is_below (key_in p c) key ≡ true
 
 -- a piece that is changed changes the characters of its names, and no others
 abbrev pub ChangeIsOfItsNames : Type 0
 ChangeIsOfItsNames =
-    (change : Piece → Piece) (each : Atom → Atom) (before after : List (ℕ × Piece)) (tag : ℕ) (p : Piece)
-    → ChangesEach change each → Avoid (range_of p) before → Avoid (range_of p) after
+    (key : Key) (change : Piece → Piece) (each : Atom → Atom) (before after : List (ℕ × Piece)) (tag : ℕ) (p : Piece)
+    → ChangesEach key change each → IsPieceBelow key p → Avoid (range_of p) before → Avoid (range_of p) after
     → spelled (before ++ (tag, change p) ∷ after)
     ≡ map (if_named (range_of p ∷ []) each) (spelled (before ++ (tag, p) ∷ after))

@@ -9,7 +9,7 @@ use Rattle.piece_raw.specs.Ring.{last_tag}
 use Rattle.tree_order.specs.Registers.{Atom}
 use Rattle.piece_list.specs.Piece.{Piece}
 use Rattle.piece_list.specs.declared.spot.Spot.{Spot}
-use Rattle.piece_list.specs.Held.{IsSpotOf}
+use Rattle.piece_list.specs.Held.{IsSpotOf, IsSplit}
 use Rattle.piece_list.specs.Pieces.{front_of, rest_of}
 use Rattle.piece_list.specs.Laws.{EndAt, BeginNotAbove, IsPieceGap}
 use Rattle.piece_list.specs.Spelled.{spelled, HasName}
@@ -86,6 +86,10 @@ pub record IsSkip (key : Key) (before after : List (ℕ × Piece)) (last : Optio
   pub last_is : last_tag (before ++ skipped) ≡ last
   pub counts : IsCounted from (length skipped + last_look rest) steps
 
+-- new is these pieces, of which the one of this number may be one with the piece before it
+abbrev pub AreOrAreJoined : (tag : ℕ) → (parts new : List (ℕ × Piece)) → Type 0
+AreOrAreJoined tag parts new = (new ≡ parts) ⊎ ((first : ℕ) × (n : ℕ) × IsSplit first n tag new parts)
+
 -- new is old, split after the anchor where that is needed, with this piece in its gap; the steps are the comparisons that find the
 -- anchor, and one look at the key of each piece skipped and of the next one
 pub record IsInsertedInGap (cause : Anchor) (p : Piece) (old new : List (ℕ × Piece)) (steps : ℕ) : Type 0 where
@@ -96,5 +100,5 @@ pub record IsInsertedInGap (cause : Anchor) (p : Piece) (old new : List (ℕ × 
   pub gap : IsPieceGap p.key cause before skipped after
   pub split : IsSplitThere old before (skipped ++ after)
   pub spells : spelled (before ++ skipped ++ after) ≡ spelled old
-  pub insert : new ≡ before ++ skipped ++ (tag, p) ∷ after
+  pub insert : AreOrAreJoined tag (before ++ skipped ++ (tag, p) ∷ after) new
   pub counts : IsCounted (compared cause) (length skipped + last_look after) steps

@@ -7,6 +7,7 @@ use Rattle.char_files.specs.CharName.{CharName}
 use Rattle.operations.specs.NameSet.{names_of}
 use Rattle.tree_order.specs.Registers.{Atom, atom_looks}
 use Rattle.piece_list.specs.Piece.{Piece}
+use Rattle.piece_list.specs.Pieces.{key_from}
 use Rattle.piece_list.specs.declared.run.Run.{Run}
 use Rattle.piece_list.specs.Spelled.{names_of_atoms, shown_chars}
 
@@ -22,7 +23,7 @@ appearance_of k = record { name = k.name; key = k.key; looks = atom_looks k }
 
 -- what a run tells of its character of this name
 abbrev pub appearance_in : Run → CharName → Appearance
-appearance_in r c = record { name = c; key = r.key; looks = r.looks }
+appearance_in r c = record { name = c; key = key_from r.rising r.key r.off c; looks = r.looks }
 
 -- what a run tells of its characters
 abbrev pub appearances_in : Run → List Appearance
@@ -34,7 +35,14 @@ looks_of p = record { font = p.font.value; colour = p.colour.value; offset = p.o
 
 -- a piece as a run
 abbrev pub run_of : Piece → Run
-run_of p = record { site = p.site; off = p.off; len = p.len; key = p.key; looks = looks_of p }
+run_of p = record {
+  site = p.site;
+  off = p.off;
+  len = p.len;
+  key = p.key;
+  rising = p.rising;
+  looks = looks_of p;
+}
 
 -- the pieces that aren't hidden, as runs
 abbrev pub shown_runs : List (ℕ × Piece) → List Run

@@ -1,5 +1,6 @@
 -- Pieces as they are kept: what their registers hold stands in tables, each value once, and a piece has its number.
 use Rattle.std.specs.Prelude.{◌≡◌, ℕ, zero, suc, ◌<◌, ◌≤◌, ◌++◌, ◌∷◌, [], ℤ, Bool, false, List, length, map, slice_index_or}
+use Rattle.std.specs.Prelude.{Some, true, ◌+◌, ◌-◌}
 use Rattle.looks.specs.Looks.{plain_looks}
 use Rattle.looks.specs.declared.key.Key.{Key}
 use Rattle.looks.specs.declared.looks.Looks.{Looks}
@@ -7,7 +8,8 @@ use Rattle.looks.specs.declared.register.Register.{Register}
 use Rattle.piece_list.specs.declared.record.PieceRecord.{PieceRecord}
 use Rattle.piece_list.specs.declared.setting.Setting.{Setting}
 use Rattle.piece_list.specs.declared.setting.Setting.TheVariants.{Switch, Relook}
-use Rattle.piece_list.specs.Piece.{Piece}
+use Rattle.piece_list.specs.Piece.{Piece, PieceRegister}
+use Rattle.piece_list.specs.Pieces.{inserted, risen}
 use Rattle.piece_list.specs.declared.run.Run.{Run}
 
 -- the looks that runs were inserted with, and what was set in registers since: new looks, and whether hidden
@@ -21,20 +23,28 @@ pub record ValuesSeen : Type 0 where
   pub values : Values
   pub room : ℕ
 
+-- the register as an entry set it
+abbrev pub set_by : {V : Type 0} → Register V → PieceRegister V
+set_by r = record { by = Some r.key; value = r.value }
+
+-- an entry where there is none
+abbrev pub no_entry : {V : Type 0} → V → Register V
+no_entry value = record { key = record { stamp = 0; site = 0 }; value = value }
+
 -- the register that was set by the entry of this number, counted from 1; 0 stands for what was inserted
-abbrev pub register_by : {V : Type 0} → List (Register V) → ℕ → Register V → Register V
-register_by entries zero inserted = inserted
-register_by entries (suc n) inserted = slice_index_or entries n inserted
+abbrev pub register_by : {V : Type 0} → List (Register V) → ℕ → V → PieceRegister V
+register_by entries zero value = inserted value
+register_by entries (suc n) value = set_by (slice_index_or entries n (no_entry value))
 
 -- the font, the colour or the offset alone
-abbrev pub font_of : Register Looks → Register (List ℕ)
-font_of r = record { key = r.key; value = r.value.font }
+abbrev pub font_of : PieceRegister Looks → PieceRegister (List ℕ)
+font_of r = record { by = r.by; value = r.value.font }
 
-abbrev pub colour_of : Register Looks → Register ℕ
-colour_of r = record { key = r.key; value = r.value.colour }
+abbrev pub colour_of : PieceRegister Looks → PieceRegister ℕ
+colour_of r = record { by = r.by; value = r.value.colour }
 
-abbrev pub offset_of : Register Looks → Register ℤ
-offset_of r = record { key = r.key; value = r.value.offset }
+abbrev pub offset_of : PieceRegister Looks → PieceRegister ℤ
+offset_of r = record { by = r.by; value = r.value.offset }
 
 -- the record of a run, whose looks have this number
 abbrev pub record_of : Run → (looks : ℕ) → PieceRecord
@@ -49,19 +59,41 @@ record_of run looks = record {
   len = run.len;
   site = run.site;
   key_site = run.key.site;
+  rising = run.rising;
 }
 
--- the key of the characters' Insert
+-- the key of the first character's Insert
 abbrev pub key_of : PieceRecord → Key
 key_of r = record { stamp = r.stamp; site = r.key_site }
 
 -- the looks that they were inserted with
-abbrev pub inserted_with : Values → PieceRecord → Register Looks
-inserted_with v r = record { key = key_of r; value = slice_index_or v.looks r.looks plain_looks }
+abbrev pub inserted_with : Values → PieceRecord → Looks
+inserted_with v r = slice_index_or v.looks r.looks plain_looks
 
 -- the looks that the entry of this number gave them
-abbrev pub looks_by : Values → PieceRecord → ℕ → Register Looks
+abbrev pub looks_by : Values → PieceRecord → ℕ → PieceRegister Looks
 looks_by v r by = register_by v.relooks by (inserted_with v r)
+
+-- the record of all after its first n characters
+abbrev pub rest_in : ℕ → PieceRecord → PieceRecord
+rest_in n r = record r { stamp = (risen r.rising n (key_of r)).stamp; off = r.off + n; len = r.len - n }
+
+-- no register was set since the Inserts
+pub record IsAsInserted (r : PieceRecord) : Type 0 where
+  pub font : r.font_by ≡ 0
+  pub colour : r.colour_by ≡ 0
+  pub offset : r.offset_by ≡ 0
+  pub hidden : r.hidden_by ≡ 0
+
+-- a run, looks aside, goes on with names and keys where a record's characters end, which are as they were inserted
+pub record FollowsIn (r : PieceRecord) (run : Run) : Type 0 where
+  pub rises : r.rising ≡ true
+  pub rising : run.rising ≡ true
+  pub untouched : IsAsInserted r
+  pub site : r.site ≡ run.site
+  pub key_site : r.key_site ≡ run.key.site
+  pub off : run.off ≡ r.off + r.len
+  pub stamp : run.key.stamp ≡ r.stamp + r.len
 
 -- the piece that a record stands for
 abbrev pub piece_in : Values → PieceRecord → Piece
@@ -70,10 +102,11 @@ piece_in v r = record {
   off = r.off;
   len = r.len;
   key = key_of r;
+  rising = r.rising;
   font = font_of (looks_by v r r.font_by);
   colour = colour_of (looks_by v r r.colour_by);
   offset = offset_of (looks_by v r r.offset_by);
-  hidden = register_by v.switches r.hidden_by (record { key = key_of r; value = false });
+  hidden = register_by v.switches r.hidden_by false;
 }
 
 -- the pieces that numbered records stand for

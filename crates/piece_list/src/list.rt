@@ -1,7 +1,8 @@
 ghost use Rattle.std.specs.Prelude.{◌≡◌, ◌≢◌, ◌<◌, ◌⊎◌, ◌↔◌, [], IfOk, OnErr};
-ghost use Rattle.std.specs.Prelude.{IfSome, IsSome};
+ghost use Rattle.std.specs.Prelude.{Contains, IfSome, IsSome, Some as Just};
 ghost use Rattle.looks.specs.Refusal.{RefusedForMemoryAlone};
 ghost use Rattle.piece_raw.specs.Ring.{AreTags};
+ghost use Rattle.tree_order.specs.Registers.{Atom};
 ghost use Rattle.char_files.specs.CharName.{CharName};
 ghost use Rattle.piece_list.specs.Held.{IsSpotOf, HasSpot, IsSplit};
 ghost use Rattle.piece_list.specs.Spelled.{spelled, HasName};
@@ -17,7 +18,7 @@ use crate::spot::Spot;
 use crate::steps::Steps;
 pub use between::Between;
 use char_files::Name;
-use looks::Refusal;
+use looks::{Key, Refusal};
 use pieces::Pieces;
 use std::alloc::Global;
 use std::marker::Model;
@@ -74,6 +75,16 @@ impl PieceList {
     {
         self.steps = Steps::none();
         self.pieces.locate(name, &mut self.steps)
+    }
+
+    /// The key of the Insert of the character of this name; `None` for a name that isn't here. It is found by one entry of a table.
+    pub fn key_of(&self, name: Name) -> Option<Key>
+        ensures here { IsSome result ↔ HasName (spelled self.now.items) name }
+        ensures key { (k : Atom) → Contains (spelled self.now.items) k → k.name ≡ name → result ≡ Just k.key }
+    {
+        let pieces = &self.pieces;
+        let spot = pieces.locate(name, &mut Steps::none())?;
+        Some(pieces.ring.piece_at(spot.piece).key_at(spot.within))
     }
 
     /// Splits a piece in two before this spot, which is in the list, and answers the spot of the same character

@@ -1,5 +1,6 @@
-ghost use Rattle.std.specs.Prelude.{◌≡◌, All, if◌then◌else◌};
+ghost use Rattle.std.specs.Prelude.{◌≡◌, ◌+◌, ◌<◌, ◌≤◌, ◌^◌, true, All, IsTrue, if◌then◌else◌};
 ghost use Rattle.std.specs.Iterator.{YieldsFirst, item_count};
+ghost use Rattle.piece_list.specs.Pieces.{GoesOn, piece_of, risen};
 ghost use Rattle.piece_list.specs.Shown.{looks_of, run_of};
 ghost use Rattle.piece_list.specs.Values.{IsWithin, piece_in, pieces_in};
 
@@ -14,7 +15,8 @@ use std::marker::Model;
 /// The most characters of a piece. This project's own.
 pub const MAX_PIECE: u32 = 4096;
 
-/// Neighbouring characters of a site's file that one Insert typed, and that all changes since then took alike.
+/// Neighbouring characters of a site's file that one Insert typed, or a row of Inserts of one character each whose stamps rise by one,
+/// and that all changes since then took alike.
 ///
 /// Oberon's texts are lists of such pieces (Project Oberon, chapter 5); keys and registers are this project's own.
 #[derive(Drop)]
@@ -63,11 +65,24 @@ impl<'a> PieceRef<'a> {
         u32::from(self.record.len)
     }
 
-    // The key of their Insert.
+    // The key of the first one's Insert.
     pub(crate) fn key(&self) -> Key
         ensures { result ≡ self.now.key }
     {
         self.record.key()
+    }
+
+    // The key of the Insert of the character after so many others.
+    pub(crate) fn key_at(&self, within: u32) -> Key
+        requires within { within < self.now.len }
+        requires stamps { self.now.rising ≡ true → self.now.key.stamp + self.now.len ≤ 2 ^ 64 }
+        ensures { result ≡ risen self.now.rising within self.now.key }
+    {
+        let mut key = self.key();
+        if self.record.rising {
+            key.stamp += u64::from(within);
+        }
+        key
     }
 
     // Whether they are hidden.
@@ -93,8 +108,21 @@ impl<'a> PieceRef<'a> {
             off: self.off(),
             len: self.len(),
             key: self.key(),
+            rising: self.record.rising,
             looks: self.looks(),
         }
+    }
+
+    // Whether a run goes on where its characters end, so that one piece may hold both.
+    pub(crate) fn goes_on(&self, run: &Run) -> bool
+        requires { run.now.len < 2 ^ 16 }
+        ensures { IsTrue result → GoesOn self.now (piece_of run.now) }
+    {
+        let len = self.record.len;
+        if MAX_PIECE < u32::from(len) + run.len || !self.record.is_followed_by(run) {
+            return false;
+        }
+        *self.values.inserted_with(self.record) == run.looks
     }
 
     // How many of its first `n` characters are shown: all of them, or none.

@@ -8,7 +8,7 @@ ghost use Rattle.piece_list.specs.declared.ring.TheConstants.{MAX_PIECES};
 ghost use Rattle.piece_list.specs.Changing.{changed_piece};
 ghost use Rattle.piece_list.specs.Noted.{ShowsOther, ShowsTheSame};
 ghost use Rattle.piece_list.specs.Piece.{Piece};
-ghost use Rattle.piece_list.specs.Pieces.{IsPiece, front_of, rest_of, piece_of};
+ghost use Rattle.piece_list.specs.Pieces.{IsPiece, front_of, longer, rest_of, piece_of};
 ghost use Rattle.piece_list.specs.Values.{IsEntered, IsWithin, piece_in};
 
 use crate::piece::{PieceRef, PieceRefs};
@@ -177,6 +177,20 @@ impl PieceRing {
             Ok(new) => new,
             Err(_) => unreachable!(),
         }
+    }
+
+    // Adds `n` characters at the end of the piece of this number.
+    pub(crate) fn lengthen(&mut self, number: u64, n: u32)
+        requires here { HasTag self.old.items number }
+        requires small { (p : Piece) → IsMember self.old.items number p → p.len + n < 2 ^ 16 }
+        ensures longer { (p : Piece) × IsMember self.old.items number p
+            × (self.new.items ≡ with_value number (longer n p) self.old.items) }
+        ensures few { length self.old.items ≤ MAX_PIECES }
+        ensures values { self.new.values ≡ self.old.values }
+        ensures room { self.new.room ≡ self.old.room }
+    {
+        self.records.seek(number);
+        self.records.value_mut().lengthen(n);
     }
 
     // Inserts the piece of a run directly after the one of this number, at the front for `None`. It gets the number that is

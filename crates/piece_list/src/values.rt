@@ -3,10 +3,10 @@ ghost use Rattle.std.specs.Prelude.{List, ◌∷◌, ◌++◌};
 ghost use Rattle.looks.specs.Refusal.{RefusedForMemoryAlone};
 ghost use Rattle.looks.specs.declared.looks.Looks.{Looks};
 ghost use Rattle.looks.specs.declared.register.Register.{Register};
-ghost use Rattle.tree_order.specs.Registers.{offered_if};
 ghost use Rattle.piece_list.specs.Changing.{changed_piece};
+ghost use Rattle.piece_list.specs.Pieces.{gives_way, offered_to_if};
 ghost use Rattle.piece_list.specs.Shown.{looks_of};
-ghost use Rattle.piece_list.specs.Values.{Grows, IsEntered, IsWithin, looks_by, piece_in, register_by};
+ghost use Rattle.piece_list.specs.Values.{Grows, IsEntered, IsWithin, inserted_with, looks_by, piece_in, register_by};
 
 use crate::record::PieceRecord;
 use crate::setting::Setting;
@@ -61,15 +61,12 @@ fn near(entered: &[Looks], looks: &Looks) -> Option<usize>
     None
 }
 
-// Under which key a register was set.
-fn key_by<V>(entries: &[Register<V>], by: u32, own: Key) -> Key
+// Whether what a register holds gives way to what is set under this key: what was inserted always does.
+fn gives_way<V>(entries: &[Register<V>], by: u32, key: Key) -> bool
     requires { by ≤ length entries.now }
-    ensures { (inserted : Register V) → inserted.key ≡ own → result ≡ (register_by entries.now by inserted).key }
+    ensures { (value : V) → result ≡ gives_way (register_by entries.now by value).by key }
 {
-    if by == 0 {
-        return own;
-    }
-    entries[by as usize - 1].key
+    by == 0 || entries[by as usize - 1].key < key
 }
 
 impl ValueTables {
@@ -149,6 +146,14 @@ impl ValueTables {
         self.switches[record.hidden_by as usize - 1].value
     }
 
+    // The looks that a record's characters were inserted with.
+    pub(crate) fn inserted_with(&self, record: &PieceRecord) -> &Looks
+        requires { IsWithin self.now.values record.now }
+        ensures { result.now ≡ inserted_with self.now.values record.now }
+    {
+        &self.looks[record.looks as usize]
+    }
+
     // The looks that the entry of this number gave a record's characters.
     fn looks_by(&self, record: &PieceRecord, by: u32) -> &Looks
         requires within { IsWithin self.now.values record.now }
@@ -156,7 +161,7 @@ impl ValueTables {
         ensures { result.now ≡ (looks_by self.now.values record.now by).value }
     {
         if by == 0 {
-            return &self.looks[record.looks as usize];
+            return self.inserted_with(record);
         }
         &self.relooks[by as usize - 1].value
     }
@@ -173,17 +178,16 @@ impl ValueTables {
         }
     }
 
-    // Which entry sets a register of looks that this one has set: where it is selected the last new looks, if they have a greater
-    // key.
-    fn later(&self, selected: bool, by: u32, own: Key, key: Key) -> u32
+    // Which entry sets a register of looks that this one has set: where it is selected the last new looks, if the register gives way.
+    fn later(&self, selected: bool, by: u32, key: Key) -> u32
         requires { by ≤ length self.now.values.relooks }
         ensures within { result ≤ length self.now.values.relooks }
-        ensures value { (inserted : Register Looks) (looks : Looks) (others : List (Register Looks)) → inserted.key ≡ own
+        ensures value { (inserted looks : Looks) (others : List (Register Looks))
             → self.now.values.relooks ≡ others ++ record { key = key; value = looks } ∷ []
             → register_by self.now.values.relooks result inserted
-            ≡ offered_if selected (register_by self.now.values.relooks by inserted) key looks }
+            ≡ offered_to_if selected (register_by self.now.values.relooks by inserted) key looks }
     {
-        if selected && key_by(&self.relooks, by, own) < key {
+        if selected && gives_way(&self.relooks, by, key) {
             self.relooks.len() as u32
         } else {
             by
@@ -198,17 +202,16 @@ impl ValueTables {
         ensures changed { piece_in self.now.values record.new
             ≡ changed_piece setting.now (piece_in self.now.values record.old) }
     {
-        let own = record.key();
         match setting {
             Setting::Switch { key, .. } => {
-                if key_by(&self.switches, record.hidden_by, own) < *key {
+                if gives_way(&self.switches, record.hidden_by, *key) {
                     record.hidden_by = self.switches.len() as u32;
                 }
             }
             Setting::Relook { sel, key, .. } => {
-                record.font_by = self.later(sel.font(), record.font_by, own, *key);
-                record.colour_by = self.later(sel.colour(), record.colour_by, own, *key);
-                record.offset_by = self.later(sel.offset(), record.offset_by, own, *key);
+                record.font_by = self.later(sel.font(), record.font_by, *key);
+                record.colour_by = self.later(sel.colour(), record.colour_by, *key);
+                record.offset_by = self.later(sel.offset(), record.offset_by, *key);
             }
         }
     }

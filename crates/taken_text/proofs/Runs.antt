@@ -35,11 +35,22 @@ pub chars_of_walk : (files : Files) (atoms : List Atom) (runs : List Run) → fl
     → chars_of_runs files runs ≡ map (char_in files) atoms
 chars_of_walk files atoms runs told = chars_told files runs ∙ ap (map (with_byte files)) told ∙ atoms_with_bytes files atoms
 
+-- keys aside, a run with other names tells the same of a character
+tells_on : (files : Files) (r : Run) (off len : ℕ) (cs : List CharName)
+    → map (with_byte files) (map (appearance_in (record r { off = off; len = len })) cs)
+    ≡ map (with_byte files) (map (appearance_in r) cs)
+tells_on files r off len [] = refl
+tells_on files r off len (c ∷ cs) =
+    ap (λ (l : List Char). with_byte files (appearance_in r c) ∷ l) (tells_on files r off len cs)
+
 -- a run's first character
 chars_first : (files : Files) (r : Run) → 0 < r.len
     → chars_of_run files r ≡ with_byte files (appearance_in r (record { site = r.site; off = r.off }))
     ∷ chars_of_run files (record r { off = r.off + 1; len = r.len - 1 })
-chars_first files r some = go r.len some
+chars_first files r some =
+    go r.len some
+    ∙ ap (λ (l : List Char). with_byte files (appearance_in r (record { site = r.site; off = r.off })) ∷ l)
+    (sym (tells_on files r (r.off + 1) (r.len - 1) (names_of (record { site = r.site; at = r.off + 1; len = r.len - 1 }))))
   where
     chars : ℕ → ℕ → List Char
     chars off n = map (with_byte files) (map (appearance_in r) (names_of (record { site = r.site; at = off; len = n })))
@@ -104,7 +115,8 @@ ReadsOn r rest next after =
 
 none_left : (files : Files) (r : Run) → r.len - 1 ≡ 0 → chars_of_run files (without_first r) ≡ []
 none_left files r none =
-    ap (λ (n : ℕ). map (with_byte files) (map (appearance_in r) (names_of (record { site = r.site; at = r.off + 1; len = n })))) none
+    tells_on files r (r.off + 1) (r.len - 1) (names_of (record { site = r.site; at = r.off + 1; len = r.len - 1 }))
+    ∙ ap (λ (n : ℕ). map (with_byte files) (map (appearance_in r) (names_of (record { site = r.site; at = r.off + 1; len = n })))) none
 
 next_left : (files : Files) (rest : List Run) (next : Option Run) (after : List Run) → YieldsFirst (λ (runs : List Run). runs) rest next after
     → chars_of_runs files rest ≡ chars_of_runs files (runs_left next after)

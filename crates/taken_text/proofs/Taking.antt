@@ -1,5 +1,9 @@
 -- What an operation that is new and ready makes of what was taken in.
-use Rattle.std.proofs.Common.{◌≡◌, ℕ, List, [], ◌∷◌, ◌++◌, length, map, refl, sym, ap, subst, ◌∙◌, arith}
+use Rattle.std.proofs.Common.{◌≡◌, ℕ, ◌<◌, true, inr, List, [], ◌∷◌, ◌++◌, length, map, refl, sym, ap, subst, ◌∙◌, arith}
+use Rattle.std.proofs.lemmas.Bool.Decides.{nat_tests}
+use Rattle.std.proofs.lemmas.List.Elements.{All-contains}
+use Rattle.looks.specs.Key.{is_below}
+use Rattle.looks.specs.declared.key.Key.{Key}
 use Rattle.std.specs.Prelude.{Result, Ok, Err, OnOk}
 use Rattle.looks.specs.declared.looks.Looks.{Looks}
 use Rattle.char_files.specs.CharFiles.{Files, bytes_of, OthersStay}
@@ -8,10 +12,10 @@ use Rattle.char_files.specs.declared.name.Anchor.{Anchor}
 use Rattle.char_files.specs.declared.name.Anchor.TheVariants.{Root, At}
 use Rattle.operations.specs.NameSet.{Range, IsIn, IsAmong}
 use Rattle.operations.specs.Operation.{Operation, OpKind, insert, appended_len, InsertsBy, MentionsBy}
-use Rattle.operations.specs.Operation.{Begins, key_of}
+use Rattle.operations.specs.Operation.{Begins, Mentions, key_of}
 use Rattle.tree_order.specs.Insertion.{HasCauseBy}
 use Rattle.tree_order.specs.RegisterLaws.{InsertsNone}
-use Rattle.tree_order.specs.Registers.{Atom, AreAtoms, atom_by, atom_after}
+use Rattle.tree_order.specs.Registers.{Atom, AreAtoms, HasRegisters, atom_by, atom_after}
 use Rattle.set_laws.specs.Fronts.{file_len}
 use Rattle.set_laws.specs.Growing.{AreDeterminedByCounts}
 use Rattle.set_laws.specs.Sets.{KeepsCauses}
@@ -20,6 +24,7 @@ use Rattle.tree_order.proofs.RegisterLists.{atom_list}
 use Rattle.set_laws.proofs.Preceding.{causes_kept_with_one}
 use Rattle.set_laws.proofs.Counting.{determined_by_counts}
 use Rattle.piece_list.proofs.Order.{are_atoms, first_atoms_piece}
+use Rattle.piece_list.specs.Changing.{AreBelow}
 use Rattle.piece_list.specs.Laws.{IsRunOf}
 use Rattle.piece_list.specs.Pieces.{chars_of, piece_of}
 use Rattle.piece_list.specs.Placed.{IsPlaced}
@@ -74,7 +79,7 @@ module _ (ops : List Operation) (op : Operation) (items : List (ℕ × Piece)) (
         → IsTaken (ops ++ op ∷ []) items' files'
     taken_with_run run of items' files' put own others =
         let chars = first_atoms_piece op run of in
-        let (cause', bytes', kind', site', len', key') = of in
+        let (cause', bytes', kind', site', len', key', alone) = of in
         let there : IsPlaced (key_of op) cause (chars_of (piece_of run)) (spelled items) (spelled items') = subst (λ key. IsPlaced key cause (chars_of (piece_of run)) (spelled items) (spelled items')) key' put in
         record {
           good = larger_good ops op taken.good taken.identified new is;
@@ -109,3 +114,13 @@ module _ (ops : List Operation) (op : Operation) (items : List (ℕ × Piece)) (
     taken_with none appended items' changed =
         taken_with_change (λ c h. none c (subst (λ (k : OpKind). InsertsBy op.site k c) kind h)) (ap appended_len kind ∙ appended) items'
         (changed ∙ ap (λ (k : OpKind). map (atom_by k (key_of op)) (spelled items)) (sym kind))
+
+    -- and have lesser keys
+    pub names_below : ((c : CharName) → IsAmong names c → MentionsBy (of names) c) → AreBelow (key_of op) names (spelled items)
+    names_below mentions k has among =
+        let at : HasRegisters ops k = All-contains (HasRegisters ops) (spelled items) k taken.atoms.registers has in
+        let (i, inserts, key) = at.key in
+        let mentioned : Mentions op k.name = subst (λ (o : OpKind). MentionsBy o k.name) (sym kind) (mentions k.name among) in
+        let less : i.stamp < op.stamp = is.3 i inserts.held (inr (k.name, mentioned, inserts.inserts)) in
+        let below : is_below (key_of i) (key_of op) ≡ true = grind (arith, nat_tests, less) in
+        ap (λ (own : Key). is_below own (key_of op)) key ∙ below

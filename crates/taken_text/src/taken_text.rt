@@ -80,6 +80,7 @@ fn insert_run(
         off: *at,
         len: bytes.len() as u32,
         key: op.key(),
+        rising: bytes.len() == 1,
         looks: looks.copy(),
     };
     files.reserve(op.site(), bytes.len())?;

@@ -4,7 +4,7 @@ ghost use Rattle.std.specs.Prelude.{◌≡◌, ◌+◌, ◌<◌, ◌≤◌, map,
 ghost use Rattle.std.specs.Iterator.{YieldsFirst, item_count};
 ghost use Rattle.std.specs.List.{flat_map};
 ghost use Rattle.char_files.specs.declared.TheConstants.{MAX_FILE};
-ghost use Rattle.piece_list.specs.RunSplits.{AreWithin, HasFront, with_first};
+ghost use Rattle.piece_list.specs.RunSplits.{AreWithin, HasFront, HaveStamps, with_first};
 ghost use Rattle.piece_list.specs.Shown.{appearance_of, appearances_in};
 ghost use Rattle.piece_list.specs.Spelled.{spelled, shown_chars};
 
@@ -61,14 +61,14 @@ impl<'a> Iterator for Between<'a> {
 // Takes the first run of a walk, which has more than `n` characters, and leaves its first `n` out.
 fn skip_front(walk: &mut Walk<'_>, n: u64) -> Option<Run>
     requires within { AreWithin walk.old }
+    requires stamps { HaveStamps walk.old }
     requires front { HasFront n walk.old }
     ensures left { flat_map appearances_in (with_first result walk.new)
         ≡ drop n (flat_map appearances_in walk.old) }
     ensures within { AreWithin (with_first result walk.new) }
 {
     let mut run = walk.next()?;
-    run.off += n as u32;
-    run.len -= n as u32;
+    run.skip(n as u32);
     Some(run)
 }
 

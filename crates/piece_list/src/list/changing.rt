@@ -3,17 +3,20 @@
 ghost use Rattle.std.specs.Prelude.{◌≡◌, ℕ, ◌+◌, ◌-◌, ◌*◌, ◌<◌, ◌≤◌, true, false, [], ◌∷◌, length, map, OnOk};
 ghost use Rattle.std.specs.Prelude.{◌++◌, ◌^◌, OnErr, IsTrue, vec_len, vec_capacity};
 ghost use Rattle.looks.specs.Refusal.{RefusedForMemoryAlone};
-ghost use Rattle.operations.specs.NameSet.{IsSet};
+ghost use Rattle.operations.specs.NameSet.{IsIn, IsSet};
 ghost use Rattle.operations.specs.declared.name_set.TheConstants.{MAX_RANGES};
 ghost use Rattle.tree_order.specs.Registers.{if_named, switched, relooked};
 ghost use Rattle.piece_list.specs.Changing.{changed_piece, changed_char, AreHere, IsEdge, IsNextEdge, AreTheSame};
-ghost use Rattle.piece_list.specs.Changing.{AreSplitOnce};
+ghost use Rattle.piece_list.specs.Changing.{AreBelow, AreSplitOnce, key_of};
 ghost use Rattle.piece_list.specs.Held.{KeepFirsts};
 ghost use Rattle.piece_list.specs.Noted.{Notes, IsNoted, AreNoted, IsReplaceOf, ShowsOther, ShowsTheSame, appearances};
 ghost use Rattle.piece_list.specs.Noted.{kind_of, name_count};
+ghost use Rattle.piece_list.specs.Laws.{IsPieceBelow};
+ghost use Rattle.piece_list.specs.Piece.{Piece};
+ghost use Rattle.piece_list.specs.Pieces.{range_of};
 ghost use Rattle.piece_list.specs.Spelled.{spelled, HasName};
 ghost use Rattle.piece_list.specs.Values.{IsEntered};
-ghost use Rattle.piece_raw.specs.Ring.{HasTag};
+ghost use Rattle.piece_raw.specs.Ring.{HasTag, IsMember};
 ghost use Rattle.rank_index.specs.Ranked.{IsRank, weight_of};
 ghost use Rattle.list_changes.specs.Changes.{IsOfKind};
 ghost use Rattle.list_changes.specs.declared.change.ChangeKind.TheVariants.{Insert, Delete};
@@ -71,6 +74,8 @@ impl Pieces {
     // is shown, a note that has room gains an entry, at the piece's rank: all earlier entries are done by then.
     fn change_piece(&mut self, name: Name, setting: &Setting, note: &mut Vec<Change>) -> u32
         requires entered { IsEntered self.old.values setting.now }
+        requires below { (tag : ℕ) (p : Piece) → IsMember self.old.items tag p → IsIn (range_of p) name
+            → IsPieceBelow (key_of setting.now) p }
         requires here { HasName (spelled self.old.items) name }
         requires begins { IsEdge name.site name.off self.old.items }
         ensures end { IsNextEdge name result self.old.items }
@@ -104,6 +109,7 @@ impl Pieces {
     fn change_range(&mut self, range: NameRange, setting: &Setting, note: &mut Vec<Change>)
         requires entered { IsEntered self.old.values setting.now }
         requires here { AreHere (range ∷ []) (spelled self.old.items) }
+        requires below { AreBelow (key_of setting.now) (range ∷ []) (spelled self.old.items) }
         requires begins { IsEdge range.site range.at self.old.items }
         requires ends { IsEdge range.site (range.at + range.len) self.old.items }
         ensures changed { spelled self.new.items
@@ -127,6 +133,7 @@ impl Pieces {
     fn change_ranges(&mut self, ranges: &[NameRange], setting: &Setting, note: &mut Vec<Change>)
         requires entered { IsEntered self.old.values setting.now }
         requires here { AreHere ranges.now (spelled self.old.items) }
+        requires below { AreBelow (key_of setting.now) ranges.now (spelled self.old.items) }
         requires set { IsSet ranges.now }
         requires room { 2 * length ranges.now ≤ self.old.room }
         ensures changed { spelled self.new.items
@@ -166,7 +173,8 @@ impl PieceList {
         setting: &Setting,
         note: &mut Vec<Change>,
     ) -> Result<(), Refusal>
-        requires { AreHere names.now (spelled self.old.items) }
+        requires here { AreHere names.now (spelled self.old.items) }
+        requires below { AreBelow (key_of setting.now) names.now (spelled self.old.items) }
         ensures ok { OnOk result (spelled self.new.items
             ≡ map (if_named names.now (changed_char setting.now)) (spelled self.old.items)) }
         ensures errors { RefusedForMemoryAlone result }
@@ -184,12 +192,13 @@ impl PieceList {
         Ok(())
     }
 
-    /// Hides the characters of these names, which are in the list, but for those that were shown or hidden under
+    /// Hides the characters of these names, which are in the list under lesser keys, but for those that were shown or hidden under
     /// a greater key.
     ///
     /// Refused `OutOfMemory` alone.
     pub fn hide(&mut self, names: &NameSet, key: Key) -> Result<(), Refusal>
-        requires { AreHere names.now (spelled self.old.items) }
+        requires here { AreHere names.now (spelled self.old.items) }
+        requires below { AreBelow key names.now (spelled self.old.items) }
         ensures ok { OnOk result (spelled self.new.items
             ≡ map (if_named names.now (switched true key)) (spelled self.old.items)) }
         ensures errors { RefusedForMemoryAlone result }
@@ -202,12 +211,13 @@ impl PieceList {
         self.change(names, &Setting::Switch { hidden: true, key }, &mut unnoted)
     }
 
-    /// Shows the characters of these names, which are in the list, again, but for those that were shown or hidden
+    /// Shows the characters of these names, which are in the list under lesser keys, again, but for those that were shown or hidden
     /// under a greater key.
     ///
     /// Refused `OutOfMemory` alone.
     pub fn reveal(&mut self, names: &NameSet, key: Key) -> Result<(), Refusal>
-        requires { AreHere names.now (spelled self.old.items) }
+        requires here { AreHere names.now (spelled self.old.items) }
+        requires below { AreBelow key names.now (spelled self.old.items) }
         ensures ok { OnOk result (spelled self.new.items
             ≡ map (if_named names.now (switched false key)) (spelled self.old.items)) }
         ensures errors { RefusedForMemoryAlone result }
@@ -220,7 +230,7 @@ impl PieceList {
         self.change(names, &Setting::Switch { hidden: false, key }, &mut unnoted)
     }
 
-    /// Gives the characters of these names, which are in the list, the looks that are selected, attribute by
+    /// Gives the characters of these names, which are in the list under lesser keys, the looks that are selected, attribute by
     /// attribute, where they weren't set under a greater key. A hidden character takes new looks, too.
     ///
     /// Refused `OutOfMemory` alone.
@@ -231,7 +241,8 @@ impl PieceList {
         looks: &Looks,
         key: Key,
     ) -> Result<(), Refusal>
-        requires { AreHere names.now (spelled self.old.items) }
+        requires here { AreHere names.now (spelled self.old.items) }
+        requires below { AreBelow key names.now (spelled self.old.items) }
         ensures ok { OnOk result (spelled self.new.items
             ≡ map (if_named names.now (relooked sel looks.now key)) (spelled self.old.items)) }
         ensures errors { RefusedForMemoryAlone result }
@@ -254,7 +265,8 @@ impl PieceList {
         key: Key,
         note: &mut Vec<Change>,
     ) -> Result<(), Refusal>
-        requires { AreHere names.now (spelled self.old.items) }
+        requires here { AreHere names.now (spelled self.old.items) }
+        requires below { AreBelow key names.now (spelled self.old.items) }
         ensures ok { OnOk result (spelled self.new.items
             ≡ map (if_named names.now (switched true key)) (spelled self.old.items)) }
         ensures errors { RefusedForMemoryAlone result }
@@ -278,7 +290,8 @@ impl PieceList {
         key: Key,
         note: &mut Vec<Change>,
     ) -> Result<(), Refusal>
-        requires { AreHere names.now (spelled self.old.items) }
+        requires here { AreHere names.now (spelled self.old.items) }
+        requires below { AreBelow key names.now (spelled self.old.items) }
         ensures ok { OnOk result (spelled self.new.items
             ≡ map (if_named names.now (switched false key)) (spelled self.old.items)) }
         ensures errors { RefusedForMemoryAlone result }
@@ -304,7 +317,8 @@ impl PieceList {
         key: Key,
         note: &mut Vec<Change>,
     ) -> Result<(), Refusal>
-        requires { AreHere names.now (spelled self.old.items) }
+        requires here { AreHere names.now (spelled self.old.items) }
+        requires below { AreBelow key names.now (spelled self.old.items) }
         ensures ok { OnOk result (spelled self.new.items
             ≡ map (if_named names.now (relooked sel looks.now key)) (spelled self.old.items)) }
         ensures errors { RefusedForMemoryAlone result }

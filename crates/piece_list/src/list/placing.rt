@@ -6,13 +6,14 @@ ghost use Rattle.std.specs.Prelude.{Some as Just, None as Nothing, ◌^◌};
 ghost use Rattle.looks.specs.Refusal.{RefusedForMemoryAlone};
 ghost use Rattle.char_files.specs.CharName.{CharName};
 ghost use Rattle.operations.specs.NameSet.{IsIn};
-ghost use Rattle.piece_list.specs.Pieces.{range_of, chars_of, IsPiece, piece_of};
+ghost use Rattle.piece_raw.specs.Ring.{HasTag, IsMember, with_value};
+ghost use Rattle.piece_list.specs.Pieces.{range_of, chars_of, GoesOn, IsPiece, longer, piece_of};
 ghost use Rattle.piece_list.specs.Held.{HasSpot};
 ghost use Rattle.piece_list.specs.Laws.{BeginNotAbove};
 ghost use Rattle.piece_list.specs.Noted.{Notes, appearances};
 ghost use Rattle.piece_list.specs.Piece.{Piece};
 ghost use Rattle.piece_list.specs.Placed.{IsPlaced};
-ghost use Rattle.piece_list.specs.Placing.{HasAnchor, compared, IsAnchorSpot, IsParted, HasPart, IsPartedAt};
+ghost use Rattle.piece_list.specs.Placing.{AreOrAreJoined, HasAnchor, compared, IsAnchorSpot, IsParted, HasPart, IsPartedAt};
 ghost use Rattle.piece_list.specs.Placing.{IsCounted, IsNext, IsSkip, IsInsertedInGap, last_look};
 ghost use Rattle.piece_list.specs.Spelled.{spelled, shown_chars, ArePieces, HasName};
 ghost use Rattle.piece_list.specs.Tables.{table_of};
@@ -96,7 +97,26 @@ impl Pieces {
         }
     }
 
-    // Inserts a run's piece directly after the one of this number, at the front for `None`, and enters its names.
+    // Adds a run that goes on where the piece of this number ends, and enters its names under that number.
+    fn lengthen(&mut self, tag: u64, run: &Run)
+        requires here { HasTag self.old.items tag }
+        requires goes_on { (p : Piece) → IsMember self.old.items tag p → GoesOn p (piece_of run.now) }
+        requires piece { IsPiece (piece_of run.now) }
+        requires new { (c : CharName) → IsIn (range_of (piece_of run.now)) c → ¬ HasName (spelled self.old.items) c }
+        requires fits { run.now.off + run.now.len ≤ length (table_of self.old.tables run.now.site) }
+        ensures longer { (p : Piece) × IsMember self.old.items tag p
+            × (self.new.items ≡ with_value tag (longer run.now.len p) self.old.items) }
+        ensures pieces { ArePieces self.old.items }
+    {
+        self.ring.lengthen(tag, run.len);
+        let piece = self.ring.piece_at(tag);
+        let weight = piece.shown_of(piece.len());
+        self.tags.fill(run.site, run.off, run.len, tag);
+        self.index.set_weight(tag, weight);
+    }
+
+    // Inserts a run directly after the piece of this number, at the front for `None`: as a piece of its own, or as the end of that
+    // one where it goes on there.
     fn insert(&mut self, last: Option<u64>, run: &Run)
         requires part { HasPart self.old.items last }
         requires piece { IsPiece (piece_of run.now) }
@@ -104,8 +124,28 @@ impl Pieces {
         requires fits { run.now.off + run.now.len ≤ length (table_of self.old.tables run.now.site) }
         requires room { 0 < self.old.room }
         ensures insert { (before after : List (ℕ × Piece)) → IsParted self.old.items last before after
+            → (tag : ℕ) × AreOrAreJoined tag (before ++ (tag, piece_of run.now) ∷ after) self.new.items }
+        ensures pieces { ArePieces self.old.items }
+    {
+        if let Some(number) = last {
+            if self.ring.piece_at(number).goes_on(run) {
+                self.lengthen(number, run);
+                return;
+            }
+        }
+        self.insert_piece(last, run);
+    }
+
+    // Inserts a run's piece directly after the one of this number, at the front for `None`, and enters its names.
+    fn insert_piece(&mut self, last: Option<u64>, run: &Run)
+        requires part { HasPart self.old.items last }
+        requires piece { IsPiece (piece_of run.now) }
+        requires new { (c : CharName) → IsIn (range_of (piece_of run.now)) c → ¬ HasName (spelled self.old.items) c }
+        requires fits { run.now.off + run.now.len ≤ length (table_of self.old.tables run.now.site) }
+        requires room { 0 < self.old.room }
+        ensures insert { (before after : List (ℕ × Piece)) → IsParted self.old.items last before after
             → (tag : ℕ) × (self.new.items ≡ before ++ (tag, piece_of run.now) ∷ after) }
-        ensures pieces { ArePieces self.new.items }
+        ensures pieces { ArePieces self.old.items }
     {
         let number = self.ring.insert(last, run);
         self.tags.fill(run.site, run.off, run.len, number);
@@ -156,8 +196,9 @@ impl PieceList {
         let _ = &pieces.ring;
     }
 
-    /// Inserts a run, as one piece, directly after its cause and the longest stretch of characters of greater
-    /// key that follows the cause. Where the cause isn't the last of its piece, the piece is split after it.
+    /// Inserts a run directly after its cause and the longest stretch of characters of greater key that follows the cause: as a piece
+    /// of its own, or as the end of the piece there where it goes on with that one's names and keys in the same looks. Where the cause
+    /// isn't the last of its piece, the piece is split after it.
     ///
     /// The run has 1 to 4,096 characters within its site's file, none of them in the list, and the cause is
     /// the root or in the list. `steps` counts one comparison that finds the cause, none for the root, and a

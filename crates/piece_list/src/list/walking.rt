@@ -7,7 +7,7 @@ ghost use Rattle.std.specs.List.{flat_map};
 ghost use Rattle.tree_order.specs.Registers.{atom_looks};
 ghost use Rattle.char_files.specs.declared.TheConstants.{MAX_FILE};
 ghost use Rattle.piece_list.specs.Held.{IsSpotOf};
-ghost use Rattle.piece_list.specs.RunSplits.{AreWithin, HasFront};
+ghost use Rattle.piece_list.specs.RunSplits.{AreWithin, HasFront, HaveStamps};
 ghost use Rattle.piece_list.specs.Shown.{AreShownTo, appearance_of, appearances_in, shown_runs};
 ghost use Rattle.piece_list.specs.Spelled.{spelled, shown_chars, HasName};
 
@@ -112,6 +112,7 @@ impl PieceList {
             ≡ drop pos (map appearance_of (shown_chars (spelled self.now.items))) }
         ensures front { HasFront result.1 result.0 }
         ensures within { AreWithin result.0 }
+        ensures stamps { HaveStamps result.0 }
     {
         let pieces = &self.pieces;
         if self.shown_len() <= pos {

@@ -1,6 +1,7 @@
 ghost use Rattle.std.specs.Prelude.{◌≡◌, IfOk, OnOk};
+ghost use Rattle.looks.specs.Key.{is_below};
 ghost use Rattle.operations.specs.NameSet.{with_name};
-ghost use Rattle.piece_list.specs.Changing.{AreHere};
+ghost use Rattle.piece_list.specs.Changing.{AreBelow, AreHere};
 ghost use Rattle.piece_list.specs.Spelled.{spelled};
 
 use super::told::{Names, Told, has, is, name, new_list, try_place};
@@ -54,52 +55,79 @@ fn insert(names: &mut NameSet, name: Name) -> Result<(), Fail>
     Ok(())
 }
 
-// Puts a name that is in the list into the set.
-pub(super) fn add(
-    list: &mut PieceList,
-    names: &mut NameSet,
-    site: u16,
-    off: u32,
-) -> Result<(), Fail>
-    requires { AreHere names.old (spelled list.old.items) }
-    ensures { OnOk result (AreHere names.new (spelled list.new.items)) }
+pub(super) fn is_lesser(own: Key, key: Key) -> bool
+    ensures { result ≡ is_below own key }
 {
+    own < key
+}
+
+// Puts a name that is in the list, under a lesser key than this one, into the set.
+pub(super) fn add(
+    list: &PieceList,
+    names: &mut NameSet,
+    key: Key,
+    at: (u16, u32),
+) -> Result<(), Fail>
+    requires here { AreHere names.old (spelled list.now.items) }
+    requires below { AreBelow key names.old (spelled list.now.items) }
+    ensures here { OnOk result (AreHere names.new (spelled list.now.items)) }
+    ensures below { OnOk result (AreBelow key names.new (spelled list.now.items)) }
+{
+    let (site, off) = at;
     let name = name(site, off)?;
-    let Some(_) = list.locate(name) else {
+    let Some(own) = list.key_of(name) else {
         return Err("a name that is here".into());
     };
+    if !is_lesser(own, key) {
+        return Err("a greater key".into());
+    }
     names.lemma_with_name(name);
     insert(names, name)?;
     Ok(())
 }
 
-fn add_range(list: &mut PieceList, names: &mut NameSet, range: Names) -> Result<(), Fail>
-    requires { AreHere names.old (spelled list.old.items) }
-    ensures { OnOk result (AreHere names.new (spelled list.new.items)) }
+fn add_range(list: &PieceList, names: &mut NameSet, key: Key, range: Names) -> Result<(), Fail>
+    requires here { AreHere names.old (spelled list.now.items) }
+    requires below { AreBelow key names.old (spelled list.now.items) }
+    ensures here { OnOk result (AreHere names.new (spelled list.now.items)) }
+    ensures below { OnOk result (AreBelow key names.new (spelled list.now.items)) }
 {
     let (site, at, len) = range;
     for i in 0..len {
-        add(list, names, site, at.checked_add(i).ok_or("an offset")?)?;
+        add(
+            list,
+            names,
+            key,
+            (site, at.checked_add(i).ok_or("an offset")?),
+        )?;
     }
     Ok(())
 }
 
-fn add_ranges(list: &mut PieceList, names: &mut NameSet, ranges: &[Names]) -> Result<(), Fail>
-    requires { AreHere names.old (spelled list.old.items) }
-    ensures { OnOk result (AreHere names.new (spelled list.new.items)) }
+fn add_ranges(list: &PieceList, names: &mut NameSet, key: Key, ranges: &[Names]) -> Result<(), Fail>
+    requires here { AreHere names.old (spelled list.now.items) }
+    requires below { AreBelow key names.old (spelled list.now.items) }
+    ensures here { OnOk result (AreHere names.new (spelled list.now.items)) }
+    ensures below { OnOk result (AreBelow key names.new (spelled list.now.items)) }
 {
     for range in ranges {
-        add_range(list, names, *range)?;
+        add_range(list, names, key, *range)?;
     }
     Ok(())
 }
 
-// The set of these names, each of which is in the list.
-pub(super) fn named(list: &mut PieceList, alloc: Global, ranges: &[Names]) -> Result<NameSet, Fail>
-    ensures { IfOk result (λ set. AreHere set (spelled list.new.items)) }
+// The set of these names, each of which is in the list under a lesser key than this one.
+pub(super) fn named(
+    list: &PieceList,
+    alloc: Global,
+    key: Key,
+    ranges: &[Names],
+) -> Result<NameSet, Fail>
+    ensures here { IfOk result (λ set. AreHere set (spelled list.now.items)) }
+    ensures below { IfOk result (λ set. AreBelow key set (spelled list.now.items)) }
 {
     let mut set = NameSet::new(alloc);
-    add_ranges(list, &mut set, ranges)?;
+    add_ranges(list, &mut set, key, ranges)?;
     Ok(set)
 }
 
@@ -109,7 +137,8 @@ pub(super) fn switch(
     hidden: bool,
     key: Key,
 ) -> Result<(), Refusal>
-    requires { AreHere names.now (spelled list.old.items) }
+    requires here { AreHere names.now (spelled list.old.items) }
+    requires below { AreBelow key names.now (spelled list.old.items) }
 {
     if hidden {
         list.hide(names, key)
@@ -125,7 +154,7 @@ fn switch_named(
     hidden: bool,
     key: Key,
 ) -> Result<Result<(), Refusal>, Fail> {
-    let set = named(list, alloc, ranges)?;
+    let set = named(list, alloc, key, ranges)?;
     Ok(switch(list, &set, hidden, key))
 }
 
@@ -143,7 +172,7 @@ fn relook_named(
     ranges: &[Names],
     change: &Change,
 ) -> Result<Result<(), Refusal>, Fail> {
-    let set = named(list, alloc, ranges)?;
+    let set = named(list, alloc, change.key, ranges)?;
     Ok(list.relook(&set, change.sel, &change.looks, change.key))
 }
 
@@ -244,6 +273,8 @@ const TYPE_Q: Step = Step::Type((1, 0, 1), 1, None);
 
 const HIDE_Q: Step = Step::Switch(Q, true, (2, 1));
 
+const HIDE_Q_LATER: Step = Step::Switch(Q, true, (4, 1));
+
 const SHOW_Q: Step = Step::Switch(Q, false, (3, 1));
 
 // Site 1 sets font and colour under the key (2, 1), site 2 the colour under (2, 2): each attribute takes the
@@ -276,8 +307,181 @@ const TYPE_SIX: Step = Step::Type((1, 0, 6), 1, None);
 
 const C_GOES: Step = Step::Switch(&[(1, 2, 1)], true, (2, 1));
 
+// Letters of site 1, typed one after the other.
+const TYPE_A: Step = Step::Type((1, 0, 1), 1, None);
+
+const TYPE_B: Step = Step::Type((1, 1, 1), 2, Some((1, 0)));
+
+const TYPE_C: Step = Step::Type((1, 2, 1), 3, Some((1, 1)));
+
+const TYPE_D: Step = Step::Type((1, 3, 1), 4, Some((1, 2)));
+
+const A: &[Told] = &[((1, 0, 1), false)];
+
+const AB: &[Told] = &[((1, 0, 2), false)];
+
+const AB_AND_C: &[Told] = &[((1, 0, 2), false), ((1, 2, 1), false)];
+
 const ROWS: &[Row] = &[
     PLAIN,
+    // Site 2 types into the run under keys between those of its letters, and after its end.
+    Row {
+        what: "letters typed on are one piece, cut by keys between",
+        steps: &[
+            (TYPE_A, Some(0), A),
+            (TYPE_B, Some(1), AB),
+            (TYPE_C, Some(1), ABC),
+            (
+                Step::Type((2, 0, 1), 2, Some((1, 0))),
+                Some(2),
+                &[((1, 0, 1), false), ((2, 0, 1), false), ((1, 1, 2), false)],
+            ),
+            (
+                Step::Type((2, 1, 1), 3, Some((1, 1))),
+                Some(2),
+                &[
+                    ((1, 0, 1), false),
+                    ((2, 0, 1), false),
+                    ((1, 1, 1), false),
+                    ((2, 1, 1), false),
+                    ((1, 2, 1), false),
+                ],
+            ),
+            (
+                Step::Type((2, 2, 1), 4, Some((1, 2))),
+                Some(1),
+                &[
+                    ((1, 0, 1), false),
+                    ((2, 0, 1), false),
+                    ((1, 1, 1), false),
+                    ((2, 1, 1), false),
+                    ((1, 2, 1), false),
+                    ((2, 2, 1), false),
+                ],
+            ),
+        ],
+        ..PLAIN
+    },
+    // Site 1 types into the run of site 2 under keys that the letters after its causes are greater than.
+    Row {
+        what: "the rest of a run of greater keys is skipped",
+        steps: &[
+            (
+                Step::Type((2, 0, 1), 1, None),
+                Some(0),
+                &[((2, 0, 1), false)],
+            ),
+            (
+                Step::Type((2, 1, 1), 2, Some((2, 0))),
+                Some(1),
+                &[((2, 0, 2), false)],
+            ),
+            (
+                Step::Type((2, 2, 1), 3, Some((2, 1))),
+                Some(1),
+                &[((2, 0, 3), false)],
+            ),
+            (
+                Step::Type((1, 0, 1), 2, Some((2, 0))),
+                Some(2),
+                &[((2, 0, 1), false), ((2, 1, 2), false), ((1, 0, 1), false)],
+            ),
+            (
+                Step::Type((1, 1, 1), 3, Some((2, 1))),
+                Some(3),
+                &[
+                    ((2, 0, 1), false),
+                    ((2, 1, 1), false),
+                    ((2, 2, 1), false),
+                    ((1, 1, 1), false),
+                    ((1, 0, 1), false),
+                ],
+            ),
+        ],
+        ..PLAIN
+    },
+    Row {
+        what: "the first and the last letter of a run go and come back",
+        steps: &[
+            (TYPE_A, None, A),
+            (TYPE_B, None, AB),
+            (TYPE_C, None, ABC),
+            (HIDE_Q_LATER, None, &[((1, 0, 1), true), ((1, 1, 2), false)]),
+            (
+                Step::Switch(&[(1, 2, 1)], true, (5, 1)),
+                None,
+                &[((1, 0, 1), true), ((1, 1, 1), false), ((1, 2, 1), true)],
+            ),
+            (Step::Switch(&[(1, 0, 3)], false, (6, 1)), None, A_B_C),
+        ],
+        ..PLAIN
+    },
+    Row {
+        what: "typing after a hidden letter",
+        steps: &[
+            (TYPE_A, None, A),
+            (TYPE_B, None, AB),
+            (TYPE_C, None, ABC),
+            (
+                Step::Switch(&[(1, 2, 1)], true, (9, 2)),
+                None,
+                &[((1, 0, 2), false), ((1, 2, 1), true)],
+            ),
+            (
+                TYPE_D,
+                Some(1),
+                &[((1, 0, 2), false), ((1, 2, 1), true), ((1, 3, 1), false)],
+            ),
+        ],
+        ..PLAIN
+    },
+    Row {
+        what: "typing after a gap in stamps",
+        steps: &[
+            (TYPE_A, None, A),
+            (TYPE_B, None, AB),
+            (Step::Type((1, 2, 1), 4, Some((1, 1))), Some(1), AB_AND_C),
+        ],
+        ..PLAIN
+    },
+    // The looks that c is given are those that it has; it was given them all the same.
+    Row {
+        what: "typing after looks that were set",
+        steps: &[
+            (TYPE_A, None, A),
+            (TYPE_B, None, AB),
+            (TYPE_C, None, ABC),
+            (
+                Step::Relook(&[(1, 2, 1)], 2, (b"Oberon10.Scn.Fnt", 1), (4, 2)),
+                None,
+                AB_AND_C,
+            ),
+            (
+                TYPE_D,
+                Some(1),
+                &[((1, 0, 2), false), ((1, 2, 1), false), ((1, 3, 1), false)],
+            ),
+            (
+                Step::Type((1, 4, 1), 5, Some((1, 3))),
+                Some(1),
+                &[((1, 0, 2), false), ((1, 2, 1), false), ((1, 3, 2), false)],
+            ),
+        ],
+        ..PLAIN
+    },
+    Row {
+        what: "typing after three characters of one Insert",
+        steps: &[
+            (Step::Type((1, 0, 3), 3, None), Some(0), ABC),
+            (TYPE_D, Some(1), &[((1, 0, 3), false), ((1, 3, 1), false)]),
+            (
+                Step::Type((1, 4, 1), 5, Some((1, 3))),
+                Some(1),
+                &[((1, 0, 3), false), ((1, 3, 2), false)],
+            ),
+        ],
+        ..PLAIN
+    },
     Row {
         what: "after one character two of one stamp",
         steps: &[
@@ -308,20 +512,14 @@ const ROWS: &[Row] = &[
             (
                 Step::Type((2, 1, 1), 3, Some((2, 0))),
                 Some(2),
-                &[
-                    ((1, 0, 1), false),
-                    ((2, 0, 1), false),
-                    ((2, 1, 1), false),
-                    ((1, 1, 1), false),
-                ],
+                &[((1, 0, 1), false), ((2, 0, 2), false), ((1, 1, 1), false)],
             ),
             (
                 Step::Type((1, 2, 1), 2, Some((1, 0))),
-                Some(4),
+                Some(3),
                 &[
                     ((1, 0, 1), false),
-                    ((2, 0, 1), false),
-                    ((2, 1, 1), false),
+                    ((2, 0, 2), false),
                     ((1, 2, 1), false),
                     ((1, 1, 1), false),
                 ],
@@ -464,8 +662,8 @@ fn all_look(list: &PieceList, (font, colour): Dress) -> bool {
     true
 }
 
-fn has_hidden(list: &mut PieceList, alloc: Global, ranges: &[Names]) -> Result<bool, Fail> {
-    let set = named(list, alloc, ranges)?;
+fn has_hidden(list: &PieceList, alloc: Global, ranges: &[Names]) -> Result<bool, Fail> {
+    let set = named(list, alloc, key((u64::MAX, u16::MAX)), ranges)?;
     Ok(list.has_hidden(&set))
 }
 

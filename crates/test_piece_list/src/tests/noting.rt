@@ -198,7 +198,7 @@ fn edits(
     note: &mut Vec<Change>,
 ) -> Result<Result<(), Refusal>, Fail> {
     let key = key((row.stamp, 1));
-    let set = named(list, alloc, row.names)?;
+    let set = named(list, alloc, key, row.names)?;
     let Edit::Paint(colour) = row.edit else {
         return Ok(match row.edit {
             Edit::Hide => list.hide_noting(&set, key, note),

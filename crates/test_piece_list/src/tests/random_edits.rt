@@ -1,6 +1,6 @@
 //! Many random edits of a list, beside a plain list of its characters.
 ghost use Rattle.std.specs.Prelude.{IfOk, OnOk};
-ghost use Rattle.piece_list.specs.Changing.{AreHere};
+ghost use Rattle.piece_list.specs.Changing.{AreBelow, AreHere};
 ghost use Rattle.piece_list.specs.Spelled.{spelled};
 
 use super::changing::{add, key, switch};
@@ -22,8 +22,12 @@ const APART: u32 = 1_000;
 // Of so many characters, each time.
 const ASKED: u32 = 10;
 
-// Runs are typed under stamps up to this one, in any order; what hides or shows again has greater ones.
+// Runs are typed under stamps up to this one, in any order, and letters that go on up to a few more; what hides or shows again has
+// greater ones.
 const STAMPS: u32 = 1_000;
+
+// The least stamp of what hides or shows again.
+const LATER: u32 = 2_000;
 
 // A character as the plain list has it.
 #[derive(Clone, Copy)]
@@ -89,13 +93,13 @@ fn gap(chars: &[Known], earlier: usize, stamp: u64, site: u16) -> usize {
     chars.len()
 }
 
-// Puts a run into the plain list.
+// Puts a run into the plain list, and answers before how many characters it does.
 fn put(
     chars: &mut Vec<Known>,
     (site, off, len): Names,
     stamp: u64,
     earlier: usize,
-) -> Result<(), Fail> {
+) -> Result<usize, Fail> {
     let at = gap(chars, earlier, stamp, site);
     for i in (0..len).rev() {
         let known = Known {
@@ -109,36 +113,71 @@ fn put(
         }
         chars.insert(at, known)?;
     }
-    Ok(())
+    Ok(at)
 }
 
-// Types 1 to 3 characters anywhere. No offset is used twice, at any site.
-fn types(list: &mut PieceList, chars: &mut Vec<Known>, dice: &mut Dice) -> Result<(), Fail> {
-    let site = if dice.below(2) == 0 { 1 } else { 2 };
+// Types a run after so many characters, and answers after how many it stands. No offset is used twice, at any site.
+fn types_run(
+    list: &mut PieceList,
+    chars: &mut Vec<Known>,
+    (site, len): (u16, u32),
+    stamp: u64,
+    earlier: usize,
+) -> Result<usize, Fail> {
     let off = u32::try_from(chars.len()).unwrap_or(u32::MAX);
-    let names = (site, off, dice.below(3).saturating_add(1));
-    let stamp = u64::from(dice.below(STAMPS)).saturating_add(1);
-    let earlier = dice.index_below(chars.len().saturating_add(1));
+    let names = (site, off, len);
     try_place(list, names, stamp, last_of(chars, earlier)?)??;
     put(chars, names, stamp, earlier)
 }
 
-fn add_all(list: &mut PieceList, names: &mut NameSet, chars: &[Known]) -> Result<(), Fail>
-    requires { AreHere names.old (spelled list.old.items) }
-    ensures { OnOk result (AreHere names.new (spelled list.new.items)) }
-{
-    for known in chars {
-        add(list, names, known.site, known.off)?;
+// Types 1 to 6 letters anywhere, each after the one before and under the next stamp.
+fn types_letters(
+    list: &mut PieceList,
+    chars: &mut Vec<Known>,
+    site: u16,
+    dice: &mut Dice,
+) -> Result<(), Fail> {
+    let stamp = u64::from(dice.below(STAMPS)).saturating_add(1);
+    let mut earlier = dice.index_below(chars.len().saturating_add(1));
+    for i in 0..dice.below(6).saturating_add(1) {
+        let next = stamp.saturating_add(u64::from(i));
+        earlier = types_run(list, chars, (site, 1), next, earlier)?.saturating_add(1);
     }
     Ok(())
 }
 
-// The set of the names of these characters, each of which is in the list.
-fn names_of(list: &mut PieceList, alloc: Global, chars: &[Known]) -> Result<NameSet, Fail>
-    ensures { IfOk result (λ set. AreHere set (spelled list.new.items)) }
+// Types letters, or 1 to 3 characters at once, anywhere.
+fn types(list: &mut PieceList, chars: &mut Vec<Known>, dice: &mut Dice) -> Result<(), Fail> {
+    let site = if dice.below(2) == 0 { 1 } else { 2 };
+    if dice.below(2) == 0 {
+        return types_letters(list, chars, site, dice);
+    }
+    let len = dice.below(3).saturating_add(1);
+    let stamp = u64::from(dice.below(STAMPS)).saturating_add(1);
+    let earlier = dice.index_below(chars.len().saturating_add(1));
+    types_run(list, chars, (site, len), stamp, earlier)?;
+    Ok(())
+}
+
+fn add_all(list: &PieceList, names: &mut NameSet, key: Key, chars: &[Known]) -> Result<(), Fail>
+    requires here { AreHere names.old (spelled list.now.items) }
+    requires below { AreBelow key names.old (spelled list.now.items) }
+    ensures here { OnOk result (AreHere names.new (spelled list.now.items)) }
+    ensures below { OnOk result (AreBelow key names.new (spelled list.now.items)) }
+{
+    for known in chars {
+        add(list, names, key, (known.site, known.off))?;
+    }
+    Ok(())
+}
+
+// The set of the names of these characters, each of which is in the list under a lesser key than this one.
+fn names_of(list: &PieceList, alloc: Global, key: Key, chars: &[Known]) -> Result<NameSet, Fail>
+    ensures here { IfOk result (λ set. AreHere set (spelled list.now.items)) }
+    ensures below { IfOk result (λ set. AreBelow key set (spelled list.now.items)) }
 {
     let mut set = NameSet::new(alloc);
-    add_all(list, &mut set, chars)?;
+    add_all(list, &mut set, key, chars)?;
     Ok(set)
 }
 
@@ -155,7 +194,7 @@ fn switch_all(
     hidden: bool,
     key: Key,
 ) -> Result<Result<(), Refusal>, Fail> {
-    let names = names_of(list, alloc, chars)?;
+    let names = names_of(list, alloc, key, chars)?;
     Ok(switch(list, &names, hidden, key))
 }
 
@@ -167,7 +206,7 @@ fn switches(
     hidden: bool,
     edit: u32,
 ) -> Result<(), Fail> {
-    let key = key((u64::from(STAMPS.saturating_add(edit)), 1));
+    let key = key((u64::from(LATER.saturating_add(edit)), 1));
     switch_all(list, alloc, chars, hidden, key)??;
     mark(chars, hidden);
     Ok(())

@@ -1,6 +1,7 @@
 ghost use Rattle.std.specs.Prelude.{◌≡◌, [], ◌∷◌};
 ghost use Rattle.operations.specs.NameSet.{of_name};
 
+use super::changing::is_lesser;
 use super::told::{is, name, try_place};
 use char_files::{Anchor, Name};
 use looks::{Key, Looks};
@@ -28,8 +29,11 @@ fn a_new_list_is_empty(rt: HostRuntime) -> Result<(), Fail> {
 fn hide_one(list: &mut PieceList, names: &NameSet, name: Name) -> Result<(), Fail>
     requires { names.now ≡ of_name name ∷ [] }
 {
-    if let Some(_) = list.shown_to(name) {
-        list.hide(names, Key { stamp: 2, site: 2 })?;
+    let key = Key { stamp: 2, site: 2 };
+    if let Some(own) = list.key_of(name) {
+        if is_lesser(own, key) {
+            list.hide(names, key)?;
+        }
     }
     Ok(())
 }

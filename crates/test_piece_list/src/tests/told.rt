@@ -32,7 +32,7 @@ pub(super) fn name(site: u16, off: u32) -> Result<Name, Fail> {
     Ok(name_of(site, off).ok_or("a name")?)
 }
 
-// A run under a key of its own site.
+// A run under a key of its own site: a letter that others may go on from, or what one Insert brings.
 fn run(site: SiteNo, off: u32, len: u32, stamp: u64) -> Result<Run, Fail>
     ensures { IfOk result (λ run. IsPiece (piece_of run)
         × (range_of (piece_of run) ≡ record { site = site; at = off; len = len })) }
@@ -48,6 +48,7 @@ fn run(site: SiteNo, off: u32, len: u32, stamp: u64) -> Result<Run, Fail>
             stamp,
             site: site.get(),
         },
+        rising: len == 1,
         looks: Looks::plain(),
     })
 }

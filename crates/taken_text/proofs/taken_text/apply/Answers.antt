@@ -5,29 +5,48 @@ use Rattle.list_changes.specs.Changes.{IsOfKind}
 use Rattle.list_changes.specs.declared.change.ChangeKind.TheVariants.{Insert, Delete}
 use Rattle.operations.specs.Operation.{OpKind, delete, restore, change_looks}
 use Rattle.operations.specs.Seen.{kind_of}
+use Rattle.piece_list.specs.Changing.{AreBelow}
 use Rattle.piece_list.specs.Noted.{IsReplaceOf, appearances}
 use Rattle.piece_list.specs.Spelled.{spelled}
 use Rattle.tree_order.specs.Registers.{atom_by}
 use Rattle.taken_text.specs.Noted.{IsChangeOf}
 use Rattle.taken_text.specs.Taken.{IsTaken, chars_shown}
 use Rattle.taken_text.proofs.Noting.{gains_told, replaces_told}
-use Rattle.taken_text.proofs.Taking.{both_ok, names_here, on_ok, taken_with}
+use Rattle.taken_text.proofs.Taking.{both_ok, names_below, names_here, on_ok, taken_with}
 use Rattle.taken_text.proofs.taken_text.apply.Goals as goal
 
-pub hide_noting-requires : goal.hide_noting-requires
-hide_noting-requires c =
+pub hide_noting-requires-clause-here : goal.hide_noting-requires-clause-here
+hide_noting-requires-clause-here c =
     let a = c.args in
     names_here a.log.now.ops a.op.now a.pieces.now.items a.files.now c.requires.taken c.requires.new c.requires.ready c.in-Delete.names delete (sym c.kind.ensures ∙ ap kind_of c.in-Delete.is) (λ name h. h)
 
-pub reveal_noting-requires : goal.reveal_noting-requires
-reveal_noting-requires c =
+pub hide_noting-requires-clause-below : goal.hide_noting-requires-clause-below
+hide_noting-requires-clause-below c =
+    let a = c.args in
+    subst (λ (key : Key). AreBelow key c.in-Delete.names (spelled a.pieces.now.items)) (sym c.key-key.ensures)
+    (names_below a.log.now.ops a.op.now a.pieces.now.items a.files.now c.requires.taken c.requires.new c.requires.ready c.in-Delete.names delete (sym c.kind.ensures ∙ ap kind_of c.in-Delete.is) (λ name h. h))
+
+pub reveal_noting-requires-clause-here : goal.reveal_noting-requires-clause-here
+reveal_noting-requires-clause-here c =
     let a = c.args in
     names_here a.log.now.ops a.op.now a.pieces.now.items a.files.now c.requires.taken c.requires.new c.requires.ready c.in-Restore.names restore (sym c.kind.ensures ∙ ap kind_of c.in-Restore.is) (λ name h. h)
 
-pub relook_noting-requires : goal.relook_noting-requires
-relook_noting-requires c =
+pub reveal_noting-requires-clause-below : goal.reveal_noting-requires-clause-below
+reveal_noting-requires-clause-below c =
+    let a = c.args in
+    subst (λ (key : Key). AreBelow key c.in-Restore.names (spelled a.pieces.now.items)) (sym c.key-key.ensures)
+    (names_below a.log.now.ops a.op.now a.pieces.now.items a.files.now c.requires.taken c.requires.new c.requires.ready c.in-Restore.names restore (sym c.kind.ensures ∙ ap kind_of c.in-Restore.is) (λ name h. h))
+
+pub relook_noting-requires-clause-here : goal.relook_noting-requires-clause-here
+relook_noting-requires-clause-here c =
     let a = c.args in
     names_here a.log.now.ops a.op.now a.pieces.now.items a.files.now c.requires.taken c.requires.new c.requires.ready c.in-ChangeLooks.names (change_looks c.in-ChangeLooks.sel c.in-ChangeLooks.looks) (sym c.kind.ensures ∙ ap kind_of c.in-ChangeLooks.is) (λ name h. h)
+
+pub relook_noting-requires-clause-below : goal.relook_noting-requires-clause-below
+relook_noting-requires-clause-below c =
+    let a = c.args in
+    subst (λ (key : Key). AreBelow key c.in-ChangeLooks.names (spelled a.pieces.now.items)) (sym c.key-key.ensures)
+    (names_below a.log.now.ops a.op.now a.pieces.now.items a.files.now c.requires.taken c.requires.new c.requires.ready c.in-ChangeLooks.names (change_looks c.in-ChangeLooks.sel c.in-ChangeLooks.looks) (sym c.kind.ensures ∙ ap kind_of c.in-ChangeLooks.is) (λ name h. h))
 
 pub returns-in-Delete-clause-ok : goal.returns-in-Delete-clause-ok
 returns-in-Delete-clause-ok c =

@@ -1,4 +1,5 @@
-use Rattle.std.proofs.Common.{◌≡◌, List, ℕ, All, sym, ap, subst, ◌∙◌, arith}
+use Rattle.std.proofs.Common.{◌≡◌, ◌==◌, List, ℕ, All, sym, ap, subst, ◌∙◌, arith}
+use Rattle.std.proofs.lemmas.Bool.{eqb-true}
 use Rattle.looks.specs.declared.looks.Looks.{Looks}
 use Rattle.list_changes.specs.Changes.{IsOfKind}
 use Rattle.list_changes.specs.declared.change.ChangeKind.TheVariants.{Insert}
@@ -41,12 +42,13 @@ returns-clause-ok c =
       off = i.at;
       len = c.len.result;
       key = c.key.result;
+      rising = c.len-2.result == 1;
       looks = c.copy.result;
     } in
     let of = kind ∙ ap (λ (l : Looks). insert i.cause i.at l bytes) (sym c.copy.ensures) in
     taken_with_run a.log.now.ops a.op.now a.pieces.now.items a.files.now c.requires.taken c.requires.new
     c.requires.ready i.cause i.at i.looks bytes kind run
-    (i.cause, bytes, of, c.site.ensures, omega (arith, c.len.ensures), c.key.ensures)
+    (i.cause, bytes, of, c.site.ensures, omega (arith, c.len.ensures), c.key.ensures, λ rises. omega (arith, eqb-true c.len-2.result 1 rises, c.len.ensures, c.len-2.ensures))
     c.place_noting.new.self.items c.append.new.self c.in_ok-place_noting.ensures.placed own others
 
 pub returns-clause-noted : goal.returns-clause-noted

@@ -1,4 +1,4 @@
-use Rattle.std.proofs.Common.{◌≡◌, ℕ, List, sym, ap, subst, ◌∙◌}
+use Rattle.std.proofs.Common.{◌≡◌, ℕ, List, Contains, sym, ap, subst, ◌∙◌}
 use Rattle.operations.specs.NameSet.{Range, IsAmong}
 use Rattle.piece_list.specs.Piece.{Piece}
 use Rattle.piece_list.specs.Held.{PiecesSeen}
@@ -10,4 +10,11 @@ change_ranges-requires-clause-here c = λ d is.
     let same : c.reserve.new.self.items ≡ c.args.self.now.items =
     c.reserve.ensures.items ∙ c.enter.ensures.items ∙ ap (λ (v : PiecesSeen). v.items) c.self.view_is in
     subst (λ (l : List (ℕ × Piece)). HasName (spelled l) d) (sym same)
-    (c.requires d (subst (λ (rs : List Range). IsAmong rs d) c.ranges-ranges.ensures.value is))
+    (c.requires.here d (subst (λ (rs : List Range). IsAmong rs d) c.ranges-ranges.ensures.value is))
+
+pub change_ranges-requires-clause-below : goal.change_ranges-requires-clause-below
+change_ranges-requires-clause-below c = λ k has is.
+    let same : c.reserve.new.self.items ≡ c.args.self.now.items =
+    c.reserve.ensures.items ∙ c.enter.ensures.items ∙ ap (λ (v : PiecesSeen). v.items) c.self.view_is in
+    c.requires.below k (subst (λ (l : List (ℕ × Piece)). Contains (spelled l) k) same has)
+    (subst (λ (rs : List Range). IsAmong rs k.name) c.ranges-ranges.ensures.value is)

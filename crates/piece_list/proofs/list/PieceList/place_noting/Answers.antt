@@ -1,4 +1,4 @@
-use Rattle.std.proofs.Common.{◌≡◌, ℕ, List, Option, ap, sym, subst, refl, ◌∙◌}
+use Rattle.std.proofs.Common.{◌≡◌, ◌++◌, ℕ, List, Option, ap, sym, subst, refl, ◌∙◌}
 use Rattle.std.specs.Prelude.{IfSome}
 use Rattle.char_files.specs.CharName.{CharName}
 use Rattle.list_changes.specs.Changes.{IsOfKind}
@@ -48,7 +48,8 @@ insert-requires-clause-new c = λ d is has.
 -- the run is inserted into its gap
 insert_is : (c : After-insert)
     → IsPartedAt c.args.self.now.items c.end_at-end.new.self.items c.end_at-end.result c.args.cause
-    → IsInsertedInGap c.args.cause (piece_of c.args.run) c.args.self.now.items c.insert.new.self.items c.skip-last.new.steps
+    → (g : IsInsertedInGap c.args.cause (piece_of c.args.run) c.args.self.now.items c.insert.new.self.items c.skip-last.new.steps)
+    × (c.end_at-end.new.self.items ≡ g.before ++ g.skipped ++ g.after)
 insert_is c parted =
     let old : Items = c.args.self.now.items in
     let items : Items = c.end_at-end.new.self.items in
@@ -71,7 +72,7 @@ count c =
 pub note_run-requires-clause-here : goal.note_run-requires-clause-here
 note_run-requires-clause-here c =
     let at = goal.at.note_run-requires-clause-here c in
-    let insert = insert_is at.After-insert (parted_at at.After-end_at-end) in
+    let insert = (insert_is at.After-insert (parted_at at.After-end_at-end)).0 in
     c.shown_to.ensures.here.1 (subst (HasName (spelled c.insert.new.self.items)) (sym c.in-Some.ensures.value)
     (first_is_here c.args.cause (piece_of c.args.run) c.args.self.now.items c.insert.new.self.items
     c.skip-last.new.steps insert c.requires.run.0 refl))
@@ -79,7 +80,7 @@ note_run-requires-clause-here c =
 pub note_run-requires-clause-some : goal.note_run-requires-clause-some
 note_run-requires-clause-some c =
     let at = goal.at.note_run-requires-clause-some c in
-    let insert = insert_is at.After-insert (parted_at at.After-end_at-end) in
+    let insert = (insert_is at.After-insert (parted_at at.After-end_at-end)).0 in
     (room_for_run c.args.cause (piece_of c.args.run) c.args.self.now.items c.insert.new.self.items
     c.skip-last.new.steps insert c.requires.run.0 refl c.shown_to.result c.requires.run.1
     c.lemma_shown_is_countable.ensures (count c)).0
@@ -87,7 +88,7 @@ note_run-requires-clause-some c =
 pub note_run-requires-clause-small : goal.note_run-requires-clause-small
 note_run-requires-clause-small c =
     let at = goal.at.note_run-requires-clause-small c in
-    let insert = insert_is at.After-insert (parted_at at.After-end_at-end) in
+    let insert = (insert_is at.After-insert (parted_at at.After-end_at-end)).0 in
     (room_for_run c.args.cause (piece_of c.args.run) c.args.self.now.items c.insert.new.self.items
     c.skip-last.new.steps insert c.requires.run.0 refl c.shown_to.result c.requires.run.1
     c.lemma_shown_is_countable.ensures (count c)).1
@@ -95,12 +96,14 @@ note_run-requires-clause-small c =
 pub returns-clause-steps : goal.returns-clause-steps
 returns-clause-steps c =
     let at = goal.at.returns-clause-steps c in
-    insert_is at.After-insert (parted_at at.After-end_at-end)
+    (insert_is at.After-insert (parted_at at.After-end_at-end)).0
 
 pub returns-clause-placed : goal.returns-clause-placed
 returns-clause-placed c =
-    placed_in_gap c.args.self.now.items c.insert.new.self.items c.args.cause (piece_of c.args.run)
-    c.skip-last.new.steps c.insert.ensures.pieces (returns-clause-steps c)
+    let at = goal.at.returns-clause-placed c in
+    let (gap, whole) = insert_is at.After-insert (parted_at at.After-end_at-end) in
+    placed_in_gap c.args.self.now.items c.end_at-end.new.self.items c.insert.new.self.items c.args.cause (piece_of c.args.run)
+    c.skip-last.new.steps c.insert.ensures.pieces gap whole
 
 pub returns-clause-noted : goal.returns-clause-noted
 returns-clause-noted c =

@@ -2,13 +2,13 @@ use Rattle.std.proofs.Common.{◌≡◌, ◌≤◌, List, [], ◌∷◌, drop, m
 use Rattle.std.proofs.lemmas.List.{length-map}
 use Rattle.std.proofs.Math.ListN.{drop_of_length-le}
 use Rattle.piece_list.specs.Held.{HeldPieces, PiecesSeen}
-use Rattle.piece_list.specs.RunSplits.{AreWithin, HasFront}
+use Rattle.piece_list.specs.RunSplits.{AreWithin, HasFront, HaveStamps}
 use Rattle.piece_list.specs.Shown.{Appearance, appearance_of, shown_runs}
 use Rattle.piece_list.specs.Spelled.{spelled, shown_chars}
 use Rattle.piece_list.proofs.Positions.{Items, shown_in}
 use Rattle.piece_list.proofs.Ranks.{IsFoundAt, found_at}
 use Rattle.piece_list.proofs.RunSplits.{told}
-use Rattle.piece_list.proofs.Walked.{tells_from, front_from, within_from}
+use Rattle.piece_list.proofs.Walked.{tells_from, front_from, stamps_from, within_from}
 use Rattle.piece_list.proofs.Weighed.{total_is_shown}
 use Rattle.piece_list.proofs.list.PieceList.walk_from.Goals as goal
 use Rattle.piece_list.proofs.list.PieceList.walk_from.Goals.{After-find-tag, After-from-members}
@@ -68,6 +68,13 @@ returns-clause-within c =
     (within_from c.pieces.inside.ring.items at.front at.after c.find-tag.result.0 at.piece at.whole
     c.pieces.invariant.entered.pieces)
 
+pub returns-clause-stamps : goal.returns-clause-stamps
+returns-clause-stamps c =
+    let at = found (goal.at.returns-clause-stamps c).After-find-tag in
+    subst (λ (l : Items). HaveStamps (shown_runs l)) (sym (left (goal.at.returns-clause-stamps c).After-from-members at))
+    (stamps_from c.pieces.inside.ring.items at.front at.after c.find-tag.result.0 at.piece at.whole
+    c.pieces.invariant.entered.pieces)
+
 pub returns-then-shown_len-pos-clause-shown : goal.returns-then-shown_len-pos-clause-shown
 returns-then-shown_len-pos-clause-shown c =
     let shown : List Appearance = map appearance_of (shown_chars (spelled c.args.self.now.items)) in
@@ -89,5 +96,11 @@ returns-then-shown_len-pos-clause-front c =
 pub returns-then-shown_len-pos-clause-within : goal.returns-then-shown_len-pos-clause-within
 returns-then-shown_len-pos-clause-within c =
     subst (λ (l : Items). AreWithin (shown_runs l))
+    (sym (c.from-none.ensures c.pieces.inside.ring.items [] (sym (append-nil c.pieces.inside.ring.items)) refl))
+    (λ k d lt. absurd (omega arith))
+
+pub returns-then-shown_len-pos-clause-stamps : goal.returns-then-shown_len-pos-clause-stamps
+returns-then-shown_len-pos-clause-stamps c =
+    subst (λ (l : Items). HaveStamps (shown_runs l))
     (sym (c.from-none.ensures c.pieces.inside.ring.items [] (sym (append-nil c.pieces.inside.ring.items)) refl))
     (λ k d lt. absurd (omega arith))

@@ -6,7 +6,7 @@ use Rattle.piece_list.specs.Pieces.{IsPiece, front_of, rest_of}
 use Rattle.piece_list.specs.Values.{IsWithin, Values, piece_in, pieces_in}
 use Rattle.piece_list.proofs.Positions.{Items}
 use Rattle.piece_list.proofs.Recorded.{Records, at_cursor, cut_within, member_on, member_within, pushed_on, pushed_within}
-use Rattle.piece_list.proofs.Recorded.{pushed_after, pushed_many, written_many, tag_off, written_on, written_within}
+use Rattle.piece_list.proofs.Recorded.{pushed_after, pushed_many, rest_stands, written_many, tag_off, written_on, written_within}
 use Rattle.piece_list.proofs.ring.PieceRing.split.Goals as goal
 use Rattle.piece_list.proofs.ring.PieceRing.split.Goals.{After-value_mut, In-Ok}
 
@@ -37,6 +37,9 @@ split_off-rest-requires-clause-small c =
     let piece = (asked (goal.at.split_off-rest-requires-clause-small c).After-value_mut).0 in
     omega (arith, piece.2)
 
+pub split_off-rest-requires-clause-stamps : goal.split_off-rest-requires-clause-stamps
+split_off-rest-requires-clause-stamps c = (asked (goal.at.split_off-rest-requires-clause-stamps c).After-value_mut).0.4
+
 -- the rest's record is inserted after the front's
 pushed : (c : In-Ok) → IsPushed (with_value c.args.number c.split_off-rest.new.self c.self.inside.records.items) (Some c.args.number)
     c.in-Ok.new c.split_off-rest.result c.push_after.new.self.items
@@ -53,9 +56,9 @@ invariant_of-self c =
     let is : IsWithin v r =
     member_within v records c.args.number r c.self.invariant.0 (member (goal.at.invariant_of-self c).After-value_mut) in
     let front : IsWithin v c.split_off-rest.new.self =
-    subst (IsWithin v) (sym c.split_off-rest.ensures.front) (cut_within v r r.off c.args.n is) in
+    subst (IsWithin v) (sym c.split_off-rest.ensures.front) (cut_within v r r.stamp r.off c.args.n is) in
     let rest : IsWithin v c.split_off-rest.result =
-    subst (IsWithin v) (sym c.split_off-rest.ensures.rest) (cut_within v r _ _ is) in
+    subst (IsWithin v) (sym c.split_off-rest.ensures.rest) (cut_within v r _ _ _ is) in
     let pushed_in = pushed (goal.at.invariant_of-self c).In-Ok in
     let front_in : Records = with_value c.args.number c.split_off-rest.new.self records in
     let many = pushed_many front_in c.push_after.new.self.items (Some c.args.number) c.in-Ok.new c.split_off-rest.result pushed_in in
@@ -88,6 +91,7 @@ returns-clause-split c =
       p,
       member_on (piece_in v) records c.args.number r was,
       subst (λ (l : Items). IsPushed l (Some c.args.number) c.in-Ok.new (rest_of c.args.n p) new) front
-          (subst (λ (q : PieceRecord). IsPushed (pieces_in v (with_value c.args.number c.split_off-rest.new.self records))
-          (Some c.args.number) c.in-Ok.new (piece_in v q) new) c.split_off-rest.ensures.rest made),
+          (subst (λ (q : Piece). IsPushed (pieces_in v (with_value c.args.number c.split_off-rest.new.self records))
+          (Some c.args.number) c.in-Ok.new q new)
+          (ap (piece_in v) c.split_off-rest.ensures.rest ∙ rest_stands v r c.args.n) made),
     )

@@ -26,8 +26,8 @@ returns-in-Relook-clause-changed c =
     subst (λ (s : Setting). piece_in v w ≡ changed_piece s (piece_in v r)) (sym c.in-Relook.is)
     (relooked_in v r w sel key looks refl
     (subst (λ (s : Bool). Later s r.font_by w.font_by) c.font.ensures
-    (c.later-record.ensures.value (inserted_with v r) looks others (sym c.key-own.ensures) entered))
+    (c.later-record.ensures.value (inserted_with v r) looks others entered))
     (subst (λ (s : Bool). Later s r.colour_by w.colour_by) c.colour.ensures
-    (c.later-record-in-Relook.ensures.value (inserted_with v r) looks others (sym c.key-own.ensures) entered))
+    (c.later-record-in-Relook.ensures.value (inserted_with v r) looks others entered))
     (subst (λ (s : Bool). Later s r.offset_by w.offset_by) c.offset.ensures
-    (c.later-record-in-Relook-2.ensures.value (inserted_with v r) looks others (sym c.key-own.ensures) entered)))
+    (c.later-record-in-Relook-2.ensures.value (inserted_with v r) looks others entered)))

@@ -1,4 +1,6 @@
-use Rattle.std.proofs.Common.{◌≡◌, ℕ, zero, suc, ◌<◌, List, [], ◌∷◌, get_or, refl, sym, ap, subst, ◌∙◌, arith}
+use Rattle.std.proofs.Common.{◌≡◌, ℕ, zero, suc, ◌<◌, Some, List, [], ◌∷◌, get_or, refl, sym, ap, subst, ◌∙◌, arith}
+use Rattle.looks.specs.Key.{is_below}
+use Rattle.looks.specs.declared.key.Key.{Key}
 use Rattle.char_files.specs.CharName.{CharName}
 use Rattle.operations.specs.NameSet.{Range, IsIn, IsAmong, of_name}
 use Rattle.tree_order.specs.Registers.{Atom}
@@ -23,7 +25,15 @@ one_here names chars name is has = λ c among.
     let (k, r, lt, at, inside) = subst (λ (l : List Range). IsAmong l c) is among in
     subst (HasName chars) (one_name name c k r lt at inside) has
 
-pub hide-requires : goal.hide-requires
-hide-requires c =
+pub hide-requires-clause-here : goal.hide-requires-clause-here
+hide-requires-clause-here c =
     one_here c.args.names.now (spelled c.args.list.now.items) c.args.name c.requires
     (c.in-Some.ensures.here.0 refl)
+
+pub hide-requires-clause-below : goal.hide-requires-clause-below
+hide-requires-clause-below c = λ k has among.
+    let (i, r, lt, at, inside) = subst (λ (l : List Range). IsAmong l k.name) c.requires among in
+    let held : Some c.in-Some.own ≡ Some k.key = c.in-Some.ensures.key k has (sym (one_name c.args.name k.name i r lt at inside)) in
+    let own : c.in-Some.own ≡ k.key = cc in
+    let key : Key = record { stamp = 2; site = 2 } in
+    ap (λ (x : Key). is_below x key) (sym own) ∙ sym c.is_lesser.ensures ∙ c.if-is_lesser.true

@@ -13,7 +13,7 @@ use Rattle.piece_list.specs.Noted.{AreNoted, kind_of}
 use Rattle.piece_list.specs.Pieces.{range_of}
 use Rattle.piece_list.specs.Spelled.{spelled}
 use Rattle.piece_list.proofs.ChangedNames.{true_is_not}
-use Rattle.piece_list.proofs.ChangedPiece.{turn, same_names, value_after}
+use Rattle.piece_list.proofs.ChangedPiece.{IsTurn, turn, same_names, value_after}
 use Rattle.piece_list.proofs.SplitList.{is_piece}
 use Rattle.piece_list.proofs.Edges.{is_entered}
 use Rattle.piece_list.proofs.Found.{none_is_not}
@@ -35,14 +35,15 @@ turned : (c : After-shown_of-weight)
     → IsTurned c.args.setting.now c.self.inside.ring.items c.self.inside.tags c.self.inside.index.items c.in-Some.tag
     (was c) (now c) c.args.name
 turned c =
-    is_turned c.args.setting.now c.self.inside.ring.items c.self.inside.tags c.self.inside.index.items c.in-Some.tag
-    (was c) (now c) c.args.name c.self.invariant
-    (turn c.args.setting.now c.self.inside.ring.items c.self.inside.tags c.in-Some.tag (was c) (now c) c.args.name
+    let t : IsTurn c.self.inside.ring.items c.in-Some.tag (was c) (now c) c.args.name =
+    turn c.args.setting.now c.self.inside.ring.items c.self.inside.tags c.in-Some.tag (was c) (now c) c.args.name
     c.self.invariant.numbered c.self.invariant.entered
     (rw (← c.self.view_is) at c.requires.here)
     (rw (← c.self.view_is) at c.requires.begins)
-    c.change-shows_other.ensures.changed.1 c.in-Some.ensures refl)
-    refl
+    c.change-shows_other.ensures.changed.1 c.in-Some.ensures refl in
+    is_turned c.args.setting.now c.self.inside.ring.items c.self.inside.tags c.self.inside.index.items c.in-Some.tag
+    (was c) (now c) c.args.name c.self.invariant t refl
+    ((rw (← c.self.view_is) at c.requires.below) c.in-Some.tag (was c) t.member t.held)
 
 -- the ring after the change
 set : (c : After-shown_of-weight)

@@ -1,10 +1,11 @@
 use Rattle.std.proofs.Common.{◌≡◌, ℕ, ◌+◌, ◌-◌, ◌<◌, ◌≤◌, [], ◌∷◌, map, refl, sym, ap, subst, ◌∙◌, arith}
 use Rattle.char_files.specs.CharName.{CharName}
-use Rattle.operations.specs.NameSet.{IsIn}
+use Rattle.operations.specs.NameSet.{IsIn, Range}
 use Rattle.tree_order.specs.Registers.{Atom, if_named}
-use Rattle.piece_list.specs.Changing.{AreTheSame, IsEdge, changed_char}
+use Rattle.piece_list.specs.Changing.{AreTheSame, IsEdge, changed_char, key_of}
 use Rattle.piece_list.specs.Noted.{AreNoted}
 use Rattle.piece_list.specs.Spelled.{spelled}
+use Rattle.piece_list.proofs.Below.{below_stays, piece_below}
 use Rattle.piece_list.proofs.ChangedNames.{range, no_range, name_here, range_grows}
 use Rattle.piece_list.proofs.ChangedPiece.{keeps_name}
 use Rattle.piece_list.proofs.Entries.{entries_none, entries_on}
@@ -46,6 +47,23 @@ change_piece-at-requires-clause-here c =
     (range c.args.range.site c.args.range.at (c.loop-at.at - c.args.range.at) ∷ []) c.args.range name
     (spelled c.args.self.now.items) (spelled c.loop-at.self.items) c.requires.here
     c.loop-at.invariant.changed held
+
+pub change_piece-at-requires-clause-below : goal.change_piece-at-requires-clause-below
+change_piece-at-requires-clause-below c =
+    let name : CharName = c.in-Some.name in
+    let r : Range = c.args.range in
+    let items : Items = c.loop-at.self.items in
+    let site : name.site ≡ r.site = ap (λ (d : CharName). d.site) c.in-Some.ensures.value ∙ c.site.ensures in
+    let off : name.off ≡ c.loop-at.at = ap (λ (d : CharName). d.off) c.in-Some.ensures.value in
+    let from : r.at ≤ name.off = omega (arith, off, c.loop-at.invariant.low) in
+    let end : ℕ = c.at.result + c.len.result in
+    let to : name.off < end = omega (arith, off, c.loop-at-test.true) in
+    let begins : IsEdge name.site name.off items =
+    subst (λ (o : ℕ). IsEdge name.site o items) (sym off) (subst (λ (s : ℕ). IsEdge s c.loop-at.at items) (sym site) c.loop-at.invariant.begins) in
+    piece_below (key_of c.args.setting.now) r items name end
+    (below_stays (key_of c.args.setting.now) c.args.setting.now (range r.site r.at (c.loop-at.at - r.at) ∷ []) (r ∷ [])
+    (spelled c.args.self.now.items) (spelled items) c.requires.below c.loop-at.invariant.changed)
+    site from to c.loop-at.invariant.end begins c.loop-at.invariant.ends
 
 pub loop-at-preserved : goal.loop-at-preserved
 loop-at-preserved c =

@@ -1,8 +1,10 @@
-use Rattle.std.proofs.Common.{◌≡◌, ℕ, [], ◌∷◌, map, take, sym, ap, subst, ◌∙◌, arith, refl}
+use Rattle.std.proofs.Common.{◌≡◌, ℕ, List, [], ◌∷◌, map, take, sym, ap, subst, ◌∙◌, arith, refl}
 use Rattle.operations.specs.NameSet.{Range}
 use Rattle.tree_order.specs.Registers.{Atom, if_named}
-use Rattle.piece_list.specs.Changing.{changed_char, IsEdge}
+use Rattle.piece_list.specs.Changing.{changed_char, key_of, IsEdge}
 use Rattle.piece_list.specs.Spelled.{spelled}
+use Rattle.piece_list.proofs.Below.{below_stays}
+use Rattle.piece_list.proofs.Noted.{range_among}
 use Rattle.piece_list.proofs.ChangedNames.{unchanged, one_more, range_here}
 use Rattle.piece_list.proofs.ChangedPiece.{keeps_name}
 use Rattle.piece_list.proofs.Entries.{entries_none, entries_more}
@@ -27,6 +29,17 @@ change_range-requires-clause-here c =
     c.range-item.result (spelled c.args.self.now.items)
     (spelled c.split_across-in-loop-range.new.self.items) c.loop-range-test.true c.range-item.is c.requires.here
     (c.split_across-in-loop-range.ensures.split.spells ∙ c.split_across.ensures.split.spells ∙ c.loop-range.invariant.changed)
+
+pub change_range-requires-clause-below : goal.change_range-requires-clause-below
+change_range-requires-clause-below c =
+    let ranges : List Range = c.args.ranges.now in
+    let i : ℕ = c.loop-range.range-index in
+    let spells = c.split_across-in-loop-range.ensures.split.spells ∙ c.split_across.ensures.split.spells
+    ∙ c.loop-range.invariant.changed in
+    λ k has held.
+    below_stays (key_of c.args.setting.now) c.args.setting.now (take i ranges) ranges (spelled c.args.self.now.items)
+    (spelled c.split_across-in-loop-range.new.self.items) c.requires.below spells k has
+    (range_among ranges i c.range-item.result k.name c.loop-range-test.true c.range-item.is held)
 
 pub change_range-requires-clause-begins : goal.change_range-requires-clause-begins
 change_range-requires-clause-begins c =

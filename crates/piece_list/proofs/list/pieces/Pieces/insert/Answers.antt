@@ -1,54 +1,34 @@
-use Rattle.rank_index.proofs.Tagged.{tags_pushed}
+use Rattle.std.proofs.Common.{◌≡◌, ℕ, Option, Some, subst}
+use Rattle.piece_raw.specs.Ring.{IsMember}
 use Rattle.piece_list.specs.Piece.{Piece}
-use Rattle.piece_list.specs.Pieces.{piece_of, range_of}
-use Rattle.piece_list.proofs.SplitList.{Items}
-use Rattle.piece_list.proofs.Entered.{filled_inside, filled_outside}
-use Rattle.piece_list.proofs.Parts.{part_has_tag_if}
-use Rattle.piece_list.proofs.Placing.{pushed_part, pushed_entered}
-use Rattle.piece_list.proofs.Weighed.{part_has_weight, insert_fits, pushed_weighed}
-use Rattle.std.proofs.Common.{refl}
+use Rattle.piece_list.specs.Pieces.{GoesOn, piece_of}
+use Rattle.piece_list.specs.Placing.{HasPart, IsParted}
+use Rattle.piece_list.proofs.Found.{one_value}
+use Rattle.piece_list.proofs.Joined.{joined_there}
+use Rattle.piece_list.proofs.Parts.{part_has_tag}
+use Rattle.piece_list.proofs.Positions.{Items}
 use Rattle.piece_list.proofs.list.pieces.Pieces.insert.Goals as goal
 
-pub insert-number-requires-clause-last : goal.insert-number-requires-clause-last
-insert-number-requires-clause-last c =
-    part_has_tag_if c.self.inside.ring.items c.args.last (rw (← c.self.view_is) at c.requires.part)
+pub piece_at-requires : goal.piece_at-requires
+piece_at-requires c =
+    part_has_tag c.self.inside.ring.items c.in-Some.number
+    (subst (HasPart c.self.inside.ring.items) c.in-Some.is (rw (← c.self.view_is) at c.requires.part))
 
-pub insert_after-requires-clause-after : goal.insert_after-requires-clause-after
-insert_after-requires-clause-after c =
-    part_has_weight c.self.inside.ring.items c.self.inside.index.items c.args.last c.self.invariant.indexed
-    (rw (← c.self.view_is) at c.requires.part)
-
-pub insert_after-requires-clause-total : goal.insert_after-requires-clause-total
-insert_after-requires-clause-total c =
-    insert_fits c.self.inside.ring.items c.self.inside.tags c.self.inside.index.items c.args.run.now.len
-    (piece_of c.args.run.now) c.self.invariant.numbered c.self.invariant.entered c.self.invariant.indexed refl
-    c.requires.piece.1
-
-pub invariant_of-self : goal.invariant_of-self
-invariant_of-self c =
+-- the run goes on where this piece ends, whichever way it is found
+pub lengthen-requires-clause-goes_on : goal.lengthen-requires-clause-goes_on
+lengthen-requires-clause-goes_on c =
     let items : Items = c.self.inside.ring.items in
-    let new : Items = c.insert-number.new.self.items in
-    let v : Piece = piece_of c.args.run.now in
-    record {
-      numbered = tags_pushed items new c.args.last c.insert-number.result v c.self.invariant.numbered
-          c.insert-number.ensures.number.0 c.insert-number.ensures.inserted;
-      entered = pushed_entered items new c.args.last c.insert-number.result v c.self.inside.tags c.fill.new.self
-          c.insert-number.ensures.inserted c.self.invariant.entered c.requires.piece
-          (rw (← c.self.view_is) at c.requires.new)
-          (filled_inside (range_of v) c.insert-number.result c.self.inside.tags c.fill.new.self c.fill.ensures.inside
-          c.fill.ensures.before c.fill.ensures.after c.fill.ensures.others)
-          (filled_outside (range_of v) c.insert-number.result c.self.inside.tags c.fill.new.self c.fill.ensures.inside
-          c.fill.ensures.before c.fill.ensures.after c.fill.ensures.others);
-      indexed = pushed_weighed items new c.self.inside.index.items c.insert_after.new.self.items c.args.last
-          c.insert-number.result c.args.run.now.len v c.self.invariant.numbered c.self.invariant.indexed
-          refl c.insert-number.ensures.inserted c.insert_after.ensures.inserted;
-    }
+    let on : GoesOn c.piece_at.result (piece_of c.args.run.now) = c.goes_on.ensures c.if-goes_on.true in
+    rw (← c.self.view_is) (λ p member. subst (λ (q : Piece). GoesOn q (piece_of c.args.run.now))
+    (one_value items c.self.invariant.numbered c.in-Some.number c.piece_at.result p c.piece_at.ensures member) on)
 
-pub returns-clause-insert : goal.returns-clause-insert
-returns-clause-insert c =
-    rw (← c.self.view_is)
-    (pushed_part c.self.inside.ring.items c.insert-number.new.self.items c.self.invariant.numbered c.args.last
-    c.insert-number.result (piece_of c.args.run.now) c.insert-number.ensures.inserted)
-
-pub returns-clause-pieces : goal.returns-clause-pieces
-returns-clause-pieces c = (invariant_of-self c).entered.pieces
+pub returns-then-goes_on-clause-insert : goal.returns-then-goes_on-clause-insert
+returns-then-goes_on-clause-insert c =
+    let items : Items = c.self.inside.ring.items in
+    let (q, member, is) = (rw (← c.self.view_is) at c.lengthen.ensures.longer) in
+    let on : GoesOn q (piece_of c.args.run.now) = subst (λ (p : Piece). GoesOn p (piece_of c.args.run.now))
+    (one_value items c.self.invariant.numbered c.in-Some.number c.piece_at.result q c.piece_at.ensures member)
+    (c.goes_on.ensures c.if-goes_on.true) in
+    rw (← c.self.view_is) (λ before after parted. joined_there items c.lengthen.new.self.items c.in-Some.number q (piece_of c.args.run.now)
+    c.self.invariant.numbered member on c.requires.piece.0 is before after
+    (subst (λ (last : Option ℕ). IsParted items last before after) c.in-Some.is parted))

@@ -28,7 +28,7 @@ piece c =
 
 -- the rest, as its names are entered
 abbrev rest : After-shown_of-after → Piece
-rest c = record c.piece_at-whole.result {
+rest c = record (rest_of c.args.n c.piece_at-whole.result) {
   site = c.site-site.result;
   off = c.off.result + c.args.n;
   len = c.len.result - c.args.n;
@@ -37,7 +37,7 @@ rest c = record c.piece_at-whole.result {
 rest_is : (c : After-shown_of-after) → rest c ≡ rest_of c.args.n c.piece_at-whole.result
 rest_is c =
     let v : Piece = c.piece_at-whole.result in
-    let made : ℕ → ℕ → ℕ → Piece = λ (s o l : ℕ). record v { site = s; off = o + c.args.n; len = l - c.args.n } in
+    let made : ℕ → ℕ → ℕ → Piece = λ (s o l : ℕ). record (rest_of c.args.n v) { site = s; off = o + c.args.n; len = l - c.args.n } in
     ap (λ (s : ℕ). made s c.off.result c.len.result) c.site-site.ensures
     ∙ ap (λ (o : ℕ). made v.site o c.len.result) c.off.ensures
     ∙ ap (made v.site v.off) c.len.ensures
