@@ -1,13 +1,12 @@
 -- A piece that becomes longer by a run that goes on where it ends.
-use Rattle.std.proofs.Common.{◌≡◌, ℕ, ◌+◌, ◌-◌, ◌<◌, ◌≤◌, ◌^◌, ◌==◌, Bool, true, false, cond, inl, inr, List, [], ◌∷◌, ◌++◌}
+use Rattle.std.proofs.Common.{◌≡◌, ℕ, ◌+◌, ◌-◌, ◌<◌, ◌==◌, Bool, true, false, cond, inl, inr, [], ◌∷◌, ◌++◌}
 use Rattle.std.proofs.Common.{Some, All, map, ne_eqb, eq-eqb, refl, sym, ap, subst, ◌∙◌, append_assoc, arith}
 use Rattle.std.proofs.lemmas.Bool.{cases_eq, cases_lt}
 use Rattle.std.proofs.lemmas.List.{map-append}
 use Rattle.std.proofs.lemmas.List.Elements.{All-append, All-cons, All-head, All-tail}
 use Rattle.char_files.specs.CharName.{CharName}
-use Rattle.char_files.specs.declared.TheConstants.{MAX_FILE}
 use Rattle.operations.specs.NameSet.{IsIn, range_contains}
-use Rattle.piece_raw.specs.Ring.{AreTags, HasTag, IsMember, last_tag, with_value}
+use Rattle.piece_raw.specs.Ring.{AreTags, HasTag, IsMember, with_value}
 use Rattle.piece_list.specs.Held.{AreEntered, IsSplit, IsSpotOf}
 use Rattle.piece_list.specs.Piece.{Piece}
 use Rattle.piece_list.specs.Pieces.{range_of, GoesOn, IsPiece, longer}

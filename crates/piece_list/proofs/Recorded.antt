@@ -8,7 +8,6 @@ use Rattle.std.proofs.lemmas.Bool.Decides.{Decides-eqb, Decides-int_eq}
 use Rattle.std.proofs.lemmas.Slice.Eq.{bytes_eq-Decides}
 use Rattle.std.specs.Ordering.{int_eq}
 use Rattle.std.specs.Prelude.{bytes_eq, slice_get, slice_index_or, IfSome, ℤ, ◌&&◌}
-use Rattle.looks.specs.Key.{is_below}
 use Rattle.looks.specs.Looks.{plain_looks}
 use Rattle.looks.specs.Sel.{Selection}
 use Rattle.looks.specs.declared.key.Key.{Key}

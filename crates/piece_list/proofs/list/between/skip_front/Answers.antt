@@ -1,4 +1,4 @@
-use Rattle.std.proofs.Common.{◌≡◌, List, ◌∷◌, drop, sym, ap, subst, ◌∙◌}
+use Rattle.std.proofs.Common.{List, ◌∷◌, drop, sym, ap, subst, ◌∙◌}
 use Rattle.piece_list.specs.declared.run.Run.{Run}
 use Rattle.piece_list.specs.RunSplits.{AreWithin, HasFront}
 use Rattle.piece_list.proofs.RunSplits.{told, skips_front, front_within}

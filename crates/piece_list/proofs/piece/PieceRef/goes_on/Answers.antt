@@ -1,5 +1,4 @@
 use Rattle.std.proofs.Common.{◌≡◌, ◌+◌, ◌≤◌, sym, ◌∙◌, arith}
-use Rattle.looks.specs.declared.looks.Looks.{Looks}
 use Rattle.piece_list.specs.declared.piece.TheConstants.{MAX_PIECE}
 use Rattle.piece_list.specs.declared.record.PieceRecord.{PieceRecord}
 use Rattle.piece_list.specs.declared.run.Run.{Run}

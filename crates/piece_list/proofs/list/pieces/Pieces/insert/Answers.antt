@@ -1,5 +1,4 @@
-use Rattle.std.proofs.Common.{◌≡◌, ℕ, Option, Some, subst}
-use Rattle.piece_raw.specs.Ring.{IsMember}
+use Rattle.std.proofs.Common.{ℕ, Option, subst}
 use Rattle.piece_list.specs.Piece.{Piece}
 use Rattle.piece_list.specs.Pieces.{GoesOn, piece_of}
 use Rattle.piece_list.specs.Placing.{HasPart, IsParted}

@@ -1,4 +1,4 @@
-use Rattle.std.proofs.Common.{◌≡◌, ℕ, ◌+◌, refl, sym, subst, ap, ◌∙◌, arith}
+use Rattle.std.proofs.Common.{◌≡◌, sym, subst, ap, ◌∙◌, arith}
 use Rattle.piece_raw.specs.Ring.{HasTag, IsMember, with_value}
 use Rattle.piece_list.specs.Held.{AreHeld}
 use Rattle.piece_list.specs.Piece.{Piece}
