@@ -15,13 +15,14 @@ use Rattle.looks.specs.declared.looks.Looks.{Looks}
 use Rattle.char_files.proofs.MaximalRuns.{same_looks_decides}
 use Rattle.operations.specs.Operation.{Operation, OpKind, insert}
 use Rattle.op_log.proofs.Lists.{Contains-slice_get, slice_get-append_left, slice_get-push, slice_get-some}
+use Rattle.op_log.specs.declared.one_delete.OneDelete.{OneDelete}
 use Rattle.op_log.specs.declared.stretch.TypedRun.{TypedRun}
 use Rattle.op_log.specs.declared.stretch.Stretch.{Stretch}
-use Rattle.op_log.specs.declared.stretch.Stretch.TheVariants.{Typed, Single}
+use Rattle.op_log.specs.declared.stretch.Stretch.TheVariants.{Typed, Deleted, Single}
 use Rattle.operations.specs.Spelling.{HasSpelling}
 use Rattle.std.proofs.Math.Seq.{get_or-append_seam, take-length}
 use Rattle.op_log.specs.Stretches.{AreFirsts, AreStretches, EndsLast}
-use Rattle.op_log.specs.Stretches.{Shared, shared, cause_of, letter, looks_in, typed_op, typed_ops, ops_of, all_ops, IsThere}
+use Rattle.op_log.specs.Stretches.{Shared, shared, cause_of, letter, one_delete, looks_in, typed_op, typed_ops, ops_of, all_ops, IsThere}
 
 -- looks that compare alike with those of a run
 pub looks_at : (own found : Looks) (looks : List Looks) (r : TypedRun) → r.looks < length looks
@@ -61,6 +62,14 @@ pub record Extends (s t : Shared) : Type 0 where
   pub looks : (more : List Looks) × (t.looks ≡ s.looks ++ more)
   pub singles : (more : List Operation) × (t.singles ≡ s.singles ++ more)
 
+-- so it does where nothing is added
+pub stays : (s : Shared) → Extends s s
+stays s = record {
+  bytes = ([], sym (append-nil s.bytes));
+  looks = ([], sym (append-nil s.looks));
+  singles = ([], sym (append-nil s.singles));
+}
+
 module _ (s t : Shared) (grows : Extends s t) where
   letter_stays : (r : TypedRun) → IsThere s (Typed r) → (k : ℕ) → k < r.len → typed_op t r k ≡ typed_op s r k
   letter_stays r (some, within, looks_there, cause) k lt =
@@ -87,6 +96,7 @@ module _ (s t : Shared) (grows : Extends s t) where
 
   pub stretch_stays : (st : Stretch) → IsThere s st → ops_of t st ≡ ops_of s st
   stretch_stays (Typed r) there = letters_stay r there r.len (omega arith)
+  stretch_stays (Deleted d) there = refl
   stretch_stays (Single i) there =
       let (singles, is) = grows.singles in
       ap (λ (l : List Operation). ops_of (shared t.bytes t.looks l) (Single i)) is
@@ -99,6 +109,7 @@ module _ (s t : Shared) (grows : Extends s t) where
       let many : length t.bytes ≡ length s.bytes + length bytes = ap length is ∙ length-append s.bytes bytes in
       let more : length t.looks ≡ length s.looks + length looks = ap length looks_is ∙ length-append s.looks looks in
       (some, omega (arith, many, within), omega (arith, more, looks_there), cause)
+  there_stays (Deleted d) there = tt
   there_stays (Single i) there =
       let (singles, is) = grows.singles in
       let many : length t.singles ≡ length s.singles + length singles = ap length is ∙ length-append s.singles singles in
@@ -420,6 +431,11 @@ module _ (s : Shared) (sts : List Stretch) (at : ℕ) (r : TypedRun) (k : ℕ) (
   letter_found byte is =
       found.is ∙ letter_at s r r.len k few
       ∙ ap (λ (b : ℕ). Some (letter s.looks r k b)) (sym (is ∙ get_or_default s.bytes (r.from + k) byte 0 byte_there))
+
+pub deleted_found : (s : Shared) (sts : List Stretch) (at : ℕ) (d : OneDelete) (k : ℕ) → IsFound s sts at (Deleted d) k
+    → slice_get (all_ops s sts) at ≡ Some (one_delete d)
+deleted_found s sts at d k found =
+    let first : k ≡ 0 = omega (arith, found.within) in found.is ∙ ap (slice_get (one_delete d ∷ [])) first
 
 pub single_found : (s : Shared) (sts : List Stretch) (at i k : ℕ) → IsFound s sts at (Single i) k → (op : Operation)
     → op ≡ get_or s.singles i op → slice_get (all_ops s sts) at ≡ Some op

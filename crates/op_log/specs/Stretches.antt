@@ -8,13 +8,14 @@ use Rattle.looks.specs.Looks.{plain_looks}
 use Rattle.looks.specs.declared.looks.Looks.{Looks}
 use Rattle.char_files.specs.declared.name.Anchor.{Anchor}
 use Rattle.char_files.specs.declared.name.Anchor.TheVariants.{At, Root}
-use Rattle.operations.specs.Operation.{Operation, insert}
+use Rattle.operations.specs.Operation.{Operation, insert, delete}
 use Rattle.operations.specs.Spelling.{HasSpelling}
 use Rattle.op_log.specs.declared.TheConstants.{MAX_OPS}
 use Rattle.op_log.specs.declared.op_list.TheConstants.{MAX_LOOKS}
+use Rattle.op_log.specs.declared.one_delete.OneDelete.{OneDelete}
 use Rattle.op_log.specs.declared.stretch.TypedRun.{TypedRun}
 use Rattle.op_log.specs.declared.stretch.Stretch.{Stretch}
-use Rattle.op_log.specs.declared.stretch.Stretch.TheVariants.{Typed, Single}
+use Rattle.op_log.specs.declared.stretch.Stretch.TheVariants.{Typed, Deleted, Single}
 
 -- what stretches share: the bytes of all letters, the looks that they have, and the operations that stand alone
 pub record Shared : Type 0 where
@@ -68,9 +69,20 @@ abbrev pub typed_ops : Shared → TypedRun → ℕ → List Operation
 typed_ops s r zero = []
 typed_ops s r (suc n) = typed_ops s r n ++ typed_op s r n ∷ []
 
+-- the Delete of one character
+abbrev pub one_delete : OneDelete → Operation
+one_delete d = record {
+  text = d.text;
+  site = d.site;
+  seq = d.seq;
+  stamp = d.stamp;
+  kind = delete (record { site = d.of; at = d.off; len = 1 } ∷ []);
+}
+
 -- the operations of a stretch
 abbrev pub ops_of : Shared → Stretch → List Operation
 ops_of s (Typed r) = typed_ops s r r.len
+ops_of s (Deleted d) = one_delete d ∷ []
 ops_of s (Single i) = option_map_or (λ op. op ∷ []) (slice_get s.singles i) []
 
 -- the operations of all stretches
@@ -81,6 +93,7 @@ all_ops s stretches = flat_map (ops_of s) stretches
 abbrev pub IsThere : Shared → Stretch → Type 0
 IsThere s (Typed r) =
     (0 < r.len) × (r.from + r.len ≤ length s.bytes) × (r.looks < length s.looks) × (r.cause_off < 16777216)
+IsThere s (Deleted d) = Unit {0}
 IsThere s (Single i) = i < length s.singles
 
 -- the numbers tell how many operations stand before each stretch
@@ -91,6 +104,7 @@ pub record AreFirsts (s : Shared) (stretches : List Stretch) (firsts : List ℕ)
 -- a stretch's letters, if it has any, are the last of all
 abbrev pub EndsLast : Shared → Stretch → Type 0
 EndsLast s (Typed r) = r.from + r.len ≡ length s.bytes
+EndsLast s (Deleted d) = Unit {0}
 EndsLast s (Single i) = Unit {0}
 
 -- so are those of the last stretch

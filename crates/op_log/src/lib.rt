@@ -4,6 +4,7 @@
 mod found;
 mod limits;
 mod log;
+mod one_delete;
 mod op_list;
 mod site_log;
 mod site_tables;

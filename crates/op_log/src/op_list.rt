@@ -3,12 +3,15 @@ ghost use Rattle.std.specs.Prelude.{All, IfOk, IfSome, IsTrue, OnOk, Some as Jus
 ghost use Rattle.looks.specs.Refusal.{RefusedForMemoryAlone};
 ghost use Rattle.operations.specs.Operation.{insert};
 ghost use Rattle.op_log.specs.Found.{found_op, IsSound};
-ghost use Rattle.op_log.specs.Stretches.{anchor_of};
+ghost use Rattle.op_log.specs.Stretches.{anchor_of, one_delete};
 ghost use Rattle.op_log.specs.declared.TheConstants.{MAX_OPS};
 
 use crate::MAX_OPS;
 use crate::found::{Found, are_same, identity_of, made};
-use crate::stretch::{Stretch, TypedRun, lengthen, letter_in, next_byte, number_of, push_single};
+use crate::one_delete::{OneDelete, one_delete_in};
+use crate::stretch::{
+    Stretch, TypedRun, lengthen, letter_in, next_byte, number_of, push_deleted, push_single,
+};
 use char_files::SiteNo;
 use looks::{Looks, Refusal};
 use operations::Op;
@@ -158,6 +161,18 @@ impl OpList {
         self.len += 1;
     }
 
+    // Puts a Delete of one character at the end.
+    fn push_deleted(&mut self, op: &Op, one: OneDelete)
+        requires one { op.now ≡ one_delete one }
+        requires room { 0 < self.old.room }
+        ensures { self.new.items ≡ self.old.items ++ op.now ∷ [] }
+    {
+        op.lemma_has_spelling();
+        push_deleted(&mut self.stretches, one);
+        self.firsts.push_reserved(self.len as u32);
+        self.len += 1;
+    }
+
     // Puts an operation at the end that stands alone.
     fn push_single(&mut self, op: Op)
         requires { 0 < self.old.room }
@@ -178,8 +193,12 @@ impl OpList {
         if self.go_on(&op) {
             return;
         }
-        match letter_in(&op) {
-            Some((cause, at, looks, byte)) => self.begin(&op, cause, at, looks, byte),
+        if let Some((cause, at, looks, byte)) = letter_in(&op) {
+            self.begin(&op, cause, at, looks, byte);
+            return;
+        }
+        match one_delete_in(&op) {
+            Some(one) => self.push_deleted(&op, one),
             None => self.push_single(op),
         }
     }
@@ -197,6 +216,7 @@ impl OpList {
                 k: k as u32,
                 byte: self.bytes[run.from + k],
             },
+            Stretch::Deleted(one) => Found::Deleted(one),
             Stretch::Single(single) => Found::Single(&self.singles[single]),
         }
     }

@@ -3,12 +3,13 @@ ghost use Rattle.std.specs.Prelude.{slice_get, Some as Just, vec_len, vec_capaci
 ghost use Rattle.looks.specs.declared.looks.Looks.{Looks};
 ghost use Rattle.op_log.specs.declared.stretch.TypedRun.{TypedRun};
 ghost use Rattle.op_log.specs.declared.stretch.Stretch.{Stretch};
-ghost use Rattle.op_log.specs.declared.stretch.Stretch.TheVariants.{Single, Typed};
+ghost use Rattle.op_log.specs.declared.stretch.Stretch.TheVariants.{Deleted, Single, Typed};
 ghost use Rattle.looks.specs.Refusal.{RefusedForMemoryAlone};
 ghost use Rattle.operations.specs.Operation.{insert};
 ghost use Rattle.operations.specs.Spelling.{HasSpelling};
 ghost use Rattle.op_log.specs.Stretches.{anchor_of, cause_of, letter, looks_in};
 
+use crate::one_delete::OneDelete;
 use char_files::{Anchor, MAX_FILE, Name, SiteNo, TextNo};
 use looks::{Looks, Refusal};
 use operations::{Kind, Op};
@@ -39,6 +40,8 @@ pub(crate) struct TypedRun {
 #[derive(Clone, Copy, Drop)]
 pub(crate) enum Stretch {
     Typed(TypedRun),
+    // It takes no memory of its own.
+    Deleted(OneDelete),
     // Any other stands alone, under a number.
     Single(usize),
 }
@@ -49,6 +52,14 @@ pub(crate) fn push_single(stretches: &mut Vec<Stretch>, index: usize)
     ensures { stretches.new.items ≡ stretches.old.items ++ Single index ∷ [] }
 {
     stretches.push_reserved(Stretch::Single(index));
+}
+
+// Puts a Delete of one character at the end. There is room.
+pub(crate) fn push_deleted(stretches: &mut Vec<Stretch>, one: OneDelete)
+    requires { vec_len stretches.old < vec_capacity stretches.old }
+    ensures { stretches.new.items ≡ stretches.old.items ++ Deleted one ∷ [] }
+{
+    stretches.push_reserved(Stretch::Deleted(one));
 }
 
 // The numbers of an anchor: those of its name; 0 and 0 for the root.

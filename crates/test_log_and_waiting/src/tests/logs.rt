@@ -4,8 +4,8 @@ use op_log::Log;
 use std::alloc::Global;
 use std::test::Fail;
 
-// Three sites, one cause: sites 1 and 2 both type after the `A` of `AC`; then site 1 deletes a character,
-// which makes no file longer.
+// Three sites, one cause: sites 1 and 2 both type after the `A` of `AC`; then site 1 deletes a character, and site 2
+// two, which makes no file longer.
 const AC: Told = (1, 1, 1, Does::Insert(None, 0, b"AC"));
 
 const X: Told = (2, 1, 2, Does::Insert(Some((1, 0)), 0, b"X"));
@@ -16,10 +16,12 @@ const B: Told = (1, 2, 2, Does::Insert(Some((1, 0)), 2, b"B"));
 
 const C_GOES: Told = (1, 3, 4, Does::Delete(&[(1, 1)]));
 
-const TOLD: &[Told] = &[X, YZ, AC, B, C_GOES];
+const YZ_GO: Told = (2, 3, 5, Does::Delete(&[(2, 1), (2, 2)]));
+
+const TOLD: &[Told] = &[X, YZ, AC, B, C_GOES, YZ_GO];
 
 // The front of each site, and how long its file is.
-const SITES: &[(u16, u32, u32)] = &[(1, 3, 3), (2, 2, 3), (3, 0, 0)];
+const SITES: &[(u16, u32, u32)] = &[(1, 3, 3), (2, 3, 3), (3, 0, 0)];
 
 const NO_SITES: &[(u16, u32, u32)] = &[(1, 0, 0)];
 
@@ -33,7 +35,7 @@ fn are_counted(log: &Log, sites: &[(u16, u32, u32)]) -> Result<(), Fail> {
 }
 
 // Identities that the log lacks.
-const LACKING: &[(u16, u32)] = &[(1, 0), (1, 4), (2, 0), (2, 3), (3, 1)];
+const LACKING: &[(u16, u32)] = &[(1, 0), (1, 4), (2, 0), (2, 4), (3, 1)];
 
 fn are_lacking(log: &Log, identities: &[(u16, u32)]) -> Result<(), Fail> {
     for (number, seq) in identities {
@@ -131,7 +133,7 @@ fn answers(log: &mut Log, alloc: Global) -> Result<(), Fail> {
     are_counted(log, NO_SITES)?;
     are_lacking(log, LACKING)?;
     take_all(log, alloc, TOLD)?;
-    is(log.len() == 5 && log.stamp() == 4, "five operations")?;
+    is(log.len() == 6 && log.stamp() == 5, "six operations")?;
     are_counted(log, SITES)?;
     are_lacking(log, LACKING)?;
     are_found(log, TOLD)?;

@@ -1,8 +1,8 @@
 use Rattle.std.proofs.Common.{rules, ◌≡◌, ℕ, List, ◌+◌, ◌-◌, ◌<◌, ◌≤◌, length, get_or, Some, slice_get, sym, ap, subst, arith}
 use Rattle.op_log.specs.declared.stretch.Stretch.{Stretch}
-use Rattle.op_log.specs.declared.stretch.Stretch.TheVariants.{Typed, Single}
-use Rattle.op_log.specs.Stretches.{Shared, all_ops, letter, shared}
-use Rattle.op_log.proofs.Stretches.{IsFound, byte_there, found_in, letter_found, single_found, spelled_at}
+use Rattle.op_log.specs.declared.stretch.Stretch.TheVariants.{Typed, Deleted, Single}
+use Rattle.op_log.specs.Stretches.{Shared, all_ops, letter, one_delete, shared}
+use Rattle.op_log.proofs.Stretches.{IsFound, byte_there, deleted_found, found_in, letter_found, single_found, spelled_at}
 use Rattle.op_log.proofs.op_list.OpList.found.Goals as goal
 use Rattle.op_log.proofs.op_list.OpList.found.Goals.{After-index-2}
 
@@ -50,6 +50,21 @@ returns-in-Typed c =
             (letter l.looks.items c.in-Typed.run' k c.index-in-Typed.result.now) is,
         found.there.3,
       ),
+    )
+
+pub returns-in-Deleted : goal.returns-in-Deleted
+returns-in-Deleted c =
+    let l = c.self.inside in
+    let s : Shared = shared l.bytes.items l.looks.items l.singles.items in
+    let k : ℕ = c.args.at - c.index.result.now in
+    let found : IsFound s l.stretches.items c.args.at (Deleted c.in-Deleted.one) k =
+    subst (λ (st : Stretch). IsFound s l.stretches.items c.args.at st k) c.in-Deleted.is
+    (at (goal.at.returns-in-Deleted c).After-index-2) in
+    let is : slice_get (all_ops s l.stretches.items) c.args.at ≡ Some (one_delete c.in-Deleted.one) =
+    deleted_found s l.stretches.items c.args.at c.in-Deleted.one k found in
+    rw (← c.self.view_is) (
+      is,
+      spelled_at (all_ops s l.stretches.items) c.self.invariant.0.spelled c.args.at (one_delete c.in-Deleted.one) is,
     )
 
 pub returns-in-Single : goal.returns-in-Single
