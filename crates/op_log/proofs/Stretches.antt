@@ -222,8 +222,8 @@ module _ (s t : Shared) (grows : Extends s t) (op : Operation) (spelled : HasSpe
         all_more t sts st ∙ ap (λ (l : List Operation). l ++ ops_of t st) (all_stay s t grows sts are.there)
         ∙ ap (λ (l : List Operation). all_ops s sts ++ l) ops
 
-    pub pushed_are : AreStretches t (sts ++ st ∷ []) (firsts ++ len ∷ []) (len + 1)
-    pushed_are =
+    pub pushed_are : length t.bytes ≤ length s.bytes + 1 → AreStretches t (sts ++ st ∷ []) (firsts ++ len ∷ []) (len + 1)
+    pushed_are more =
         let many : length (sts ++ st ∷ []) ≡ length sts + 1 = length-append sts (st ∷ []) in
         let numbers : length (firsts ++ len ∷ []) ≡ length firsts + 1 = length-append firsts (len ∷ []) in
         let counted : length (all_ops s sts ++ op ∷ []) ≡ length (all_ops s sts) + 1 =
@@ -236,6 +236,7 @@ module _ (s t : Shared) (grows : Extends s t) (op : Operation) (spelled : HasSpe
             each = λ k d lt. each k d (omega (arith, lt, many));
           };
           many = omega (arith, are.many, counted, ap length pushed_ops);
+          letters = omega (arith, are.letters, more);
           spelled = subst (All HasSpelling) (sym pushed_ops)
               (All-append HasSpelling (all_ops s sts) (op ∷ []) are.spelled
               (All-cons HasSpelling op [] spelled (λ i d lt. absurd (omega (arith, lt)))));
@@ -324,6 +325,7 @@ module _ (s : Shared) (byte : ℕ) (op : Operation) (spelled : HasSpelling op) (
             (All-cons (IsThere after) (Typed longer) [] here (λ i d lt. absurd (omega (arith, lt))));
         before = firsts_stay s after before (Typed r) (Typed longer) firsts grows before_there are.before;
         many = omega (arith, are.many, counted, ap length longer_all);
+        letters = omega (arith, are.letters, bytes);
         spelled = subst (All HasSpelling) (sym longer_all)
             (All-append HasSpelling (all_ops s (before ++ Typed r ∷ [])) (op ∷ []) are.spelled
             (All-cons HasSpelling op [] spelled (λ i d lt. absurd (omega (arith, lt)))));

@@ -112,10 +112,11 @@ abbrev pub LastEndsLast : Shared → List Stretch → Type 0
 LastEndsLast s stretches =
     (before : List Stretch) (last : Stretch) → stretches ≡ before ++ last ∷ [] → EndsLast s last
 
--- the stretches, how many operations stand before each, and how many there are
+-- the stretches, how many operations stand before each, and how many there are: no fewer than bytes of letters
 pub record AreStretches (s : Shared) (stretches : List Stretch) (firsts : List ℕ) (len : ℕ) : Type 0 where
   pub there : All (IsThere s) stretches
   pub before : AreFirsts s stretches firsts
   pub many : len ≡ length (all_ops s stretches)
+  pub letters : length s.bytes ≤ len
   pub spelled : All HasSpelling (all_ops s stretches)
   pub last : LastEndsLast s stretches

@@ -145,13 +145,13 @@ impl OpList {
         op.lemma_has_spelling();
         let run = TypedRun {
             stamp: op.stamp(),
-            from: self.bytes.len(),
+            from: self.bytes.len() as u32,
             seq: op.seq(),
             at,
             looks: number_of(&mut self.looks, looks),
             len: 1,
-            cause_site: cause.0,
             cause_off: cause.1,
+            cause_site: cause.0,
             text: op.text(),
             site: op.site(),
         };
@@ -214,7 +214,7 @@ impl OpList {
             Stretch::Typed(run) => Found::Letter {
                 run,
                 k: k as u32,
-                byte: self.bytes[run.from + k],
+                byte: self.bytes[run.from as usize + k],
             },
             Stretch::Deleted(one) => Found::Deleted(one),
             Stretch::Single(single) => Found::Single(&self.singles[single]),

@@ -22,7 +22,7 @@ pub(crate) struct TypedRun {
     // Of the first one; those of the others follow from it.
     pub(crate) stamp: u64,
     // Where its byte stands among those of all runs.
-    pub(crate) from: usize,
+    pub(crate) from: u32,
     pub(crate) seq: u32,
     pub(crate) at: u32,
     // The number of its looks.
@@ -30,8 +30,8 @@ pub(crate) struct TypedRun {
     // How many there are.
     pub(crate) len: u32,
     // The name that the first one hangs on; site 0 for the root.
-    pub(crate) cause_site: u16,
     pub(crate) cause_off: u32,
+    pub(crate) cause_site: u16,
     pub(crate) text: TextNo,
     pub(crate) site: SiteNo,
 }

@@ -1,4 +1,5 @@
 use Rattle.std.proofs.Common.{rules, ◌≡◌, ℕ, List, ◌∷◌, [], ◌++◌, ◌+◌, ◌<◌, ◌≤◌, length, refl, append-nil, ap, subst, sym, ◌∙◌, arith}
+use Rattle.std.proofs.lemmas.List.{length-append}
 use Rattle.std.proofs.lemmas.Option.{get_or_from_slice_get, slice_get_within}
 use Rattle.std.specs.Prelude.{vec_len}
 use Rattle.looks.specs.Looks.{plain_looks}
@@ -62,6 +63,13 @@ is c =
 from : (c : After-push_reserved-3) → c.len.result ≡ length c.self.inside.bytes.items
 from c = omega (arith, c.len.ensures, c.self.inside.bytes.ok.0)
 
+more : (c : After-push_reserved-3) → length (now c).bytes ≤ length (was c).bytes + 1
+more c = omega (
+  arith,
+  ap length c.push_reserved.ensures.items,
+  length-append c.self.inside.bytes.items (c.args.byte ∷ []),
+)
+
 pub invariant_of-self : goal.invariant_of-self
 invariant_of-self c =
     let at : After-push_reserved-3 = (goal.at.invariant_of-self c).After-push_reserved-3 in
@@ -79,7 +87,8 @@ invariant_of-self c =
           (begun_ops (was at) (now at) (grows at) c.args.op.now (run at) c.args.byte refl (from at)
           c.push_reserved.ensures.items (looks_there at) c.requires.cause (is at))
           (begun_ends (was at) (now at) (grows at) c.args.op.now (run at) c.args.byte refl (from at)
-          c.push_reserved.ensures.items (looks_there at) c.requires.cause (is at)))),
+          c.push_reserved.ensures.items (looks_there at) c.requires.cause (is at))
+          (more at))),
       most,
       looks,
     )

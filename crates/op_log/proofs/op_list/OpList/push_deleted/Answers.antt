@@ -1,4 +1,4 @@
-use Rattle.std.proofs.Common.{rules, ◌≡◌, ℕ, List, ◌∷◌, [], ◌++◌, ◌+◌, ◌≤◌, ap, subst, sym, ◌∙◌}
+use Rattle.std.proofs.Common.{rules, ◌≡◌, ℕ, List, ◌∷◌, [], ◌++◌, ◌+◌, ◌≤◌, ap, subst, sym, ◌∙◌, arith}
 use Rattle.op_log.specs.declared.TheConstants.{MAX_OPS}
 use Rattle.op_log.specs.declared.stretch.Stretch.{Stretch}
 use Rattle.op_log.specs.declared.stretch.Stretch.TheVariants.{Deleted}
@@ -23,7 +23,7 @@ invariant_of-self c =
           (subst (λ (ns : List ℕ). AreStretches (now at) (l.stretches.items ++ Deleted c.args.one ∷ []) ns (l.len + 1))
           (sym c.push_reserved.ensures.items)
           (pushed_are (now at) (now at) (stays (now at)) c.args.op.now c.lemma_has_spelling.ensures l.stretches.items
-          l.firsts.items l.len c.self.invariant.0 (Deleted c.args.one) tt (ops at) tt)),
+          l.firsts.items l.len c.self.invariant.0 (Deleted c.args.one) tt (ops at) tt (omega arith))),
       most,
       c.self.invariant.2,
     )

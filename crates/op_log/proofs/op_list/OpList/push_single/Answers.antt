@@ -47,7 +47,7 @@ invariant_of-self c =
           (subst (λ (ns : List ℕ). AreStretches (now at) (l.stretches.items ++ Single c.len.result ∷ []) ns (l.len + 1))
           (sym c.push_reserved-2.ensures.items)
           (pushed_are (was at) (now at) (grows at) c.args.op c.lemma_has_spelling.ensures l.stretches.items
-          l.firsts.items l.len c.self.invariant.0 (Single c.len.result) (there at) (ops at) tt)),
+          l.firsts.items l.len c.self.invariant.0 (Single c.len.result) (there at) (ops at) tt (omega arith))),
       most,
       c.self.invariant.2,
     )
