@@ -24,7 +24,7 @@ use operations::NameRange;
 use std::alloc::Global;
 use std::marker::Model;
 use text_chunks::{UnpackRefusal, Unpacked};
-use texts::{ByNames, EditRefusal, MergeRefusal, Outbox, Settled, Took};
+use texts::{ByNames, EditRefusal, MergeRefusal, Outbox, Replica, Settled, Took};
 use viewers::{MAX_HEIGHT, MAX_WIDTH, MIN_HEIGHT, MIN_WIDTH, Track};
 
 /// One site's desk: its sixteen texts, and a screen of viewers that show them, with a caret and a selection. This project's
@@ -267,6 +267,14 @@ impl Desk {
         ensures { (t : TextState) × IsTextOf self.now.texts text t × IsText t × (t.asked ≡ length t.operations) }
     {
         self.texts.lemma_has_text(text);
+    }
+
+    /// The replica of a text.
+    pub fn replica(&self, text: TextNo) -> &Replica
+        requires { text ≤ MAX_TEXT }
+        ensures { IsTextOf self.now.texts text result.now }
+    {
+        self.texts.replica(text)
     }
 
     /// The lines that a query prints of a text. Refused `OutOfRange` for positions outside the text, and else `OutOfMemory`
