@@ -59,28 +59,31 @@ sent_after sent from index m le is =
       number = omega (arith, length-take (index - from) rest, long, place);
     }
 
--- the line of one message more
-pub sends_more : (a b c : Option (List ℕ)) (sent : List (List ℕ)) (from index : ℕ) (m : List ℕ) → from ≤ index → slice_get sent index ≡ Some m
-    → Appends a b (send_lines from (take (index - from) (drop from sent))) → Appends b c (send_line (index + 1) m) → Appends a c (send_lines from (take (index + 1 - from) (drop from sent)))
-sends_more a b c sent from index m le is p q =
+-- the line of one message more, where so many were sent before these
+pub sends_more : (a b c : Option (List ℕ)) (sent : List (List ℕ)) (so_many from index : ℕ) (m : List ℕ) → from ≤ index → slice_get sent index ≡ Some m
+    → Appends a b (send_lines (so_many + from) (take (index - from) (drop from sent))) → Appends b c (send_line (so_many + index + 1) m)
+    → Appends a c (send_lines (so_many + from) (take (index + 1 - from) (drop from sent)))
+sends_more a b c sent so_many from index m le is p q =
     let rest = drop from sent in
     let before = take (index - from) rest in
     let at = sent_after sent from index m le is in
+    let number : so_many + from + length before ≡ so_many + index = omega (arith, at.number) in
     let one_more : index + 1 - from ≡ index - from + 1 = omega arith in
     let more : take (index + 1 - from) rest ≡ before ++ m ∷ [] = ap (λ (i : ℕ). take i rest) one_more ∙ take_more rest (index - from) m at.within ∙ ap (λ (x : List ℕ). before ++ x ∷ []) at.read in
-    let lines = ap (send_lines from) more ∙ send_lines-split from index m before [] at.number ∙ ap (λ (l : List ℕ). send_lines from before ++ l) (append-nil (send_line (index + 1) m)) in
-    subst (Appends a c) (sym lines) (Appends-trans a b c (send_lines from before) (send_line (index + 1) m) p q)
+    let lines = ap (send_lines (so_many + from)) more ∙ send_lines-split (so_many + from) (so_many + index) m before [] number ∙ ap (λ (l : List ℕ). send_lines (so_many + from) before ++ l) (append-nil (send_line (so_many + index + 1) m)) in
+    subst (Appends a c) (sym lines) (Appends-trans a b c (send_lines (so_many + from) before) (send_line (so_many + index + 1) m) p q)
 
 -- a fault in the line of a message
-pub sends_stopped : (result : Result (Unit {0}) Refusal) (failed : Bool) (why : Refusal) (old mid new : Option (List ℕ)) (sent : List (List ℕ)) (from index : ℕ) (m : List ℕ) → from ≤ index → slice_get sent index ≡ Some m
-    → Appends old mid (send_lines from (take (index - from) (drop from sent))) → IsErrAnd result (λ e. e ≡ why) → Writes (Err why) failed mid new (send_line (index + 1) m) → Writes result failed old new (send_lines from (drop from sent))
-sends_stopped result failed why old mid new sent from index m le is p e w =
+pub sends_stopped : (result : Result (Unit {0}) Refusal) (failed : Bool) (why : Refusal) (old mid new : Option (List ℕ)) (sent : List (List ℕ)) (so_many from index : ℕ) (m : List ℕ) → from ≤ index → slice_get sent index ≡ Some m
+    → Appends old mid (send_lines (so_many + from) (take (index - from) (drop from sent))) → IsErrAnd result (λ e. e ≡ why) → Writes (Err why) failed mid new (send_line (so_many + index + 1) m) → Writes result failed old new (send_lines (so_many + from) (drop from sent))
+sends_stopped result failed why old mid new sent so_many from index m le is p e w =
     let rest = drop from sent in
     let before = take (index - from) rest in
     let after = drop (index - from + 1) rest in
     let at = sent_after sent from index m le is in
+    let number : so_many + from + length before ≡ so_many + index = omega (arith, at.number) in
     let split : rest ≡ before ++ (m ∷ after) = split_at rest (index - from) m at.within ∙ ap (λ (x : List ℕ). before ++ (x ∷ after)) at.read in
-    let lines = ap (send_lines from) split ∙ send_lines-split from index m before after at.number in
-    let line = send_line (index + 1) m in
-    let later = send_lines (index + 1) after in
-    subst (Writes result failed old new) (sym lines) (writes_after result failed old mid new (send_lines from before) (line ++ later) p (writes_stopped result failed why mid new line later e w))
+    let lines = ap (send_lines (so_many + from)) split ∙ send_lines-split (so_many + from) (so_many + index) m before after number in
+    let line = send_line (so_many + index + 1) m in
+    let later = send_lines (so_many + index + 1) after in
+    subst (Writes result failed old new) (sym lines) (writes_after result failed old mid new (send_lines (so_many + from) before) (line ++ later) p (writes_stopped result failed why mid new line later e w))

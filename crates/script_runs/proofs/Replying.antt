@@ -1,7 +1,8 @@
 -- Replies as steps of the machine, and their lines.
-use Rattle.std.proofs.Common.{◌≡◌, ℕ, zero, suc, ◌-◌, ◌<◌, ◌⊎◌, ◌==◌, false, List, [], length, drop, map, true, subst, Some, None, Result, Ok, Err, refl, sym, ap, ◌∙◌, inl, inr, arith}
+use Rattle.std.proofs.Common.{◌≡◌, ℕ, zero, suc, ◌+◌, ◌-◌, ◌<◌, ◌⊎◌, ◌==◌, false, List, [], ◌++◌, length, drop, map, true, subst, Some, None, Result, Ok, Err, refl, sym, ap, ◌∙◌, inl, inr, arith}
 use Rattle.std.specs.Prelude.{slice_get}
-use Rattle.std.proofs.lemmas.List.{drop_at, length-map}
+use Rattle.std.proofs.Math.Seq.{drop-append-add}
+use Rattle.std.proofs.lemmas.List.{drop_at, length-append, length-map}
 use Rattle.std.proofs.lemmas.Option.{slice_get_past}
 use Rattle.looks.specs.declared.refusal.Refusal.TheVariants.{BadEvent}
 use Rattle.texts.specs.declared.edit_refusal.EditRefusal.{EditRefusal}
@@ -16,7 +17,10 @@ use Rattle.commands.specs.declared.answer.Answer.{Answer}
 use Rattle.commands.specs.declared.answer.Answer.TheVariants.{Done, Forgot, Found, NotFound, Sent, Viewer}
 use Rattle.script_events.specs.Script.{event_in}
 use Rattle.script_runs.specs.Answers.{refused_line, reply_lines}
-use Rattle.script_runs.specs.Seen.{OverFiles, Replied, SitesSeen, Stepped, run_of, state_of}
+use Rattle.script_runs.specs.Replying.{reply_of}
+use Rattle.script_runs.specs.declared.reply.Reply.{Reply as Answered}
+use Rattle.script_runs.specs.Seen.{OverFiles, Replied, SitesSeen, Stepped, run_of, sent_after, state_of}
+use Rattle.script_runs.proofs.Before.{NamesNone, replied_after}
 use Rattle.script_runs.proofs.Filing.{over_same, over_weaker}
 use Rattle.script_runs.specs.Trace.{Answers, Run, Shelved, Step, is_silent}
 
@@ -68,6 +72,33 @@ other_step s new e r replied = λ has. (untouched, r, refl, replied has.files, r
 -- over files that stay
 pub stepped_over : (told : ShelfSeen) (s new : SitesSeen) (e : Event) (answer : List ℕ) → Stepped s e answer new → OverFiles told told (λ was now. Step (run_of s was) e answer (run_of new now))
 stepped_over told s new e answer stepped = over_same told (λ was now. Step (run_of s was) e answer (run_of new now)) stepped
+
+-- an edit, where these messages were sent before
+pub edited_over : (told : ShelfSeen) (before : List (List ℕ)) (s new : SitesSeen) (e : Event) (result : Result ℕ EditRefusal) → NamesNone e
+    → (messages : List (List ℕ)) × Replied s e (edit_reply result messages) new
+    → OverFiles told told (λ was now. Step (run_of (sent_after before s) was) e (change_lines (sent_after before s) result (sent_after before new)) (run_of (sent_after before new) now))
+edited_over told before s new e result none (messages, replied) =
+    let after : SitesSeen = sent_after before new in
+    stepped_over told (sent_after before s) after e (change_lines (sent_after before s) result after)
+    (change_step (sent_after before s) after e result (messages, replied_after before s new e (edit_reply result messages) none replied))
+
+-- and any other event that names none of them
+pub replied_over : (told : ShelfSeen) (before : List (List ℕ)) (s new : SitesSeen) (e : Event) (r : Reply) → NamesNone e → Replied s e r new
+    → OverFiles told told (λ was now. Step (run_of (sent_after before s) was) e (reply_lines (length (before ++ s.sent)) r) (run_of (sent_after before new) now))
+replied_over told before s new e r none replied =
+    let after : SitesSeen = sent_after before new in
+    stepped_over told (sent_after before s) after e (reply_lines (length (before ++ s.sent)) r)
+    (other_step (sent_after before s) after e r (replied_after before s new e r none replied))
+
+-- the lines of a reply, where so many were sent before: those of the messages after them
+pub lines_after : (before : List (List ℕ)) (s new : SitesSeen) (n m : ℕ) → n ≡ length before → m ≡ length s.sent → (reply : Answered)
+    → reply_lines (n + m) (reply_of reply (drop m new.sent)) ≡ reply_lines (length (before ++ s.sent)) (reply_of reply (drop (length (before ++ s.sent)) (before ++ new.sent)))
+lines_after before s new n m all held reply =
+    let number : n + m ≡ length (before ++ s.sent) = omega (arith, length-append before s.sent, all, held) in
+    let place : length (before ++ s.sent) ≡ length before + m = omega (arith, length-append before s.sent, held) in
+    let rest : drop m new.sent ≡ drop (length (before ++ s.sent)) (before ++ new.sent) =
+    sym (ap (λ (i : ℕ). drop i (before ++ new.sent)) place ∙ drop-append-add before new.sent m) in
+    λ k. reply_lines (number k) (reply_of reply (rest k))
 
 -- the message of a number that was sent
 pub message_sent : (s : State) (k : ℕ) (message : List ℕ) → 0 < k → slice_get s.sent (k - 1) ≡ Some message → message_in s (sent k) ≡ Some message

@@ -1,5 +1,5 @@
 -- From a desk to the run in which it stands.
-use Rattle.std.proofs.Common.{◌≡◌, ℕ, List, ◌<◌, length, map, Result, Some, refl, sym, ap, subst, ◌∙◌, inl, zero, suc, ◌+◌, ◌⊎◌, [], ◌∷◌, Option, None, drop}
+use Rattle.std.proofs.Common.{◌≡◌, ℕ, List, ◌<◌, ◌++◌, length, map, Result, Some, refl, sym, ap, subst, ◌∙◌, inl, zero, suc, ◌+◌, ◌⊎◌, [], ◌∷◌, Option, None, drop}
 use Rattle.std.specs.Prelude.{option_map, replicate, slice_get, slice_index_or, slice_set}
 use Rattle.std.specs.List.{range_with_len}
 use Rattle.std.proofs.lemmas.List.{map-set}
@@ -23,10 +23,11 @@ use Rattle.machine.specs.declared.asked.Arrangement.{Arrangement}
 use Rattle.machine_laws.proofs.Telling.{put_back}
 use Rattle.commands.specs.Steps.{Counted, DeskSeen, IsEditStep, IsMergeStep, IsShelfStep, IsStep, IsTakeStep, ShelfSeen, StandsIn, answer_reply, with_desk}
 use Rattle.commands.specs.declared.answer.Answer.{Answer}
+use Rattle.script_runs.proofs.Before.{NamesNone, replies_later}
 use Rattle.script_runs.proofs.Merging.{merged_itself}
 use Rattle.script_runs.proofs.Replying.{answer_step, no_message, other_step}
 use Rattle.script_runs.specs.Answers.{reply_lines}
-use Rattle.script_runs.specs.Seen.{OverBoth, OverFiles, Replied, SitesSeen, Stepped, run_of, state_of}
+use Rattle.script_runs.specs.Seen.{OverBoth, OverFiles, Replied, SitesSeen, Stepped, run_of, sent_after, state_of}
 use Rattle.script_runs.specs.Trace.{Shelved, Step}
 
 -- a desk's texts, and its screen
@@ -71,52 +72,55 @@ module _ (s : SitesSeen) (i : ℕ) (d : DeskSeen) (at : slice_get s.desks i ≡ 
       → Stepped s (ask i (arrange a)) (reply_lines (length s.sent) r) (with_seen s i new s.sent)
   arranged_step a r new step = other_step s (with_seen s i new s.sent) (ask i (arrange a)) r (replied (λ i. ask i (arrange a)) r new step)
 
-  -- a step over what the shelf has, printed
-  step_over : (was now : Shelved) (event : ℕ → Event) (part : Part) (result : Result Answer EditRefusal) (messages : List (List ℕ)) (new : DeskSeen) (after : List (List ℕ))
+  -- what the desk's step leads to, over the files that a shelf tells, where these messages were sent before
+  abbrev StepsTo : (before : List (List ℕ)) (event : ℕ → Event) (result : Result Answer EditRefusal) (new : DeskSeen) (after : List (List ℕ)) → Shelved → Shelved → Type 0
+  StepsTo before event result new after was now =
+      Step (run_of (sent_after before s) was) (event i)
+      (reply_lines (length (before ++ s.sent)) (answer_reply result (drop (length (before ++ s.sent)) (before ++ after)))) (run_of (sent_after before (with_seen s i new after)) now)
+
+  -- a step over what the shelf has, printed, where these messages were sent before
+  step_over : (before : List (List ℕ)) (was now : Shelved) (event : ℕ → Event) (part : Part) (result : Result Answer EditRefusal) (messages : List (List ℕ)) (new : DeskSeen) (after : List (List ℕ))
+      → NamesNone (event i)
       → Replies (state_of s was.files) (event i) part (answer_reply result messages) (record (with_desk (state_of s was.files) i new after) { files = now.files })
-      → Counted part was.faults now.faults
-      → Step (run_of s was) (event i) (reply_lines (length s.sent) (answer_reply result (drop (length s.sent) after))) (run_of (with_seen s i new after) now)
-  step_over was now event part result messages new after replies counted =
+      → Counted part was.faults now.faults → StepsTo before event result new after was now
+  step_over before was now event part result messages new after none replies counted =
       let there : State = state_of (with_seen s i new after) now.files in
       let same : record (with_desk (state_of s was.files) i new after) { files = now.files } ≡ there = λ k. record (put_in s was.files i new after k) { files = now.files } in
-      answer_step (run_of s was) (run_of (with_seen s i new after) now) (event i) part result messages
-      (subst (Replies (state_of s was.files) (event i) part (answer_reply result messages)) same replies) counted
+      answer_step (run_of (sent_after before s) was) (run_of (sent_after before (with_seen s i new after)) now) (event i) part result messages
+      (replies_later before (state_of s was.files) (event i) part (answer_reply result messages) there none
+      (subst (Replies (state_of s was.files) (event i) part (answer_reply result messages)) same replies)) counted
 
-  -- what the desk's step leads to, over the files that a shelf tells
-  abbrev StepsTo : (event : ℕ → Event) (result : Result Answer EditRefusal) (new : DeskSeen) (after : List (List ℕ)) → Shelved → Shelved → Type 0
-  StepsTo event result new after was now =
-      Step (run_of s was) (event i) (reply_lines (length s.sent) (answer_reply result (drop (length s.sent) after))) (run_of (with_seen s i new after) now)
-
-  filed_by : (event : ℕ → Event) (result : Result Answer EditRefusal) (new : DeskSeen) (after : List (List ℕ)) (told told' : Option Files) (faults faults' : ℕ)
-      → IsShelfStep d event result new s.sent after (record { files = told; faults = faults }) (record { files = told'; faults = faults' })
-      → OverBoth told told' faults faults' (StepsTo event result new after)
-  filed_by event result new after None None faults faults' (messages, part, files, files', counts, of_files, counted, goes) = (
+  filed_by : (before : List (List ℕ)) (event : ℕ → Event) (result : Result Answer EditRefusal) (new : DeskSeen) (after : List (List ℕ)) (told told' : Option Files) (faults faults' : ℕ)
+      → NamesNone (event i) → IsShelfStep d event result new s.sent after (record { files = told; faults = faults }) (record { files = told'; faults = faults' })
+      → OverBoth told told' faults faults' (StepsTo before event result new after)
+  filed_by before event result new after None None faults faults' none (messages, part, files, files', counts, of_files, counted, goes) = (
     files,
     files',
-    step_over (record { files = files; faults = faults }) (record { files = files'; faults = faults' }) event part result messages new after
+    step_over before (record { files = files; faults = faults }) (record { files = files'; faults = faults' }) event part result messages new after none
         (goes (state_of s files) i (stands s files i d at) refl refl) counted,
   )
-  filed_by event result new after None (Some now) faults faults' (messages, part, files, files', counts, of_files, counted, goes) = absurd of_files
-  filed_by event result new after (Some was) None faults faults' (messages, part, files, files', counts, of_files, counted, goes) = absurd of_files
-  filed_by event result new after (Some was) (Some now) faults faults' (messages, part, files, files', counts, (is_was, is_now), counted, goes) =
-      step_over (record { files = was; faults = faults }) (record { files = now; faults = faults' }) event part result messages new after
+  filed_by before event result new after None (Some now) faults faults' none (messages, part, files, files', counts, of_files, counted, goes) = absurd of_files
+  filed_by before event result new after (Some was) None faults faults' none (messages, part, files, files', counts, of_files, counted, goes) = absurd of_files
+  filed_by before event result new after (Some was) (Some now) faults faults' none (messages, part, files, files', counts, (is_was, is_now), counted, goes) =
+      step_over before (record { files = was; faults = faults }) (record { files = now; faults = faults' }) event part result messages new after none
       (subst (λ (f : Files). Replies (state_of s was) (event i) part (answer_reply result messages) (record (with_desk (state_of s was) i new after) { files = f })) is_now
       (goes (state_of s was) i (stands s was i d at) refl (sym is_was))) counted
 
   -- and over what it has
-  pub filed_step : (event : ℕ → Event) (result : Result Answer EditRefusal) (new : DeskSeen) (after : List (List ℕ)) (told told' : ShelfSeen)
-      → IsShelfStep d event result new s.sent after told told'
-      → OverFiles told told' (λ was now. Step (run_of s was) (event i) (reply_lines (length s.sent) (answer_reply result (drop (length s.sent) after))) (run_of (with_seen s i new after) now))
-  filed_step event result new after told told' step = filed_by event result new after told.files told'.files told.faults told'.faults step
+  pub filed_step : (before : List (List ℕ)) (event : ℕ → Event) (result : Result Answer EditRefusal) (new : DeskSeen) (after : List (List ℕ)) (told told' : ShelfSeen)
+      → NamesNone (event i) → IsShelfStep d event result new s.sent after told told' → OverFiles told told' (StepsTo before event result new after)
+  filed_step before event result new after told told' none step = filed_by before event result new after told.files told'.files told.faults told'.faults none step
 
   -- one that leaves the desk as it was leaves the sites so
-  pub filed_same : (event : ℕ → Event) (result : Result Answer EditRefusal) (told told' : ShelfSeen)
-      → IsShelfStep d event result d s.sent s.sent told told'
-      → OverFiles told told' (λ was now. Step (run_of s was) (event i) (reply_lines (length s.sent) (answer_reply result (drop (length s.sent) s.sent))) (run_of s now))
-  filed_same event result told told' step =
+  pub filed_same : (before : List (List ℕ)) (event : ℕ → Event) (result : Result Answer EditRefusal) (told told' : ShelfSeen)
+      → NamesNone (event i) → IsShelfStep d event result d s.sent s.sent told told'
+      → OverFiles told told' (λ was now. Step (run_of (sent_after before s) was) (event i)
+      (reply_lines (length (before ++ s.sent)) (answer_reply result (drop (length (before ++ s.sent)) (before ++ s.sent)))) (run_of (sent_after before s) now))
+  filed_same before event result told told' none step =
       let same : with_seen s i d s.sent ≡ s = λ k. record s { desks = put_back s.desks i d at k } in
-      subst (λ (new : SitesSeen). OverFiles told told' (λ was now. Step (run_of s was) (event i) (reply_lines (length s.sent) (answer_reply result (drop (length s.sent) s.sent))) (run_of new now))) same
-      (filed_step event result d s.sent told told' step)
+      subst (λ (new : SitesSeen). OverFiles told told' (λ was now. Step (run_of (sent_after before s) was) (event i)
+      (reply_lines (length (before ++ s.sent)) (answer_reply result (drop (length (before ++ s.sent)) (before ++ s.sent)))) (run_of (sent_after before new) now))) same
+      (filed_step before event result d s.sent told told' none step)
 
   -- an edit's step
   pub replied_edit : (event : ℕ → Event) (result : Result ℕ EditRefusal) (new : DeskSeen) (after : List (List ℕ)) → IsEditStep d event result new s.sent after

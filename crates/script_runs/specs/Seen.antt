@@ -1,8 +1,11 @@
 -- What the desks of a run's sites hold, and what they do in a run over files.
-use Rattle.std.specs.Prelude.{ℕ, List, map, Option, Some, None}
+use Rattle.std.specs.Prelude.{◌≡◌, ℕ, List, ◌++◌, map, Option, Result, Some, None}
 use Rattle.shelf.specs.Files.{Files}
-use Rattle.machine.specs.Events.{Event, Reply, untouched}
-use Rattle.machine.specs.Machine.{Replies}
+use Rattle.looks.specs.declared.refusal.Refusal.{Refusal}
+use Rattle.texts.specs.declared.took.Took.{Took}
+use Rattle.machine.specs.SiteTexts.{SiteTexts}
+use Rattle.machine.specs.Events.{Delivery, Event, Reply, take, take_reply, untouched}
+use Rattle.machine.specs.Machine.{Replies, message_in}
 use Rattle.commands.specs.Steps.{DeskSeen, ShelfSeen}
 use Rattle.machine.specs.State.{State}
 use Rattle.script_runs.specs.Trace.{Run, Shelved, Step}
@@ -12,6 +15,14 @@ pub record SitesSeen : Type 0 where
   pub first : ℕ
   pub desks : List DeskSeen
   pub sent : List (List ℕ)
+
+-- the texts of each desk
+abbrev pub texts_of : SitesSeen → List SiteTexts
+texts_of s = map (λ d. d.texts) s.desks
+
+-- the sites, where these messages were sent before
+abbrev pub sent_after : List (List ℕ) → SitesSeen → SitesSeen
+sent_after before s = record s { sent = before ++ s.sent }
 
 -- the state of a run of these sites, over these files
 abbrev pub state_of : SitesSeen → Files → State
@@ -31,7 +42,13 @@ run_of s has = record { state = state_of s has.files; faults = has.faults }
 abbrev pub Replied : SitesSeen → Event → Reply → SitesSeen → Type 0
 Replied s e r new = (files : Files) → Replies (state_of s files) e untouched r (state_of new files)
 
--- the same, with the reply printed
+-- whatever was sent before, a message for a text of the desk at this index is replied to so, however it is told
+abbrev pub TakesMessage : SitesSeen → (desk text : ℕ) → List ℕ → Result Took Refusal → SitesSeen → Type 0
+TakesMessage s desk text message result new = (before : List (List ℕ)) (told : Delivery)
+    → ((files : Files) → message_in (state_of (sent_after before s) files) told ≡ Some message)
+    → Replied (sent_after before s) (take desk text told) (take_reply result) (sent_after before new)
+
+-- over what any shelf has, the event is answered so
 abbrev pub Stepped : SitesSeen → Event → List ℕ → SitesSeen → Type 0
 Stepped s e answer new = (has : Shelved) → Step (run_of s has) e answer (run_of new has)
 

@@ -1,4 +1,4 @@
-ghost use Rattle.std.specs.Prelude.{ℕ, ◌≤◌, ◌∷◌, ◌++◌, codes, drop, length};
+ghost use Rattle.std.specs.Prelude.{ℕ, ◌+◌, ◌≤◌, ◌∷◌, ◌++◌, codes, drop, length};
 ghost use Rattle.std.specs.Fmt.{decimal};
 ghost use Rattle.hex.specs.Hex.{encode_lower};
 ghost use Rattle.machine.specs.Events.{edit_reply, merge_reply, take_reply, unpack_reply};
@@ -48,6 +48,19 @@ fn put_numbered<W: Write>(output: &mut Output<W>, front: &[u8], number: u64) -> 
     put_number(output, number)
 }
 
+// The same of a number that may be a sum.
+#[tactic(auto, using(crate::proofs::WriteLemmas::writes_after, crate::proofs::WriteLemmas::writes_stopped))]
+fn put_numbered_far<W: Write>(
+    output: &mut Output<W>,
+    front: &[u8],
+    number: u128,
+) -> Result<(), Refusal>
+    ensures { Puts result output.old output.new (front.now ++ decimal number) }
+{
+    put(output, front)?;
+    put(output, itoa::Buffer::new().format(number).as_bytes())
+}
+
 // The line of a number after a word.
 #[tactic(auto, using(crate::proofs::WriteLemmas::writes_after, crate::proofs::WriteLemmas::writes_stopped))]
 fn put_count<W: Write>(output: &mut Output<W>, word: &[u8], count: u64) -> Result<(), Refusal>
@@ -86,21 +99,30 @@ pub fn put_refused<W: Write>(output: &mut Output<W>, why: Refusal) -> Result<(),
 }
 
 // The line of one message, the run's k-th.
-fn put_send<W: Write>(output: &mut Output<W>, k: u64, message: &[u8]) -> Result<(), Refusal>
+fn put_send<W: Write>(output: &mut Output<W>, k: u128, message: &[u8]) -> Result<(), Refusal>
     ensures { Puts result output.old output.new (send_line k message.now) }
 {
-    put_numbered(output, b"send m", k)?;
+    put_numbered_far(output, b"send m", k)?;
     put(output, b" ")?;
     put_hex(output, message)?;
     put(output, b"\n")
 }
 
-// The lines of the messages that were sent after the first `from`.
-fn put_sends<W: Write>(output: &mut Output<W>, outbox: &Outbox, from: usize) -> Result<(), Refusal>
-    ensures { Puts result output.old output.new (send_lines from (drop from outbox.now)) }
+// The lines of the messages of an Outbox after the first `from` of it, where `before` were sent before these.
+fn put_sends<W: Write>(
+    output: &mut Output<W>,
+    outbox: &Outbox,
+    from: usize,
+    before: usize,
+) -> Result<(), Refusal>
+    ensures { Puts result output.old output.new (send_lines (before + from) (drop from outbox.now)) }
 {
     for index in from..outbox.len() {
-        put_send(output, index as u64 + 1, outbox.message(index))?;
+        put_send(
+            output,
+            before as u128 + index as u128 + 1,
+            outbox.message(index),
+        )?;
     }
     Ok(())
 }
@@ -114,24 +136,25 @@ fn put_partial<W: Write>(output: &mut Output<W>, done: u64, number: u8) -> Resul
     put(output, b"\n")
 }
 
-// Writes the lines of an edit's reply, where the outbox had `from` messages before the edit.
+// Writes the lines of an edit's reply, where the outbox had `from` messages before the edit, and `before` were sent before these.
 fn put_edit<W: Write>(
     output: &mut Output<W>,
     outbox: &Outbox,
     from: usize,
+    before: usize,
     outcome: Result<u32, EditRefusal>,
 ) -> Result<(), Refusal>
     ensures { Puts result output.old output.new
-        (reply_lines from (edit_reply outcome (drop from outbox.now))) }
+        (reply_lines (before + from) (edit_reply outcome (drop from outbox.now))) }
 {
     match outcome {
         Ok(_) => {
-            put_sends(output, outbox, from)?;
+            put_sends(output, outbox, from, before)?;
             put(output, b"ok\n")
         }
         Err(EditRefusal::Whole(why)) => put_refused(output, why),
         Err(EditRefusal::Partial { done, why }) => {
-            put_sends(output, outbox, from)?;
+            put_sends(output, outbox, from, before)?;
             put_partial(output, u64::from(done), why.number())
         }
     }
@@ -261,23 +284,24 @@ fn put_done<W: Write>(output: &mut Output<W>, outcome: Result<(), Refusal>) -> R
     }
 }
 
-// Writes the lines of a command's reply, where the outbox had `from` messages before it.
+// Writes the lines of a command's reply, where the outbox had `from` messages before it, and `before` were sent before these.
 fn put_answer<W: Write>(
     output: &mut Output<W>,
     outbox: &Outbox,
     from: usize,
+    before: usize,
     outcome: Result<Answer, EditRefusal>,
 ) -> Result<(), Refusal>
-    ensures { Puts result output.old output.new (reply_lines from (answer_reply outcome (drop from outbox.now))) }
+    ensures { Puts result output.old output.new (reply_lines (before + from) (answer_reply outcome (drop from outbox.now))) }
 {
     match outcome {
-        Ok(Answer::Sent(count)) => put_edit(output, outbox, from, Ok(count)),
+        Ok(Answer::Sent(count)) => put_edit(output, outbox, from, before, Ok(count)),
         Ok(Answer::Viewer(viewer)) => put_count(output, b"viewer ", u64::from(viewer)),
         Ok(Answer::Found(pos)) => put_count(output, b"found ", pos),
         Ok(Answer::NotFound) => put(output, b"not found\n"),
         Ok(Answer::Forgot(count)) => put_count(output, b"forgot ", u64::from(count)),
         Ok(Answer::Done) => put(output, b"ok\n"),
-        Err(why) => put_edit(output, outbox, from, Err(why)),
+        Err(why) => put_edit(output, outbox, from, before, Err(why)),
     }
 }
 
@@ -295,17 +319,19 @@ fn put_printed<W: Write>(
     }
 }
 
-/// Writes the lines of a reply, where the outbox had `from` messages before it: a row for each.
+/// Writes the lines of a reply, where the outbox had `from` messages before it, and `before` were sent before these: a row for
+/// each.
 pub fn put_reply<W: Write>(
     output: &mut Output<W>,
     outbox: &Outbox,
     from: usize,
+    before: usize,
     reply: Reply,
 ) -> Result<(), Refusal>
-    ensures { Puts result output.old output.new (reply_lines from (reply_of reply (drop from outbox.now))) }
+    ensures { Puts result output.old output.new (reply_lines (before + from) (reply_of reply (drop from outbox.now))) }
 {
     match reply {
-        Reply::Edited(outcome) => put_edit(output, outbox, from, outcome),
+        Reply::Edited(outcome) => put_edit(output, outbox, from, before, outcome),
         Reply::Taken(outcome) => put_taken(output, outcome),
         Reply::Unpacked(outcome) => put_unpacked(output, outcome),
         Reply::Settled(settled) => put_settled(output, settled),
@@ -313,6 +339,6 @@ pub fn put_reply<W: Write>(
         Reply::Printed(outcome) => put_printed(output, outcome),
         Reply::Opened(outcome) => put_opened(output, outcome),
         Reply::Arranged(outcome) => put_done(output, outcome),
-        Reply::Commanded(outcome) => put_answer(output, outbox, from, outcome),
+        Reply::Commanded(outcome) => put_answer(output, outbox, from, before, outcome),
     }
 }

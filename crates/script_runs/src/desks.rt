@@ -1,43 +1,43 @@
-ghost use Rattle.std.specs.Prelude.{◌≡◌, ◌≤◌, ◌<◌, List, ℕ, drop, length, IfOk};
+ghost use Rattle.std.specs.Prelude.{◌≡◌, ◌≤◌, ◌<◌, ◌++◌, List, ℕ, drop, length, IfOk};
 ghost use Rattle.looks.specs.Refusal.{RefusedForMemoryAlone};
-ghost use Rattle.machine.specs.Events.{copy, edit, edit_by_names, edit_reply, merge, merge_reply, sent, settle, settles, take};
-ghost use Rattle.machine.specs.Events.{query, take_reply, unpack, unpack_reply};
+ghost use Rattle.machine.specs.Events.{copy, edit, edit_by_names, edit_reply, merge, merge_reply, query, settle, settles};
+ghost use Rattle.machine.specs.Events.{unpack, unpack_reply};
 ghost use Rattle.machine.specs.State.{new_state};
 ghost use Rattle.shelf.specs.Files.{Files};
 ghost use Rattle.commands.specs.Steps.{print_reply, shelf_seen};
-ghost use Rattle.script_events.specs.EventView.{delivery_of, edit_of, event_of, IsInRun, IsOfLine};
-ghost use Rattle.script_events.specs.EventView.{IsWithin, TypesAtMost};
+ghost use Rattle.script_events.specs.EventView.{edit_of, event_of, IsInRun, IsOfLine, TypesAtMost};
 ghost use Rattle.script_events.specs.Script.{query_at, typing};
 ghost use Rattle.script_runs.specs.Answers.{reply_lines};
 ghost use Rattle.script_runs.specs.Replying.{reply_of};
-ghost use Rattle.script_runs.specs.Seen.{OverFiles, Replied, run_of, state_of};
+ghost use Rattle.script_runs.specs.Seen.{OverFiles, Replied, run_of, sent_after, state_of, texts_of};
+ghost use Rattle.script_runs.specs.Sent.{AreHeld, messages_at};
 ghost use Rattle.script_runs.specs.Trace.{Answers, Step, is_silent};
 ghost use Rattle.script_runs.specs.Writing.{Puts};
 
 mod screen;
+mod sending;
 
 use crate::answers::{put_refused, put_reply};
 use crate::reply::Reply;
+use crate::sent_at::SentAt;
 use crate::settings::Settings;
 use char_files::{SiteNo, TextNo};
 use commands::Desk;
 use looks::Refusal;
 use machine::{Fronts, MAX_TEXT, Query};
 use operations::NameRange;
-use script_events::{
-    Delivery, Edit, Escaped, Event, FrontWords, Hex, NameWords, Save, Side, event_in,
-};
+use script_events::{Edit, Escaped, Event, FrontWords, Hex, NameWords, Save, Side, event_in};
 use script_io::{MAX_LINE, Output};
 use shelf::Shelf;
 use std::alloc::Global;
 use std::io::Write;
 use std::marker::Model;
 use text_chunks::{UnpackRefusal, Unpacked};
-use texts::{ByNames, EditRefusal, Front, MergeRefusal, Outbox, Settled, Took};
+use texts::{ByNames, EditRefusal, Front, MergeRefusal, Outbox, Settled};
 
-/// The desks of a run's sites, and the messages that they sent.
+/// The desks of a run's sites, and the messages whose bytes they hold: the last ones that were sent.
 #[derive(Drop)]
-pub struct Sites {
+pub struct Desks {
     first: u16,
     desks: Vec<Desk>,
     outbox: Outbox,
@@ -48,7 +48,7 @@ pub struct Sites {
     names: Vec<NameRange>,
 }
 
-impl Model for Sites {
+impl Model for Desks {
     ghost use Rattle.std.specs.Prelude.{◌≤◌, length, vec_capacity};
     ghost use Rattle.script_io.specs.declared.lines.TheConstants.{MAX_LINE};
     ghost use Rattle.script_runs.specs.Seen.{SitesSeen};
@@ -69,10 +69,10 @@ fn is_silent(line: &[u8]) -> bool
     matches!(line, [] | [b'#', ..])
 }
 
-impl Sites {
+impl Desks {
     /// The sites as a run begins. Refused `OutOfMemory` alone.
-    pub fn new(alloc: Global, settings: Settings) -> Result<Sites, Refusal>
-        ensures ok { IfOk result (λ sites. (files : Files) → state_of sites files
+    pub fn new(alloc: Global, settings: Settings) -> Result<Desks, Refusal>
+        ensures ok { IfOk result (λ desks. (files : Files) → state_of desks files
             ≡ new_state settings.first settings.count settings.width settings.height files) }
         ensures errors { RefusedForMemoryAlone result }
     {
@@ -90,7 +90,7 @@ impl Sites {
             let site = SiteNo::new(first + i).unwrap();
             desks.push(Desk::new(alloc, site, usize::from(width), usize::from(height))?)?;
         }
-        Ok(Sites {
+        Ok(Desks {
             first,
             desks,
             outbox: Outbox::new(alloc),
@@ -100,40 +100,46 @@ impl Sites {
         })
     }
 
-    /// Answers a line of the script. Refused `WriteFault` where the writer fails.
+    /// Answers a line of the script, where the messages that stand so were sent before those that the desks hold. Refused
+    /// `WriteFault` where the writer fails.
     pub fn answer<W: Write, S: Shelf>(
         &mut self,
+        noted: &[SentAt],
         output: &mut Output<W>,
         shelf: &mut S,
         line: &[u8],
     ) -> Result<(), Refusal>
-        requires { length line.now ≤ MAX_LINE }
+        requires held { AreHeld (texts_of self.old) noted.now }
+        requires short { length line.now ≤ MAX_LINE }
         ensures { (answer : List ℕ) × Puts result output.old output.new answer
             × OverFiles (shelf_seen (S.files shelf.old) (S.faults shelf.old)) (shelf_seen (S.files shelf.new) (S.faults shelf.new)) (λ was now.
-            Answers (run_of self.old was) line.now answer (run_of self.new now)) }
+            let before = messages_at (texts_of self.old) noted.now in
+            Answers (run_of (sent_after before self.old) was) line.now answer (run_of (sent_after before self.new) now)) }
     {
         if is_silent(line) {
             return Ok(());
         }
         // What an event did stands, and its messages are in the Outbox, before the first byte of the answer goes out: the
         // step is taken also where the writer fails.
-        let sent = self.outbox.len();
+        let from = self.outbox.len();
         match event_in(self.first, self.desks.len(), line) {
             Some(event) => {
-                let reply = self.step(shelf, event);
-                put_reply(output, &self.outbox, sent, reply)
+                let reply = self.step(noted, shelf, event);
+                put_reply(output, &self.outbox, from, noted.len(), reply)
             }
             None => put_refused(output, Refusal::BadEvent),
         }
     }
 
     // Does what an event asks: a row for each.
-    fn step<S: Shelf>(&mut self, shelf: &mut S, event: Event) -> Reply
+    fn step<S: Shelf>(&mut self, noted: &[SentAt], shelf: &mut S, event: Event) -> Reply
+        requires held { AreHeld (texts_of self.old) noted.now }
         requires in_run { IsInRun (length self.old.desks) event }
         requires of_line { IsOfLine MAX_LINE event }
-        ensures { OverFiles (shelf_seen (S.files shelf.old) (S.faults shelf.old)) (shelf_seen (S.files shelf.new) (S.faults shelf.new)) (λ was now. Step (run_of self.old was) (event_of event.entry)
-            (reply_lines (length self.old.sent) (reply_of result (drop (length self.old.sent) self.new.sent)))
-            (run_of self.new now)) }
+        ensures { OverFiles (shelf_seen (S.files shelf.old) (S.faults shelf.old)) (shelf_seen (S.files shelf.new) (S.faults shelf.new)) (λ was now.
+            let before = messages_at (texts_of self.old) noted.now in Step (run_of (sent_after before self.old) was) (event_of event.entry)
+            (reply_lines (length (before ++ self.old.sent)) (reply_of result (drop (length (before ++ self.old.sent)) (before ++ self.new.sent))))
+            (run_of (sent_after before self.new) now)) }
     {
         match event {
             Event::Edits { desk, text, edit } => Reply::Edited(self.edit(desk, text, &edit)),
@@ -148,7 +154,7 @@ impl Sites {
                 desk,
                 text,
                 message,
-            } => Reply::Taken(self.take(desk, text, &message)),
+            } => Reply::Taken(self.take(noted, desk, text, &message)),
             Event::Unpacks { desk, text, chunk } => {
                 Reply::Unpacked(self.unpack(desk, text, &chunk))
             }
@@ -262,37 +268,6 @@ impl Sites {
             pos,
         } = asked;
         self.desks[desk].save(text, beg, end, other, pos, &mut self.outbox)
-    }
-
-    // Hands a message to a desk's text.
-    fn take(&mut self, desk: usize, text: TextNo, delivery: &Delivery) -> Result<Took, Refusal>
-        requires in_run { desk < length self.old.desks }
-        requires on_desk { text ≤ MAX_TEXT }
-        requires within { IsWithin MAX_LINE delivery.now }
-        ensures { Replied self.old (take desk text (delivery_of delivery.now)) (take_reply result) self.new }
-    {
-        match delivery {
-            Delivery::Sent(k) => self.take_sent(desk, text, *k),
-            Delivery::Bytes(message) => {
-                self.bytes.clear();
-                message.decode(&mut self.bytes);
-                self.desks[desk].take(text, &self.bytes)
-            }
-        }
-    }
-
-    // Hands the k-th message that was sent to a desk's text. Refused `BadEvent` where it wasn't sent yet.
-    fn take_sent(&mut self, desk: usize, text: TextNo, k: u32) -> Result<Took, Refusal>
-        requires in_run { desk < length self.old.desks }
-        requires on_desk { text ≤ MAX_TEXT }
-        ensures { Replied self.old (take desk text (sent k)) (take_reply result) self.new }
-    {
-        let k = k as usize;
-        if k == 0 || self.outbox.len() < k {
-            return Err(Refusal::BadEvent);
-        }
-        let message = self.outbox.message(k - 1);
-        self.desks[desk].take(text, message)
     }
 
     // Hands a chunk to a desk's text.

@@ -2,9 +2,11 @@
 #![tactic(auto)]
 
 mod answers;
+mod desks;
 mod limits;
 mod reply;
 mod running;
+mod sent_at;
 mod settings;
 mod sites;
 

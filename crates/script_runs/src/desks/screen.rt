@@ -7,14 +7,14 @@ ghost use Rattle.script_events.specs.Script.{plain_items};
 ghost use Rattle.script_runs.specs.Replying.{reply_of};
 ghost use Rattle.script_runs.specs.Seen.{Replied};
 
+use crate::desks::Desks;
 use crate::reply::Reply;
-use crate::sites::Sites;
 use machine::Arrangement;
 use script_events::Escaped;
 use script_io::MAX_LINE;
 use texts::EditRefusal;
 
-impl Sites {
+impl Desks {
     // Arranges a desk's screen: a row for each arrangement.
     pub(super) fn arrange(&mut self, desk: usize, asked: Arrangement) -> Reply
         requires in_run { desk < length self.old.desks }

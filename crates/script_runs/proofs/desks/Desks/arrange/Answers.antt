@@ -3,7 +3,7 @@ use Rattle.machine.specs.declared.asked.Arrangement.TheVariants.{Close, Move, Op
 use Rattle.commands.specs.Steps.{done_reply, open_reply}
 use Rattle.script_runs.specs.Seen.{SitesSeen}
 use Rattle.script_runs.proofs.Standing.{desk_read, replied}
-use Rattle.script_runs.proofs.sites.Sites.arrange.Goals as goal
+use Rattle.script_runs.proofs.desks.Desks.arrange.Goals as goal
 
 pub returns-in-Open : goal.returns-in-Open
 returns-in-Open c =

@@ -2,7 +2,7 @@ use Rattle.texts.specs.Edit.{deletion, looks_change, recalling, restoration}
 use Rattle.machine.specs.Events.{edit}
 use Rattle.script_runs.specs.Seen.{SitesSeen}
 use Rattle.script_runs.proofs.Standing.{desk_read, replied_edit}
-use Rattle.script_runs.proofs.sites.Sites.edit.Goals as goal
+use Rattle.script_runs.proofs.desks.Desks.edit.Goals as goal
 
 pub returns-in-TypeIn : goal.returns-in-TypeIn
 returns-in-TypeIn c = rw c.in-TypeIn.is c.type_in.ensures

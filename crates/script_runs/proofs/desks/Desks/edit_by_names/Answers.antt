@@ -3,7 +3,7 @@ use Rattle.operations.specs.NameSet.{Range}
 use Rattle.machine.specs.Events.{edit_by_names}
 use Rattle.script_runs.specs.Seen.{SitesSeen}
 use Rattle.script_runs.proofs.Standing.{desk_read, replied_edit}
-use Rattle.script_runs.proofs.sites.Sites.edit_by_names.Goals as goal
+use Rattle.script_runs.proofs.desks.Desks.edit_by_names.Goals as goal
 
 pub returns : goal.returns
 returns c =

@@ -4,7 +4,7 @@ use Rattle.machine.specs.Events.{ask, insert_at_caret}
 use Rattle.script_events.specs.Script.{plain_items}
 use Rattle.script_runs.specs.Seen.{SitesSeen}
 use Rattle.script_runs.proofs.Standing.{desk_read, replied_edit}
-use Rattle.script_runs.proofs.sites.Sites.key.Goals as goal
+use Rattle.script_runs.proofs.desks.Desks.key.Goals as goal
 
 pub returns-in-Some : goal.returns-in-Some
 returns-in-Some c =

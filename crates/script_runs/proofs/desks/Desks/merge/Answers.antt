@@ -7,7 +7,7 @@ use Rattle.commands.specs.Steps.{DeskSeen}
 use Rattle.script_runs.specs.Seen.{Replied, SitesSeen}
 use Rattle.script_runs.proofs.Merging.{in_back, in_front, set_in_back, set_in_front}
 use Rattle.script_runs.proofs.Standing.{desk_read, merged_still, replied_merge}
-use Rattle.script_runs.proofs.sites.Sites.merge.Goals as goal
+use Rattle.script_runs.proofs.desks.Desks.merge.Goals as goal
 
 pub returns-then-other-desk : goal.returns-then-other-desk
 returns-then-other-desk c =

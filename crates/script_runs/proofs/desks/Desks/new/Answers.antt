@@ -6,7 +6,7 @@ use Rattle.desk_texts.proofs.Counted.{map-range-more}
 use Rattle.machine.specs.Windows.{blank_screen}
 use Rattle.commands.specs.Steps.{DeskSeen}
 use Rattle.script_runs.proofs.Standing.{begins_new, new_seen}
-use Rattle.script_runs.proofs.sites.Sites.new.Goals as goal
+use Rattle.script_runs.proofs.desks.Desks.new.Goals as goal
 
 pub loop-i-preserved : goal.loop-i-preserved
 loop-i-preserved c =

@@ -6,8 +6,8 @@ use Rattle.commands.specs.Steps.{print_reply}
 use Rattle.script_events.specs.Script.{query_at}
 use Rattle.script_runs.specs.Seen.{SitesSeen}
 use Rattle.script_runs.proofs.Standing.{desk_read, replied_same}
-use Rattle.script_runs.proofs.sites.Sites.query_at.Goals as goal
-use Rattle.script_runs.proofs.sites.Sites.query_at.Goals.{in-Beyond, in-Packed, in-UpTo}
+use Rattle.script_runs.proofs.desks.Desks.query_at.Goals as goal
+use Rattle.script_runs.proofs.desks.Desks.query_at.Goals.{in-Beyond, in-Packed, in-UpTo}
 
 pub returns : goal.returns
 returns c =

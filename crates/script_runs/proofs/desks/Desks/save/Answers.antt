@@ -1,7 +1,7 @@
 use Rattle.machine.specs.Events.{copy}
 use Rattle.script_runs.specs.Seen.{SitesSeen}
 use Rattle.script_runs.proofs.Standing.{desk_read, replied_edit}
-use Rattle.script_runs.proofs.sites.Sites.save.Goals as goal
+use Rattle.script_runs.proofs.desks.Desks.save.Goals as goal
 
 pub returns : goal.returns
 returns c =

@@ -1,7 +1,7 @@
 use Rattle.machine.specs.Events.{settle, settles}
 use Rattle.script_runs.specs.Seen.{SitesSeen}
 use Rattle.script_runs.proofs.Standing.{desk_read, replied}
-use Rattle.script_runs.proofs.sites.Sites.settle.Goals as goal
+use Rattle.script_runs.proofs.desks.Desks.settle.Goals as goal
 
 pub returns : goal.returns
 returns c =

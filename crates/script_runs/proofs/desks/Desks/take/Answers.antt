@@ -1,8 +1,9 @@
 use Rattle.std.proofs.Common.{◌≡◌, ◌++◌, ℕ, List, refl, ap, ◌∙◌}
 use Rattle.machine.specs.Events.{bytes}
-use Rattle.script_runs.specs.Seen.{SitesSeen}
+use Rattle.script_runs.specs.Seen.{SitesSeen, sent_after, texts_of}
+use Rattle.script_runs.specs.Sent.{messages_at}
 use Rattle.script_runs.proofs.Standing.{desk_read, replied_take}
-use Rattle.script_runs.proofs.sites.Sites.take.Goals as goal
+use Rattle.script_runs.proofs.desks.Desks.take.Goals as goal
 
 pub returns-in-Sent : goal.returns-in-Sent
 returns-in-Sent c = rw c.in-Sent.is c.take_sent.ensures
@@ -15,4 +16,5 @@ returns-in-Bytes c =
     let at = desk_read s c.args.desk c.index_mut.result.now in_run c.index_mut.ensures.value in
     let decoded : c.deref.result.now ≡ message = c.deref.ensures.value ∙ c.decode.ensures.bytes ∙ ap (λ (front : List ℕ). front ++ message) c.clear.ensures.items in
     let taken = rw decoded at c.take.ensures in
-    rw (← c.self.view_is, c.in-Bytes.is) (replied_take s c.args.desk c.index_mut.result.now at c.args.text (bytes message) message c.take.result c.take.new.self (λ files. refl) taken)
+    rw (← c.self.view_is, c.in-Bytes.is)
+    (replied_take (sent_after (messages_at (texts_of s) c.args.noted.now) s) c.args.desk c.index_mut.result.now at c.args.text (bytes message) message c.take.result c.take.new.self (λ files. refl) taken)

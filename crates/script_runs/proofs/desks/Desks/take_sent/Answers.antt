@@ -1,27 +1,40 @@
-use Rattle.std.proofs.Common.{◌≡◌, ◌<◌, length, inl, inr, arith}
-use Rattle.std.specs.Prelude.{◌⊎◌}
-use Rattle.machine.specs.Events.{sent}
-use Rattle.script_runs.specs.Seen.{SitesSeen, state_of}
-use Rattle.script_runs.proofs.Replying.{message_sent}
-use Rattle.script_runs.proofs.Standing.{desk_read, replied_take, unsent_still}
-use Rattle.script_runs.proofs.sites.Sites.take_sent.Goals as goal
-use Rattle.script_runs.proofs.sites.Sites.take_sent.Goals.{then-k-eq0-via-then-k-eq0, then-k-eq0-via-else-k-eq0+then-len-k}
-
-pub returns : goal.returns
-returns c =
-    let s : SitesSeen = record { first = c.self.inside.first; desks = c.self.inside.desks.items; sent = c.self.inside.outbox } in
-    let message = c.message-message.result.now in
-    let in_run = rw (← c.self.view_is) at c.requires.in_run in
-    let at = desk_read s c.args.desk c.index_mut.result.now in_run c.index_mut.ensures.value in
-    let some : 0 < c.args.k = omega arith in
-    rw (← c.self.view_is) (replied_take s c.args.desk c.index_mut.result.now at c.args.text (sent c.args.k) message c.take.result c.take.new.self
-    (λ files. message_sent (state_of s files) c.args.k message some c.message-message.ensures) c.take.ensures)
+use Rattle.std.proofs.Common.{◌≡◌, ℕ, ◌+◌, ◌-◌, ◌<◌, Some, length, inl, refl, subst, sym, arith}
+use Rattle.std.specs.Prelude.{slice_get}
+use Rattle.std.proofs.lemmas.List.{length-map}
+use Rattle.std.proofs.lemmas.Option.{slice_get_read}
+use Rattle.machine.specs.Events.{sent, take, take_reply}
+use Rattle.script_runs.specs.Seen.{Replied, sent_after, texts_of}
+use Rattle.script_runs.specs.Sent.{IsHeld, message_at, messages_at}
+use Rattle.script_runs.proofs.Sending.{noted_sent}
+use Rattle.script_runs.proofs.Standing.{unsent_still}
+use Rattle.script_runs.proofs.desks.Desks.take_sent.Goals as goal
 
 pub returns-then-k-eq0 : goal.returns-then-k-eq0
 returns-then-k-eq0 c =
-    let s : SitesSeen = record { first = c.self.inside.first; desks = c.self.inside.desks.items; sent = c.self.inside.outbox } in
-    let unsent : (c.args.k ≡ 0) ⊎ (length s.sent < c.args.k) = elim c.then-k-eq0.branch [
-      | then-k-eq0-via-then-k-eq0 w ↦ inl (omega (arith, w.if-k-eq0.true))
-      | then-k-eq0-via-else-k-eq0+then-len-k w ↦ inr (omega (arith, w.len.ensures, w.if-len-k.true))
-    ] in
-    rw (← c.self.view_is) (unsent_still s c.args.desk c.args.text c.args.k unsent)
+    let s = c.args.self.now in
+    unsent_still (sent_after (messages_at (texts_of s) c.args.noted.now) s) c.args.desk c.args.text c.args.k (inl (omega (arith, c.if-k-eq0.true)))
+
+pub take_anew-requires-clause-held : goal.take_anew-requires-clause-held
+take_anew-requires-clause-held c =
+    let at = c.index-noted-k.result in
+    subst (IsHeld (texts_of c.args.self.now)) (sym c.index-noted-k.is) (c.requires.held (c.args.k - 1) at (omega (arith, c.if-k-noted.true, c.if-k-eq0.false)))
+
+pub returns-then-k-noted : goal.returns-then-k-noted
+returns-then-k-noted c =
+    let s = c.args.self.now in
+    let noted = c.args.noted.now in
+    let at = c.index-noted-k.result in
+    let some : 0 < c.args.k = omega (arith, c.if-k-eq0.false) in
+    let within : c.args.k - 1 < length noted = omega (arith, c.if-k-noted.true, c.if-k-eq0.false) in
+    let there : slice_get noted (c.args.k - 1) ≡ Some at = slice_get_read noted (length noted) (c.args.k - 1) at refl within c.index-noted-k.is in
+    c.take_anew.ensures (messages_at (texts_of s) noted) (sent c.args.k) (λ files. noted_sent s noted c.args.k at files some there)
+
+pub returns-else-k-noted : goal.returns-else-k-noted
+returns-else-k-noted c =
+    let s = c.args.self.now in
+    let noted = c.args.noted.now in
+    let before = messages_at (texts_of s) noted in
+    let number : length before + (c.args.k - 1 - length noted) + 1 ≡ c.args.k =
+    omega (arith, length-map noted (message_at (texts_of s)), c.if-k-noted.false, c.if-k-eq0.false) in
+    subst (λ (k : ℕ). Replied (sent_after before s) (take c.args.desk c.args.text (sent k)) (take_reply c.take_held.result) (sent_after before c.take_held.new.self)) number
+    (c.take_held.ensures before)

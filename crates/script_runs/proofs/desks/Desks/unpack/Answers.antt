@@ -2,7 +2,7 @@ use Rattle.std.proofs.Common.{◌≡◌, ℕ, ◌++◌, List, ap, ◌∙◌}
 use Rattle.machine.specs.Events.{unpack, unpack_reply}
 use Rattle.script_runs.specs.Seen.{SitesSeen}
 use Rattle.script_runs.proofs.Standing.{desk_read, replied}
-use Rattle.script_runs.proofs.sites.Sites.unpack.Goals as goal
+use Rattle.script_runs.proofs.desks.Desks.unpack.Goals as goal
 
 pub returns : goal.returns
 returns c =
