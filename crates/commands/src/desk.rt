@@ -2,6 +2,7 @@ ghost use Rattle.std.specs.Prelude.{◌≡◌, ◌<◌, ◌≤◌, map, length, 
 ghost use Rattle.looks.specs.Looks.{plain_looks};
 ghost use Rattle.looks.specs.Refusal.{RefusedForMemoryAlone};
 ghost use Rattle.looks.specs.declared.refusal.Refusal.TheVariants.{FileSpent, NoCaret, OutOfRange};
+ghost use Rattle.operations.specs.Spelling.{spelling};
 ghost use Rattle.texts.specs.Edit.{deletion, insertion, looks_change, recalling, restoration};
 ghost use Rattle.texts.specs.Text.{IsText};
 ghost use Rattle.texts.specs.TextState.{TextState, shown_of};
@@ -20,7 +21,7 @@ use desk_texts::Texts;
 use desk_windows::Windows;
 use looks::{Looks, Refusal, Sel};
 use machine::{MAX_TEXT, Query, View};
-use operations::NameRange;
+use operations::{NameRange, Op};
 use std::alloc::Global;
 use std::marker::Model;
 use text_chunks::{UnpackRefusal, Unpacked};
@@ -222,6 +223,17 @@ impl Desk {
     {
         self.texts.lemma_has_text(text);
         let outcome = self.texts.take(text, message);
+        tell(&mut self.texts, &mut self.windows, text);
+        outcome
+    }
+
+    /// Takes an operation for a text, as its message is taken.
+    pub fn take_op(&mut self, text: TextNo, op: Op) -> Result<Took, Refusal>
+        requires on_desk { text ≤ MAX_TEXT }
+        ensures { IsTakeStep self.old text (spelling op) result self.new }
+    {
+        self.texts.lemma_has_text(text);
+        let outcome = self.texts.take_op(text, op);
         tell(&mut self.texts, &mut self.windows, text);
         outcome
     }

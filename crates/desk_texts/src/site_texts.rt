@@ -2,6 +2,7 @@ ghost use Rattle.std.specs.Borrow.{Lends, sem};
 ghost use Rattle.std.specs.Prelude.{◌≡◌, ◌≤◌, [], map, length, IfErr, IfOk};
 ghost use Rattle.looks.specs.Looks.{plain_looks};
 ghost use Rattle.looks.specs.Refusal.{RefusedForMemoryAlone};
+ghost use Rattle.operations.specs.Spelling.{spelling};
 ghost use Rattle.taken_text.specs.Noted.{AreChangesSince};
 ghost use Rattle.texts.specs.Edit.{deletion, insertion, looks_change, recalling, restoration};
 ghost use Rattle.texts.specs.Text.{IsText};
@@ -23,7 +24,7 @@ use char_files::{Buffer, MAX_FILE, SiteNo, TextNo};
 use list_changes::Change;
 use looks::{Looks, Refusal, Sel};
 use machine::{MAX_TEXT, Query};
-use operations::NameRange;
+use operations::{NameRange, Op};
 use std::alloc::Global;
 use std::marker::Model;
 use text_chunks::{UnpackRefusal, Unpacked, unpack};
@@ -216,6 +217,15 @@ impl Texts {
         ensures { TakesSite self.old text message.now result self.new }
     {
         self.replica_mut(text).take(message)
+    }
+
+    /// Takes an operation for a text, as its message is taken.
+    pub fn take_op(&mut self, text: TextNo, op: Op) -> Result<Took, Refusal>
+        requires on_desk { text ≤ MAX_TEXT }
+        ensures { TakesSite self.old text (spelling op) result self.new }
+    {
+        op.lemma_has_spelling();
+        self.replica_mut(text).take_op(op)
     }
 
     /// Hands the operations of a chunk to a text, as `unpack` does.

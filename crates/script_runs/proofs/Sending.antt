@@ -73,7 +73,7 @@ note_more desks messages index message noted at there all (op, stands_at, valid,
 pub all_noted : (desks : List SiteTexts) (was : List SentAt) (more : List SentAt) → AreHeld desks was → AreHeld desks more → AreHeld desks (was ++ more)
 all_noted desks was more held held_more = All-append (IsHeld desks) was more held held_more
 
--- a message that is to be spelled, and for which memory is refused
+-- a message that is named by its number, and whose operation can't be read, for want of memory
 short_state : (s : State) (i text : ℕ) (d : SiteTexts) (t : TextState) (told : Delivery) (message : List ℕ) → slice_get s.desks i ≡ Some d → IsTextOf d text t
     → t.asked ≡ length t.operations → message_in s told ≡ Some message → (SpellsNone message → ⊥)
     → Replies s (takes i text told) untouched (refuses OutOfMemory) s
@@ -82,11 +82,11 @@ short_state s i text d t told message at_i is_t asked is spells =
     let all : s ≡ record s { desks = slice_set s.desks i d; sent = s.sent ++ [] } = rw (put_back s.desks i d at_i, append-nil s.sent) refl in
     inr (refl, (message, is, (d, d, at_i, (t, t, is_t, (t, (Err OutOfMemory, inl (spells, (refl, refl)), refl), sym (told_same t asked)), texts), all)))
 
-pub spelled_short : (s : SitesSeen) (i text : ℕ) (d : DeskSeen) (at : SentAt) (r : Result Took Refusal) (why : Refusal) → slice_get s.desks i ≡ Some d
+pub refused_noted : (s : SitesSeen) (i text : ℕ) (d : DeskSeen) (at : SentAt) (r : Result Took Refusal) (why : Refusal) → slice_get s.desks i ≡ Some d
     → ((t : TextState) × IsTextOf d.texts text t × IsText t × (t.asked ≡ length t.operations)) → IsHeld (texts_of s) at → why ≡ OutOfMemory
     → IsErrAnd r (λ e. e ≡ why) → TakesMessage s i text (message_at (texts_of s) at) r s
-spelled_short s i text d at (Ok took) why at_i has held short e = absurd e
-spelled_short s i text d at (Err e) why at_i (t, there, is_t, asked) (op, stands_at, valid) short is =
+refused_noted s i text d at (Ok took) why at_i has held short e = absurd e
+refused_noted s i text d at (Err e) why at_i (t, there, is_t, asked) (op, stands_at, valid) short is =
     subst (λ (w : Refusal). TakesMessage s i text (message_at (texts_of s) at) (Err w) s) (sym (is ∙ short))
     (λ before told in_run files. short_state (state_of (sent_after before s) files) i text d.texts t told (message_at (texts_of s) at)
     (stands (sent_after before s) files i d at_i).texts there asked (in_run files) (λ none. none op valid (told_at (texts_of s) at op stands_at)))

@@ -1,4 +1,4 @@
--- The messages that a run's sites sent, each spelled anew of its operation where a text has it.
+-- The messages that a run's sites sent, each as the spelling of its operation where a text has that.
 use Rattle.std.specs.Prelude.{◌≡◌, ℕ, ◌-◌, ◌≤◌, List, [], length, map, All, Option, Some, slice_get}
 use Rattle.std.specs.Option.{option_and_then, option_map_or}
 use Rattle.operations.specs.Operation.{Operation}

@@ -1,4 +1,4 @@
-//! The messages of a run: where their operations stand, of which they are spelled anew.
+//! The messages of a run: where their operations stand, which are handed in for them.
 
 ghost use Rattle.std.specs.Prelude.{◌≡◌, ◌≤◌, ◌<◌, ◌+◌, ◌++◌, ℕ, List, length, IfOk, IfSome};
 ghost use Rattle.looks.specs.Refusal.{RefusedForMemoryAlone};
@@ -14,7 +14,7 @@ use crate::sent_at::SentAt;
 use char_files::TextNo;
 use looks::Refusal;
 use machine::MAX_TEXT;
-use operations::{Op, decode, encode};
+use operations::{Op, decode};
 use script_events::Delivery;
 use script_io::MAX_LINE;
 use texts::{Outbox, Took};
@@ -103,28 +103,16 @@ impl Desks {
         }
     }
 
-    // The bytes of the message whose operation stands there. Refused `OutOfMemory` alone.
-    fn spell(&self, at: &SentAt) -> Result<Vec<u8>, Refusal>
-        requires { IsHeld (texts_of self.now) at.now }
-        ensures ok { IfOk result (λ message. message.items ≡ message_at (texts_of self.now) at.now) }
-        ensures errors { RefusedForMemoryAlone result }
-    {
-        let op = self.op_at(at)?;
-        let mut message = Vec::new(*self.bytes.allocator());
-        encode(&op, &mut message)?;
-        Ok(message)
-    }
-
-    // Hands the message whose operation stands there to a desk's text.
-    fn take_anew(&mut self, at: &SentAt, desk: usize, text: TextNo) -> Result<Took, Refusal>
+    // Hands the operation that stands there to a desk's text, as its message. Refused `OutOfMemory` where it can't be read.
+    fn take_noted(&mut self, at: &SentAt, desk: usize, text: TextNo) -> Result<Took, Refusal>
         requires held { IsHeld (texts_of self.old) at.now }
         requires in_run { desk < length self.old.desks }
         requires on_desk { text ≤ MAX_TEXT }
         ensures { TakesMessage self.old desk text (message_at (texts_of self.old) at.now) result self.new }
     {
         self.desks[desk].lemma_has_text(text);
-        let message = self.spell(at)?;
-        self.desks[desk].take(text, &message)
+        let op = self.op_at(at)?;
+        self.desks[desk].take_op(text, op)
     }
 
     // Hands a message whose bytes are held to a desk's text, by its number among them, from 0. Refused `BadEvent` where there is
@@ -161,7 +149,7 @@ impl Desks {
             return Err(Refusal::BadEvent);
         }
         if k <= noted.len() {
-            self.take_anew(&noted[k - 1], desk, text)
+            self.take_noted(&noted[k - 1], desk, text)
         } else {
             self.take_held(k - 1 - noted.len(), desk, text)
         }

@@ -14,8 +14,8 @@ returns-then-k-eq0 c =
     let s = c.args.self.now in
     unsent_still (sent_after (messages_at (texts_of s) c.args.noted.now) s) c.args.desk c.args.text c.args.k (inl (omega (arith, c.if-k-eq0.true)))
 
-pub take_anew-requires-clause-held : goal.take_anew-requires-clause-held
-take_anew-requires-clause-held c =
+pub take_noted-requires-clause-held : goal.take_noted-requires-clause-held
+take_noted-requires-clause-held c =
     let at = c.index-noted-k.result in
     subst (IsHeld (texts_of c.args.self.now)) (sym c.index-noted-k.is) (c.requires.held (c.args.k - 1) at (omega (arith, c.if-k-noted.true, c.if-k-eq0.false)))
 
@@ -27,7 +27,7 @@ returns-then-k-noted c =
     let some : 0 < c.args.k = omega (arith, c.if-k-eq0.false) in
     let within : c.args.k - 1 < length noted = omega (arith, c.if-k-noted.true, c.if-k-eq0.false) in
     let there : slice_get noted (c.args.k - 1) ≡ Some at = slice_get_read noted (length noted) (c.args.k - 1) at refl within c.index-noted-k.is in
-    c.take_anew.ensures (messages_at (texts_of s) noted) (sent c.args.k) (λ files. noted_sent s noted c.args.k at files some there)
+    c.take_noted.ensures (messages_at (texts_of s) noted) (sent c.args.k) (λ files. noted_sent s noted c.args.k at files some there)
 
 pub returns-else-k-noted : goal.returns-else-k-noted
 returns-else-k-noted c =
