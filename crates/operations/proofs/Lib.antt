@@ -7,3 +7,4 @@ pub mod ReadMessages
 pub mod ReadSets
 pub mod SetOf
 pub mod WithName
+pub mod Typed

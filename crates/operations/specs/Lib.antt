@@ -1,3 +1,4 @@
+pub mod Letters
 pub mod NameSet
 pub mod Operation
 pub mod Parts

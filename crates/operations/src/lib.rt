@@ -9,6 +9,7 @@ mod name_set;
 mod name_walk;
 mod op;
 mod reading;
+mod typing;
 mod writing;
 
 pub use kind::{Kind, MAX_INSERT};
@@ -18,4 +19,5 @@ pub use name_set::{MAX_RANGES, NameRange, NameSet};
 pub use name_walk::{NameWalk, named};
 pub use op::{MAX_STAMP, Op};
 pub use reading::{decode, lemma_one_spelling, read_looks, sel_at, selected_at};
+pub use typing::Typing;
 pub use writing::{encode, put_selected, write_looks};
