@@ -13,6 +13,7 @@ use std::alloc::Global;
 
 /// Where a site types letters one after the other: each is an Insert of one byte that hangs on the one before, under the next
 /// number and the next stamp, in the same looks. This project's own.
+#[derive(Drop)]
 pub struct Typing {
     pub text: TextNo,
     pub site: SiteNo,
