@@ -28,6 +28,7 @@ pub mod ShownAt
 pub mod ShownTo
 pub mod Tables
 pub mod Turned
+pub mod Typed
 pub mod Recorded
 pub mod Walked
 pub mod Weighed

@@ -1,7 +1,8 @@
 -- The entry that tells of a run inserted into its gap.
-use Rattle.std.proofs.Common.{◌≡◌, ℕ, ◌+◌, ◌-◌, ◌<◌, ◌≤◌, ◌^◌, false, cond, List, [], ◌∷◌, ◌++◌, Option, Some, None, length, get_or, take, map}
-use Rattle.std.proofs.Common.{refl, sym, ap, ◌∙◌, arith}
+use Rattle.std.proofs.Common.{◌≡◌, ℕ, ◌+◌, ◌-◌, ◌<◌, ◌≤◌, ◌^◌, true, false, cond, inl, inr, List, [], ◌∷◌, ◌++◌, Option, Some, None, length, get_or, take, map}
+use Rattle.std.proofs.Common.{refl, sym, ap, subst, ◌∙◌, arith}
 use Rattle.std.specs.Prelude.{slice_get, IfSome, IsSome}
+use Rattle.std.proofs.lemmas.Bool.{cases_Bool}
 use Rattle.std.proofs.lemmas.List.{map-append, length-append, length-map}
 use Rattle.std.proofs.lemmas.List.Elements.{All-cons, All-nil}
 use Rattle.std.proofs.lemmas.Grind.{flat_map-append}
@@ -14,16 +15,20 @@ use Rattle.list_changes.specs.Changes.{IsOfKind, Makes}
 use Rattle.tree_order.specs.Registers.{Atom}
 use Rattle.piece_list.specs.Piece.{Piece}
 use Rattle.piece_list.specs.Noted.{appearances, SameName, Notes}
-use Rattle.piece_list.specs.Pieces.{chars_of}
+use Rattle.piece_list.specs.Pieces.{chars_of, piece_of}
+use Rattle.piece_list.specs.Placed.{IsPlaced}
 use Rattle.piece_list.specs.Placing.{IsInsertedInGap}
 use Rattle.piece_list.specs.Shown.{AreShownTo, appearance_of}
 use Rattle.piece_list.specs.Spelled.{spelled, names_of_atoms, shown_chars, HasName}
+use Rattle.piece_list.specs.Typed.{AreTypedIn, entries_of, insertions}
+use Rattle.piece_list.specs.declared.run.Run.{Run}
 use Rattle.piece_list.proofs.Gap.{name_only}
 use Rattle.piece_list.proofs.Noted.{told_by, count_tells, parts}
 use Rattle.piece_list.proofs.Positions.{Items, shown_in}
 use Rattle.piece_list.proofs.Shown.{count_chars, count_both, count_cons, count_more, shown_both}
 use Rattle.piece_list.proofs.ShownTo.{name_at, up_to}
 use Rattle.piece_list.proofs.SplitList.{parts_spell}
+use Rattle.piece_list.proofs.Typed.{all_noted, typed_in}
 
 abbrev chars : ℕ × Piece → List Atom
 chars m = chars_of m.1
@@ -121,9 +126,46 @@ module _ (cause : Anchor) (p : Piece) (old new : Items) (steps : ℕ) (insert : 
   room_for_run (Some n) few small count =
       (omega (arith, count_to_first n count), omega (arith, count_to_first n count, run_fits n count))
 
-  pub entered_run : (r : Option ℕ) (note note' : List Change) → IsSome r
+  entered_run : (r : Option ℕ) (note note' : List Change) → IsSome r
       → IfSome r (AreShownTo (spelled new) first)
       → IfSome r (λ n. note' ≡ note ++ record { kind = Insert; beg = n - 1; end = n - 1 + p.len } ∷ [])
       → Notes (IsOfKind Insert) note note' (appearances old) (appearances new)
   entered_run None note note' is count entered = absurd cc
   entered_run (Some n) note note' is count entered = run_noted n note note' count entered
+
+-- ---- a run, whose entries are those of its letters where these rise
+
+module _ (cause : Anchor) (run : Run) (old new : Items) (some : 0 < run.len) where
+  abbrev start : CharName
+  start = record { site = run.site; off = run.off }
+
+  -- the letters were typed in
+  pub typed_entered : (r : Option ℕ) (note note' : List Change) → IsSome r
+      → IsPlaced run.key cause (chars_of (piece_of run)) (spelled old) (spelled new) → IfSome r (AreShownTo (spelled new) start)
+      → IfSome r (λ n. note' ≡ note ++ entries_of run (n - 1)) → run.rising ≡ true
+      → AreTypedIn run.len run cause note note' (spelled old) (spelled new)
+  typed_entered None note note' is placed count entered rises = absurd cc
+  typed_entered (Some n) note note' is placed count entered rises =
+      let letters : entries_of run (n - 1) ≡ insertions (n - 1) run.len = rw rises refl in
+      subst (λ (l : List Change). AreTypedIn run.len run cause note l (spelled old) (spelled new))
+      (sym (entered ∙ ap (λ (l : List Change). note ++ l) letters))
+      (typed_in run cause note (spelled old) (spelled new) n rises some placed count)
+
+  one_entry : (r : Option ℕ) (note note' : List Change) → run.rising ≡ false → IfSome r (λ n. note' ≡ note ++ entries_of run (n - 1))
+      → IfSome r (λ n. note' ≡ note ++ record { kind = Insert; beg = n - 1; end = n - 1 + run.len } ∷ [])
+  one_entry None note note' level entered = tt
+  one_entry (Some n) note note' level entered =
+      let one : entries_of run (n - 1) ≡ record { kind = Insert; beg = n - 1; end = n - 1 + run.len } ∷ [] = rw level refl in
+      entered ∙ ap (λ (l : List Change). note ++ l) one
+
+  -- the note tells what came
+  pub run_entered : (steps : ℕ) (insert : IsInsertedInGap cause (piece_of run) old new steps) (r : Option ℕ) (note note' : List Change)
+      → IsSome r → IsPlaced run.key cause (chars_of (piece_of run)) (spelled old) (spelled new) → IfSome r (AreShownTo (spelled new) start)
+      → IfSome r (λ n. note' ≡ note ++ entries_of run (n - 1))
+      → Notes (IsOfKind Insert) note note' (appearances old) (appearances new)
+  run_entered steps insert r note note' is placed count entered = elim (cases_Bool run.rising) [
+    | inl rises ↦
+        all_noted run.len run cause note note' (spelled old) (spelled new) (typed_entered r note note' is placed count entered rises)
+    | inr level ↦
+        entered_run cause (piece_of run) old new steps insert some refl r note note' is count (one_entry r note note' level entered)
+  ]

@@ -52,7 +52,7 @@ chars_on p n (c ∷ cs) =
     ∙ ap (λ (ks : List Atom). char_of p c ∷ ks) (chars_on p n cs)
 
 -- a piece's characters are those of its front and those of the rest
-chars_of-split : (p : Piece) (n : ℕ) → n ≤ p.len
+pub chars_of-split : (p : Piece) (n : ℕ) → n ≤ p.len
     → chars_of p ≡ chars_of (front_of n p) ++ chars_of (rest_of n p)
 chars_of-split p n le =
     let name : ℕ → CharName = λ (off : ℕ). record { site = p.site; off = off } in

@@ -11,4 +11,5 @@ pub mod RunSplits
 pub mod Shown
 pub mod Spelled
 pub mod Tables
+pub mod Typed
 pub mod Values

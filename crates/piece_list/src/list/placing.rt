@@ -2,7 +2,7 @@
 
 ghost use Rattle.std.specs.Prelude.{◌≡◌, ℕ, ◌+◌, ◌-◌, ◌<◌, ◌≤◌, List, [], ◌∷◌, ◌++◌, length, OnOk, OnErr};
 ghost use Rattle.std.specs.Prelude.{IfSome, IsSome, vec_len, vec_capacity};
-ghost use Rattle.std.specs.Prelude.{Some as Just, None as Nothing, ◌^◌};
+ghost use Rattle.std.specs.Prelude.{Some as Just, None as Nothing, ◌^◌, true};
 ghost use Rattle.looks.specs.Refusal.{RefusedForMemoryAlone};
 ghost use Rattle.char_files.specs.CharName.{CharName};
 ghost use Rattle.operations.specs.NameSet.{IsIn};
@@ -17,6 +17,7 @@ ghost use Rattle.piece_list.specs.Placing.{AreOrAreJoined, HasAnchor, compared, 
 ghost use Rattle.piece_list.specs.Placing.{IsCounted, IsNext, IsSkip, IsInsertedInGap, last_look};
 ghost use Rattle.piece_list.specs.Spelled.{spelled, shown_chars, ArePieces, HasName};
 ghost use Rattle.piece_list.specs.Tables.{table_of};
+ghost use Rattle.piece_list.specs.Typed.{AreTypedIn, entries_of, insertions};
 ghost use Rattle.list_changes.specs.Changes.{IsOfKind};
 ghost use Rattle.list_changes.specs.declared.change.ChangeKind.TheVariants.{Insert};
 
@@ -153,23 +154,50 @@ impl Pieces {
     }
 }
 
+// Enters in the note, which has room, that characters came in one after the other, from this place on.
+fn note_each(note: &mut Vec<Change>, beg: u64, len: u32)
+    requires room { vec_len note.old + len ≤ vec_capacity note.old }
+    requires small { beg + len < 2 ^ 64 }
+    ensures { note.new.items ≡ note.old.items ++ insertions beg len }
+{
+    for n in 0..len {
+        let beg = beg + u64::from(n);
+        let end = beg + 1;
+        note.push_reserved(Change {
+            kind: ChangeKind::Insert,
+            beg,
+            end,
+        });
+    }
+}
+
+// How many entries a note gains by a run: one for each letter of a row, one for what an Insert brings.
+fn entry_count(run: &Run) -> usize
+    ensures { result ≡ length (entries_of run.now 0) }
+{
+    if run.rising { run.len as usize } else { 1 }
+}
+
 // Enters a run in the note, which has room: so many characters are shown up to its first one.
-fn note_run(note: &mut Vec<Change>, to: Option<u64>, len: u32)
-    requires room { vec_len note.old < vec_capacity note.old }
+fn note_run(note: &mut Vec<Change>, to: Option<u64>, run: &Run)
+    requires room { vec_len note.old + length (entries_of run.now 0) ≤ vec_capacity note.old }
     requires here { IsSome to }
     requires some { IfSome to (λ n. 0 < n) }
-    requires small { IfSome to (λ n. n + len < 2 ^ 64) }
-    ensures { IfSome to (λ n. note.new.items
-        ≡ note.old.items ++ record { kind = Insert; beg = n - 1; end = n - 1 + len } ∷ []) }
+    requires small { IfSome to (λ n. n + run.now.len < 2 ^ 64) }
+    ensures { IfSome to (λ n. note.new.items ≡ note.old.items ++ entries_of run.now (n - 1)) }
 {
-    match to {
-        Some(to) => {
-            let (kind, beg) = (ChangeKind::Insert, to - 1);
-            let end = beg + u64::from(len);
-            note.push_reserved(Change { kind, beg, end });
-        }
-        None => unreachable!(),
+    let Some(to) = to else { unreachable!() };
+    let beg = to - 1;
+    if run.rising {
+        note_each(note, beg, run.len);
+        return;
     }
+    let end = beg + u64::from(run.len);
+    note.push_reserved(Change {
+        kind: ChangeKind::Insert,
+        beg,
+        end,
+    });
 }
 
 impl PieceList {
@@ -220,7 +248,7 @@ impl PieceList {
         self.place_noting(run, cause, &mut unread)
     }
 
-    /// `place`, which notes what comes: one insert.
+    /// `place`, which notes what comes: one insert; of a row of letters, whose keys rise, one of each.
     ///
     /// Refused `OutOfMemory` alone, and then the note's entries stay, too.
     pub fn place_noting(
@@ -241,10 +269,12 @@ impl PieceList {
             × (note.new.items ≡ note.old.items)) }
         ensures noted { OnOk result (Notes (IsOfKind Insert)
             note.old.items note.new.items (appearances self.old.items) (appearances self.new.items)) }
+        ensures typed { OnOk result (run.rising ≡ true → AreTypedIn run.len run cause
+            note.old.items note.new.items (spelled self.old.items) (spelled self.new.items)) }
     {
         let (site, off, len) = (run.site, run.off, run.len);
         let found = self.locate_cause(cause);
-        note.reserve(1)?;
+        note.reserve(entry_count(&run))?;
         self.pieces.reserve(2)?;
         self.pieces.reserve_names(site, off + len)?;
         let end = self.pieces.end_at(found);
@@ -252,7 +282,7 @@ impl PieceList {
         self.pieces.insert(last, &run);
         self.lemma_shown_is_countable();
         match Name::new(site, off) {
-            Some(first) => note_run(note, self.shown_to(first), len),
+            Some(first) => note_run(note, self.shown_to(first), &run),
             None => unreachable!(),
         }
         Ok(())

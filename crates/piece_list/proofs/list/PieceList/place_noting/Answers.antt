@@ -1,5 +1,5 @@
 use Rattle.std.proofs.Common.{◌≡◌, ◌++◌, ℕ, List, Option, ap, sym, subst, refl, ◌∙◌}
-use Rattle.std.specs.Prelude.{IfSome}
+use Rattle.std.specs.Prelude.{IfSome, IsSome}
 use Rattle.char_files.specs.CharName.{CharName}
 use Rattle.list_changes.specs.Changes.{IsOfKind}
 use Rattle.list_changes.specs.declared.change.Change.{Change}
@@ -11,7 +11,8 @@ use Rattle.piece_list.specs.Pieces.{piece_of}
 use Rattle.piece_list.specs.Placing.{compared, IsAnchorSpot, IsParted, IsPartedAt, IsInsertedInGap, IsSkip}
 use Rattle.piece_list.specs.Shown.{AreShownTo}
 use Rattle.piece_list.specs.Spelled.{spelled, HasName}
-use Rattle.piece_list.proofs.NotedRun.{first_is_here, room_for_run, entered_run}
+use Rattle.piece_list.specs.Typed.{AreTypedIn}
+use Rattle.piece_list.proofs.NotedRun.{first_is_here, room_for_run, run_entered, typed_entered}
 use Rattle.piece_list.proofs.Placing.{parted_spells, skip_part, insert_in_gap, placed_in_gap}
 use Rattle.piece_list.proofs.Positions.{Items}
 use Rattle.piece_list.proofs.list.PieceList.place_noting.Goals as goal
@@ -69,13 +70,19 @@ count c =
     subst (λ (name : CharName). IfSome c.shown_to.result (AreShownTo (spelled c.insert.new.self.items) name))
     c.in-Some.ensures.value c.shown_to.ensures.count
 
-pub note_run-requires-clause-here : goal.note_run-requires-clause-here
-note_run-requires-clause-here c =
-    let at = goal.at.note_run-requires-clause-here c in
-    let insert = (insert_is at.After-insert (parted_at at.After-end_at-end)).0 in
+-- the first name is found
+is_found : (c : After-shown_to)
+    → IsInsertedInGap c.args.cause (piece_of c.args.run) c.args.self.now.items c.insert.new.self.items c.skip-last.new.steps
+    → IsSome c.shown_to.result
+is_found c insert =
     c.shown_to.ensures.here.1 (subst (HasName (spelled c.insert.new.self.items)) (sym c.in-Some.ensures.value)
     (first_is_here c.args.cause (piece_of c.args.run) c.args.self.now.items c.insert.new.self.items
     c.skip-last.new.steps insert c.requires.run.0 refl))
+
+pub note_run-requires-clause-here : goal.note_run-requires-clause-here
+note_run-requires-clause-here c =
+    let at = goal.at.note_run-requires-clause-here c in
+    is_found at.After-shown_to (insert_is at.After-insert (parted_at at.After-end_at-end)).0
 
 pub note_run-requires-clause-some : goal.note_run-requires-clause-some
 note_run-requires-clause-some c =
@@ -83,7 +90,7 @@ note_run-requires-clause-some c =
     let insert = (insert_is at.After-insert (parted_at at.After-end_at-end)).0 in
     (room_for_run c.args.cause (piece_of c.args.run) c.args.self.now.items c.insert.new.self.items
     c.skip-last.new.steps insert c.requires.run.0 refl c.shown_to.result c.requires.run.1
-    c.lemma_shown_is_countable.ensures (count c)).0
+    c.lemma_shown_is_countable.ensures (count at.After-shown_to)).0
 
 pub note_run-requires-clause-small : goal.note_run-requires-clause-small
 note_run-requires-clause-small c =
@@ -91,7 +98,7 @@ note_run-requires-clause-small c =
     let insert = (insert_is at.After-insert (parted_at at.After-end_at-end)).0 in
     (room_for_run c.args.cause (piece_of c.args.run) c.args.self.now.items c.insert.new.self.items
     c.skip-last.new.steps insert c.requires.run.0 refl c.shown_to.result c.requires.run.1
-    c.lemma_shown_is_countable.ensures (count c)).1
+    c.lemma_shown_is_countable.ensures (count at.After-shown_to)).1
 
 pub returns-clause-steps : goal.returns-clause-steps
 returns-clause-steps c =
@@ -105,15 +112,20 @@ returns-clause-placed c =
     placed_in_gap c.args.self.now.items c.end_at-end.new.self.items c.insert.new.self.items c.args.cause (piece_of c.args.run)
     c.skip-last.new.steps c.insert.ensures.pieces gap whole
 
+pub returns-clause-typed : goal.returns-clause-typed
+returns-clause-typed c = λ rises.
+    let at = (goal.at.returns-clause-typed c).After-shown_to in
+    subst (λ (note : List Change). AreTypedIn c.args.run.len c.args.run c.args.cause note c.note_run.new.note.items
+    (spelled c.args.self.now.items) (spelled c.insert.new.self.items)) c.reserve.ensures.items
+    (typed_entered c.args.cause c.args.run c.args.self.now.items c.insert.new.self.items c.requires.run.0
+    c.shown_to.result c.reserve.new.self.items c.note_run.new.note.items
+    (is_found at (returns-clause-steps c)) (returns-clause-placed c) (count at) c.note_run.ensures rises)
+
 pub returns-clause-noted : goal.returns-clause-noted
 returns-clause-noted c =
-    let insert = returns-clause-steps c in
+    let at = (goal.at.returns-clause-noted c).After-shown_to in
     subst (λ (note : List Change). Notes (IsOfKind Insert) note c.note_run.new.note.items
     (appearances c.args.self.now.items) (appearances c.insert.new.self.items)) c.reserve.ensures.items
-    (entered_run c.args.cause (piece_of c.args.run) c.args.self.now.items c.insert.new.self.items
-    c.skip-last.new.steps insert c.requires.run.0 refl c.shown_to.result
-    c.reserve.new.self.items c.note_run.new.note.items
-    (c.shown_to.ensures.here.1 (subst (HasName (spelled c.insert.new.self.items)) (sym c.in-Some.ensures.value)
-    (first_is_here c.args.cause (piece_of c.args.run) c.args.self.now.items c.insert.new.self.items
-    c.skip-last.new.steps insert c.requires.run.0 refl)))
-    (count c.before) c.note_run.ensures)
+    (run_entered c.args.cause c.args.run c.args.self.now.items c.insert.new.self.items c.requires.run.0
+    c.skip-last.new.steps (returns-clause-steps c) c.shown_to.result c.reserve.new.self.items c.note_run.new.note.items
+    (is_found at (returns-clause-steps c)) (returns-clause-placed c) (count at) c.note_run.ensures)
