@@ -9,4 +9,5 @@ pub mod Runs
 pub mod Spelling
 pub mod Stretch
 pub mod Taking
+pub mod TypedIn
 pub mod Visible

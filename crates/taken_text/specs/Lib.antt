@@ -1,3 +1,4 @@
+pub mod Letters
 pub mod Named
 pub mod Noted
 pub mod Shown
