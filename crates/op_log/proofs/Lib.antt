@@ -1,9 +1,11 @@
 pub mod Files
 pub mod Finding
 pub mod Joined
+pub mod Letters
 pub mod Lists
 pub mod Logged
 pub mod Pushed
+pub mod PushedLetters
 pub mod Rooms
 pub mod Sites
 pub mod Stretches

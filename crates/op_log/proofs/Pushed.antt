@@ -51,7 +51,7 @@ same_greatest f ops op site apart =
     omega arith
 
 -- and what its own adds
-own_greatest : (f : Operation → ℕ) (ops : List Operation) (op : Operation)
+pub own_greatest : (f : Operation → ℕ) (ops : List Operation) (op : Operation)
     → greatest (of_site op.site f) (with_one ops op) ≡ max (f op) (greatest (of_site op.site f) ops)
 own_greatest f ops op =
     let push = greatest-push (of_site op.site f) ops op in

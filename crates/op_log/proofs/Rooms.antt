@@ -1,11 +1,10 @@
 -- The room that a log has for one operation more.
-use Rattle.std.proofs.Common.{◌≡◌, ℕ, ◌<◌, ◌≤◌, nat_eq, List, Option, Some, None, option_map, refl, sym, ap, subst}
+use Rattle.std.proofs.Common.{◌≡◌, ℕ, ◌<◌, ◌≤◌, nat_eq, Option, Some, None, option_map, refl, ap}
 use Rattle.std.proofs.Common.{◌∙◌, arith}
 use Rattle.std.specs.Option.{option_map_or}
 use Rattle.std.specs.Map.{lookup}
 use Rattle.std.proofs.lemmas.Map.Made.{lookup-map_values}
-use Rattle.operations.specs.Operation.{Operation}
-use Rattle.op_log.specs.Seen.{room_of, HasRoom}
+use Rattle.op_log.specs.Seen.{LogSeen, OpsSeen, room_of, HasRoom, HasRoomFor}
 use Rattle.op_log.specs.Tables.{SiteSeen, Tables, table_of, rooms_of, unknown}
 
 room_by : (found : Option SiteSeen)
@@ -21,12 +20,25 @@ room_told tables site =
     (lookup-map_values (λ (t : SiteSeen). t.room) (nat_eq site) tables)
     ∙ room_by (lookup (nat_eq site) tables)
 
+-- what a log has room for, by its list and its tables
+abbrev pub log_seen : OpsSeen → Tables → LogSeen
+log_seen list tables = record {
+  ops = list.items;
+  room = list.room;
+  runs = list.runs;
+  letters = list.letters;
+  rooms = rooms_of tables;
+}
+
 -- where the list and the site's table have room, a log has room for the site
-pub has_room : (ops : List Operation) (room : ℕ) (tables : Tables) (site : ℕ) → 0 < room
-    → 0 < (table_of tables site).room
-    → HasRoom (record { ops = ops; room = room; rooms = rooms_of tables }) site
-has_room ops room tables site free ok =
-    (free, subst (λ (n : ℕ). 0 < n) (sym (room_told tables site)) ok)
+pub has_room : (list : OpsSeen) (tables : Tables) (site : ℕ) → 0 < list.room → 0 < (table_of tables site).room
+    → HasRoom (log_seen list tables) site
+has_room list tables site free ok = (free, omega (arith, room_told tables site, ok))
+
+-- so it has for letters
+pub has_room_for : (list : OpsSeen) (tables : Tables) (site len : ℕ) → (0 < list.runs) × (len ≤ list.letters)
+    → len ≤ (table_of tables site).room → HasRoomFor (log_seen list tables) site len
+has_room_for list tables site len free ok = (free.0, free.1, omega (arith, room_told tables site, ok))
 
 -- where no table has less room than it had, no site has
 pub rooms_kept : (tables tables' : Tables)

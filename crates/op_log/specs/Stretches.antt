@@ -10,6 +10,7 @@ use Rattle.char_files.specs.declared.name.Anchor.{Anchor}
 use Rattle.char_files.specs.declared.name.Anchor.TheVariants.{At, Root}
 use Rattle.operations.specs.Operation.{Operation, insert, delete}
 use Rattle.operations.specs.Spelling.{HasSpelling}
+use Rattle.operations.specs.declared.typing.Typing.{Typing}
 use Rattle.op_log.specs.declared.TheConstants.{MAX_OPS}
 use Rattle.op_log.specs.declared.op_list.TheConstants.{MAX_LOOKS}
 use Rattle.op_log.specs.declared.one_delete.OneDelete.{OneDelete}
@@ -35,6 +36,15 @@ abbrev pub room_in : Vec Stretch Global → Vec ℕ Global → Vec ℕ Global �
 room_in stretches firsts bytes looks singles len =
     min (min (min (room_of stretches) (room_of firsts)) (min (room_of bytes) (min (vec_capacity looks) MAX_LOOKS - vec_len looks)))
     (min (room_of singles) (MAX_OPS - len))
+
+-- for how many runs of letters there is room
+abbrev pub runs_in : Vec Stretch Global → Vec ℕ Global → Vec Looks Global → ℕ
+runs_in stretches firsts looks =
+    min (min (room_of stretches) (room_of firsts)) (min (vec_capacity looks) MAX_LOOKS - vec_len looks)
+
+-- and for how many letters, and numbers
+abbrev pub letters_in : Vec ℕ Global → (len : ℕ) → ℕ
+letters_in bytes len = min (room_of bytes) (MAX_OPS - len)
 
 -- the anchor of these numbers: a name; site 0 is the root's
 abbrev pub anchor_of : (site off : ℕ) → Anchor
@@ -68,6 +78,16 @@ typed_op s r k = letter s.looks r k (slice_index_or s.bytes (r.from + k) 0)
 abbrev pub typed_ops : Shared → TypedRun → ℕ → List Operation
 typed_ops s r zero = []
 typed_ops s r (suc n) = typed_ops s r n ++ typed_op s r n ∷ []
+
+-- the site types on where the first n letters of a run end
+pub record GoesOn (looks : List Looks) (r : TypedRun) (n : ℕ) (t : Typing) : Type 0 where
+  pub text : t.text ≡ r.text
+  pub site : t.site ≡ r.site
+  pub seq : t.seq ≡ r.seq + n
+  pub stamp : t.stamp ≡ r.stamp + n
+  pub at : t.at ≡ r.at + n
+  pub cause : t.cause ≡ cause_of r n
+  pub own_looks : t.looks ≡ looks_in looks r
 
 -- the Delete of one character
 abbrev pub one_delete : OneDelete → Operation

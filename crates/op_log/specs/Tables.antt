@@ -1,5 +1,5 @@
 -- The tables that say where a site's operations stand.
-use Rattle.std.specs.Prelude.{◌≡◌, ℕ, ◌-◌, ◌<◌, ◌≤◌, nat_eq, List, [], length, map, slice_get, get_or, Some}
+use Rattle.std.specs.Prelude.{◌≡◌, ℕ, zero, suc, ◌+◌, ◌-◌, ◌<◌, ◌≤◌, nat_eq, List, [], ◌∷◌, ◌++◌, length, map, slice_get, get_or, Some}
 use Rattle.std.specs.Option.{option_map_or}
 use Rattle.std.specs.Map.{lookup}
 use Rattle.op_log.specs.declared.site_log.Entry.{Entry}
@@ -27,6 +27,15 @@ EndBy entries off n = (k : ℕ) (d : Entry) → k < n → (get_or entries k d).e
 -- the entry at this slot ends its site's file after the offset
 abbrev pub EndsPast : List Entry → ℕ → ℕ → Type 0
 EndsPast entries off slot = (slot < length entries) × ((d : Entry) → off < (get_or entries slot d).end)
+
+-- the entry of the k-th letter that a site types after the one of this entry
+abbrev pub letter_entry : Entry → ℕ → Entry
+letter_entry first k = record { stamp = first.stamp + k; end = first.end + k; index = first.index + k }
+
+-- the entries of the first n letters from that one on
+abbrev pub letter_entries : Entry → ℕ → List Entry
+letter_entries first zero = []
+letter_entries first (suc n) = letter_entries first n ++ letter_entry first n ∷ []
 
 -- tables by their sites' numbers
 abbrev pub Tables : Type 0

@@ -1,12 +1,14 @@
 ghost use Rattle.std.specs.Prelude.{◌≡◌, ◌+◌, ◌≤◌, ◌↔◌, [], ◌∷◌, ◌++◌, length, IfSome, IsSome, OnOk};
-ghost use Rattle.std.specs.Prelude.{◌≢◌, ◌<◌, AllPairs, Contains, IfOk, IsTrue, MatchBool, Some as Just, slice_get, ◌==◌, if◌then◌else◌};
+ghost use Rattle.std.specs.Prelude.{◌≢◌, ◌<◌, All, AllPairs, Contains, IfOk, IsTrue, MatchBool, Some as Just, slice_get, ◌==◌, if◌then◌else◌};
 ghost use Rattle.looks.specs.Refusal.{RefusedForMemoryAlone};
+ghost use Rattle.operations.specs.Letters.{letters};
 ghost use Rattle.operations.specs.Operation.{Operation, appended_len, Begins};
+ghost use Rattle.operations.specs.Spelling.{HasSpelling};
 ghost use Rattle.tree_order.specs.Tree.{IsInsertOf};
 ghost use Rattle.set_laws.specs.Fronts.{front_of, file_len, greatest_stamp};
 ghost use Rattle.set_laws.specs.Fronts.{IsHeld, IsHere, AreSites};
 ghost use Rattle.set_laws.specs.Sets.{AreIdentified, AreHeldToTheFront, IsInConflict};
-ghost use Rattle.op_log.specs.Seen.{HasRoom, KeepsRoom};
+ghost use Rattle.op_log.specs.Seen.{HasRoom, HasRoomFor, KeepsRoom};
 ghost use Rattle.op_log.specs.Logged.{first_sites};
 
 use crate::op_list::OpList;
@@ -14,7 +16,7 @@ use crate::site_log::Entry;
 use crate::site_tables::SiteTables;
 use char_files::{MAX_FILE, Name, SiteNo};
 use looks::Refusal;
-use operations::{Kind, MAX_INSERT, MAX_STAMP, Op};
+use operations::{Kind, MAX_INSERT, MAX_STAMP, Op, Typing};
 use std::alloc::Global;
 use std::marker::Model;
 
@@ -40,6 +42,8 @@ impl Model for Log {
     ghost view = { λ l. record {
       ops = l.ops.items;
       room = l.ops.room;
+      runs = l.ops.runs;
+      letters = l.ops.letters;
       rooms = rooms_of l.sites;
     } };
 
@@ -275,5 +279,40 @@ impl Log {
         self.ops.push(op);
         self.sites.push(site, entry);
         self.stamp = entry.stamp.max(self.stamp);
+    }
+
+    /// Makes room for so many letters more that this site types one after the other: pushing as many takes no memory.
+    ///
+    /// Refused `OutOfMemory` alone, which is also where there would be more than 2^32 operations. The operations and the room that
+    /// was there stay in either case.
+    pub fn reserve_letters(&mut self, site: SiteNo, len: usize) -> Result<(), Refusal>
+        ensures ok { OnOk result (HasRoomFor self.new site len) }
+        ensures errors { RefusedForMemoryAlone result }
+        ensures ops { self.new.ops ≡ self.old.ops }
+        ensures keeps { KeepsRoom self.old self.new }
+    {
+        self.ops.reserve_letters(len)?;
+        self.sites.reserve_many(site, len)
+    }
+
+    /// Takes in letters of a site, its next operations, for which there is room. The first one begins where its site's file ends.
+    pub fn push_letters(&mut self, typing: &Typing, bytes: &[u8])
+        requires reserved { HasRoomFor self.old typing.now.site (length bytes.now) }
+        requires next { typing.now.seq ≡ front_of self.old.ops typing.now.site + 1 }
+        requires begins { typing.now.at ≡ file_len self.old.ops typing.now.site }
+        requires spelled { All HasSpelling (letters typing.now bytes.now) }
+        ensures { self.new.ops ≡ self.old.ops ++ letters typing.now bytes.now }
+    {
+        if bytes.is_empty() {
+            return;
+        }
+        let first = Entry {
+            stamp: typing.stamp,
+            end: typing.at + 1,
+            index: self.ops.len() as u32,
+        };
+        self.ops.push_letters(typing, bytes);
+        self.sites.push_letters(typing.site, first, bytes.len());
+        self.stamp = (typing.stamp + (bytes.len() as u64 - 1)).max(self.stamp);
     }
 }

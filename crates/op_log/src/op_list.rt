@@ -1,7 +1,9 @@
 ghost use Rattle.std.specs.Prelude.{◌≡◌, ℕ, ◌+◌, ◌-◌, ◌<◌, ◌≤◌, ◌↔◌, [], ◌∷◌, ◌++◌, length, slice_get, slice_index_or};
-ghost use Rattle.std.specs.Prelude.{All, IfOk, IfSome, IsTrue, OnOk, Some as Just};
+ghost use Rattle.std.specs.Prelude.{All, IfOk, IfSome, IsTrue, OnOk, Some as Just, vec_len, vec_capacity};
 ghost use Rattle.looks.specs.Refusal.{RefusedForMemoryAlone};
+ghost use Rattle.operations.specs.Letters.{letters};
 ghost use Rattle.operations.specs.Operation.{insert};
+ghost use Rattle.operations.specs.Spelling.{HasSpelling};
 ghost use Rattle.op_log.specs.Found.{found_op, IsSound};
 ghost use Rattle.op_log.specs.Stretches.{anchor_of, one_delete};
 ghost use Rattle.op_log.specs.declared.TheConstants.{MAX_OPS};
@@ -10,11 +12,12 @@ use crate::MAX_OPS;
 use crate::found::{Found, are_same, identity_of, made};
 use crate::one_delete::{OneDelete, one_delete_in};
 use crate::stretch::{
-    Stretch, TypedRun, lengthen, letter_in, next_byte, number_of, push_deleted, push_single,
+    Stretch, TypedRun, goes_on, lengthen, lengthen_by, letter_in, next_byte, number_of, numbers_of,
+    push_deleted, push_single,
 };
 use char_files::SiteNo;
 use looks::{Looks, Refusal};
-use operations::Op;
+use operations::{Op, Typing};
 use std::alloc::Global;
 use std::marker::Model;
 
@@ -38,7 +41,7 @@ pub(crate) struct OpList {
 impl Model for OpList {
     ghost use Rattle.std.specs.Prelude.{◌-◌, ◌≤◌, min, vec_len, vec_capacity};
     ghost use Rattle.op_log.specs.Seen.{OpsSeen};
-    ghost use Rattle.op_log.specs.Stretches.{AreStretches, all_ops, room_in, shared};
+    ghost use Rattle.op_log.specs.Stretches.{AreStretches, all_ops, letters_in, room_in, runs_in, shared};
     ghost use Rattle.op_log.specs.declared.TheConstants.{MAX_OPS};
     ghost use Rattle.op_log.specs.declared.op_list.TheConstants.{MAX_LOOKS};
 
@@ -48,6 +51,8 @@ impl Model for OpList {
       looks = l.looks.items;
       items = all_ops (shared l.bytes.items l.looks.items l.singles.items) l.stretches.items;
       room = room_in l.stretches l.firsts l.bytes l.looks l.singles l.len;
+      runs = runs_in l.stretches l.firsts l.looks;
+      letters = letters_in l.bytes l.len;
     } };
 
     ghost invariant = { λ l.
@@ -76,6 +81,16 @@ fn slot_of(firsts: &[u32], at: usize) -> usize
     low
 }
 
+// Puts bytes at the end. There is room.
+fn append(bytes: &mut Vec<u8>, more: &[u8])
+    requires { vec_len bytes.old + length more.now ≤ vec_capacity bytes.old }
+    ensures { bytes.new.items ≡ bytes.old.items ++ more.now }
+{
+    if bytes.extend_from_slice(more).is_err() {
+        unreachable!();
+    }
+}
+
 impl OpList {
     pub(crate) fn new(alloc: Global) -> OpList
         ensures { result.items ≡ [] }
@@ -98,6 +113,7 @@ impl OpList {
     pub(crate) fn len(&self) -> usize
         ensures value { result ≡ length self.now.items }
         ensures few { length self.now.items + self.now.room ≤ MAX_OPS }
+        ensures few_letters { length self.now.items + self.now.letters ≤ MAX_OPS }
     {
         self.len
     }
@@ -108,6 +124,8 @@ impl OpList {
         ensures errors { RefusedForMemoryAlone result }
         ensures items { self.new.items ≡ self.old.items }
         ensures room { self.old.room ≤ self.new.room }
+        ensures runs { self.old.runs ≤ self.new.runs }
+        ensures letters { self.old.letters ≤ self.new.letters }
     {
         Refusal::within_memory(self.len + 1, MAX_OPS)?;
         Refusal::within_memory(self.looks.len() + 1, MAX_LOOKS)?;
@@ -116,6 +134,25 @@ impl OpList {
         self.bytes.reserve(1)?;
         self.looks.reserve(1)?;
         self.singles.reserve(1)?;
+        Ok(())
+    }
+
+    // Makes room for so many letters more that are typed one after the other. Refused `OutOfMemory` alone, which is also where there
+    // would be more than 2^32 operations.
+    pub(crate) fn reserve_letters(&mut self, len: usize) -> Result<(), Refusal>
+        ensures ok { OnOk result ((0 < self.new.runs) × (len ≤ self.new.letters)) }
+        ensures errors { RefusedForMemoryAlone result }
+        ensures items { self.new.items ≡ self.old.items }
+        ensures room { self.old.room ≤ self.new.room }
+        ensures runs { self.old.runs ≤ self.new.runs }
+        ensures letters { self.old.letters ≤ self.new.letters }
+    {
+        Refusal::within_memory(self.len.saturating_add(len), MAX_OPS)?;
+        Refusal::within_memory(self.looks.len() + 1, MAX_LOOKS)?;
+        self.stretches.reserve(1)?;
+        self.firsts.reserve(1)?;
+        self.bytes.reserve(len)?;
+        self.looks.reserve(1)?;
         Ok(())
     }
 
@@ -200,6 +237,63 @@ impl OpList {
         match one_delete_in(&op) {
             Some(one) => self.push_deleted(&op, one),
             None => self.push_single(op),
+        }
+    }
+
+    // Puts letters at the end that go on where the last run ends; `false` where they don't.
+    fn go_on_with(&mut self, typing: &Typing, bytes: &[u8]) -> bool
+        requires some { 0 < length bytes.now }
+        requires room { length bytes.now ≤ self.old.letters }
+        requires spelled { All HasSpelling (letters typing.now bytes.now) }
+        ensures goes_on { IsTrue result → self.new.items ≡ self.old.items ++ letters typing.now bytes.now }
+        ensures otherwise { ¬ IsTrue result → self.new ≡ self.old }
+    {
+        if !goes_on(&self.stretches, &self.looks, typing) {
+            return false;
+        }
+        append(&mut self.bytes, bytes);
+        lengthen_by(&mut self.stretches, bytes.len());
+        self.len += bytes.len();
+        true
+    }
+
+    // Puts letters at the end that begin a run.
+    fn begin_with(&mut self, typing: &Typing, bytes: &[u8])
+        requires some { 0 < length bytes.now }
+        requires runs { 0 < self.old.runs }
+        requires room { length bytes.now ≤ self.old.letters }
+        requires spelled { All HasSpelling (letters typing.now bytes.now) }
+        ensures { self.new.items ≡ self.old.items ++ letters typing.now bytes.now }
+    {
+        let (cause_site, cause_off) = numbers_of(typing.cause);
+        let run = TypedRun {
+            stamp: typing.stamp,
+            from: self.bytes.len() as u32,
+            seq: typing.seq,
+            at: typing.at,
+            looks: number_of(&mut self.looks, &typing.looks),
+            len: bytes.len() as u32,
+            cause_off,
+            cause_site,
+            text: typing.text,
+            site: typing.site,
+        };
+        append(&mut self.bytes, bytes);
+        self.stretches.push_reserved(Stretch::Typed(run));
+        self.firsts.push_reserved(self.len as u32);
+        self.len += bytes.len();
+    }
+
+    // Puts letters at the end.
+    pub(crate) fn push_letters(&mut self, typing: &Typing, bytes: &[u8])
+        requires some { 0 < length bytes.now }
+        requires runs { 0 < self.old.runs }
+        requires room { length bytes.now ≤ self.old.letters }
+        requires spelled { All HasSpelling (letters typing.now bytes.now) }
+        ensures { self.new.items ≡ self.old.items ++ letters typing.now bytes.now }
+    {
+        if !self.go_on_with(typing, bytes) {
+            self.begin_with(typing, bytes);
         }
     }
 

@@ -3,7 +3,7 @@ ghost use Rattle.std.specs.Prelude.{None as Nothing};
 ghost use Rattle.std.specs.Option.{option_map};
 ghost use Rattle.std.specs.List.Sorted.{IsNonDecreasingBy};
 ghost use Rattle.looks.specs.Refusal.{RefusedForMemoryAlone};
-ghost use Rattle.op_log.specs.Tables.{end_of, EndBy, EndsPast, IsFirstPast};
+ghost use Rattle.op_log.specs.Tables.{end_of, letter_entries, EndBy, EndsPast, IsFirstPast};
 
 use char_files::MAX_FILE;
 use looks::Refusal;
@@ -145,7 +145,17 @@ impl SiteLog {
         ensures entries { self.new.entries ≡ self.old.entries }
         ensures room { self.old.room ≤ self.new.room }
     {
-        self.entries.reserve(1)?;
+        self.reserve_many(1)
+    }
+
+    // Makes room for so many operations more. Refused `OutOfMemory` alone.
+    pub(crate) fn reserve_many(&mut self, len: usize) -> Result<(), Refusal>
+        ensures ok { OnOk result (len ≤ self.new.room) }
+        ensures errors { RefusedForMemoryAlone result }
+        ensures entries { self.new.entries ≡ self.old.entries }
+        ensures room { self.old.room ≤ self.new.room }
+    {
+        self.entries.reserve(len)?;
         Ok(())
     }
 
@@ -155,7 +165,28 @@ impl SiteLog {
         requires few { length self.old.entries + 1 < 2 ^ 32 }
         requires end { entry.end ≤ MAX_FILE }
         ensures entries { self.new.entries ≡ self.old.entries ++ entry ∷ [] }
+        ensures room { self.new.room + 1 ≡ self.old.room }
     {
         self.entries.push_reserved(entry);
+    }
+
+    // Enters so many letters, each of which has the number, the stamp and the place after the one before. This is the first one's
+    // entry.
+    pub(crate) fn push_letters(&mut self, first: Entry, len: usize)
+        requires some { 0 < len }
+        requires room { len ≤ self.old.room }
+        requires few { length self.old.entries + len < 2 ^ 32 }
+        requires stamp { first.stamp + len ≤ 2 ^ 64 }
+        requires end { first.end + len ≤ MAX_FILE + 1 }
+        requires index { first.index + len ≤ 2 ^ 32 }
+        ensures entries { self.new.entries ≡ self.old.entries ++ letter_entries first len }
+    {
+        for k in 0..len {
+            self.push(Entry {
+                stamp: first.stamp + k as u64,
+                end: first.end + k as u32,
+                index: first.index + k as u32,
+            });
+        }
     }
 }

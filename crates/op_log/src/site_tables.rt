@@ -3,7 +3,7 @@ ghost use Rattle.std.specs.Prelude.{slice_get, OnOk, None as Nothing};
 ghost use Rattle.std.specs.Option.{option_map};
 ghost use Rattle.std.specs.List.Sorted.{IsNonDecreasingBy};
 ghost use Rattle.looks.specs.Refusal.{RefusedForMemoryAlone};
-ghost use Rattle.op_log.specs.Tables.{end_of, front_in, table_of, IsFirstPast};
+ghost use Rattle.op_log.specs.Tables.{end_of, front_in, letter_entries, table_of, IsFirstPast};
 
 use crate::site_log::{Entry, SiteLog};
 use char_files::{MAX_FILE, Name, SiteNo};
@@ -88,11 +88,21 @@ impl SiteTables {
         ensures entries { (other : ℕ) → (table_of self.new other).entries ≡ (table_of self.old other).entries }
         ensures rooms { (other : ℕ) → (table_of self.old other).room ≤ (table_of self.new other).room }
     {
+        self.reserve_many(site, 1)
+    }
+
+    // The same for so many operations.
+    pub(crate) fn reserve_many(&mut self, site: SiteNo, len: usize) -> Result<(), Refusal>
+        ensures ok { OnOk result (len ≤ (table_of self.new site).room) }
+        ensures errors { RefusedForMemoryAlone result }
+        ensures entries { (other : ℕ) → (table_of self.new other).entries ≡ (table_of self.old other).entries }
+        ensures rooms { (other : ℕ) → (table_of self.old other).room ≤ (table_of self.new other).room }
+    {
         if let Some(table) = self.sites.get_mut(&site.get()) {
-            return table.reserve();
+            return table.reserve_many(len);
         }
         let mut table = SiteLog::new(self.alloc);
-        table.reserve()?;
+        table.reserve_many(len)?;
         self.sites.insert(site.get(), table)?;
         Ok(())
     }
@@ -107,6 +117,23 @@ impl SiteTables {
     {
         match self.sites.get_mut(&site.get()) {
             Some(table) => table.push(entry),
+            None => unreachable!(),
+        }
+    }
+
+    // Enters letters of the site, its next operations, for which there is room. This is the first one's entry.
+    pub(crate) fn push_letters(&mut self, site: SiteNo, first: Entry, len: usize)
+        requires some { 0 < len }
+        requires room { len ≤ (table_of self.old site).room }
+        requires few { length (table_of self.old site).entries + len < 2 ^ 32 }
+        requires stamp { first.stamp + len ≤ 2 ^ 64 }
+        requires end { first.end + len ≤ MAX_FILE + 1 }
+        requires index { first.index + len ≤ 2 ^ 32 }
+        ensures entries { (table_of self.new site).entries ≡ (table_of self.old site).entries ++ letter_entries first len }
+        ensures others { (other : ℕ) → other ≢ site → table_of self.new other ≡ table_of self.old other }
+    {
+        match self.sites.get_mut(&site.get()) {
+            Some(table) => table.push_letters(first, len),
             None => unreachable!(),
         }
     }

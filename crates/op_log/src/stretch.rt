@@ -7,12 +7,12 @@ ghost use Rattle.op_log.specs.declared.stretch.Stretch.TheVariants.{Deleted, Sin
 ghost use Rattle.looks.specs.Refusal.{RefusedForMemoryAlone};
 ghost use Rattle.operations.specs.Operation.{insert};
 ghost use Rattle.operations.specs.Spelling.{HasSpelling};
-ghost use Rattle.op_log.specs.Stretches.{anchor_of, cause_of, letter, looks_in};
+ghost use Rattle.op_log.specs.Stretches.{anchor_of, cause_of, letter, looks_in, GoesOn};
 
 use crate::one_delete::OneDelete;
 use char_files::{Anchor, MAX_FILE, Name, SiteNo, TextNo};
 use looks::{Looks, Refusal};
-use operations::{Kind, Op};
+use operations::{Kind, Op, Typing};
 use std::alloc::Global;
 
 /// Letters that a site typed one after the other: each operation inserts one byte that hangs on the one before, under the next
@@ -63,7 +63,7 @@ pub(crate) fn push_deleted(stretches: &mut Vec<Stretch>, one: OneDelete)
 }
 
 // The numbers of an anchor: those of its name; 0 and 0 for the root.
-fn numbers_of(anchor: Anchor) -> (u16, u32)
+pub(crate) fn numbers_of(anchor: Anchor) -> (u16, u32)
     ensures anchor { anchor_of result.0 result.1 ≡ anchor }
     ensures in_file { result.1 < 16777216 }
 {
@@ -212,6 +212,52 @@ pub(crate) fn next_byte(stretches: &[Stretch], looks: &[Looks], op: &Op) -> Opti
     match stretches.last() {
         Some(Stretch::Typed(run)) if may_go_on(run) => byte_of_letter(looks, run, run.len, op),
         _ => None,
+    }
+}
+
+// Whether a site types on where this run ends.
+fn goes_on_from(looks: &[Looks], run: &TypedRun, typing: &Typing) -> bool
+    requires looks { run.now.looks < length looks.now }
+    requires cause { run.now.cause_off < 16777216 }
+    ensures { IsTrue result → GoesOn looks.now run.now run.now.len typing.now }
+{
+    may_go_on(run)
+        && typing.text == run.text
+        && typing.site == run.site
+        && typing.seq == run.seq + run.len
+        && typing.stamp == run.stamp + u64::from(run.len)
+        && typing.at == run.at + run.len
+        && typing.cause == cause_of(run, run.len)
+        && typing.looks == looks[run.looks as usize]
+}
+
+// Whether a site types on where the last run ends.
+pub(crate) fn goes_on(stretches: &[Stretch], looks: &[Looks], typing: &Typing) -> bool
+    requires { (before : List Stretch) (r : TypedRun) → stretches.now ≡ before ++ Typed r ∷ []
+        → (r.looks < length looks.now) × (r.cause_off < 16777216) }
+    ensures { IsTrue result → (before : List Stretch) × (r : TypedRun) × (stretches.now ≡ before ++ Typed r ∷ [])
+        × GoesOn looks.now r r.len typing.now }
+{
+    match stretches.last() {
+        Some(Stretch::Typed(run)) => goes_on_from(looks, run, typing),
+        _ => false,
+    }
+}
+
+// Makes the last run so many letters longer.
+pub(crate) fn lengthen_by(stretches: &mut Vec<Stretch>, more: usize)
+    requires { (before : List Stretch) × (r : TypedRun) × (stretches.old.items ≡ before ++ Typed r ∷ [])
+        × (r.len + more < 4294967296) }
+    ensures { (before : List Stretch) (r : TypedRun) → stretches.old.items ≡ before ++ Typed r ∷ []
+        → stretches.new.items ≡ before ++ Typed (record r { len = r.len + more }) ∷ [] }
+{
+    match stretches.pop() {
+        Some(Stretch::Typed(run)) => {
+            let mut longer = run;
+            longer.len += more as u32;
+            stretches.push_reserved(Stretch::Typed(longer));
+        }
+        _ => unreachable!(),
     }
 }
 
