@@ -65,3 +65,33 @@ fn insert_letters(
         Err(_) => unreachable!(),
     }
 }
+
+impl TakenText {
+    /// Takes in letters that a site typed one after the other, of which the first is ready: their operations stand after those that
+    /// were taken in, in their order, as if each was added after the one before.
+    ///
+    /// Refused `OutOfMemory` alone, and then none is taken in.
+    pub fn add_letters(&mut self, typing: &Typing, bytes: &[u8]) -> Result<(), Refusal>
+        requires some { 0 < length bytes.now }
+        requires few { length bytes.now ≤ MAX_INSERT }
+        requires spelled { All HasSpelling (letters typing.now bytes.now) }
+        requires new { (b : ℕ) → IsNew self.old.operations (letter typing.now b) }
+        requires ready { (b : ℕ) → HasVerdict self.old.operations (letter typing.now b) ready }
+        ensures ok { OnOk result (self.new.operations ≡ self.old.operations ++ letters typing.now bytes.now) }
+        ensures asked { self.new.asked ≡ self.old.asked }
+        ensures errors { RefusedForMemoryAlone result }
+        ensures err { OnErr result (self.new ≡ self.old) }
+    {
+        self.log.reserve_letters(typing.site, bytes.len())?;
+        insert_letters(
+            &self.log,
+            &mut self.pieces,
+            &mut self.files,
+            &mut self.note,
+            typing,
+            bytes,
+        )?;
+        self.log.push_letters(typing, bytes);
+        Ok(())
+    }
+}

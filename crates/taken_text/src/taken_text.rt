@@ -30,8 +30,8 @@ pub struct TakenText {
     pub(crate) pieces: PieceList,
     pub(crate) files: CharFiles,
     // How many operations there were when the changes were last asked for, and those that the others made.
-    asked: u64,
-    note: Vec<Change>,
+    pub(crate) asked: u64,
+    pub(crate) note: Vec<Change>,
     pub(crate) alloc: Global,
 }
 
