@@ -78,6 +78,14 @@ impl Outbox {
         part(&self.bytes, beg_of(&self.ends, index), self.ends[index])
     }
 
+    /// Lets all messages go, and keeps the memory for others.
+    pub fn clear(&mut self)
+        ensures { self.new ≡ [] }
+    {
+        self.bytes.clear();
+        self.ends.clear();
+    }
+
     // Puts the message of an operation at the end. An `Err` changes nothing.
     pub(crate) fn push(&mut self, op: &Op) -> Result<(), Refusal>
         ensures ok { OnOk result (self.new ≡ self.old ++ spelling op.now ∷ []) }
