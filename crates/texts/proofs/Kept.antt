@@ -2,17 +2,16 @@
 use Rattle.std.proofs.Common.{◌≡◌, ℕ, List, [], ◌∷◌, ◌++◌, map, refl, subst}
 use Rattle.std.specs.Prelude.{slice_range, All}
 use Rattle.std.proofs.lemmas.List.{drop-map, take-map}
-use Rattle.std.proofs.lemmas.List.Elements.{All-push}
+use Rattle.std.proofs.lemmas.List.Elements.{All-append, All-cons, All-nil, Contains-append_left}
 use Rattle.char_files.specs.Stretch.{Item}
 use Rattle.char_files.specs.declared.character.Char.{Char}
 use Rattle.operations.specs.NameSet.{Range}
 use Rattle.operations.specs.Operation.{Operation}
 use Rattle.texts.specs.Edit.{with_operation}
 use Rattle.texts.specs.Order.{order_after}
-use Rattle.texts.specs.Taking.{HasTaken}
+use Rattle.texts.specs.Taking.{HasTaken, HasTakenAll}
 use Rattle.texts.specs.Text.{AreCharNames, IsText}
 use Rattle.texts.specs.TextState.{TextState, state_of}
-use Rattle.texts.proofs.OwnStep.{char_stays}
 use Rattle.texts.proofs.Taking.{taken_is_one}
 
 -- the items of a stretch are a stretch of the items
@@ -21,31 +20,53 @@ pub items_between : (chars : List Char) (beg end : ℕ)
     (slice_range (map (λ c. (c.byte, c.looks)) chars) beg end)
 items_between chars beg end = simp (take-map, drop-map)
 
--- names of characters stay that
+-- names of characters stay that, with operations more
+pub kept_by_more : (ops more : List Operation) (names : List Range) → AreCharNames ops names
+    → AreCharNames (ops ++ more) names
+kept_by_more ops more names kept c among =
+    let (i, is) = kept c among in
+    (i, record { held = Contains-append_left ops more i is.held; inserts = is.inserts })
+
 pub kept_grows : (ops : List Operation) (op : Operation) (names : List Range) → AreCharNames ops names
     → AreCharNames (ops ++ op ∷ []) names
-kept_grows ops op names kept c among = char_stays ops op c (kept c among)
+kept_grows ops op names kept = kept_by_more ops (op ∷ []) names kept
 
--- all are of this text, and the names are characters' still, with an operation of the text more
+-- all are of this text, and the names are characters' still, with operations of the text more
+pub kept_with_all : (text : ℕ) (ops room : List Operation) (names : List Range) (more : List Operation)
+    → All (λ o. o.text ≡ text) more
+    → All (λ o. o.text ≡ text) ops × All (λ o. o.text ≡ text) room × AreCharNames ops names
+    → All (λ o. o.text ≡ text) (ops ++ more) × All (λ o. o.text ≡ text) room × AreCharNames (ops ++ more) names
+kept_with_all text ops room names more own (taken, waiting, kept) =
+    (All-append (λ (o : Operation). o.text ≡ text) ops more taken own, waiting, kept_by_more ops more names kept)
+
 pub kept_with : (text : ℕ) (ops room : List Operation) (names : List Range) (op : Operation) → op.text ≡ text
     → All (λ o. o.text ≡ text) ops × All (λ o. o.text ≡ text) room × AreCharNames ops names
     → All (λ o. o.text ≡ text) (ops ++ op ∷ []) × All (λ o. o.text ≡ text) room × AreCharNames (ops ++ op ∷ []) names
-kept_with text ops room names op own (taken, waiting, kept) =
-    (All-push (λ (o : Operation). o.text ≡ text) ops op taken own, waiting, kept_grows ops op names kept)
+kept_with text ops room names op own =
+    let of_text : Operation → Type 0 = λ o. o.text ≡ text in
+    kept_with_all text ops room names (op ∷ []) (All-cons of_text op [] own (All-nil of_text))
 
--- what a replica is seen as has taken an operation in, where its operations are that many more
+-- what a replica is seen as has taken operations in, where its operations are those more
+pub grown_by_more : (text site : ℕ) (ops ops' : List Operation) (chars chars' : List Char) (room : List Operation)
+    (stretch : List Item) (names : List Range) (asked asked' : ℕ) (more : List Operation) (t : TextState)
+    → state_of text site ops chars room stretch names asked ≡ t → ops' ≡ ops ++ more → asked' ≡ asked
+    → IsText (state_of text site ops' chars' room stretch names asked')
+    → HasTakenAll t more (state_of text site ops' chars' room stretch names asked')
+grown_by_more text site ops ops' chars chars' room stretch names asked asked' more t seen grown same is =
+    let new : TextState = state_of text site ops' chars' room stretch names asked' in
+    record {
+      is = is;
+      grown = subst (λ (u : TextState). new ≡ record u { operations = u.operations ++ more; order = chars' }) seen
+          (λ k. record new { operations = grown k; asked = same k });
+    }
+
 pub grown_by_one : (text site : ℕ) (ops ops' : List Operation) (chars chars' : List Char) (room : List Operation)
     (stretch : List Item) (names : List Range) (asked asked' : ℕ) (op : Operation) (t : TextState)
     → state_of text site ops chars room stretch names asked ≡ t → ops' ≡ ops ++ op ∷ [] → asked' ≡ asked
     → IsText (state_of text site ops' chars' room stretch names asked')
     → HasTaken t op (state_of text site ops' chars' room stretch names asked')
-grown_by_one text site ops ops' chars chars' room stretch names asked asked' op t seen more same is =
-    let new : TextState = state_of text site ops' chars' room stretch names asked' in
-    record {
-      is = is;
-      grown = subst (λ (u : TextState). new ≡ record u { operations = u.operations ++ op ∷ []; order = chars' }) seen
-          (λ k. record new { operations = more k; asked = same k });
-    }
+grown_by_one text site ops ops' chars chars' room stretch names asked asked' op =
+    grown_by_more text site ops ops' chars chars' room stretch names asked asked' (op ∷ [])
 
 -- taking an own operation in leaves its characters as they are defined
 pub taken_is_own : (t : TextState) (op : Operation) → IsText t → op.text ≡ t.text

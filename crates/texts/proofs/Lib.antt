@@ -4,6 +4,7 @@ pub mod Chars
 pub mod Draining
 pub mod Kept
 pub mod KeptStretch
+pub mod Letters
 pub mod Made
 pub mod Merging
 pub mod Messages

@@ -1,17 +1,21 @@
 //! Messages of all sites are taken in, or wait for their causes.
 
-ghost use Rattle.std.specs.Prelude.{◌≡◌, ◌⊎◌, Err, false, true};
+ghost use Rattle.std.specs.Prelude.{◌≡◌, ◌<◌, ◌≤◌, ◌⊎◌, ℕ, All, length, [], Err, false, true};
+ghost use Rattle.looks.specs.Refusal.{RefusedForMemoryAlone};
+ghost use Rattle.operations.specs.Letters.{letter, letters};
+ghost use Rattle.operations.specs.Spelling.{HasSpelling};
 ghost use Rattle.set_laws.specs.Fronts.{IsHeld};
-ghost use Rattle.set_laws.specs.Verdict.{IsNew};
+ghost use Rattle.set_laws.specs.Verdict.{IsNew, ready};
 ghost use Rattle.texts.specs.Take.{Enters, HasFate, Stays, StaysOut, Takes, TakesIn, TakesOp, TakesOpShort};
 ghost use Rattle.texts.specs.Take.{TakesShort};
+ghost use Rattle.texts.specs.Taking.{HasTakenAll, IsJudged};
 
 use super::Replica;
 use crate::fate::Fate;
 use crate::settled::Settled;
 use crate::took::Took;
 use looks::Refusal;
-use operations::{Op, decode};
+use operations::{MAX_INSERT, Op, Typing, decode};
 use waiting_room::{GoodLog, Verdict, judge};
 
 impl Replica {
@@ -124,5 +128,40 @@ impl Replica {
         let op = decode(self.alloc, message)?;
         op.lemma_has_spelling();
         self.take_op(op)
+    }
+
+    // Whether the next letter that is typed there is ready, whichever it is, where nothing waits.
+    fn is_letter_ready(&self, typing: &Typing, byte: u8) -> Result<bool, Refusal>
+        requires spelled { HasSpelling (letter typing.now byte) }
+        requires room { self.now.waiting_room ≡ [] }
+        ensures ready { result ≡ Ok true → (b : ℕ) → IsJudged self.now (letter typing.now b) ready }
+        ensures others { result ≡ Ok false → (b : ℕ) → ¬ IsJudged self.now (letter typing.now b) ready }
+        ensures errors { RefusedForMemoryAlone result }
+    {
+        let op = typing.letter(self.alloc, byte)?;
+        match self.fate_of(&op) {
+            Fate::Ready => Ok(true),
+            _ => Ok(false),
+        }
+    }
+
+    /// Takes in letters that a site typed one after the other, where nothing waits: all of them, if the first is ready, which
+    /// is answered; else none. Refused `OutOfMemory` alone, and then none is taken in.
+    pub fn take_letters(&mut self, typing: &Typing, bytes: &[u8]) -> Result<bool, Refusal>
+        requires some { 0 < length bytes.now }
+        requires few { length bytes.now ≤ MAX_INSERT }
+        requires spelled { All HasSpelling (letters typing.now bytes.now) }
+        requires room { self.old.waiting_room ≡ [] }
+        ensures taken { result ≡ Ok true → HasTakenAll self.old (letters typing.now bytes.now) self.new }
+        ensures others { result ≡ Ok false → (b : ℕ) → ¬ IsJudged self.old (letter typing.now b) ready }
+        ensures kept { (result ≡ Ok true → ⊥) → self.new ≡ self.old }
+        ensures errors { RefusedForMemoryAlone result }
+    {
+        if !self.is_letter_ready(typing, bytes[0])? {
+            return Ok(false);
+        }
+        self.taken.add_letters(typing, bytes)?;
+        self.lemma_is_text();
+        Ok(true)
     }
 }

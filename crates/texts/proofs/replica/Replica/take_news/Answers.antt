@@ -1,6 +1,4 @@
-use Rattle.std.proofs.Common.{◌≡◌, ◌<◌, ◌≤◌, ℕ, Some, inl, inr, slice_get, length, ap, subst, sym, ◌∙◌, Err, arith}
-use Rattle.std.specs.Prelude.{IfSome}
-use Rattle.operations.specs.Operation.{Operation}
+use Rattle.std.proofs.Common.{◌≡◌, ◌<◌, ◌≤◌, ℕ, inl, inr, ap, subst, sym, ◌∙◌, Err, arith}
 use Rattle.set_laws.specs.Fronts.{front_of}
 use Rattle.texts.specs.Merge.{MergesShort}
 use Rattle.texts.specs.TextState.{TextState}
