@@ -1,3 +1,4 @@
+pub mod Letters
 pub mod PackedLists
 pub mod ReadEdits
 pub mod ReadNext

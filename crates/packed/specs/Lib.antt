@@ -1,4 +1,5 @@
 pub mod Laws
+pub mod Letters
 pub mod Reading
 pub mod Seen
 pub mod Spelling

@@ -9,6 +9,8 @@ ghost use Rattle.packed.specs.Spelling.{packed_next};
 ghost use Rattle.packed.specs.Reading.{parts_at, next_of_parts, CanBeNext, BeginsWithNone};
 ghost use Rattle.packed.specs.Seen.{view_parts};
 
+mod letters;
+
 use crate::expected::Expected;
 use crate::reading::{Read, edit_at, time_at};
 use crate::writing::{put_edit, put_time};
