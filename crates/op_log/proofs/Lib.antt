@@ -8,4 +8,5 @@ pub mod Pushed
 pub mod PushedLetters
 pub mod Rooms
 pub mod Sites
+pub mod Slots
 pub mod Stretches

@@ -306,10 +306,11 @@ impl Log {
         if bytes.is_empty() {
             return;
         }
+        let index = self.ops.len() as u32;
         let first = Entry {
             stamp: typing.stamp,
             end: typing.at + 1,
-            index: self.ops.len() as u32,
+            index,
         };
         self.ops.push_letters(typing, bytes);
         self.sites.push_letters(typing.site, first, bytes.len());

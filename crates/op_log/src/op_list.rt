@@ -266,9 +266,10 @@ impl OpList {
         ensures { self.new.items ≡ self.old.items ++ letters typing.now bytes.now }
     {
         let (cause_site, cause_off) = numbers_of(typing.cause);
+        let from = self.bytes.len() as u32;
         let run = TypedRun {
             stamp: typing.stamp,
-            from: self.bytes.len() as u32,
+            from,
             seq: typing.seq,
             at: typing.at,
             looks: number_of(&mut self.looks, &typing.looks),

@@ -57,12 +57,12 @@ invariant_of-self c =
     let begins : t.at ≡ file_len l.ops.items t.site =
     subst (λ (seen : LogSeen). t.at ≡ file_len seen.ops t.site) (sym c.self.view_is) c.requires.begins in
     let most : c.max-self-inside.result ≡ max (t.stamp + (length bytes - 1)) l.stamp = search rules in
-    let index : c.len.result ≡ length l.ops.items = search rules in
+    let index : c.len-index.result ≡ length l.ops.items = search rules in
     subst (λ (xs : List Operation). AreLogged xs c.push_letters-2.new.self c.max-self-inside.result)
     (sym c.push_letters.ensures)
     (subst (λ (n : ℕ). AreLogged (l.ops.items ++ letters t bytes) c.push_letters-2.new.self n) (sym most)
     (pushed_letters bytes (some (goal.at.invariant_of-self c).Else-is_empty) c.self.invariant c.push_letters-2.new.self t (record {
       stamp = t.stamp;
       end = t.at + 1;
-      index = c.len.result;
+      index = c.len-index.result;
     }) next begins c.requires.spelled refl refl index c.push_letters-2.ensures.entries c.push_letters-2.ensures.others))

@@ -18,7 +18,7 @@ use Rattle.op_log.proofs.op_list.OpList.begin_with.Goals.{After-push_reserved-2}
 abbrev run : After-push_reserved-2 → TypedRun
 run c = record {
   stamp = c.args.typing.now.stamp;
-  from = c.len.result;
+  from = c.len-from.result;
   seq = c.args.typing.now.seq;
   at = c.args.typing.now.at;
   looks = c.number_of.result;
@@ -54,13 +54,13 @@ grown c =
     let l = c.self.inside in
     let (added, more) = c.number_of.ensures.grows in
     begun (was c) l.stretches.items l.firsts.items l.len c.self.invariant.0 c.number_of.new.entered.items added more (run c)
-    (omega (arith, c.len.ensures, l.bytes.ok.0))
+    (omega (arith, c.len-from.ensures, l.bytes.ok.0))
     (slice_get_within c.number_of.new.entered.items c.number_of.result c.args.typing.now.looks c.number_of.ensures.there)
     c.numbers_of-cause_site.ensures.in_file c.args.typing.now (goes_on c) c.args.bytes.now c.requires.some c.requires.spelled
     c.append.new.bytes.items c.append.ensures refl
 
-pub overflow_cast-run-2 : goal.overflow_cast-run-2
-overflow_cast-run-2 c =
+pub overflow_cast-run : goal.overflow_cast-run
+overflow_cast-run c =
     let range = in_range c.args.typing.now c.args.bytes.now c.requires.some c.requires.spelled in
     omega (arith, range.in_file)
 
