@@ -187,6 +187,15 @@ class Part:
         return self.type(place, rng.choice(LETTERS), 0, of_another=True)
 
 
+def typed_alone(name: str, edits: int, seed: str) -> Script:
+    """So many edits of site 1, of which no other site takes any."""
+    script, part = Script(), Part()
+    for move in itertools.islice(TRACES[name](random.Random(f"{name} {seed}"), 0), edits):
+        script.send(part.edit(move))
+    script.text = part.text
+    return script
+
+
 def merged(name: str, edits: int, seed: str) -> Script:
     """Both sites make so many edits apart, and merge: site 1 before a bar that they share, and site 2 after it. So no two
     of them type at one place, and whatever rule orders such characters, it gives this text."""

@@ -448,3 +448,50 @@ follows_there v r run f same =
         ∙ ap (λ (n : ℕ). by 0 n r.offset_by r.hidden_by) f.untouched.colour
         ∙ ap (λ (n : ℕ). by 0 0 n r.hidden_by) f.untouched.offset
         ∙ ap (by 0 0 0) f.untouched.hidden
+
+-- ---- and the other way round
+
+-- a register that nothing set has no entry
+none_set : {V : Type 0} (entries : List (Register V)) (by : ℕ) (value : V) → ◌≡◌ {A = Option Key} None (register_by entries by value).by → by ≡ 0
+none_set entries zero value none = refl
+none_set entries (suc n) value none = absurd cc
+
+-- a run of letters that goes on where a record's piece ends follows it, in the same looks
+pub follows_back : (v : Values) (r : PieceRecord) (run : Run) → run.rising ≡ true
+    → piece_of run ≡ rest_of r.len (longer run.len (piece_in v r)) → FollowsIn r run × (inserted_with v r ≡ run.looks)
+follows_back v r run rising on =
+    let rises : r.rising ≡ true = sym (ap (λ (p : Piece). p.rising) on) ∙ rising in
+    let font : r.font_by ≡ 0 = none_set v.relooks r.font_by (inserted_with v r) (ap (λ (p : Piece). p.font.by) on) in
+    let colour : r.colour_by ≡ 0 = none_set v.relooks r.colour_by (inserted_with v r) (ap (λ (p : Piece). p.colour.by) on) in
+    let offset : r.offset_by ≡ 0 = none_set v.relooks r.offset_by (inserted_with v r) (ap (λ (p : Piece). p.offset.by) on) in
+    let hidden : r.hidden_by ≡ 0 = none_set v.switches r.hidden_by false (ap (λ (p : Piece). p.hidden.by) on) in
+    let key : run.key ≡ risen true r.len (key_of r) =
+    ap (λ (p : Piece). p.key) on ∙ ap (λ (b : Bool). risen b r.len (key_of r)) rises in
+    let own_font : run.looks.font ≡ (inserted_with v r).font =
+    ap (λ (p : Piece). p.font.value) on ∙ ap (λ (n : ℕ). (looks_by v r n).value.font) font in
+    let own_colour : run.looks.colour ≡ (inserted_with v r).colour =
+    ap (λ (p : Piece). p.colour.value) on ∙ ap (λ (n : ℕ). (looks_by v r n).value.colour) colour in
+    let own_offset : run.looks.offset ≡ (inserted_with v r).offset =
+    ap (λ (p : Piece). p.offset.value) on ∙ ap (λ (n : ℕ). (looks_by v r n).value.offset) offset in
+    let made : List ℕ → ℕ → ℤ → Looks = λ f c o. record { font = f; colour = c; offset = o } in (
+      record {
+        rises = rises;
+        rising = rising;
+        untouched = record { font = font; colour = colour; offset = offset; hidden = hidden };
+        site = sym (ap (λ (p : Piece). p.site) on);
+        key_site = sym (ap (λ (k : Key). k.site) key);
+        off = ap (λ (p : Piece). p.off) on;
+        stamp = ap (λ (k : Key). k.stamp) key;
+      },
+      sym (ap (λ (f : List ℕ). made f run.looks.colour run.looks.offset) own_font
+          ∙ ap (λ (c : ℕ). made (inserted_with v r).font c run.looks.offset) own_colour
+          ∙ ap (λ (o : ℤ). made (inserted_with v r).font (inserted_with v r).colour o) own_offset),
+    )
+
+-- what is the same compares alike
+pub looks_alike : (a b : Looks) → a ≡ b → (bytes_eq a.font b.font && (a.colour == b.colour && int_eq a.offset b.offset)) ≡ true
+looks_alike a b same =
+    let font : bytes_eq a.font b.font ≡ true = (bytes_eq-Decides a.font b.font).1 (ap (λ (l : Looks). l.font) same) in
+    let colour : (a.colour == b.colour) ≡ true = (Decides-eqb a.colour b.colour).1 (ap (λ (l : Looks). l.colour) same) in
+    let offset : int_eq a.offset b.offset ≡ true = (Decides-int_eq a.offset b.offset).1 (ap (λ (l : Looks). l.offset) same) in
+    rw (font, colour, offset) refl

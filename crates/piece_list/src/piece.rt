@@ -113,10 +113,11 @@ impl<'a> PieceRef<'a> {
         }
     }
 
-    // Whether a run goes on where its characters end, so that one piece may hold both.
+    // Whether a run goes on where its characters end, so that one piece may hold both. Of runs those of letters are asked alone.
     pub(crate) fn goes_on(&self, run: &Run) -> bool
         requires { run.now.len < 2 ^ 16 }
-        ensures { IsTrue result → GoesOn self.now (piece_of run.now) }
+        ensures on { IsTrue result → GoesOn self.now (piece_of run.now) }
+        ensures otherwise { ¬ IsTrue result → run.now.rising ≡ true → ¬ GoesOn self.now (piece_of run.now) }
     {
         let len = self.record.len;
         if MAX_PIECE < u32::from(len) + run.len || !self.record.is_followed_by(run) {

@@ -92,14 +92,14 @@ impl PieceRecord {
 
     // Whether no register was set since the Inserts.
     fn is_as_inserted(&self) -> bool
-        ensures { IsTrue result → IsAsInserted self.now }
+        ensures { IsTrue result ↔ IsAsInserted self.now }
     {
         self.font_by == 0 && self.colour_by == 0 && self.offset_by == 0 && self.hidden_by == 0
     }
 
     // Whether a run, looks aside, goes on with names and keys where these characters end, which are as they were inserted.
     pub(crate) fn is_followed_by(&self, run: &Run) -> bool
-        ensures { IsTrue result → FollowsIn self.now run.now }
+        ensures { IsTrue result ↔ FollowsIn self.now run.now }
     {
         let (len, key) = (u64::from(self.len), self.key());
         self.rising

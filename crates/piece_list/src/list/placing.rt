@@ -117,7 +117,7 @@ impl Pieces {
     }
 
     // Inserts a run directly after the piece of this number, at the front for `None`: as a piece of its own, or as the end of that
-    // one where it goes on there.
+    // one where it goes on there; letters always do where they can.
     fn insert(&mut self, last: Option<u64>, run: &Run)
         requires part { HasPart self.old.items last }
         requires piece { IsPiece (piece_of run.now) }
@@ -126,6 +126,9 @@ impl Pieces {
         requires room { 0 < self.old.room }
         ensures insert { (before after : List (ℕ × Piece)) → IsParted self.old.items last before after
             → (tag : ℕ) × AreOrAreJoined tag (before ++ (tag, piece_of run.now) ∷ after) self.new.items }
+        ensures joins { (before after : List (ℕ × Piece)) (tag : ℕ) (p : Piece) → self.old.items ≡ before ++ (tag, p) ∷ after
+            → last ≡ Just tag → run.now.rising ≡ true → GoesOn p (piece_of run.now)
+            → self.new.items ≡ before ++ (tag, longer run.now.len p) ∷ after }
         ensures pieces { ArePieces self.old.items }
     {
         if let Some(number) = last {
