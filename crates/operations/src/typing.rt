@@ -1,9 +1,7 @@
-ghost use Rattle.std.specs.Prelude.{◌≡◌, ℕ, ◌+◌, ◌^◌, ◌<◌, ◌≤◌, List, ◌↔◌, All, IsTrue, IfOk, length};
+ghost use Rattle.std.specs.Prelude.{◌≡◌, ℕ, ◌<◌, ◌≤◌, List, All, IfOk, length};
 ghost use Rattle.looks.specs.Refusal.{RefusedForMemoryAlone};
-ghost use Rattle.char_files.specs.declared.TheConstants.{MAX_FILE};
 ghost use Rattle.operations.specs.Letters.{letter, letters};
-ghost use Rattle.operations.specs.Spelling.{HasSpelling, IsCause};
-ghost use Rattle.operations.specs.declared.op.TheConstants.{MAX_STAMP};
+ghost use Rattle.operations.specs.Spelling.{HasSpelling};
 
 use crate::kind::{Kind, is_cause};
 use crate::op::{MAX_STAMP, Op};
@@ -29,33 +27,22 @@ pub struct Typing {
 }
 
 impl Typing {
-    // Whether so many letters have numbers, stamps and places in the file.
-    fn has_numbers(&self, len: u64) -> bool
-        requires few { len ≤ MAX_FILE }
-        requires stamp { self.now.stamp ≤ MAX_STAMP }
-        ensures { IsTrue result ↔ ((0 < self.now.seq) × (self.now.seq + len ≤ 2 ^ 32) × (0 < self.now.stamp)
-            × (self.now.stamp + len ≤ MAX_STAMP + 1) × (self.now.at + len ≤ MAX_FILE)) }
-    {
-        self.seq != 0
-            && u64::from(self.seq) + len <= 1 << 32
-            && self.stamp != 0
-            && self.stamp + len <= MAX_STAMP + 1
-            && u64::from(self.at) + len <= MAX_FILE
-    }
-
-    /// Whether so many letters have each a spelling, whatever they are: their numbers, stamps and places in the file are in range,
-    /// and what the first one hangs on stood in the file before it.
-    pub fn has_room(&self, len: usize) -> bool
-        ensures { IsTrue result → (bytes : List ℕ) → length bytes ≤ len → All (λ b. b < 256) bytes
+    /// For how many letters there are numbers, stamps and places in the file, so that each has a spelling, whatever it is; 0 where
+    /// what the first one hangs on didn't stand in the file before it.
+    pub fn room(&self) -> u64
+        ensures some { (bytes : List ℕ) → length bytes ≤ result → All (λ b. b < 256) bytes
             → All HasSpelling (letters self.now bytes) }
+        ensures none { result ≡ 0 → (b : ℕ) → ¬ HasSpelling (letter self.now b) }
     {
         self.looks.lemma_are_in_range();
         let _ = (self.text.get(), self.site.get());
-        let len = len as u64;
-        if MAX_FILE < len || MAX_STAMP < self.stamp || !self.has_numbers(len) {
-            return false;
+        if self.seq == 0 || self.stamp == 0 || !is_cause(self.site, self.at, self.cause) {
+            return 0;
         }
-        is_cause(self.site, self.at, self.cause)
+        let numbers = (1_u64 << 32).saturating_sub(u64::from(self.seq));
+        let stamps = (MAX_STAMP + 1).saturating_sub(self.stamp);
+        let places = MAX_FILE.saturating_sub(u64::from(self.at));
+        numbers.min(stamps).min(places)
     }
 
     /// The Insert of the first letter, which has a spelling. Refused `OutOfMemory` alone.

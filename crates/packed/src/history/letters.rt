@@ -1,7 +1,7 @@
-ghost use Rattle.std.specs.Prelude.{◌≡◌, ℕ, ◌<◌, ◌≤◌, List, ◌∷◌, ◌++◌, ◌↔◌, IsTrue, All, IfSome, IfNone, IsOk, OnOk, OnErr, false, true, length, take};
+ghost use Rattle.std.specs.Prelude.{◌≡◌, ℕ, ◌<◌, ◌≤◌, List, ◌∷◌, ◌++◌, All, IfSome, IfNone, IsOk, OnOk, OnErr, false, true, length, take};
 ghost use Rattle.looks.specs.Refusal.{RefusedForMemoryAlone};
 ghost use Rattle.operations.specs.Letters.{letter, letters};
-ghost use Rattle.operations.specs.Spelling.{HasSpelling, IsCause};
+ghost use Rattle.operations.specs.Spelling.{HasSpelling};
 ghost use Rattle.operations.specs.declared.typing.Typing.{Typing};
 ghost use Rattle.packed.specs.Letters.{AreTypedNext, TypesOn};
 ghost use Rattle.packed.specs.Spelling.{is_code};
@@ -10,9 +10,9 @@ ghost use Rattle.packed.specs.Told.{has_begun, told_after};
 use super::History;
 use crate::codes::is_code;
 use crate::expected::{Expected, name_at};
-use char_files::{Anchor, MAX_FILE, SiteNo, TextNo};
+use char_files::TextNo;
 use looks::Refusal;
-use operations::{MAX_INSERT, MAX_STAMP, Typing};
+use operations::{MAX_INSERT, Typing};
 
 // How many of the bytes, from the first on, stand each for an Insert of itself.
 fn letters_len(in_chunk: bool, bytes: &[u8]) -> usize
@@ -24,38 +24,6 @@ fn letters_len(in_chunk: bool, bytes: &[u8]) -> usize
         Some(end) => end,
         None => bytes.len(),
     }
-}
-
-// Whether what an Insert hangs on stood in its file before it.
-fn may_hang(site: SiteNo, at: u32, cause: Anchor) -> bool
-    ensures { IsTrue result ↔ IsCause site at cause }
-{
-    match cause {
-        Anchor::Root => true,
-        Anchor::At(name) => {
-            let own = name.site().get() == site.get();
-            !own || name.off() < at
-        }
-    }
-}
-
-// How many letters have numbers, stamps and places in the file.
-fn room(typing: &Typing) -> u64
-    requires seq { 0 < typing.now.seq }
-    requires stamp { 0 < typing.now.stamp }
-    ensures some { (bytes : List ℕ) → length bytes ≤ result → All (λ b. b < 256) bytes
-        → All HasSpelling (letters typing.now bytes) }
-    ensures none { result ≡ 0 → (b : ℕ) → HasSpelling (letter typing.now b) → ⊥ }
-{
-    typing.looks.lemma_are_in_range();
-    let _ = (typing.text.get(), typing.site.get());
-    if !may_hang(typing.site, typing.at, typing.cause) {
-        return 0;
-    }
-    let numbers = (1_u64 << 32).saturating_sub(u64::from(typing.seq));
-    let stamps = (MAX_STAMP + 1).saturating_sub(typing.stamp);
-    let places = MAX_FILE.saturating_sub(u64::from(typing.at));
-    numbers.min(stamps).min(places)
 }
 
 impl History {
@@ -95,7 +63,7 @@ impl History {
         let Some(typing) = self.typing(text) else {
             return None;
         };
-        let end = room(&typing).min(found as u64) as usize;
+        let end = typing.room().min(found as u64) as usize;
         if end == 0 {
             return None;
         }
