@@ -1,48 +1,21 @@
 -- Letters that a site types one after the other, as they are put at the end of a list.
-use Rattle.std.proofs.Common.{◌≡◌, ℕ, zero, suc, ◌+◌, ◌^◌, ◌<◌, ◌≤◌, List, [], ◌∷◌, ◌++◌, length, All, refl, sym, ap, subst, ◌∙◌}
+use Rattle.std.proofs.Common.{◌≡◌, ℕ, zero, suc, ◌+◌, ◌<◌, ◌≤◌, List, [], ◌∷◌, ◌++◌, length, All, refl, sym, ap, subst, ◌∙◌}
 use Rattle.std.proofs.Common.{arith, append-nil, append_assoc, add-zero}
 use Rattle.std.proofs.lemmas.List.{length-append}
 use Rattle.std.proofs.lemmas.List.Elements.{All-head, All-tail}
 use Rattle.looks.specs.declared.looks.Looks.{Looks}
-use Rattle.char_files.specs.declared.TheConstants.{MAX_FILE}
 use Rattle.char_files.specs.declared.name.Anchor.{Anchor}
 use Rattle.char_files.specs.declared.name.Anchor.TheVariants.{At}
 use Rattle.operations.specs.Letters.{after_letter, letters}
 use Rattle.operations.specs.Letters.{letter as typed_letter}
 use Rattle.operations.specs.Operation.{Operation, insert}
 use Rattle.operations.specs.Spelling.{HasSpelling}
-use Rattle.operations.specs.declared.op.TheConstants.{MAX_STAMP}
 use Rattle.operations.specs.declared.typing.Typing.{Typing}
 use Rattle.op_log.specs.declared.stretch.TypedRun.{TypedRun}
 use Rattle.op_log.specs.declared.stretch.Stretch.{Stretch}
 use Rattle.op_log.specs.declared.stretch.Stretch.TheVariants.{Typed}
 use Rattle.op_log.specs.Stretches.{AreStretches, EndsLast, GoesOn, IsThere, Shared, all_ops, anchor_of, cause_of, letter, ops_of, shared}
 use Rattle.op_log.proofs.Stretches.{Extends, begun_ends, begun_ops, begun_there, is_letter, longer_all, longer_are, pushed_are, pushed_ops}
-
--- letters that are spelled have numbers, stamps and places in the file
-pub record AreInRange (t : Typing) (len : ℕ) : Type 0 where
-  pub seq : t.seq + len ≤ 2 ^ 32
-  pub stamp : t.stamp + len ≤ MAX_STAMP + 1
-  pub in_file : t.at + len ≤ MAX_FILE
-
-pub in_range : (t : Typing) (bytes : List ℕ) → 0 < length bytes → All HasSpelling (letters t bytes)
-    → AreInRange t (length bytes)
-in_range t [] some spelled = absurd (omega (arith, some))
-in_range t (b ∷ []) some spelled =
-    let own : HasSpelling (typed_letter t b) = All-head HasSpelling (typed_letter t b) [] spelled in
-    record {
-      seq = omega (arith, own.seq.1);
-      stamp = omega (arith, own.stamp.1);
-      in_file = omega (arith, own.kind.in_file);
-    }
-in_range t (b ∷ d ∷ bytes) some spelled =
-    let rest = in_range (after_letter t) (d ∷ bytes) (omega arith)
-    (All-tail HasSpelling (typed_letter t b) (letters (after_letter t) (d ∷ bytes)) spelled) in
-    record {
-      seq = omega (arith, rest.seq);
-      stamp = omega (arith, rest.stamp);
-      in_file = omega (arith, rest.in_file);
-    }
 
 -- a run of another length
 abbrev pub with_len : TypedRun → ℕ → TypedRun

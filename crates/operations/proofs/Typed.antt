@@ -49,3 +49,30 @@ letters_spelled t n (b ∷ bytes) room few valid =
       valid_looks = room.valid_looks;
     })
     (omega (arith, few)) (All-tail (λ x. x < 256) b bytes valid))
+
+-- letters that have a spelling each have numbers, stamps and places in the file
+pub record AreInRange (t : Typing) (n : ℕ) : Type 0 where
+  pub site : t.site < 2 ^ 16
+  pub seq : t.seq + n ≤ 2 ^ 32
+  pub stamp : t.stamp + n ≤ MAX_STAMP + 1
+  pub in_file : t.at + n ≤ MAX_FILE
+
+pub in_range : (t : Typing) (bytes : List ℕ) → 0 < length bytes → All HasSpelling (letters t bytes) → AreInRange t (length bytes)
+in_range t [] some spelled = absurd (omega (arith, some))
+in_range t (b ∷ []) some spelled =
+    let one : HasSpelling (letter t b) = All-head HasSpelling (letter t b) [] spelled in
+    record {
+      site = one.site.1;
+      seq = omega (arith, one.seq.1);
+      stamp = omega (arith, one.stamp.1);
+      in_file = one.kind.in_file;
+    }
+in_range t (b ∷ c ∷ bytes) some spelled =
+    let rest = in_range (after_letter t) (c ∷ bytes) (omega arith)
+    (All-tail HasSpelling (letter t b) (letters (after_letter t) (c ∷ bytes)) spelled) in
+    record {
+      site = rest.site;
+      seq = omega (arith, rest.seq);
+      stamp = omega (arith, rest.stamp);
+      in_file = omega (arith, rest.in_file);
+    }

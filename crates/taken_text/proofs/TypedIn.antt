@@ -79,28 +79,6 @@ others_stay files site bytes other differs = elim (eqb_tells other site) [
   | inr apart ↦ rw apart.0 refl
 ]
 
--- ---- letters that have spellings
-
--- so many letters are in range
-pub record AreInRange (t : Typing) (n : ℕ) : Type 0 where
-  pub in_file : t.at + n ≤ MAX_FILE
-  pub stamps : t.stamp + n ≤ MAX_STAMP + 1
-  pub site : t.site < 2 ^ 16
-
-pub in_range : (bytes : List ℕ) (t : Typing) → 0 < length bytes → All HasSpelling (letters t bytes) → AreInRange t (length bytes)
-in_range [] t some all = absurd (omega (arith, some))
-in_range (b ∷ []) t some all =
-    let one : HasSpelling (letter t b) = All-head HasSpelling (letter t b) [] all in
-    record { in_file = one.kind.in_file; stamps = omega (arith, one.stamp.1); site = one.site.1 }
-in_range (b ∷ c ∷ bytes) t some all =
-    let rest = in_range (c ∷ bytes) (after_letter t) (omega arith)
-    (All-tail HasSpelling (letter t b) (letters (after_letter t) (c ∷ bytes)) all) in
-    record {
-      in_file = omega (arith, rest.in_file);
-      stamps = omega (arith, rest.stamps);
-      site = rest.site;
-    }
-
 -- ---- one letter more
 
 module _ (ops : List Operation) (t : Typing) (b n : ℕ) (items : Items) (files : Files) (asked : ℕ) (note between : List Change) (mid : List Atom)

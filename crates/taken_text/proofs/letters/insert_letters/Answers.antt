@@ -2,6 +2,7 @@ use Rattle.std.proofs.Common.{◌≡◌, ◌+◌, ◌<◌, ◌≤◌, ◌++◌, 
 use Rattle.std.proofs.lemmas.Grind.{common_steps}
 use Rattle.char_files.specs.CharFiles.{bytes_of}
 use Rattle.char_files.specs.declared.TheConstants.{MAX_FILE}
+use Rattle.operations.proofs.Typed.{in_range}
 use Rattle.operations.specs.Letters.{letter}
 use Rattle.set_laws.specs.Fronts.{file_len}
 use Rattle.piece_list.specs.Typed.{AreTypedIn}
@@ -10,14 +11,14 @@ use Rattle.piece_list.specs.Spelled.{spelled}
 use Rattle.taken_text.specs.Letters.{run_of}
 use Rattle.taken_text.proofs.Bytes.{appended}
 use Rattle.taken_text.proofs.Ready.{none_after}
-use Rattle.taken_text.proofs.TypedIn.{in_range, letters_taken}
+use Rattle.taken_text.proofs.TypedIn.{letters_taken}
 use Rattle.taken_text.proofs.Taking.{cause_here}
 use Rattle.taken_text.proofs.letters.insert_letters.Goals as goal
 
 pub returns-in_err-reserve-clause-errors : goal.returns-in_err-reserve-clause-errors
 returns-in_err-reserve-clause-errors c =
     let t = c.args.typing.now in
-    let range = in_range c.args.bytes.now t c.requires.some c.requires.spelled in
+    let range = in_range t c.args.bytes.now c.requires.some c.requires.spelled in
     let begins : t.at ≡ file_len c.args.log.now.ops t.site = (c.requires.ready 0).1.begins in
     let long : length (bytes_of c.args.files.now t.site) ≡ file_len c.args.log.now.ops t.site = c.requires.taken.bytes.lengths t.site in
     let fits : length (bytes_of c.args.files.now t.site) + length c.args.bytes.now ≤ MAX_FILE = omega (arith, range.in_file) in
@@ -26,8 +27,8 @@ returns-in_err-reserve-clause-errors c =
 pub place_noting-requires-clause-run : goal.place_noting-requires-clause-run
 place_noting-requires-clause-run c =
     let t = c.args.typing.now in
-    let range = in_range c.args.bytes.now t c.requires.some c.requires.spelled in
-    rw c.run_of-run.ensures (c.requires.some, c.requires.few, range.in_file, range.site, λ rises. omega (arith, range.stamps))
+    let range = in_range t c.args.bytes.now c.requires.some c.requires.spelled in
+    rw c.run_of-run.ensures (c.requires.some, c.requires.few, range.in_file, range.site, λ rises. omega (arith, range.stamp))
 
 pub place_noting-requires-clause-here : goal.place_noting-requires-clause-here
 place_noting-requires-clause-here c =

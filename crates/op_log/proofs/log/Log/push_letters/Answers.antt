@@ -4,7 +4,7 @@ use Rattle.operations.specs.Operation.{Operation}
 use Rattle.set_laws.specs.Fronts.{file_len}
 use Rattle.op_log.specs.Seen.{LogSeen}
 use Rattle.op_log.specs.Logged.{AreLogged}
-use Rattle.op_log.proofs.Letters.{AreInRange, in_range}
+use Rattle.operations.proofs.Typed.{AreInRange, in_range}
 use Rattle.op_log.proofs.PushedLetters.{pushed_letters}
 use Rattle.op_log.proofs.Rooms.{room_told}
 use Rattle.op_log.proofs.log.Log.push_letters.Goals as goal

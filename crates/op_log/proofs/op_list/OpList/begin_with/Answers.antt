@@ -10,7 +10,8 @@ use Rattle.op_log.specs.declared.stretch.Stretch.{Stretch}
 use Rattle.op_log.specs.declared.stretch.Stretch.TheVariants.{Typed}
 use Rattle.op_log.specs.Seen.{OpsSeen}
 use Rattle.op_log.specs.Stretches.{AreStretches, GoesOn, Shared, all_ops, shared}
-use Rattle.op_log.proofs.Letters.{Grown, begun, in_range}
+use Rattle.operations.proofs.Typed.{in_range}
+use Rattle.op_log.proofs.Letters.{Grown, begun}
 use Rattle.op_log.proofs.op_list.OpList.begin_with.Goals as goal
 use Rattle.op_log.proofs.op_list.OpList.begin_with.Goals.{After-push_reserved-2}
 
