@@ -1,6 +1,9 @@
 ghost use Rattle.std.specs.Prelude.{◌≡◌, ◌<◌, ◌≤◌, ◌+◌, [], ◌++◌, ◌↔◌, ◌⊎◌, length, slice_index};
 ghost use Rattle.std.specs.Prelude.{IfOk, IfErr, IsOk, OnOk, OnErr, IsErrOf};
-ghost use Rattle.char_files.specs.CharFiles.{bytes_of, room_of, OthersStay, SameBytes};
+ghost use Rattle.std.specs.Prelude.{None, Some, IfNone, IfSome, nat_eq};
+ghost use Rattle.std.specs.Option.{option_copied};
+ghost use Rattle.std.specs.Map.{lookup};
+ghost use Rattle.char_files.specs.CharFiles.{FileSeen, bytes_of, room_of, OthersStay, SameBytes, StandsAt};
 
 use crate::MAX_FILE;
 use crate::char_file::CharFile;
@@ -17,6 +20,8 @@ pub struct CharFiles {
     // By the sites' numbers.
     files: IndexMap<u16, CharFile>,
     alloc: Global,
+    // Where the file stands that was written to last, which is mostly the one that is asked for next. No promise rests on it.
+    last: usize,
 }
 
 impl Model for CharFiles {
@@ -35,6 +40,31 @@ impl CharFiles {
         CharFiles {
             files: IndexMap::new(alloc),
             alloc,
+            last: 0,
+        }
+    }
+
+    // Where a site's file stands, if it has one.
+    fn index_of(&self, site: SiteNo) -> Option<usize>
+        ensures found { IfSome result (λ index. (file : FileSeen) × StandsAt self.now site index file) }
+        ensures none { IfNone result (lookup (nat_eq site) self.now ≡ None) }
+    {
+        match self.files.get_index(self.last) {
+            Some((key, _)) if *key == site.get() => Some(self.last),
+            _ => {
+                let (index, _, _) = self.files.get_full(&site.get())?;
+                Some(index)
+            }
+        }
+    }
+
+    // A site's file, if it has one.
+    fn file(&self, site: SiteNo) -> Option<&CharFile>
+        ensures { option_copied result ≡ lookup (nat_eq site) self.now }
+    {
+        match self.files.get_index(self.last) {
+            Some((key, file)) if *key == site.get() => Some(file),
+            _ => self.files.get(&site.get()),
         }
     }
 
@@ -43,7 +73,7 @@ impl CharFiles {
         ensures value { result ≡ length (bytes_of self.now site) }
         ensures bound { result ≤ MAX_FILE }
     {
-        match self.files.get(&site.get()) {
+        match self.file(site) {
             Some(file) => file.len(),
             None => 0,
         }
@@ -54,7 +84,7 @@ impl CharFiles {
         requires { name.off < length (bytes_of self.now name.site) }
         ensures { result ≡ slice_index (bytes_of self.now name.site) name.off }
     {
-        match self.files.get(&name.site().get()) {
+        match self.file(name.site()) {
             Some(file) => file.byte(name.off()),
             None => unreachable!(),
         }
@@ -70,8 +100,12 @@ impl CharFiles {
         ensures errors { IfErr result (λ e. (e ≡ Refusal.FileSpent) ⊎ (e ≡ Refusal.OutOfMemory)) }
         ensures unchanged { SameBytes self.old self.new }
     {
-        if let Some(file) = self.files.get_mut(&site.get()) {
-            return file.reserve(n);
+        if let Some(index) = self.index_of(site) {
+            self.last = index;
+            return match self.files.get_index_mut(index) {
+                Some(file) => file.reserve(n),
+                None => unreachable!(),
+            };
         }
         let mut file = CharFile::new(self.alloc);
         file.reserve(n)?;
@@ -92,8 +126,12 @@ impl CharFiles {
         ensures err { OnErr result (bytes_of self.new site ≡ bytes_of self.old site) }
         ensures reserved { length bytes.now ≤ room_of self.old site → IsOk result }
     {
-        if let Some(file) = self.files.get_mut(&site.get()) {
-            return file.append(bytes);
+        if let Some(index) = self.index_of(site) {
+            self.last = index;
+            return match self.files.get_index_mut(index) {
+                Some(file) => file.append(bytes),
+                None => unreachable!(),
+            };
         }
         if bytes.is_empty() {
             return Ok(0);
