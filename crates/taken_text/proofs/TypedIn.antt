@@ -1,38 +1,27 @@
 -- Letters that were put in one after the other are taken in, one after the other.
-use Rattle.std.proofs.Common.{◌≡◌, ◌≢◌, ℕ, zero, suc, ◌+◌, ◌<◌, ◌≤◌, ◌^◌, true, false, cond, inl, inr, List, [], ◌∷◌, ◌++◌, length, map, Option, Some, All, refl}
-use Rattle.std.proofs.Common.{sym, ap, subst, ◌∙◌, arith, append_assoc, append-nil, eqb, eq-eqb, nat_eq}
+use Rattle.std.proofs.Common.{◌≡◌, ℕ, false, inl, inr, List, [], ◌∷◌, ◌++◌, length, map, Some, refl}
+use Rattle.std.proofs.Common.{sym, ap, subst, ◌∙◌, append_assoc, append-nil, eq-eqb}
 use Rattle.std.proofs.lemmas.Bool.Decides.{eqb_tells}
-use Rattle.std.proofs.lemmas.List.Elements.{All-head, All-tail}
 use Rattle.char_files.specs.CharFiles.{Files, bytes_of, OthersStay, SameBytes}
-use Rattle.char_files.specs.CharName.{CharName}
-use Rattle.char_files.specs.declared.TheConstants.{MAX_FILE}
-use Rattle.char_files.specs.declared.name.Anchor.{Anchor}
-use Rattle.char_files.specs.declared.name.Anchor.TheVariants.{At}
 use Rattle.list_changes.specs.Changes.{IsOfKind}
 use Rattle.list_changes.specs.declared.change.Change.{Change}
 use Rattle.list_changes.specs.declared.change.ChangeKind.TheVariants.{Insert}
 use Rattle.operations.specs.Letters.{after_letter, letter, letters}
-use Rattle.operations.specs.NameSet.{IsIn}
-use Rattle.operations.specs.Operation.{Operation, insert}
-use Rattle.operations.specs.Spelling.{HasSpelling}
-use Rattle.operations.specs.declared.op.TheConstants.{MAX_STAMP}
+use Rattle.operations.specs.Operation.{Operation}
 use Rattle.operations.specs.declared.typing.Typing.{Typing}
 use Rattle.set_laws.proofs.NextLetter.{next_letter}
-use Rattle.set_laws.specs.Fronts.{file_len}
 use Rattle.set_laws.specs.Verdict.{HasVerdict, IsNew, ready}
 use Rattle.tree_order.specs.Registers.{Atom, AreAtoms}
-use Rattle.piece_list.specs.Noted.{Notes, appearances}
+use Rattle.piece_list.specs.Noted.{Notes}
 use Rattle.piece_list.specs.Piece.{Piece}
 use Rattle.piece_list.specs.Pieces.{chars_of, piece_of}
 use Rattle.piece_list.specs.Placed.{IsPlaced}
-use Rattle.piece_list.specs.Spelled.{HasName, shown_chars, spelled}
+use Rattle.piece_list.specs.Spelled.{shown_chars, spelled}
 use Rattle.piece_list.specs.Typed.{AreTypedIn, first_letter, told_of}
-use Rattle.piece_list.specs.declared.run.Run.{Run}
 use Rattle.taken_text.specs.Letters.{run_of}
 use Rattle.taken_text.specs.Noted.{AreChangesSince, IsNotedText}
 use Rattle.taken_text.specs.Taken.{IsTaken, char_in, chars_shown}
 use Rattle.taken_text.proofs.Noting.{gains_told, shown_same, shown_stay, since_more}
-use Rattle.taken_text.proofs.Ready.{none_after}
 use Rattle.taken_text.proofs.Spelling.{same_taken}
 use Rattle.taken_text.proofs.Taking.{taken_with_run}
 

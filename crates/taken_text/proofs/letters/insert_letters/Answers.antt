@@ -1,4 +1,4 @@
-use Rattle.std.proofs.Common.{◌≡◌, ◌+◌, ◌<◌, ◌≤◌, ◌++◌, List, ℕ, length, ap, subst, sym, ◌∙◌, arith, refl}
+use Rattle.std.proofs.Common.{◌≡◌, ◌+◌, ◌≤◌, List, ℕ, length, ap, subst, arith, refl}
 use Rattle.std.proofs.lemmas.Grind.{common_steps}
 use Rattle.char_files.specs.CharFiles.{bytes_of}
 use Rattle.char_files.specs.declared.TheConstants.{MAX_FILE}
@@ -8,7 +8,6 @@ use Rattle.set_laws.specs.Fronts.{file_len}
 use Rattle.piece_list.specs.Typed.{AreTypedIn}
 use Rattle.piece_list.specs.declared.run.Run.{Run}
 use Rattle.piece_list.specs.Spelled.{spelled}
-use Rattle.taken_text.specs.Letters.{run_of}
 use Rattle.taken_text.proofs.Bytes.{appended}
 use Rattle.taken_text.proofs.Ready.{none_after}
 use Rattle.taken_text.proofs.TypedIn.{letters_taken}

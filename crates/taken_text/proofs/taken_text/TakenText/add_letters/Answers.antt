@@ -1,7 +1,5 @@
-use Rattle.std.proofs.Common.{◌≡◌, ℕ, ◌+◌, List, [], ◌∷◌, ◌++◌, ap, subst, sym, ◌∙◌}
-use Rattle.operations.specs.Letters.{letter, letters}
-use Rattle.operations.specs.Operation.{Operation}
-use Rattle.set_laws.specs.Fronts.{file_len, front_of}
+use Rattle.std.proofs.Common.{◌≡◌, ℕ, ap, subst, sym, ◌∙◌}
+use Rattle.operations.specs.Letters.{letter}
 use Rattle.set_laws.specs.Verdict.{HasVerdict, IsNew, ready}
 use Rattle.taken_text.specs.Noted.{IsNotedText}
 use Rattle.taken_text.specs.Taken.{TakenSeen, chars_shown}
