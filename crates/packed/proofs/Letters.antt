@@ -153,7 +153,7 @@ typed_next t text typing bytes on some few spelled plain = record {
 
 -- ---- letters that stand as their bytes are typed on
 
-length_of_letters : (typing : Typing) (bytes : List ℕ) → length (letters typing bytes) ≡ length bytes
+pub length_of_letters : (typing : Typing) (bytes : List ℕ) → length (letters typing bytes) ≡ length bytes
 length_of_letters typing [] = refl
 length_of_letters typing (b ∷ bytes) = omega (arith, length_of_letters (after_letter typing) bytes)
 

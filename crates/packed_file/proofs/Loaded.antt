@@ -6,27 +6,30 @@ use Rattle.std.proofs.lemmas.List.{append-nil, get_or-append-add, get_or_append_
 use Rattle.std.proofs.lemmas.List.Elements.{All-contains, Contains-append_left, Contains-append_right}
 use Rattle.std.proofs.Math.Seq.{get_or-append_seam}
 use Rattle.looks.specs.declared.refusal.Refusal.{Refusal}
+use Rattle.operations.specs.Letters.{letters}
 use Rattle.operations.specs.Operation.{Operation}
 use Rattle.operations.specs.Spelling.{HasSpelling}
+use Rattle.operations.specs.declared.typing.Typing.{Typing}
 use Rattle.byte_fields.proofs.Readers.{IsBytes, some_is}
 use Rattle.tree_order.specs.Good.{Good}
 use Rattle.set_laws.specs.Verdict.{IsNew, ready}
 use Rattle.set_laws.proofs.ByVerdict.{grows_by_verdict}
-use Rattle.texts.specs.Taking.{HasTaken, HasTakenAll, IsJudged}
+use Rattle.texts.specs.Taking.{HasTakenAll, IsJudged}
 use Rattle.texts.specs.Text.{IsText}
 use Rattle.texts.specs.TextState.{TextState, empty_text}
-use Rattle.packed.specs.Laws.{IsHistory}
+use Rattle.packed.specs.Laws.{CanFollow, IsHistory}
+use Rattle.packed.specs.Letters.{AreTypedNext}
 use Rattle.packed.specs.Reading.{CanBeNext}
 use Rattle.packed.specs.Spelling.{packed, packed_after, packed_next}
-use Rattle.packed.specs.Told.{Told, nothing_told, told, told_on}
-use Rattle.packed.proofs.PackedLists.{adds_at_the_end}
+use Rattle.packed.specs.Told.{Told, nothing_told, told, told_after, told_on}
+use Rattle.packed.proofs.Letters.{length_of_letters}
 use Rattle.packed_file.specs.declared.TheConstants.{MAX_PACKED}
 use Rattle.packed_file.specs.declared.reading.Head.{Head}
 use Rattle.packed_file.specs.PackedFiles.{BeginsAsPackedFile, HasPackedFile, IsPackedFileOf, tag}
-use Rattle.packed_file.specs.Parts.{ArePacked, IsFirst, head_at, head_spelling}
+use Rattle.packed_file.specs.Parts.{ArePacked, HasTakenFirst, IsFirst, head_at, head_spelling}
 use Rattle.packed_file.proofs.Fields.{head_reads}
 use Rattle.packed_file.proofs.OnePacked.{are_good, are_history, file_parts, head_of, head_told}
-use Rattle.packed_file.proofs.Packings.{all_spelled, follow_more, next_at, told_first}
+use Rattle.packed_file.proofs.Packings.{all_spelled, follow_all, next_at, packed_more, told_first, told_more}
 use Rattle.packed_file.proofs.Takings.{same_room}
 
 -- so many operations were read and taken in; what they tell, and the bytes that are left
@@ -37,6 +40,11 @@ pub record SoFar (start now : TextState) (t : Told) (bytes : List ℕ) (n : ℕ)
   pub tells : t ≡ told done
   pub taken : HasTakenAll start done now
   pub parts : bytes ≡ packed done ++ rest
+
+-- not too many
+pub record IsUnderWay (start now : TextState) (t : Told) (bytes : List ℕ) (n : ℕ) (rest : List ℕ) : Type 0 where
+  pub so_far : SoFar start now t bytes n rest
+  pub few : n ≤ MAX_PACKED
 
 pub none_yet : (start : TextState) (bytes : List ℕ) → IsText start → SoFar start start nothing_told bytes 0 bytes
 none_yet start bytes is = record {
@@ -51,38 +59,49 @@ none_yet start bytes is = record {
   parts = refl;
 }
 
--- the next one was read and taken in
-abbrev pub TakesFirst : (now new : TextState) (t u : Told) (bytes rest : List ℕ) → Type 0
-TakesFirst now new t u bytes rest =
-    (op : Operation) × IsFirst t now.text bytes op rest × (u ≡ told_on t op) × HasTaken now op new
-
-pub one_more : (start now new : TextState) (t u : Told) (bytes : List ℕ) (n : ℕ) (rest after : List ℕ)
-    → SoFar start now t bytes n rest → TakesFirst now new t u rest after → SoFar start new u bytes (n + 1) after
-one_more start now new t u bytes n rest after s (op, first, next, has) =
+-- and so many more
+pub some_more : (start now new : TextState) (t u : Told) (bytes : List ℕ) (n m : ℕ) (rest after : List ℕ)
+    → SoFar start now t bytes n rest → HasTakenFirst now t rest m after new u → SoFar start new u bytes (n + m) after
+some_more start now new t u bytes n m rest after s first =
+    let ops : List Operation = first.ops in
     let more : List Operation → TextState = λ ops. record start { operations = ops; order = new.order } in
     let text : now.text ≡ start.text = ap (λ (v : TextState). v.text) s.taken.grown in
-    let can : CanBeNext (told s.done) start.text op =
-    subst (λ (v : Told). CanBeNext v start.text op) s.tells (subst (λ (n : ℕ). CanBeNext t n op) text first.can) in
+    let follow : CanFollow (told s.done) start.text ops =
+    subst (λ (v : Told). CanFollow v start.text ops) s.tells (subst (λ (n : ℕ). CanFollow t n ops) text first.follow) in
     record {
-      done = s.done ++ op ∷ [];
-      counted = omega (arith, length-append s.done (op ∷ []), s.counted);
-      are = follow_more nothing_told start.text s.done op s.are can;
-      tells = next ∙ ap (λ (v : Told). told_on v op) s.tells ∙ sym (adds_at_the_end s.done op).1;
+      done = s.done ++ ops;
+      counted = omega (arith, length-append s.done ops, s.counted, first.counted);
+      are = follow_all nothing_told start.text s.done ops s.are follow;
+      tells = first.tells ∙ ap (λ (v : Told). told_after v ops) s.tells ∙ sym (told_more nothing_told s.done ops);
       taken = record {
-        is = has.is;
+        is = first.taken.is;
         grown =
-            has.grown
-            ∙ ap (λ (v : TextState). record v { operations = v.operations ++ op ∷ []; order = new.order }) s.taken.grown
-            ∙ ap more (append_assoc start.operations s.done (op ∷ []));
+            first.taken.grown
+            ∙ ap (λ (v : TextState). record v { operations = v.operations ++ ops; order = new.order }) s.taken.grown
+            ∙ ap more (append_assoc start.operations s.done ops);
       };
-      parts = s.parts ∙ ap (λ (r : List ℕ). packed s.done ++ r) first.parts ∙ joined op;
+      parts = s.parts ∙ ap (λ (r : List ℕ). packed s.done ++ r) first.parts ∙ joined ops;
     }
   where
-    joined : (op : Operation) → packed s.done ++ (packed_next t op ++ after) ≡ packed (s.done ++ op ∷ []) ++ after
-    joined op =
-        ap (λ (v : Told). packed s.done ++ (packed_next v op ++ after)) s.tells
-        ∙ sym (append_assoc (packed s.done) (packed_next (told s.done) op) after)
-        ∙ ap (λ (l : List ℕ). l ++ after) (sym (adds_at_the_end s.done op).0)
+    joined : (ops : List Operation) → packed s.done ++ (packed_after t ops ++ after) ≡ packed (s.done ++ ops) ++ after
+    joined ops =
+        ap (λ (v : Told). packed s.done ++ (packed_after v ops ++ after)) s.tells
+        ∙ sym (append_assoc (packed s.done) (packed_after (told s.done) ops) after)
+        ∙ ap (λ (l : List ℕ). l ++ after) (sym (packed_more nothing_told s.done ops))
+
+-- where a row of letters was
+pub letters_first : (now new : TextState) (t u : Told) (bytes typed rest : List ℕ) (typing : Typing)
+    → bytes ≡ typed ++ rest → AreTypedNext t now.text typing typed → HasTakenAll now (letters typing typed) new
+    → u ≡ told_after t (letters typing typed) → HasTakenFirst now t bytes (length typed) rest new u
+letters_first now new t u bytes typed rest typing parts are taken tells = record {
+  ops = letters typing typed;
+  counted = length_of_letters typing typed;
+  some = are.some;
+  follow = are.follow;
+  parts = parts ∙ ap (λ (l : List ℕ). l ++ rest) (sym are.packed);
+  tells = tells;
+  taken = taken;
+}
 
 -- nothing waits
 pub nothing_waits : (start now : TextState) (t : Told) (bytes : List ℕ) (n : ℕ) (rest : List ℕ)
@@ -170,7 +189,6 @@ module _ (start now : TextState) (t : Told) (bytes : List ℕ) (n : ℕ) (rest :
     after : List ℕ
     first : IsFirst t now.text rest op after
     judged : IsJudged now op ready
-    more : n < length ops
 
   -- where bytes are left, there is a next one
   left_there : 0 < length rest → IsLeft
@@ -189,7 +207,6 @@ module _ (start now : TextState) (t : Told) (bytes : List ℕ) (n : ℕ) (rest :
             after = packed_after (told_on (told s.done) op) todo;
             first = first;
             judged = next_judged op todo e first.can.spelled;
-            more = omega (arith, ap length e, length-append s.done (op ∷ todo), s.counted);
           }
 
   -- which isn't refused
@@ -197,13 +214,13 @@ module _ (start now : TextState) (t : Told) (bytes : List ℕ) (n : ℕ) (rest :
       → ((op : Operation) (after : List ℕ) → IsFirst t now.text rest op after → IsJudged now op ready → ⊥) → ⊥
   left_ready some none = let it = left_there some in none it.op it.after it.first it.judged
 
-  -- and not all were read
-  pub left_few : 0 < length rest → n ≡ MAX_PACKED → ⊥
-  left_few some all =
-      let it = left_there some in
-      let more = it.more in
-      let few = tells.few in
-      omega (arith, more, few, all)
+  -- and no more were read than there are
+  pub done_few : n ≤ MAX_PACKED
+  done_few =
+      let (todo, e, left) =
+      told_first start.text s.done ops rest s.are (are_history start.text start.site ops tells)
+      (sym spells ∙ s.parts) in
+      omega (arith, tells.few, ap length e, length-append s.done todo, s.counted)
 
 -- all operations were read
 pub all_read : (start now : TextState) (t : Told) (bytes : List ℕ) (n : ℕ) (rest : List ℕ)

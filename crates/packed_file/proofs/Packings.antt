@@ -20,6 +20,17 @@ packed_more t (op ∷ ops) more =
     ∙ sym (append_assoc (packed_next t op) (packed_after (told_on t op) ops)
     (packed_after (told_after (told_on t op) ops) more))
 
+-- and tell more
+pub told_more : (t : Told) (ops more : List Operation) → told_after t (ops ++ more) ≡ told_after (told_after t ops) more
+told_more t [] more = refl
+told_more t (op ∷ ops) more = told_more (told_on t op) ops more
+
+-- where those follow on, and these behind them, all do
+pub follow_all : (t : Told) (text : ℕ) (ops more : List Operation) → CanFollow t text ops
+    → CanFollow (told_after t ops) text more → CanFollow t text (ops ++ more)
+follow_all t text [] more follow then = then
+follow_all t text (op ∷ ops) more follow then = (follow.0, follow_all (told_on t op) text ops more follow.1 then)
+
 -- one that can be next behind operations that follow on does so
 pub follow_more : (t : Told) (text : ℕ) (ops : List Operation) (op : Operation) → CanFollow t text ops
     → CanBeNext (told_after t ops) text op → CanFollow t text (ops ++ op ∷ [])

@@ -1,15 +1,18 @@
 -- The parts of a packed file.
-use Rattle.std.specs.Prelude.{◌≡◌, ℕ, ◌≤◌, List, ◌++◌, length, All, Option, Some}
+use Rattle.std.specs.Prelude.{◌≡◌, ℕ, ◌<◌, ◌≤◌, List, ◌++◌, length, All, Option, Some}
 use Rattle.std.specs.Int.{w16}
 use Rattle.byte_fields.specs.Fields.{◌>>=◌, number_spelling, positive_at}
 use Rattle.operations.specs.Operation.{Operation}
 use Rattle.operations.specs.Spelling.{HasSpelling}
 use Rattle.texts.specs.SiteFiles.{IsNumber}
+use Rattle.texts.specs.Taking.{HasTakenAll}
+use Rattle.texts.specs.TextState.{TextState}
 use Rattle.texts.specs.declared.took.Took.{Took}
 use Rattle.texts.specs.declared.took.Took.TheVariants.{Taken, Repeat, Waits}
+use Rattle.packed.specs.Laws.{CanFollow}
 use Rattle.packed.specs.Reading.{CanBeNext}
-use Rattle.packed.specs.Spelling.{packed, packed_next}
-use Rattle.packed.specs.Told.{Told}
+use Rattle.packed.specs.Spelling.{packed, packed_after, packed_next}
+use Rattle.packed.specs.Told.{Told, told_after}
 use Rattle.packed_file.specs.declared.TheConstants.{MAX_PACKED}
 use Rattle.packed_file.specs.declared.reading.Head.{Head}
 
@@ -33,6 +36,17 @@ head_at bytes = do
 pub record IsFirst (told : Told) (text : ℕ) (bytes : List ℕ) (op : Operation) (rest : List ℕ) : Type 0 where
   pub can : CanBeNext told text op
   pub parts : bytes ≡ packed_next told op ++ rest
+
+-- so many operations were taken in that the bytes begin with, one at least, packed after those that told this; and what they tell
+pub record HasTakenFirst (t : TextState) (told : Told) (bytes : List ℕ) (n : ℕ) (rest : List ℕ) (new : TextState) (then : Told)
+    : Type 0 where
+  pub ops : List Operation
+  pub counted : length ops ≡ n
+  pub some : 0 < n
+  pub follow : CanFollow told t.text ops
+  pub parts : bytes ≡ packed_after told ops ++ rest
+  pub tells : then ≡ told_after told ops
+  pub taken : HasTakenAll t ops new
 
 -- the bytes are these operations, packed, of which a file can tell so many
 pub record ArePacked (ops : List Operation) (bytes : List ℕ) : Type 0 where

@@ -1,5 +1,10 @@
-use Rattle.packed_file.proofs.Loaded.{SoFar}
+use Rattle.std.proofs.Common.{◌-◌}
+use Rattle.packed_file.specs.declared.TheConstants.{MAX_PACKED}
+use Rattle.packed_file.proofs.Loaded.{IsUnderWay}
 use Rattle.packed_file.proofs.loading.take_all.Given as goal
 
-abbrev pub invariant-loop : goal.invariant-loop
-invariant-loop l = SoFar l.fn.replica l.replica l.history l.bytes l.counter l.rest
+abbrev pub invariant-loop-rest : goal.invariant-loop-rest
+invariant-loop-rest l = IsUnderWay l.fn.replica l.replica l.history l.bytes l.done l.rest
+
+abbrev pub decreases-loop-rest : goal.decreases-loop-rest
+decreases-loop-rest l = MAX_PACKED - l.done
