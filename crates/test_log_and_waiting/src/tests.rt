@@ -2,6 +2,7 @@
 //! hand.
 use std::test::Fail;
 
+mod letters;
 mod logs;
 mod rooms;
 mod told;

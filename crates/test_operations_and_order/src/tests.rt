@@ -17,6 +17,7 @@ mod registers;
 mod set_laws;
 mod shown;
 mod spelled_looks;
+mod typing;
 mod written_and_read;
 
 // A failure that tells what isn't right.

@@ -2,6 +2,7 @@
 //! worked out by hand.
 use std::test::Fail;
 
+mod letters;
 mod shown;
 mod stretches;
 mod told;

@@ -2,6 +2,7 @@
 //! to make them.
 use std::test::Fail;
 
+mod letters;
 mod pasts;
 mod plain;
 mod played;

@@ -25,7 +25,7 @@ const SITES: &[(u16, u32, u32)] = &[(1, 3, 3), (2, 3, 3), (3, 0, 0)];
 
 const NO_SITES: &[(u16, u32, u32)] = &[(1, 0, 0)];
 
-fn are_counted(log: &Log, sites: &[(u16, u32, u32)]) -> Result<(), Fail> {
+pub(super) fn are_counted(log: &Log, sites: &[(u16, u32, u32)]) -> Result<(), Fail> {
     for (number, front, len) in sites {
         let site = site(*number)?;
         is(log.front(site) == *front, "a front")?;
@@ -108,7 +108,7 @@ const STAMPS: &[((u16, u32), u64)] = &[
     ((2, 2), 3),
 ];
 
-fn have_stamps(log: &Log, stamps: &[((u16, u32), u64)]) -> Result<(), Fail> {
+pub(super) fn have_stamps(log: &Log, stamps: &[((u16, u32), u64)]) -> Result<(), Fail> {
     for (parts, stamp) in stamps {
         let name = name(*parts)?;
         if log.file_len(name.site()) <= name.off() {

@@ -32,7 +32,7 @@ pub(super) fn name((number, off): (u16, u32)) -> Result<Name, Fail> {
     Ok(Name::new(site(number)?, off).ok_or("a name")?)
 }
 
-fn anchor(cause: Option<(u16, u32)>) -> Result<Anchor, Fail> {
+pub(super) fn anchor(cause: Option<(u16, u32)>) -> Result<Anchor, Fail> {
     Ok(match cause {
         None => Anchor::Root,
         Some(parts) => Anchor::At(name(parts)?),
@@ -80,7 +80,7 @@ pub(super) fn is_told(op: &Op, alloc: Global, told: Told, what: &'static str) ->
 }
 
 // Takes the operation in, if it is its site's next.
-fn take(log: &mut Log, op: Op) -> Result<(), Fail> {
+pub(super) fn take(log: &mut Log, op: Op) -> Result<(), Fail> {
     let next = u64::from(log.front(op.site())) + 1;
     let is_next = u64::from(op.seq()) == next && op.begins_at(u64::from(log.file_len(op.site())));
     if is_next && log.reserve(op.site()).is_ok() {

@@ -9,7 +9,7 @@ use taken_text::TakenText;
 // Each character that is shown: its name, its byte, its colour.
 const SHOWN: &[(Parts, u8, u8)] = &[((1, 0), b'A', 1), ((2, 0), b'X', 1), ((1, 1), b'C', 3)];
 
-fn parts_of(char: &Char) -> (Parts, u8, u8) {
+pub(super) fn parts_of(char: &Char) -> (Parts, u8, u8) {
     let name = (char.name.site().get(), char.name.off());
     (name, char.byte, char.looks.colour.number())
 }

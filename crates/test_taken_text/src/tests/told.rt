@@ -41,7 +41,7 @@ pub(super) const TOLD: &[Told] = &[
     (2, 3, 4, Does::ChangeColour(3, (1, 1))),
 ];
 
-fn site(number: u16) -> Result<SiteNo, Fail> {
+pub(super) fn site(number: u16) -> Result<SiteNo, Fail> {
     Ok(SiteNo::new(number).ok_or("a site")?)
 }
 
@@ -49,7 +49,7 @@ pub(super) fn name((number, off): Parts) -> Result<Name, Fail> {
     Ok(Name::new(site(number)?, off).ok_or("a name")?)
 }
 
-fn anchor(cause: Option<Parts>) -> Result<Anchor, Fail> {
+pub(super) fn anchor(cause: Option<Parts>) -> Result<Anchor, Fail> {
     Ok(match cause {
         None => Anchor::Root,
         Some(parts) => Anchor::At(name(parts)?),
@@ -95,7 +95,7 @@ fn op_of(alloc: Global, (number, seq, stamp, does): Told) -> Result<Op, Fail> {
 }
 
 // Whether the text may take the operation in.
-fn is_ready(text: &TakenText, op: &Op) -> bool
+pub(super) fn is_ready(text: &TakenText, op: &Op) -> bool
     ensures new { IsTrue result → IsNew text.now.operations op.now }
     ensures ready { IsTrue result → HasVerdict text.now.operations op.now ready }
 {
@@ -112,13 +112,17 @@ fn is_ready(text: &TakenText, op: &Op) -> bool
 }
 
 // Takes the operation in, if it is ready.
-pub(super) fn take(text: &mut TakenText, alloc: Global, told: Told) -> Result<(), Fail> {
-    let op = op_of(alloc, told)?;
+pub(super) fn take_op(text: &mut TakenText, op: Op) -> Result<(), Fail> {
     if !is_ready(text, &op) {
         return Err("not ready".into());
     }
     text.add(op)?;
     Ok(())
+}
+
+pub(super) fn take(text: &mut TakenText, alloc: Global, told: Told) -> Result<(), Fail> {
+    let op = op_of(alloc, told)?;
+    take_op(text, op)
 }
 
 // Takes the operations in, in this order.

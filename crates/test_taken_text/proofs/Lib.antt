@@ -1,0 +1,2 @@
+-- Lemmas about letters that are taken in at once.
+mod Letters
