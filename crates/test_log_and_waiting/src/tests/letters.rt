@@ -127,7 +127,7 @@ fn push_letters(log: &mut Log, typing: &Typing, bytes: &[u8]) -> Result<(), Fail
     let next = u64::from(log.front(typing.site)) + 1;
     let are_next = u64::from(typing.seq) == next && typing.at == log.file_len(typing.site);
     if are_next
-        && typing.has_room(bytes.len())
+        && bytes.len() as u64 <= typing.room()
         && log.reserve_letters(typing.site, bytes.len()).is_ok()
     {
         log.push_letters(typing, bytes);

@@ -49,7 +49,7 @@ const ROOMS: &[(&str, At, usize, bool)] = &[
 fn there_is_room_up_to_the_limits(rt: HostRuntime) -> Result<(), Fail> {
     for (what, at, len, want) in ROOMS {
         let typing = typing(*at, PLAIN)?;
-        is(typing.has_room(*len) == *want, what)?;
+        is((*len as u64 <= typing.room()) == *want, what)?;
     }
     Ok(())
 }
@@ -87,7 +87,7 @@ fn is_letter(op: &Op, at: At, looks: LooksParts, byte: u8) -> bool {
 
 fn makes_letter(alloc: Global, at: At, looks: LooksParts, byte: u8) -> Result<bool, Fail> {
     let typing = typing(at, looks)?;
-    if !typing.has_room(1) {
+    if typing.room() == 0 {
         return Err("no room".into());
     }
     let op = typing.letter(alloc, byte)?;

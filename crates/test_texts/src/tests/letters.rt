@@ -100,7 +100,7 @@ fn have_room(typing: &Typing, bytes: &[u8]) -> bool
     ensures few { IsTrue result → length bytes.now ≤ MAX_INSERT }
     ensures spelled { IsTrue result → All HasSpelling (letters typing.now bytes.now) }
 {
-    !bytes.is_empty() && bytes.len() <= MAX_INSERT && typing.has_room(bytes.len())
+    !bytes.is_empty() && bytes.len() <= MAX_INSERT && bytes.len() as u64 <= typing.room()
 }
 
 fn take(replica: &mut Replica, typing: &Typing, bytes: &[u8]) -> Result<bool, Fail> {
