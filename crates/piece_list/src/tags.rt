@@ -1,4 +1,5 @@
-ghost use Rattle.std.specs.Prelude.{◌≡◌, ◌≢◌, ℕ, ◌+◌, ◌<◌, ◌≤◌, [], Some as Just, length, OnOk};
+ghost use Rattle.std.specs.Prelude.{◌≡◌, ◌≢◌, ℕ, ◌+◌, ◌<◌, ◌≤◌, [], Some as Just, length, nat_eq, option_copied, OnOk};
+ghost use Rattle.std.specs.Map.{lookup};
 ghost use Rattle.looks.specs.Refusal.{RefusedForMemoryAlone};
 ghost use Rattle.piece_list.specs.Tables.{tag_in, table_of, tag_at};
 ghost use Rattle.piece_list.specs.declared.tags.TheConstants.{NO_TAG};
@@ -69,6 +70,8 @@ impl SiteTags {
 #[derive(Drop)]
 pub(crate) struct TagTables {
     sites: IndexMap<u16, SiteTags>,
+    // Where to look first: the table that was made longer last.
+    last: usize,
     alloc: Global,
 }
 
@@ -86,7 +89,29 @@ impl TagTables {
     {
         TagTables {
             sites: IndexMap::new(alloc),
+            last: 0,
             alloc,
+        }
+    }
+
+    // A site's table.
+    fn table(&self, site: u16) -> Option<&SiteTags>
+        ensures { option_copied result ≡ lookup (nat_eq site) self.now }
+    {
+        match self.sites.get_index(self.last) {
+            Some((key, tags)) if *key == site => Some(tags),
+            _ => self.sites.get(&site),
+        }
+    }
+
+    // Where the site's table stands, or the next one is to stand.
+    fn slot(&self, site: u16) -> usize {
+        match self.sites.get_index(self.last) {
+            Some((key, _)) if *key == site => self.last,
+            _ => match self.sites.get_full(&site) {
+                Some((slot, _, _)) => slot,
+                None => self.sites.len(),
+            },
         }
     }
 
@@ -94,7 +119,7 @@ impl TagTables {
     pub fn get(&self, name: Name) -> Option<u64>
         ensures { result ≡ tag_at self.now name }
     {
-        match self.sites.get(&name.site().get()) {
+        match self.table(name.site().get()) {
             Some(tags) => tags.get(name.off()),
             None => None,
         }
@@ -107,6 +132,7 @@ impl TagTables {
         ensures same { (other off : ℕ) → tag_in (table_of self.new other) off
             ≡ tag_in (table_of self.old other) off }
     {
+        self.last = self.slot(site.get());
         if let Some(tags) = self.sites.get_mut(&site.get()) {
             return tags.grow(len);
         }
