@@ -1,5 +1,5 @@
 -- Answers that are printed part by part.
-use Rattle.std.proofs.Common.{◌≡◌, ℕ, ◌+◌, ◌-◌, ◌/◌, ◌%◌, ◌<◌, ◌≤◌, List, [], ◌∷◌, ◌++◌, length, take, drop, get_or, Result, Err, Option, refl, sym, ap, subst, ◌∙◌, append_assoc, append-nil, add-one, drop-cons, take-append-drop, arith}
+use Rattle.std.proofs.Common.{◌≡◌, ℕ, ◌+◌, ◌-◌, ◌<◌, ◌≤◌, List, [], ◌∷◌, ◌++◌, length, take, drop, get_or, Result, Err, Option, sym, ap, subst, ◌∙◌, append_assoc, append-nil, add-one, drop-cons, take-append-drop, arith}
 use Rattle.std.specs.Prelude.{slice_get, Bool, Some, IsErrAnd}
 use Rattle.std.specs.Io.KnownBytes.{Appends}
 use Rattle.std.proofs.KnownBytes.{Appends-trans}

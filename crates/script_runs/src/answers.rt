@@ -1,4 +1,4 @@
-ghost use Rattle.std.specs.Prelude.{ℕ, ◌+◌, ◌≤◌, ◌∷◌, ◌++◌, codes, drop, length};
+ghost use Rattle.std.specs.Prelude.{◌≡◌, ℕ, ◌+◌, ◌*◌, ◌≤◌, [], ◌∷◌, ◌++◌, codes, drop, length};
 ghost use Rattle.std.specs.Fmt.{decimal};
 ghost use Rattle.hex.specs.Hex.{encode_lower};
 ghost use Rattle.machine.specs.Events.{edit_reply, merge_reply, take_reply, unpack_reply};
@@ -98,14 +98,63 @@ pub fn put_refused<W: Write>(output: &mut Output<W>, why: Refusal) -> Result<(),
     put(output, b"\n")
 }
 
-// The line of one message, the run's k-th.
-fn put_send<W: Write>(output: &mut Output<W>, k: u128, message: &[u8]) -> Result<(), Refusal>
+// A blank, the digits of a message, and the end of its line.
+fn fill_hex_line(message: &[u8], line: &mut [u8])
+    requires { length line.old ≡ 2 * length message.now + 2 }
+    ensures { line.new ≡ 32 ∷ encode_lower message.now ++ 10 ∷ [] }
+{
+    let (blank, rest) = line.split_at_mut(1);
+    let (digits, newline) = rest.split_at_mut(2 * message.len());
+    blank[0] = b' ';
+    let _ = hex::encode_to_slice(message, digits);
+    newline[0] = b'\n';
+}
+
+// The whole line of a message whose number has these digits.
+fn fill_send_line(number: &[u8], message: &[u8], line: &mut [u8])
+    requires { length line.old ≡ 6 + length number.now + 2 * length message.now + 2 }
+    ensures { line.new ≡ codes "send m" ++ number.now ++ 32 ∷ encode_lower message.now ++ 10 ∷ [] }
+{
+    let (front, rest) = line.split_at_mut(6);
+    let (digits, rest) = rest.split_at_mut(number.len());
+    front.copy_from_slice(b"send m");
+    digits.copy_from_slice(number);
+    fill_hex_line(message, rest);
+}
+
+// The line of a message of one stretch, the run's k-th, in one write.
+#[tactic(auto, unfolding(crate::specs::Answers::send_line))]
+fn put_short_send<W: Write>(output: &mut Output<W>, k: u128, message: &[u8]) -> Result<(), Refusal>
+    requires { length message.now ≤ STRETCH }
+    ensures { Puts result output.old output.new (send_line k message.now) }
+{
+    let mut number = itoa::Buffer::new();
+    let number = number.format(k).as_bytes();
+    let mut room = [0; 2 * STRETCH + 48];
+    let line = &mut room[..6 + number.len() + 2 * message.len() + 2];
+    fill_send_line(number, message, line);
+    put(output, line)
+}
+
+// The same of any message.
+fn put_long_send<W: Write>(output: &mut Output<W>, k: u128, message: &[u8]) -> Result<(), Refusal>
     ensures { Puts result output.old output.new (send_line k message.now) }
 {
     put_numbered_far(output, b"send m", k)?;
     put(output, b" ")?;
     put_hex(output, message)?;
     put(output, b"\n")
+}
+
+// The line of one message, the run's k-th.
+fn put_send<W: Write>(output: &mut Output<W>, k: u128, message: &[u8]) -> Result<(), Refusal>
+    ensures { Puts result output.old output.new (send_line k message.now) }
+{
+    if message.len() <= STRETCH {
+        put_short_send(output, k, message)
+    } else {
+        put_long_send(output, k, message)
+    }
 }
 
 // The lines of the messages of an Outbox after the first `from` of it, where `before` were sent before these.
@@ -179,6 +228,27 @@ fn put_counts<W: Write>(
     }
 }
 
+// The line of a message that was taken in. Mostly no other had waited for it, and that line is at hand.
+fn put_drained<W: Write>(
+    output: &mut Output<W>,
+    drained: u32,
+    dropped: u32,
+    stopped: bool,
+) -> Result<(), Refusal>
+    ensures { Puts result output.old output.new (counts_line (codes "taken ") drained dropped stopped) }
+{
+    if drained == 0 && dropped == 0 && !stopped {
+        return put(output, b"taken 0 0\n");
+    }
+    put_counts(
+        output,
+        b"taken ",
+        u64::from(drained),
+        u64::from(dropped),
+        stopped,
+    )
+}
+
 // Writes the line of a message that was taken.
 fn put_taken<W: Write>(
     output: &mut Output<W>,
@@ -193,13 +263,7 @@ fn put_taken<W: Write>(
                 dropped,
                 stopped,
             },
-        ) => put_counts(
-            output,
-            b"taken ",
-            u64::from(drained),
-            u64::from(dropped),
-            stopped,
-        ),
+        ) => put_drained(output, drained, dropped, stopped),
         Ok(Took::Repeat) => put(output, b"repeat\n"),
         Ok(Took::Waits) => put(output, b"waits\n"),
         Err(why) => put_refused(output, why),

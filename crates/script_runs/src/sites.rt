@@ -61,7 +61,7 @@ impl Sites {
             Answers (run_of self.old was) line.now answer (run_of self.new now)) }
     {
         let answered = self.desks.answer(&self.sent, output, shelf, line);
-        self.desks.let_go(&mut self.sent);
+        let _ = self.desks.let_go(&mut self.sent);
         answered
     }
 }

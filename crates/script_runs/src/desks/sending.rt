@@ -1,6 +1,6 @@
 //! The messages of a run: where their operations stand, which are handed in for them.
 
-ghost use Rattle.std.specs.Prelude.{◌≡◌, ◌≤◌, ◌<◌, ◌+◌, ◌++◌, ℕ, List, length, IfOk, IfSome};
+ghost use Rattle.std.specs.Prelude.{◌≡◌, ◌≤◌, ◌<◌, ◌+◌, ◌++◌, ℕ, List, [], ◌↔◌, length, IfOk, IfSome, IsTrue};
 ghost use Rattle.looks.specs.Refusal.{RefusedForMemoryAlone};
 ghost use Rattle.operations.specs.Operation.{Operation};
 ghost use Rattle.machine.specs.Events.{sent, take, take_reply};
@@ -11,13 +11,30 @@ ghost use Rattle.script_runs.specs.declared.sent_at.SentAt.{SentAt};
 
 use crate::desks::Desks;
 use crate::sent_at::SentAt;
-use char_files::TextNo;
+use crate::told::tells;
+use byte_fields::{site_at, stretch_at, text_at};
+use char_files::{SiteNo, TextNo};
 use looks::Refusal;
 use machine::MAX_TEXT;
-use operations::{Op, decode};
+use operations::Op;
 use script_events::Delivery;
 use script_io::MAX_LINE;
-use texts::{Outbox, Took};
+use texts::Took;
+
+// Where the text's number stands in a message.
+const TEXT_FIELD: usize = 4;
+
+// The text and the site of which a message speaks. They say where its operation is looked for, and no more rests on them.
+fn text_and_site(message: &[u8]) -> Option<(TextNo, SiteNo)> {
+    let (_, rest) = stretch_at(TEXT_FIELD, message)?;
+    let Some((text, rest)) = text_at(rest) else {
+        return None;
+    };
+    let Some((site, _)) = site_at(rest) else {
+        return None;
+    };
+    Some((text, site))
+}
 
 impl Desks {
     // The operation that stands there. Refused `OutOfMemory` alone.
@@ -31,12 +48,12 @@ impl Desks {
             .taken(u64::from(at.place))
     }
 
-    // Where an operation is looked for after which its site's text took in so many, if there is such a place.
-    fn place_of(&self, op: &Op, later: u64) -> Option<SentAt>
+    // Where the operation of a message is looked for after which its site's text took in so many, if there is such a place.
+    fn place_of(&self, message: &[u8], later: u64) -> Option<SentAt>
         ensures { IfSome result (λ at. (other : Operation) × StandsAt (texts_of self.now) at other) }
     {
-        let desk = op.site().get().checked_sub(self.first)?;
-        let text = op.text();
+        let (text, site) = text_and_site(message)?;
+        let desk = site.get().checked_sub(self.first)?;
         if self.desks.len() <= usize::from(desk) || MAX_TEXT < text.get() {
             return None;
         }
@@ -50,22 +67,18 @@ impl Desks {
         Some(SentAt { place, text, desk })
     }
 
-    // Where an operation stands, if its site's text took in so many after it.
-    fn find(&self, op: &Op, later: u64) -> Option<SentAt>
-        ensures { IfSome result (λ at. StandsAt (texts_of self.now) at op.now) }
-    {
-        let at = self.place_of(op, later)?;
-        let taken = self.op_at(&at).ok()?;
-        if taken.is_same(op) { Some(at) } else { None }
-    }
-
     // Where the operation of a message stands, if its site's text took in so many after it.
     fn told_at(&self, message: &[u8], later: u64) -> Option<SentAt>
         ensures { IfSome result (IsTold (texts_of self.now) message.now) }
     {
-        let op = decode(*self.bytes.allocator(), message).ok()?;
+        let at = self.place_of(message, later)?;
+        let op = self.op_at(&at).ok()?;
         op.lemma_has_spelling();
-        self.find(&op, later)
+        if tells(*self.bytes.allocator(), message, &op) {
+            Some(at)
+        } else {
+            None
+        }
     }
 
     // Notes where the operations of the messages stand whose bytes are held. They are looked for as the last that their text
@@ -86,20 +99,27 @@ impl Desks {
     }
 
     /// Lets the bytes of the messages go, and notes where their operations stand. Where one isn't found, or memory is refused,
-    /// all are held on to.
-    pub fn let_go(&mut self, noted: &mut Vec<SentAt>)
+    /// all are held on to, and the answer is no.
+    pub fn let_go(&mut self, noted: &mut Vec<SentAt>) -> bool
         requires { AreHeld (texts_of self.old) noted.old.items }
         ensures held { AreHeld (texts_of self.new) noted.new.items }
         ensures same { sent_after (messages_at (texts_of self.new) noted.new.items) self.new
             ≡ sent_after (messages_at (texts_of self.old) noted.old.items) self.old }
+        ensures gone { IsTrue result ↔ (self.new.sent ≡ []) }
     {
         if self.outbox.is_empty() {
-            return;
+            return true;
         }
         let len = noted.len();
         match self.note_each(noted) {
-            Some(()) => self.outbox = Outbox::new(*self.bytes.allocator()),
-            None => noted.truncate(len),
+            Some(()) => {
+                self.outbox.clear();
+                true
+            }
+            None => {
+                noted.truncate(len);
+                false
+            }
         }
     }
 

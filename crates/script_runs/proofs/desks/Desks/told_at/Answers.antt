@@ -1,12 +1,10 @@
-use Rattle.std.proofs.Common.{◌≡◌}
-use Rattle.std.proofs.lemmas.Option.{IfSome_then}
-use Rattle.operations.specs.Operation.{Operation}
-use Rattle.operations.specs.Spelling.{spelling}
+use Rattle.script_runs.specs.Seen.{texts_of}
+use Rattle.script_runs.specs.Sent.{StandsAt}
 use Rattle.script_runs.proofs.Sending.{of_ok}
 use Rattle.script_runs.proofs.desks.Desks.told_at.Goals as goal
 
-pub returns : goal.returns
-returns c =
-    let op = c.in_ok-op.op in
-    let spelled : c.args.message.now ≡ spelling op = of_ok c.decode.result (λ (x : Operation). c.args.message.now ≡ spelling x) op c.in_ok-op.ensures.value c.decode.ensures.ok in
-    IfSome_then c.find.result c.find.ensures (λ at stands. (op, stands, c.lemma_has_spelling.ensures, spelled))
+pub returns-then-tells : goal.returns-then-tells
+returns-then-tells c =
+    let stands = StandsAt (texts_of c.args.self.now) c.in_ok-at.at in
+    let there = of_ok c.op_at.result stands c.in_ok-op.op c.in_ok-op.ensures.value c.op_at.ensures.ok in
+    (c.in_ok-op.op, there, c.lemma_has_spelling.ensures, c.tells.ensures c.if-tells.true)

@@ -1,7 +1,7 @@
 use Rattle.std.proofs.Common.{append_assoc}
 use Rattle.script_runs.specs.Answers.{send_line}
 use Rattle.script_runs.proofs.WriteLemmas.{writes_after, writes_stopped}
-use Rattle.script_runs.proofs.answers.put_send.Goals as goal
+use Rattle.script_runs.proofs.answers.put_long_send.Goals as goal
 
 pub returns-in_err-put_numbered_far : goal.returns-in_err-put_numbered_far
 unfolding send_line
