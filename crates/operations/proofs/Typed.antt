@@ -1,5 +1,5 @@
 -- Letters that are in range have each a spelling.
-use Rattle.std.proofs.Common.{◌≡◌, ℕ, ◌+◌, ◌-◌, ◌^◌, ◌<◌, ◌≤◌, List, [], ◌∷◌, length, All, arith}
+use Rattle.std.proofs.Common.{◌≡◌, ℕ, ◌+◌, ◌-◌, ◌^◌, ◌<◌, ◌≤◌, List, [], ◌∷◌, length, get_or, All, arith}
 use Rattle.std.proofs.lemmas.List.Elements.{All-cons, All-head, All-nil, All-tail}
 use Rattle.char_files.specs.declared.TheConstants.{MAX_FILE}
 use Rattle.looks.specs.Looks.{IsLooks}
@@ -49,6 +49,13 @@ letters_spelled t n (b ∷ bytes) room few valid =
       valid_looks = room.valid_looks;
     })
     (omega (arith, few)) (All-tail (λ x. x < 256) b bytes valid))
+
+-- the first letter has a spelling, if all have
+pub first_spelled : (t : Typing) (bytes : List ℕ) (d : ℕ) → 0 < length bytes → All HasSpelling (letters t bytes)
+    → HasSpelling (letter t (get_or bytes 0 d))
+first_spelled t [] d some all = absurd (omega arith)
+first_spelled t (byte ∷ bytes) d some all =
+    All-head HasSpelling (letter t byte) (letters (after_letter t) bytes) all
 
 -- letters that have a spelling each have numbers, stamps and places in the file
 pub record AreInRange (t : Typing) (n : ℕ) : Type 0 where

@@ -32,7 +32,7 @@ impl Typing {
     pub fn room(&self) -> u64
         ensures some { (bytes : List ℕ) → length bytes ≤ result → All (λ b. b < 256) bytes
             → All HasSpelling (letters self.now bytes) }
-        ensures none { result ≡ 0 → (b : ℕ) → ¬ HasSpelling (letter self.now b) }
+        ensures most { (bytes : List ℕ) → All HasSpelling (letters self.now bytes) → length bytes ≤ result }
     {
         self.looks.lemma_are_in_range();
         let _ = (self.text.get(), self.site.get());

@@ -2,7 +2,7 @@
 use Rattle.std.proofs.Common.{◌≡◌, ℕ, suc, ◌+◌, ◌-◌, ◌^◌, ◌<◌, ◌≤◌, Bool, true, false, cond, eqb, List, [], ◌∷◌, ◌++◌, length, take, drop, zero, All}
 use Rattle.std.proofs.Common.{Option, Some, None, refl, sym, ap, subst, ◌∙◌, inl, inr, length-append, length-take, arith}
 use Rattle.std.proofs.lemmas.Bool.{cases_Bool, eqb-true, eq-eqb, cond-true, cond-false}
-use Rattle.std.proofs.lemmas.List.Elements.{All-head, All-tail, All-take}
+use Rattle.std.proofs.lemmas.List.Elements.{All-cons, All-head, All-nil, All-tail, All-take}
 use Rattle.std.proofs.lemmas.List.{take-append-drop, take-append-le}
 use Rattle.std.specs.Prelude.{nat_eq}
 use Rattle.indexmap.specs.IndexMap.{insert_entry}
@@ -33,11 +33,6 @@ use Rattle.packed.proofs.ReadParts.{same_as_itself}
 abbrev pub AreLetters : Bool → List ℕ → Type 0
 AreLetters chunk bytes = All (λ b. is_code chunk b ≡ false) bytes
 
-take_first : (n : ℕ) (b : ℕ) (bytes : List ℕ) → 0 < n → take n (b ∷ bytes) ≡ b ∷ take (n - 1) bytes
-take_first zero b bytes some = absurd (omega (arith, some))
-take_first (suc n) b bytes some =
-    let e : suc n - 1 ≡ n = omega arith in ap (λ (m : ℕ). b ∷ take m bytes) (sym e)
-
 take_within : (i j : ℕ) (bytes : List ℕ) → i ≤ length (take j bytes) → take i (take j bytes) ≡ take i bytes
 take_within i j bytes in_it =
     sym (take-append-le i (take j bytes) (drop j bytes) in_it) ∙ ap (take i) (take-append-drop j bytes)
@@ -51,11 +46,21 @@ fewer_letters chunk end found most bytes less within plain =
     ∙ take_within end most bytes (omega (arith, less, within)))
     (All-take (λ b. is_code chunk b ≡ false) end (take found (take most bytes)) plain)
 
--- the first byte of those that are looked at is no code
-pub first_code : (chunk : Bool) (n b : ℕ) (bytes all : List ℕ) → 0 < n → all ≡ b ∷ bytes
-    → ((b : ℕ) (rest : List ℕ) → take n all ≡ b ∷ rest → is_code chunk b ≡ true) → is_code chunk b ≡ true
-first_code chunk n b bytes all some is none =
-    none b (take (n - 1) bytes) (ap (take n) is ∙ take_first n b bytes some)
+-- letters that stand in front end before what is the first code, where so many bytes are looked at
+pub before_the_code : (chunk : Bool) (found most : ℕ) (typed rest : List ℕ) → AreLetters chunk typed → length typed ≤ most
+    → ((b : ℕ) (after : List ℕ) → drop found (take most (typed ++ rest)) ≡ b ∷ after → is_code chunk b ≡ true)
+    → length typed ≤ found
+before_the_code chunk found most [] rest plain few ended = omega arith
+before_the_code chunk found zero (b ∷ typed) rest plain few ended = absurd (omega (arith, few))
+before_the_code chunk zero (suc m) (b ∷ typed) rest plain few ended =
+    let code : is_code chunk b ≡ true = ended b (take m (typed ++ rest)) refl in
+    let plainly : is_code chunk b ≡ false = All-head (λ b. is_code chunk b ≡ false) b typed plain in
+    let apart : true ≡ false = sym code ∙ plainly in absurd cc
+before_the_code chunk (suc n) (suc m) (b ∷ typed) rest plain few ended =
+    omega (
+      arith,
+      before_the_code chunk n m typed rest (All-tail (λ b. is_code chunk b ≡ false) b typed plain) (omega (arith, few)) ended,
+    )
 
 -- ---- a letter, and the one after it
 
@@ -282,6 +287,28 @@ typed_on t text typing b bytes are =
       can.spelled,
     )
 
+-- none of the letters is a code
+pub none_is_code : (t : Told) (text : ℕ) (typing : Typing) (bytes : List ℕ) → AreTypedNext t text typing bytes
+    → AreLetters t.in_chunk bytes
+none_is_code t text typing [] are = All-nil (λ b. is_code t.in_chunk b ≡ false)
+none_is_code t text typing (b ∷ []) are =
+    All-cons (λ b. is_code t.in_chunk b ≡ false) b [] (typed_on t text typing b [] are).1
+    (All-nil (λ b. is_code t.in_chunk b ≡ false))
+none_is_code t text typing (b ∷ c ∷ bytes) are =
+    let it = typed_on t text typing b (c ∷ bytes) are in
+    let u : Told = told_on t (letter typing b) in
+    let more : List ℕ = packed_after u (letters (after_letter typing) (c ∷ bytes)) in
+    let parts : b ∷ more ≡ b ∷ c ∷ bytes =
+    sym (ap (λ (l : List ℕ). l ++ more) (letter_packed t text typing b it.0 it.1)) ∙ are.packed in
+    let rest : AreTypedNext u text (after_letter typing) (c ∷ bytes) = record {
+      some = omega arith;
+      few = omega (arith, are.few);
+      spelled = All-tail HasSpelling (letter typing b) (letters (after_letter typing) (c ∷ bytes)) are.spelled;
+      follow = are.follow.1;
+      packed = cc;
+    } in
+    All-cons (λ b. is_code t.in_chunk b ≡ false) b (c ∷ bytes) it.1 (none_is_code u text (after_letter typing) (c ∷ bytes) rest)
+
 -- the bytes begin so
 pub record BeginsTyped (t : Told) (text : ℕ) (typing : Typing) (bytes : List ℕ) : Type 0 where
   pub first : ℕ
@@ -347,6 +374,16 @@ one_typing t text a b of_a of_b =
     is_typing_of t text a of_a
     ∙ ap (λ (n : ℕ). typing_of t text n) (some_same a.site b.site (sym of_a.last ∙ of_b.last))
     ∙ sym (is_typing_of t text b of_b)
+
+-- letters that can come next have room, where those that this site types have
+pub typed_in_room : (t : Told) (text room : ℕ) (own typing : Typing) (bytes : List ℕ) → TypesOn t text own
+    → ((bytes : List ℕ) → All HasSpelling (letters own bytes) → length bytes ≤ room) → AreTypedNext t text typing bytes
+    → length bytes ≤ room
+typed_in_room t text room own typing [] on most are = omega arith
+typed_in_room t text room own typing (b ∷ bytes) on most are =
+    most (b ∷ bytes)
+    (subst (λ (x : Typing). All HasSpelling (letters x (b ∷ bytes)))
+    (one_typing t text typing own (typed_on t text typing b bytes are).0 on) are.spelled)
 
 -- ---- what the letters tell
 

@@ -8,6 +8,7 @@ pub mod Freed
 pub mod Fronts
 pub mod GoodPasts
 pub mod Lengths
+pub mod Letters
 pub mod NextLetter
 pub mod OneMore
 pub mod Picking

@@ -1,4 +1,4 @@
-ghost use Rattle.std.specs.Prelude.{◌≡◌, ℕ, ◌<◌, ◌≤◌, List, ◌∷◌, ◌++◌, All, IfSome, IfNone, IsOk, OnOk, OnErr, false, true, length, take};
+ghost use Rattle.std.specs.Prelude.{◌≡◌, ℕ, ◌<◌, ◌≤◌, List, ◌∷◌, ◌++◌, All, IfSome, IfNone, IsOk, OnOk, OnErr, false, true, length, drop, take};
 ghost use Rattle.looks.specs.Refusal.{RefusedForMemoryAlone};
 ghost use Rattle.operations.specs.Letters.{letter, letters};
 ghost use Rattle.operations.specs.Spelling.{HasSpelling};
@@ -18,7 +18,7 @@ use operations::{MAX_INSERT, Typing};
 fn letters_len(in_chunk: bool, bytes: &[u8]) -> usize
     ensures within { result ≤ length bytes.now }
     ensures letters { All (λ b. is_code in_chunk b ≡ false) (take result bytes.now) }
-    ensures none { result ≡ 0 → (b : ℕ) (rest : List ℕ) → bytes.now ≡ b ∷ rest → is_code in_chunk b ≡ true }
+    ensures ended { (b : ℕ) (rest : List ℕ) → drop result bytes.now ≡ b ∷ rest → is_code in_chunk b ≡ true }
 {
     match bytes.iter().position(|byte| is_code(in_chunk, *byte)) {
         Some(end) => end,
@@ -48,11 +48,13 @@ impl History {
         })
     }
 
-    /// The letters that the bytes begin with, as the site of the last operation types them, `MAX_INSERT` of them at most; their
+    /// All the letters that the bytes begin with, as the site of the last operation types them, `MAX_INSERT` of them at most; their
     /// bytes, and the bytes after them. They aren't taken into the history. `None` where no letter stands there that can come
     /// next: then what does is for `next`.
     pub fn letters<'a>(&self, text: TextNo, bytes: &'a [u8]) -> Option<(Typing, &'a [u8], &'a [u8])>
         ensures some { IfSome result (λ x. (bytes.now ≡ x.1.now ++ x.2.now) × AreTypedNext self.now text x.0 x.1.now) }
+        ensures all { IfSome result (λ x. (typing : Typing) (typed rest : List ℕ) → bytes.now ≡ typed ++ rest
+            → AreTypedNext self.now text typing typed → length typed ≤ length x.1.now) }
         ensures none { IfNone result ((typing : Typing) (typed rest : List ℕ) → bytes.now ≡ typed ++ rest
             → AreTypedNext self.now text typing typed → ⊥) }
     {

@@ -1,27 +1,33 @@
-use Rattle.std.proofs.Common.{◌≡◌, ◌<◌, ◌≤◌, Bool, true, false, All, drop, take, length, length-take, refl, ap, subst, sym, ◌∙◌, arith}
+use Rattle.std.proofs.Common.{◌≡◌, ℕ, ◌<◌, ◌≤◌, min, Bool, true, false, List, ◌∷◌, ◌++◌, All, drop, take, length, length-append, length-take, refl, ap, subst, sym, ◌∙◌, arith}
 use Rattle.std.proofs.lemmas.List.{take-append-drop}
 use Rattle.byte_fields.proofs.Readers.{front_bytes}
 use Rattle.operations.specs.Letters.{letter}
 use Rattle.operations.specs.Spelling.{HasSpelling}
+use Rattle.operations.specs.declared.kind.TheConstants.{MAX_INSERT}
 use Rattle.operations.specs.declared.typing.Typing.{Typing}
 use Rattle.packed.specs.Letters.{AreTypedNext}
 use Rattle.packed.specs.Spelling.{is_code}
 use Rattle.packed.specs.Told.{Told}
-use Rattle.packed.proofs.Letters.{AreLetters, begins_typed, fewer_letters, first_code, one_typing, typed_next}
+use Rattle.packed.proofs.Letters.{AreLetters, before_the_code, begins_typed, fewer_letters, none_is_code, typed_in_room, typed_next}
 use Rattle.packed.proofs.history.History.letters.Goals as goal
 
--- a letter is no code
+-- no letters that can come next are more than those that were found
+found_all : (chunk : Bool) (t : Told) (text n found : ℕ) (typing : Typing) (bytes typed rest : List ℕ)
+    → chunk ≡ t.in_chunk → n ≡ min (length bytes) MAX_INSERT
+    → ((b : ℕ) (after : List ℕ) → drop found (take n bytes) ≡ b ∷ after → is_code chunk b ≡ true)
+    → bytes ≡ typed ++ rest → AreTypedNext t text typing typed → length typed ≤ found
+found_all chunk t text n found typing bytes typed rest same most ended parts are =
+    before_the_code chunk found n typed rest
+    (subst (λ (u : Bool). AreLetters u typed) (sym same) (none_is_code t text typing typed are))
+    (omega (arith, most, are.few, ap length parts, length-append typed rest))
+    (λ b after is. ended b after (ap (λ (l : List ℕ). drop found (take n l)) parts ∙ is))
+
 pub returns-then-found-eq0-clause-none : goal.returns-then-found-eq0-clause-none
 returns-then-found-eq0-clause-none c = λ typing typed rest parts are.
-    let it = begins_typed c.args.self.now c.args.text typing c.args.bytes.now typed rest parts are in
-    let n = c.min.result in
-    let some : 0 < n = omega (arith, c.min.ensures, ap length it.is) in
     let chunk : c.self.inside.in_chunk ≡ c.args.self.now.in_chunk = ap (λ (t : Told). t.in_chunk) c.self.view_is in
-    let plain : is_code c.self.inside.in_chunk it.first ≡ false = rw chunk it.plain in
-    let code : is_code c.self.inside.in_chunk it.first ≡ true =
-    first_code c.self.inside.in_chunk n it.first it.after c.args.bytes.now some it.is
-    (c.letters_len-found.ensures.none c.if-found-eq0.true) in
-    let apart : true ≡ false = sym code ∙ plain in absurd cc
+    let few = found_all c.self.inside.in_chunk c.args.self.now c.args.text c.min.result c.letters_len-found.result typing
+    c.args.bytes.now typed rest chunk c.min.ensures c.letters_len-found.ensures.ended parts are in
+    absurd (omega (arith, are.some, few, c.if-found-eq0.true))
 
 pub returns-in_default-clause-none : goal.returns-in_default-clause-none
 returns-in_default-clause-none c = λ typing typed rest parts are.
@@ -30,10 +36,29 @@ returns-in_default-clause-none c = λ typing typed rest parts are.
 
 pub returns-then-end-eq0-clause-none : goal.returns-then-end-eq0-clause-none
 returns-then-end-eq0-clause-none c = λ typing typed rest parts are.
-    let it = begins_typed c.args.self.now c.args.text typing c.args.bytes.now typed rest parts are in
-    c.room.ensures.none (omega (arith, c.min-end.ensures, c.if-end-eq0.true, c.if-found-eq0.false)) it.first
-    (subst (λ (t : Typing). HasSpelling (letter t it.first))
-    (one_typing c.args.self.now c.args.text typing c.in-Some.typing it.on c.in-Some.ensures.some) it.spelled)
+    let few = typed_in_room c.args.self.now c.args.text c.room.result c.in-Some.typing typing typed c.in-Some.ensures.some
+    c.room.ensures.most are in
+    absurd (omega (arith, are.some, few, c.min-end.ensures, c.if-end-eq0.true, c.if-found-eq0.false))
+
+pub returns-clause-all : goal.returns-clause-all
+returns-clause-all c = λ typing typed rest parts are.
+    let bytes = c.args.bytes.now in
+    let end = c.min-end.result in
+    let chunk : c.self.inside.in_chunk ≡ c.args.self.now.in_chunk = ap (λ (t : Told). t.in_chunk) c.self.view_is in
+    let found = found_all c.self.inside.in_chunk c.args.self.now c.args.text c.min.result c.letters_len-found.result typing
+    bytes typed rest chunk c.min.ensures c.letters_len-found.ensures.ended parts are in
+    let room = typed_in_room c.args.self.now c.args.text c.room.result c.in-Some.typing typing typed c.in-Some.ensures.some
+    c.room.ensures.most are in
+    omega (
+      arith,
+      found,
+      room,
+      c.min-end.ensures,
+      ap length c.split_at.ensures.front,
+      length-take end bytes,
+      c.letters_len-found.ensures.within,
+      length-take c.min.result bytes,
+    )
 
 pub returns-clause-some : goal.returns-clause-some
 returns-clause-some c =

@@ -1,4 +1,4 @@
-use Rattle.test_taken_text.proofs.Letters.{first_spelled}
+use Rattle.operations.proofs.Typed.{first_spelled}
 use Rattle.test_taken_text.proofs.tests.letters.add_letters.Goals as goal
 
 pub is_letter_ready-requires : goal.is_letter_ready-requires

@@ -1,7 +1,7 @@
 use Rattle.std.proofs.Common.{subst}
 use Rattle.operations.specs.Operation.{Operation}
 use Rattle.set_laws.specs.Verdict.{HasVerdict, ready}
-use Rattle.test_taken_text.proofs.Letters.{another_is_ready}
+use Rattle.set_laws.proofs.Letters.{another_is_ready}
 use Rattle.test_taken_text.proofs.tests.letters.is_letter_ready.Goals as goal
 
 pub returns-clause-ready : goal.returns-clause-ready

@@ -9,7 +9,8 @@ use Rattle.texts.specs.Taking.{IsJudged}
 use Rattle.texts.specs.Text.{AreCharNames}
 use Rattle.texts.specs.TextState.{TextState}
 use Rattle.texts.proofs.Kept.{grown_by_more, kept_with_all}
-use Rattle.texts.proofs.Letters.{first_spelled, letters_of_text}
+use Rattle.operations.proofs.Typed.{first_spelled}
+use Rattle.texts.proofs.Letters.{letters_of_text}
 use Rattle.texts.proofs.replica.Replica.take_letters.Goals as goal
 
 pub is_letter_ready-requires-clause-spelled : goal.is_letter_ready-requires-clause-spelled

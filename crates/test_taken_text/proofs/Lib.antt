@@ -1,2 +1,0 @@
--- Lemmas about letters that are taken in at once.
-mod Letters
