@@ -1,4 +1,4 @@
-use Rattle.std.specs.Prelude.{◌≡◌, ◌≢◌, ℕ, nat_eq, List, [], Some, slice_get}
+use Rattle.std.specs.Prelude.{◌≡◌, ◌≢◌, ℕ, nat_eq, List, []}
 use Rattle.std.specs.Option.{option_map_or}
 use Rattle.std.specs.Map.{lookup}
 
@@ -26,7 +26,3 @@ OthersStay old site new = (other : ℕ) → other ≢ site → bytes_of new othe
 -- the bytes of all sites are the same
 abbrev pub SameBytes : Files → Files → Type 0
 SameBytes old new = (site : ℕ) → bytes_of new site ≡ bytes_of old site
-
--- the site's file stands at this place, and nowhere before
-abbrev pub StandsAt : Files → ℕ → (index : ℕ) → FileSeen → Type 0
-StandsAt files site index file = (slice_get files index ≡ Some (site, file)) × (lookup (nat_eq site) files ≡ Some file)

@@ -1,15 +1,12 @@
 ghost use Rattle.std.specs.Prelude.{◌≡◌, ◌<◌, ◌≤◌, ◌+◌, [], ◌++◌, ◌↔◌, ◌⊎◌, length, slice_index};
 ghost use Rattle.std.specs.Prelude.{IfOk, IfErr, IsOk, OnOk, OnErr, IsErrOf};
-ghost use Rattle.std.specs.Prelude.{None, Some, IfNone, IfSome, nat_eq};
-ghost use Rattle.std.specs.Option.{option_copied};
-ghost use Rattle.std.specs.Map.{lookup};
-ghost use Rattle.char_files.specs.CharFiles.{FileSeen, bytes_of, room_of, OthersStay, SameBytes, StandsAt};
+ghost use Rattle.char_files.specs.CharFiles.{bytes_of, room_of, OthersStay, SameBytes};
 
 use crate::MAX_FILE;
 use crate::char_file::CharFile;
 use crate::name::Name;
+use crate::site_map::SiteMap;
 use crate::site_no::SiteNo;
-use indexmap::IndexMap;
 use looks::Refusal;
 use std::alloc::Global;
 use std::marker::Model;
@@ -17,11 +14,8 @@ use std::marker::Model;
 /// The files of all sites that inserted bytes in a text, each at most 2^24 bytes long. This project's own.
 #[derive(Drop)]
 pub struct CharFiles {
-    // By the sites' numbers.
-    files: IndexMap<u16, CharFile>,
+    files: SiteMap<CharFile>,
     alloc: Global,
-    // Where the file stands that was written to last, which is mostly the one that is asked for next. No promise rests on it.
-    last: usize,
 }
 
 impl Model for CharFiles {
@@ -29,7 +23,7 @@ impl Model for CharFiles {
 
     ghost Value = { Files };
 
-    ghost view = { λ f. f.files.entries };
+    ghost view = { λ f. f.files };
 }
 
 impl CharFiles {
@@ -38,33 +32,8 @@ impl CharFiles {
         ensures { result ≡ [] }
     {
         CharFiles {
-            files: IndexMap::new(alloc),
+            files: SiteMap::new(alloc),
             alloc,
-            last: 0,
-        }
-    }
-
-    // Where a site's file stands, if it has one.
-    fn index_of(&self, site: SiteNo) -> Option<usize>
-        ensures found { IfSome result (λ index. (file : FileSeen) × StandsAt self.now site index file) }
-        ensures none { IfNone result (lookup (nat_eq site) self.now ≡ None) }
-    {
-        match self.files.get_index(self.last) {
-            Some((key, _)) if *key == site.get() => Some(self.last),
-            _ => {
-                let (index, _, _) = self.files.get_full(&site.get())?;
-                Some(index)
-            }
-        }
-    }
-
-    // A site's file, if it has one.
-    fn file(&self, site: SiteNo) -> Option<&CharFile>
-        ensures { option_copied result ≡ lookup (nat_eq site) self.now }
-    {
-        match self.files.get_index(self.last) {
-            Some((key, file)) if *key == site.get() => Some(file),
-            _ => self.files.get(&site.get()),
         }
     }
 
@@ -73,7 +42,7 @@ impl CharFiles {
         ensures value { result ≡ length (bytes_of self.now site) }
         ensures bound { result ≤ MAX_FILE }
     {
-        match self.file(site) {
+        match self.files.get(site) {
             Some(file) => file.len(),
             None => 0,
         }
@@ -84,7 +53,7 @@ impl CharFiles {
         requires { name.off < length (bytes_of self.now name.site) }
         ensures { result ≡ slice_index (bytes_of self.now name.site) name.off }
     {
-        match self.file(name.site()) {
+        match self.files.get(name.site()) {
             Some(file) => file.byte(name.off()),
             None => unreachable!(),
         }
@@ -100,16 +69,12 @@ impl CharFiles {
         ensures errors { IfErr result (λ e. (e ≡ Refusal.FileSpent) ⊎ (e ≡ Refusal.OutOfMemory)) }
         ensures unchanged { SameBytes self.old self.new }
     {
-        if let Some(index) = self.index_of(site) {
-            self.last = index;
-            return match self.files.get_index_mut(index) {
-                Some(file) => file.reserve(n),
-                None => unreachable!(),
-            };
+        if let Some(file) = self.files.get_mut(site) {
+            return file.reserve(n);
         }
         let mut file = CharFile::new(self.alloc);
         file.reserve(n)?;
-        self.files.insert(site.get(), file)?;
+        self.files.insert(site, file)?;
         Ok(())
     }
 
@@ -126,19 +91,15 @@ impl CharFiles {
         ensures err { OnErr result (bytes_of self.new site ≡ bytes_of self.old site) }
         ensures reserved { length bytes.now ≤ room_of self.old site → IsOk result }
     {
-        if let Some(index) = self.index_of(site) {
-            self.last = index;
-            return match self.files.get_index_mut(index) {
-                Some(file) => file.append(bytes),
-                None => unreachable!(),
-            };
+        if let Some(file) = self.files.get_mut(site) {
+            return file.append(bytes);
         }
         if bytes.is_empty() {
             return Ok(0);
         }
         let mut file = CharFile::new(self.alloc);
         let off = file.append(bytes)?;
-        self.files.insert(site.get(), file)?;
+        self.files.insert(site, file)?;
         Ok(off)
     }
 }

@@ -8,5 +8,4 @@ pub mod Pushed
 pub mod PushedLetters
 pub mod Rooms
 pub mod Sites
-pub mod Slots
 pub mod Stretches

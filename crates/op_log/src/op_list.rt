@@ -12,7 +12,7 @@ use crate::MAX_OPS;
 use crate::found::{Found, are_same, identity_of, made};
 use crate::one_delete::{OneDelete, one_delete_in};
 use crate::stretch::{
-    Stretch, TypedRun, goes_on, lengthen, lengthen_by, letter_in, next_byte, number_of, numbers_of,
+    Stretch, TypedRun, goes_on, lengthen_by, letter_in, next_byte, number_of, numbers_of,
     push_deleted, push_single,
 };
 use char_files::SiteNo;
@@ -167,7 +167,7 @@ impl OpList {
             return false;
         };
         self.bytes.push_reserved(byte);
-        lengthen(&mut self.stretches);
+        lengthen_by(&mut self.stretches, 1);
         self.len += 1;
         true
     }

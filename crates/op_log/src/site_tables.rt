@@ -1,13 +1,11 @@
 ghost use Rattle.std.specs.Prelude.{◌≡◌, ◌≢◌, ℕ, ◌+◌, ◌-◌, ◌<◌, ◌≤◌, ◌^◌, [], ◌∷◌, ◌++◌, length};
-ghost use Rattle.std.specs.Prelude.{slice_get, IfNone, IfSome, OnOk, None as Nothing, Some as Just};
-ghost use Rattle.std.specs.Option.{option_map};
+ghost use Rattle.std.specs.Prelude.{slice_get, OnOk, None as Nothing};
 ghost use Rattle.std.specs.List.Sorted.{IsNonDecreasingBy};
 ghost use Rattle.looks.specs.Refusal.{RefusedForMemoryAlone};
-ghost use Rattle.op_log.specs.Tables.{end_of, front_in, letter_entries, table_of, unknown, IsFirstPast, SiteSeen};
+ghost use Rattle.op_log.specs.Tables.{end_of, front_in, letter_entries, table_of, IsFirstPast};
 
 use crate::site_log::{Entry, SiteLog};
-use char_files::{MAX_FILE, Name, SiteNo};
-use indexmap::IndexMap;
+use char_files::{MAX_FILE, Name, SiteMap, SiteNo};
 use looks::Refusal;
 use std::alloc::Global;
 use std::marker::Model;
@@ -15,10 +13,7 @@ use std::marker::Model;
 // A table for each site.
 #[derive(Drop)]
 pub(crate) struct SiteTables {
-    // By the sites' numbers.
-    sites: IndexMap<u16, SiteLog>,
-    // Where to look first: the table for which room was made last.
-    last: usize,
+    sites: SiteMap<SiteLog>,
     alloc: Global,
 }
 
@@ -27,7 +22,7 @@ impl Model for SiteTables {
 
     ghost Value = { Tables };
 
-    ghost view = { λ t. t.sites.entries };
+    ghost view = { λ t. t.sites };
 }
 
 impl SiteTables {
@@ -36,37 +31,16 @@ impl SiteTables {
         ensures { result ≡ [] }
     {
         SiteTables {
-            sites: IndexMap::new(alloc),
-            last: 0,
+            sites: SiteMap::new(alloc),
             alloc,
         }
-    }
-
-    // Where the site's table stands.
-    fn slot(&self, site: SiteNo) -> Option<usize>
-        ensures some { IfSome result (λ i. (t : SiteSeen) × (slice_get self.now i ≡ Just (site, t)) × (table_of self.now site ≡ t)) }
-        ensures none { IfNone result (table_of self.now site ≡ unknown) }
-    {
-        match self.sites.get_index(self.last) {
-            Some((key, _)) if *key == site.get() => Some(self.last),
-            _ => Some(self.sites.get_full(&site.get())?.0),
-        }
-    }
-
-    // The site's table.
-    fn table(&self, site: SiteNo) -> Option<&SiteLog>
-        ensures some { IfSome result (λ t. t.now ≡ table_of self.now site) }
-        ensures none { IfNone result (table_of self.now site ≡ unknown) }
-    {
-        let (_, table) = self.sites.get_index(self.slot(site)?)?;
-        Some(table)
     }
 
     // The number of the site's last operation; 0 where there is none.
     pub(crate) fn front(&self, site: SiteNo) -> u32
         ensures { result ≡ front_in self.now site }
     {
-        match self.table(site) {
+        match self.sites.get(site) {
             Some(table) => table.front(),
             None => 0,
         }
@@ -77,7 +51,7 @@ impl SiteTables {
         ensures value { result ≡ end_of (table_of self.now site).entries }
         ensures bound { result ≤ MAX_FILE }
     {
-        match self.table(site) {
+        match self.sites.get(site) {
             Some(table) => table.file_len(),
             None => 0,
         }
@@ -88,7 +62,7 @@ impl SiteTables {
         ensures none { seq ≡ 0 → result ≡ Nothing }
         ensures value { 0 < seq → result ≡ slice_get (table_of self.now site).entries (seq - 1) }
     {
-        self.table(site)?.entry(seq)
+        self.sites.get(site)?.entry(seq)
     }
 
     // The first operation of the name's site after which that one's file has the name.
@@ -97,7 +71,7 @@ impl SiteTables {
         requires within { name.off < end_of (table_of self.now name.site).entries }
         ensures { IsFirstPast (table_of self.now name.site).entries name.off result }
     {
-        match self.table(name.site()) {
+        match self.sites.get(name.site()) {
             Some(table) => table.entry_past(name.off()),
             None => unreachable!(),
         }
@@ -121,17 +95,12 @@ impl SiteTables {
         ensures entries { (other : ℕ) → (table_of self.new other).entries ≡ (table_of self.old other).entries }
         ensures rooms { (other : ℕ) → (table_of self.old other).room ≤ (table_of self.new other).room }
     {
-        if let Some(slot) = self.slot(site) {
-            self.last = slot;
-            return match self.sites.get_index_mut(slot) {
-                Some(table) => table.reserve_many(len),
-                None => unreachable!(),
-            };
+        if let Some(table) = self.sites.get_mut(site) {
+            return table.reserve_many(len);
         }
         let mut table = SiteLog::new(self.alloc);
         table.reserve_many(len)?;
-        self.last = self.sites.len();
-        self.sites.insert(site.get(), table)?;
+        self.sites.insert(site, table)?;
         Ok(())
     }
 
@@ -143,10 +112,7 @@ impl SiteTables {
         ensures entries { (table_of self.new site).entries ≡ (table_of self.old site).entries ++ entry ∷ [] }
         ensures others { (other : ℕ) → other ≢ site → table_of self.new other ≡ table_of self.old other }
     {
-        let Some(slot) = self.slot(site) else {
-            unreachable!();
-        };
-        match self.sites.get_index_mut(slot) {
+        match self.sites.get_mut(site) {
             Some(table) => table.push(entry),
             None => unreachable!(),
         }
@@ -163,10 +129,7 @@ impl SiteTables {
         ensures entries { (table_of self.new site).entries ≡ (table_of self.old site).entries ++ letter_entries first len }
         ensures others { (other : ℕ) → other ≢ site → table_of self.new other ≡ table_of self.old other }
     {
-        let Some(slot) = self.slot(site) else {
-            unreachable!();
-        };
-        match self.sites.get_index_mut(slot) {
+        match self.sites.get_mut(site) {
             Some(table) => table.push_letters(first, len),
             None => unreachable!(),
         }

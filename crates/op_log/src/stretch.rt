@@ -261,22 +261,6 @@ pub(crate) fn lengthen_by(stretches: &mut Vec<Stretch>, more: usize)
     }
 }
 
-// Makes the last run one letter longer.
-pub(crate) fn lengthen(stretches: &mut Vec<Stretch>)
-    requires { (before : List Stretch) × (r : TypedRun) × (stretches.old.items ≡ before ++ Typed r ∷ []) × (r.len < 16777216) }
-    ensures { (before : List Stretch) (r : TypedRun) → stretches.old.items ≡ before ++ Typed r ∷ []
-        → stretches.new.items ≡ before ++ Typed (record r { len = r.len + 1 }) ∷ [] }
-{
-    match stretches.pop() {
-        Some(Stretch::Typed(run)) => {
-            let mut longer = run;
-            longer.len += 1;
-            stretches.push_reserved(Stretch::Typed(longer));
-        }
-        _ => unreachable!(),
-    }
-}
-
 // The number of looks, which are entered if the last that were entered are others. There is room.
 pub(crate) fn number_of(entered: &mut Vec<Looks>, looks: &Looks) -> u32
     requires room { vec_len entered.old < vec_capacity entered.old }

@@ -6,5 +6,6 @@ pub mod ReadLooks
 pub mod ReadMessages
 pub mod ReadSets
 pub mod SetOf
+pub mod Stripped
 pub mod WithName
 pub mod Typed

@@ -5,4 +5,5 @@ pub mod Parts
 pub mod Reading
 pub mod Seen
 pub mod Spelling
+pub mod Stripped
 pub use Rattle.byte_fields.specs.Fields

@@ -9,6 +9,7 @@ mod name_set;
 mod name_walk;
 mod op;
 mod reading;
+mod stripping;
 mod typing;
 mod writing;
 

@@ -369,7 +369,7 @@ some_same : (a b : ℕ) → ◌≡◌ {A = Option ℕ} (Some a) (Some b) → a �
 some_same a b e = cc
 
 -- in one way
-pub one_typing : (t : Told) (text : ℕ) (a b : Typing) → TypesOn t text a → TypesOn t text b → a ≡ b
+one_typing : (t : Told) (text : ℕ) (a b : Typing) → TypesOn t text a → TypesOn t text b → a ≡ b
 one_typing t text a b of_a of_b =
     is_typing_of t text a of_a
     ∙ ap (λ (n : ℕ). typing_of t text n) (some_same a.site b.site (sym of_a.last ∙ of_b.last))

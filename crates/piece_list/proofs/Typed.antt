@@ -1,11 +1,10 @@
 -- A run of letters that is put in at one place is put in letter by letter.
-use Rattle.std.proofs.Common.{◌≡◌, ℕ, zero, suc, ◌+◌, ◌-◌, ◌<◌, ◌≤◌, true, false, not, List, [], ◌∷◌, ◌++◌, length, get_or, take, drop, map, All}
+use Rattle.std.proofs.Common.{◌≡◌, ℕ, zero, suc, ◌+◌, ◌-◌, ◌<◌, true, false, not, List, [], ◌∷◌, ◌++◌, length, get_or, take, drop, map}
 use Rattle.std.proofs.Common.{refl, sym, ap, subst, ◌∙◌, arith, append_assoc, append-nil, length-append, Some}
-use Rattle.std.specs.Prelude.{slice_get, HoldsAt}
-use Rattle.std.specs.List.{AllWithin}
+use Rattle.std.specs.Prelude.{slice_get}
 use Rattle.std.proofs.Math.Seq.{drop-append_seam, get_or-append_seam, take-append_seam}
 use Rattle.std.proofs.lemmas.Bool.Decides.{nat_tests}
-use Rattle.std.proofs.lemmas.List.{get_or-append-add, length-drop, map-append, length-map, length-take-le, take-append-drop}
+use Rattle.std.proofs.lemmas.List.{get_or-append-add, map-append, length-map, length-take-le, take-append-drop}
 use Rattle.std.proofs.lemmas.List.Elements.{All-append, All-cons, All-nil, filter-append}
 use Rattle.std.proofs.lemmas.Option.{slice_get-get_or}
 use Rattle.looks.specs.Key.{is_below}
@@ -23,7 +22,7 @@ use Rattle.tree_order.specs.Registers.{Atom}
 use Rattle.piece_list.specs.Noted.{Notes, SameName}
 use Rattle.piece_list.specs.Pieces.{char_of, chars_of, piece_of, risen}
 use Rattle.piece_list.specs.Placed.{IsPlaced}
-use Rattle.piece_list.specs.Shown.{AreShownTo, Appearance, appearance_of}
+use Rattle.piece_list.specs.Shown.{AreShownTo, appearance_of}
 use Rattle.piece_list.specs.Spelled.{names_of_atoms, shown_chars}
 use Rattle.piece_list.specs.Typed.{AreTypedIn, after_letter, first_letter, insertions, told_of}
 use Rattle.piece_list.specs.declared.run.Run.{Run}

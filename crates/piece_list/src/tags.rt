@@ -1,11 +1,9 @@
-ghost use Rattle.std.specs.Prelude.{◌≡◌, ◌≢◌, ℕ, ◌+◌, ◌<◌, ◌≤◌, [], Some as Just, length, nat_eq, option_copied, OnOk};
-ghost use Rattle.std.specs.Map.{lookup};
+ghost use Rattle.std.specs.Prelude.{◌≡◌, ◌≢◌, ℕ, ◌+◌, ◌<◌, ◌≤◌, [], Some as Just, length, OnOk};
 ghost use Rattle.looks.specs.Refusal.{RefusedForMemoryAlone};
 ghost use Rattle.piece_list.specs.Tables.{tag_in, table_of, tag_at};
 ghost use Rattle.piece_list.specs.declared.tags.TheConstants.{NO_TAG};
 
-use char_files::{Name, SiteNo};
-use indexmap::IndexMap;
+use char_files::{Name, SiteMap, SiteNo};
 use looks::Refusal;
 use std::alloc::Global;
 use std::marker::Model;
@@ -69,9 +67,7 @@ impl SiteTags {
 /// Which piece holds a name: a table for each site. What the tables say doesn't depend on how long they are.
 #[derive(Drop)]
 pub(crate) struct TagTables {
-    sites: IndexMap<u16, SiteTags>,
-    // Where to look first: the table that was made longer last.
-    last: usize,
+    sites: SiteMap<SiteTags>,
     alloc: Global,
 }
 
@@ -80,7 +76,7 @@ impl Model for TagTables {
 
     ghost Value = { Tables };
 
-    ghost view = { λ t. t.sites.entries };
+    ghost view = { λ t. t.sites };
 }
 
 impl TagTables {
@@ -88,30 +84,8 @@ impl TagTables {
         ensures { result ≡ [] }
     {
         TagTables {
-            sites: IndexMap::new(alloc),
-            last: 0,
+            sites: SiteMap::new(alloc),
             alloc,
-        }
-    }
-
-    // A site's table.
-    fn table(&self, site: u16) -> Option<&SiteTags>
-        ensures { option_copied result ≡ lookup (nat_eq site) self.now }
-    {
-        match self.sites.get_index(self.last) {
-            Some((key, tags)) if *key == site => Some(tags),
-            _ => self.sites.get(&site),
-        }
-    }
-
-    // Where the site's table stands, or the next one is to stand.
-    fn slot(&self, site: u16) -> usize {
-        match self.sites.get_index(self.last) {
-            Some((key, _)) if *key == site => self.last,
-            _ => match self.sites.get_full(&site) {
-                Some((slot, _, _)) => slot,
-                None => self.sites.len(),
-            },
         }
     }
 
@@ -119,7 +93,7 @@ impl TagTables {
     pub fn get(&self, name: Name) -> Option<u64>
         ensures { result ≡ tag_at self.now name }
     {
-        match self.table(name.site().get()) {
+        match self.sites.get(name.site()) {
             Some(tags) => tags.get(name.off()),
             None => None,
         }
@@ -132,15 +106,14 @@ impl TagTables {
         ensures same { (other off : ℕ) → tag_in (table_of self.new other) off
             ≡ tag_in (table_of self.old other) off }
     {
-        self.last = self.slot(site.get());
-        if let Some(tags) = self.sites.get_mut(&site.get()) {
+        if let Some(tags) = self.sites.get_mut(site) {
             return tags.grow(len);
         }
         let mut tags = SiteTags {
             tags: Vec::new(self.alloc),
         };
         tags.grow(len)?;
-        self.sites.insert(site.get(), tags)?;
+        self.sites.insert(site, tags)?;
         Ok(())
     }
 
@@ -157,7 +130,7 @@ impl TagTables {
         ensures others { (other : ℕ) → other ≢ site → table_of self.new other ≡ table_of self.old other }
         ensures long { length (table_of self.new site) ≡ length (table_of self.old site) }
     {
-        if let Some(tags) = self.sites.get_mut(&site.get()) {
+        if let Some(tags) = self.sites.get_mut(site) {
             tags.fill(off, len, tag);
         }
     }

@@ -9,7 +9,6 @@ mod running;
 mod sent_at;
 mod settings;
 mod sites;
-mod told;
 
 pub use limits::the_limits;
 pub use running::{MAX_LINES, run, status_of};

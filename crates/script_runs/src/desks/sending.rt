@@ -11,7 +11,6 @@ ghost use Rattle.script_runs.specs.declared.sent_at.SentAt.{SentAt};
 
 use crate::desks::Desks;
 use crate::sent_at::SentAt;
-use crate::told::tells;
 use byte_fields::{site_at, stretch_at, text_at};
 use char_files::{SiteNo, TextNo};
 use looks::Refusal;
@@ -74,7 +73,7 @@ impl Desks {
         let at = self.place_of(message, later)?;
         let op = self.op_at(&at).ok()?;
         op.lemma_has_spelling();
-        if tells(*self.bytes.allocator(), message, &op) {
+        if op.is_spelled(message) {
             Some(at)
         } else {
             None

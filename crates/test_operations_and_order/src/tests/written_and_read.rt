@@ -36,8 +36,35 @@ fn is_read(op: &Op, alloc: Global, case: &Message) -> Result<(), Fail> {
     is(read.is_same(op) && has_these(&read, case.fields), case.what)
 }
 
+// Changes a bit of this byte; done twice, the bytes are as before.
+fn flip(bytes: &mut [u8], index: usize) -> Option<()> {
+    *bytes.get_mut(index)? ^= 1;
+    Some(())
+}
+
+// The bytes are the operation's message, and aren't with one of them changed, nor with one more. An allocation that is
+// refused once is tried again.
+fn are_told_apart(op: &Op, bytes: &mut Vec<u8>, what: &'static str) -> Result<(), Fail> {
+    is(op.is_spelled(bytes), what)?;
+    for index in 0..bytes.len() {
+        flip(bytes, index).ok_or(what)?;
+        is(!op.is_spelled(bytes), what)?;
+        flip(bytes, index).ok_or(what)?;
+    }
+    if bytes.push(0).is_err() {
+        bytes.push(0)?;
+    }
+    is(!op.is_spelled(bytes), what)
+}
+
+fn is_told(op: &Op, alloc: Global, case: &Message) -> Result<(), Fail> {
+    let mut bytes = vec_of(alloc, case.bytes)?;
+    are_told_apart(op, &mut bytes, case.what)
+}
+
 fn goes_both_ways(op: &Op, alloc: Global, case: &Message) -> Result<(), Fail> {
     is_written(op, alloc, case)?;
+    is_told(op, alloc, case)?;
     is_read(op, alloc, case)
 }
 

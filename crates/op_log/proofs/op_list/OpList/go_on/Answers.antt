@@ -19,10 +19,10 @@ invariant_of-self c =
     let own : c.args.op.now ≡ letter l.looks.items r r.len c.in-Some.byte =
     subst (λ (ls : List Looks). c.args.op.now ≡ letter ls r r.len c.in-Some.byte) c.deref-2.ensures.value next in
     let most : l.len + 1 ≤ MAX_OPS = search rules in (
-      subst (λ (b : List ℕ). AreStretches (shared b l.looks.items l.singles.items) c.lengthen.new.stretches.items l.firsts.items
+      subst (λ (b : List ℕ). AreStretches (shared b l.looks.items l.singles.items) c.lengthen_by.new.stretches.items l.firsts.items
           (l.len + 1)) (sym c.push_reserved.ensures.items)
           (subst (λ (x : List Stretch). AreStretches (shared (l.bytes.items ++ c.in-Some.byte ∷ []) l.looks.items l.singles.items) x
-          l.firsts.items (l.len + 1)) (sym (c.lengthen.ensures before r is))
+          l.firsts.items (l.len + 1)) (sym (c.lengthen_by.ensures before r is))
           (longer_are s c.in-Some.byte c.args.op.now c.lemma_has_spelling.ensures before r l.firsts.items l.len here own)),
       most,
       c.self.invariant.2,
@@ -38,8 +38,8 @@ returns-clause-goes_on c = λ yes.
     subst (λ (x : List Stretch). AreStretches s x l.firsts.items l.len) is c.self.invariant.0 in
     let own : c.args.op.now ≡ letter l.looks.items r r.len c.in-Some.byte =
     subst (λ (ls : List Looks). c.args.op.now ≡ letter ls r r.len c.in-Some.byte) c.deref-2.ensures.value next in
-    ap (λ (b : List ℕ). all_ops (shared b l.looks.items l.singles.items) c.lengthen.new.stretches.items) c.push_reserved.ensures.items
-    ∙ ap (all_ops (shared (l.bytes.items ++ c.in-Some.byte ∷ []) l.looks.items l.singles.items)) (c.lengthen.ensures before r is)
+    ap (λ (b : List ℕ). all_ops (shared b l.looks.items l.singles.items) c.lengthen_by.new.stretches.items) c.push_reserved.ensures.items
+    ∙ ap (all_ops (shared (l.bytes.items ++ c.in-Some.byte ∷ []) l.looks.items l.singles.items)) (c.lengthen_by.ensures before r is)
     ∙ longer_all s c.in-Some.byte c.args.op.now c.lemma_has_spelling.ensures before r l.firsts.items l.len here own
     ∙ ap (λ (x : List Stretch). all_ops s x ++ c.args.op.now ∷ []) (sym is)
     ∙ ap (λ (o : OpsSeen). o.items ++ c.args.op.now ∷ []) c.self.view_is

@@ -1,8 +1,6 @@
-use Rattle.std.proofs.Common.{◌≡◌, ℕ, ◌<◌, ◌≤◌, min, Bool, true, false, List, ◌∷◌, ◌++◌, All, drop, take, length, length-append, length-take, refl, ap, subst, sym, ◌∙◌, arith}
+use Rattle.std.proofs.Common.{◌≡◌, ℕ, ◌<◌, ◌≤◌, min, Bool, true, List, ◌∷◌, ◌++◌, All, drop, take, length, length-append, length-take, refl, ap, subst, sym, ◌∙◌, arith}
 use Rattle.std.proofs.lemmas.List.{take-append-drop}
 use Rattle.byte_fields.proofs.Readers.{front_bytes}
-use Rattle.operations.specs.Letters.{letter}
-use Rattle.operations.specs.Spelling.{HasSpelling}
 use Rattle.operations.specs.declared.kind.TheConstants.{MAX_INSERT}
 use Rattle.operations.specs.declared.typing.Typing.{Typing}
 use Rattle.packed.specs.Letters.{AreTypedNext}

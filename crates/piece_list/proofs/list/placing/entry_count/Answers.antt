@@ -1,5 +1,4 @@
-use Rattle.std.proofs.Common.{◌≡◌, cond, sym, ap, ◌∙◌, length, [], ◌∷◌}
-use Rattle.piece_list.specs.Typed.{entries_of, insertions}
+use Rattle.std.proofs.Common.{sym}
 use Rattle.piece_list.proofs.Typed.{insertions_count}
 use Rattle.piece_list.proofs.list.placing.entry_count.Goals as goal
 

@@ -1,5 +1,5 @@
-use Rattle.std.proofs.Common.{◌≡◌, ◌+◌, ◌≤◌, cond, sym, ap, subst, ◌∙◌, length, [], ◌∷◌, vec_len, vec_capacity, arith, true}
-use Rattle.piece_list.specs.Typed.{entries_of, insertions}
+use Rattle.std.proofs.Common.{◌≡◌, length, arith}
+use Rattle.piece_list.specs.Typed.{entries_of}
 use Rattle.piece_list.proofs.Typed.{insertions_count}
 use Rattle.piece_list.proofs.list.placing.note_run.Goals as goal
 
