@@ -4,8 +4,11 @@ use operations::Op;
 use std::alloc::Global;
 use std::test::Fail;
 
+// What it is, and the fields of an operation.
+type Row = (&'static str, Fields);
+
 // Operations that differ, each from the first or the one before it in one field alone.
-const DIFFERENT: &[(&str, Fields)] = &[
+const DIFFERENT: &[Row] = &[
     ("an Insert", INSERT),
     ("another site", Fields { site: 3, ..INSERT }),
     ("another seq", Fields { seq: 3, ..INSERT }),
@@ -89,28 +92,39 @@ const DIFFERENT: &[(&str, Fields)] = &[
     ),
 ];
 
-fn is_same_as(alloc: Global, op: &Op, others: Fields) -> Result<bool, Fail> {
-    let other = op_with(alloc, others)?.ok_or("no other operation")?;
-    Ok(op.is_same(&other))
+// Whether the operation is the same as that of the other fields, or isn't, as wanted.
+fn is_same_as(alloc: Global, op: &Op, others: Fields, want: bool) -> bool {
+    match op_with(alloc, others) {
+        Some(other) => op.is_same(&other) == want,
+        None => false,
+    }
 }
 
 // The operation is the same as the one of this index alone.
-fn is_same_alone(alloc: Global, op: &Op, index: usize, what: &'static str) -> Result<(), Fail> {
-    for (j, (_, others)) in DIFFERENT.iter().enumerate() {
-        is(is_same_as(alloc, op, *others)? == (index == j), what)?;
+fn is_same_alone(alloc: Global, op: &Op, rows: &[Row], index: usize) -> bool {
+    for (j, row) in rows.iter().enumerate() {
+        if !is_same_as(alloc, op, row.1, index == j) {
+            return false;
+        }
     }
-    Ok(())
+    true
 }
 
-fn compares(alloc: Global, fields: Fields, index: usize, what: &'static str) -> Result<(), Fail> {
-    let op = op_with(alloc, fields)?.ok_or("no operation")?;
-    is_same_alone(alloc, &op, index, what)
+fn compares(alloc: Global, rows: &[Row], fields: Fields, index: usize) -> bool {
+    match op_with(alloc, fields) {
+        Some(op) => is_same_alone(alloc, &op, rows, index),
+        None => false,
+    }
+}
+
+fn all_compare(alloc: Global, rows: &[Row]) -> Result<(), Fail> {
+    for (i, row) in rows.iter().enumerate() {
+        is(compares(alloc, rows, row.1, i), row.0)?;
+    }
+    Ok(())
 }
 
 #[test]
 fn operations_are_compared(rt: HostRuntime) -> Result<(), Fail> {
-    for (i, (what, fields)) in DIFFERENT.iter().enumerate() {
-        compares(rt.alloc(), *fields, i, what)?;
-    }
-    Ok(())
+    all_compare(rt.alloc(), DIFFERENT)
 }

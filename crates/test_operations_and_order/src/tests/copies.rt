@@ -54,20 +54,28 @@ fn copy_of(op: &Op) -> Result<Op, Refusal> {
     }
 }
 
-fn is_copied(op: &Op, fields: Fields, what: &'static str) -> Result<(), Fail> {
-    let copy = copy_of(op)?;
-    is(has_these(&copy, fields) && has_these(op, fields), what)
+fn is_copied(op: &Op, fields: Fields) -> bool {
+    match copy_of(op) {
+        Ok(copy) => has_these(&copy, fields) && has_these(op, fields),
+        Err(_) => false,
+    }
 }
 
-fn copies(alloc: Global, fields: Fields, what: &'static str) -> Result<(), Fail> {
-    let op = op_with(alloc, fields)?.ok_or(what)?;
-    is_copied(&op, fields, what)
+fn copies(alloc: Global, fields: Fields) -> bool {
+    match op_with(alloc, fields) {
+        Some(op) => is_copied(&op, fields),
+        None => false,
+    }
+}
+
+fn all_copy(alloc: Global, rows: &[(&'static str, Fields)]) -> Result<(), Fail> {
+    for row in rows {
+        is(copies(alloc, row.1), row.0)?;
+    }
+    Ok(())
 }
 
 #[test]
 fn operations_are_copied(rt: HostRuntime) -> Result<(), Fail> {
-    for (what, fields) in KINDS {
-        copies(rt.alloc(), *fields, what)?;
-    }
-    Ok(())
+    all_copy(rt.alloc(), KINDS)
 }

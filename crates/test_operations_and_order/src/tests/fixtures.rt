@@ -1,9 +1,8 @@
 //! Operations that several tests share.
 use char_files::{Anchor, Name, SiteNo, TextNo};
-use looks::{Colour, FontName, Looks, Refusal, Sel};
+use looks::{Colour, FontName, Looks, Sel};
 use operations::{Kind, NameSet, Op};
 use std::alloc::{AllocError, Global};
-use std::test::Fail;
 
 // Ranges of names as (site, at, len).
 pub(super) type Ranges = &'static [(u16, u32, u32)];
@@ -80,68 +79,61 @@ pub(super) fn looks_of((font, colour, offset): LooksParts) -> Option<Looks> {
 }
 
 // Puts the name in; an allocation that is refused once is tried again.
-fn put_in(set: &mut NameSet, parts: (u16, u32)) -> Result<(), Refusal> {
+pub(super) fn put_in(set: &mut NameSet, parts: (u16, u32)) -> bool {
     let Some(name) = name(parts) else {
-        return Ok(());
+        return false;
     };
-    if set.insert(name).is_err() {
-        set.insert(name)?;
-    }
-    Ok(())
+    set.insert(name).is_ok() || set.insert(name).is_ok()
 }
 
-fn put_all(set: &mut NameSet, ranges: Ranges) -> Result<(), Refusal> {
+fn put_all(set: &mut NameSet, ranges: Ranges) -> bool {
     for (site, at, len) in ranges {
         for index in 0..*len {
-            put_in(set, (*site, at.saturating_add(index)))?;
+            if !put_in(set, (*site, at.saturating_add(index))) {
+                return false;
+            }
         }
     }
-    Ok(())
+    true
 }
 
-fn set_of(alloc: Global, ranges: Ranges) -> Result<NameSet, Refusal> {
+fn set_of(alloc: Global, ranges: Ranges) -> Option<NameSet> {
     let mut set = NameSet::new(alloc);
-    put_all(&mut set, ranges)?;
-    Ok(set)
+    if put_all(&mut set, ranges) {
+        Some(set)
+    } else {
+        None
+    }
 }
 
-fn kind_of(alloc: Global, does: Does) -> Result<Option<Kind>, Refusal> {
-    Ok(match does {
-        Does::Insert(cause, at, bytes) => match anchor(cause) {
-            None => None,
-            Some(cause) => Some(Kind::Insert {
-                cause,
-                at,
-                looks: Looks::plain(),
-                bytes: vec_of(alloc, bytes)?,
-            }),
+fn kind_of(alloc: Global, does: Does) -> Option<Kind> {
+    Some(match does {
+        Does::Insert(cause, at, bytes) => Kind::Insert {
+            cause: anchor(cause)?,
+            at,
+            bytes: vec_of(alloc, bytes).ok()?,
+            looks: Looks::plain(),
         },
-        Does::Delete(ranges) => Some(Kind::Delete {
+        Does::Delete(ranges) => Kind::Delete {
             names: set_of(alloc, ranges)?,
-        }),
-        Does::Restore(ranges) => Some(Kind::Restore {
+        },
+        Does::Restore(ranges) => Kind::Restore {
             names: set_of(alloc, ranges)?,
-        }),
-        Does::ChangeLooks(bits, looks, ranges) => match (Sel::new(bits), looks_of(looks)) {
-            (Some(sel), Some(looks)) => Some(Kind::ChangeLooks {
-                sel,
-                looks,
-                names: set_of(alloc, ranges)?,
-            }),
-            _ => None,
+        },
+        Does::ChangeLooks(bits, looks, ranges) => Kind::ChangeLooks {
+            sel: Sel::new(bits)?,
+            looks: looks_of(looks)?,
+            names: set_of(alloc, ranges)?,
         },
     })
 }
 
 // The operation, or none where these fields have no spelling.
-pub(super) fn op_with(alloc: Global, fields: Fields) -> Result<Option<Op>, Refusal> {
-    let (Some(text), Some(site)) = (TextNo::new(1), SiteNo::new(fields.site)) else {
-        return Ok(None);
-    };
-    match kind_of(alloc, fields.does)? {
-        Some(kind) => Ok(Op::new(text, site, fields.seq, fields.stamp, kind)),
-        None => Ok(None),
-    }
+pub(super) fn op_with(alloc: Global, fields: Fields) -> Option<Op> {
+    let text = TextNo::new(1)?;
+    let site = SiteNo::new(fields.site)?;
+    let kind = kind_of(alloc, fields.does)?;
+    Op::new(text, site, fields.seq, fields.stamp, kind)
 }
 
 pub(super) fn are_looks(looks: &Looks, (font, colour, offset): LooksParts) -> bool {
@@ -187,37 +179,50 @@ fn does_this(kind: &Kind, does: Does) -> bool {
 
 // Whether the operation's readers give these fields.
 pub(super) fn has_these(op: &Op, fields: Fields) -> bool {
-    (op.text().get(), op.site().get()) == (1, fields.site)
-        && (op.seq(), op.stamp()) == (fields.seq, fields.stamp)
+    op.text().get() == 1
+        && op.site().get() == fields.site
+        && op.seq() == fields.seq
+        && op.stamp() == fields.stamp
         && does_this(op.kind(), fields.does)
 }
 
 // An operation on text 1: its site, its seq, its stamp.
 pub(super) type Told = (u16, u32, u64, Does);
 
-fn op_of(alloc: Global, (site, seq, stamp, does): Told) -> Result<Op, Fail> {
-    let fields = Fields {
-        site,
-        seq,
-        stamp,
-        does,
-    };
-    Ok(op_with(alloc, fields)?.ok_or("no operation")?)
+fn op_of(alloc: Global, (site, seq, stamp, does): Told) -> Option<Op> {
+    op_with(
+        alloc,
+        Fields {
+            site,
+            seq,
+            stamp,
+            does,
+        },
+    )
 }
 
 // Makes room for so many operations more; an allocation that is refused once is tried again.
-fn reserve(ops: &mut Vec<Op>, len: usize) -> Result<(), AllocError> {
-    match ops.reserve(len) {
-        Ok(()) => Ok(()),
-        Err(_) => ops.reserve(len),
+fn reserve(ops: &mut Vec<Op>, len: usize) -> bool {
+    ops.reserve(len).is_ok() || ops.reserve(len).is_ok()
+}
+
+// Puts the operation after those that are there.
+pub(super) fn put_op(ops: &mut Vec<Op>, alloc: Global, told: &Told) -> bool {
+    if !reserve(ops, 1) {
+        return false;
+    }
+    match op_of(alloc, *told) {
+        Some(op) => ops.push(op).is_ok(),
+        None => false,
     }
 }
 
 // Puts the operations after those that are there.
-pub(super) fn put_ops(ops: &mut Vec<Op>, alloc: Global, told: &[Told]) -> Result<(), Fail> {
-    reserve(ops, told.len())?;
+pub(super) fn put_ops(ops: &mut Vec<Op>, alloc: Global, told: &[Told]) -> bool {
     for fields in told {
-        ops.push(op_of(alloc, *fields)?)?;
+        if !put_op(ops, alloc, fields) {
+            return false;
+        }
     }
-    Ok(())
+    true
 }

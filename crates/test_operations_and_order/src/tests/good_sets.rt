@@ -1,9 +1,9 @@
-use super::fixtures::{Does, Told, put_ops};
+use super::fixtures::{Does, Told, put_op};
 use super::is;
-use super::shown::are_good;
 use operations::Op;
 use std::alloc::Global;
 use std::test::Fail;
+use tree_order::is_good;
 
 // Three sites, one cause: sites 1 and 2 both type after the `A` of `AC`.
 const M1: Told = (1, 1, 1, Does::Insert(None, 0, b"AC"));
@@ -92,6 +92,9 @@ const BAD: &[(&str, &[Told])] = &[
         "no Insert of a name that is deleted",
         &[M1, (1, 2, 2, Does::Delete(&[(2, 0, 1)]))],
     ),
+];
+
+const BAD_NAMES: &[(&str, &[Told])] = &[
     (
         "no Insert of a name that is restored",
         &[M1, (1, 2, 2, Does::Restore(&[(2, 0, 1)]))],
@@ -124,6 +127,9 @@ const BAD: &[(&str, &[Told])] = &[
         "the stamp of the cause's Insert",
         &[M1, (2, 1, 1, Does::Insert(Some((1, 0)), 0, b"X"))],
     ),
+];
+
+const BAD_STAMPS: &[(&str, &[Told])] = &[
     (
         "the stamp of the Insert of what is deleted",
         &[M1, (2, 1, 1, Does::Delete(&[(1, 1, 1)]))],
@@ -167,59 +173,72 @@ pub(super) type Part<'a> = (&'a [&'a [Told]], u32);
 
 pub(super) const ALL: u32 = u32::MAX;
 
+pub(super) const NONE: Part<'static> = (&[], 0);
+
 // Puts those of one list after what is there, and answers what is left of the number.
-fn put_some(ops: &mut Vec<Op>, alloc: Global, told: &[Told], mut number: u32) -> Result<u32, Fail> {
+fn put_some(ops: &mut Vec<Op>, alloc: Global, told: &[Told], mut number: u32) -> Option<u32> {
     for op in told {
-        if number % 2 == 1 {
-            put_ops(ops, alloc, &[*op])?;
+        if number % 2 == 1 && !put_op(ops, alloc, op) {
+            return None;
         }
         number /= 2;
     }
-    Ok(number)
+    Some(number)
 }
 
-fn put_part(ops: &mut Vec<Op>, alloc: Global, (lists, number): Part<'_>) -> Result<(), Fail> {
+fn put_part(ops: &mut Vec<Op>, alloc: Global, lists: &[&[Told]], number: u32) -> bool {
     let mut left = number;
     for told in lists {
-        left = put_some(ops, alloc, told, left)?;
+        let Some(rest) = put_some(ops, alloc, told, left) else {
+            return false;
+        };
+        left = rest;
+    }
+    true
+}
+
+// Whether the answer is that they are good, or that they aren't, as wanted.
+fn are_known(alloc: Global, ops: &[Op], good: bool) -> bool {
+    match is_good(alloc, ops) {
+        Ok(answer) => answer == good,
+        Err(_) => is_good(alloc, ops) == Ok(good),
+    }
+}
+
+fn are_parts(ops: &mut Vec<Op>, alloc: Global, a: Part<'_>, b: Part<'_>, good: bool) -> bool {
+    put_part(ops, alloc, a.0, a.1) && put_part(ops, alloc, b.0, b.1) && are_known(alloc, ops, good)
+}
+
+// Whether the operations of both parts together are good, or aren't, as wanted.
+pub(super) fn parts_are(alloc: Global, a: Part<'_>, b: Part<'_>, good: bool) -> bool {
+    let mut ops = Vec::new(alloc);
+    are_parts(&mut ops, alloc, a, b, good)
+}
+
+// Whether all operations of these lists together are good, or aren't, as wanted.
+pub(super) fn all_are(alloc: Global, lists: &[&[Told]], good: bool) -> bool {
+    parts_are(alloc, (lists, ALL), NONE, good)
+}
+
+fn sets_are(
+    alloc: Global,
+    sets: &[(&'static str, &'static [Told])],
+    good: bool,
+) -> Result<(), Fail> {
+    for set in sets {
+        is(all_are(alloc, &[set.1], good), set.0)?;
     }
     Ok(())
-}
-
-fn are_good_parts(
-    ops: &mut Vec<Op>,
-    alloc: Global,
-    a: Part<'_>,
-    b: Part<'_>,
-) -> Result<bool, Fail> {
-    put_part(ops, alloc, a)?;
-    put_part(ops, alloc, b)?;
-    are_good(alloc, ops)
-}
-
-// Whether the operations of both parts together are good.
-pub(super) fn good_parts(alloc: Global, a: Part<'_>, b: Part<'_>) -> Result<bool, Fail> {
-    let mut ops = Vec::new(alloc);
-    are_good_parts(&mut ops, alloc, a, b)
-}
-
-// Whether all operations of these lists together are good.
-pub(super) fn good_with(alloc: Global, lists: &[&[Told]]) -> Result<bool, Fail> {
-    good_parts(alloc, (lists, ALL), (&[], 0))
 }
 
 #[test]
 fn good_sets(rt: HostRuntime) -> Result<(), Fail> {
-    for (what, told) in GOOD {
-        is(good_with(rt.alloc(), &[told])?, what)?;
-    }
-    Ok(())
+    sets_are(rt.alloc(), GOOD, true)
 }
 
 #[test]
 fn sets_that_break_a_rule(rt: HostRuntime) -> Result<(), Fail> {
-    for (what, told) in BAD {
-        is(!good_with(rt.alloc(), &[told])?, what)?;
-    }
-    Ok(())
+    sets_are(rt.alloc(), BAD, false)?;
+    sets_are(rt.alloc(), BAD_NAMES, false)?;
+    sets_are(rt.alloc(), BAD_STAMPS, false)
 }

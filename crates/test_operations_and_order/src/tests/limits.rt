@@ -1,12 +1,13 @@
 use super::fixtures::{Does, Fields, INSERT, PLAIN, has_these, op_with};
 use super::is;
-use looks::Refusal;
 use std::alloc::Global;
 use std::test::Fail;
 
-// Site 2's Inserts with one field at its limit, and one past it: seq, stamp, cause, length of the file,
-// how many bytes; and whether there is such an operation.
-const LIMITS: &[(&str, u32, u64, Option<(u16, u32)>, u32, usize, bool)] = &[
+// What it is, seq, stamp, cause, length of the file, how many bytes; and whether there is such an operation.
+type Limit = (&'static str, u32, u64, Option<(u16, u32)>, u32, usize, bool);
+
+// Site 2's Inserts with one field at its limit, and one past it.
+const LIMITS: &[Limit] = &[
     ("the least of all", 1, 1, None, 0, 1, true),
     ("the greatest seq", 0xffff_ffff, 1, None, 0, 1, true),
     ("seq 0", 0, 1, None, 0, 1, false),
@@ -34,34 +35,44 @@ const LIMITS: &[(&str, u32, u64, Option<(u16, u32)>, u32, usize, bool)] = &[
 const LETTERS: &[u8] = &[b'a'; 4097];
 
 // Whether there is such an operation just as wanted, and its readers give these fields back.
-fn is_as_wanted(alloc: Global, fields: Fields, want: bool) -> Result<bool, Refusal> {
-    Ok(match op_with(alloc, fields)? {
+fn is_as_wanted(alloc: Global, fields: Fields, want: bool) -> bool {
+    match op_with(alloc, fields) {
         Some(op) => want && has_these(&op, fields),
         None => !want,
-    })
+    }
+}
+
+fn is_limit(alloc: Global, limit: &Limit, letters: &'static [u8]) -> bool {
+    let fields = Fields {
+        site: 2,
+        seq: limit.1,
+        stamp: limit.2,
+        does: Does::Insert(limit.3, limit.4, letters),
+    };
+    is_as_wanted(alloc, fields, limit.6)
+}
+
+fn are_limits(alloc: Global, limits: &[Limit], letters: &'static [u8]) -> Result<(), Fail> {
+    for limit in limits {
+        let letters = letters.get(..limit.5).ok_or(limit.0)?;
+        is(is_limit(alloc, limit, letters), limit.0)?;
+    }
+    Ok(())
 }
 
 #[test]
 fn fields_past_their_limits(rt: HostRuntime) -> Result<(), Fail> {
-    for (what, seq, stamp, cause, at, len, want) in LIMITS {
-        let bytes = LETTERS.get(..*len).ok_or(*what)?;
-        let fields = Fields {
-            site: 2,
-            seq: *seq,
-            stamp: *stamp,
-            does: Does::Insert(*cause, *at, bytes),
-        };
-        is(is_as_wanted(rt.alloc(), fields, *want)?, what)?;
-    }
-    Ok(())
+    are_limits(rt.alloc(), LIMITS, LETTERS)
 }
 
 const SYNTAX: &[u8] = b"Syntax12.Scn.Fnt";
 
 const OBERON: &[u8] = b"Oberon10.Scn.Fnt";
 
-// What site 2 does, and whether there is such an operation.
-const NAMED: &[(&str, Does, bool)] = &[
+// What it is, what site 2 does, and whether there is such an operation.
+type Named = (&'static str, Does, bool);
+
+const NAMED: &[Named] = &[
     ("a Delete of nothing", Does::Delete(&[]), false),
     ("a Delete of one name", Does::Delete(&[(1, 0, 1)]), true),
     (
@@ -128,14 +139,18 @@ const NAMED: &[(&str, Does, bool)] = &[
     ),
 ];
 
-#[test]
-fn names_and_unselected_looks(rt: HostRuntime) -> Result<(), Fail> {
-    for (what, does, want) in NAMED {
+fn all_are_as_wanted(alloc: Global, rows: &[Named]) -> Result<(), Fail> {
+    for row in rows {
         let fields = Fields {
-            does: *does,
+            does: row.1,
             ..INSERT
         };
-        is(is_as_wanted(rt.alloc(), fields, *want)?, what)?;
+        is(is_as_wanted(alloc, fields, row.2), row.0)?;
     }
     Ok(())
+}
+
+#[test]
+fn names_and_unselected_looks(rt: HostRuntime) -> Result<(), Fail> {
+    all_are_as_wanted(rt.alloc(), NAMED)
 }

@@ -2,42 +2,70 @@ use super::is;
 use looks::{Colour, FontName, Key, Looks, OUT_OF_MEMORY, Refusal, Register, Sel};
 use std::test::Fail;
 
-// Whether the name of these bytes, if they are one, is spelled by them and is equal to its copy.
-fn is_kept(bytes: &[u8]) -> Option<bool> {
-    let name = FontName::new(bytes)?;
-    Some(name.as_bytes() == bytes && name.copy() == name)
+// Whether there is a name of these bytes as wanted, which is spelled by them and is equal to its copy.
+fn is_kept(bytes: &[u8], want: bool) -> bool {
+    match FontName::new(bytes) {
+        Some(name) => want && name.as_bytes() == bytes && name.copy() == name,
+        None => !want,
+    }
 }
 
-const LETTERS: &[u8] = &[b'a'; 32];
+const FONTS: &[(&[u8], bool)] = &[
+    (b"", false),
+    (b"a", true),
+    (b"aaaaaaaaaaaaaaaaaaaaaaaaaaaaaaa", true),
+    (b"aaaaaaaaaaaaaaaaaaaaaaaaaaaaaaaa", false),
+    (b"1a", false),
+    (b".a", false),
+    (b"a1.Z9", true),
+    (b"Oberon10.Scn.Fnt", true),
+    (b"a-b", false),
+    (b"a\xe9", false),
+];
+
+fn are_kept(fonts: &[(&'static [u8], bool)]) -> bool {
+    for font in fonts {
+        if !is_kept(font.0, font.1) {
+            return false;
+        }
+    }
+    true
+}
 
 #[test]
 fn font_names() -> Result<(), Fail> {
-    for (bytes, want) in [
-        (&LETTERS[..0], false),
-        (&LETTERS[..1], true),
-        (&LETTERS[..31], true),
-        (LETTERS, false),
-        (b"1a".as_slice(), false),
-        (b".a".as_slice(), false),
-        (b"a1.Z9".as_slice(), true),
-        (b"Oberon10.Scn.Fnt".as_slice(), true),
-        (b"a-b".as_slice(), false),
-        (b"a\xe9".as_slice(), false),
-    ] {
-        is(is_kept(bytes) == want.then_some(true), "a font's name")?;
-    }
-    Ok(())
+    is(are_kept(FONTS), "a font's name")
+}
+
+fn is_plain(looks: &Looks) -> bool {
+    looks.font.as_bytes() == b"Oberon10.Scn.Fnt".as_slice()
+        && looks.colour.number() == 1
+        && looks.offset == 0
+        && looks.copy() == *looks
 }
 
 #[test]
 fn plain_looks() -> Result<(), Fail> {
-    let plain = Looks::plain();
-    is(
-        plain.font.as_bytes() == b"Oberon10.Scn.Fnt".as_slice(),
-        "the font",
-    )?;
-    is(plain.colour.number() == 1 && plain.offset == 0, "the rest")?;
-    is(plain.copy() == plain, "a copy")
+    is(is_plain(&Looks::plain()), "the looks, and a copy")
+}
+
+fn selects(bits: u8) -> bool {
+    let Some(sel) = Sel::new(bits) else {
+        return false;
+    };
+    sel.bits() == bits
+        && sel.font() == (bits % 2 == 1)
+        && sel.colour() == (bits / 2 % 2 == 1)
+        && sel.offset() == (bits / 4 == 1)
+}
+
+fn all_select() -> bool {
+    for bits in 1..8 {
+        if !selects(bits) {
+            return false;
+        }
+    }
+    true
 }
 
 #[test]
@@ -50,14 +78,7 @@ fn colours_and_selections() -> Result<(), Fail> {
         Sel::new(0).is_none() && Sel::new(8).is_none(),
         "no selections",
     )?;
-    for bits in 1u8..8 {
-        let sel = Sel::new(bits).ok_or("1 to 7 select something")?;
-        is(sel.bits() == bits, "its bits")?;
-        is(sel.font() == (bits % 2 == 1), "the font")?;
-        is(sel.colour() == (bits / 2 % 2 == 1), "the colour")?;
-        is(sel.offset() == (bits / 4 == 1), "the offset")?;
-    }
-    Ok(())
+    is(all_select(), "1 to 7 select something")
 }
 
 // Offered to a register under the key of stamp 5 and site 2: a stamp, a site, and the value that it has then.
@@ -69,21 +90,27 @@ const OFFERS: &[(u64, u16, char)] = &[
     (6, 1, 'b'),
 ];
 
+fn holds(stamp: u64, site: u16, want: char) -> bool {
+    let mut register = Register {
+        key: Key { stamp: 5, site: 2 },
+        value: 'a',
+    };
+    register.offer(Key { stamp, site }, 'b');
+    register.value == want
+}
+
+fn all_hold(offers: &[(u64, u16, char)]) -> bool {
+    for offer in offers {
+        if !holds(offer.0, offer.1, offer.2) {
+            return false;
+        }
+    }
+    true
+}
+
 #[test]
 fn the_greater_key_holds() -> Result<(), Fail> {
-    for (stamp, site, want) in OFFERS {
-        let mut register = Register {
-            key: Key { stamp: 5, site: 2 },
-            value: 'a',
-        };
-        let key = Key {
-            stamp: *stamp,
-            site: *site,
-        };
-        register.offer(key, 'b');
-        is(register.value == *want, "what holds")?;
-    }
-    Ok(())
+    is(all_hold(OFFERS), "what holds")
 }
 
 const REFUSALS: &[(Refusal, u8)] = &[
@@ -111,11 +138,18 @@ const REFUSALS: &[(Refusal, u8)] = &[
     (Refusal::SeqSpent, 23),
 ];
 
+fn are_numbered(rows: &[(Refusal, u8)]) -> bool {
+    for row in rows {
+        if row.0.number() != row.1 {
+            return false;
+        }
+    }
+    true
+}
+
 #[test]
 fn refusals_are_numbered() -> Result<(), Fail> {
-    for (refusal, number) in REFUSALS {
-        is(refusal.number() == *number, "a refusal's number")?;
-    }
+    is(are_numbered(REFUSALS), "a refusal's number")?;
     let refused = Refusal::within_memory(1, 0).map_err(|refusal| refusal.number());
     is(
         refused == Err(7) && OUT_OF_MEMORY == 7,

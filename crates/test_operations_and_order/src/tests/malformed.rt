@@ -4,7 +4,7 @@ use super::messages::{CHANGE, DELETE, FIRST, RESTORE, SECOND};
 use super::name_sets::is_scattered;
 use looks::Refusal;
 use operations::{Kind, Op, decode, encode};
-use std::alloc::{AllocError, Global};
+use std::alloc::Global;
 use std::test::Fail;
 
 // The operation of a message; an allocation that is refused once is tried again.
@@ -16,20 +16,23 @@ fn op_in(alloc: Global, message: &[u8]) -> Result<Op, Refusal> {
 }
 
 // The operation's message; an allocation that is refused once is tried again.
-fn write(op: &Op, message: &mut Vec<u8>) -> Result<(), Refusal> {
-    match encode(op, message) {
-        Ok(()) => Ok(()),
-        Err(_) => encode(op, message),
+fn write(op: &Op, message: &mut Vec<u8>) -> bool {
+    encode(op, message).is_ok() || encode(op, message).is_ok()
+}
+
+// Whether the bytes spell no operation.
+fn are_malformed(alloc: Global, bytes: &[u8]) -> bool {
+    match decode(alloc, bytes) {
+        Ok(_) => false,
+        Err(refusal) => refusal == Refusal::Malformed,
     }
 }
 
-// The bytes spell no operation.
-fn are_malformed(alloc: Global, bytes: &[u8], what: &'static str) -> Result<(), Fail> {
-    is(decode(alloc, bytes).err() == Some(Refusal::Malformed), what)
-}
+// What it is, a message, and what changes in it, as (index, byte).
+type Changed = (&'static str, &'static [u8], &'static [(usize, u8)]);
 
-// Messages with some bytes changed, as (index, byte), which spell no operation.
-const CHANGED: &[(&str, &[u8], &[(usize, u8)])] = &[
+// Messages with some bytes changed, which spell no operation.
+const CHANGED: &[Changed] = &[
     ("another tag", FIRST, &[(0, b'P')]),
     ("another version", FIRST, &[(2, 2)]),
     ("kind 0", FIRST, &[(3, 0)]),
@@ -55,6 +58,9 @@ const CHANGED: &[(&str, &[u8], &[(usize, u8)])] = &[
     ),
     ("an own cause to come", SECOND, &[(29, 0)]),
     ("the next own cause to come", SECOND, &[(25, 1)]),
+];
+
+const CHANGED_NAMES: &[Changed] = &[
     ("no ranges", DELETE, &[(21, 0)]),
     ("names of site 0", DELETE, &[(23, 0)]),
     ("a range of no names", DELETE, &[(31, 0)]),
@@ -78,39 +84,34 @@ const CHANGED: &[(&str, &[u8], &[(usize, u8)])] = &[
     ("a Restore of names of site 0", RESTORE, &[(23, 0)]),
 ];
 
-fn change(bytes: &mut [u8], changes: &[(usize, u8)]) -> Option<()> {
+fn change(bytes: &mut [u8], changes: &[(usize, u8)]) -> bool {
     for (index, byte) in changes {
-        *bytes.get_mut(*index)? = *byte;
+        let Some(place) = bytes.get_mut(*index) else {
+            return false;
+        };
+        *place = *byte;
     }
-    Some(())
+    true
 }
 
-fn are_refused(
-    bytes: &mut [u8],
-    alloc: Global,
-    changes: &[(usize, u8)],
-    what: &'static str,
-) -> Result<(), Fail> {
-    change(bytes, changes).ok_or(what)?;
-    are_malformed(alloc, bytes, what)
+fn is_refused(alloc: Global, message: &[u8], changes: &[(usize, u8)]) -> bool {
+    match vec_of(alloc, message) {
+        Ok(mut bytes) => change(&mut bytes, changes) && are_malformed(alloc, &bytes),
+        Err(_) => false,
+    }
 }
 
-fn is_refused(
-    alloc: Global,
-    message: &[u8],
-    changes: &[(usize, u8)],
-    what: &'static str,
-) -> Result<(), Fail> {
-    let mut bytes = vec_of(alloc, message)?;
-    are_refused(&mut bytes, alloc, changes, what)
+fn all_are_refused(alloc: Global, rows: &[Changed]) -> Result<(), Fail> {
+    for row in rows {
+        is(is_refused(alloc, row.1, row.2), row.0)?;
+    }
+    Ok(())
 }
 
 #[test]
 fn changed_messages_are_malformed(rt: HostRuntime) -> Result<(), Fail> {
-    for (what, message, changes) in CHANGED {
-        is_refused(rt.alloc(), message, changes, what)?;
-    }
-    Ok(())
+    all_are_refused(rt.alloc(), CHANGED)?;
+    all_are_refused(rt.alloc(), CHANGED_NAMES)
 }
 
 // Whole messages that spell no operation.
@@ -141,29 +142,48 @@ const MALFORMED: &[(&str, &[u8])] = &[
     ),
 ];
 
-#[test]
-fn other_bytes_are_malformed(rt: HostRuntime) -> Result<(), Fail> {
-    for (what, message) in MALFORMED {
-        are_malformed(rt.alloc(), message, what)?;
+fn all_are_malformed(alloc: Global, rows: &[(&'static str, &'static [u8])]) -> Result<(), Fail> {
+    for row in rows {
+        is(are_malformed(alloc, row.1), row.0)?;
     }
     Ok(())
 }
 
-// No front of a message is one.
 #[test]
-fn fronts_are_malformed(rt: HostRuntime) -> Result<(), Fail> {
-    for message in [FIRST, DELETE, RESTORE, CHANGE] {
-        for len in 0..message.len() {
-            let front = message.get(..len).ok_or("no front")?;
-            are_malformed(rt.alloc(), front, "a front")?;
+fn other_bytes_are_malformed(rt: HostRuntime) -> Result<(), Fail> {
+    all_are_malformed(rt.alloc(), MALFORMED)
+}
+
+// A message of each kind.
+const KINDS: &[&[u8]] = &[FIRST, DELETE, RESTORE, CHANGE];
+
+// No front of the message is one.
+fn has_no_front(alloc: Global, message: &[u8]) -> bool {
+    for len in 0..message.len() {
+        if !are_malformed(alloc, &message[..len]) {
+            return false;
         }
     }
-    Ok(())
+    true
+}
+
+fn have_no_front(alloc: Global, messages: &[&[u8]]) -> bool {
+    for message in messages {
+        if !has_no_front(alloc, message) {
+            return false;
+        }
+    }
+    true
+}
+
+#[test]
+fn fronts_are_malformed(rt: HostRuntime) -> Result<(), Fail> {
+    is(have_no_front(rt.alloc(), KINDS), "a front")
 }
 
 fn is_spelled(op: &Op, alloc: Global, bytes: &[u8]) -> bool {
     let mut message = Vec::new(alloc);
-    write(op, &mut message).is_ok() && message.as_slice() == bytes
+    write(op, &mut message) && message.as_slice() == bytes
 }
 
 // Whether the bytes spell the operation that is read, or none, as a message never does.
@@ -174,77 +194,109 @@ fn spell_what_is_read(alloc: Global, bytes: &[u8], are_message: bool) -> bool {
     }
 }
 
-// With this byte changed, the bytes spell no operation, or the one that is read.
-fn counts(bytes: &mut [u8], alloc: Global, index: usize) -> Result<(), Fail> {
-    let old = *bytes.get(index).ok_or("no index")?;
-    for new in 0..=255 {
-        *bytes.get_mut(index).ok_or("no index")? = new;
-        is(spell_what_is_read(alloc, bytes, new == old), "a byte")?;
-    }
-    Ok(())
+// With this byte, the bytes spell no operation, or the one that is read.
+fn byte_counts(bytes: &mut [u8], alloc: Global, index: usize, new: u8) -> bool {
+    let Some(place) = bytes.get_mut(index) else {
+        return false;
+    };
+    let old = *place;
+    *place = new;
+    let counts = spell_what_is_read(alloc, bytes, new == old);
+    change(bytes, &[(index, old)]) && counts
 }
 
-fn byte_counts(alloc: Global, message: &[u8], index: usize) -> Result<(), Fail> {
-    let mut bytes = vec_of(alloc, message)?;
-    counts(&mut bytes, alloc, index)
+fn counts(bytes: &mut [u8], alloc: Global, index: usize) -> bool {
+    for new in 0..=255 {
+        if !byte_counts(bytes, alloc, index, new) {
+            return false;
+        }
+    }
+    true
+}
+
+fn all_count(bytes: &mut [u8], alloc: Global) -> bool {
+    for index in 0..bytes.len() {
+        if !counts(bytes, alloc, index) {
+            return false;
+        }
+    }
+    true
+}
+
+fn each_counts(alloc: Global, message: &[u8]) -> bool {
+    match vec_of(alloc, message) {
+        Ok(mut bytes) => all_count(&mut bytes, alloc),
+        Err(_) => false,
+    }
+}
+
+fn each_counts_in_all(alloc: Global, messages: &[&[u8]]) -> bool {
+    for message in messages {
+        if !each_counts(alloc, message) {
+            return false;
+        }
+    }
+    true
 }
 
 #[test]
 fn each_byte_counts(rt: HostRuntime) -> Result<(), Fail> {
-    for message in [FIRST, DELETE, RESTORE, CHANGE] {
-        for index in 0..message.len() {
-            byte_counts(rt.alloc(), message, index)?;
-        }
-    }
-    Ok(())
+    is(each_counts_in_all(rt.alloc(), KINDS), "a byte")
 }
 
 // Makes room for so many bytes more; an allocation that is refused once is tried again.
-fn reserve(message: &mut Vec<u8>, len: usize) -> Result<(), AllocError> {
-    match message.reserve(len) {
-        Ok(()) => Ok(()),
-        Err(_) => message.reserve(len),
+fn reserve(message: &mut Vec<u8>, len: usize) -> bool {
+    message.reserve(len).is_ok() || message.reserve(len).is_ok()
+}
+
+fn write_range(message: &mut Vec<u8>, at: u32) -> bool {
+    message.extend_from_slice(&[0, 1]).is_ok()
+        && message.extend_from_slice(&at.to_be_bytes()).is_ok()
+        && message.extend_from_slice(&[0, 0, 0, 1]).is_ok()
+}
+
+// Writes so many ranges, each of one name, that don't touch.
+fn write_ranges(message: &mut Vec<u8>, count: u16) -> bool {
+    for index in 0..u32::from(count) {
+        if !write_range(message, 2 * index) {
+            return false;
+        }
     }
+    true
 }
 
 // Writes a Delete of so many ranges, each of one name, that don't touch.
-fn write_delete(message: &mut Vec<u8>, count: u16) -> Result<(), AllocError> {
-    reserve(message, 10_500)?;
-    message.extend_from_slice(DELETE.get(..20).unwrap_or(&[]))?;
-    message.extend_from_slice(&count.to_be_bytes())?;
-    for index in 0..u32::from(count) {
-        message.extend_from_slice(&[0, 1])?;
-        message.extend_from_slice(&(2 * index).to_be_bytes())?;
-        message.extend_from_slice(&[0, 0, 0, 1])?;
+fn write_delete(message: &mut Vec<u8>, count: u16) -> bool {
+    reserve(message, 10_500)
+        && message.extend_from_slice(&DELETE[..20]).is_ok()
+        && message.extend_from_slice(&count.to_be_bytes()).is_ok()
+        && write_ranges(message, count)
+}
+
+fn has_1024(op: &Op) -> bool {
+    match op.kind() {
+        Kind::Delete { names } => names.ranges().len() == 1024 && is_scattered(names),
+        _ => false,
     }
-    Ok(())
 }
 
-fn has_1024(op: &Op) -> Result<(), Fail> {
-    let Kind::Delete { names } = op.kind() else {
-        return Err("not a Delete".into());
-    };
-    is(
-        names.ranges().len() == 1024 && is_scattered(names),
-        "1,024 ranges",
-    )
+fn are_read(alloc: Global, message: &[u8]) -> bool {
+    match op_in(alloc, message) {
+        Ok(op) => has_1024(&op),
+        Err(_) => false,
+    }
 }
 
-fn are_read(alloc: Global, message: &[u8]) -> Result<(), Fail> {
-    let op = op_in(alloc, message)?;
-    has_1024(&op)
-}
-
-fn have_a_bound(message: &mut Vec<u8>, alloc: Global) -> Result<(), Fail> {
-    write_delete(message, 1024)?;
-    are_read(alloc, message)?;
+fn have_a_bound(message: &mut Vec<u8>, alloc: Global) -> bool {
+    if !write_delete(message, 1024) || !are_read(alloc, message) {
+        return false;
+    }
     message.clear();
-    write_delete(message, 1025)?;
-    are_malformed(alloc, message, "1,025 ranges")
+    write_delete(message, 1025) && are_malformed(alloc, message)
 }
 
 #[test]
 fn at_most_1024_ranges(rt: HostRuntime) -> Result<(), Fail> {
     let mut message = Vec::new(rt.alloc());
-    have_a_bound(&mut message, rt.alloc())
+    is(have_a_bound(&mut message, rt.alloc()), "1,024 ranges")
 }

@@ -1,9 +1,9 @@
-use super::fixtures::{Ranges, are_ranges, name};
+use super::fixtures::{Ranges, are_ranges, name, put_in};
 use super::is;
 use char_files::{MAX_FILE, Name, SiteNo};
 use looks::Refusal;
 use operations::{NameRange, NameSet};
-use std::alloc::{AllocError, Global};
+use std::alloc::Global;
 use std::test::Fail;
 
 // Names as (site, off) that go into a set one by one, and the set's ranges as (site, at, len).
@@ -84,30 +84,30 @@ const NAMES: &[Names] = &[
 ];
 
 // A copy; an allocation that is refused once is tried again.
-fn copy_of(set: &NameSet) -> Result<NameSet, Refusal> {
+fn copy_of(set: &NameSet) -> Option<NameSet> {
     match set.copy() {
-        Ok(set) => Ok(set),
-        Err(_) => set.copy(),
+        Ok(set) => Some(set),
+        Err(_) => set.copy().ok(),
     }
 }
 
 // Puts a name in. The set is as it was before, where an allocation is refused.
-fn put(set: &mut NameSet, before: &NameSet, name: Name) -> Result<(), Fail> {
-    let Err(refusal) = set.insert(name) else {
-        return Ok(());
-    };
-    is(
-        matches!(refusal, Refusal::OutOfMemory { .. }) && set.is_same(before),
-        "as before",
-    )?;
-    set.insert(name)?;
-    Ok(())
+fn put(set: &mut NameSet, before: &NameSet, name: Name) -> bool {
+    match set.insert(name) {
+        Ok(()) => true,
+        Err(Refusal::OutOfMemory { .. }) => set.is_same(before) && set.insert(name).is_ok(),
+        Err(_) => false,
+    }
 }
 
-fn goes_in(set: &mut NameSet, parts: (u16, u32)) -> Result<(), Fail> {
-    let name = name(parts).ok_or("no name")?;
-    let before = copy_of(set)?;
-    put(set, &before, name)
+fn goes_in(set: &mut NameSet, parts: (u16, u32)) -> bool {
+    let Some(name) = name(parts) else {
+        return false;
+    };
+    match copy_of(set) {
+        Some(before) => put(set, &before, name),
+        None => false,
+    }
 }
 
 fn has(set: &NameSet, parts: (u16, u32)) -> bool {
@@ -117,56 +117,73 @@ fn has(set: &NameSet, parts: (u16, u32)) -> bool {
     }
 }
 
+fn has_all(set: &NameSet, names: &[(u16, u32)]) -> bool {
+    for parts in names {
+        if !has(set, *parts) {
+            return false;
+        }
+    }
+    true
+}
+
 // Whether the set has the case's ranges and names.
 fn is_as_wanted(set: &NameSet, case: &Names) -> bool {
-    let all = case.names.iter().all(|parts| has(set, *parts));
-    are_ranges(set, case.ranges) && all && !has(set, case.out)
+    are_ranges(set, case.ranges) && has_all(set, case.names) && !has(set, case.out)
 }
 
-fn is_copied(set: &NameSet, case: &Names) -> Result<(), Fail> {
-    let copy = copy_of(set)?;
-    is(
-        is_as_wanted(set, case) && is_as_wanted(&copy, case),
-        case.what,
-    )
+fn is_copied(set: &NameSet, case: &Names) -> bool {
+    match copy_of(set) {
+        Some(copy) => is_as_wanted(set, case) && is_as_wanted(&copy, case),
+        None => false,
+    }
 }
 
-fn go_in(set: &mut NameSet, case: &Names) -> Result<(), Fail> {
+fn go_in(set: &mut NameSet, case: &Names) -> bool {
     for parts in case.names {
-        goes_in(set, *parts)?;
+        if !goes_in(set, *parts) {
+            return false;
+        }
     }
     is_copied(set, case)
 }
 
-fn make_a_set(alloc: Global, case: &Names) -> Result<(), Fail> {
+fn make_a_set(alloc: Global, case: &Names) -> bool {
     let mut set = NameSet::new(alloc);
     go_in(&mut set, case)
 }
 
-#[test]
-fn names_go_into_a_set(rt: HostRuntime) -> Result<(), Fail> {
-    for case in NAMES {
-        make_a_set(rt.alloc(), case)?;
+fn all_make_a_set(alloc: Global, cases: &[Names]) -> Result<(), Fail> {
+    for case in cases {
+        is(make_a_set(alloc, case), case.what)?;
     }
     Ok(())
 }
 
+#[test]
+fn names_go_into_a_set(rt: HostRuntime) -> Result<(), Fail> {
+    all_make_a_set(rt.alloc(), NAMES)
+}
+
 // The names of every second offset: 1,024 ranges.
-fn fill(set: &mut NameSet) -> Result<(), Fail> {
+fn fill(set: &mut NameSet) -> bool {
     for index in 0..1024 {
-        let name = name((1, 2 * index)).ok_or("no name")?;
-        if set.insert(name).is_err() {
-            set.insert(name)?;
+        if !put_in(set, (1, 2 * index)) {
+            return false;
         }
     }
-    Ok(())
+    true
 }
 
 // Whether the set has one range for each of its names, at every second offset of site 1.
 pub(super) fn is_scattered(set: &NameSet) -> bool {
-    let mut ranges = set.ranges().iter().enumerate();
-    ranges.all(|(index, range)| (range.site().get(), range.at() as usize, range.len())
-        == (1, 2 * index, 1))
+    let mut at: u64 = 0;
+    for range in set.ranges() {
+        if range.site().get() != 1 || u64::from(range.at()) != at || range.len() != 1 {
+            return false;
+        }
+        at = at.saturating_add(2);
+    }
+    true
 }
 
 fn is_full(set: &NameSet) -> bool {
@@ -174,29 +191,52 @@ fn is_full(set: &NameSet) -> bool {
 }
 
 // The name is refused, and the set has 1,024 ranges as before.
-fn is_refused(set: &mut NameSet, parts: (u16, u32)) -> Result<(), Fail> {
-    let name = name(parts).ok_or("no name")?;
-    is(set.insert(name) == Err(Refusal::Scattered), "refused")?;
-    is(!set.contains(name) && is_full(set), "as before")
+fn is_refused(set: &mut NameSet, parts: (u16, u32)) -> bool {
+    let Some(name) = name(parts) else {
+        return false;
+    };
+    set.insert(name) == Err(Refusal::Scattered) && !set.contains(name) && is_full(set)
 }
+
+fn are_refused(set: &mut NameSet, names: &[(u16, u32)]) -> bool {
+    for parts in names {
+        if !is_refused(set, *parts) {
+            return false;
+        }
+    }
+    true
+}
+
+// The name goes in, and the set has so many ranges then.
+fn goes_in_with(set: &mut NameSet, parts: (u16, u32), len: usize) -> bool {
+    goes_in(set, parts) && set.ranges().len() == len && has(set, parts)
+}
+
+fn go_in_with(set: &mut NameSet, names: &[((u16, u32), usize)]) -> bool {
+    for item in names {
+        if !goes_in_with(set, item.0, item.1) {
+            return false;
+        }
+    }
+    true
+}
+
+// Names that a full set refuses.
+const REFUSED: &[(u16, u32)] = &[(1, 2048), (1, 2050), (2, 0)];
+
+// Names that go in then, and how many ranges there are with each.
+const TAKEN: &[((u16, u32), usize)] = &[
+    ((1, 2046), 1024),
+    ((1, 2047), 1024),
+    ((1, 1), 1023),
+    ((2, 0), 1024),
+];
 
 // A name that is refused leaves the set as it was; one that touches a range, or is there, goes in.
 fn has_a_bound(set: &mut NameSet) -> Result<(), Fail> {
-    fill(set)?;
-    is(is_full(set), "1,024 ranges")?;
-    for parts in [(1, 2048), (1, 2050), (2, 0)] {
-        is_refused(set, parts)?;
-    }
-    for (parts, len) in [
-        ((1, 2046), 1024),
-        ((1, 2047), 1024),
-        ((1, 1), 1023),
-        ((2, 0), 1024),
-    ] {
-        goes_in(set, parts)?;
-        is(set.ranges().len() == len && has(set, parts), "it goes in")?;
-    }
-    Ok(())
+    is(fill(set) && is_full(set), "1,024 ranges")?;
+    is(are_refused(set, REFUSED), "refused, and as before")?;
+    is(go_in_with(set, TAKEN), "it goes in")
 }
 
 #[test]
@@ -269,75 +309,117 @@ fn range((site, at, len): (u16, u32, u32)) -> Option<NameRange> {
 }
 
 // Room for so many ranges; an allocation that is refused once is tried again.
-fn room(alloc: Global, len: usize) -> Result<Vec<NameRange>, AllocError> {
+fn room(alloc: Global, len: usize) -> Option<Vec<NameRange>> {
     match Vec::with_capacity(alloc, len) {
-        Ok(ranges) => Ok(ranges),
-        Err(_) => Vec::with_capacity(alloc, len),
+        Ok(ranges) => Some(ranges),
+        Err(_) => Vec::with_capacity(alloc, len).ok(),
     }
 }
 
-fn put_ranges(ranges: &mut Vec<NameRange>, given: Ranges) -> Result<(), Fail> {
+fn put_range(ranges: &mut Vec<NameRange>, parts: (u16, u32, u32)) -> bool {
+    match range(parts) {
+        Some(range) => ranges.push(range).is_ok(),
+        None => false,
+    }
+}
+
+fn put_ranges(ranges: &mut Vec<NameRange>, given: Ranges) -> bool {
     for parts in given {
-        ranges.push(range(*parts).ok_or("no range")?)?;
+        if !put_range(ranges, *parts) {
+            return false;
+        }
+    }
+    true
+}
+
+fn all_of(alloc: Global, given: Ranges) -> Option<Vec<NameRange>> {
+    let mut ranges = room(alloc, given.len())?;
+    if put_ranges(&mut ranges, given) {
+        Some(ranges)
+    } else {
+        None
+    }
+}
+
+// Whether the set of these ranges has those.
+fn make(ranges: Vec<NameRange>, wanted: Ranges) -> bool {
+    match NameSet::of_all(ranges) {
+        Ok(set) => are_ranges(&set, wanted),
+        Err(_) => false,
+    }
+}
+
+fn are_joined(alloc: Global, given: Ranges, wanted: Ranges) -> bool {
+    match all_of(alloc, given) {
+        Some(ranges) => make(ranges, wanted),
+        None => false,
+    }
+}
+
+fn all_are_joined(alloc: Global, cases: &[Joins]) -> Result<(), Fail> {
+    for case in cases {
+        is(are_joined(alloc, case.given, case.ranges), case.what)?;
     }
     Ok(())
-}
-
-fn all_of(alloc: Global, given: Ranges) -> Result<Vec<NameRange>, Fail> {
-    let mut ranges = room(alloc, given.len())?;
-    put_ranges(&mut ranges, given)?;
-    Ok(ranges)
-}
-
-fn join(alloc: Global, case: &Joins) -> Result<(), Fail> {
-    let set = NameSet::of_all(all_of(alloc, case.given)?)?;
-    is(are_ranges(&set, case.ranges), case.what)
 }
 
 #[test]
 fn ranges_in_any_order_make_a_set(rt: HostRuntime) -> Result<(), Fail> {
-    for case in JOINS {
-        join(rt.alloc(), case)?;
-    }
-    Ok(())
+    all_are_joined(rt.alloc(), JOINS)
 }
 
 // The names of every second offset, the greatest first: so many ranges.
-fn put_scattered(ranges: &mut Vec<NameRange>, len: u16) -> Result<(), Fail> {
+fn put_scattered(ranges: &mut Vec<NameRange>, len: u16) -> bool {
     for index in 0..len {
-        let at = 2 * u32::from(len - 1 - index);
-        ranges.push(range((1, at, 1)).ok_or("no range")?)?;
+        if !put_range(ranges, (1, 2 * u32::from(len - 1 - index), 1)) {
+            return false;
+        }
     }
-    Ok(())
+    true
 }
 
 // So many scattered ranges, and these after them.
-fn scattered(alloc: Global, len: u16, given: Ranges) -> Result<Vec<NameRange>, Fail> {
+fn scattered(alloc: Global, len: u16, given: Ranges) -> Option<Vec<NameRange>> {
     let mut ranges = room(alloc, usize::from(len) + 1)?;
-    put_scattered(&mut ranges, len)?;
-    put_ranges(&mut ranges, given)?;
-    Ok(ranges)
+    if put_scattered(&mut ranges, len) && put_ranges(&mut ranges, given) {
+        Some(ranges)
+    } else {
+        None
+    }
 }
 
-fn are_full(alloc: Global) -> Result<(), Fail> {
-    let set = NameSet::of_all(scattered(alloc, 1024, &[])?)?;
-    is(is_full(&set), "1,024 ranges")
+fn make_a_full_set(ranges: Vec<NameRange>) -> bool {
+    match NameSet::of_all(ranges) {
+        Ok(set) => is_full(&set),
+        Err(_) => false,
+    }
 }
 
-fn are_refused(alloc: Global) -> Result<(), Fail> {
-    let refusal = NameSet::of_all(scattered(alloc, 1025, &[])?).err();
-    is(refusal == Some(Refusal::Scattered), "1,025 ranges")
+fn are_full(alloc: Global) -> bool {
+    match scattered(alloc, 1024, &[]) {
+        Some(ranges) => make_a_full_set(ranges),
+        None => false,
+    }
 }
 
-fn are_joined(alloc: Global) -> Result<(), Fail> {
-    let set = NameSet::of_all(scattered(alloc, 1025, &[(1, 0, 2049)])?)?;
-    is(are_ranges(&set, &[(1, 0, 2049)]), "one range")
+fn are_too_many(alloc: Global) -> bool {
+    match scattered(alloc, 1025, &[]) {
+        Some(ranges) => NameSet::of_all(ranges).err() == Some(Refusal::Scattered),
+        None => false,
+    }
+}
+
+fn become_one(alloc: Global) -> bool {
+    match scattered(alloc, 1025, &[(1, 0, 2049)]) {
+        Some(ranges) => make(ranges, &[(1, 0, 2049)]),
+        None => false,
+    }
 }
 
 // What counts is how many ranges are left, and not how many are given.
 #[test]
 fn ranges_are_joined_to_1024_at_most(rt: HostRuntime) -> Result<(), Fail> {
-    are_full(rt.alloc())?;
-    are_refused(rt.alloc())?;
-    are_joined(rt.alloc())
+    is(are_full(rt.alloc()), "1,024 ranges")?;
+    is(are_too_many(rt.alloc()), "1,025 ranges")?;
+    is(become_one(rt.alloc()), "one range")
 }

@@ -27,27 +27,39 @@ fn has(buffer: &Buffer, items: &[(u8, i8)]) -> bool {
     rest.is_empty() && buffer.len() == items.len() as u64
 }
 
+fn are_numbered(number: u16) -> bool {
+    let Some(site) = SiteNo::new(number) else {
+        return false;
+    };
+    let Some(text) = TextNo::new(number) else {
+        return false;
+    };
+    site.get() == number && text.get() == number
+}
+
 #[test]
 fn numbers_of_sites_and_texts() -> Result<(), Fail> {
     is(
         SiteNo::new(0).is_none() && TextNo::new(0).is_none(),
         "none is 0",
     )?;
-    for number in [1, 65535] {
-        let site = SiteNo::new(number).ok_or("a site")?;
-        let text = TextNo::new(number).ok_or("a text")?;
-        is(site.get() == number && text.get() == number, "its number")?;
-    }
-    Ok(())
+    is(are_numbered(1) && are_numbered(65535), "its number")
+}
+
+fn ends_with_the_file(site: SiteNo) -> bool {
+    let Some(last) = Name::new(site, 0x00ff_ffff) else {
+        return false;
+    };
+    Name::new(site, 0x0100_0000).is_none()
+        && last.site() == site
+        && last.off() == 0x00ff_ffff
+        && Anchor::At(last) != Anchor::Root
 }
 
 #[test]
 fn names_end_with_the_file() -> Result<(), Fail> {
     let site = SiteNo::new(7).ok_or("7 is a site")?;
-    is(Name::new(site, 0x0100_0000).is_none(), "after the last")?;
-    let last = Name::new(site, 0x00ff_ffff).ok_or("the last offset of a file")?;
-    is(last.site() == site && last.off() == 0x00ff_ffff, "the last")?;
-    is(Anchor::At(last) != Anchor::Root, "no root")
+    is(ends_with_the_file(site), "the last")
 }
 
 const ITEMS: &[(u8, i8)] = &[
@@ -60,16 +72,14 @@ const ITEMS: &[(u8, i8)] = &[
 ];
 
 // Pushes a character. The buffer has these as before, where an allocation is refused.
-fn goes_in(buffer: &mut Buffer, before: &[(u8, i8)], (byte, offset): (u8, i8)) -> Result<(), Fail> {
-    let Err(refusal) = buffer.push(byte, looks_at(offset)) else {
-        return Ok(());
-    };
-    is(
-        matches!(refusal, Refusal::OutOfMemory { .. }) && has(buffer, before),
-        "as before",
-    )?;
-    buffer.push(byte, looks_at(offset))?;
-    Ok(())
+fn goes_in(buffer: &mut Buffer, before: &[(u8, i8)], byte: u8, offset: i8) -> bool {
+    match buffer.push(byte, looks_at(offset)) {
+        Ok(()) => true,
+        Err(Refusal::OutOfMemory { .. }) => {
+            has(buffer, before) && buffer.push(byte, looks_at(offset)).is_ok()
+        }
+        Err(_) => false,
+    }
 }
 
 // A copy; an allocation that is refused once is tried again.
@@ -80,50 +90,63 @@ fn copy_of(buffer: &Buffer) -> Result<Buffer, Refusal> {
     }
 }
 
-fn is_copied(buffer: &Buffer) -> Result<(), Fail> {
-    let copy = copy_of(buffer)?;
-    is(has(buffer, ITEMS) && has(&copy, ITEMS), "both have all")
+fn is_copied(buffer: &Buffer) -> bool {
+    match copy_of(buffer) {
+        Ok(copy) => has(buffer, ITEMS) && has(&copy, ITEMS),
+        Err(_) => false,
+    }
 }
 
-fn go_in(buffer: &mut Buffer) -> Result<(), Fail> {
-    is(buffer.is_empty() && has(buffer, &[]), "no characters")?;
-    for (i, item) in ITEMS.iter().enumerate() {
-        goes_in(buffer, &ITEMS[..i], *item)?;
+fn all_go_in(buffer: &mut Buffer, items: &[(u8, i8)]) -> bool {
+    for (i, item) in items.iter().enumerate() {
+        if !goes_in(buffer, &items[..i], item.0, item.1) {
+            return false;
+        }
     }
-    is(
-        has(buffer, ITEMS) && buffer.runs().len() == 4,
-        "in four runs",
-    )?;
-    is_copied(buffer)
+    true
+}
+
+fn go_in(buffer: &mut Buffer) -> bool {
+    buffer.is_empty()
+        && has(buffer, &[])
+        && all_go_in(buffer, ITEMS)
+        && has(buffer, ITEMS)
+        && buffer.runs().len() == 4
+        && is_copied(buffer)
 }
 
 // Whichever allocation is refused, the buffer is as it was before, and the next try goes on from there.
 #[test]
 fn pushes_and_copies(rt: HostRuntime) -> Result<(), Fail> {
     let mut buffer = Buffer::new(rt.alloc());
-    go_in(&mut buffer)
+    is(go_in(&mut buffer), "four runs, and a copy")
+}
+
+// Appends 4,096 pieces of 4,096 bytes.
+fn fill(file: &mut CharFile) -> bool {
+    let block = [b'o'; 4096];
+    for i in 0..4096 {
+        if file.append(&block) != Ok(i * 4096) {
+            return false;
+        }
+    }
+    true
 }
 
 // A file of the greatest length, made of pieces of 4,096 bytes; one byte more is refused, and so is its
 // reservation.
-fn ends(file: &mut CharFile) -> Result<(), Fail> {
-    let block = [b'o'; 4096];
-    for i in 0..4096 {
-        is(file.append(&block) == Ok(i * 4096), "a piece")?;
-    }
-    is(file.len() == 0x0100_0000, "2^24 bytes")?;
-    is(
-        file.append(b"n") == Err(Refusal::FileSpent),
-        "one byte more",
-    )?;
-    is(file.reserve(1) == Err(Refusal::FileSpent), "room for one")?;
-    is(file.append(b"") == Ok(0x0100_0000), "none more")
+fn ends(file: &mut CharFile) -> bool {
+    fill(file)
+        && file.len() == 0x0100_0000
+        && file.append(b"n") == Err(Refusal::FileSpent)
+        && file.reserve(1) == Err(Refusal::FileSpent)
+        && file.append(b"") == Ok(0x0100_0000)
 }
 
 #[test]
 fn a_file_ends(rt: HostRuntime) -> Result<(), Fail> {
     let mut file = CharFile::new(rt.alloc());
-    ends(&mut file)
+    is(ends(&mut file), "2^24 bytes, and no more")
 }
 
 // Whether there is room then for so many bytes more.
@@ -139,30 +162,18 @@ fn makes_room(files: &mut CharFiles, one: SiteNo, two: SiteNo, site: SiteNo, mor
     kept && (reserved || reserves(files, site, more))
 }
 
-// The site's file begins with these bytes.
-fn begins_with(files: &CharFiles, site: SiteNo, bytes: &[u8; 3]) -> Result<(), Fail> {
-    let mut off = 0;
-    for want in bytes {
-        let name = Name::new(site, off).ok_or("below 2^24")?;
-        if files.len(site) <= off {
-            return Err("a byte".into());
-        }
-        is(files.byte(name) == *want, "the byte")?;
-        off += 1;
-    }
-    Ok(())
+fn has_byte(files: &CharFiles, site: SiteNo, off: u32, want: u8) -> bool {
+    let Some(name) = Name::new(site, off) else {
+        return false;
+    };
+    off < files.len(site) && files.byte(name) == want
 }
 
-fn append_in_turn(files: &mut CharFiles, one: SiteNo, two: SiteNo) -> Result<(), Fail> {
-    for (site, bytes, off) in [
-        (one, &b"ab"[..], 0),
-        (two, &b"xyz"[..], 0),
-        (one, &b"c"[..], 2),
-    ] {
-        is(makes_room(files, one, two, site, bytes.len()), "room")?;
-        is(files.append(site, bytes)? == off, "appended")?;
-    }
-    Ok(())
+// The site's file begins with these bytes.
+fn begins_with(files: &CharFiles, site: SiteNo, bytes: [u8; 3]) -> bool {
+    has_byte(files, site, 0, bytes[0])
+        && has_byte(files, site, 1, bytes[1])
+        && has_byte(files, site, 2, bytes[2])
 }
 
 fn append(files: &mut CharFiles, site: SiteNo, bytes: &[u8]) -> Result<u32, Refusal> {
@@ -172,27 +183,47 @@ fn append(files: &mut CharFiles, site: SiteNo, bytes: &[u8]) -> Result<u32, Refu
     }
 }
 
+// With room made before, the bytes go into the site's file at this offset.
+fn appends(
+    files: &mut CharFiles,
+    one: SiteNo,
+    two: SiteNo,
+    site: SiteNo,
+    bytes: &[u8],
+    off: u32,
+) -> bool {
+    makes_room(files, one, two, site, bytes.len()) && files.append(site, bytes) == Ok(off)
+}
+
+fn append_in_turn(files: &mut CharFiles, one: SiteNo, two: SiteNo) -> bool {
+    appends(files, one, two, one, b"ab", 0)
+        && appends(files, one, two, two, b"xyz", 0)
+        && appends(files, one, two, one, b"c", 2)
+}
+
 // Two sites append in turn. Whichever allocation is refused, no file changes, and the next try goes on from
 // there.
-fn grow(files: &mut CharFiles) -> Result<(), Fail> {
-    let one = SiteNo::new(1).ok_or("1 is a site")?;
-    let two = SiteNo::new(2).ok_or("2 is a site")?;
+fn grow(files: &mut CharFiles, one: SiteNo, two: SiteNo) -> Result<(), Fail> {
     is(files.len(one) == 0, "no bytes")?;
-    append_in_turn(files, one, two)?;
+    is(append_in_turn(files, one, two), "appended")?;
     is(
-        (files.len(one), files.len(two)) == (3, 3),
+        files.len(one) == 3 && files.len(two) == 3,
         "three bytes each",
     )?;
-    begins_with(files, one, b"abc")?;
-    begins_with(files, two, b"xyz")?;
     is(
-        append(files, two, b"!")? == 3 && files.len(two) == 4,
+        begins_with(files, one, *b"abc") && begins_with(files, two, *b"xyz"),
+        "the bytes",
+    )?;
+    is(
+        append(files, two, b"!") == Ok(3) && files.len(two) == 4,
         "one more",
     )
 }
 
 #[test]
 fn files_of_two_sites(rt: HostRuntime) -> Result<(), Fail> {
+    let one = SiteNo::new(1).ok_or("1 is a site")?;
+    let two = SiteNo::new(2).ok_or("2 is a site")?;
     let mut files = CharFiles::new(rt.alloc());
-    grow(&mut files)
+    grow(&mut files, one, two)
 }

@@ -22,10 +22,11 @@ struct Atom {
     hidden: Register<bool>,
 }
 
-// Operations, the last of which comes last, and all characters before it, in their order.
+// Operations, all their characters in their order, and one operation that comes after them.
 struct Case {
     what: &'static str,
-    all: &'static [Told],
+    ops: &'static [Told],
+    more: &'static [Told],
     before: &'static [Atom],
     // The bytes that are shown before, and with the last operation.
     shown: &'static [u8],
@@ -94,24 +95,21 @@ const ABC: Told = (1, 1, 1, Does::Insert(None, 0, b"abc"));
 const CASES: &[Case] = &[
     Case {
         what: "a Delete of two characters",
-        all: &[
-            ABC,
-            (2, 1, 2, Does::Insert(Some((1, 0)), 0, b"x")),
-            (1, 2, 2, Does::Delete(&[(1, 1, 2)])),
-        ],
+        ops: &[ABC, (2, 1, 2, Does::Insert(Some((1, 0)), 0, b"x"))],
+        more: &[(1, 2, 2, Does::Delete(&[(1, 1, 2)]))],
         before: &[A, X, B, C],
         shown: b"axbc",
         shown_after: b"ax",
     },
     Case {
         what: "a Restore below another site's Delete",
-        all: &[
+        ops: &[
             ABC,
             (1, 2, 2, Does::Delete(&[(1, 1, 1)])),
             (2, 1, 2, Does::Insert(Some((1, 0)), 0, b"x")),
             (2, 2, 3, Does::Delete(&[(1, 1, 1)])),
-            (1, 3, 3, Does::Restore(&[(1, 1, 1)])),
         ],
+        more: &[(1, 3, 3, Does::Restore(&[(1, 1, 1)]))],
         before: &[
             A,
             X,
@@ -129,12 +127,12 @@ const CASES: &[Case] = &[
     },
     Case {
         what: "a Restore above both Deletes",
-        all: &[
+        ops: &[
             ABC,
             (1, 2, 2, Does::Delete(&[(1, 1, 1)])),
             (2, 1, 2, Does::Delete(&[(1, 1, 1)])),
-            (1, 3, 3, Does::Restore(&[(1, 1, 1)])),
         ],
+        more: &[(1, 3, 3, Does::Restore(&[(1, 1, 1)]))],
         before: &[
             A,
             Atom {
@@ -149,14 +147,17 @@ const CASES: &[Case] = &[
         shown: b"ac",
         shown_after: b"abc",
     },
+];
+
+const BELOW: &[Case] = &[
     Case {
         what: "a Delete below a Restore",
-        all: &[
+        ops: &[
             ABC,
             (1, 2, 2, Does::Delete(&[(1, 1, 1)])),
             (1, 3, 3, Does::Restore(&[(1, 1, 1)])),
-            (2, 1, 2, Does::Delete(&[(1, 1, 2)])),
         ],
+        more: &[(2, 1, 2, Does::Delete(&[(1, 1, 2)]))],
         before: &[
             A,
             Atom {
@@ -173,7 +174,7 @@ const CASES: &[Case] = &[
     },
     Case {
         what: "a change of font and colour, the colour below another site's",
-        all: &[
+        ops: &[
             ABC,
             (
                 2,
@@ -181,13 +182,13 @@ const CASES: &[Case] = &[
                 2,
                 Does::ChangeLooks(2, (b"Oberon10.Scn.Fnt", 5, 0), &[(1, 0, 2)]),
             ),
-            (
-                1,
-                2,
-                2,
-                Does::ChangeLooks(3, (b"Mono.Fnt", 3, 0), &[(1, 1, 2)]),
-            ),
         ],
+        more: &[(
+            1,
+            2,
+            2,
+            Does::ChangeLooks(3, (b"Mono.Fnt", 3, 0), &[(1, 1, 2)]),
+        )],
         before: &[
             Atom {
                 colour: Register {
@@ -233,7 +234,8 @@ fn offer_looks(atom: &mut Atom, key: Key, bits: u8, (font, colour, offset): Look
 }
 
 // Offers what the operation gives to this character, if it names it.
-fn offer(atom: &mut Atom, key: Key, does: Does) {
+fn offer(atom: &mut Atom, (site, _, stamp, does): Told) {
+    let key = Key { stamp, site };
     match does {
         Does::Delete(ranges) if has_name(ranges, atom.name) => atom.hidden.offer(key, true),
         Does::Restore(ranges) if has_name(ranges, atom.name) => atom.hidden.offer(key, false),
@@ -244,10 +246,11 @@ fn offer(atom: &mut Atom, key: Key, does: Does) {
     }
 }
 
-// A character with one operation more, if there is one.
-fn with_more(mut atom: Atom, more: Option<Told>) -> Atom {
-    if let Some((site, _, stamp, does)) = more {
-        offer(&mut atom, Key { stamp, site }, does);
+// A character with these operations more.
+fn with_more(before: &Atom, more: &[Told]) -> Atom {
+    let mut atom = *before;
+    for told in more {
+        offer(&mut atom, *told);
     }
     atom
 }
@@ -273,10 +276,10 @@ fn are_all(order: &[Name], atoms: &[Atom]) -> bool {
 }
 
 // Whether those are shown, with these bytes, that aren't hidden.
-fn are_shown(shown: &[Char], atoms: &[Atom], more: Option<Told>, bytes: &[u8]) -> bool {
+fn are_shown(shown: &[Char], atoms: &[Atom], more: &[Told], bytes: &[u8]) -> bool {
     let mut rest = shown.iter().zip(bytes);
     for before in atoms {
-        let atom = with_more(*before, more);
+        let atom = with_more(before, more);
         if atom.hidden.value {
             continue;
         }
@@ -290,58 +293,50 @@ fn are_shown(shown: &[Char], atoms: &[Atom], more: Option<Told>, bytes: &[u8]) -
     shown.len() == bytes.len() && rest.next().is_none()
 }
 
-fn has_all(alloc: Global, ops: &[Op], case: &Case) -> Result<(), Fail>
+fn has_all(alloc: Global, ops: &[Op], case: &Case) -> bool
     requires { Good ops.now }
 {
-    let order = order_of(alloc, ops)?;
-    is(are_all(&order, case.before), case.what)
+    match order_of(alloc, ops) {
+        Some(order) => are_all(&order, case.before),
+        None => false,
+    }
 }
 
-fn shows(
-    alloc: Global,
-    ops: &[Op],
-    case: &Case,
-    more: Option<Told>,
-    bytes: &[u8],
-) -> Result<(), Fail>
+fn shows(alloc: Global, ops: &[Op], case: &Case, more: &[Told], bytes: &[u8]) -> bool
     requires { Good ops.now }
 {
-    let shown = shown_of(alloc, ops)?;
-    is(are_shown(&shown, case.before, more, bytes), case.what)
+    match shown_of(alloc, ops) {
+        Some(shown) => are_shown(&shown, case.before, more, bytes),
+        None => false,
+    }
 }
 
 // The operations have these characters in this order, and show those that aren't hidden.
-fn keep(
-    alloc: Global,
-    ops: &[Op],
-    case: &Case,
-    more: Option<Told>,
-    bytes: &[u8],
-) -> Result<(), Fail> {
-    if !are_good(alloc, ops)? {
-        return Err(case.what.into());
-    }
-    has_all(alloc, ops, case)?;
-    shows(alloc, ops, case, more, bytes)
+fn keep(alloc: Global, ops: &[Op], case: &Case, more: &[Told], bytes: &[u8]) -> bool {
+    are_good(alloc, ops) && has_all(alloc, ops, case) && shows(alloc, ops, case, more, bytes)
 }
 
-fn keep_both(ops: &mut Vec<Op>, alloc: Global, case: &Case) -> Result<(), Fail> {
-    let (more, old) = case.all.split_last().ok_or("no operation")?;
-    put_ops(ops, alloc, old)?;
-    keep(alloc, ops, case, None, case.shown)?;
-    put_ops(ops, alloc, &[*more])?;
-    keep(alloc, ops, case, Some(*more), case.shown_after)
+fn keep_both(ops: &mut Vec<Op>, alloc: Global, case: &Case) -> bool {
+    put_ops(ops, alloc, case.ops)
+        && keep(alloc, ops, case, &[], case.shown)
+        && put_ops(ops, alloc, case.more)
+        && keep(alloc, ops, case, case.more, case.shown_after)
 }
 
-fn check_case(alloc: Global, case: &Case) -> Result<(), Fail> {
+fn determine(alloc: Global, case: &Case) -> bool {
     let mut ops = Vec::new(alloc);
     keep_both(&mut ops, alloc, case)
 }
 
-#[test]
-fn registers_determine_what_is_shown(rt: HostRuntime) -> Result<(), Fail> {
-    for case in CASES {
-        check_case(rt.alloc(), case)?;
+fn all_determine(alloc: Global, cases: &[Case]) -> Result<(), Fail> {
+    for case in cases {
+        is(determine(alloc, case), case.what)?;
     }
     Ok(())
+}
+
+#[test]
+fn registers_determine_what_is_shown(rt: HostRuntime) -> Result<(), Fail> {
+    all_determine(rt.alloc(), CASES)?;
+    all_determine(rt.alloc(), BELOW)
 }

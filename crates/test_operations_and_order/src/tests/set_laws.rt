@@ -1,7 +1,7 @@
 use super::fixtures::{Does, Told};
-use super::good_sets::{ALL, Part, good_parts, good_with};
+use super::good_sets::{ALL, NONE, Part, all_are, parts_are};
 use super::is;
-use super::shown::{Case, PLAIN, check_told};
+use super::shown::{Case, PLAIN, shows};
 use std::alloc::Global;
 use std::test::Fail;
 
@@ -80,7 +80,10 @@ enum Growth {
     Waits(&'static [Told]),
 }
 
-const GROWTHS: &[(&str, &[Told], &[Told], Growth)] = &[
+// What it is, the set, the operation, and what becomes of them.
+type Grown = (&'static str, &'static [Told], &'static [Told], Growth);
+
+const READY: &[Grown] = &[
     (
         "an Insert at the end of its site's file",
         &[AC, B, X, Y],
@@ -105,6 +108,9 @@ const GROWTHS: &[(&str, &[Told], &[Told], Growth)] = &[
         &[(2, 2, 3, Does::Insert(Some((1, 1)), 1, b"Y"))],
         Growth::Ready,
     ),
+];
+
+const REFUSED: &[Grown] = &[
     (
         "an Insert before its file's end",
         &[AC, B, X],
@@ -141,6 +147,9 @@ const GROWTHS: &[(&str, &[Told], &[Told], Growth)] = &[
         &[(3, 1, 1, Does::Insert(Some((1, 1)), 0, b"Z"))],
         Growth::Refused(&[(1, 3, 3, Does::Restore(&[(1, 1, 1)]))]),
     ),
+];
+
+const WAITS: &[Grown] = &[
     (
         "before its predecessor",
         &[AC, X],
@@ -201,7 +210,7 @@ const CLOSINGS: &[Closing] = &[
 ];
 
 // Lists of which each part that is good has other fronts than each other.
-const LISTS: &[&[Told; 4]] = &[
+const LISTS: &[&[Told]] = &[
     &[AC, B, X, Y],
     &[
         ONE,
@@ -218,21 +227,41 @@ const LISTS: &[&[Told; 4]] = &[
 ];
 
 // Both ways, put together otherwise, and with repeats.
-fn check_union(alloc: Global, union: &Union) -> Result<(), Fail> {
-    let (a, b, both) = (union.a, union.b, &union.both);
-    is(good_with(alloc, &[a])?, both.what)?;
-    is(good_with(alloc, &[b])?, both.what)?;
-    check_told(alloc, &[a, b], both)?;
-    check_told(alloc, &[b, a], both)?;
-    check_told(alloc, &[a, b, b], both)?;
-    check_told(alloc, &[a, b, a], both)
+fn is_union(alloc: Global, union: &Union) -> bool {
+    let (a, b) = (union.a, union.b);
+    shows(alloc, &[a, b], &union.both)
+        && shows(alloc, &[b, a], &union.both)
+        && shows(alloc, &[a, b, b], &union.both)
+        && shows(alloc, &[a, b, a], &union.both)
+}
+
+fn are_unions(alloc: Global, unions: &[Union]) -> Result<(), Fail> {
+    for union in unions {
+        is(all_are(alloc, &[union.a], true), union.both.what)?;
+        is(all_are(alloc, &[union.b], true), union.both.what)?;
+        is(is_union(alloc, union), union.both.what)?;
+    }
+    Ok(())
 }
 
 // The union of good sets is good, and shows the same either way, put together otherwise, and with repeats.
 #[test]
 fn unions(rt: HostRuntime) -> Result<(), Fail> {
-    for union in UNIONS {
-        check_union(rt.alloc(), union)?;
+    are_unions(rt.alloc(), UNIONS)
+}
+
+fn is_taken_over(alloc: Global, a: &[Told], b: &[Told]) -> bool {
+    for taken in 0..b.len() {
+        if !all_are(alloc, &[a, &b[..taken]], true) {
+            return false;
+        }
+    }
+    true
+}
+
+fn are_taken_over(alloc: Global, unions: &[Union]) -> Result<(), Fail> {
+    for union in unions {
+        is(is_taken_over(alloc, union.a, union.b), union.both.what)?;
     }
     Ok(())
 }
@@ -240,20 +269,24 @@ fn unions(rt: HostRuntime) -> Result<(), Fail> {
 // The other's operations are ready one after the other, in an order that keeps causes.
 #[test]
 fn one_is_taken_over_after_the_other(rt: HostRuntime) -> Result<(), Fail> {
-    for Union { a, b, both } in UNIONS {
-        for taken in 0..b.len() {
-            is(good_with(rt.alloc(), &[a, &b[..taken]])?, both.what)?;
-        }
-    }
-    Ok(())
+    are_taken_over(rt.alloc(), UNIONS)
+}
+
+// Two good sets with one identity.
+const TWICE: (&[Told], &[Told]) = (&[AC, X], &[ABC]);
+
+// Each is good, and both together aren't.
+fn exclude_each_other(alloc: Global, a: &[Told], b: &[Told]) -> bool {
+    all_are(alloc, &[a], true) && all_are(alloc, &[b], true) && all_are(alloc, &[a, b], false)
 }
 
 // The premise: with two operations of one identity a union of good sets isn't good.
 #[test]
 fn one_identity_used_twice(rt: HostRuntime) -> Result<(), Fail> {
-    is(good_with(rt.alloc(), &[&[AC, X]])?, "one set")?;
-    is(good_with(rt.alloc(), &[&[ABC]])?, "the other")?;
-    is(!good_with(rt.alloc(), &[&[AC, X], &[ABC]])?, "both")
+    is(
+        exclude_each_other(rt.alloc(), TWICE.0, TWICE.1),
+        "one identity",
+    )
 }
 
 // The greatest seq of the site's operations in a part of the list, 0 for none.
@@ -273,68 +306,76 @@ fn have_equal_fronts(told: &[Told], a: u32, b: u32) -> bool {
     front(told, a, 1) == front(told, b, 1) && front(told, a, 2) == front(told, b, 2)
 }
 
-// No other good part of the four operations has the fronts of this one, if that is good.
-fn fronts_tell(alloc: Global, told: &[Told; 4], number: u32) -> Result<(), Fail> {
-    let lists: &[&[Told]] = &[told];
-    if !good_parts(alloc, (lists, number), (&[], 0))? {
-        return Ok(());
-    }
+// No other good part of the four operations has the fronts of this one.
+fn fronts_are_its_own(alloc: Global, told: &[Told], number: u32) -> bool {
     for other in 0..16 {
-        if other != number && have_equal_fronts(told, number, other) {
-            is(
-                !good_parts(alloc, (lists, other), (&[], 0))?,
-                "equal fronts",
-            )?;
+        if other != number
+            && have_equal_fronts(told, number, other)
+            && !parts_are(alloc, (&[told], other), NONE, false)
+        {
+            return false;
         }
     }
-    Ok(())
+    true
+}
+
+// A part that isn't good, or has fronts of its own.
+fn fronts_tell(alloc: Global, told: &[Told], number: u32) -> bool {
+    parts_are(alloc, (&[told], number), NONE, false) || fronts_are_its_own(alloc, told, number)
+}
+
+fn all_fronts_tell(alloc: Global, lists: &[&[Told]]) -> bool {
+    for told in lists {
+        for number in 0..16 {
+            if !fronts_tell(alloc, told, number) {
+                return false;
+            }
+        }
+    }
+    true
 }
 
 // Good sets with equal fronts are equal.
 #[test]
 fn fronts(rt: HostRuntime) -> Result<(), Fail> {
-    for told in LISTS {
-        for number in 0..16 {
-            fronts_tell(rt.alloc(), told, number)?;
-        }
-    }
-    Ok(())
+    is(all_fronts_tell(rt.alloc(), LISTS), "equal fronts")
 }
 
 // Whether no part of the operations is good together with the set.
-fn never_good(alloc: Global, set: Part<'_>, more: &[Told]) -> Result<bool, Fail> {
+fn is_never_good(alloc: Global, set: Part<'_>, more: &[Told]) -> bool {
     for number in 0..16 {
-        if good_parts(alloc, set, (&[more], number))? {
-            return Ok(false);
+        if !parts_are(alloc, set, (&[more], number), false) {
+            return false;
         }
     }
-    Ok(true)
+    true
 }
 
 // Whether the growth is what becomes of the set with the operation.
-fn grows(
-    alloc: Global,
-    set: &'static [Told],
-    op: &'static [Told],
-    growth: &Growth,
-) -> Result<bool, Fail> {
+fn grows(alloc: Global, set: &'static [Told], op: &'static [Told], growth: &Growth) -> bool {
     match growth {
-        Growth::Ready => good_with(alloc, &[set, op]),
-        Growth::Refused(more) => never_good(alloc, (&[set, op], ALL), more),
+        Growth::Ready => all_are(alloc, &[set, op], true),
+        Growth::Refused(more) => is_never_good(alloc, (&[set, op], ALL), more),
         Growth::Waits(causes) => {
-            Ok(!good_with(alloc, &[set, op])? && good_with(alloc, &[set, op, causes])?)
+            all_are(alloc, &[set, op], false) && all_are(alloc, &[set, op, causes], true)
         }
     }
+}
+
+fn all_grow(alloc: Global, growths: &[Grown]) -> Result<(), Fail> {
+    for grown in growths {
+        is(all_are(alloc, &[grown.1], true), grown.0)?;
+        is(grows(alloc, grown.1, grown.2, &grown.3), grown.0)?;
+    }
+    Ok(())
 }
 
 // What is ready makes a good set, what is refused never does, and what waits does so with what it waits for.
 #[test]
 fn growths(rt: HostRuntime) -> Result<(), Fail> {
-    for (what, set, op, growth) in GROWTHS {
-        is(good_with(rt.alloc(), &[set])?, what)?;
-        is(grows(rt.alloc(), set, op, growth)?, what)?;
-    }
-    Ok(())
+    all_grow(rt.alloc(), READY)?;
+    all_grow(rt.alloc(), REFUSED)?;
+    all_grow(rt.alloc(), WAITS)
 }
 
 // How many parts the first three operations of these lists have.
@@ -351,48 +392,40 @@ fn parts_of(lists: &[&[Told]]) -> u32 {
 }
 
 // No part of the closed operations is good with these.
-fn stay_outside(
-    alloc: Global,
-    closed: &[&[Told]],
-    others: Part<'_>,
-    what: &'static str,
-) -> Result<(), Fail> {
+fn stay_outside(alloc: Global, closed: &[&[Told]], others: Part<'_>) -> bool {
     for inside in 0..32 {
-        is(!good_parts(alloc, (closed, inside), others)?, what)?;
+        if !parts_are(alloc, (closed, inside), others, false) {
+            return false;
+        }
     }
-    Ok(())
+    true
 }
 
 // The closed operations are good, and no good part of all has one of the others.
-fn are_closed(
-    alloc: Global,
-    closed: &[&[Told]],
-    outside: &[&[Told]],
-    what: &'static str,
-) -> Result<(), Fail> {
-    is(good_with(alloc, closed)?, what)?;
+fn are_closed(alloc: Global, closed: &[&[Told]], outside: &[&[Told]]) -> bool {
     for number in 1..parts_of(outside) {
-        stay_outside(alloc, closed, (outside, number), what)?;
+        if !stay_outside(alloc, closed, (outside, number)) {
+            return false;
+        }
     }
-    Ok(())
+    all_are(alloc, closed, true)
 }
 
-fn check_closing(alloc: Global, closing: &Closing) -> Result<(), Fail> {
+fn closes(alloc: Global, closing: &Closing) -> bool {
     let (closed, freed, outside) = (closing.closed, closing.freed, closing.outside);
-    are_closed(alloc, &[closed], &[freed, outside], closing.what)?;
-    are_closed(
-        alloc,
-        &[closed, closing.op, freed],
-        &[outside],
-        closing.what,
-    )
+    are_closed(alloc, &[closed], &[freed, outside])
+        && are_closed(alloc, &[closed, closing.op, freed], &[outside])
+}
+
+fn all_close(alloc: Global, closings: &[Closing]) -> Result<(), Fail> {
+    for closing in closings {
+        is(closes(alloc, closing), closing.what)?;
+    }
+    Ok(())
 }
 
 // The closure is the greatest good part, and with one operation more it gains that and what it frees.
 #[test]
 fn closures(rt: HostRuntime) -> Result<(), Fail> {
-    for closing in CLOSINGS {
-        check_closing(rt.alloc(), closing)?;
-    }
-    Ok(())
+    all_close(rt.alloc(), CLOSINGS)
 }

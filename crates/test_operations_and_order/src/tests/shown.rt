@@ -1,11 +1,10 @@
-ghost use Rattle.std.specs.Prelude.{IfOk, IsTrue};
+ghost use Rattle.std.specs.Prelude.{IsTrue};
 ghost use Rattle.tree_order.specs.Good.{Good};
 ghost use Rattle.tree_order.specs.Tree.{IsChar};
 
-use super::fixtures::{Does, Told, are_these, looks_of, name, put_ops};
+use super::fixtures::{Does, Told, are_looks, are_these, name, put_ops};
 use super::is;
 use char_files::{Char, Name};
-use looks::Looks;
 use operations::Op;
 use std::alloc::Global;
 use std::test::Fail;
@@ -36,7 +35,8 @@ pub(super) const PLAIN: Case = Case {
     offset: 0,
 };
 
-const CASES: &[Case] = &[
+// What a table has is proved whole, so that several short ones are cheaper than a long one.
+const INSERTS: &[Case] = &[
     PLAIN,
     Case {
         what: "three sites, one cause",
@@ -71,6 +71,9 @@ const CASES: &[Case] = &[
         shown: b"twoone",
         ..PLAIN
     },
+];
+
+const WITH_DELETES: &[Case] = &[
     Case {
         what: "typing after a deleted character",
         ops: &[
@@ -122,6 +125,9 @@ const CASES: &[Case] = &[
         shown: b"abcx",
         ..PLAIN
     },
+];
+
+const WITH_LOOKS: &[Case] = &[
     Case {
         what: "looks by attribute",
         ops: &[
@@ -169,6 +175,9 @@ const CASES: &[Case] = &[
         offset: -3,
         ..PLAIN
     },
+];
+
+const WITH_LATEST: &[Case] = &[
     Case {
         what: "after a deleted character, past another",
         ops: &[
@@ -235,151 +244,217 @@ const CASES: &[Case] = &[
     },
 ];
 
-pub(super) fn are_good(alloc: Global, ops: &[Op]) -> Result<bool, Fail>
-    ensures { IfOk result (λ good. IsTrue good → Good ops.now) }
+// Whether the operations are known to be good.
+pub(super) fn are_good(alloc: Global, ops: &[Op]) -> bool
+    ensures { IsTrue result → Good ops.now }
 {
     match is_good(alloc, ops) {
-        Ok(good) => Ok(good),
-        Err(_) => Ok(is_good(alloc, ops)?),
+        Ok(good) => good,
+        Err(_) => match is_good(alloc, ops) {
+            Ok(good) => good,
+            Err(_) => false,
+        },
     }
 }
 
-pub(super) fn order_of(alloc: Global, ops: &[Op]) -> Result<Vec<Name>, Fail>
+pub(super) fn order_of(alloc: Global, ops: &[Op]) -> Option<Vec<Name>>
     requires { Good ops.now }
 {
     match slow_order(alloc, ops) {
-        Ok(order) => Ok(order),
-        Err(_) => Ok(slow_order(alloc, ops)?),
+        Ok(order) => Some(order),
+        Err(_) => slow_order(alloc, ops).ok(),
     }
 }
 
-pub(super) fn shown_of(alloc: Global, ops: &[Op]) -> Result<Vec<Char>, Fail>
+pub(super) fn shown_of(alloc: Global, ops: &[Op]) -> Option<Vec<Char>>
     requires { Good ops.now }
 {
     match slow_shown(alloc, ops) {
-        Ok(shown) => Ok(shown),
-        Err(_) => Ok(slow_shown(alloc, ops)?),
+        Ok(shown) => Some(shown),
+        Err(_) => slow_shown(alloc, ops).ok(),
     }
 }
 
-fn place_of(alloc: Global, ops: &[Op], c: Name) -> Result<u64, Fail>
+fn has_place(alloc: Global, ops: &[Op], c: Name, want: u64) -> bool
     requires good { Good ops.now }
     requires character { IsChar ops.now c }
 {
     match slow_place(alloc, ops, c) {
-        Ok(place) => Ok(place),
-        Err(_) => Ok(slow_place(alloc, ops, c)?),
+        Ok(place) => place == want,
+        Err(_) => slow_place(alloc, ops, c) == Ok(want),
     }
 }
 
-fn is_before(alloc: Global, ops: &[Op], c: Name, d: Name) -> Result<bool, Fail>
+fn is_before(alloc: Global, ops: &[Op], c: Name, d: Name, want: bool) -> bool
     requires good { Good ops.now }
     requires first { IsChar ops.now c }
     requires second { IsChar ops.now d }
 {
     match slow_before(alloc, ops, c, d) {
-        Ok(before) => Ok(before),
-        Err(_) => Ok(slow_before(alloc, ops, c, d)?),
+        Ok(before) => before == want,
+        Err(_) => slow_before(alloc, ops, c, d) == Ok(want),
     }
 }
 
+fn is_before_this(alloc: Global, ops: &[Op], c: Name, other: (u16, u32), want: bool) -> bool
+    requires good { Good ops.now }
+    requires character { IsChar ops.now c }
+{
+    let Some(d) = name(other) else {
+        return false;
+    };
+    has_char(ops, d) && is_before(alloc, ops, c, d, want)
+}
+
 // The case's character of this index stands before those after it alone.
-fn stands_at(alloc: Global, ops: &[Op], case: &Case, c: Name, index: usize) -> Result<(), Fail>
+fn stands_at(alloc: Global, ops: &[Op], case: &Case, c: Name, index: usize) -> bool
     requires good { Good ops.now }
     requires character { IsChar ops.now c }
 {
     for (j, other) in case.order.iter().enumerate() {
-        let d = name(*other).ok_or("no name")?;
-        if !has_char(ops, d) {
-            return Err(case.what.into());
+        if !is_before_this(alloc, ops, c, *other, index < j) {
+            return false;
         }
-        is(is_before(alloc, ops, c, d)? == (index < j), case.what)?;
     }
-    Ok(())
+    true
+}
+
+// The case's character of this index has its place, with so many visible ones up to it.
+fn is_placed(
+    alloc: Global,
+    ops: &[Op],
+    case: &Case,
+    parts: (u16, u32),
+    index: usize,
+    shown: u64,
+) -> bool
+    requires { Good ops.now }
+{
+    let Some(c) = name(parts) else {
+        return false;
+    };
+    has_char(ops, c) && has_place(alloc, ops, c, shown) && stands_at(alloc, ops, case, c, index)
 }
 
 // Each character has its place, and stands before those after it alone.
-fn have_places(alloc: Global, ops: &[Op], case: &Case) -> Result<(), Fail>
+fn have_places(alloc: Global, ops: &[Op], case: &Case) -> bool
     requires { Good ops.now }
 {
     let mut shown: u64 = 0;
     for (i, parts) in case.order.iter().enumerate() {
-        let c = name(*parts).ok_or("no name")?;
-        if !has_char(ops, c) {
-            return Err(case.what.into());
+        if !is_hidden(case, *parts) {
+            shown = shown.saturating_add(1);
         }
-        shown = shown.saturating_add(u64::from(!case.hidden.contains(parts)));
-        is(place_of(alloc, ops, c)? == shown, case.what)?;
-        stands_at(alloc, ops, case, c, i)?;
+        if !is_placed(alloc, ops, case, *parts, i, shown) {
+            return false;
+        }
     }
-    Ok(())
+    true
 }
 
-fn has_order(alloc: Global, ops: &[Op], case: &Case) -> Result<(), Fail>
+fn has_order(alloc: Global, ops: &[Op], case: &Case) -> bool
     requires { Good ops.now }
 {
-    let order = order_of(alloc, ops)?;
-    is(are_these(&order, case.order), case.what)
+    match order_of(alloc, ops) {
+        Some(order) => are_these(&order, case.order),
+        None => false,
+    }
 }
 
-// Whether the character has this name, this byte and these looks.
-fn is_this(c: &Char, parts: (u16, u32), byte: u8, looks: &Looks) -> bool {
-    Some(c.name) == name(parts) && c.byte == byte && c.looks == *looks
+// Whether the character has this name, this byte and the case's looks.
+fn is_this(c: &Char, parts: (u16, u32), byte: u8, case: &Case) -> bool {
+    Some(c.name) == name(parts)
+        && c.byte == byte
+        && are_looks(&c.looks, (case.font, case.colour, case.offset))
+}
+
+fn is_hidden(case: &Case, parts: (u16, u32)) -> bool {
+    case.hidden.contains(&parts)
+}
+
+// Whether what is shown at this place is this character, with the case's byte there.
+fn is_shown_at(shown: &[Char], place: usize, parts: (u16, u32), case: &Case) -> bool {
+    let Some(c) = shown.get(place) else {
+        return false;
+    };
+    let Some(byte) = case.shown.get(place) else {
+        return false;
+    };
+    is_this(c, parts, *byte, case)
 }
 
 // Whether the visible characters are shown in the order, with their bytes and looks.
-fn is_shown(shown: &[Char], case: &Case, looks: &Looks) -> bool {
-    let visible = case
-        .order
-        .iter()
-        .filter(|parts| !case.hidden.contains(parts));
-    let mut wanted = visible.zip(case.shown).zip(shown);
-    shown.len() == case.shown.len()
-        && wanted.all(|((parts, byte), char)| is_this(char, *parts, *byte, looks))
+fn is_shown(shown: &[Char], case: &Case) -> bool {
+    let mut place: usize = 0;
+    for parts in case.order {
+        if !is_hidden(case, *parts) {
+            if !is_shown_at(shown, place, *parts, case) {
+                return false;
+            }
+            place = place.saturating_add(1);
+        }
+    }
+    place == shown.len() && place == case.shown.len()
 }
 
-fn has_text(alloc: Global, ops: &[Op], case: &Case) -> Result<(), Fail>
+fn has_text(alloc: Global, ops: &[Op], case: &Case) -> bool
     requires { Good ops.now }
 {
-    let looks = looks_of((case.font, case.colour, case.offset)).ok_or("no looks")?;
-    let shown = shown_of(alloc, ops)?;
-    is(is_shown(&shown, case, &looks), case.what)
+    match shown_of(alloc, ops) {
+        Some(shown) => is_shown(&shown, case),
+        None => false,
+    }
+}
+
+fn lacks(ops: &[Op], parts: (u16, u32)) -> bool {
+    match name(parts) {
+        Some(out) => !has_char(ops, out),
+        None => false,
+    }
 }
 
 // The operations are good, and have the case's order and text.
-fn are_as_told(alloc: Global, ops: &[Op], case: &Case) -> Result<(), Fail> {
-    let out = name((9, 9)).ok_or("no name")?;
-    is(!has_char(ops, out), case.what)?;
-    if !are_good(alloc, ops)? {
-        return Err(case.what.into());
-    }
-    has_order(alloc, ops, case)?;
-    have_places(alloc, ops, case)?;
-    has_text(alloc, ops, case)
+fn are_as_told(alloc: Global, ops: &[Op], case: &Case) -> bool {
+    lacks(ops, (9, 9))
+        && are_good(alloc, ops)
+        && has_order(alloc, ops, case)
+        && have_places(alloc, ops, case)
+        && has_text(alloc, ops, case)
 }
 
-fn show(ops: &mut Vec<Op>, alloc: Global, parts: &[&[Told]], case: &Case) -> Result<(), Fail> {
+fn show(ops: &mut Vec<Op>, alloc: Global, parts: &[&[Told]], case: &Case) -> bool {
     for told in parts {
-        put_ops(ops, alloc, told)?;
+        if !put_ops(ops, alloc, told) {
+            return false;
+        }
     }
-    are_as_told(alloc, ops, case)?;
+    if !are_as_told(alloc, ops, case) {
+        return false;
+    }
     ops.reverse();
     are_as_told(alloc, ops, case)
 }
 
 // The operations of these parts, one after the other, have the case's order and text, and so they have backwards.
-pub(super) fn check_told(alloc: Global, parts: &[&[Told]], case: &Case) -> Result<(), Fail> {
+pub(super) fn shows(alloc: Global, parts: &[&[Told]], case: &Case) -> bool {
     let mut ops = Vec::new(alloc);
     show(&mut ops, alloc, parts, case)
+}
+
+fn are_shown(alloc: Global, cases: &[Case]) -> Result<(), Fail> {
+    for case in cases {
+        is(shows(alloc, &[case.ops], case), case.what)?;
+        is(shows(alloc, &[case.ops, case.ops], case), case.what)?;
+    }
+    Ok(())
 }
 
 // In whichever order the operations come, and however often, they show the same. Whichever allocation is
 // refused, the call says so, and is right when it is tried again.
 #[test]
 fn operations_show_a_text(rt: HostRuntime) -> Result<(), Fail> {
-    for case in CASES {
-        check_told(rt.alloc(), &[case.ops], case)?;
-        check_told(rt.alloc(), &[case.ops, case.ops], case)?;
-    }
-    Ok(())
+    are_shown(rt.alloc(), INSERTS)?;
+    are_shown(rt.alloc(), WITH_DELETES)?;
+    are_shown(rt.alloc(), WITH_LOOKS)?;
+    are_shown(rt.alloc(), WITH_LATEST)
 }

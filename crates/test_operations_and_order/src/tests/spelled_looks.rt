@@ -10,8 +10,10 @@ const PLAIN: &[u8] = b"\x10Oberon10.Scn.Fnt\x01\x00";
 // The font, the colour and the offset of looks, and how many bytes spell them.
 type Found = Option<(&'static [u8], u8, i8, usize)>;
 
-// Bytes, and the looks that they begin with.
-const LOOKS: &[(&str, &[u8], Found)] = &[
+// What it is, the bytes, and the looks that they begin with.
+type Row = (&'static str, &'static [u8], Found);
+
+const LOOKS: &[Row] = &[
     (
         "default looks",
         PLAIN,
@@ -53,45 +55,51 @@ const LOOKS: &[(&str, &[u8], Found)] = &[
 
 // The looks' spelling is these bytes. Where an allocation of `write_looks` is refused, the vector has to be as it
 // was before.
-fn writes(
-    looks: &Looks,
-    bytes: &mut Vec<u8>,
-    spelling: &[u8],
-    what: &'static str,
-) -> Result<(), Fail> {
+fn writes(looks: &Looks, bytes: &mut Vec<u8>, spelling: &[u8]) -> bool {
     if let Err(refusal) = write_looks(looks, bytes) {
-        is(matches!(refusal, Refusal::OutOfMemory { .. }), what)?;
-        is(bytes.as_slice() == b"before".as_slice(), what)?;
-        write_looks(looks, bytes)?;
+        let kept = bytes.as_slice() == b"before".as_slice();
+        if !matches!(refusal, Refusal::OutOfMemory { .. })
+            || !kept
+            || write_looks(looks, bytes).is_err()
+        {
+            return false;
+        }
     }
-    is(
-        bytes.as_slice().strip_prefix(b"before") == Some(spelling),
-        what,
-    )
+    bytes.as_slice().strip_prefix(b"before") == Some(spelling)
 }
 
-fn is_spelled(
-    alloc: Global,
-    looks: &Looks,
-    spelling: &[u8],
-    what: &'static str,
-) -> Result<(), Fail> {
-    let mut bytes = vec_of(alloc, b"before")?;
-    writes(looks, &mut bytes, spelling, what)
+fn is_written(alloc: Global, looks: &Looks, spelling: &[u8]) -> bool {
+    match vec_of(alloc, b"before") {
+        Ok(mut bytes) => writes(looks, &mut bytes, spelling),
+        Err(_) => false,
+    }
+}
+
+// Whether these looks, if there are any, are spelled by the bytes that they are read from.
+fn are_spelled(alloc: Global, bytes: &[u8], found: Found) -> bool {
+    let Some((font, colour, offset, len)) = found else {
+        return true;
+    };
+    let Some(spelling) = bytes.get(..len) else {
+        return false;
+    };
+    match looks_of((font, colour, offset)) {
+        Some(looks) => is_written(alloc, &looks, spelling),
+        None => false,
+    }
+}
+
+fn all_are_spelled(alloc: Global, rows: &[Row]) -> Result<(), Fail> {
+    for row in rows {
+        is(are_spelled(alloc, row.1, row.2), row.0)?;
+    }
+    Ok(())
 }
 
 // Looks are spelled by the bytes that they are read from.
 #[test]
 fn looks_are_spelled(rt: HostRuntime) -> Result<(), Fail> {
-    for (what, spelling, parts) in LOOKS {
-        let Some((font, colour, offset, len)) = *parts else {
-            continue;
-        };
-        let looks = looks_of((font, colour, offset)).ok_or(*what)?;
-        let spelling = spelling.get(..len).ok_or(*what)?;
-        is_spelled(rt.alloc(), &looks, spelling, what)?;
-    }
-    Ok(())
+    all_are_spelled(rt.alloc(), LOOKS)
 }
 
 // Whether the bytes begin with just these looks.
@@ -105,14 +113,25 @@ fn is_read_so(bytes: &[u8], want: Found) -> bool {
     are_looks(&looks, (font, colour, offset)) && len == want_len
 }
 
-#[test]
-fn looks_are_read() -> Result<(), Fail> {
-    for (what, bytes, want) in LOOKS {
-        is(is_read_so(bytes, *want), what)?;
-    }
-    for len in 0..PLAIN.len() {
-        let front = PLAIN.get(..len).ok_or("no front")?;
-        is(read_looks(front).is_none(), "a front")?;
+fn all_are_read(rows: &[Row]) -> Result<(), Fail> {
+    for row in rows {
+        is(is_read_so(row.1, row.2), row.0)?;
     }
     Ok(())
+}
+
+// No front of the bytes is read.
+fn has_no_front(bytes: &[u8]) -> bool {
+    for len in 0..bytes.len() {
+        if read_looks(&bytes[..len]).is_some() {
+            return false;
+        }
+    }
+    true
+}
+
+#[test]
+fn looks_are_read() -> Result<(), Fail> {
+    all_are_read(LOOKS)?;
+    is(has_no_front(PLAIN), "a front")
 }

@@ -8,20 +8,22 @@ use std::test::Fail;
 // Where site 2 types on text 1: the seq, the stamp, the length of its file, the cause.
 type At = (u32, u64, u32, Option<(u16, u32)>);
 
-fn typing((seq, stamp, at, cause): At, looks: LooksParts) -> Result<Typing, Fail> {
-    Ok(Typing {
-        text: TextNo::new(1).ok_or("a text")?,
-        site: SiteNo::new(2).ok_or("a site")?,
+fn typing((seq, stamp, at, cause): At, looks: LooksParts) -> Option<Typing> {
+    Some(Typing {
+        text: TextNo::new(1)?,
+        site: SiteNo::new(2)?,
         seq,
         stamp,
         at,
-        cause: anchor(cause).ok_or("a cause")?,
-        looks: looks_of(looks).ok_or("looks")?,
+        cause: anchor(cause)?,
+        looks: looks_of(looks)?,
     })
 }
 
-// Where is typed, how many letters, and whether there is room for them.
-const ROOMS: &[(&str, At, usize, bool)] = &[
+// What it is, where is typed, how many letters, and whether there is room for them.
+type Room = (&'static str, At, usize, bool);
+
+const ROOMS: &[Room] = &[
     ("the least of all", (1, 1, 0, None), 1, true),
     ("seq 0", (0, 1, 0, None), 1, false),
     ("stamp 0", (1, 0, 0, None), 1, false),
@@ -45,19 +47,31 @@ const ROOMS: &[(&str, At, usize, bool)] = &[
     ("another site's cause", (1, 6, 0, Some((3, 9))), 3, true),
 ];
 
-#[test]
-fn there_is_room_up_to_the_limits(rt: HostRuntime) -> Result<(), Fail> {
-    for (what, at, len, want) in ROOMS {
-        let typing = typing(*at, PLAIN)?;
-        is((*len as u64 <= typing.room()) == *want, what)?;
+fn has_room(at: At, len: usize, want: bool) -> bool {
+    match typing(at, PLAIN) {
+        Some(typing) => (len as u64 <= typing.room()) == want,
+        None => false,
+    }
+}
+
+fn all_have_room(rooms: &[Room]) -> Result<(), Fail> {
+    for room in rooms {
+        is(has_room(room.1, room.2, room.3), room.0)?;
     }
     Ok(())
 }
 
+#[test]
+fn there_is_room_up_to_the_limits() -> Result<(), Fail> {
+    all_have_room(ROOMS)
+}
+
 const LOUD: LooksParts = (b"Syntax12.Scn.Fnt", 15, -3);
 
-// Where is typed, in which looks, and what.
-const LETTERS: &[(&str, At, LooksParts, u8)] = &[
+// What it is, where is typed, in which looks, and what.
+type Letter = (&'static str, At, LooksParts, u8);
+
+const LETTERS: &[Letter] = &[
     ("the first letter", (1, 1, 0, None), PLAIN, b'a'),
     ("a letter in other looks", (7, 9, 4, Some((1, 5))), LOUD, 0),
     (
@@ -78,26 +92,37 @@ fn is_letter(op: &Op, at: At, looks: LooksParts, byte: u8) -> bool {
     else {
         return false;
     };
-    (op.text().get(), op.site().get()) == (1, 2)
-        && (op.seq(), op.stamp(), *off) == (at.0, at.1, at.2)
+    op.text().get() == 1
+        && op.site().get() == 2
+        && op.seq() == at.0
+        && op.stamp() == at.1
+        && *off == at.2
         && Some(*cause) == anchor(at.3)
         && are_looks(has, looks)
         && bytes.as_slice() == [byte].as_slice()
 }
 
-fn makes_letter(alloc: Global, at: At, looks: LooksParts, byte: u8) -> Result<bool, Fail> {
-    let typing = typing(at, looks)?;
+fn makes_letter(alloc: Global, at: At, looks: LooksParts, byte: u8) -> bool {
+    let Some(typing) = typing(at, looks) else {
+        return false;
+    };
     if typing.room() == 0 {
-        return Err("no room".into());
+        return false;
     }
-    let op = typing.letter(alloc, byte)?;
-    Ok(is_letter(&op, at, looks, byte))
+    match typing.letter(alloc, byte) {
+        Ok(op) => is_letter(&op, at, looks, byte),
+        Err(_) => false,
+    }
+}
+
+fn all_make_letters(alloc: Global, letters: &[Letter]) -> Result<(), Fail> {
+    for letter in letters {
+        is(makes_letter(alloc, letter.1, letter.2, letter.3), letter.0)?;
+    }
+    Ok(())
 }
 
 #[test]
 fn letters_are_inserts(rt: HostRuntime) -> Result<(), Fail> {
-    for (what, at, looks, byte) in LETTERS {
-        is(makes_letter(rt.alloc(), *at, *looks, *byte)?, what)?;
-    }
-    Ok(())
+    all_make_letters(rt.alloc(), LETTERS)
 }

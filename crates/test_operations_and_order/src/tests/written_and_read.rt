@@ -69,7 +69,7 @@ fn goes_both_ways(op: &Op, alloc: Global, case: &Message) -> Result<(), Fail> {
 }
 
 fn is_message(alloc: Global, case: &Message) -> Result<(), Fail> {
-    let op = op_with(alloc, case.fields)?.ok_or(case.what)?;
+    let op = op_with(alloc, case.fields).ok_or(case.what)?;
     goes_both_ways(&op, alloc, case)
 }
 

@@ -8,6 +8,6 @@ pub letter-requires : goal.letter-requires
 letter-requires c =
     let byte = c.args.byte in
     let is_byte : ℕ → Type 0 = λ b. b < 256 in
-    All-head HasSpelling (letter c.in_ok-typing.typing byte) []
+    All-head HasSpelling (letter c.in-Some.typing byte) []
     (c.room.ensures.some (byte ∷ []) (omega (arith, c.if-room-eq0.false))
     (All-cons is_byte byte [] c.ranges.byte.fits (All-nil is_byte)))
