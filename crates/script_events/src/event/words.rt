@@ -1,5 +1,4 @@
 ghost use Rattle.std.specs.Prelude.{◌≡◌, ◌<◌, ◌≤◌, length, option_map, IfSome};
-ghost use Rattle.std.specs.Str.{all_ascii_digits};
 ghost use Rattle.script_events.specs.Words.{split_word, front_word, number_in, split_number, desk_in, text_in};
 
 use char_files::TextNo;
@@ -25,22 +24,21 @@ pub(crate) fn front_word(words: &[u8]) -> (&[u8], Option<&[u8]>)
     }
 }
 
-// Whether each byte is a decimal digit.
-fn are_digits(word: &[u8]) -> bool
-    ensures { result ≡ all_ascii_digits word.now }
-{
-    word.iter().all(|byte| byte.is_ascii_digit())
-}
-
-// A number of 1 to 10 digits, to 2^32 - 1.
+// A number of 1 to 10 digits, to 2^32 - 1. One pass reads it: with a check for UTF-8 and `parse`, numbers took a thirteenth of an edit.
 pub(crate) fn number_in(word: &[u8]) -> Option<u32>
     ensures { result ≡ number_in word.now }
 {
-    if word.is_empty() || 10 < word.len() || !are_digits(word) {
+    if word.is_empty() || 10 < word.len() {
         return None;
     }
-    let text = std::str::from_utf8(word).ok()?;
-    text.parse().ok()
+    let mut number = 0u64;
+    for byte in word {
+        if !byte.is_ascii_digit() {
+            return None;
+        }
+        number = number * 10 + u64::from(*byte - b'0');
+    }
+    u32::try_from(number).ok()
 }
 
 // The number up to the first blank, and what stands after that blank.
