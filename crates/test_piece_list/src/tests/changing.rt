@@ -667,13 +667,20 @@ fn has_hidden(list: &PieceList, alloc: Global, ranges: &[Names]) -> Result<bool,
     Ok(list.has_hidden(&set))
 }
 
+// Whether each of the sets has a hidden name, or none, as it is told.
+fn answers(list: &PieceList, alloc: Global, asked: &[(&[Names], bool)]) -> Result<bool, Fail> {
+    for (ranges, hidden) in asked {
+        if has_hidden(list, alloc, ranges)? != *hidden {
+            return Ok(false);
+        }
+    }
+    Ok(true)
+}
+
 fn stands_as_told(list: &mut PieceList, alloc: Global, row: &Row) -> Result<(), Fail> {
     go_through(list, alloc, row)?;
     is(all_look(list, row.dress), row.what)?;
-    for (ranges, hidden) in row.asked {
-        is(has_hidden(list, alloc, ranges)? == *hidden, row.what)?;
-    }
-    Ok(())
+    is(answers(list, alloc, row.asked)?, row.what)
 }
 
 #[test]

@@ -5,7 +5,7 @@ ghost use Rattle.operations.specs.Letters.{letters};
 ghost use Rattle.operations.specs.Spelling.{HasSpelling};
 
 use super::is;
-use super::site::letters;
+use super::site::{Site, add_site, append};
 use char_files::{Anchor, Name, SiteNo, TextNo};
 use looks::Looks;
 use operations::{MAX_INSERT, Typing};
@@ -130,6 +130,10 @@ fn shows(replica: &Replica) -> Result<(), Fail> {
     is(shown.next().is_none(), "the end")
 }
 
+fn first(sites: &mut [Site]) -> Result<&mut Site, Fail> {
+    Ok(sites.first_mut().ok_or("a site")?)
+}
+
 fn takes_rows(replica: &mut Replica) -> Result<(), Fail> {
     for row in ROWS {
         hands(replica, *row)?;
@@ -139,30 +143,21 @@ fn takes_rows(replica: &mut Replica) -> Result<(), Fail> {
 
 #[test]
 fn letters_are_taken_in_at_once(rt: HostRuntime) -> Result<(), Fail> {
-    let (text, site) = (TextNo::new(1).ok_or("a text")?, site(9)?);
-    let mut replica = Replica::new(rt.alloc(), text, site)?;
-    takes_rows(&mut replica)
+    let mut sites = Vec::new(rt.alloc());
+    add_site(rt.alloc(), &mut sites, 9)?;
+    takes_rows(&mut first(&mut sites)?.replica)
 }
 
 // The message of the first Insert of a text, as the format's description spells it.
 const FIRST: &[u8] = b"OT\x01\x01\x00\x01\x00\x01\x00\x00\x00\x01\x00\x00\x00\x00\x00\x00\x00\x01\
     \x00\x00\x00\x00\x00\x00\x00\x00\x00\x00\x10Oberon10.Scn.Fnt\x01\x00\x00\x06Oberon";
 
-fn append(
-    replica: &mut Replica,
-    alloc: Global,
-    outbox: &mut Outbox,
-    bytes: &[u8],
-) -> Result<(), Fail> {
-    let typed = letters(alloc, bytes)?;
-    is(replica.append(&typed, outbox) == Ok(1), "one message")
-}
-
 // Site 1 types this into text 1, which is empty.
 fn send(alloc: Global, outbox: &mut Outbox, bytes: &[u8]) -> Result<(), Fail> {
-    let (text, site) = (TextNo::new(1).ok_or("a text")?, site(1)?);
-    let mut replica = Replica::new(alloc, text, site)?;
-    append(&mut replica, alloc, outbox, bytes)
+    let mut sites = Vec::new(alloc);
+    add_site(alloc, &mut sites, 1)?;
+    let sent = append(alloc, &mut first(&mut sites)?.replica, bytes, outbox)?;
+    is(sent == Ok(1), "one message")
 }
 
 // An empty outbox gets that message.

@@ -1,6 +1,6 @@
 //! Texts as they were, worked out by hand.
 use super::is;
-use super::site::{hand, letters};
+use super::site::{hand, types_at};
 use char_files::{SiteNo, TextNo};
 use std::alloc::Global;
 use std::test::Fail;
@@ -40,20 +40,6 @@ fn shows(replica: &Replica, bytes: &[u8]) -> bool {
 fn was(replica: &Replica, fronts: &[Front], want: &[u8]) -> Result<(), Fail> {
     let past = replica.past(fronts)?;
     is(shows(past.replica(), want), "the text as it was")
-}
-
-fn types_at(
-    alloc: Global,
-    replica: &mut Replica,
-    pos: u64,
-    bytes: &[u8],
-    outbox: &mut Outbox,
-) -> Result<(), Fail> {
-    let letters = letters(alloc, bytes)?;
-    if replica.shown_len() < pos {
-        return Err("a place".into());
-    }
-    is(replica.insert(pos, &letters, outbox) == Ok(1), "an Insert")
 }
 
 fn takes_first_out(replica: &mut Replica, outbox: &mut Outbox) -> Result<(), Fail> {

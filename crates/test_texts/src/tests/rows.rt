@@ -1,7 +1,7 @@
 //! Few calls, whose changes were worked out by hand.
 use super::is;
 use super::plain::spells;
-use super::site::{Since, Site, add_site, ask, follow, hand, letters};
+use super::site::{Since, Site, add_site, append, ask, follow, hand, types_at};
 use list_changes::{Change, ChangeKind};
 use looks::Refusal;
 use std::alloc::Global;
@@ -10,19 +10,15 @@ use texts::{EditRefusal, Outbox, Took};
 
 // Site 1 types `abcd`, and after its `b` site 2 types `X`; site 1, who hasn't heard of that, deletes `bc`.
 fn writes_before(alloc: Global, site: &mut Site, outbox: &mut Outbox) -> Result<(), Fail> {
-    let abcd = letters(alloc, b"abcd")?;
-    is(site.replica.append(&abcd, outbox) == Ok(1), "abcd")?;
+    let sent = append(alloc, &mut site.replica, b"abcd", outbox)?;
+    is(sent == Ok(1), "abcd")?;
     ask(site)?;
     is(spells(&site.list, b"abcd"), "abcd")
 }
 
 fn writes_between(alloc: Global, site: &mut Site, outbox: &mut Outbox) -> Result<(), Fail> {
-    let x = letters(alloc, b"X")?;
     hears(site, outbox, 0, 0)?;
-    if site.replica.shown_len() < 2 {
-        return Err("two characters".into());
-    }
-    is(site.replica.insert(2, &x, outbox) == Ok(1), "X")?;
+    types_at(alloc, &mut site.replica, 2, b"X", outbox)?;
     ask(site)?;
     is(spells(&site.list, b"abXcd"), "abXcd")
 }
@@ -65,12 +61,12 @@ fn deletes_around(site: &mut Site, outbox: &Outbox) -> Result<(), Fail> {
 // A copy of site 1's that lost all: what waits shows it that it is behind. Nothing is told until `abcd` comes, and
 // then X, too.
 fn is_behind(alloc: Global, site: &mut Site, outbox: &mut Outbox) -> Result<(), Fail> {
-    let abcd = letters(alloc, b"abcd")?;
     let waits = hand(&mut site.replica, outbox, 1);
     is(waits == Ok(Took::Waits), "X waits")?;
     is(ask(site)? == Since::None, "nothing yet")?;
     let behind = Err(EditRefusal::Whole(Refusal::Behind));
-    is(site.replica.append(&abcd, outbox) == behind, "behind")?;
+    let sent = append(alloc, &mut site.replica, b"abcd", outbox)?;
+    is(sent == behind, "behind")?;
     is(ask(site)? == Since::None, "nothing yet")?;
     hears(site, outbox, 0, 1)?;
     is(ask(site)? == Since::Many, "abcd and X")?;

@@ -7,7 +7,7 @@ use looks::{Looks, Refusal};
 use operations::Kind;
 use std::alloc::Global;
 use std::test::Fail;
-use texts::{Outbox, Replica, Took};
+use texts::{EditRefusal, Outbox, Replica, Took};
 
 #[derive(Drop)]
 pub(super) struct Site {
@@ -53,10 +53,36 @@ pub(super) fn add_site(alloc: Global, sites: &mut Vec<Site>, number: u16) -> Res
 }
 
 // Characters of the default looks.
-pub(super) fn letters(alloc: Global, bytes: &[u8]) -> Result<Buffer, Refusal> {
+fn letters(alloc: Global, bytes: &[u8]) -> Result<Buffer, Refusal> {
     let mut buffer = Buffer::new(alloc);
     buffer.push_all(bytes, &Looks::plain())?;
     Ok(buffer)
+}
+
+// Types these at the end, and answers what the call does.
+pub(super) fn append(
+    alloc: Global,
+    replica: &mut Replica,
+    bytes: &[u8],
+    outbox: &mut Outbox,
+) -> Result<Result<u32, EditRefusal>, Fail> {
+    let letters = letters(alloc, bytes)?;
+    Ok(replica.append(&letters, outbox))
+}
+
+// Types these at a position.
+pub(super) fn types_at(
+    alloc: Global,
+    replica: &mut Replica,
+    pos: u64,
+    bytes: &[u8],
+    outbox: &mut Outbox,
+) -> Result<(), Fail> {
+    let letters = letters(alloc, bytes)?;
+    if replica.shown_len() < pos {
+        return Err("a place".into());
+    }
+    is(replica.insert(pos, &letters, outbox) == Ok(1), "an Insert")
 }
 
 // Hands a message in, which there is.
