@@ -24,7 +24,7 @@ pub(crate) fn front_word(words: &[u8]) -> (&[u8], Option<&[u8]>)
     }
 }
 
-// A number of 1 to 10 digits, to 2^32 - 1. One pass reads it: with a check for UTF-8 and `parse`, numbers took a thirteenth of an edit.
+// A number of 1 to 10 digits, to 2^32 - 1.
 pub(crate) fn number_in(word: &[u8]) -> Option<u32>
     ensures { result ≡ number_in word.now }
 {
