@@ -10,7 +10,8 @@ import signal
 import sys
 from collections.abc import Callable
 
-from share import installing, opening, printing, serving
+from share import client as clients
+from share import installing, lost, opening, people, printing, renewing, serving
 from share import link as links
 from share.controls import shown
 from share.disk import Unkept
@@ -18,10 +19,12 @@ from share.editor import edit
 from share.engine_note import EngineNote
 from share.link import Link
 from share.measured import swapped
+from share.messages import Messages
 from share.program import TOP
 from share.scripts import VERBS as SCRIPTS
 from share.scripts import Scripts
 from share.session import Bar, Session
+from share.site import MOST_MESSAGES
 from share.words import Refused, Trouble, counted
 
 PAGE = """\
@@ -33,8 +36,9 @@ Opens a shared note in the terminal. Whoever has opened the same note edits it a
   bin/note engine NAME            speaks JSON, for editors; docs/ENGINE.md has the protocol
   bin/note link NAME              prints the link by which others join it
   bin/note renew NAME             copies it into a new note with a new key, which those who have the old link
-                                  can't read
+                                  can't read; --fresh and --without SITE .. begin with the text alone
   bin/note recover FOLDER ..      brings notes back from what is left of people's data folders
+  bin/note recover --lost NAME    shows what was left out of a note for good, and types it again
   bin/note open NAME              opens a note that has the name of one of these
   bin/note install, uninstall     puts all this under a prefix, or takes it away; --help tells more
 
@@ -87,13 +91,20 @@ def words() -> argparse.Namespace:
                         help="letters, digits, dots, hyphens and underscores")
     parser.add_argument("--log", metavar="URL", help="where the note's log is; without it, where it was last")
     parser.add_argument("--print", action="store_true", dest="prints", help="print the note and end")
+    parser.add_argument("--lost", action="store_true",
+                        help="recover: show what was left out of the note NAME for good, and type it again")
+    parser.add_argument("--fresh", action="store_true",
+                        help="renew: begin with the text as it is, without the history; so a note that is full goes on")
+    parser.add_argument("--without", metavar="SITE", nargs="+", type=int,
+                        help="renew: the same, and without the text of these sites, whose numbers bin/note log tells")
+    parser.add_argument("--yes", action="store_true", help="renew: don't ask whether the history is to be left behind")
     parser.add_argument("--no-browser", action="store_false", dest="browses",
                         help="web: only print the file that a browser opens the note by")
     parser.add_argument("--link-file", metavar="FILE", help="a file that has the note's link")
     parser.add_argument("--password-file", metavar="FILE", help="a file that has the server's password")
-    given = parser.parse_args()
+    given = parser.parse_intermixed_args()
     given.verb, given.names = _verb(given.names)
-    if len(given.names) != 1 and given.verb != "recover":
+    if len(given.names) != 1 and (given.verb != "recover" or given.lost):
         parser.error("one NAME is needed")
     return given
 
@@ -222,18 +233,81 @@ def printed(given: argparse.Namespace, name: str) -> int:
 
 def renewed(given: argparse.Namespace, name: str) -> int:
     """Copies the note into a new one, and says what isn't in that on standard error."""
-    before, missing = opening.renew(name, links.url_of(given.log) if given.log else None,
-                                    secret(given.password_file, "VIALSHOAL_PASSWORD"))
-    where = f"is {before} now" if before else "is left as it is"
-    print(f"{name} is a new note with the text and the history of the old one, which {where}. If it has a log, bin/note "
-          f"link {name} prints its link, for those who are to go on.")
+    is_fresh, names = given.fresh or bool(given.without), people.known(name)
+    kept = set(names)
+
+    def begins(messages: Messages) -> Messages:
+        if not is_fresh:
+            return messages
+        made = agreed(given, names, messages)
+        kept.intersection_update(made.sizes)
+        return made.messages
+
+    done = opening.renew(name, links.url_of(given.log) if given.log else None,
+                         secret(given.password_file, "VIALSHOAL_PASSWORD"), own_name(), begins)
+    if names and done.before:
+        people.remember(done.before, names)
+        # A number that isn't used in the new note is perhaps another one's there.
+        people.remember(name, {site: called for site, called in names.items() if site in kept})
+    return told_of_renewed(name, done, is_fresh, names)
+
+
+def told_of_renewed(name: str, done: opening.Renewed, is_fresh: bool, names: dict[int, str]) -> int:
+    """Says what a note that was renewed has; the status."""
+    where = f"is {done.before} now" if done.before else "is left as it is"
+    has = "the text of the old one, where its history begins; the old one" if is_fresh else (
+        "the text and the history of the old one, which")
+    print(f"{name} is a new note with {has} {where}. If it has a log, bin/note link {name} prints its link, for those who are "
+          "to go on.")
+    missing = done.missing
+    if done.left_out:
+        lines = lost.with_names(lost.as_lines(done.left_out, set()), names)
+        missing = [*missing, f"Left out of the old note for good, and not in the new one: {lost.in_words(lines)}."]
     for one in missing:
         print(f"note: {shown(one)}", file=sys.stderr)
+    if done.size >= MOST_MESSAGES:
+        print(f"note: The new note has {done.size:,} messages, too, and nothing can be typed in it. bin/note renew {name} "
+              "--fresh makes one that has the text alone.", file=sys.stderr)
     return INCOMPLETE if missing else 0
+
+
+def agreed(given: argparse.Namespace, names: dict[int, str], messages: Messages) -> renewing.Fresh:
+    """The text as it is, for a note that begins with it, where the user says so who is told what that is."""
+    made = renewing.fresh(messages, frozenset(given.without or ()))
+    print(shown(renewing.in_words(made, names)))
+    if not given.yes:
+        if not (sys.stdin.isatty() and sys.stdout.isatty()):
+            raise Trouble("Nothing was done, since nobody can be asked here whether that is wanted. --yes says so.")
+        try:
+            answer = input("Make it (y or n)? ")
+        except (EOFError, KeyboardInterrupt):
+            answer = ""
+        if answer.strip().lower() not in ("y", "yes"):
+            raise Trouble("Nothing was done.")
+    return made
+
+
+def recovered(given: argparse.Namespace, name: str) -> int:
+    """Shows what was left out of the note, and types it again."""
+    if not opening.is_here(name):
+        raise Trouble(f"There is no note {name} here.")
+    opens = opener_by_link(given, name)
+    with clients.opened(name, lambda wake: opens(lambda done, total: None, wake)) as note:
+        found = note.recover()
+        unsent = bool(found) and not note.is_sent()
+    for line in found:
+        print(f"{lost.called(line)}, {counted(line['characters'], 'character')}:")
+        print(shown(line["text"], "\n\t"))
+    print(f"Typed again: {lost.in_words(lost.summed(found))}." if found else "Nothing was left out.")
+    if unsent:
+        print(f"note: kept in {opening.path_of(name)}, and not sent yet.", file=sys.stderr)
+    return 0
 
 
 def done(given: argparse.Namespace) -> int:
     """Does what the command line says; the status."""
+    if given.verb == "recover" and given.lost:
+        return recovered(given, *given.names)
     if given.verb == "recover":
         for told in opening.recover([pathlib.Path(name) for name in given.names]):
             print(shown(told))

@@ -5,23 +5,29 @@ again under the new number: what was typed goes after the same characters, what 
 set.
 """
 from bisect import bisect_left
-from collections.abc import Iterable, Sequence
+from collections.abc import Collection, Iterable, Iterator, Sequence
 from contextlib import closing
 from itertools import chain
 from typing import NamedTuple
 
-from share.disk import Row
+from share.disk import Anew
+from share.entry import Copy, Entry, Form, Kind
+from share.holdings import Holdings, Lost, who
 from share.judging import Judge
+from share.ledger import Row
 from share.looks import DEFAULT, Dressed, dressed
 from share.message import CHANGE_LOOKS, DELETE, RESTORE, Message, Names, inserted, mentioned
 from share.names import Name, united, without
 from share.site import Edited, Site
+from share.standing import said
 from share.telling import Stretch
 from share.undoing import looks_of
 from share.words import Trouble
 
 # So many stretches in looks are looked at.
 MOST_DRESSED = 20_000
+# So many characters are made anew at once, or those of one entry more; a site has room for four times as many.
+MOST_AT_ONCE = 2**22
 
 
 class Done(NamedTuple):
@@ -29,6 +35,67 @@ class Done(NamedTuple):
 
     old: Message
     new: Message | None
+
+
+class Remade:
+    """What was lost, and what was made anew of it by a client; `last` is an entry of that one."""
+
+    def __init__(self, holdings: Holdings, lost: Sequence[Lost], done: Sequence[Done], last: Entry):
+        self._holdings, self._lost, self._last = holdings, lost, last
+        # What was typed in one go may have come apart, and be several messages now.
+        self._made: dict[Message, list[int]] = {}
+        for one in done:
+            self._made.setdefault(one.old, []).extend([one.new.seq] if one.new else [])
+
+    def _each(self) -> Iterator[tuple[Entry, Message, list[int]]]:
+        """The lost messages, with the seqs of those that stand for them now."""
+        for entry, messages in self._lost:
+            for message in messages:
+                yield entry, message, self._made.get(message, [])
+
+    def anew(self) -> list[Anew]:
+        """What the note's file has of it for versions that don't know copies."""
+        return [Anew(entry.author, message.site, message.seq, self._last.site, min(seqs, default=0))
+                for entry, message, seqs in self._each()
+                if (entry.author, message.site, message.seq) not in self._holdings.anew]
+
+    def hidings(self) -> list[Copy]:
+        """Those of what was made that hide copies."""
+        return [Copy(self._last.author, self._last.site, seq) for entry, message, seqs in self._each()
+                if Copy(entry.author, message.site, message.seq) in self._holdings.hidings for seq in seqs]
+
+    def copies(self, form: Form, last: Entry) -> list[Entry]:
+        """The entries that say what stands for what, up to the last entry that was made. What stood for something else stands
+        for that, too."""
+        holdings, pairs = self._holdings, dict[bytes, list[tuple[int, int]]]()
+        for entry, message, seqs in self._each():
+            pairs.setdefault(entry.hash, []).extend((message.seq, seq) for seq in seqs or [0])
+            for of, old in holdings.standing.originals(entry, message.seq):
+                if seqs or holdings.judge.entry_of(holdings.rows[of].entry.site, old) != of:
+                    pairs.setdefault(of, []).extend((old, seq) for seq in seqs or [0])
+        return said(form, holdings.clients, holdings.rows, last, pairs)
+
+
+def at_once(lost: Sequence[Lost]) -> tuple[Sequence[Lost], bool]:
+    """The first of what was lost, as much as is made anew at once; and whether that is all."""
+    length = 0
+    for number, one in enumerate(lost, 1):
+        length += length_of(one.messages)
+        if length > MOST_AT_ONCE and number < len(lost):
+            return lost[:number], False
+    return lost, True
+
+
+def length_of(messages: Iterable[Message]) -> int:
+    """How many characters messages insert."""
+    return sum(names.length for names in map(inserted, messages) if names)
+
+
+def with_claims(rows: Sequence[Row], lost: Sequence[Lost]) -> set[bytes]:
+    """The hashes of lost entries, and of the claims of those who made them."""
+    whos = {who(one.entry) for one in lost}
+    return {one.entry.hash for one in lost} | {row.entry.hash for row in rows
+                                               if row.entry.kind is Kind.CLAIM and who(row.entry) in whos}
 
 
 class _Differing(NamedTuple):
@@ -45,10 +112,13 @@ class _Differing(NamedTuple):
         return without(without(united(names), self.seen), self.counted)
 
 
-def make_anew(rows: Sequence[Row], lost: Sequence[Message], judge: Judge, site: Site) -> list[Done]:
+def make_anew(rows: Sequence[Row], lost: Sequence[Message], judge: Judge, site: Site,
+              first: Collection[bytes] = ()) -> list[Done]:
     """Does at a site, which has all that counts, what remains of lost messages."""
-    # What was made here first, then what came first: so what was seen as these edits were made is found again.
-    order = {row.entry.hash: bytes([not row.made]) + row.place.to_bytes(8, "big") for row in rows}
+    # These entries first, then what was made here, then what came first: so what was seen as these edits were made is found
+    # again.
+    order = {row.entry.hash: bytes([row.entry.hash not in first, not row.made]) + row.place.to_bytes(8, "big")
+             for row in rows}
     before = Judge((row.entry for row in rows), prefers=lambda entry: order[entry.hash])
     seen = before.count().messages
     seen_ones = {(message.site, message.seq): message for message in seen}
@@ -60,8 +130,8 @@ def make_anew(rows: Sequence[Row], lost: Sequence[Message], judge: Judge, site: 
         done += _typed(here, differing, old, site)
         done += _looked(here, differing, old, site)
         done += _at_the_end(gone, site)
-    made = {(one.old.site, one.old.seq) for one in done}
-    return done + [Done(message, None) for message in lost if (message.site, message.seq) not in made]
+    made = {one.old for one in done}
+    return done + [Done(message, None) for message in lost if message not in made]
 
 
 def _differing(seen: Sequence[Message], judge: Judge) -> _Differing:

@@ -5,6 +5,7 @@ docs/FORMATS.md has them byte by byte. A list of messages has one spelling as a 
 none.
 """
 import re
+import threading
 from collections.abc import Iterator, Sequence
 from functools import lru_cache
 from typing import NamedTuple
@@ -27,8 +28,13 @@ LETTERS, CODED = re.compile(rb"[^\x01-\x08\x0b\x0c\x0e\x0f]+"), re.compile(rb"[\
 # A number of more sevens of bits is that of no field.
 MOST_SEVENS = 7
 LEAST_RANGE = 3
-# So many chunks are kept unfolded; one has up to 16,000 messages.
-UNFOLDED = 16
+# The most chunks that are kept unfolded, one of which has up to 16,000 messages; and the most bytes of chunks whose runs
+# are kept, each of which may take a few hundred times as many.
+UNFOLDED, MOST_KEPT = 16, 2**17
+# A number, and a chunk of nothing but letters that were typed one after the other, in the looks of the default.
+NUMBER = rb"([\x00-\x7f]|[\x80-\xff]{1,6}[\x01-\x7f])"
+NUMBERS = re.compile(NUMBER + b"*")
+TYPED = re.compile(BEGIN + bytes([SITE]) + 4 * NUMBER + b"(?:" + bytes([FAR]) + 2 * NUMBER + b")?(" + LETTERS.pattern + rb")\Z")
 
 # A character, or the root where it is None.
 Place = tuple[int, int] | None
@@ -59,6 +65,15 @@ class Run(NamedTuple):
         """The names that are inserted."""
         return Names(self.site, self.at, len(self.data)) if self.data else None
 
+    def part(self, begin: int, end: int) -> "Run":
+        """The messages from one place to another, of those that it has."""
+        if (begin, end) == (0, self.size):
+            return self
+        length = len(self.data) // self.size
+        mentions = [Names(self.site, self.at + begin * length - 1, 1)] if begin else self.mentions
+        return self._replace(seq=self.seq + begin, stamp=self.stamp + begin, size=end - begin, mentions=mentions,
+                             at=self.at + begin * length, data=self.data[begin * length:end * length])
+
     def messages(self) -> Iterator[Message]:
         """The messages, as the program spells them."""
         if self.kind != INSERT:
@@ -79,10 +94,66 @@ class Run(NamedTuple):
         return Message(self.site, seq, stamp, self.kind, head + rest)
 
 
-@lru_cache(UNFOLDED)
+class _Kept:
+    """Runs of the chunks that were looked at last: of those since it was last full, and of those before."""
+
+    def __init__(self) -> None:
+        self._before: dict[bytes, tuple[Run, ...]] = {}
+        self._runs: dict[bytes, tuple[Run, ...]] = {}
+        # Entries are opened by several threads.
+        self._bytes, self._putting = 0, threading.Lock()
+
+    def get(self, chunk: bytes) -> tuple[Run, ...] | None:
+        """The runs of a chunk, where they are kept."""
+        return self._runs.get(chunk) or self._before.get(chunk)
+
+    def put(self, chunk: bytes, found: tuple[Run, ...]) -> None:
+        """Keeps the runs of a chunk."""
+        with self._putting:
+            self._bytes += len(chunk)
+            if self._bytes > MOST_KEPT:
+                self._before, self._runs, self._bytes = self._runs, {}, len(chunk)
+            self._runs[chunk] = found
+
+
+_kept = _Kept()
+
+
 def runs(chunk: bytes) -> tuple[Run, ...]:
     """The messages of a chunk of one site; raises NoChunk where it is none."""
-    return tuple(_Reader(chunk).runs())
+    found = _kept.get(chunk)
+    if found is None:
+        found = _typed(chunk) or tuple(_Reader(chunk).runs())
+        _kept.put(chunk, found)
+    return found
+
+
+def _typed(chunk: bytes) -> tuple[Run] | None:
+    """The run of a chunk that has one alone, of letters in the looks of the default: what a keystroke is. None where it has
+    something else, or isn't right."""
+    found = TYPED.match(chunk)
+    if found is None or len(chunk) > MOST_CHUNK:
+        return None
+    *numbers, data = found.groups(b"\0")
+    site, seq, stamp, at, of, cause = [one[0] if len(one) == 1 else _number_in(one) for one in numbers]
+    size = len(data)
+    if not (1 <= site <= GREATEST_SITE and 1 <= seq and seq + size - 1 <= GREATEST_SEQ and 1 <= stamp
+            and stamp + size - 1 <= GREATEST_STAMP and at + size <= MOST_OF_A_SITE):
+        return None
+    if not of:
+        return None if found[5] else (Run(INSERT, site, seq, stamp, size, (), at, data, DEFAULT_BYTES),)
+    place = Names(of, cause, 1)
+    if not (1 <= place.site <= GREATEST_SITE and place.at < (at if place.site == site else MOST_OF_A_SITE)):
+        return None
+    return (Run(INSERT, site, seq, stamp, size, (place,), at, data, DEFAULT_BYTES),)
+
+
+def _number_in(sevens: bytes) -> int:
+    """The number that bytes of seven bits each spell."""
+    number = 0
+    for byte in reversed(sevens):
+        number = number << 7 | byte & 0x7F
+    return number
 
 
 @lru_cache(UNFOLDED)
@@ -137,6 +208,8 @@ class Writer:
     def add(self, run: Run, length: int = 0) -> bool:
         """Adds messages, of whose site there were so many characters as it began; False where they have no place here."""
         one, lead = self._sites.get(run.site), b""
+        if one is not None and run.site == self._last and self._types_on(run, one):
+            return True
         if one is None:
             at = run.at if run.kind == INSERT else length
             one = _Expected(run.site, run.seq, run.stamp, at)
@@ -162,6 +235,19 @@ class Writer:
         return True
 
 
+    def _types_on(self, run: Run, one: _Expected) -> bool:
+        """Adds letters that were typed where this site typed last, which are spelled as they are; whether they are that."""
+        if (run.kind != INSERT or (run.seq, run.stamp, run.at) != (one.seq, one.stamp, one.at) or run.looks != one.looks
+                or len(run.data) != run.size or not run.mentions or run.mentions[0][:2] != one.caret):
+            return False
+        spelled = _bytes(run)
+        if len(self.data) + len(spelled) > MOST_CHUNK:
+            return False
+        self.data += spelled
+        one.inserted(run.size, run.size)
+        return True
+
+
 def number_of(number: int) -> bytes:
     """A number, by sevens of bits."""
     if number < 0x80:
@@ -171,6 +257,13 @@ def number_of(number: int) -> bytes:
         sevens.append(number & 0x7F | 0x80)
         number >>= 7
     return bytes([*sevens, number])
+
+
+def numbers_in(data: bytes) -> list[int]:
+    """The numbers that bytes spell; ValueError where they spell none."""
+    if not NUMBERS.fullmatch(data):
+        raise ValueError("no numbers")
+    return [_number_in(one[0]) for one in re.finditer(NUMBER, data)]
 
 
 def _inserted(data: bytes) -> tuple[int, bytes, bytes]:

@@ -123,6 +123,12 @@ class Client:
         self._wait_for_number()
         self.ask("edit", version=0, edits=1, changes=changes)
 
+    def recover(self) -> list[Line]:
+        """Has what was left out be typed again; what that was."""
+        self._wait_for_number()
+        found: list[Line] = self.ask("recover")["lost"]
+        return found
+
     def is_sent(self) -> bool:
         """Whether all that was typed is sent, as soon as it is, or after some seconds; where there is no log nothing has
         to be."""

@@ -6,17 +6,22 @@ of one person have it open at once: each reads what the others wrote.
 """
 import contextlib
 import fcntl
+import math
 import os
 import pathlib
 import secrets
 import sqlite3
 import struct
 import zlib
-from collections.abc import Iterable, Iterator, Sequence
+from collections.abc import Collection, Container, Iterable, Iterator, Sequence
 from dataclasses import dataclass, replace
 from typing import NamedTuple
 
-from share.entry import HEAD, MOST_AUTHOR_BYTES, NOTE_BYTES, Author, Bad, Entry, Form, Kind, Plain, check_entry, digest
+from share import unchanged
+from share.entry import (HEAD, MOST_AUTHOR_BYTES, NO_HASH, NOTE_BYTES, Author, Bad, Copy, Entry, Form, Kind, Plain,
+                         check_entry, digest)
+from share.ledger import Row
+from share.unchanged import Inode, inode_of
 from share.words import Trouble
 
 # Tells a note's file from other files of SQLite, in its header.
@@ -35,16 +40,26 @@ SCHEMA = """
 """
 ADD = "INSERT INTO entry (hash, raw, body, sum, made, offered) VALUES (?, ?, ?, ?, ?, ?) ON CONFLICT (hash) DO NOTHING"
 AFTER = "SELECT place, hash, raw, body, sum, made FROM entry WHERE place > ? ORDER BY place LIMIT ?"
+AT = "SELECT place, hash, raw, body, sum, made FROM entry WHERE place = ?"
 PLACES = f"""SELECT place, hash, substr(raw, 1, {HEAD.size + MOST_AUTHOR_BYTES}), made, offered FROM entry
-             WHERE place > ? AND hash NOT IN (SELECT hash FROM withdrawn) ORDER BY place"""
+             WHERE place > ? AND hash NOT IN (SELECT hash FROM withdrawn) ORDER BY place LIMIT ?"""
+OF_HASHES = "SELECT hash, place, made > offered FROM entry WHERE hash IN ({}) AND hash NOT IN (SELECT hash FROM withdrawn)"
+AFTER_HASHES = f"""SELECT place FROM entry WHERE substr(raw, {HEAD.size - len(NO_HASH) + 1}, {len(NO_HASH)}) IN ({{}})
+                   AND hash NOT IN (SELECT hash FROM withdrawn) LIMIT ?"""
+TAKEN_BACK = "SELECT number, place FROM withdrawn JOIN entry USING (hash) WHERE number > ? ORDER BY number"
 FOUND = ("DELETE FROM entry WHERE hash IN (SELECT hash FROM withdrawn WHERE hash = ?)",
          "DELETE FROM withdrawn WHERE hash = ?")
-# Versions of before have no such table, and leave one where it is.
+# Versions of before have no such tables, and leave them where they are.
 PACKED = """CREATE TABLE IF NOT EXISTS packed (site INTEGER PRIMARY KEY, digest BLOB NOT NULL, fronts BLOB NOT NULL)"""
+HIDING = """CREATE TABLE IF NOT EXISTS hiding (author BLOB NOT NULL, site INTEGER NOT NULL, seq INTEGER NOT NULL,
+                                           PRIMARY KEY (author, site, seq))"""
+HIDE = "INSERT OR IGNORE INTO hiding VALUES (?, ?, ?)"
+HAS_TABLE = "SELECT count(*) FROM sqlite_master WHERE name = ?"
 PAGE = 5_000
+# One question is of no more hashes than this.
+MOST_ASKED = 500
 # A sealed note's key has so many bytes.
 KEY_BYTES = 32
-Inode = tuple[int, int]
 # A lock of one byte of a file, which is the open file's and not the process's.
 LOCK = struct.Struct("hhqqi4x")
 
@@ -57,18 +72,29 @@ class Damaged(Exception):
     """The file isn't there any more, or is another one, or can't be read: it has to be written anew."""
 
 
+class Changed(Damaged):
+    """The file is there, and another program changed it or what belongs to it: nothing more may be written to it."""
+
+
 class Overtaken(Exception):
     """Another editor of this person has made some of these edits anew meanwhile. Nothing was written."""
 
 
+# What a client's row says of its number: it is gone on with, it was given up, or it is of a note that was copied into this
+# one. To a version of before the last two are the same.
+RETIRED, COPIED = 1, 2
+
+
 class Client(NamedTuple):
     """A number that this person has claimed, and who writes under it; whether it was given up, and whether its
-    claim was seen in the log with no other for the number, so that it can be typed under."""
+    claim was seen in the log with no other for the number, so that it can be typed under. A number that was copied with the
+    note is nobody's own: its key is here so that what was written under it can be made anew."""
 
     site: int
     author: Author
     retired: bool = False
     stood: bool = False
+    copied: bool = False
 
 
 class Place(NamedTuple):
@@ -81,14 +107,6 @@ class Place(NamedTuple):
     author: bytes
     made: bool
     offered: bool
-
-
-class Row(NamedTuple):
-    """An entry of the file. `made` says that this person made it here."""
-
-    place: int
-    entry: Entry
-    made: bool
 
 
 class Anew(NamedTuple):
@@ -124,8 +142,13 @@ class Disk:
 
     def __init__(self, path: pathlib.Path):
         self.path = path
-        if not path.exists():
-            raise Damaged(f"{path} isn't there")
+        # Empty, SQLite would take it for a new one, and remove what belongs to it.
+        if not path.exists() or not path.stat().st_size:
+            raise Damaged(f"{path} isn't there" if not path.exists() else f"{path} is empty")
+        # How those left it who have it open in this process.
+        self._left: unchanged.Left | None = None
+        if fault := unchanged.fault(path):
+            raise Changed(fault)
         with self._words():
             self._file = sqlite3.connect(path, timeout=BUSY_SECONDS, isolation_level=None)
             self._file.text_factory = as_text
@@ -133,16 +156,18 @@ class Disk:
             with self._words():
                 self._open()
         except BaseException:
-            self._file.close()
+            self.close()
             raise
 
     def _open(self) -> None:
-        self._inode = inode_of(self.path)
+        self.inode = inode_of(self.path)
         if self._one("PRAGMA application_id") != APPLICATION:
             raise Damaged(f"{self.path} isn't a note's file")
         self._file.execute("PRAGMA synchronous = FULL")
         if self._one("SELECT count(*) FROM sqlite_master WHERE name IN ('entry', 'withdrawn', 'client', 'anew')") < 4:
             raise Damaged(f"{self.path} lacks some of its tables")
+        # Read once, it has beside it what belongs to it.
+        self._left = unchanged.left(self.path)
         self.about = about_of(self._file)
         self.form = self.about.form()
         self._version = 0
@@ -155,21 +180,52 @@ class Disk:
 
     def is_in_place(self) -> bool:
         """Whether the file is still the one under its name, and the locks are where others look for them."""
-        return inode_of(self.path) == self._inode and (
+        return inode_of(self.path) == self.inode and (
             self._locks is None or inode_of(self._lock_path()) == inode_of(self._locks))
+
+    def look(self, known: Collection[bytes]) -> None:
+        """Sees that the file is what was written, and where another program wrote to it that it has these entries."""
+        if not self.is_in_place():
+            raise Damaged(f"{self.path} was taken away")
+        self._see()
+        if self._left and (state := self._left.unknown()):
+            if fault := self._left.fault_of_log():
+                raise Changed(fault)
+            try:
+                with contextlib.closing(self.again()) as again:
+                    again.check()
+                    if again.many_of(known) < len(known):
+                        raise Damaged(f"{self.path} lacks entries that it had")
+            except Damaged as why:
+                raise Changed(f"another program wrote to it: {why}") from why
+            self._left.knows(state)
 
     def check(self) -> None:
         """Looks whether all of the file can be read."""
         with self._words():
-            (found,) = self._file.execute("PRAGMA quick_check(1)").fetchone()
+            found = self._file.execute("PRAGMA quick_check(1)").fetchone()[0]
+            application = unchanged.application_of(self.path)
         if found != "ok":
             raise Damaged(f"{self.path}: {found}")
+        if application != APPLICATION:
+            raise Damaged(f"{self.path} doesn't begin as a note's file")
 
-    def restore(self, rows: Iterable[Row], withdrawn: Iterable[bytes]) -> None:
+    def many_of(self, known: Container[bytes]) -> int:
+        """How many of these entries the file has as they were written."""
+        with self._words():
+            found = self._file.execute("SELECT hash, raw, body, sum FROM entry")
+            return sum(of in known and isinstance(raw, bytes) and digest(raw) == of and zlib.crc32(body or b"") == check
+                       for of, raw, body, check in found)
+
+    def restore(self, rows: Iterable[Row], withdrawn: Iterable[bytes], hidings: Iterable[Copy] = (),
+                clients: Iterable[Client] = (), anew: Iterable[tuple[bytes, int, int]] = ()) -> None:
         """Puts back what the file had, where it lacks it. A log may have been offered any of it."""
         with self._words(), self._transaction():
+            self._file.executemany("INSERT OR IGNORE INTO client VALUES (?, ?, ?, ?, ?)", map(_values, clients))
+            self._file.executemany("INSERT OR IGNORE INTO anew VALUES (?, ?, ?, 0, 0)", anew)
             self._file.executemany("INSERT OR IGNORE INTO withdrawn (hash) VALUES (?)", [(one,) for one in withdrawn])
             self._file.executemany(ADD, (_values_of(row.entry, row.made, True, self.about) for row in rows))
+            self._note_hidings(hidings)
 
     def has_changed(self) -> bool:
         """Whether another connection wrote since this was last asked."""
@@ -180,45 +236,103 @@ class Disk:
 
     def point_to(self, url: str) -> None:
         """Has the note's log be at another place."""
-        with self._words():
+        with self._words(), self._transaction():
             self._file.execute("UPDATE about SET value = ? WHERE name = 'url'", (url,))
         self.about = replace(self.about, url=url)
 
-    def rows(self, after: int = 0) -> list[Row]:
-        """The entries after a place, also those that were withdrawn. What the disk damaged is taken out: whoever
-        has it brings it back."""
+    def rows(self, after: int = 0, most: float = math.inf) -> list[Row]:
+        """The entries after a place, also those that were withdrawn; all, or the first ones, until they have this many bytes.
+        What the disk damaged is taken out: whoever has it brings it back."""
         rows: list[Row] = []
         with self._words():
             while True:
-                found = self._file.execute(AFTER, (after, PAGE)).fetchall()
+                found = self._page(after, most)
                 rows += [row for one in found if (row := self._row(*one))]
-                if len(found) < PAGE:
+                if len(found) < PAGE or most < math.inf:
                     break
                 after = found[-1][0]
         return rows
+
+    def rows_at(self, places: Iterable[int]) -> list[Row]:
+        """The entries at these places."""
+        with self._words():
+            found = [self._file.execute(AT, (place,)).fetchone() for place in places]
+            return [row for one in found if one and (row := self._row(*one))]
+
+    def _page(self, after: int, most: float) -> list[tuple[int, bytes, bytes, bytes | None, int, int]]:
+        """The first of these entries, as the file has them."""
+        found, size = [], 0
+        with contextlib.closing(self._file.execute(AFTER, (after, PAGE))) as rows:
+            for one in rows:
+                found.append(one)
+                # What the disk damaged may have another type.
+                size += len(one[2]) if isinstance(one[2], bytes) else 0
+                if size >= most:
+                    break
+        return found
 
     def _row(self, place: int, of: bytes, raw: bytes, body: bytes | None, check: int, made: int) -> Row | None:
         with contextlib.suppress(TypeError, ValueError, struct.error, Bad):
             if digest(raw) == of and zlib.crc32(body or b"") == check:
                 entry = self.form.reopened(raw, self.form.body(raw) if body is None else body, of)
-                if entry.chunk:
-                    # A version that didn't know chunks has kept whatever came.
+                if entry.chunk or entry.kind is Kind.COPIES:
+                    # A version that didn't know these has kept whatever came.
                     check_entry(entry)
                 return Row(place, entry, bool(made))
         if isinstance(raw, bytes) and len(raw) >= HEAD.size and digest(raw) == of and self.form.kind(raw) is Kind.NEWER:
             # A newer version may keep it in another way, too.
             return None
-        self._file.execute("DELETE FROM entry WHERE place = ?", (place,))
+        with self._transaction():
+            self._file.execute("DELETE FROM entry WHERE place = ?", (place,))
         self.damaged += 1
         return None
 
-    def places(self, after: int = 0) -> list[Place]:
-        """The places of the entries after one, without those that were withdrawn."""
+    def places(self, after: int = 0, most: int = -1) -> list[Place]:
+        """The places of the entries after one, without those that were withdrawn; all, or no more than this."""
         with self._words():
-            found = self._file.execute(PLACES, (after,)).fetchall()
+            found = self._file.execute(PLACES, (after, most)).fetchall()
         # What the disk damaged may have another type.
         return [Place(place, of, self.form.kind(head), self.form.author(head), bool(made), bool(offered))
                 for place, of, head, made, offered in found if isinstance(head, bytes) and len(head) >= HEAD.size]
+
+    def places_of(self, hashes: Iterable[bytes]) -> dict[bytes, int]:
+        """The places of those of these entries that the file has and that weren't withdrawn."""
+        return {of: place for of, place, _ in self._of(hashes)}
+
+    def in_log(self, hashes: Iterable[bytes]) -> dict[bytes, int]:
+        """The same, of entries that a log has: it was offered them, though perhaps by a copy of this file."""
+        found = self._of(hashes)
+        if new := [(place,) for _, place, is_new in found if is_new]:
+            with self._words(), self._transaction():
+                self._file.executemany("UPDATE entry SET offered = 1 WHERE place = ?", new)
+        return {of: place for of, place, _ in found}
+
+    def _of(self, hashes: Iterable[bytes]) -> list[tuple[bytes, int, int]]:
+        wanted = [*hashes]
+        found: list[tuple[bytes, int, int]] = []
+        with self._words():
+            for begin in range(0, len(wanted), MOST_ASKED):
+                some = wanted[begin:begin + MOST_ASKED]
+                found += self._file.execute(OF_HASHES.format(", ".join("?" * len(some))), some)
+        return found
+
+    def places_after(self, hashes: Sequence[bytes], most: int) -> list[int]:
+        """The places of the entries that name one of these as the one before them. The whole file is looked through."""
+        if not hashes:
+            return []
+        with self._words():
+            return [place for place, in self._file.execute(AFTER_HASHES.format(", ".join("?" * len(hashes))),
+                                                           (*hashes, most))]
+
+    def many_at(self, places: Sequence[int]) -> int:
+        """How many of these places have an entry."""
+        with self._words():
+            return sum(self._one("SELECT count(*) FROM entry WHERE place = ?", place) for place in places)
+
+    def taken_back(self, after: int) -> list[tuple[int, int]]:
+        """The numbers and the places of the entries that were withdrawn, after a number."""
+        with self._words():
+            return self._file.execute(TAKEN_BACK, (after,)).fetchall()
 
     def size(self) -> int:
         """How many entries there are."""
@@ -234,7 +348,7 @@ class Disk:
         """The numbers of this person, in the order in which they were claimed."""
         with self._words():
             found = self._file.execute("SELECT * FROM client ORDER BY rowid").fetchall()
-        return [Client(site, Author(author, secret), bool(retired), bool(stood))
+        return [Client(site, Author(author, secret), bool(retired), bool(stood), retired == COPIED)
                 for site, author, secret, retired, stood in found]
 
     def anew(self) -> set[tuple[bytes, int, int]]:
@@ -242,33 +356,54 @@ class Disk:
         with self._words():
             return set(self._file.execute("SELECT author, site, seq FROM anew"))
 
-    def keep(self, entries: Sequence[Entry], made: bool, client: Client | None = None,
-             retired: Sequence[Client] = (), anew: Sequence[Anew] = ()) -> int:
-        """Writes entries; with them, all or nothing, a number that was claimed, those that are given up, and
-        what was made anew. Entries of a number that is given up and that were never offered to a log are
-        withdrawn. Gives the place of the last entry."""
+    def hidings(self) -> set[Copy]:
+        """The messages made here that hide copies, or show them again."""
+        with self._words():
+            found = self._file.execute("SELECT author, site, seq FROM hiding") if self._one(HAS_TABLE, "hiding") else ()
+            return {Copy(*one) for one in found}
+
+    def keep(self, entries: Sequence[Entry], made: bool, client: Client | None = None, retired: Sequence[Client] = (),
+             anew: Sequence[Anew] = (), hidings: Sequence[Copy] = ()) -> int:
+        """Writes entries; with them, all or nothing, a number that was claimed, those that are given up,
+        what was made anew, and which messages hide copies. Gives the place of the last entry."""
         if not self.is_in_place():
             raise Damaged(f"{self.path} was taken away")
         with self._words(), self._transaction():
             if client:
                 self._file.execute("INSERT INTO client VALUES (?, ?, ?, ?, ?)", _values(client))
             for one in retired:
-                self._file.execute("UPDATE client SET retired = 1 WHERE site = ? AND author = ?",
-                                   (one.site, one.author.name))
-            if not made:
-                # What a log has counts, also where it was withdrawn here.
-                for statement in FOUND:
-                    self._file.executemany(statement, [(one.hash,) for one in entries])
-            self._file.executemany(ADD, [_values_of(entry, made, False, self.about) for entry in entries])
+                self._file.execute("UPDATE client SET retired = max(retired, ?) WHERE site = ? AND author = ?",
+                                   (RETIRED, one.site, one.author.name))
+            # What a log has counts, also where it was withdrawn here, and was made here all the same.
+            back = set() if made else self._taken_from_withdrawn(entries)
+            self._file.executemany(ADD, [_values_of(entry, made or entry.hash in back, entry.hash in back, self.about)
+                                         for entry in entries])
             for edit in dict.fromkeys((one.author, one.site, one.seq) for one in anew):
                 if self._one("SELECT count(*) FROM anew WHERE author = ? AND site = ? AND seq = ?", *edit):
                     raise Overtaken
             self._file.executemany("INSERT OR IGNORE INTO anew VALUES (?, ?, ?, ?, ?)", anew)
+            self._note_hidings(hidings)
             return self._one("SELECT coalesce(max(place), 0) FROM entry")
 
-    def withdraw(self, hashes: Iterable[bytes]) -> list[bytes]:
-        """Takes back those of these entries that no log was ever offered, and gives them."""
+    def _taken_from_withdrawn(self, entries: Sequence[Entry]) -> set[bytes]:
+        """Takes those of these entries out that were withdrawn, so that they can be put in once more; their hashes."""
+        back = {entry.hash for entry in entries if self._one("SELECT count(*) FROM withdrawn WHERE hash = ?", entry.hash)}
+        for of in back:
+            for statement in FOUND:
+                self._file.execute(statement, (of,))
+        return back
+
+    def _note_hidings(self, hidings: Iterable[Copy]) -> None:
+        """Notes which messages hide copies, or show them again."""
+        if found := [*hidings]:
+            self._file.execute(HIDING)
+            self._file.executemany(HIDE, found)
+
+    def withdraw(self, hashes: Iterable[bytes], in_log: Iterable[bytes] = ()) -> list[bytes]:
+        """Takes back those of these entries that no log was ever offered, and gives them. Those that are in the log
+        after all count as offered from now on."""
         with self._words(), self._transaction():
+            self._file.executemany("UPDATE entry SET offered = 1 WHERE hash = ?", [(one,) for one in in_log])
             done = [one for one in hashes if self._file.execute(
                 "INSERT OR IGNORE INTO withdrawn (hash) SELECT hash FROM entry WHERE hash = ? AND made "
                 "AND NOT offered", (one,)).rowcount]
@@ -287,7 +422,7 @@ class Disk:
     def packed(self, site: int) -> tuple[bytes, bytes] | None:
         """What was noted of a site's packed file: its digest, and how far it goes."""
         with self._words():
-            if not self._one("SELECT count(*) FROM sqlite_master WHERE name = 'packed'"):
+            if not self._one(HAS_TABLE, "packed"):
                 return None
             found = self._file.execute("SELECT digest, fronts FROM packed WHERE site = ?", (site,)).fetchone()
         return found if found and all(isinstance(one, bytes) for one in found) else None
@@ -300,15 +435,9 @@ class Disk:
 
     def stands(self, client: Client) -> None:
         """Notes that a claim stands."""
-        with self._words():
+        with self._words(), self._transaction():
             self._file.execute("UPDATE client SET stood = 1 WHERE site = ? AND author = ?",
                                (client.site, client.author.name))
-
-    def drop(self, entries: Sequence[Entry]) -> None:
-        """Forgets entries of others, which a log has."""
-        with self._words(), self._transaction():
-            self._file.executemany("DELETE FROM entry WHERE hash = ? AND NOT made",
-                                   [(entry.hash,) for entry in entries])
 
     def lock(self, site: int) -> bool:
         """Has nobody else write under a number as long as this file is open; whether nobody did."""
@@ -320,7 +449,8 @@ class Disk:
 
     def locked(self) -> int:
         """How many numbers others have locked."""
-        return sum(self._of_lock(fcntl.F_OFD_GETLK, client.site) != fcntl.F_UNLCK for client in self.clients())
+        return sum(self._of_lock(fcntl.F_OFD_GETLK, client.site) != fcntl.F_UNLCK for client in self.clients()
+                   if not client.copied)
 
     def take_locks(self, other: "Disk") -> None:
         """Goes on with the locks of the file that was open before, so that nobody has them meanwhile."""
@@ -342,6 +472,8 @@ class Disk:
 
     def close(self) -> None:
         """Lets go of the file and of the locks."""
+        # With the last of those that have it open goes what belongs to it.
+        self._left = None
         self._file.close()
         self._close_locks()
 
@@ -360,25 +492,35 @@ class Disk:
 
     @contextlib.contextmanager
     def _transaction(self) -> Iterator[None]:
-        self._file.execute("BEGIN IMMEDIATE")
-        try:
-            yield
-            self._file.execute("COMMIT")
-        except BaseException:
-            # Where the disk is full SQLite may have rolled back by itself.
-            if self._file.in_transaction:
-                self._file.execute("ROLLBACK")
-            raise
+        with self._left.written() if self._left else contextlib.nullcontext():
+            self._file.execute("BEGIN IMMEDIATE")
+            try:
+                yield
+                self._file.execute("COMMIT")
+            except BaseException:
+                # Where the disk is full SQLite may have rolled back by itself.
+                if self._file.in_transaction:
+                    self._file.execute("ROLLBACK")
+                raise
+
+    def _see(self) -> None:
+        """Sees that nothing was cut off or taken away: a process that reads an index that was cut off is ended for it."""
+        if self._left and (fault := self._left.fault()):
+            raise Changed(fault)
 
     @contextlib.contextmanager
     def _words(self) -> Iterator[None]:
+        self._see()
         try:
             yield
         except sqlite3.OperationalError as why:
             if not self.path.exists() or any(words in str(why) for words in ("malformed", "no such table")):
+                unchanged.doubt(self.path)
                 raise Damaged(f"{self.path}: {why}") from why
             raise Unkept(f"{self.path}: {why}") from why
         except sqlite3.DatabaseError as why:
+            # Another thread that has it open may have seen none of it.
+            unchanged.doubt(self.path)
             raise Damaged(f"{self.path}: {why}") from why
 
 
@@ -400,9 +542,11 @@ def about_of(file: sqlite3.Connection) -> About:
 
 
 def make(path: pathlib.Path, about: About, rows: Iterable[Row] = (), clients: Iterable[Client] = (),
-         anew: Iterable[Anew] = (), withdrawn: Iterable[bytes] = (), offered: bool = False) -> None:
-    """Writes a note's file, with these rows, which a log may have been offered. Nothing happens where one is
-    there: it is made under a name of its own first."""
+         anew: Iterable[Anew] = (), withdrawn: Iterable[bytes] = (), offered: bool = False,
+         damaged: Inode | None = None) -> pathlib.Path | None:
+    """Writes a note's file, with these rows, which a log may have been offered. It is made under a name of its own first.
+    Where one is there nothing happens, unless that is the damaged one: that is set aside, under the name that is given."""
+    aside = None
     beside = path.with_name(f".{path.name}.{secrets.token_hex(4)}")
     try:
         make_folder(path.parent)
@@ -424,6 +568,8 @@ def make(path: pathlib.Path, about: About, rows: Iterable[Row] = (), clients: It
             # Lets readers and a writer be at the file at once.
             file.execute("PRAGMA journal_mode = WAL")
         with held(path.parent) as folder:
+            if damaged and inode_of(path) == damaged:
+                aside = _set_aside(path)
             if not path.exists():
                 # What an older file left. Where another editor was quicker its file's are in use.
                 for suffix in "-wal", "-shm":
@@ -435,6 +581,7 @@ def make(path: pathlib.Path, about: About, rows: Iterable[Row] = (), clients: It
     finally:
         for suffix in "", "-wal", "-shm":
             beside.with_name(beside.name + suffix).unlink(missing_ok=True)
+    return aside
 
 
 def make_folder(folder: pathlib.Path) -> None:
@@ -444,16 +591,12 @@ def make_folder(folder: pathlib.Path) -> None:
             one.mkdir(mode=0o700, exist_ok=True)
 
 
-def set_aside(path: pathlib.Path, inode: Inode | None) -> pathlib.Path | None:
-    """Gives a file that can't be used a name of its own, which it gets with what belongs to it; None where another
-    editor was quicker."""
-    with held(path.parent):
-        if inode is None or inode_of(path) != inode:
-            return None
-        aside = _free_name(path)
-        for suffix in "-wal", "-shm", "":
-            with contextlib.suppress(FileNotFoundError):
-                os.rename(path.with_name(path.name + suffix), aside.with_name(aside.name + suffix))
+def _set_aside(path: pathlib.Path) -> pathlib.Path:
+    """Gives a file that can't be used a name of its own, which it gets with what belongs to it."""
+    aside = _free_name(path)
+    for suffix in "", "-wal", "-shm":
+        with contextlib.suppress(FileNotFoundError):
+            os.rename(path.with_name(path.name + suffix), aside.with_name(aside.name + suffix))
     return aside
 
 
@@ -481,14 +624,5 @@ def _values_of(entry: Entry, made: bool, offered: bool, about: About) -> tuple[o
     return entry.hash, entry.raw, body, zlib.crc32(body or b""), made, offered
 
 
-def _values(client: Client) -> tuple[int, bytes, bytes, bool, bool]:
-    return client.site, *client.author, client.retired, client.stood
-
-
-def inode_of(path: pathlib.Path | int) -> Inode | None:
-    """What tells a file from one that took its name."""
-    try:
-        found = os.stat(path)
-    except OSError:
-        return None
-    return found.st_dev, found.st_ino
+def _values(client: Client) -> tuple[int, bytes, bytes, int, bool]:
+    return client.site, *client.author, COPIED if client.copied else RETIRED * client.retired, client.stood

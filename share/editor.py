@@ -16,7 +16,7 @@ from dataclasses import dataclass
 from queue import SimpleQueue
 from typing import TypeVar
 
-from share import saving
+from share import lost, saving
 from share.controls import PASTES_OFF, PASTES_ON, Event, Key, Keyboard, Pasted, shown
 from share.engine_note import EngineNote
 from share.layout import (Layout, Row, cluster_after, cluster_before, clusters, rows_of, word_after,
@@ -57,18 +57,28 @@ def state(status: Status) -> str:
         return "kept here"
     if status.offline:
         return f"offline, {counted(status.unsent, 'edit')} kept"
+    if status.reading:
+        return f"reading {percent(*status.reading)}"
     return f"sending {counted(status.unsent, 'edit')}" if status.unsent else "all sent"
 
 
 def state_of_others(status: Status) -> str:
-    """Whether something of the others lacks what it builds on, in words."""
-    return f"  {counted(status.waiting, 'message')} incomplete" if status.waiting else ""
+    """Whether something of the others lacks what it builds on, or was left out, and whether they go on elsewhere, in
+    words."""
+    waiting = f"  {counted(status.waiting, 'message')} incomplete" if status.waiting else ""
+    left_out = f"  left out: {lost.in_words(status.left_out)}" if status.left_out else ""
+    return waiting + left_out + (f"  renewed by {lost.called(status.renewed)}" if status.renewed else "")
 
 
 def bar(done: int, total: int) -> str:
     """A bar of what was done of all."""
     full = BAR * done // max(1, total)
-    return f"[{'#' * full}{'.' * (BAR - full)}] {100 * done // max(1, total)}%"
+    return f"[{'#' * full}{'.' * (BAR - full)}] {percent(done, total)}"
+
+
+def percent(done: int, total: int) -> str:
+    """What was done of all."""
+    return f"{100 * done // max(1, total)}%"
 
 
 def sentence(why: BaseException) -> str:

@@ -11,7 +11,7 @@ from functools import partial
 from itertools import chain
 from typing import Any, TypeVar
 
-from share import history, lines, people, presence, saving
+from share import history, lines, lost, people, presence, saving
 from share.company import SHOW_SECONDS, Company
 from share.history import Past, Replays, Wrote
 from share.disk import Damaged, Unkept
@@ -26,6 +26,7 @@ from share.note_text import Change, change
 from share.ops import Op, in_text, of_changes
 from share.peer import Peer
 from share.presence import FRONT, Place, Present
+from share.renewing import telling
 from share.session import Session, Status
 from share.site import SLICE, Edited, Site, Told
 from share.undoing import Step, do, looks_of
@@ -36,8 +37,11 @@ from share.words import Refused, Trouble
 MOST_STEPS = 10_000
 # Edits that wait after one another are made so long before they are kept together.
 TOGETHER_SECONDS = 0.03
+# The time that one turn spends on taking in what came from others: while editors ask for something, and once none has for a while.
+TAKING_SECONDS, CALM_TAKING_SECONDS, CALM_AFTER_SECONDS = 0.06, 0.25, 2.0
 NOT_OPEN = "The note isn't open: open comes first."
 NOT_NOW = "The program doesn't answer. It is tried again; what was typed before is kept."
+STILL = "The program stands still. It is started again with all that it had."
 NO_NUMBER = "This editor has no number of its own yet, which it gets once the log answers."
 PALETTE = ("#c0392b", "#2471a3", "#1e8449", "#7d3c98", "#b9770e", "#148f77", "#a04000", "#515a5a", "#ad1457", "#4a6fa5")
 Opens = Callable[[], Session]
@@ -47,8 +51,8 @@ Result = TypeVar("Result")
 class Engine:
     """A note, and the editors that have it open."""
 
-    def __init__(self, name: str, opens: Opens, wake: Callable[[], None]):
-        self.name, self._opens, self._wake = name, opens, wake
+    def __init__(self, name: str, opens: Opens, wake: Callable[[], None], send: Callable[[], None] = lambda: None):
+        self.name, self._opens, self._wake, self._send = name, opens, wake, send
         self.peers: list[Peer] = []
         self.session: Session | None = None
         self._text = Measured(b"")
@@ -57,14 +61,22 @@ class Engine:
         self._status: Status | None = None
         # Whether the site may show something else, since it failed as something was made there.
         self._is_behind = False
+        # What takes back what all were shown of edits that may turn out not to be kept, in the order of these.
+        self._inverse: list[Change] | None = None
         # Why what comes from others can't be taken in, where it can't.
         self._trouble: str | None = None
+        # Whether the program stands still.
+        self._is_still = False
         self._whos = 0
         self._names: dict[int, str] = {}
+        # How many characters of others are left out, and whether the note was renewed, as was told.
+        self._left_out, self._is_renewed = 0, False
         self._company = Company(self._new_who)
         # What the editors here say of themselves, and when that is looked at again.
         self._said: dict[bytes, bytes] = {}
         self._said_due, self._has_to_say = 0.0, False
+        # When an editor asked for something last, and how long the last turn took beside taking in what came.
+        self._asked = self._beside = 0.0
         self._replays, self._thread = Replays(), ThreadPoolExecutor(1)
         # What is done in the thread, and what is done then.
         self._later: list[tuple[Future[Any], Callable[[], None]]] = []
@@ -72,7 +84,7 @@ class Engine:
             "open": self._open, "edit": self._not_open, "undo": lambda peer, _: self._undo(peer, redo=False),
             "redo": lambda peer, _: self._undo(peer, redo=True), "cursor": self._cursor, "seen": self._seen,
             "looks": self._look, "text": self._send_text, "on": self._on, "who": self._who, "history": self._history,
-            "past": self._past, "save": self._save, "close": self._close}
+            "past": self._past, "lost": self._lost, "recover": self._recover, "save": self._save, "close": self._close}
 
     def _new_who(self) -> int:
         self._whos += 1
@@ -93,6 +105,7 @@ class Engine:
         """Does what the first of the lines that wait says; None is one that was too long. Edits that follow one
         another are kept together, since what takes longest is to have them on the disk."""
         request: Line = {}
+        self._asked = time.monotonic()
         try:
             request = self._read(waiting.pop(0))
             if request.get("do") == "edit" and peer.carrying:
@@ -115,7 +128,9 @@ class Engine:
 
     def turn(self) -> None:
         """Takes in what came from others, and sends the editors what is new."""
+        begin = time.monotonic()
         if self.session:
+            self.session.turn_seconds = self._turn_seconds(begin)
             try:
                 self._arrived(self.session)
                 self._meet(self.session)
@@ -140,6 +155,17 @@ class Engine:
                 # The others go on.
                 peer.send({"notice": "says", "words": f"This editor is left, since something failed ({fault})."})
                 peer.closes = True
+        if self.session:
+            self._beside = time.monotonic() - begin - self.session.turn_seconds
+
+    def _turn_seconds(self, now: float) -> float:
+        """How long a turn takes in what came, which is no less than the rest of a turn takes."""
+        least = TAKING_SECONDS if now < self._asked + CALM_AFTER_SECONDS else CALM_TAKING_SECONDS
+        return max(least, min(self._beside, CALM_TAKING_SECONDS))
+
+    def has_more(self) -> bool:
+        """Whether some of what came is still to be taken in."""
+        return self.session is not None and self.session.has_more() and not self._trouble
 
     def is_restless(self) -> bool:
         """Whether something is to be said soon, though nothing comes."""
@@ -205,6 +231,15 @@ class Engine:
         self._text = Measured(session.text())
         self._status = session.status()
         self._names = people.known(self.name)
+        session.stands = self._stands
+
+    def _stands(self, stands: bool) -> None:
+        """Says at once that the program stands still, or goes on: until it answers nothing else is said."""
+        self._is_still = stands
+        for peer in self.peers:
+            if self._status:
+                peer.show_state(self._state(self._status))
+        self._send()
 
     def _not_open(self, peer: Peer, request: Line) -> Line:
         raise Wrong("order", NOT_OPEN)
@@ -219,9 +254,15 @@ class Engine:
         others = sum(1 for one in self.peers if one.carrying) - 1
         state: Line = {"log": log, "unsent": status.unsent, "on": status.on + max(0, others),
                        "types": status.can_type, "waiting": status.waiting, "site": status.site}
-        for name, words in ("why", status.offline), ("trouble", status.trouble or self._trouble):
+        for name, words in ("why", status.offline), ("trouble", STILL if self._is_still else status.trouble or self._trouble):
             if words:
                 state[name] = words
+        if status.left_out:
+            state["left_out"] = lost.with_names(status.left_out, self._names)
+        if status.renewed:
+            state["renewed"] = status.renewed
+        if status.reading:
+            state["read"], state["of"] = status.reading
         return state
 
     def _on(self, peer: Peer, request: Line) -> Line:
@@ -291,7 +332,7 @@ class Engine:
                     answer, made = self._edit(peer, request, site if can_type else None)
                 except Exception as fault:  # pylint: disable=broad-except
                     # What was made before it is kept all the same, and nothing of it.
-                    answer, made = self._lost(peer, fault), []
+                    answer, made = self._failed_at(peer, fault), []
                     with suppress(Exception):
                         site.go_back(before)
                 answers.append((request, answer))
@@ -299,17 +340,20 @@ class Engine:
                 request = _edit_of(waiting) if time.monotonic() < end else None
             return Edited(messages)
 
+        self._inverse = []
         try:
             session.edit(work) if can_type else work(session.site)
         except Exception as fault:  # pylint: disable=broad-except
             # All show what the site has without these edits.
             peer.undoing.forget()
+            self._take_back()
             self._catch_up(session)
             error = {"error": "unkept", "words": str(fault)} if isinstance(fault, Trouble) else _failed(fault)
             if not answers:
                 peer.carry.void(_edits_of(first, peer.carry.edits + 1))
                 answers = [(first, {"edits": peer.carry.edits})]
             answers = [(request, error | answer) for request, answer in answers]
+        self._inverse = None
         self._new_number(session)
         for request, answer in answers:
             self._answer(peer, request, answer)
@@ -368,11 +412,18 @@ class Engine:
         peer.cursor, peer.anchor = end if peer.cursor is not None else None, None
         return {}, messages
 
-    def _lost(self, peer: Peer, fault: Exception) -> Line:
+    def _failed_at(self, peer: Peer, fault: Exception) -> Line:
         """Has an editor be sent the text, and all what the site shows, after an edit that failed; its error."""
         peer.carry.void(peer.carry.edits)
         self._is_behind = True
         return {"edits": peer.carry.edits, **_failed(fault)}
+
+    def _take_back(self) -> None:
+        """Has all show the text without edits that weren't kept. Two texts alone don't tell where between equal characters it
+        was that something stood, and what is typed beside it meanwhile would come to stand within a word."""
+        inverse, self._inverse = self._inverse or [], None
+        with suppress(Exception):
+            self._changed([(one, None) for one in reversed(inverse)])
 
     def _catch_up(self, session: Session) -> None:
         """Has all show what the site does, now or as soon as it says so."""
@@ -454,10 +505,26 @@ class Engine:
         self._shows(session.arrived())
         self._new_number(session)
         for words in session.notices():
-            for peer in self.peers:
-                if peer.carrying:
-                    peer.send({"notice": "says", "words": words})
+            self._tell(words)
         self._status = session.status()
+        if self._status.renewed and not self._is_renewed:
+            self._is_renewed = True
+            self._tell(telling(self._status.renewed))
+        self._tell_what_is_left_out(self._status.left_out)
+
+    def _tell_what_is_left_out(self, left_out: list[Line]) -> None:
+        """Tells all where more of others' text is left out than before; own edits are made anew by themselves."""
+        others = [line for line in lost.with_names(left_out, self._names) if not line["own"]]
+        many = sum(line["characters"] for line in others)
+        if many > self._left_out:
+            self._tell(lost.telling(others, self.name))
+        self._left_out = many
+
+    def _tell(self, words: str) -> None:
+        """Tells all users something."""
+        for peer in self.peers:
+            if peer.carrying:
+                peer.send({"notice": "says", "words": words})
 
     def _new_number(self, session: Session) -> None:
         """The names of what was typed before are another number's."""
@@ -493,6 +560,9 @@ class Engine:
             for units, found in made.items():
                 begin, end = self._text.position(whole.begin, units), self._text.position(whole.end, units)
                 found.append((begin, end, units.encode(new)))
+            if self._inverse is not None:
+                before = self._text.slice(whole.begin, whole.end)
+                self._inverse.append(Change(whole.begin, whole.begin + len(whole.new), before))
             self._text.replace(whole)
             self._moved(one, names)
             if undoes:
@@ -560,10 +630,12 @@ class Engine:
     def _history(self, peer: Peer, request: Line) -> Line | None:
         begin, most = lines.number(request, "from", 0), lines.number(request, "most", MOST_STEPS)
         messages = self._open_session().site.history[:]
+        left_out = self._told(self._open_session().lost())
 
         def work() -> Line:
             found = history.steps(messages, begin, min(most, MOST_STEPS))
-            return {"length": len(messages), "steps": [history.as_line(one) for one in found]}
+            line: Line = {"length": len(messages), "steps": [history.as_line(one) for one in found]}
+            return line | {"left_out": left_out} if left_out else line
 
         def with_names(line: Line) -> Line:
             line["steps"] = [one | self._author(one["site"]) for one in line["steps"]]
@@ -588,6 +660,28 @@ class Engine:
 
         self._answer_when_done(peer, request, work, written)
         return None
+
+    def _lost(self, peer: Peer, request: Line) -> Line:
+        return {"lost": self._told(self._open_session().lost())}
+
+    def _recover(self, peer: Peer, request: Line) -> Line:
+        """Types again what was left out."""
+        session = self._open_session()
+        self._sees_that_it_can_type(session)
+        found: list[lost.Lost] = []
+        try:
+            found = session.recover()
+        except Trouble as why:
+            raise Wrong("unkept", str(why)) from why
+        except Refused as why:
+            raise Wrong("refused", str(why), number=why.number) from why
+        finally:
+            self._catch_up(session)
+        self._new_number(session)
+        return {"lost": self._told(found)}
+
+    def _told(self, found: list[lost.Lost]) -> list[Line]:
+        return lost.with_text(found, self._open_session().own(), self._names)
 
     def _answer_when_done(self, peer: Peer, request: Line, work: Callable[[], Result],
                           written: Callable[[Result], Line]) -> None:

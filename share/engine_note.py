@@ -54,7 +54,8 @@ class AtEngine:
         state = self._note.mirror.state
         offline = state.get("why", "away") if state["log"] == "away" else None
         return Status(state["site"], state["on"], state["unsent"], offline, state["waiting"], state.get("trouble"),
-                      state["types"], state["log"] != "none")
+                      state["types"], state["log"] != "none", (state["read"], state["of"]) if "of" in state else None,
+                      state.get("left_out", []), state.get("renewed"))
 
     def close(self) -> None:
         """Closes the note; what isn't sent stays in its file."""

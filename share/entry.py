@@ -1,10 +1,11 @@
 """Entries: what a log carries and each person's disk keeps. An entry is a claim of a site's number, some messages of a
-site that follow one another, or a word that messages were made anew.
+site that follow one another, a word that messages were made anew, or which messages stand for which.
 
 All numbers are big-endian. An entry has this head:
 
     form      1      1 plain, 2 sealed
-    kind      1      1 a claim, 4 made anew, 5 a chunk of messages, 6 a chunk that says what they build on
+    kind      1      1 a claim, 4 made anew, 5 a chunk of messages, 6 a chunk that says what they build on, 7 copies,
+                     8 renewed
     note      16     the note's identity
     site      2      1 to 65,528
     first     4      the seq of its first message; 0 without messages
@@ -18,6 +19,14 @@ signed. Kinds 2 and 3 are 5 and 6 as versions of before wrote them: with the mes
 place of the chunk.
 The hash of an entry is that of all its bytes. So the entries of a site make a chain that begins with its claim. What
 says that messages were made anew is in no chain: it names the last entry of those that it speaks of.
+What speaks of copies is in no chain either. It is said by the author of messages or by that of their copies, and has who
+wrote the messages and their site (2 bytes), who wrote the copies and their site, the hash of the last entry that has such
+copies (zeros where that isn't said), and then numbers (as in chunks) three by three: the seq of the first message of a
+stretch, that of its copy, and how many they are. What was typed in one go may have come apart and have several copies; 0 in
+place of the copy's seq says that nothing remained of them that had to be made anew. It names the last entry that has such
+messages as the one before it: two histories of one number have the same seqs. With zeros there it speaks of each.
+Renewed (kind 8) says that the note goes on under a new key, in no chain, too: its body is what its author is called, in 200
+bytes at most.
 An entry of another kind is a newer version's: it is kept and carried as it is, and says nothing here.
 
 What messages build on is said where they mention characters of other sites: of each of these sites, in the order of
@@ -35,12 +44,13 @@ from functools import lru_cache
 from typing import NamedTuple
 
 from share import chunks
-from share.chunks import UNFOLDED, NoChunk, Run, Writer, of_message, packed
+from share.chunks import GREATEST_SEQ, UNFOLDED, NoChunk, Run, Writer, number_of, of_message, packed
 from share.log import MOST_PRESENCE
 from share.message import Message, is_spelled, length_after
 
 HEAD = struct.Struct(">BB16sHIH32s")
 LENGTH = struct.Struct(">H")
+SITE = struct.Struct(">H")
 # An entry has so many bytes at most.
 MOST_BYTES = 16_384
 NOTE_BYTES = 16
@@ -61,11 +71,39 @@ class Kind(IntEnum):
     ANEW = 4
     CHUNK = 5
     CHUNK_BUILDING = 6
+    COPIES = 7
+    RENEWED = 8
 
 
 KINDS = {int(kind): kind for kind in Kind if kind is not Kind.NEWER}
 SAY_WHAT_THEY_BUILD_ON = (Kind.BUILDING, Kind.CHUNK_BUILDING)
-CHUNKS = (Kind.CHUNK, Kind.CHUNK_BUILDING)
+CHUNKS, ONE_BY_ONE = (Kind.CHUNK, Kind.CHUNK_BUILDING), (Kind.MESSAGES, Kind.BUILDING)
+# What says what became of messages or of the note, and is in no chain; and what doesn't show that its author goes on under
+# the number.
+SAY_WHAT_BECAME = (Kind.ANEW, Kind.COPIES, Kind.RENEWED)
+NOT_UNDER_A_NUMBER = (Kind.CLAIM, *SAY_WHAT_BECAME)
+# What is said of a renewed note has so many bytes at most.
+MOST_SAID = 200
+
+
+class Copy(NamedTuple):
+    """A message that stands for another one."""
+
+    author: bytes
+    site: int
+    seq: int
+
+
+class Copied(NamedTuple):
+    """What an entry says of copies: whose messages they stand for, whose they are, stretches of both: where each begins,
+    and how many messages it has; and the hash of the last entry of the copies."""
+
+    author: bytes
+    site: int
+    by: bytes
+    by_site: int
+    stretches: tuple[tuple[int, int, int], ...]
+    last: bytes = NO_HASH
 
 
 class Bad(Exception):
@@ -108,12 +146,28 @@ class Entry(NamedTuple):
     @property
     def messages(self) -> tuple[Message, ...]:
         """The messages."""
-        return chunks.messages(self.spelled) if self.kind in CHUNKS else _messages_of(self.spelled)
+        return messages_of(self.kind, self.spelled)
+
+    @property
+    def copied(self) -> Copied:
+        """What an entry of copies says; ValueError where it isn't spelled rightly."""
+        size = len(self.author)
+        begin = 2 * (size + SITE.size)
+        end = begin + len(NO_HASH)
+        if len(self.spelled) < end:
+            raise ValueError("cut short")
+        numbers = chunks.numbers_in(self.spelled[end:])
+        stretches = tuple(zip(numbers[::3], numbers[1::3], numbers[2::3]))
+        if not numbers or len(numbers) % 3 or not all(map(_is_stretch, stretches)):
+            raise ValueError("no stretches")
+        site, by = SITE.unpack_from(self.spelled, size)[0], self.spelled[size + SITE.size:begin - SITE.size]
+        by_site = SITE.unpack_from(self.spelled, begin - SITE.size)[0]
+        return Copied(self.spelled[:size], site, by, by_site, stretches, self.spelled[begin:end])
 
     @property
     def runs(self) -> tuple[Run, ...]:
         """The messages, those in one that are letters typed one after the other."""
-        return chunks.runs(self.spelled) if self.kind in CHUNKS else tuple(map(of_message, self.messages))
+        return runs_of(self.kind, self.spelled)
 
 
 class Author(NamedTuple):
@@ -129,6 +183,8 @@ class Form(ABC):
 
     number: int
     author_bytes: int
+    # How many of an entry's last bytes can't be computed from the others.
+    tail_bytes: int
 
     def __init__(self, note: bytes):
         self.note = note
@@ -148,6 +204,22 @@ class Form(ABC):
     def body(self, raw: bytes) -> bytes:
         """What is after the head of an entry that was opened before, unsealed."""
         return self._checked(raw)
+
+    def tail(self, raw: bytes) -> bytes:
+        """The last bytes of an entry, which can't be computed from the others."""
+        return raw[len(raw) - self.tail_bytes:]
+
+    def whole(self, entry: "Entry", tail: bytes) -> bytes:
+        """The bytes of an entry that was opened before, by what it says and these last ones."""
+        return self._unsigned(self._head(entry.kind, entry.site, entry.first, entry.size, entry.before) + entry.author,
+                              entry.body) + tail
+
+    def _head(self, kind: Kind, site: int, first: int, count: int, before: bytes) -> bytes:
+        return HEAD.pack(self.number, kind, self.note, site, first, count, before)
+
+    @abstractmethod
+    def _unsigned(self, head: bytes, body: bytes) -> bytes:
+        """The bytes of an entry of this head and this body that everybody of the note could write."""
 
     @abstractmethod
     def _closed(self, head: bytes, body: bytes, author: Author) -> bytes:
@@ -173,6 +245,18 @@ class Form(ABC):
         """The entry with which an author says that of his entries up to this one all that doesn't count was made
         anew."""
         return self._made(Kind.ANEW, last.site, 0, 0, last.hash, author, b"", b"")
+
+    def copies(self, copied: Copied, author: Author, site: int, before: bytes = NO_HASH) -> Entry:
+        """The entry with which the author of messages, or that of their copies, says which stand for which. `before` is the
+        hash of the last entry that has such messages."""
+        numbers = b"".join(number_of(number) for stretch in copied.stretches for number in stretch)
+        body = copied.author + SITE.pack(copied.site) + copied.by + SITE.pack(copied.by_site) + copied.last + numbers
+        return self._made(Kind.COPIES, site, 0, 0, before, author, b"", body)
+
+    def renewed(self, name: str, site: int, author: Author) -> Entry:
+        """The entry by which an author of this name says that the note goes on under a new key."""
+        said = name.encode("utf-8", "ignore")[:MOST_SAID].decode("utf-8", "ignore").encode()
+        return self._made(Kind.RENEWED, site, 0, 0, NO_HASH, author, b"", said)
 
     def open(self, raw: bytes) -> Entry:
         """The entry that has these bytes; Bad where they are none of this note's."""
@@ -219,7 +303,7 @@ class Form(ABC):
 
     def _made(self, kind: Kind, site: int, first: int, count: int, before: bytes, author: Author, on: bytes,
               spelled: bytes) -> Entry:
-        head = HEAD.pack(self.number, kind, self.note, site, first, count, before) + author.name
+        head = self._head(kind, site, first, count, before) + author.name
         raw = self._closed(head, on + spelled, author)
         return Entry(kind, site, first, count, before, author.name, on, spelled, raw, digest(raw))
 
@@ -227,7 +311,7 @@ class Form(ABC):
 class Plain(Form):
     """Entries of a note on one machine, which nobody but its accounts can reach. A digest shows damage."""
 
-    number, author_bytes = 1, 16
+    number, author_bytes, tail_bytes = 1, 16, 0
 
     def new_author(self) -> Author:
         return Author(secrets.token_bytes(self.author_bytes), b"")
@@ -241,14 +325,22 @@ class Plain(Form):
     def body(self, raw: bytes) -> bytes:
         return raw[HEAD.size + self.author_bytes:-DIGEST_BYTES]
 
-    def _closed(self, head: bytes, body: bytes, author: Author) -> bytes:
+    def _unsigned(self, head: bytes, body: bytes) -> bytes:
         return head + body + _short_digest(head + body)
+
+    def _closed(self, head: bytes, body: bytes, author: Author) -> bytes:
+        return self._unsigned(head, body)
 
     def _opened(self, head: bytes, rest: bytes, author: bytes) -> bytes:
         body = rest[:-DIGEST_BYTES]
         if len(rest) < DIGEST_BYTES or rest[-DIGEST_BYTES:] != _short_digest(head + body):
             raise Bad("is damaged")
         return body
+
+
+def before_of(raw: bytes) -> bytes:
+    """The hash of the entry before one, as bytes say it that may be damaged."""
+    return raw[HEAD.size - len(NO_HASH):HEAD.size]
 
 
 def kind_of(number: int) -> Kind:
@@ -285,6 +377,18 @@ def _short_digest(data: bytes) -> bytes:
     return hashlib.blake2b(data, digest_size=DIGEST_BYTES).digest()
 
 
+def messages_of(kind: Kind, spelled: bytes) -> tuple[Message, ...]:
+    """The messages of an entry of a kind, as it spells them."""
+    if kind in CHUNKS:
+        return chunks.messages(spelled)
+    return _messages_of(spelled) if kind in ONE_BY_ONE else ()
+
+
+def runs_of(kind: Kind, spelled: bytes) -> tuple[Run, ...]:
+    """The same, those in one that are letters typed one after the other."""
+    return chunks.runs(spelled) if kind in CHUNKS else tuple(map(of_message, messages_of(kind, spelled)))
+
+
 @lru_cache(UNFOLDED)
 def _messages_of(spelled: bytes) -> tuple[Message, ...]:
     """The messages of an entry of before, which was opened."""
@@ -302,6 +406,23 @@ def _split(spelled: bytes) -> list[bytes]:
     return parts
 
 
+def _is_stretch(stretch: tuple[int, int, int]) -> bool:
+    seq, by, count = stretch
+    return min(seq, count) >= 1 and max(seq, by) + count - 1 <= GREATEST_SEQ
+
+
+def _check_copies(entry: Entry) -> None:
+    """Raises Bad where an entry says of copies what nobody but another may say, or says it wrong."""
+    try:
+        copied = entry.copied
+    except ValueError as why:
+        raise Bad("has bytes that say nothing of copies") from why
+    if entry.first or entry.size or not 1 <= copied.site <= GREATEST_SITE or not 1 <= copied.by_site <= GREATEST_SITE:
+        raise Bad("says of copies what can't be")
+    if (entry.author, entry.site) not in ((copied.author, copied.site), (copied.by, copied.by_site)):
+        raise Bad("speaks of copies of others")
+
+
 def check_entry(entry: Entry) -> None:
     """Raises Bad where an entry's messages are spelled wrong, or aren't those of its place."""
     if entry.kind is Kind.NEWER:
@@ -316,6 +437,11 @@ def check_entry(entry: Entry) -> None:
     elif entry.kind is Kind.ANEW:
         if entry.first or entry.size or entry.spelled or entry.before == NO_HASH:
             raise Bad("says of nothing that it was made anew, or has more in it")
+    elif entry.kind is Kind.COPIES:
+        _check_copies(entry)
+    elif entry.kind is Kind.RENEWED:
+        if entry.first or entry.size or entry.before != NO_HASH or len(entry.spelled) > MOST_SAID:
+            raise Bad("says of a renewed note what can't be")
     elif not entry.size or entry.before == NO_HASH:
         raise Bad("has no messages, or nothing before it")
     else:

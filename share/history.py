@@ -123,12 +123,6 @@ def _goes_on(last: Message, message: Message) -> bool:
     return mentioned(message) == [Names(before.site, before.at + before.length - 1, 1)]
 
 
-def typed(message: Message) -> bytes:
-    """What an insertion inserts."""
-    names = inserted(message)
-    return message.data[-names.length:] if names else b""
-
-
 def wrote(site: Site, begin: int, end: int) -> list[Wrote]:
     """Who wrote what of the text that a site shows, from one position to another."""
     out: list[Wrote] = []

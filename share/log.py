@@ -62,6 +62,10 @@ class Log(ABC):
         """Says under a token that an editor is on, and gives what all who are on have said last, this one
         included."""
 
+    def claimed(self) -> set[int] | None:
+        """The sites that entries claim, whoever wrote these; None where it takes as long to say that as to read them all."""
+        return None
+
     def quick(self) -> None:
         """Has what is said last over kills, and not over the loss of power, where that is quicker."""
 

@@ -82,6 +82,12 @@ def inserted(message: Message) -> Names | None:
     return Names(message.site, at, length)
 
 
+def typed(message: Message) -> bytes:
+    """What an insertion inserts, nothing of another message."""
+    names = inserted(message)
+    return message.data[-names.length:] if names else b""
+
+
 def mentioned(message: Message) -> list[Names]:
     """The names that a message mentions: an insertion's cause, else its ranges. It is spelled rightly."""
     if message.kind == INSERT:

@@ -16,6 +16,7 @@ import zlib
 from collections.abc import Iterator, Mapping, Sequence
 from typing import NamedTuple
 
+from share.bounded import Bound
 from share.entry import GREATEST_SITE
 from share.log import START, Lost, Unreachable
 from share.message import LONGEST_MESSAGE, Message, is_spelled
@@ -194,6 +195,7 @@ def _stats(path: pathlib.Path) -> list[tuple[int, int] | None]:
 def _read_log(path: pathlib.Path, copy: pathlib.Path, gathered: _Gathered) -> str | None:
     """Reads the copy of a log, and gives its identity."""
     with contextlib.closing(sqlite3.connect(copy)) as file:
+        Bound(file)
         try:
             if file.execute("PRAGMA application_id").fetchone()[0] != APPLICATION:
                 raise Trouble(f"{path} isn't a note's log. Move it away, or choose another name for the note.")

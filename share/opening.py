@@ -4,19 +4,23 @@ import os
 import pathlib
 import re
 import secrets
-from collections.abc import Callable, Iterable, Mapping, Sequence
+from collections.abc import Callable, Iterable, Iterator, Mapping, Sequence
+from dataclasses import replace
 from itertools import chain, count
 from typing import NamedTuple
 
-from share import old, reading
-from share.disk import About, Client, Damaged, Disk, Row, make
+from share import lost, old, reading
+from share.disk import About, Client, Damaged, Disk, make
 from share.entry import GREATEST_SITE, NOTE_BYTES, Entry, Form, in_entries
 from share.judging import Judge
+from share.ledger import Row
+from share.leftout import LeftOut
 from share.link import Link
 from share.log import Unreachable, is_network
 from share.message import Message, length_after
 from share.messages import Messages
 from share.old import Old
+from share.renewing import say_so
 from share.together import with_log
 from share.words import Trouble
 
@@ -47,10 +51,13 @@ def is_here(name: str) -> bool:
 
 class Renewed(NamedTuple):
     """The name that a note has that was copied into a new one, None where it was of the form of before and is where
-    it was; and what isn't in the new one, in words."""
+    it was; what isn't in the new one, in words; what was left out of the old one for good; and how many messages the new
+    one has."""
 
     before: str | None
     missing: list[str]
+    left_out: list[LeftOut]
+    size: int
 
 
 def opened(name: str, url: str | None, link: Link | None, password: str | None = None,
@@ -87,21 +94,26 @@ def link_of(name: str) -> str:
     return Link("sealed" if about.sealed else "plain", about.secret, about.url).spelled()
 
 
-def renew(name: str, url: str | None, password: str | None) -> Renewed:
-    """Copies a note into a new one with a key of its own, under its name."""
+def renew(name: str, url: str | None, password: str | None, called: str = "",
+          begins: Callable[[Messages], Messages] = lambda messages: messages) -> Renewed:
+    """Copies a note into a new one with a key of its own, under its name, or what is made of its messages; those who have
+    the old one are told so by one of this name."""
     path = path_of(name)
     if path.exists():
         found = reading.found_in(path)
-        url = url or found.about.url
+        url = url or _log_of_new(found.about.url)
         if found.about.url:
             # What others wrote while nobody had the note open here is in its log alone.
             found = with_log(found, found.about.url, password)
         judge = Judge(found.entries)
         messages, missing = judge.count().messages, reading.missing(judge, found.faults)
+        left_out = lost.left_out(judge, reading.own(path).anew)
     elif kept := of_before(name, url, password):
         messages, missing = Messages(chain.from_iterable(kept.messages.values())), [*kept.left_out]
+        left_out = []
     else:
         raise Trouble(f"There is no note {name} here.")
+    messages = begins(messages)
     beside = path.with_name(f".renewed.{os.getpid()}{SUFFIX}")
     _make_new(beside, about_new(url), by_site(messages))
     try:
@@ -109,7 +121,16 @@ def renew(name: str, url: str | None, password: str | None) -> Renewed:
         os.rename(beside, path)
     finally:
         beside.unlink(missing_ok=True)
-    return Renewed(before, missing)
+    if before:
+        say_so(path_of(before), called, password)
+    return Renewed(before, missing, left_out, len(messages))
+
+
+def _log_of_new(url: str) -> str:
+    """Where the log of a renewed note is: on the same server; a log in a file is that of one note, and gets one beside it."""
+    if not url or is_network(url):
+        return url
+    return next(one for number in count(2) if not os.path.exists(one := f"{url}.{number}"))
 
 
 def _give_way(name: str, path: pathlib.Path) -> str:
@@ -124,9 +145,10 @@ def _give_way(name: str, path: pathlib.Path) -> str:
 
 
 def recover(folders: Sequence[pathlib.Path]) -> list[str]:
-    """Brings notes back from what is left of people's files, and says of each what was found, in words."""
+    """Brings notes back from what is left of people's files, and says of each what was found, in words. A log in a file that
+    somebody else's file names isn't gone on with unasked: that would be a file wherever they say."""
     found: dict[bytes, tuple[str, About, dict[bytes, Entry]]] = {}
-    told = []
+    told, logs = [], dict[bytes, str]()
     for path in _files(folders):
         try:
             one = reading.found_in(path)
@@ -134,10 +156,13 @@ def recover(folders: Sequence[pathlib.Path]) -> list[str]:
             told.append(str(why))
             continue
         told += [f"{path}: {fault}" for fault in one.faults]
-        _, _, held = found.setdefault(one.about.secret, (path.stem, one.about, {}))
-        held |= {entry.hash: entry for entry in one.entries}
+        about = one.about
+        if about.url and not is_network(about.url) and not _is_own(path):
+            logs[about.secret], about = about.url, replace(about, url="")
+        name, before, held = found.get(about.secret, (path.stem, about, {}))
+        found[about.secret] = name, before if before.url else about, held | {entry.hash: entry for entry in one.entries}
     for name, about, held in found.values():
-        told.append(_brought_back(name, about, [*held.values()]))
+        told.append(_brought_back(name, about, [*held.values()], logs.get(about.secret)))
     return told or ["No note's file was found in these folders."]
 
 
@@ -178,16 +203,17 @@ def by_site(messages: Iterable[Message]) -> dict[int, list[Message]]:
 
 def in_rows(form: Form, messages: Mapping[int, Sequence[Message]]) -> list[Row]:
     """Entries of messages that were made elsewhere. Their numbers are claimed by authors whom nobody can be."""
-    rows = []
-    for site, of_site in messages.items():
-        author = form.new_author()
-        last, length = form.claim(site, author), 0
-        rows.append(Row(0, last, False))
-        for part in in_entries(of_site):
-            last = form.entry(last, part, author, length=length)
-            rows.append(Row(0, last, False))
-            length = length_after(part, length)
-    return rows
+    return [row for site, of_site in messages.items() for row in _rows(form, of_site, Client(site, form.new_author()))]
+
+
+def _rows(form: Form, messages: Sequence[Message], client: Client) -> Iterator[Row]:
+    """A claim, and entries of messages."""
+    last, length = form.claim(client.site, client.author), 0
+    yield Row(0, last, False)
+    for part in in_entries(messages):
+        last = form.entry(last, part, client.author, length=length)
+        yield Row(0, last, False)
+        length = length_after(part, length)
 
 
 def _make(name: str, path: pathlib.Path, url: str | None, link: Link | None, password: str | None) -> Sequence[str]:
@@ -212,8 +238,10 @@ def _make_new(path: pathlib.Path, about: About, messages: Mapping[int, Sequence[
     free = [number for number in range(1, GREATEST_SITE + 1) if number not in messages]
     # Nobody else has this note yet, so its first number can be typed under at once.
     clients = [Client(secrets.choice(free), form.new_author(), stood=True)] if free else []
-    make(path, about, in_rows(form, messages) + [Row(0, form.claim(one.site, one.author), True) for one in clients],
-         clients)
+    # Who has the link could claim a copied number, too. With its key what was written under it can be made anew then.
+    copied = [Client(site, form.new_author(), retired=True, copied=True) for site in messages]
+    rows = [row for one in copied for row in _rows(form, messages[one.site], one)]
+    make(path, about, rows + [Row(0, form.claim(one.site, one.author), True) for one in clients], clients + copied)
 
 
 def agree(about: About, name: str, url: str | None, link: Link | None) -> None:
@@ -239,8 +267,13 @@ def _files(folders: Sequence[pathlib.Path]) -> list[pathlib.Path]:
     return found
 
 
-def _brought_back(name: str, about: About, entries: list[Entry]) -> str:
-    """Puts entries into the note's file here; what was done, in words."""
+def _is_own(path: pathlib.Path) -> bool:
+    """Whether a file is in this person's data folder."""
+    return path.resolve().is_relative_to(data_folder().resolve())
+
+
+def _brought_back(name: str, about: About, entries: list[Entry], log: str | None) -> str:
+    """Puts entries into the note's file here; what was done, in words, and which log wasn't taken over."""
     name = re.sub(r"\.note$", "", name)
     if not NAME.fullmatch(name):
         name = "recovered"
@@ -253,6 +286,7 @@ def _brought_back(name: str, about: About, entries: list[Entry]) -> str:
                 if disk.about.secret != about.secret:
                     continue
                 disk.check()
+                log = None if disk.about.url else log
                 gone = {of for _, of in disk.withdrawn()}
                 disk.keep([entry for entry in entries if entry.hash not in gone], made=False)
                 judge = Judge(row.entry for row in disk.rows() if row.entry.hash not in gone)
@@ -260,6 +294,8 @@ def _brought_back(name: str, about: About, entries: list[Entry]) -> str:
         except Damaged:
             continue
     messages = judge.count().messages
-    sites = len({message.site for message in messages})
-    return (f"{path.name[:-len(SUFFIX)]}: {len(messages):,} messages of {sites:,} sites, in {path}"
-            + (f"; {judge.incomplete():,} more lack something." if judge.incomplete() else "."))
+    sites, name = len({message.site for message in messages}), path.name[:-len(SUFFIX)]
+    return (f"{name}: {len(messages):,} messages of {sites:,} sites, in {path}"
+            + (f"; {judge.incomplete():,} more lack something." if judge.incomplete() else ".")
+            + (f" Its log was the file {log}, which isn't gone on with unless you name it: bin/note {name} --log {log}"
+               if log else ""))

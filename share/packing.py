@@ -11,8 +11,9 @@ import struct
 from collections.abc import Mapping
 
 from share.disk import Disk, make_folder
-from share.entry import Entry, digest
+from share.entry import digest
 from share.judging import Judge
+from share.ledger import Line
 from share.messages import Messages, Part
 from share.saving import PRIVATE
 from share.site import KEPT, Site
@@ -77,9 +78,8 @@ def parted(messages: Messages, fronts: Mapping[int, int]) -> tuple[Messages, Mes
     """Those of messages that count that a packed file has, and the others."""
     within, beyond = Messages(), Messages()
     for part in messages.parts():
-        assert isinstance(part.holder, Entry)
-        middle = fronts.get(part.holder.site, 0) - part.holder.first + 1
-        middle = min(max(part.begin, middle), part.end)
+        assert isinstance(part.holder, Line)
+        middle = min(max(part.begin, fronts.get(part.holder.site, 0)), part.end)
         within.add(Part(part.holder, part.begin, middle))
         beyond.add(Part(part.holder, middle, part.end))
     return within, beyond

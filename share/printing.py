@@ -1,16 +1,47 @@
 """Prints a note: from its file and its log, without a number, and without changing or making anything."""
-from share import opening, reading
+from contextlib import closing
+from typing import NamedTuple
+
+from share import history, lost, opening, people, reading, renewing
 from share.disk import About
 from share.holdings import uncollected
+from share.judging import Judge
+from share.lines import Line
 from share.link import Link
-from share.reading import Found, Shown
+from share.messages import Messages
+from share.reading import Found, Own, Shown
+from share.site import Site
 from share.together import with_log
 from share.words import Trouble
 
 
+class Counted(NamedTuple):
+    """The messages of a note, each after its causes; what is missing of it, in words; and what was left out for good,
+    stretch by stretch."""
+
+    messages: Messages
+    missing: list[str]
+    left_out: list[Line]
+
+
 def printed(name: str, url: str | None, link: Link | None, password: str | None) -> Shown:
     """The text of a note, and what is missing in it."""
-    return reading.shown(found(name, url, link, password))
+    messages, missing, _ = counted(name, found(name, url, link, password))
+    with closing(Site(history.REPLAYING, messages)) as site:
+        return Shown(site.text(), missing)
+
+
+def counted(name: str, there: Found) -> Counted:
+    """What counts of what there is of a note."""
+    judge, path = Judge(there.entries), opening.path_of(name)
+    messages = judge.count().messages
+    own, names = reading.own(path) if path.exists() else Own(), people.known(name)
+    missing = reading.missing(judge, there.faults)
+    if much := lost.left_out(judge, own.anew):
+        missing.append(lost.telling(lost.with_names(lost.as_lines(much, own.clients), names), name))
+    if said := renewing.renewed_by(judge, own.clients):
+        missing.append(renewing.telling(said))
+    return Counted(messages, missing, lost.with_text(lost.lost(judge, own.anew), own.clients, names))
 
 
 @uncollected()

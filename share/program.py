@@ -1,12 +1,16 @@
 """One process of the program, for one site: events go in, answers come out."""
+import contextlib
 import fcntl
 import os
 import pathlib
 import select
 import shlex
 import subprocess
+import time
+from collections.abc import Callable
 
 from share.message import TEXT
+from share.patience import LOOK_SECONDS, Patience
 from share.words import Trouble
 
 # Not resolved: where it is installed a link leads to the version of the moment.
@@ -16,10 +20,9 @@ BUILT = TOP / "crates" / "site_cli" / "out" / "site_cli"
 MOST_LINES = 2**20
 PIPE = 1 << 20
 F_SETPIPE_SZ = 1031
-# A process that neither reads nor answers for so long hangs, and is ended; but where others take the processors, only after it
-# had one for so long.
-HANGS_SECONDS = 30
 CLOSE_SECONDS = 1
+# In a clock's number: that it is a process's processor time.
+CLOCK_OF_A_PROCESS = 2
 # The lines of an answer that others follow.
 FOLLOWED = (b"send ", b"front ", b"run ", b"shown ", b"name ", b"chunk ")
 
@@ -39,10 +42,11 @@ def command() -> list[str]:
 
 
 class Program:
-    """A run of the program with one site, which is answered event by event. Its files are in a folder."""
+    """A run of the program with one site, which is answered event by event. Its files are in a folder. Who waits for an
+    answer of one that stands still is called."""
 
-    def __init__(self, site: int, folder: pathlib.Path | None = None):
-        self.site, self.lines = site, 0
+    def __init__(self, site: int, folder: pathlib.Path | None = None, still: Callable[[], None] = lambda: None):
+        self.site, self.lines, self._still = site, 0, still
         words = [*command(), "--first", str(site), "--count", "1"]
         # It may have been taken away meanwhile, and what isn't there is no place for files.
         self.folder = folder if folder and folder.is_dir() else None
@@ -66,13 +70,13 @@ class Program:
         answers: list[list[bytes]] = []
         answer: list[bytes] = []
         part: list[bytes] = []
-        worked: float | None = None
+        patience = Patience(self.process.pid)
         while len(answers) < len(events):
-            read, write, _ = select.select([self._out], [self._in] if script else [], [], HANGS_SECONDS)
+            read, write, _ = select.select([self._out], [self._in] if script else [], [], LOOK_SECONDS)
             if not (read or write):
-                worked = self._goes_on_working(worked)
+                self._wait(patience)
                 continue
-            worked = None
+            patience = Patience(self.process.pid)
             if write:
                 script = script[self._written(script):]
             if not read:
@@ -105,18 +109,19 @@ class Program:
         """What the site shows."""
         return shown(self.ask([self.event("text")])[0])
 
-    def _goes_on_working(self, before: float | None) -> float:
-        """How many seconds of a processor the process had when nothing came of it first; it is ended where it hangs."""
-        try:
-            words = pathlib.Path(f"/proc/{self.process.pid}/stat").read_text(encoding="utf-8").rpartition(")")[2].split()
-        except OSError as why:
-            raise Ended from why
-        worked = (int(words[11]) + int(words[12])) / os.sysconf("SC_CLK_TCK")
-        # It runs or wants to, or waits for the disk.
-        if words[0] not in ("R", "D") or before is not None and worked >= before + HANGS_SECONDS:
+    def processor_seconds(self) -> float:
+        """The processor time that the process has used."""
+        with contextlib.suppress(OSError):
+            return time.clock_gettime(~self.process.pid << 3 | CLOCK_OF_A_PROCESS)
+        return 0.0
+
+    def _wait(self, patience: Patience) -> None:
+        """Waits on for a process of which nothing came, unless that hangs: then it is ended."""
+        if patience.is_over():
             self.process.kill()
             raise Ended
-        return worked if before is None else before
+        if patience.is_still():
+            self._still()
 
     def _written(self, script: memoryview) -> int:
         try:

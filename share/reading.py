@@ -7,7 +7,8 @@ import urllib.parse
 from collections.abc import Callable, Iterable
 from typing import NamedTuple, TypeVar
 
-from share.disk import APPLICATION, About, Damaged, about_of, as_text
+from share.bounded import Bound
+from share.disk import APPLICATION, COPIED, About, Damaged, about_of, as_text
 from share.entry import Bad, Entry
 from share.judging import Judge
 from share.old import copied
@@ -17,6 +18,7 @@ from share.words import NEWER, Trouble, entries
 Result = TypeVar("Result")
 RAWS = """SELECT place, CAST(raw AS BLOB) FROM entry
           WHERE place {} ? AND hash NOT IN (SELECT hash FROM withdrawn) ORDER BY place {}"""
+OWN_CLIENTS = "SELECT site, author FROM client WHERE retired != ?"
 GREATEST_PLACE = 2**63 - 1
 # So many faults of a kind are told one by one.
 MOST_TOLD = 3
@@ -28,6 +30,14 @@ class Found(NamedTuple):
     about: About
     entries: list[Entry]
     faults: list[str]
+
+
+class Own(NamedTuple):
+    """What is of a person alone: the sites and authors of the numbers, and the author, site and seq of each message that
+    another one stands for."""
+
+    clients: set[tuple[int, bytes]] = set()
+    anew: set[tuple[bytes, int, int]] = set()
 
 
 class Shown(NamedTuple):
@@ -44,8 +54,15 @@ def about(path: pathlib.Path) -> About:
 
 def own_sites(path: pathlib.Path) -> set[int]:
     """The numbers that the person of a file has claimed."""
-    return {site for site in _with_file(path, lambda file: [one for one, in file.execute("SELECT site FROM client")])
-            if isinstance(site, int)}
+    return {site for site, _ in own(path).clients if isinstance(site, int)}
+
+
+def own(path: pathlib.Path) -> Own:
+    """What a file has of its person alone, as far as that can be read."""
+    with contextlib.suppress(Trouble):
+        return _with_file(path, lambda file: Own(set(file.execute(OWN_CLIENTS, (COPIED,))),
+                                                 set(file.execute("SELECT author, site, seq FROM anew"))))
+    return Own()
 
 
 def found_in(path: pathlib.Path) -> Found:
@@ -127,6 +144,7 @@ def _read(path: pathlib.Path, copy: pathlib.Path, read: Callable[[sqlite3.Connec
     try:
         with contextlib.closing(sqlite3.connect(f"file:{urllib.parse.quote(str(copy))}?mode=ro", uri=True,
                                                 timeout=10)) as file:
+            Bound(file)
             # What isn't UTF-8 was damaged, and is found to be so.
             file.text_factory = as_text
             if file.execute("PRAGMA application_id").fetchone()[0] != APPLICATION:

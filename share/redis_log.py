@@ -4,19 +4,25 @@ The server, and everyone who reaches it, can write under its keys whatever they 
 can't be an entry before it is sent, and each answer is looked at.
 """
 import re
+import time
 from collections.abc import Iterator, Sequence
 
-from share.entry import MOST_BYTES
+from share.entry import MOST_BYTES, Kind
 from share.log import MOST_PRESENCE, ON_SECONDS, PAGE, START, Carried, Log, Lost
 from share.redis_wire import Answer, TooLong, Wire
 
 # An append has so many bytes, and a reading, and each entry in it so many beside its own.
 MOST_APPENDED = 2**17
 ROOM, BESIDE = 2**20, 64
+# A reading begins with little, so that something is seen soon where the line is slow. Each next one may have twice as much
+# where it took less than the one time, and half where it took more than the other.
+LEAST_ROOM, QUICK_SECONDS, SLOW_SECONDS = 2**14, 0.3, 1.0
 MOST_READ = ROOM + 20 * (MOST_BYTES + BESIDE) + PAGE * BESIDE
 # What a watch lets through: a longer entry is known by its size alone.
 MOST_WATCHED = MOST_BYTES + 1_024
 MOST_ON = 1_000
+# Claims are looked for in so many entries at once, and in so many parts of the stream at most.
+PART, MOST_PARTS = 5_000, 1_000
 # An entry has one field alone, called e. The server hashes the bytes, so nobody can have another entry stand for one
 # that isn't there. One that was trimmed, or stands otherwise, is added anew.
 APPEND = """
@@ -52,6 +58,19 @@ READ = """
         if #some < few then at_end = 1 end
     end
     return {redis.call('XLEN', KEYS[1]), at_end, found}
+"""
+# Gives the id of the last entry of a part of the stream, and of each claim in it the two bytes of its site.
+CLAIMED = """
+    local after, most = ARGV[1], tonumber(ARGV[5])
+    local some = redis.call('XREAD', 'COUNT', tonumber(ARGV[3]), 'STREAMS', KEYS[1], after)
+    local found = {}
+    for _, entry in ipairs(some and some[1][2] or {}) do
+        local id, fields = entry[1], entry[2]
+        local raw = #fields == 2 and fields[1] == ARGV[2] and #fields[2] <= most and fields[2]
+        if raw and string.byte(raw, 2) == tonumber(ARGV[4]) then found[#found + 1] = string.sub(raw, 19, 20) end
+        after = id
+    end
+    return {after, found}
 """
 # The time is the server's, since those of machines differ.
 MEET = """
@@ -89,11 +108,14 @@ class Stream:
 
     def __init__(self, wire: Wire, key: str, field: str, most: int):
         self._wire, self._key, self._field, self._most = wire, key, field, most
+        self._room = LEAST_ROOM
 
     def read(self, after: str) -> list[Carried]:
         """The entries after a place, PAGE at most."""
         last, count = _place(after)
-        answer = self._wire.run(READ, (self._key,), (last, self._field, PAGE, self._most, ROOM), MOST_READ)
+        begin = time.monotonic()
+        answer = self._wire.run(READ, (self._key,), (last, self._field, PAGE, self._most, self._room), MOST_READ)
+        self._took(time.monotonic() - begin)
         if answer == 0:
             raise self._lost()
         page, size = self._page(answer, last, count)
@@ -101,6 +123,28 @@ class Stream:
         if size is not None and size != count + len(page):
             raise self._lost() if after != START else self._wire.strange()
         return page
+
+    def claimed(self) -> set[int]:
+        """The sites that entries claim, as far as the server says so: it looks through them, and sends the sites alone."""
+        sites, after = set[int](), b"0-0"
+        for _ in range(MOST_PARTS):
+            words = (after, self._field, PART, int(Kind.CLAIM), self._most)
+            match self._wire.run(CLAIMED, (self._key,), words):
+                case [bytes(last), list(found)] if len(found) <= PART and _numbers(last):
+                    sites |= {int.from_bytes(site, "big") for site in found if isinstance(site, bytes) and len(site) == 2}
+                case _:
+                    raise self._wire.strange()
+            if last == after:
+                break
+            after = last
+        return sites
+
+    def _took(self, seconds: float) -> None:
+        """Has the next reading have as much as comes in a short while."""
+        if seconds < QUICK_SECONDS:
+            self._room = min(2 * self._room, ROOM)
+        elif seconds > SLOW_SECONDS:
+            self._room = max(self._room // 2, LEAST_ROOM)
 
     def watch(self, after: str, seconds: float) -> None:
         """Returns when there is an entry after a place, and after so many seconds at the latest."""
@@ -168,6 +212,9 @@ class RedisLog(Log):
 
     def size(self) -> int:
         return self._stream.size()
+
+    def claimed(self) -> set[int] | None:
+        return self._stream.claimed()
 
     def meet(self, token: bytes, presence: bytes) -> list[bytes]:
         answer = self._wire.run(MEET, (self._times, self._said),

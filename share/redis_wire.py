@@ -105,7 +105,8 @@ class Wire:
         self._most, self._at, sent = most, 0, _spelled(words)
         self._line.settimeout(ANSWER_SECONDS + len(sent) / SLOWEST)
         self._line.sendall(sent)
-        self._end = time.monotonic() + ANSWER_SECONDS + waits
+        # What was sent may still be on its way.
+        self._end = time.monotonic() + ANSWER_SECONDS + len(sent) / SLOWEST + waits
         try:
             return self._answer(0)
         except _Refused:

@@ -11,17 +11,17 @@ import sys
 from collections.abc import Callable, Sequence
 from itertools import accumulate
 
-from share import as_html, history, opening, people, printing, reading, saving, serving
+from share import as_html, history, lost, opening, people, printing, reading, saving, serving
 from share import client as clients
 from share import link as links
 from share.controls import shown
 from share.history import Replays, Step, Wrote
-from share.judging import Judge
 from share.lines import Line
 from share.measured import shown as as_text
 from share.measured import swapped
-from share.message import INSERT
+from share.message import INSERT, typed
 from share.messages import Messages
+from share.printing import Counted
 from share.session import Bar, Session
 from share.site import Site
 from share.words import Trouble, counted
@@ -31,6 +31,8 @@ NOTHING_DONE, MISSING = 1, 3
 MOST_COMPARED = 300
 # What was done, in words, where that isn't a word already.
 DONE = {"looked": "changed the looks of"}
+# What stands in a step's place before what was left out for good.
+LEFT_OUT = "left out"
 # So much of what was typed is shown in a line.
 MOST_TYPED = 60
 # Opens the note that the command line names, as an editor does.
@@ -59,20 +61,18 @@ class Scripts:
         opens = self._opener(given, given.name)
         return lambda wake: opens(lambda done, total: None, wake)
 
-    def _found(self, given: argparse.Namespace) -> tuple[Messages, list[str]]:
-        """The messages of a note, each after its causes, and what is missing of it."""
+    def _found(self, given: argparse.Namespace) -> Counted:
+        """The messages of a note, and what is missing of it."""
         spelled = self._secret(given.link_file, "VIALSHOAL_LINK")
         found = printing.found(given.name, links.url_of(given.log) if given.log else None,
                                links.read(spelled) if spelled else None,
                                self._secret(given.password_file, "VIALSHOAL_PASSWORD"))
-        judge = Judge(found.entries)
-        messages = judge.count().messages
-        return messages, reading.missing(judge, found.faults)
+        return printing.counted(given.name, found)
 
     # Reading.
 
     def _cat(self, given: argparse.Namespace) -> int:
-        messages, missing = self._found(given)
+        messages, missing, _ = self._found(given)
         text = as_text(swapped(_site_of(messages).text()))
         if given.json:
             return _json({"note": given.name, "text": text, "missing": missing}, missing)
@@ -80,7 +80,7 @@ class Scripts:
         return _told(missing)
 
     def _export(self, given: argparse.Namespace) -> int:
-        messages, missing = self._found(given)
+        messages, missing, _ = self._found(given)
         site = _site_of(messages)
         data = swapped(site.text())
         if given.format == "html":
@@ -95,7 +95,7 @@ class Scripts:
         return _told(missing)
 
     def _history(self, given: argparse.Namespace) -> int:
-        messages, missing = self._found(given)
+        messages, missing, left_out = self._found(given)
         if not 0 <= given.at <= len(messages):
             raise Trouble(f"The note's history has {counted(len(messages), 'message')}.")
         replays = Replays()
@@ -104,23 +104,25 @@ class Scripts:
         text = as_text(swapped(past.text))
         if given.json:
             return _json({"note": given.name, "at": given.at, "length": len(messages), "text": text,
-                          "stretches": [_stretch(past.text, one) for one in past.wrote]}, missing)
+                          "stretches": [_stretch(past.text, one) for one in past.wrote], "left_out": left_out}, missing)
         _print_text(text)
         return _told(missing)
 
     def _log(self, given: argparse.Namespace) -> int:
-        messages, missing = self._found(given)
+        messages, missing, left_out = self._found(given)
         found = history.steps(messages, 0, len(messages))
         own, names = _own_sites(given.name), people.known(given.name)
         if given.json:
             steps = [history.as_line(one) | {"own": one.site in own, "name": names.get(one.site, ""),
                                              "text": _typed(messages, one)} for one in found]
-            return _json({"note": given.name, "length": len(messages), "steps": steps}, missing)
+            return _json({"note": given.name, "length": len(messages), "steps": steps, "left_out": left_out}, missing)
         for one in found:
             who = names.get(one.site) or f"site {one.site}" + (" (you)" if one.site in own else "")
             what = (f"typed {_short(_typed(messages, one))}" if one.did == "typed" else
                     f"{DONE.get(one.did, one.did)} {counted(one.size, 'byte')}")
             _print_text(f"{one.end:>9}  {who:<18}  {what}\n")
+        for line in left_out:
+            _print_text(f"{LEFT_OUT:>9}  {lost.called(line):<18}  typed {_short(line['text'])}\n")
         return _told(missing)
 
     def _list(self, given: argparse.Namespace) -> int:
@@ -210,7 +212,8 @@ def parser() -> argparse.ArgumentParser:
                 more="A note begins empty. bin/note log says what was done since, and which N is after that.\n")
     past.add_argument("--at", type=int, metavar="N", required=True, help="after so many messages")
     verb("log", "says what was done, step by step, and by whom",
-         more="Before each step is the N with which bin/note history prints the text as it was then.\n")
+         more="Before each step is the N with which bin/note history prints the text as it was then. At the end is what was\n"
+              "left out for good, since others hold its place; bin/note recover --lost NAME types it again.\n")
     return every
 
 
@@ -271,7 +274,7 @@ def _listed(name: str, path: pathlib.Path) -> Line:
 
 def _typed(messages: Messages, step: Step) -> str:
     """What a step typed."""
-    data = b"".join(history.typed(one) for one in messages[step.begin:step.end] if one.kind == INSERT)
+    data = b"".join(typed(one) for one in messages[step.begin:step.end] if one.kind == INSERT)
     return as_text(swapped(data))
 
 

@@ -38,7 +38,7 @@ class Sealed(Form):
     """Entries that are sealed with a note's key. The note's identity is a hash of the key, so a log can't choose
     it."""
 
-    number, author_bytes = 2, 32
+    number, author_bytes, tail_bytes = 2, 32, SIGNATURE_BYTES
 
     def __init__(self, key: bytes):
         if not HAS_NACL:
@@ -72,10 +72,12 @@ class Sealed(Form):
             return None
         return _unsealed(raw[NONCE_BYTES:], self.note, raw[:NONCE_BYTES], self._presence)
 
-    def _closed(self, head: bytes, body: bytes, author: Author) -> bytes:
+    def _unsigned(self, head: bytes, body: bytes) -> bytes:
         nonce = self._nonce(head, body)
-        sealed = head + nonce + bindings.crypto_aead_xchacha20poly1305_ietf_encrypt(body, head, nonce,
-                                                                                    self._sealing)
+        return head + nonce + bindings.crypto_aead_xchacha20poly1305_ietf_encrypt(body, head, nonce, self._sealing)
+
+    def _closed(self, head: bytes, body: bytes, author: Author) -> bytes:
+        sealed = self._unsigned(head, body)
         return sealed + bindings.crypto_sign(sealed, author.secret)[:SIGNATURE_BYTES]
 
     def _opened(self, head: bytes, rest: bytes, author: bytes) -> bytes:

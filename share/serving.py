@@ -221,7 +221,7 @@ class Server:
         self._woken, self._waking = os.pipe()
         os.set_blocking(self._woken, False)
         os.set_blocking(self._waking, False)
-        self._engine = Engine(name, lambda: opens(self._progress, self._wake), self._wake)
+        self._engine = Engine(name, lambda: opens(self._progress, self._wake), self._wake, self._send_now)
         self._editors: dict[Connection, Peer] = {}
         self._selector = selectors.DefaultSelector()
         self._selector.register(self._woken, selectors.EVENT_READ)
@@ -276,6 +276,10 @@ class Server:
     def _progress(self, done: int, total: int) -> None:
         """Says how far a long history is read: as the note is opened, and where much comes at once."""
         self._engine.progress(done, total)
+        self._send_now()
+
+    def _send_now(self) -> None:
+        """Sends what goes in the midst of something that takes long."""
         for editor in [*self._editors]:
             editor.send()
 
@@ -286,8 +290,8 @@ class Server:
     def _turn(self) -> None:
         for editor in self._editors:
             self._wait_for(editor)
-        has_lines = any(editor.lines for editor in self._editors)
-        seconds = 0 if has_lines else BUSY_SECONDS if self._engine.is_restless() else TURN_SECONDS
+        goes_on = self._engine.has_more() or any(editor.lines for editor in self._editors)
+        seconds = 0 if goes_on else BUSY_SECONDS if self._engine.is_restless() else TURN_SECONDS
         for key, events in self._selector.select(seconds):
             if key.fileobj is self._listener:
                 self._accept()

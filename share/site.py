@@ -5,10 +5,12 @@ in each at once.
 """
 import pathlib
 import re
+import time
 from collections.abc import Callable, Iterable, Iterator, Sequence
 from itertools import accumulate, chain, islice
 from typing import NamedTuple
 
+from share.coming import Coming
 from share.looks import Looks, Run, in_words
 from share.message import MOST_RANGES, Message, Names
 from share.messages import Messages
@@ -52,12 +54,14 @@ class Site:
     """One text at one site."""
 
     def __init__(self, number: int, messages: Iterable[Message] = (), progress: Progress = lambda done: None,
-                 folder: pathlib.Path | None = None, packed: Messages | None = None):
-        """A site with these messages, after those that its packed file has, which is in a folder."""
-        self.number, self._folder = number, folder
+                 folder: pathlib.Path | None = None, packed: Messages | None = None,
+                 stands: Callable[[bool], None] = lambda stands: None):
+        """A site with these messages, after those that its packed file has, which is in a folder. It is told at once that the
+        program stands still, and that it answers again."""
+        self.number, self._folder, self._stands, self._is_still = number, folder, stands, False
         # All that the program was handed and made; a program that ended is given it again.
         self.history = Messages()
-        self._program = Program(number, folder)
+        self._program = Program(number, folder, self._stands_still)
         # A program that doesn't know chunks is told of as the note is opened. These bytes are none.
         if self._ask([self._program.unpacking(b"\0")])[0][-1] != b"refused 1":
             raise Trouble("The program is too old: it can't read chunks of messages. Build it anew, with "
@@ -88,14 +92,45 @@ class Site:
              progress: Progress = lambda done: None) -> Told:
         """Takes in messages. To one who looks at the text it tells what that has become."""
         coming = messages if isinstance(messages, Messages) else Messages(messages)
-        if looks and len(coming) <= SLICE and len(self.history) < MOST_MESSAGES:
-            some = [*coming]
-            if count(some) <= MOST_NAMES:
-                changes = self._hand_in(some)
-                self.history += coming
-                return self.text() if changes is None else changes
-        self._hand_in_chunks(coming, progress)
-        return self.text() if looks else []
+        if not looks or len(coming) > SLICE:
+            self._hand_in_chunks(coming, progress)
+            return self.text() if looks else []
+        changes = self._take_few(coming)
+        return self.text() if changes is None else changes
+
+    def take_some(self, coming: Coming, seconds: float) -> Told:
+        """Takes in messages from the front, at least some, until the time is over; tells what the text has become."""
+        end = time.monotonic() + seconds
+        changes: list[Change] | None = [] if len(coming) <= SLICE else None
+        while coming:
+            changes = self._take_first(coming, changes)
+            if time.monotonic() >= end:
+                break
+        return self.text() if changes is None else changes
+
+    def _take_first(self, coming: Coming, changes: list[Change] | None) -> list[Change] | None:
+        """Takes in a few messages from the front; the changes so far with theirs, None where one isn't known."""
+        (some, chunk), before, worked = coming.first(), len(self.history), self._program.processor_seconds()
+        found: list[Change] | None = None
+        try:
+            if changes is None:
+                self._unpacked(self._ask([self._program.unpacking(chunk)])[0][-1], some)
+            else:
+                found = self._take_few(some)
+        finally:
+            coming.drop(len(self.history) - before)
+        coming.pace.took(self._program.processor_seconds() - worked)
+        return None if changes is None or found is None else changes + found
+
+    def _take_few(self, coming: Messages) -> list[Change] | None:
+        """Takes in messages; what they changed, None where that isn't known."""
+        some = [*coming]
+        if len(self.history) >= MOST_MESSAGES or count(some) > MOST_NAMES:
+            self._hand_in_chunks(coming)
+            return None
+        changes = self._hand_in(some)
+        self.history += coming
+        return changes
 
     def insert(self, position: int, data: bytes) -> Edited:
         """Types bytes after the first so many of the text. Each message has whole characters alone."""
@@ -184,18 +219,22 @@ class Site:
             return None
         return [one for _, changed in done for one in changed or ()]
 
-    def _hand_in_chunks(self, messages: Messages, progress: Progress) -> None:
+    def _hand_in_chunks(self, messages: Messages, progress: Progress = lambda done: None) -> None:
         """Has the program take in messages in chunks."""
         chunks, done = messages.chunks(), 0
         while some := [*islice(chunks, CHUNKS)]:
             answers = self._ask([self._program.unpacking(chunk) for chunk, _ in some])
             for (_, size), (answer,) in zip(some, answers):
-                found = UNPACKED.fullmatch(answer)
-                if not found or int(found[1]) + int(found[2]) != size:
-                    raise _not_taken(answer, messages[done])
-                self.history += messages[done:done + size]
+                self._unpacked(answer, messages[done:done + size])
                 done += size
             progress(done)
+
+    def _unpacked(self, answer: bytes, messages: Messages) -> None:
+        """Checks the answer to a chunk of messages, and adds them to the history."""
+        found = UNPACKED.fullmatch(answer)
+        if not found or int(found[1]) + int(found[2]) != len(messages):
+            raise _not_taken(answer, messages[0])
+        self.history += messages
 
     def _lines(self, verb: str, *words: int) -> list[list[str]]:
         """The words of each line that a question is answered by."""
@@ -240,22 +279,34 @@ class Site:
     def _ask(self, events: list[bytes]) -> list[list[bytes]]:
         """The program's answers. Where it ended it is started again: none of these events was kept, so they
         are asked anew."""
-        if self._program.lines + len(events) > MOST_LINES:
-            self._start_again()
         try:
-            return self._program.ask(events)
-        except Ended:
-            self._start_again()
-        try:
+            if self._program.lines + len(events) > MOST_LINES:
+                self._start_again()
+            try:
+                return self._program.ask(events)
+            except Ended:
+                self._start_again()
             return self._program.ask(events)
         except Ended as why:
             raise Trouble("The program ended, was started again and ended again. All that was typed before "
                           "is kept.") from why
+        finally:
+            self._goes_on()
+
+    def _stands_still(self) -> None:
+        if not self._is_still:
+            self._is_still = True
+            self._stands(True)
+
+    def _goes_on(self) -> None:
+        if self._is_still:
+            self._is_still = False
+            self._stands(False)
 
     def _start_again(self) -> None:
         """Has another run of the program do all that this one did."""
         self._program.close()
-        self._program = Program(self.number, self._folder)
+        self._program = Program(self.number, self._folder, self._stands_still)
         chunks = self.history.chunks()
         try:
             while some := [*islice(chunks, CHUNKS)]:

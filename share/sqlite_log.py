@@ -11,6 +11,7 @@ import time
 from collections.abc import Iterator, Sequence
 from urllib.parse import quote
 
+from share.bounded import Bound
 from share.entry import HEAD, MOST_BYTES, NOTE_BYTES, digest
 from share.log import MOST_PRESENCE, ON_SECONDS, PAGE, START, Carried, Log, Lost, Unreachable
 from share.words import Trouble
@@ -33,6 +34,8 @@ SCHEMA = """
                         mark INTEGER NOT NULL DEFAULT (random()));
     CREATE TABLE presence (token BLOB PRIMARY KEY, seen REAL NOT NULL, said BLOB NOT NULL);
 """
+TABLES, MANY_TABLES = ("SELECT count(*) FROM sqlite_master WHERE type = 'table' AND "
+                       "name IN ('header', 'entry', 'presence')"), 3
 # All that is read may have been written by another program, so its type and its length are looked at first.
 NOTES = "SELECT note FROM header WHERE typeof(note) = 'blob' AND length(note) = ?"
 OF_OTHERS = ("SELECT EXISTS (SELECT 1 FROM entry WHERE typeof(raw) = 'blob' AND length(raw) BETWEEN ? AND ? AND "
@@ -55,6 +58,7 @@ class SqliteLog(Log):
         self.path, self._note = path, note
         # Whether the file was seen to be a log, so that it may be set aside where it is damaged.
         self._is_log = False
+        self._bound: Bound | None = None
         try:
             _make(path)
             self._inode, self._size = _inode(path), 0
@@ -63,6 +67,7 @@ class SqliteLog(Log):
         with self._words():
             self._file = sqlite3.connect(f"file:{quote(os.fsencode(path))}?mode=rw", timeout=BUSY_SECONDS,
                                          isolation_level=None, uri=True)
+            self._bound = Bound(self._file)
         try:
             with self._words():
                 self._open()
@@ -124,6 +129,8 @@ class SqliteLog(Log):
         if self._one("PRAGMA application_id") != APPLICATION:
             raise self._no_log()
         self._is_log = True
+        if self._one(TABLES) != MANY_TABLES:
+            raise self._set_aside("is damaged (it lacks some of its tables)")
         self._find_note()
         self._write_ahead()
         # What is committed is to last even where the machine loses power.
@@ -267,6 +274,8 @@ class SqliteLog(Log):
 
     @contextlib.contextmanager
     def _words(self) -> Iterator[None]:
+        if self._bound:
+            self._bound.begin()
         try:
             yield
         except sqlite3.ProgrammingError:

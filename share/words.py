@@ -10,12 +10,14 @@ REFUSALS = {
     7: "there is no memory for it",
     8: "a message waits that shows that this site was further once",
     9: "a message with the greatest stamp came in, and no edit can follow it",
-    10: "one site types at most 16,777,216 bytes; open the note with a new data folder for a new site number",
+    10: "one site types at most 16,777,216 bytes, and this one goes on under another number now: do it again, a part of it "
+        "at a time if it is long",
     11: "a position or a name isn't in the text",
     12: "it is scattered over more than 1,024 stretches",
     20: "the program can't read it",
-    21: "a note has two million messages at most; save it as a file and begin a new one",
-    23: "this site has made its last edit; open the note with a new data folder for a new site number",
+    21: "a note has two million messages at most; save it as a file, or have bin/note renew NAME --fresh make a new note of "
+        "its text",
+    23: "this site has made its last edit, and goes on under another number now: do it again",
 }
 
 # Entries of kinds that this version doesn't know.

@@ -727,13 +727,30 @@ there is no undo that knows the places of before."
               ("sending" "sending")
               ("sent" "sent")
               (_ "kept"))
+            (when (plist-get state :of)
+              (format ", %s of %s read" (plist-get state :read) (plist-get state :of)))
             (when (> (or (plist-get state :on) 1) 1)
               (format ", %s on" (plist-get state :on)))
             (unless (plist-get state :types)
               ", can't type yet")
+            (vialshoal--left-out-words (plist-get state :left_out))
+            (when (plist-get state :renewed)
+              (concat ", renewed by "
+                      (vialshoal--author (plist-get state :renewed))))
             (when (plist-get state :trouble)
               (concat ", trouble: "
                       (vialshoal--shown-name (plist-get state :trouble) 60))))))
+
+(defun vialshoal--left-out-words (left-out)
+  "Return how much LEFT-OUT of a state is and whose it is."
+  (when left-out
+    (concat ", left out: "
+            (string-join
+             (cl-loop for one in left-out repeat 3
+                      collect (format "%s of %s" (plist-get one :characters)
+                                      (vialshoal--author one)))
+             ", ")
+            (if (nthcdr 3 left-out) ", .." ""))))
 
 ;;;; Opening and closing
 

@@ -9,8 +9,8 @@ from dataclasses import dataclass
 from itertools import chain
 from typing import NamedTuple
 
-from share.entry import HEAD, Author, Entry, Form, Kind
-from share.message import Message
+from share.entry import HEAD, NO_HASH, Author, Entry, Form, Kind
+from share.message import Message, typed
 
 LEAP = 1 << 20
 INSERT, DELETE, CHANGE_LOOKS, RESTORE = 1, 2, 3, 4
@@ -162,22 +162,77 @@ class Answer:
 
     def incomplete(self, entries: list[Entry]) -> int:
         """How many messages of these entries came that something is missing for."""
+        left_out = self._blocked_by_what_was_left_out(entries)
+        waiting = [one for site in self._blocked() - left_out for one in self.held_up(site, entries)]
+        return len(waiting) + sum(len(entry.messages) for entry in loose(entries))
+
+    def _blocked(self) -> set[int]:
+        """The sites of which something isn't let through that isn't wrong."""
+        return {site for site, messages in self.following.items() if messages and not self.is_wrong(messages[0])}
+
+    def _blocked_by_what_was_left_out(self, entries: list[Entry]) -> set[int]:
+        """Those of them whose next message builds on what was left out."""
         at_hand = loose(entries)
         kept = {entry.hash for entry in [*at_hand, *chain.from_iterable(self.chains.values())]}
         # The characters that were left out, as far as each site has them.
         ends: dict[int, int] = {}
         for read in (reading(one.data) for entry in entries if entry.hash not in kept for one in entry.messages):
             ends[read.site] = max(ends.get(read.site, 0), read.at + read.length)
-        blocked = {site: messages for site, messages in self.following.items()
-                   if messages and not self.is_wrong(messages[0])}
         # All that a site would have inserted whose next message is left out is left out with it.
-        further = dict(ends)
-        while gone := [site for site, messages in blocked.items() if self._builds_on(messages[0], ends, further)]:
-            for site in gone:
-                del blocked[site]
-                further[site] = 1 << 32
-        waiting = [one for site in blocked for one in self.held_up(site, entries)]
-        return len(waiting) + sum(len(entry.messages) for entry in at_hand)
+        left_out: set[int] = set()
+        while gone := {site for site in self._blocked() - left_out
+                       if self._builds_on(self.following[site][0], ends, left_out)}:
+            left_out |= gone
+        return left_out
+
+    def left_out(self, entries: list[Entry]) -> list[tuple[int, bytes, int, int]]:
+        """The site, author and seq of each message that doesn't count since a smaller hash holds in its place, or since it
+        builds on such, and for which no copy stands that counts; and how many characters it inserted."""
+        in_chains = {entry.hash for entry in chain.from_iterable(self.chains.values())}
+        known = {entry.hash: entry for entry in entries if entry.kind is not Kind.NEWER}
+        lost = [(entry, one) for entry in known.values() if entry.hash not in in_chains and entry.messages
+                and is_rooted(entry, known) and not self._has_just(entry.messages) and not is_said_anew(entry, known)
+                for one in entry.messages]
+        for site in self._blocked_by_what_was_left_out(entries):
+            held = self.held_up(site, entries)
+            lost += [(entry, one) for entry in self.chains[site] for one in entry.messages if one in held]
+        return sorted((one.site, entry.author, one.seq, reading(one.data).length) for entry, one in lost
+                      if not self._is_copied(entry, one, known))
+
+    def _has_just(self, messages: tuple[Message, ...]) -> bool:
+        """Whether an entry that counts has the same messages."""
+        return any(entry.messages == messages and set(messages) <= set(self.through[messages[0].site])
+                   for entry in self.chains.get(messages[0].site, []))
+
+    def _is_copied(self, entry: Entry, message: Message, known: Mapping[bytes, Entry]) -> bool:
+        """Whether a copy of a message of an entry counts: by the word of its author, or since it has all that was typed."""
+        others = b""
+        for one in known.values():
+            if one.kind is not Kind.COPIES or (one.copied.author, one.copied.site) != (entry.author, entry.site):
+                continue
+            is_authors = (one.author, one.site) == (entry.author, entry.site)
+            if is_authors and one.before != NO_HASH and entry.hash not in chained_to(one.before, known):
+                continue
+            for seq, by, count in one.copied.stretches:
+                found = self._counting(one.copied.by, one.copied.by_site, by + message.seq - seq)
+                if found and one.copied.last != NO_HASH and not any(
+                        found in known[of].messages for of in chained_to(one.copied.last, known) & self._hashes()):
+                    found = None
+                if seq <= message.seq < seq + count and (found or not by):
+                    if is_authors:
+                        return True
+                    others += typed(found) if found and by else b""
+        return bool(others) and others == typed(message)
+
+    def _hashes(self) -> set[bytes]:
+        """The hashes of the entries that hold."""
+        return {entry.hash for entry in chain.from_iterable(self.chains.values())}
+
+    def _counting(self, author: bytes, site: int, seq: int) -> Message | None:
+        """The message of an author, a site and a seq, if it counts."""
+        if site not in self.chains or self.chains[site][0].author != author:
+            return None
+        return next((one for one in self.through[site] if one.seq == seq), None)
 
     def held_up(self, site: int, entries: list[Entry]) -> list[Message]:
         """The messages of a site that aren't let through and aren't wrong, but those of which one of these entries says
@@ -190,14 +245,19 @@ class Answer:
         up_to = max([one.messages[-1].seq for one in chain if one.messages and one.hash in said], default=0)
         return [one for one in messages if one.seq > up_to]
 
-    def _builds_on(self, message: Message, ends: dict[int, int], further: dict[int, int]) -> bool:
-        """Whether a message builds on characters that were left out: they aren't there, or others are in their
-        place."""
+    def _builds_on(self, message: Message, ends: dict[int, int], left_out: set[int]) -> bool:
+        """Whether a message builds on characters that were left out: it lacks some of a site, of which it mentions what
+        was left out, or which is left out from here on; or others are in their place. What is held back for its stamp isn't
+        looked at further."""
+        if message.stamp > self.greatest + LEAP:
+            return False
         names = self._spoken_of(message)
-        if names <= self.stamps.keys():
+        lacking = {site for site, offset in names if (site, offset) not in self.stamps}
+        if not lacking:
             return not self._sees_the_same(message) and any(
                 offset < ends.get(site, 0) for site, offset in lasts(self.entry_of(message).messages))
-        return any((site, offset) not in self.stamps and offset < further.get(site, 0) for site, offset in names)
+        return any(site in left_out or min(offset for of, offset in names if of == site) < ends.get(site, 0)
+                   for site in lacking)
 
 
 def judged(entries: Iterable[Entry], prefers: Rank = rank) -> Answer:
@@ -240,9 +300,34 @@ def chain_of(known: Iterable[Entry], site: int, prefers: Rank) -> list[Entry]:
 
 def follows(entry: Entry, before: Entry) -> bool:
     """Whether an entry has the place after another one: of its site and author, with the seq that is next."""
-    return (entry.kind not in (Kind.CLAIM, Kind.NEWER) and entry.before == before.hash and entry.site == before.site
+    return (entry.kind not in (Kind.CLAIM, Kind.NEWER, Kind.COPIES) and entry.before == before.hash and entry.site == before.site
             and entry.author == before.author
             and entry.first == (before.messages[-1].seq if before.messages else 0) + 1)
+
+
+def is_said_anew(entry: Entry, known: Mapping[bytes, Entry]) -> bool:
+    """Whether its author says that it was made anew."""
+    return any(one.kind is Kind.ANEW and (one.site, one.author) == (entry.site, entry.author)
+               and entry.hash in chained_to(one.before, known) for one in known.values())
+
+
+def chained_to(of: bytes, known: Mapping[bytes, Entry]) -> set[bytes]:
+    """An entry, and those to which it is chained."""
+    found: set[bytes] = set()
+    while of in known and of not in found:
+        found.add(of)
+        of = known[of].before
+    return found
+
+
+def is_rooted(entry: Entry, known: Mapping[bytes, Entry]) -> bool:
+    """Whether each entry from a claim up to this one has the place after the one before it."""
+    while entry.kind is not Kind.CLAIM:
+        before = known.get(entry.before)
+        if before is None or not follows(entry, before):
+            return False
+        entry = before
+    return True
 
 
 def ended(entries: Iterable[Entry]) -> set[bytes]:
@@ -264,12 +349,12 @@ def ended(entries: Iterable[Entry]) -> set[bytes]:
 
 def loose(entries: Iterable[Entry]) -> list[Entry]:
     """The entries from which no walk to what came before them ends at a claim that is there. What says that something
-    was made anew waits for nothing, nor does what a newer version wrote."""
+    was made anew, or what stands for what, waits for nothing, nor does what a newer version wrote."""
     known = {entry.hash: entry for entry in entries}
     found = []
     for entry in known.values():
         at: Entry | None = entry
-        while at is not None and at.kind not in (Kind.CLAIM, Kind.ANEW, Kind.NEWER):
+        while at is not None and at.kind not in (Kind.CLAIM, Kind.ANEW, Kind.COPIES, Kind.NEWER):
             at = known.get(at.before)
         if at is None:
             found.append(entry)

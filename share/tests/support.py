@@ -15,8 +15,8 @@ from collections.abc import Callable
 from share import link as links
 from share import opening
 from share.disk import Disk
-from share.entry import Form, Plain, in_entries
-from share.judging import Judge
+from share.entry import Form, Kind, Plain, in_entries
+from share.judging import Judge, rank
 from share.log import START, Log, open_log
 from share.program import Program
 from share.reading import found_in, shown
@@ -278,6 +278,18 @@ def edit_at_random(note: Note, chance: random.Random) -> None:
         note.take_back()
 
 
+def take(person: Person, site: int) -> None:
+    """Has somebody with the link claim a number that another one has, so that the claim holds."""
+    with contextlib.closing(person.disk()) as disk:
+        form = disk.form
+        own = next(row.entry for row in disk.rows() if row.entry.kind is Kind.CLAIM and row.entry.site == site)
+    other = own
+    while not rank(other) < rank(own):
+        other = form.claim(site, form.new_author())
+    with contextlib.closing(person.log()) as log:
+        log.append([other.raw])
+
+
 def plain_text(messages) -> bytes:
     """What a plain site shows that takes in messages as they come."""
     program = Program(65_000)
@@ -294,6 +306,11 @@ def engine_of(data: pathlib.Path) -> int:
     found = re.findall(rf"FLOCK +ADVISORY +WRITE +(\d+) [0-9a-f]+:[0-9a-f]+:{lock} ",
                        pathlib.Path("/proc/locks").read_text(encoding="ascii"))
     return int(found[0])
+
+
+def alive(process: int) -> bool:
+    """Whether a process is there."""
+    return pathlib.Path(f"/proc/{process}").exists()
 
 
 def python() -> str:

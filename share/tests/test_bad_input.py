@@ -13,12 +13,14 @@ import threading
 import unittest
 from unittest import mock
 
+from share import reading
 from share.log import Unreachable
 from share.program import Ended, Program
 from share.sqlite_log import SqliteLog
 from share.tests.naive import inserting, newer
 from share.tests.servers import Hostile
 from share.tests.support import NOTE, TOP, Case, change, python, raws_of, type_at_the_end, wait_for, written
+from share.tests.test_logs import WITHOUT_END
 from share.words import NEWER
 
 SOMEBODY = 65_534
@@ -149,7 +151,7 @@ class BadInput(Case):
                     program.process.send_signal(signal.SIGSTOP)
                 if starves:
                     self.starve(program.process.pid)
-                with mock.patch("share.program.HANGS_SECONDS", 1), contextlib.nullcontext() if starves else (
+                with mock.patch("share.patience.MOST_SECONDS", 1), contextlib.nullcontext() if starves else (
                         self.assertRaises(Ended)):
                     self.assertEqual(program.text(), b"")
 
@@ -211,6 +213,18 @@ class BadInput(Case):
             self.assertEqual(note.session.status().unsent, 1)
         wait_for(lambda: not note.session.status().unsent, "the log to have room again")
         wait_for(lambda: not note.session.status().offline, "it to be said")
+
+    def test_a_log_and_a_file_that_have_no_end(self) -> None:
+        for path in self.file_log(), self.ann.path():
+            with contextlib.closing(sqlite3.connect(path)) as file:
+                file.executescript(f"ALTER TABLE entry RENAME TO before; {WITHOUT_END}")
+            if path == self.file_log():
+                run = self.note("cat", "note")
+                self.assertEqual((run.returncode, run.stdout), (3, "one two three "))
+                self.assertIn("The log can't be read", run.stderr)
+        with mock.patch("share.bounded.MOST_TIMES", 1):
+            found = reading.found_in(self.ann.path())
+        self.assertRegex(found.faults[0], "damaged .interrupted.")
 
     def test_an_entry_of_a_kind_that_a_later_version_has(self) -> None:
         with contextlib.closing(self.ann.disk()) as disk, contextlib.closing(self.ann.log()) as log:

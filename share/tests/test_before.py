@@ -1,6 +1,7 @@
 """Notes that the version before chunks kept are read, and gone on with. `data/notes_of_messages.tar.gz` has what that version
 wrote: the files of two people, whose editors were killed with edits that weren't sent, what their server kept, and the texts
 that they showed; `both` is what that version shows of all of it."""
+import contextlib
 import json
 import os
 import pathlib
@@ -10,11 +11,11 @@ import tarfile
 from unittest import mock
 
 from share import entry
-from share.disk import Row
-from share.entry import Bad, Kind
+from share.ledger import Row
+from share.entry import Bad, Copied, Kind
 from share.tests.note import Note
 from share.tests.servers import RedisServer
-from share.tests.support import Case, are_alike, raws_of, type_at_the_end, wait_for, written
+from share.tests.support import Case, are_alike, change, raws_of, type_at_the_end, wait_for, written
 from share.words import NEWER
 
 KEPT = pathlib.Path(__file__).parent / "data" / "notes_of_messages.tar.gz"
@@ -103,6 +104,32 @@ class AtVersionsOfBefore(Case):
         shutil.move(url, url + ".away")
         two = self.opened(self.person("bob"))
         self.assert_comes_to(two, b"in a chunk")
+
+    def test_copies_are_kept_and_carried(self) -> None:
+        url = self.file_log()
+        one = self.opened(self.person("ann"), url=url)
+        written(one, "right")
+        last = one.session.last()
+        copied = Copied(last.author, last.site, last.author, last.site, ((1, 0, 1),))
+        said = one.session._form.copies(copied, one.session._client.author, last.site, last.hash)
+
+        def carried() -> bool:
+            with contextlib.closing(self.person("ann").log()) as log:
+                return said.raw in raws_of(log)
+
+        with contextlib.closing(self.person("ann").log()) as log:
+            log.append([said.raw])
+        known = {number: kind for number, kind in entry.KINDS.items() if kind is not Kind.COPIES}
+        with mock.patch.object(entry, "KINDS", known):
+            two = self.opened(self.person("bob"), link=self.person("ann").link())
+            wait_for(lambda: (two.take_in(), two.notice)[1], "something to be told")
+            self.assertEqual((bytes(two.text), two.notice), (b"right", NEWER))
+            one.session.close()
+            change(pathlib.Path(url), "DELETE FROM entry")
+            wait_for(lambda: (two.take_in(), carried())[1], "it to be carried to the log that lost it")
+            two.session.close()
+        two = self.opened(self.person("bob"))
+        self.assertIn(Kind.COPIES, {row.entry.kind for row in two.session._holdings.rows.values()})
 
     def test_what_they_kept_unlooked_at_is_looked_at(self) -> None:
         url = self.file_log()

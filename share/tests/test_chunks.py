@@ -1,12 +1,14 @@
 """Chunks: a site's messages both ways, as the program packs and unpacks them; and what is no chunk."""
 import random
 import unittest
+from collections.abc import Iterable
 from unittest import mock
 
 from share.chunks import BEGIN, MOST_CHUNK, NoChunk, Writer, messages, of_message, packed, runs
 from share.entry import Author, Plain
+from share.ledger import Ledger, Line, Row
 from share.message import DELETE, Message
-from share.messages import Loose, Messages, Part
+from share.messages import Messages, Part
 from share.program import Program
 from share.tests.naive import about, inserting
 
@@ -140,12 +142,27 @@ def length_of(chunk: bytes) -> int:
     return numbers[-1]
 
 
+def line_of(parts: Iterable[list[Message]]) -> Line:
+    """The chain of the entries that have these messages of a site."""
+    form, author = Plain(bytes(16)), Author(b"sixteen bytes of", b"")
+    ledger = Ledger(form)
+    line = None
+    for part in parts:
+        if line is None:
+            line, made = Line(ledger, part[0].site), form.claim(part[0].site, author)
+            line.add(ledger.add(Row(0, made, False), 0))
+        made = form.entry(made, part, author)
+        line.add(ledger.add(Row(0, made, False), line.numbers[-1]))
+    assert line
+    return line
+
+
 class InARow(unittest.TestCase):
     """Messages that are kept as they came."""
 
     def setUp(self) -> None:
         self.plain = [*typed(1, 1, 0, b"abcdef"), *typed(2, 1, 0, b"gh"), *typed(1, 7, 6, b"ij")]
-        first = Part(Loose(6, tuple(self.plain[:6]), packed(self.plain[:6]) or b""), 0, 6)
+        first = Part(line_of([self.plain[:6]]), 0, 6)
         self.row = Messages(parts=[first._replace(end=2), first._replace(begin=2)])
         self.row += self.plain[6:]
 
@@ -175,11 +192,8 @@ class InARow(unittest.TestCase):
         self.assertEqual([*Messages().chunks()], [])
 
     def test_few_messages_are_handed_in_with_others(self) -> None:
-        form, author = Plain(bytes(16)), Author(b"sixteen bytes of", b"")
-        made, row, plain = form.claim(7, author), Messages(), typed(7, 1, 0, b"a\x0eb" * 3_000)
-        for message in plain:
-            made = form.entry(made, [message], author)
-            row.add(Part(made, 0, 1))
+        plain = typed(7, 1, 0, b"a\x0eb" * 3_000)
+        row = Messages(parts=[Part(line_of([message] for message in plain), 0, len(plain))])
         self.assertEqual([*row.chunks()], [(packed(plain), len(plain))])
 
 

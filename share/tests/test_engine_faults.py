@@ -2,6 +2,7 @@
 import json
 import os
 import random
+import signal
 import subprocess
 import time
 from concurrent.futures import ThreadPoolExecutor
@@ -11,6 +12,7 @@ from unittest import mock
 from share import link as links
 from share import opening, serving
 from share.carrying import Carrying
+from share.disk import Disk, Unkept
 from share.engine import Engine
 from share.history import in_units, Wrote
 from share.measured import Measured
@@ -22,6 +24,7 @@ from share.scripts import differences
 from share.session import Session
 from share.tests.editors import Engines
 from share.tests.support import NOTE, Case, type_at_the_end
+from share.tests.terminals import children
 from share.tests.waiting import PATIENCE, wait_for
 from share.units import UNITS
 
@@ -113,6 +116,20 @@ class Here(Case):
                          [("unkept", 1)])
         first.edit([(0, 0, "y")])
         self.shows("y")
+
+    def test_what_is_typed_behind_what_isnt_kept_stays_in_its_place(self) -> None:
+        (peer, first, _, asked), _ = self.editors
+        first.edit([(0, 0, "one past")])
+        self.meet()
+        # Between two words that begin alike.
+        first.edit([(4, 4, "plum ")])
+        first.edit([(9, 9, "new ")])
+        unkept, kept = asked[0], asked[1]
+        asked.clear()
+        with mock.patch.object(Disk, "keep", side_effect=Unkept("full")):
+            self.engine.take(peer, [unkept])
+        self.engine.take(peer, [kept])
+        self.shows("one new past")
 
     def test_halves_of_pairs_end_nothing(self) -> None:
         (_, first, _, asked), _ = self.editors
@@ -237,6 +254,27 @@ class Apart(Engines):
         done = subprocess.run(["script", "-qc", f"{NOTE} cat note --json", "/dev/null"], capture_output=True, timeout=120,
                               check=False, env={**os.environ, "VIALSHOAL_DATA": str(self.folder / "data")})
         self.assertIn(b"x\\u009b31m", done.stdout)
+
+    def test_a_program_that_stands_still_is_told_at_once_and_started_anew_soon(self) -> None:
+        first, second = self.editor(), self.editor()
+        first.type("tea ")
+        first.settle()
+        (program,) = children(self.engine())
+        os.kill(program, signal.SIGSTOP)
+        begin = time.monotonic()
+        first.type("jam ")
+        second.edit((0, 0, "now "))
+        troubles = second.wait_for(lambda: [one["trouble"] for one in second.notices("state") if "trouble" in one], "trouble")
+        told = time.monotonic() - begin
+        for editor in first, second:
+            self.assertNotIn("error", editor.settle())
+        self.assertEqual(self.alike(first, second), "now tea jam ")
+        answered = time.monotonic() - begin
+        self.assertIn("stands still", troubles[0])
+        self.assertLess(told, answered)
+        self.assertLess(answered, 15)
+        second.wait_for(lambda: "trouble" not in second.notices("state")[-1], "it to be told as it goes on")
+        self.assertNotIn(program, children(self.engine()))
 
     def test_an_editor_that_goes_while_another_opens(self) -> None:
         editors = [self.editor(opens=False) for _ in range(3)]

@@ -4,13 +4,15 @@ import random
 import unittest
 
 from share.chunks import BEGIN, MOST_CHUNK, number_of, packed
-from share.entry import GREATEST_SITE, HEAD, LENGTH, MOST_BYTES, NO_HASH, Author, Bad, Entry, Kind, Plain, body_of, in_entries
+from share.entry import (GREATEST_SITE, HEAD, LENGTH, MOST_BYTES, NO_HASH, Author, Bad, Copied, Entry, Kind, Plain, body_of,
+                         in_entries)
 from share.message import LONGEST_MESSAGE, MOST_RANGES, Message, is_spelled
 from share.tests.naive import CHANGE_LOOKS, DELETE, about, inserting
 
 NOTE = bytes(range(100, 116))
 FORM = Plain(NOTE)
-ANNE = Author(b"sixteen bytes of", b"")
+ANNE, BERTA = Author(b"sixteen bytes of", b""), Author(b"another sixteen ", b"")
+COPIED = Copied(ANNE.name, 7, BERTA.name, 9, ((1, 7, 2), (3, 0, 1), (4, 300, 1)), b"last" * 8)
 
 
 def closed(head: bytes, body: bytes) -> bytes:
@@ -53,8 +55,14 @@ def parts() -> list[tuple[Message, ...]]:
             (about(DELETE, 7, 5, 10, [(1, 0, 3)]),)]
 
 
+def copies_body(old: bytes = ANNE.name + b"\0\7", new: bytes = BERTA.name + b"\0\x09",
+                numbers: bytes = b"\1\7\2\3\0\1\4\xac\2\1") -> bytes:
+    """What an entry of copies has, by default that of the stretches."""
+    return old + new + b"last" * 8 + numbers
+
+
 def samples() -> list[Entry]:
-    """Entries of each kind, one after another; the last two are as versions of before wrote them."""
+    """Entries of each kind, one after another; the two before the last are as versions of before wrote them."""
     entries = [FORM.claim(7, ANNE), FORM.claim(GREATEST_SITE, ANNE)]
     one, two, three = parts()
     # What is typed second begins where what was typed first does.
@@ -63,14 +71,15 @@ def samples() -> list[Entry]:
     third = FORM.entry(second, three, ANNE, b"on" * 16, length=2)
     old = FORM.open(spelled(before=entries[0].hash, messages=one))
     older = FORM.open(spelled(kind=3, first=2, before=old.hash, count=3, body=b"on" * 16 + body_of(two)))
-    return [*entries, first, second, third, FORM.made_anew(third, ANNE), old, older]
+    copies = FORM.copies(COPIED, ANNE, 7, third.hash)
+    return [*entries, first, second, third, FORM.made_anew(third, ANNE), old, older, copies]
 
 
 class Spelling(unittest.TestCase):
     """An entry has one spelling, and what is spelled otherwise is none."""
 
     def test_the_bytes_are_those_of_the_table(self) -> None:
-        claim, _, first, second, third, anew, old, older = samples()
+        claim, _, first, second, third, anew, old, older, copies = samples()
         one, two, three = parts()
         self.assertEqual(claim.raw, spelled(kind=1, first=0, before=NO_HASH))
         self.assertEqual(first.raw, spelled(kind=5, before=claim.hash, count=1, body=chunk(*one)))
@@ -78,6 +87,7 @@ class Spelling(unittest.TestCase):
         self.assertEqual(third.raw, spelled(kind=6, first=5, before=second.hash, count=1,
                                             body=b"on" * 16 + chunk(*three, length=2)))
         self.assertEqual(anew.raw, spelled(kind=4, first=0, before=third.hash))
+        self.assertEqual(copies.raw, spelled(kind=7, first=0, before=third.hash, body=copies_body()))
         self.assertEqual(old.raw[74:76], len(old.messages[0].data).to_bytes(2, "big"))
         self.assertEqual(older.raw[74:106], b"on" * 16)
         self.assertEqual(first.raw[74:89], b"OTC1\0\1\x0f\7\1\1\0x" + first.raw[86:89])
@@ -89,8 +99,10 @@ class Spelling(unittest.TestCase):
             self.assertEqual(FORM.reopened(entry.raw, FORM.body(entry.raw), entry.hash), entry)
         self.assertEqual([(entry.kind, entry.first, entry.last) for entry in samples()],
                          [(Kind.CLAIM, 0, 0), (Kind.CLAIM, 0, 0), (Kind.CHUNK, 1, 1), (Kind.CHUNK, 2, 4),
-                          (Kind.CHUNK_BUILDING, 5, 5), (Kind.ANEW, 0, 0), (Kind.MESSAGES, 1, 1), (Kind.BUILDING, 2, 4)])
-        self.assertEqual([entry.messages for entry in samples()], [(), (), *parts(), (), *parts()[:2]])
+                          (Kind.CHUNK_BUILDING, 5, 5), (Kind.ANEW, 0, 0), (Kind.MESSAGES, 1, 1), (Kind.BUILDING, 2, 4),
+                          (Kind.COPIES, 0, 0)])
+        self.assertEqual([entry.messages for entry in samples()], [(), (), *parts(), (), *parts()[:2], ()])
+        self.assertEqual(samples()[-1].copied, COPIED)
         self.assertEqual({entry.author for entry in samples()}, {ANNE.name})
 
     def test_what_no_chunk_has_is_spelled_as_before(self) -> None:
@@ -115,7 +127,7 @@ class Spelling(unittest.TestCase):
                     FORM.open(bad)
 
     def test_kinds_that_only_a_newer_version_knows(self) -> None:
-        for kind in 0, 7, 255:
+        for kind in 0, 9, 255:
             for raw in (spelled(kind=kind), spelled(kind=kind, site=0, first=9, count=3, before=NO_HASH, body=b"\0"),
                         spelled(kind=kind, messages=typed(1))):
                 entry = FORM.open(raw)
@@ -149,7 +161,7 @@ class Wrong(unittest.TestCase):
         self.assert_bad("isn't spelled", spelled(form=0, messages=one))
         self.assert_bad("isn't spelled", spelled(form=2, messages=one))
         self.assert_bad("another note", spelled(note=bytes(16), messages=one))
-        for kind in 0, 7, 255:
+        for kind in 0, 9, 255:
             self.assert_bad("is damaged", spelled(kind=kind, messages=one)[:-1] + b"x")
         for site in 0, GREATEST_SITE + 1, 65_535:
             self.assert_bad("a site that can't be", spelled(kind=1, site=site, first=0, before=NO_HASH))
@@ -166,6 +178,40 @@ class Wrong(unittest.TestCase):
         for raw in (spelled(kind=4, first=1), spelled(kind=4, first=0, before=NO_HASH),
                     spelled(kind=4, first=0, messages=typed(1)), spelled(kind=4, messages=typed(1))):
             self.assert_bad("says of nothing", raw)
+
+    def test_copies(self) -> None:
+        for before in NO_HASH, b"b" * 32:
+            FORM.open(spelled(kind=7, first=0, before=before, body=copies_body()))
+        # Who made the copies may say it, too.
+        FORM.open(spelled(kind=7, first=0, site=9, author=BERTA.name, body=copies_body()))
+        for raw in spelled(kind=7, body=copies_body()), spelled(kind=7, first=0, count=1, body=copies_body()):
+            self.assert_bad("what can't be", raw)
+        for site, author in (7, BERTA), (9, ANNE), (8, ANNE):
+            self.assert_bad("of others", spelled(kind=7, first=0, site=site, author=author.name, body=copies_body()))
+        for new in 0, GREATEST_SITE + 1:
+            self.assert_bad("what can't be", spelled(kind=7, first=0, body=copies_body(
+                new=BERTA.name + new.to_bytes(2, "big"))))
+        for numbers in (b"", b"\1", b"\1\7", b"\1\7\2\3", b"\1\7\x82", b"\1\7\x82\0", b"\1\7" + b"\xff" * 7 + b"\1",
+                        b"\0\7\2", b"\1\7\0", b"\2\7" + number_of(2**32 - 1)):
+            self.assert_bad("say nothing", spelled(kind=7, first=0, body=copies_body(numbers=numbers)))
+        for end in range(len(copies_body()) - 10):
+            self.assert_bad("say nothing", spelled(kind=7, first=0, body=copies_body()[:end]))
+    def test_words_in_no_chain_have_no_place_in_one(self) -> None:
+        copied = Copied(ANNE.name, 7, bytes(16), 8, ((1, 2, 3), (9, 5, 300)))
+        for entry in FORM.copies(copied, ANNE, 7), FORM.copies(copied, Author(bytes(16), b""), 8), FORM.renewed("Ann", 7, ANNE):
+            self.assertEqual(FORM.open(entry.raw), entry)
+            self.assertEqual((entry.messages, entry.runs, entry.last), ((), (), 0))
+            body = entry.spelled
+            for raw in (spelled(kind=entry.kind, first=1, before=NO_HASH, body=body),
+                        spelled(kind=entry.kind, first=0, before=NO_HASH, count=1, body=body)):
+                self.assert_bad("what can't be", raw)
+        self.assert_bad("what can't be", spelled(kind=8, first=0, body=FORM.renewed("Ann", 7, ANNE).spelled))
+        self.assertEqual(FORM.open(FORM.copies(copied, ANNE, 7).raw).copied, copied)
+        self.assert_bad("of others", FORM.copies(copied, ANNE, 9).raw)
+        for body in b"", bytes(35), FORM.copies(copied, ANNE, 7).spelled[:-1], ANNE.name + b"\0\7" + bytes(16) + b"\0\x08":
+            self.assert_bad("nothing of copies", spelled(kind=7, first=0, before=NO_HASH, body=body))
+        self.assertEqual(len(FORM.renewed("é" * 300, 7, ANNE).spelled), 200)
+        self.assert_bad("what can't be", spelled(kind=8, first=0, before=NO_HASH, body=bytes(201)))
 
     def test_messages_of_another_place(self) -> None:
         self.assert_bad("no messages", spelled())
@@ -227,6 +273,8 @@ class Wrong(unittest.TestCase):
                 continue
             again = spelled(kind=found.kind, site=found.site, first=found.first, before=found.before,
                             author=found.author, messages=found.messages, body=found.body)
+            if found.kind is Kind.COPIES:
+                self.assertIn((found.author, found.site), (found.copied[:2], found.copied[2:4]))
             self.assertEqual(again, raw)
             if found.kind in (Kind.CHUNK, Kind.CHUNK_BUILDING):
                 # No other bytes are the chunk of these messages, but where the length stands that no insertion says.

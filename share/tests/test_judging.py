@@ -15,7 +15,8 @@ from typing import NamedTuple
 from hypothesis import HealthCheck, given, settings
 from hypothesis import strategies as st
 
-from share.entry import Author, Bad, Entry, Kind, Plain
+from share.backlog import Backlog
+from share.entry import NO_HASH, Author, Bad, Copied, Entry, Kind, Plain
 from share.judging import LEAP, Judge, Rank, rank
 from share.message import Message
 from share.program import Program
@@ -149,6 +150,20 @@ class History:
         # Only what is forged goes on from it.
         self._followed.add(said.hash)
 
+    def say_copied(self) -> None:
+        """Someone says that some messages stand for others: mostly their author, or that of the copies."""
+        some = [entry for entry in self.entries if entry.size]
+        if not some:
+            return
+        old, new = self._chance.choice(some), self._chance.choice(some)
+        stretches = ((old.first, self._chance.choice([0, *4 * [new.first]]), self._chance.choice([1, 1, 2, 5])),)
+        by, last = self._chance.choice([old, old, new]), self._chance.choice([NO_HASH, old.hash, self._chance.choice(some).hash])
+        by_last = self._chance.choice([NO_HASH, new.hash, self._chance.choice(some).hash])
+        said = FORM.copies(Copied(old.author, old.site, new.author, new.site, stretches, by_last), Author(by.author, b""), by.site,
+                           last)
+        self._add(said, self._ends[by.hash])
+        self._followed.add(said.hash)
+
     def be_newer(self) -> None:
         """A newer version writes what this one doesn't know, mostly as the last of a branch."""
         if (last := self._chance.choice([self._leaf, self._leaf, self._any])()) is not None:
@@ -222,14 +237,14 @@ class History:
         known = {entry.hash: entry for entry in self.entries}
         end, at = self._ends[branch.hash], branch
         seen = {(branch.site, offset): branch.hash for offset in range(end.length + 10)}
-        while at.kind is not Kind.CLAIM:
+        while at.kind not in (Kind.CLAIM, Kind.COPIES):
             seen |= {name: at.hash for message in at.messages for name in naive.reading(message.data).inserted()}
             at = known[at.before]
         self._seen = seen | self._seen
 
 
 # A step that does nothing stands first, so that what fails is told with few others.
-RIGHT = ["rest", "claim", "write", "write", "write", "write", "fork", "walk_up", "say_made_anew"]
+RIGHT = ["rest", "claim", "write", "write", "write", "write", "fork", "walk_up", "say_made_anew", "say_copied"]
 STEPS = RIGHT * 2 + ["leap", "put_wrong", "stamp_wrong", "mention_nobody", "build_wrong", "forge", "be_newer"]
 SEEDS = st.integers(0, 2**16 - 1)
 
@@ -267,6 +282,23 @@ def damaged(entry: Entry, chance: random.Random) -> bytes:
         bad = inserting(entry.site, entry.last + 1, 0, None, 0, b"x")
         return FORM.entry(entry, [bad], Author(entry.author, b"")).raw
     return bytes(raw)
+
+
+def with_room(entries: list[Entry], room: int | None, chance: random.Random) -> Judge:
+    """What has entries as they come, with room for some bytes of what doesn't count, and reads what was dropped again as
+    soon as it may have its turn."""
+    judge, backlog = Judge(room=room), Backlog()
+    for place, entry in enumerate(entries):
+        judge.add(entry, place)
+        backlog.add(judge.dropped())
+        if chance.random() < 0.5 or place == len(entries) - 1:
+            judge.count()
+            while turns := judge.turns():
+                for again in backlog.take(turns):
+                    judge.add(entries[again], again)
+                    backlog.add(judge.dropped())
+                judge.count()
+    return judge
 
 
 class Taker:
@@ -312,7 +344,7 @@ class Follower:
 
     def chains(self) -> set[bytes]:
         """The hashes of the entries that hold."""
-        known, found = self.judge.known, set()
+        known, found = {entry.hash: entry for entry in self.came}, set()
         for site in self.judge.claimed():
             entry = self.judge.last(site)
             found.add(entry.hash)
@@ -338,7 +370,15 @@ class Follower:
         case.assertEqual(set(naive.Replica().take(in_order)) - {b"taken 0 0"}, set())
         case.assertEqual(judge.loose(), naive.loose(self.came))
         case.assertEqual(sorted(judge.wrong()), sorted(answer.wrong()))
-        case.assertEqual(judge.incomplete(), answer.incomplete([*judge.known.values()]))
+        case.assertEqual(judge.incomplete(), answer.incomplete(self.came))
+        self._agrees_on_what_is_left_out(answer)
+
+    def _agrees_on_what_is_left_out(self, answer: naive.Answer) -> None:
+        found, wanted = self.judge.left_out(), answer.left_out(self.came)
+        self.case.assertEqual(sorted((one.site, one.author, seq) for one in found for seq in range(one.first, one.last + 1)),
+                              [one[:3] for one in wanted])
+        self.case.assertEqual((sum(one.messages for one in found), sum(one.characters for one in found)),
+                              (len(wanted), sum(length for *_, length in wanted)))
 
 
 class Editor:
@@ -487,6 +527,20 @@ class AnyOrder(unittest.TestCase):
         after.agrees(lambda entry: (entry.hash not in seen, naive.rank(entry)))
         self.assertLessEqual(seen, after.chains())
         self.assertLessEqual(set(before.judge.let_through_in_order()), set(after.judge.let_through_in_order()))
+
+    @tries(80)
+    @given(histories(), SEEDS)
+    def test_with_little_room_the_same_counts(self, history: History, seed: int) -> None:
+        whole = Judge(history.entries)
+        for order in range(4):
+            coming = [*history.entries]
+            random.Random(seed + order).shuffle(coming)
+            for room in 1, 40_000, None:
+                judge = with_room(coming, room, random.Random(seed))
+                self.assertEqual(sorted(judge.let_through_in_order()), sorted(whole.let_through_in_order()))
+                self.assertEqual([judge.holder(site) for site in SITES], [whole.holder(site) for site in SITES])
+                if room == 1:
+                    self.assertEqual(judge.loose(), [])
 
     @tries(80)
     @given(histories(), SEEDS)

@@ -5,12 +5,14 @@ nothing that was shown or said to be sent is lost, nothing is there twice, and a
 """
 import contextlib
 import os
+import pathlib
 import random
 import shutil
 import subprocess
 import threading
 import time
 
+from share.message import typed
 from share.tests.note import Note
 from share.tests.servers import RedisServer
 from share.tests.support import TOP, Case, Person, are_alike, python, type_at_the_end, wait_for, written
@@ -75,6 +77,8 @@ class Killed(Case):
         # The words that each life has typed, and may have typed.
         self.lives: list[Life] = []
         self.backups: list[tuple[Person, object]] = []
+        self.together: list[tuple[Person, list[pathlib.Path]]] = []
+        self.was_put_back_together = False
 
     def round(self, number: int) -> None:
         """Has some type and be killed, and perhaps the server with them."""
@@ -89,6 +93,17 @@ class Killed(Case):
             life.end()
             self.assertEqual(life.fault, "")
         self.lives += lives
+        self.copy(number)
+
+    def copy(self, number: int) -> None:
+        """Copies a folder of which edits perhaps wait to be sent, to go on with both or to be put back later."""
+        what = self.chance.randrange(4)
+        if what == 0 and len(self.people) < 6:
+            shutil.copytree(self.chance.choice(self.people).data, self.folder / f"u{number}")
+            self.people.append(self.person(f"u{number}"))
+        elif what == 1:
+            self.backups.append((person := self.chance.choice(self.people), self.folder / f"unsent{number}"))
+            shutil.copytree(person.data, self.folder / f"unsent{number}")
 
     def meet(self) -> bytes:
         """Has all people show the same; what they show."""
@@ -98,22 +113,38 @@ class Killed(Case):
             for note in notes:
                 type_at_the_end(note, "")
             try:
-                wait_for(lambda: are_alike(notes), "all to show the same, with all sent")
+                # What only others had of a history that was put back is made anew some seconds later.
+                wait_for(lambda: are_alike(notes) and self.is_whole(notes), "all to show the same, with all sent")
             except AssertionError as why:
+                self.assert_whole(bytes(notes[0].text), self.without_a_key(notes))
                 raise AssertionError("\n".join([str(why), *map(self.told_of, self.people, notes)])) from None
-            text = bytes(notes[0].text)
+            return bytes(notes[0].text)
         finally:
             for note in notes:
                 note.session.close()
-        self.assert_whole(text)
-        return text
 
     @staticmethod
     def told_of(person: Person, note: Note) -> str:
         """How a note is that doesn't come to be as the others."""
         return f"{person.data.name}: {note.session.status()}, {len(note.text)} bytes, hash {hash(bytes(note.text))}"
 
-    def assert_whole(self, text: bytes) -> None:
+    def is_whole(self, notes: list[Note]) -> bool:
+        """Whether each word that was typed is there once, and no other."""
+        with contextlib.suppress(AssertionError):
+            self.assert_whole(bytes(notes[0].text), self.without_a_key(notes))
+            return True
+        return False
+
+    def without_a_key(self, notes: list[Note]) -> set[str]:
+        """The words that were left out with what they build on, and that nobody can make anew: the only disk that had their
+        number's key was put back, together with the server, to before that was made."""
+        holdings = notes[0].session._holdings
+        keys = {who for note in notes for who in note.session._holdings.clients} if self.was_put_back_together else None
+        gone = {(one.site, one.author) for one in holdings.judge.left_out()} - keys if keys else set()
+        return {word for row in holdings.rows.values() if (row.entry.site, row.entry.author) in gone
+                for message in row.entry.messages for word in typed(message).decode().split()}
+
+    def assert_whole(self, text: bytes, gone: set[str]) -> None:
         """That each word that was typed is there once, and no other."""
         found: dict[str, int] = {}
         for word in text.decode().split():
@@ -123,14 +154,18 @@ class Killed(Case):
         for word in found.keys() - {"begin"}:
             tag, _, number = word.rpartition(".")
             numbers[tag].append(int(number))
+        for tag, _, number in (word.rpartition(".") for word in gone - found.keys() - {"begin"}):
+            numbers[tag].append(int(number))
         for life in self.lives:
             # The last word of a life may be on the disk, and not have been told any more.
             self.assertIn(sorted(numbers[life.tag]), [list(range(life.typed + 1)), list(range(life.typed + 2))], life.tag)
 
     def disturb(self, number: int) -> None:
         """Does to a server or a disk what people do. All have all at this moment."""
-        what = self.chance.randrange(6)
-        if what == 0:
+        what = self.chance.randrange(7)
+        if what == 6:
+            self.put_back_together(number)
+        elif what == 0:
             self.server.lose_all()
             self.server.start()
         elif what == 1:
@@ -158,6 +193,23 @@ class Killed(Case):
             copy = self.folder / f"backup{number}"
             shutil.copytree(person.data, copy)
             self.backups.append((person, copy))
+
+    def put_back_together(self, number: int) -> None:
+        """Puts a folder and the server back, together, to how they were at one moment; or copies both for that."""
+        self.server.kill()
+        if self.together:
+            self.was_put_back_together = True
+            person, copies = self.together.pop()
+            for folder, copy in zip((person.data, self.server.folder), copies):
+                shutil.rmtree(folder)
+                shutil.copytree(copy, folder)
+        else:
+            person = self.chance.choice(self.people)
+            copies = [self.folder / f"{kind}{number}" for kind in ("person", "server")]
+            for folder, copy in zip((person.data, self.server.folder), copies):
+                shutil.copytree(folder, copy)
+            self.together.append((person, copies))
+        self.server.start()
 
     def test_rounds(self) -> None:
         for number in range(ROUNDS):

@@ -18,14 +18,18 @@ import tracemalloc
 import unittest
 from collections.abc import Callable
 from contextlib import closing
+from unittest import mock
 
-from share.entry import MOST_BYTES
+from share.entry import MOST_BYTES, Plain
 from share.log import MOST_PRESENCE, PAGE, START, Log, Lost, Unreachable, open_log
 from share.sqlite_log import SqliteLog
 from share.tests.servers import RedisServer, free_port
 from share.words import Trouble
 
 NOTE, OTHER = bytes(range(16)), bytes(16)
+# Who reads it never comes to its end.
+WITHOUT_END = """CREATE VIEW entry AS WITH RECURSIVE more (place) AS (SELECT 1 UNION ALL SELECT place + 1 FROM more)
+                 SELECT place, NULL AS hash, x'00' AS raw, 0 AS mark FROM more"""
 TOP = pathlib.Path(__file__).resolve().parents[2]
 
 
@@ -158,6 +162,15 @@ class Shared:
             for thread in threads:
                 thread.join()
             self.assertEqual(sorted(filter(None, raws(self.log()))), [raw(number) for number in range(60)])
+
+        def test_the_sites_that_are_claimed(self) -> None:
+            log, form = self.log(), Plain(NOTE)
+            self.assertIn(log.claimed(), (set(), None))
+            author = form.new_author()
+            claims = [form.claim(site, author) for site in (7, 65_000, 7)]
+            log.append([b"", b"\1", raw(1), *(one.raw for one in claims), form.made_anew(claims[1], author).raw])
+            with mock.patch("share.redis_log.PART", 2):
+                self.assertIn(log.claimed(), ({7, 65_000}, None))
 
         def test_a_place_of_another_log_is_told(self) -> None:
             log = self.log()
@@ -394,6 +407,18 @@ class Files(Shared.Both):
                         other.meet(b"x", b"")
                 self.lost(log)
             self.closed_with(raw(1))
+
+    def test_views_without_end_end(self) -> None:
+        self.closed_with(raw(1))
+        with closing(self.opened()) as log, mock.patch("share.bounded.MOST_TIMES", 1):
+            self.file().executescript(f"ALTER TABLE entry RENAME TO before; {WITHOUT_END}")
+            for call in (lambda: raws(log), lambda: log.watch(START, 0), log.size):
+                with self.assertRaisesRegex(Unreachable, "interrupted"):
+                    call()
+        # Who opens it sees at once that it is no log.
+        with self.assertRaisesRegex(Lost, "lacks some of its tables.*kept as"):
+            self.opened()
+        self.closed_with(raw(1))
 
     def test_places_without_room_above_are_set_aside(self) -> None:
         self.closed_with(raw(1))

@@ -4,10 +4,15 @@ import contextlib
 import os
 import pathlib
 import shutil
+import signal
 import subprocess
+from collections.abc import Callable
 
+from share.tests.editors import Editor, Engines
 from share.tests.servers import RedisServer
-from share.tests.support import Case, change, raws_of, type_at_the_end, wait_for, written
+from share.tests.support import Case, alive, change, raws_of, type_at_the_end, wait_for, written
+
+PAGE = 4_096
 
 
 class InAFile(Case):
@@ -162,6 +167,119 @@ class OwnFile(Case):
                 again = person.open()
                 self.assertEqual(again.text, first.text)
                 again.session.close()
+
+
+def beside(path: pathlib.Path, end: str) -> pathlib.Path:
+    """What belongs to a note's file."""
+    return path.with_name(path.name + end)
+
+
+def cut(path: pathlib.Path, part: float = 0.0) -> None:
+    """Leaves the first part of a file."""
+    os.truncate(path, int(path.stat().st_size * part))
+
+
+def write_over(path: pathlib.Path, at: int, data: bytes) -> None:
+    """Changes some bytes of a file."""
+    file = os.open(path, os.O_RDWR)
+    try:
+        os.pwrite(file, data, at)
+    finally:
+        os.close(file)
+
+
+def middle(path: pathlib.Path) -> int:
+    """Where a page in the middle of a file begins."""
+    return path.stat().st_size // 2 // PAGE * PAGE
+
+
+def put_in_place(path: pathlib.Path) -> None:
+    """Gives another program's file the name."""
+    other = path.with_name("other")
+    other.write_bytes(b"words\n" * 5_000)
+    os.rename(other, path)
+
+
+DAMAGES: dict[str, Callable[[pathlib.Path], object]] = {
+    "emptied": cut,
+    "cut in half": lambda path: cut(path, 0.5),
+    "no header": lambda path: write_over(path, 0, bytes(16)),
+    "another application's": lambda path: write_over(path, 68, b"\1\2\3\4"),
+    "zeros over a page": lambda path: write_over(path, middle(path), bytes(PAGE)),
+    "one byte": lambda path: write_over(path, middle(path) + 1_000, b"\x55"),
+    "another file": put_in_place,
+    "other contents": lambda path: path.write_bytes(b"words\n" * 5_000),
+    "no log beside it": lambda path: beside(path, "-wal").unlink(),
+    "no index beside it": lambda path: beside(path, "-shm").unlink(),
+    "an empty log beside it": lambda path: cut(beside(path, "-wal")),
+    "half of a log beside it": lambda path: cut(beside(path, "-wal"), 0.5),
+    "another log beside it": lambda path: write_over(beside(path, "-wal"), 0, bytes(32)),
+    "zeros in the log beside it": lambda path: write_over(beside(path, "-wal"), beside(path, "-wal").stat().st_size // 2, bytes(99)),
+    "an empty index beside it": lambda path: cut(beside(path, "-shm")),
+}
+
+
+class SpoiltWhileOpen(Engines):
+    """A note's file, or what belongs to it, is damaged while an engine has it open."""
+
+    def begun(self, data: str, **more: str) -> Editor:
+        """An editor of a note of which something is in the file, and something in the log beside it."""
+        self.words = "".join(f"{number} {'x' * 3_000}\n" for number in range(20))
+        note = self.person(data).open(**more)
+        type_at_the_end(note, self.words)
+        note.session.close()
+        editor = self.editor(data)
+        editor.wait_for(lambda: any(state["types"] for state in editor.notices("state")), "a number")
+        self.type(editor, "begun ")
+        return editor
+
+    def type(self, editor: Editor, words: str) -> None:
+        """Types words, which are kept when this returns."""
+        editor.type(words)
+        self.assertNotIn("error", editor.settle())
+        self.words += words
+
+    def assert_kept(self, data: str, what: str) -> None:
+        """That the file alone has all that was typed."""
+        self.assertTrue(self.person(data).text().decode().replace("\r", "\n") == self.words, what)
+
+    def asides(self, data: str) -> int:
+        """How many damaged files there are."""
+        return len([*self.person(data).path().parent.glob("note.note.damaged-*[0-9]")])
+
+    def damaged_again_and_again(self, **more: str) -> None:
+        """That the user is told of each damage, the damaged file is kept, and all is there as soon as a key is answered."""
+        editor = self.begun("data", **more)
+        for number, (what, damage) in enumerate(DAMAGES.items(), 1):
+            damage(self.person().path())
+            self.type(editor, f"{number} ")
+            self.assert_kept("data", what)
+            editor.wait_for(lambda many=number: len(editor.notices("says")) >= many, f"{what} to be told")
+            self.assertRegex(editor.notices("says")[-1]["words"], "written anew. What was there is .*note.note.damaged-")
+            self.assertEqual(self.asides("data"), number, what)
+        editor.close()
+        self.assert_kept("data", "closed")
+
+    def test_a_private_note_is_written_anew(self) -> None:
+        self.damaged_again_and_again()
+
+    def test_a_shared_note_is_written_anew(self) -> None:
+        self.damaged_again_and_again(url=self.file_log())
+
+    def test_what_is_closed_or_killed_then_is_whole(self) -> None:
+        for what, is_killed in (("emptied", False), ("emptied", True), ("zeros over a page", False), ("no log beside it", True)):
+            with self.subTest(what=what, is_killed=is_killed):
+                data = f"{what} {is_killed}"
+                editor = self.begun(data)
+                engine = self.engine(data)
+                DAMAGES[what](self.person(data).path())
+                if is_killed:
+                    self.type(editor, "last ")
+                    os.kill(engine, signal.SIGKILL)
+                editor.close()
+                wait_for(lambda one=engine: not alive(one), "the engine to end")
+                self.assert_kept(data, what)
+                self.assertEqual(self.asides(data), 1)
 
 
 def flip(path: pathlib.Path) -> None:

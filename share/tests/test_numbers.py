@@ -9,13 +9,15 @@ from collections.abc import Sequence
 from unittest import mock
 
 from share.courier import Courier
-from share.disk import Client, Disk, Row
+from share.disk import Client, Disk
+from share.ledger import Row
 from share.entry import LENGTH, Entry, Form, Kind
 from share.judging import rank
 from share.log import Log
 from share.message import DELETE, Message
 from share.program import Program
 from share.session import Session
+from share.site import Edited, Site
 from share.sqlite_log import SqliteLog
 from share.tests.naive import about
 from share.tests.note import Note
@@ -342,6 +344,32 @@ class Numbers(Case):
         self.assertEqual(sorted(text.split()), sorted(b"one two three four other".split()))
         for person, link_of in (self.person("late"), link), (self.person("later"), link):
             self.assertEqual(self.assert_meet(self.opened(person, link=link_of), note), text)
+
+    def test_a_number_that_is_full(self) -> None:
+        for url in None, self.url:
+            person = self.person(f"person{bool(url)}")
+            note = self.opened(person, url=url)
+            with mock.patch.multiple("share.numbers", MOST_OF_A_SITE=1_000, ROOM=100, AGAIN_SECONDS=0):
+                for _ in range(3):
+                    before = note.session.number
+                    type_at_the_end(note, "x" * 950)
+                    self.assertEqual((note.session.number, note.notice), (before, ""))
+                    # By a log it takes until that has the claim.
+                    wait_for(lambda: (type_at_the_end(note, " more "), note.session.number)[1] != before, "another number")
+            self.assertEqual((note.text.count(b"x"), note.session.site.text()), (3 * 950, bytes(note.text)))
+            note.session.close()
+            self.assertEqual(person.text(), bytes(note.text))
+
+    def test_a_number_that_can_make_no_more_edits(self) -> None:
+        note = self.opened(self.person("person"))
+        written(note, "before ")
+        number = note.session.number
+        with mock.patch.object(Site, "insert", lambda *_: Edited([], 10)):
+            type_at_the_end(note, "refused ")
+        self.assertIn("refused (10)", note.notice)
+        written(note, "typed again")
+        self.assertNotEqual(note.session.number, number)
+        self.assertEqual(note.text, b"before typed again")
 
     def test_every_number_that_isnt_given_out_yet(self) -> None:
         link = self.begun()

@@ -173,6 +173,7 @@ class Moved(Opening):
         bob.open(link=ann.link()).session.close()
         notes = [self.opened(person, url=two.url) for person in (ann, bob)]
         written(notes[0], "two ")
+        self.assert_comes_to(notes[1], b"one two ")
         written(notes[1], "three ")
         self.assertEqual(self.assert_meet(*notes), b"one two three ")
 
@@ -309,10 +310,27 @@ class Recovered(Opening):
         ann = self.made("ann", self.file_log(), "one two ")
         shutil.rmtree(self.folder / "shared")
         bob = self.person("bob")
-        self.assert_ends(self.run_as(bob, "recover", str(ann.data)), "note: 1 messages of 1 sites")
+        run = self.run_as(bob, "recover", str(ann.data))
+        self.assert_ends(run, "note: 1 messages of 1 sites")
         self.assertEqual(bob.text(), b"one two ")
+        # Ann's file says where its log is, and nothing is made there because of that.
+        self.assertIn(f"Its log was the file {self.file_log()}, which isn't gone on with unless you name it", run.stdout)
+        note = bob.open()
+        type_at_the_end(note, "three ")
+        note.session.close()
+        self.assertFalse((self.folder / "shared").exists())
+        written(self.opened(bob, url=self.file_log()), "four ")
         self.assertEqual(bob.link(), ann.link())
-        written(self.opened(bob), "three ")
+        # One's own file is believed.
+        ann.path().rename(ann.path().with_name("note.note.damaged-1"))
+        self.assertNotIn("Its log was", self.run_as(ann, "recover", str(ann.data)).stdout)
+        self.assertEqual(bob.link(), ann.link())
+
+    def test_a_file_that_names_a_server(self) -> None:
+        server = self.redis()
+        ann, bob = self.made("ann", server.url), self.person("bob")
+        self.assert_ends(self.run_as(bob, "recover", str(ann.data)), "note: 1 messages of 1 sites")
+        self.assertEqual(bob.link(), ann.link())
 
     def test_several_damaged_folders(self) -> None:
         chance = random.Random(7)

@@ -14,7 +14,7 @@ import unittest
 
 from share.measured import swapped
 from share.tests.pages import Server
-from share.tests.support import NOTE, Case, Person, engine_of, type_at_the_end, wait_for
+from share.tests.support import NOTE, Case, Person, engine_of, take, type_at_the_end, wait_for, written
 
 try:
     from selenium.webdriver.common.keys import Keys
@@ -380,6 +380,16 @@ class Alone(Pages):
         wait_for(lambda: (other.take_in(), b"mine" in other.text and b"theirs" in other.text)[1], "both to meet")
         window.shows(swapped(bytes(other.text)).decode())
         window.state("all sent")
+
+    def test_it_says_what_is_left_out(self) -> None:
+        other = self.opened(self.person("other"), url=self.file_log())
+        written(other, "theirs\n")
+        window = self.window(self.server(VIALSHOAL_LINK=self.person("other").link()))
+        window.shows("theirs\n")
+        other.session.close()
+        take(self.person("other"), other.session.number)
+        window.state(f"all sent, left out: 7 of site {other.session.number}")
+        window.wait_for("document.getElementById('words').textContent.includes('bin/note recover --lost note')")
 
     def test_an_engine_that_ended_is_started_again(self) -> None:
         server = self.server()

@@ -6,16 +6,18 @@ import json
 import os
 import pathlib
 import pty
+import shutil
 import socket
 import stat
 import subprocess
 import threading
 import time
 import unittest
+from unittest import mock
 
-from share.courier import PRESENCE
 from share.disk import About
 from share.entry import MOST_BYTES, Author, Entry, Form
+from share.heard import OF_BEFORE
 from share.judging import rank
 from share.link import Link, read
 from share.message import DELETE, Message
@@ -25,6 +27,7 @@ from share.tests.servers import Hostile
 from share.tests.servers import RedisServer as Server
 from share.tests.support import (NOTE, TOP, Case, Person, python, raws_of, type_at_the_end, wait_for,
                                  written)
+from share.words import Trouble
 
 HUGE = 100_000_000
 # More than the 100 MB of one entry that must not be held.
@@ -168,7 +171,7 @@ class Operators(Shared):
         with contextlib.closing(self.ann.disk()) as disk:
             secrets = [one.author.secret[:32] for one in disk.clients()]
         unseen = [b"marzipan", b"marz", b"gooseberry", b"one ", b"OT\1", token + bytes(4), token + bytes(3),
-                  PRESENCE.pack(token, 0), key, key.hex().encode(), base64.urlsafe_b64encode(key)[:20], *secrets]
+                  OF_BEFORE.pack(token, 0), key, key.hex().encode(), base64.urlsafe_b64encode(key)[:20], *secrets]
         for one in unseen:
             for data in seen:
                 self.assertFalse(one in data, one)
@@ -328,6 +331,51 @@ class Peers(Shared):
         with contextlib.closing(self.ann.disk()) as disk:
             (author,) = [one.author for one in disk.clients() if one.site == site]
         return self.form.claim(site, author)
+
+
+    def test_claims_of_all_numbers_keep_a_newcomer_out(self) -> None:
+        numbers = range(1, 3)
+        with mock.patch("share.numbers.GREATEST_SITE", len(numbers)):
+            # Of many claims of each number the one that wins.
+            claims = [[self.form.claim(site, self.form.new_author()) for _ in range(3_000)] for site in numbers]
+            self.append(*(min(of_site, key=rank).raw for of_site in claims))
+            carol = self.opened(self.person("carol"), link=self.link)
+            self.assert_comes_to(carol, b"one two ")
+            wait_for(lambda: {*numbers} <= {*carol.session._holdings.judge.claimed()}, "the claims")
+            wait_for(lambda: (carol.take_in(), carol.session.status().trouble)[1], "it to be told")
+            self.assertRegex(carol.session.status().trouble, "numbers of this note are claimed")
+            self.assertFalse(carol.session.status().can_type)
+            written(self.note_of_ann, "more ")
+            self.assert_comes_to(carol, b"one two more ")
+            carol.session.close()
+            # Who comes again reads on, and who never had a number reads, too.
+            self.assert_comes_to(self.opened(self.person("carol")), b"one two more ")
+        self.assert_others_go_on(b"one two more ")
+
+
+class Groups(Case):
+    """What those can do who may write a log's folder."""
+
+    def test_a_plain_entry_in_anothers_name_counts(self) -> None:
+        ann, bob = self.together(self.file_log(), "ann", "bob")
+        written(ann, "one ")
+        self.assert_comes_to(bob, b"one ")
+        last = ann.session.last()
+        ann.session.close()
+        # All that it takes is what the log has.
+        with contextlib.closing(self.person("bob").log()) as log:
+            form = About(False, raws_of(log)[0][2:18]).form()
+            forged = form.entry(last, [insertion(last.site, last.last + 1, 9, 4, b"forged ")], Author(last.author, b""))
+            log.append([forged.raw])
+        self.assert_comes_to(bob, b"forged one ")
+
+    def test_who_removes_the_log_takes_nothing(self) -> None:
+        ann, bob = self.together(self.file_log(), "ann", "bob")
+        written(ann, "one ")
+        self.assert_comes_to(bob, b"one ")
+        shutil.rmtree(pathlib.Path(self.file_log()).parent)
+        written(bob, "two ")
+        self.assertEqual(self.assert_meet(ann, bob), b"one two ")
 
 
 class Accounts(Case):

@@ -1,10 +1,23 @@
 """Two people at two terminals: real ones, of tmux, with bin/note in each."""
 import os
+import shlex
 import signal
+from unittest import mock
 
+from share.program import command
 from share.tests.editors import Editor
-from share.tests.support import Case, wait_for
+from share.tests.support import Case, python, wait_for
 from share.tests.terminals import Terminal
+
+# The program, which works without an end as long as a file is there.
+HANGS = """
+import os, subprocess, sys
+program = subprocess.Popen(sys.argv[2:], stdin=subprocess.PIPE, bufsize=0)
+for line in sys.stdin.buffer:
+    while os.path.exists(sys.argv[1]):
+        pass
+    program.stdin.write(line)
+"""
 
 
 class Terminals(Case):
@@ -214,12 +227,12 @@ class Terminals(Case):
         self.assertEqual(self.note("diary", "--print").stdout, "abc")
 
     def test_a_program_that_hangs(self) -> None:
-        one, file = Terminal(self, "data", "diary"), self.folder / "saved.txt"
+        hangs, file = self.folder / "hangs", self.folder / "saved.txt"
+        with mock.patch.dict(os.environ, VIALSHOAL_PROGRAM=shlex.join([python(), "-c", HANGS, str(hangs), *command()])):
+            one = Terminal(self, "data", "diary")
         one.type("text")
         one.shows("text")
-        (program,) = one.programs()
-        os.kill(program, signal.SIGSTOP)
-        self.addCleanup(os.kill, program, signal.SIGKILL)
+        hangs.touch()
         one.type("more")
         one.sees("Waiting for 2 seconds")
         one.press("C-s", *["BSpace"] * len("diary.txt"))

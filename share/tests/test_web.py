@@ -15,7 +15,7 @@ import aiohttp
 
 from share.lines import MOST_LINE
 from share.tests.pages import Server, talking
-from share.tests.support import TOP, Case, Person, engine_of, wait_for
+from share.tests.support import TOP, Case, Person, engine_of, python, wait_for
 from share.web import guard
 from share.web.bridge import MOST_MESSAGE, NO_FIELDS, Assembler, refusal
 from share.web.opening import redirect
@@ -26,6 +26,24 @@ VECTORS = TOP / "share" / "tests" / "vectors.mjs"
 UPGRADE = ["Connection: Upgrade", "Upgrade: websocket", "Sec-WebSocket-Version: 13",
            "Sec-WebSocket-Key: AAAAAAAAAAAAAAAAAAAAAA=="]
 POLICY_VIOLATION, TOO_BIG = 1008, 1009
+# Opens connections without end, asks on each for the page or for the note, says nothing more and holds it; says how many
+# bytes it has got by hundreds of them.
+SILENT = """
+import itertools, socket, sys
+lines, got, host = [], 0, f"127.0.0.1:{sys.argv[1]}"
+asked = f"Host: {host}\\r\\nOrigin: http://{host}\\r\\nConnection: Upgrade\\r\\nUpgrade: websocket\\r\\n"
+asked += "Sec-WebSocket-Version: 13\\r\\nSec-WebSocket-Key: AAAAAAAAAAAAAAAAAAAAAA==\\r\\n\\r\\n"
+for number in itertools.count(1):
+    try:
+        lines.append(socket.create_connection(("127.0.0.1", int(sys.argv[1])), 10))
+        lines[-1].sendall(f"GET {('/', '/socket')[number % 2]} HTTP/1.1\\r\\n{asked}".encode()[:None if number % 3 else 0])
+        got += len(lines[-1].recv(9)) if number % 3 else 0
+    except OSError:
+        pass
+    del lines[:-400]
+    if number == 600:
+        print(got, flush=True)
+"""
 
 
 class Vectors(unittest.TestCase):
@@ -274,20 +292,35 @@ class Strangers(OneServer):
         async with talking(self.server) as talk:
             await talk.line(notice="welcome")
 
-    async def test_strangers_are_few(self) -> None:
-        held = []
+    async def test_strangers_are_few_and_keep_nobody_out(self) -> None:
+        held, talks = [], []
         try:
-            with self.assertRaises(aiohttp.WSServerHandshakeError) as refused:
-                for _ in range(100):
-                    held.append(talking(self.server, ""))
-                    await held[-1].__aenter__()
-            self.assertEqual(refused.exception.status, 503)
-            self.assertEqual(len(held), 17)
+            for _ in range(100):
+                held.append(talking(self.server, ""))
+                talks.append(await held[-1].__aenter__())
+            async with talking(self.server) as talk:
+                await talk.line(notice="welcome")
+            for talk in talks[:84]:
+                await talk.code()
+            self.assertFalse(any(talk.socket.closed for talk in talks[85:]))
         finally:
-            for one in held[:-1]:
+            for one in held:
                 await one.__aexit__(None, None, None)
-        async with talking(self.server) as talk:
-            await talk.line(notice="welcome")
+
+    @unittest.skipUnless(os.geteuid() == 0 and shutil.which("setpriv"), "root alone can be another account")
+    async def test_another_account_reaches_nothing_and_keeps_nobody_out(self) -> None:
+        words = ["setpriv", "--reuid=12345", "--clear-groups", python(), "-c", SILENT, str(self.server.port)]
+        with subprocess.Popen(words, stdout=subprocess.PIPE, text=True) as other:
+            try:
+                # What it was sent in all.
+                self.assertEqual(other.stdout.readline(), "0\n")
+                async with talking(self.server) as talk:
+                    await talk.line(notice="welcome")
+                self.assertIsNone(other.poll())
+                opened = len([*pathlib.Path(f"/proc/{self.server.process.pid}/fd").iterdir()])
+                self.assertLess(opened, 60)
+            finally:
+                other.kill()
 
 
 class Sockets(OneServer):

@@ -111,7 +111,8 @@ class HostileServers(Case):
     def calls(self, log: Log) -> list[Callable[[], object]]:
         """One of each call."""
         return [lambda: log.append([raw(1)]), lambda: log.read(START), lambda: log.read("7-1/3"), log.size,
-                lambda: log.watch(START, 0.01), lambda: log.meet(b"x", b"y"), lambda: log.leave(b"x")]
+                lambda: log.watch(START, 0.01), lambda: log.meet(b"x", b"y"), lambda: log.leave(b"x"),
+                log.claimed]
 
     def ends_in_words(self, answer: bytes, *which: int) -> None:
         """That each call gives something of its type, or what is told, and those of these numbers the latter."""
@@ -144,6 +145,8 @@ class HostileServers(Case):
         elif number == 5:
             assert isinstance(value, list)
             self.assertTrue(all(isinstance(one, bytes) for one in value))
+        elif number == 7:
+            self.assertIsInstance(value, set)
 
     def test_what_is_no_answer(self) -> None:
         for answer in (b"HTTP/1.1 400 Bad Request\r\n\r\n", b"\0\r\n", b"$x\r\n", b":1.5\r\n", b"*\r\n",
@@ -152,11 +155,11 @@ class HostileServers(Case):
                        b"-ERR \x1b[2J\x07 cleared" + b"x" * 5000 + b"\r\n", b"*1\r\n-ERR within\r\n",
                        b"-LOADING Redis is loading the dataset in memory\r\n", b"", b"\r\n"):
             # A watch ends where too much comes.
-            self.ends_in_words(answer, 0, 1, 2, 3, 5, 6)
+            self.ends_in_words(answer, 0, 1, 2, 3, 5, 6, 7)
 
     def test_answers_of_other_types(self) -> None:
         for answer in (b"$5\r\nhello\r\n", b"*0\r\n", b"*-1\r\n", b"$-1\r\n", b"+OK\r\n", b"*1\r\n:7\r\n"):
-            self.ends_in_words(answer, 1, 2, 3)
+            self.ends_in_words(answer, 1, 2, 3, 7)
 
     def reading(self, size: int, *entries: tuple[bytes, bytes | None], at_end: int = 1) -> bytes:
         """The answer to a reading."""

@@ -1,6 +1,6 @@
 // The page of a note: a connection to the note's engine, and what is shown of it.
 import { Client, Lines, pieces } from "./client.js";
-import { colourOf, paint, shownName } from "./people.js";
+import { colourOf, nameOf, paint, shownName } from "./people.js";
 import { Editor, paste } from "./editor.js";
 import { Keys } from "./keys.js";
 import { Past } from "./past.js";
@@ -14,15 +14,24 @@ const AGAIN_MS = 500;
 const WRONG_SECRET = 1008;
 const NO_ENGINE = 1011;
 const MOST_WORDS = 5;
+const MOST_LEFT_OUT = 3;
 
 const element = (id) => document.getElementById(id);
 
+/** How much of somebody's text is left out for good, in words. */
+function leftOutWords(line) {
+  return `${line.characters} of ${nameOf(line)}`;
+}
+
 /** The state of the log, in words. */
-function stateWords({ log, unsent, waiting, on, types }) {
+function stateWords({ log, unsent, waiting, on, types, read, of, left_out: leftOut = [], renewed }) {
   const edits = unsent === 1 ? "1 edit" : `${unsent} edits`;
   const kept = unsent ? `, ${edits} kept` : "";
   const words = { none: "kept here alone", sent: "all sent", sending: `${edits} to be sent`, away: `offline${kept}` };
-  const parts = [words[log] ?? log, on > 1 && `${on} on`, waiting && `${waiting} wait for others`, !types && "can't type yet"];
+  const parts = [words[log] ?? log, of && `${Math.floor((100 * read) / of)} % read`, on > 1 && `${on} on`,
+    waiting && `${waiting} wait for others`, !types && "can't type yet",
+    leftOut.length && `left out: ${leftOut.slice(0, MOST_LEFT_OUT).map(leftOutWords).join(", ")}${leftOut[MOST_LEFT_OUT] ? ", .." : ""}`,
+    renewed && `renewed by ${nameOf(renewed)}`];
   return parts.filter(Boolean).join(", ");
 }
 

@@ -1,16 +1,11 @@
 // The note's history: its text as it was, with colours of who wrote what.
-import { colourAt, pale, shownName } from "./people.js";
+import { colourAt, nameOf, pale } from "./people.js";
 import { OPTIONS } from "./editor.js";
 
 /* global CodeMirror */
 
 const DID = { typed: "typed", deleted: "deleted", restored: "restored", looked: "in other looks" };
 const element = (id) => document.getElementById(id);
-
-/** How one who wrote is called. */
-function nameOf({ name, own, site }) {
-  return shownName(name || (own ? "you" : `site ${site}`));
-}
 
 /** What a step did, in words. */
 function wordsOf(step, at, of) {

@@ -24,6 +24,11 @@ export function shownName(name) {
   return [...(name || "?")].slice(0, MOST_NAME).join("");
 }
 
+/** How one who wrote is called. */
+export function nameOf({ name, own, site }) {
+  return shownName(name || (own ? "you" : `site ${site}`));
+}
+
 /** Has an element be of a colour, with words on it that can be read. */
 export function paint(element, spelled) {
   const colour = colourOf(spelled);

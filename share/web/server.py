@@ -14,6 +14,7 @@ from aiohttp import WSCloseCode, WSMsgType, web
 from share.lines import written
 from share.web import guard
 from share.web.bridge import MOST_MESSAGE, bridged
+from share.web.loopback import BACKLOG, OwnSocket
 from share.words import Trouble
 
 HERE = pathlib.Path(__file__).absolute().parent
@@ -24,7 +25,7 @@ LIBRARY = ["lib/codemirror.js", "lib/codemirror.css", "addon/dialog/dialog.js", 
 TYPES = {".html": "text/html", ".js": "text/javascript", ".css": "text/css"}
 SOCKET = "/socket"
 Handler = Callable[[web.Request], Awaitable[web.StreamResponse]]
-# Who connects has so long to say the secret, and so many may be about to.
+# Who connects has so long to say the secret, and so many may be about to; one more takes the place of the first of them.
 SECRET_SECONDS, MOST_STRANGERS = 10, 16
 
 
@@ -48,7 +49,8 @@ class Page:
     command: Sequence[str]
     name: str
     open: "weakref.WeakSet[web.WebSocketResponse]" = field(default_factory=weakref.WeakSet)
-    strangers: int = 0
+    # Those who haven't said the secret yet, the first one first, and what they are reached by.
+    strangers: dict[web.WebSocketResponse, asyncio.Transport | None] = field(default_factory=dict)
 
     def application(self) -> web.Application:
         """What answers requests."""
@@ -74,22 +76,27 @@ class Page:
         await asyncio.gather(*(socket.close(code=WSCloseCode.GOING_AWAY) for socket in self.open))
 
     async def _connect(self, request: web.Request) -> web.StreamResponse:
-        if self.strangers >= MOST_STRANGERS:
-            raise web.HTTPServiceUnavailable(text="")
         socket = web.WebSocketResponse(max_msg_size=MOST_MESSAGE, compress=False)
-        self.strangers += 1
+        await socket.prepare(request)
+        self.strangers[socket] = request.transport
+        self._push_out()
         try:
-            await socket.prepare(request)
-            knows = await self._says_the_secret(socket)
+            if not await self._says_the_secret(socket):
+                await socket.close(code=WSCloseCode.POLICY_VIOLATION)
+                return socket
         finally:
-            self.strangers -= 1
-        if not knows:
-            await socket.close(code=WSCloseCode.POLICY_VIOLATION)
-            return socket
+            self.strangers.pop(socket, None)
         self.open.add(socket)
         await socket.send_str(written({"notice": "welcome", "name": self.name}).decode())
         await bridged(socket, self.command)
         return socket
+
+    def _push_out(self) -> None:
+        """Leaves room for whoever came last."""
+        while len(self.strangers) > MOST_STRANGERS:
+            first = next(iter(self.strangers))
+            if transport := self.strangers.pop(first):
+                transport.abort()
 
     async def _says_the_secret(self, socket: web.WebSocketResponse) -> bool:
         with contextlib.suppress(asyncio.TimeoutError):
@@ -105,10 +112,10 @@ def _handler(path: pathlib.Path) -> Handler:
 
 
 def listening() -> sockets.socket:
-    """A socket on a port of the loopback that nobody has."""
-    socket = sockets.socket(sockets.AF_INET, sockets.SOCK_STREAM)
+    """A socket on a port of the loopback that nobody has, for this account."""
+    socket = OwnSocket(sockets.AF_INET, sockets.SOCK_STREAM)
     socket.bind((guard.ADDRESS, 0))
-    socket.listen(64)
+    socket.listen(BACKLOG)
     socket.setblocking(False)
     return socket
 

@@ -88,6 +88,20 @@
       (should (string-prefix-p " Note:offline, 12 kept, 3 on, trouble: %%n %%["
                                (vialshoal--lighter))))))
 
+(ert-deftest vialshoal-test-the-mode-line-says-what-is-left-out ()
+  (vialshoal-support-with-note vialshoal-support--open
+    (vialshoal-support--take
+     :notice "state" :log "sent" :unsent 0 :on 1 :types t :waiting 0
+     :left_out [(:site 7 :own :false :name "A%da\e" :characters 14 :messages 1)
+                (:site 9 :own t :characters 3 :messages 2)
+                (:site 4 :own :false :characters 2 :messages 2)
+                (:site 5 :own :false :characters 1 :messages 1)]
+     :renewed '(:site 8 :own :false))
+    (cl-letf (((symbol-function 'process-live-p) (lambda (_) t)))
+      (should (equal (vialshoal--lighter)
+                     (concat " Note:sent, left out: 14 of A%%da, 3 of you, "
+                             "2 of site 4, .., renewed by site 8"))))))
+
 (ert-deftest vialshoal-test-point-and-region-stay ()
   (vialshoal-support-with-note (vialshoal-test--opened "one two three\n")
     (goto-char 5)

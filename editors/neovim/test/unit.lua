@@ -43,6 +43,21 @@ test('a status line shows what others wrote as it is', function()
   same('Note:offline, 12 kept, 3 on, trouble: %{system("x")} %#Error#', vim.api.nvim_eval_statusline(words, {}).str)
 end)
 
+test('a status line says what is left out', function()
+  local note = fake.with('tea')
+  note.job, note.state = 1, { log = 'sent', unsent = 0, on = 1, types = true, renewed = { site = 8, own = false }, left_out = {
+    { site = 7, own = false, name = 'A%da\27', characters = 14, messages = 1 },
+    { site = 9, own = true, characters = 3, messages = 2 },
+    { site = 4, own = false, characters = 2, messages = 2 },
+    { site = 5, own = false, characters = 1, messages = 1 },
+  } }
+  vialshoal.note = function() return note end
+  local words = vialshoal.statusline()
+  package.loaded['vialshoal'] = nil
+  vialshoal = require('vialshoal')
+  same('Note:sent, left out: 14 of A%%da, 3 of you, 2 of site 4, .., renewed by site 8', words)
+end)
+
 test('bytes that are of no character are replaced where they are typed', function()
   local note = fake.with('ab\ncd')
   vim.api.nvim_buf_set_text(note.buffer, 0, 1, 0, 1, { 'x\255y', 'z' })

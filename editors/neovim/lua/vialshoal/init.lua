@@ -385,11 +385,23 @@ local function state_words(note)
   end
   local words = state.log == 'away' and ('offline, %d kept'):format(state.unsent or 0)
     or state.log == 'sending' and 'sending' or state.log == 'sent' and 'sent' or 'kept'
+  if state.of then
+    words = ('%s, %d of %d read'):format(words, state.read, state.of)
+  end
   if (state.on or 1) > 1 then
     words = ('%s, %d on'):format(words, state.on)
   end
   if not state.types then
     words = words .. ", can't type yet"
+  end
+  if state.left_out then
+    local found = vim.tbl_map(function(one)
+      return ('%d of %s'):format(one.characters, history.author(one))
+    end, vim.list_slice(state.left_out, 1, 3))
+    words = words .. ', left out: ' .. table.concat(found, ', ') .. (#state.left_out > 3 and ', ..' or '')
+  end
+  if state.renewed then
+    words = words .. ', renewed by ' .. history.author(state.renewed)
   end
   if state.trouble then
     words = words .. ', trouble: ' .. text.name(state.trouble, 60)

@@ -1,0 +1,159 @@
+"""What a log is known to have of a note's file: a byte for each place of the file, behind one lock.
+
+A place that was read in the log is there. What the log was given counts as there until the log was read to its end
+without it. While the log is read again from its front, what it had before counts until that is done.
+"""
+import threading
+from collections.abc import Iterable
+
+# What is known of a place: it was read in the log; the log was given it; the log had it before it is read again; it has
+# an edit of this person; and it isn't to be given.
+READ, GIVEN, HAD, OWN, HELD_BACK = 1, 2, 4, 8, 16
+IN_LOG = READ | GIVEN | HAD
+_BEGUN = bytes(mark & OWN | (HAD if mark & IN_LOG else 0) for mark in range(256))
+_ENDED = bytes(mark & (OWN | READ | GIVEN) for mark in range(256))
+_LET_GO = bytes(mark & ~HELD_BACK for mark in range(256))
+
+
+class Carried:
+    """What a log has, for all threads that carry entries between it and this file."""
+
+    def __init__(self, file: tuple[int, int] | None):
+        # What tells the file from one that takes its name, whose places are others.
+        self.file = file
+        # How often the log was read whole, from its front to where its end was then.
+        self.whole = 0
+        # The last place of the file that was looked at, and the number of the last entry that was withdrawn by then.
+        self.looked = self.withdrawn = 0
+        self._lock = threading.Lock()
+        self._marks = bytearray()
+        # The places that the log was given and that weren't read there yet.
+        self._given: set[int] = set()
+        # No place before this one is lacking.
+        self._first = 1
+        self._unsent = 0
+
+    @property
+    def unsent(self) -> int:
+        """How many edits of this person the log isn't known to have."""
+        return self._unsent
+
+    def has(self, place: int) -> bool:
+        """Whether the log is known to have what is at a place."""
+        with self._lock:
+            return bool(self._of(place) & IN_LOG)
+
+    def was_read(self, place: int) -> bool:
+        """Whether what is at a place was read in the log, since that was last begun to be read from its front."""
+        with self._lock:
+            return bool(self._of(place) & READ)
+
+    def found(self, last: int, own: Iterable[int]) -> None:
+        """Takes over that the file was looked at up to a place, and where this person's edits are."""
+        with self._lock:
+            self._mark(own, OWN)
+            self._grow(last)
+            self.looked = max(self.looked, last)
+
+    def made(self, own: Iterable[int]) -> None:
+        """Takes over that this person made edits, which are at these places."""
+        with self._lock:
+            self._mark(own, OWN)
+
+    def took_back(self, number: int, places: Iterable[int]) -> None:
+        """Takes over which places were withdrawn, up to a number: nothing has to be sent of these."""
+        with self._lock:
+            self._unmark(places, OWN)
+            self.withdrawn = max(self.withdrawn, number)
+
+    def begin(self) -> None:
+        """The log is to be read from its front."""
+        with self._lock:
+            self._marks = self._marks.translate(_BEGUN)
+            self._given.clear()
+            self._first = 1
+
+    def read(self, places: Iterable[int]) -> None:
+        """These places were read in the log."""
+        with self._lock:
+            places = [*places]
+            self._mark(places, READ)
+            self._given.difference_update(places)
+
+    def end(self) -> list[int]:
+        """All that the log had as `begin` was called was read; the places that it had before and has no more."""
+        with self._lock:
+            missing = [place for place, mark in enumerate(self._marks) if mark & IN_LOG == HAD]
+            self._marks = self._marks.translate(_ENDED)
+            self._unsent = self._marks.count(OWN)
+            self._first = 1
+            self.whole += 1
+        return missing
+
+    def gave(self, places: Iterable[int]) -> None:
+        """The log was given these places, and has said that it has them."""
+        with self._lock:
+            places = [place for place in places if not self._of(place) & READ]
+            self._mark(places, GIVEN)
+            self._given.update(places)
+
+    def given(self) -> frozenset[int]:
+        """What the log was given and wasn't read there yet."""
+        with self._lock:
+            return frozenset(self._given)
+
+    def many_given(self) -> int:
+        """How much the log was given and wasn't read there yet."""
+        return len(self._given)
+
+    def came_to_end(self, given: frozenset[int]) -> int:
+        """The log was read to its end, and had been given this before. What wasn't read there it has lost, isn't known to
+        have any more, and isn't to be given until `lets_go` is called; how many places these are."""
+        with self._lock:
+            lost = given & self._given
+            self._given -= lost
+            self._mark(lost, HELD_BACK)
+            self._unmark(lost, GIVEN)
+            return len(lost)
+
+    def lets_go(self) -> None:
+        """What is held back is lacking again."""
+        with self._lock:
+            self._marks = self._marks.translate(_LET_GO)
+            self._first = 1
+
+    def next_lacking(self) -> int | None:
+        """The first place that was looked at, that the log isn't known to have, and that isn't held back."""
+        with self._lock:
+            found = [place for mark in (0, OWN) if (place := self._marks.find(mark, self._first)) >= 0]
+            self._first = min(found, default=len(self._marks))
+            return self._first if self._first <= self.looked else None
+
+    def is_given(self) -> bool:
+        """Whether the log was read whole, and is known to have all that it is to have of what was looked at."""
+        return self.whole > 0 and self.next_lacking() is None
+
+    def holds_back(self, places: Iterable[int]) -> None:
+        """These places aren't to be given, or have nothing."""
+        with self._lock:
+            self._mark(places, HELD_BACK)
+
+    def _of(self, place: int) -> int:
+        return self._marks[place] if place < len(self._marks) else 0
+
+    def _grow(self, last: int) -> None:
+        self._marks.extend(bytes(max(0, last + 1 - len(self._marks))))
+
+    def _mark(self, places: Iterable[int], bit: int) -> None:
+        for place in places:
+            self._grow(place)
+            self._change(place, self._marks[place] | bit)
+
+    def _unmark(self, places: Iterable[int], bit: int) -> None:
+        for place in places:
+            if place < len(self._marks):
+                self._change(place, self._marks[place] & ~bit)
+
+    def _change(self, place: int, mark: int) -> None:
+        self._unsent += (mark & ~HELD_BACK == OWN) - (self._marks[place] & ~HELD_BACK == OWN)
+        self._marks[place] = mark

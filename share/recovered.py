@@ -1,0 +1,77 @@
+"""What somebody has typed again of others' text that was left out, as entries of copies say it: where it is there twice, who
+made the copy that isn't to stay hides it.
+
+Of a message and all that stands for it the message itself stays, else what its author made anew, else of those copies
+that have its bytes the one of the least site and seq.
+"""
+from collections.abc import Callable, Iterator
+from typing import NamedTuple
+
+from share.entry import Copy, Entry, Kind
+from share.judging import Judge
+from share.message import typed
+
+Who = tuple[int, bytes]
+# Somebody with the link could speak of copies without end: of an author's messages so much is looked at.
+MOST_SAID = 1_000
+
+
+class _Said(NamedTuple):
+    """Messages of an author from a seq on, how many they are, and the first of those that were typed for them."""
+
+    seq: int
+    size: int
+    by: Copy
+    own: bool
+
+    def copy(self, seq: int) -> Copy | None:
+        """What was typed for the message of a seq."""
+        return self.by._replace(seq=self.by.seq + seq - self.seq) if self.seq <= seq < self.seq + self.size else None
+
+
+class Recovered:
+    """What entries say that speak of copies that their authors made of others' messages."""
+
+    def __init__(self) -> None:
+        # By whose messages they stand for; and those of which a copy was made here.
+        self._said: dict[Who, list[_Said]] = {}
+        self._own: set[Who] = set()
+
+    def add(self, entry: Entry, own: bool) -> None:
+        """Adds what an entry says; whether it was made here."""
+        if entry.kind is not Kind.COPIES:
+            return
+        copied = entry.copied
+        whose = copied.site, copied.author
+        if (entry.site, entry.author) == (copied.by_site, copied.by) != whose:
+            said = self._said.setdefault(whose, [])
+            if own or len(said) < MOST_SAID:
+                said.extend(_Said(seq, size, Copy(copied.by, copied.by_site, by), own) for seq, by, size in copied.stretches if by)
+            if own:
+                self._own.add(whose)
+
+    def fronts(self, counts_up_to: Callable[[bytes, int], int]) -> list[int]:
+        """What is to be looked at again where it changes: how far those count that were typed again here, and all that was
+        said of them."""
+        return [number for whose in sorted(self._own) for number in (
+            counts_up_to(whose[1], whose[0]), len(self._said[whose]),
+            *(min(counts_up_to(one.by.author, one.by.site), one.by.seq + one.size - 1) for one in self._said[whose]))]
+
+    def made_here(self, judge: Judge) -> Iterator[tuple[Copy, bool]]:
+        """What was typed again here and counts, and whether each message of it is to be hidden."""
+        for whose in sorted(self._own):
+            for one in self._said[whose]:
+                for seq in range(one.seq, one.seq + one.size) if one.own else ():
+                    copy = one.copy(seq)
+                    if copy and judge.message_counts(*copy):
+                        yield copy, self._gives_way(judge, whose, seq, copy)
+
+    def _gives_way(self, judge: Judge, whose: Who, seq: int, copy: Copy) -> bool:
+        """Whether something else stays that stands for a message."""
+        site, author = whose
+        data = typed(judge.message(copy.site, copy.seq))
+        if any(judge.message_counts(*one) for one in judge.copies_of(author, site, seq)):
+            return True
+        others = [Copy(author, site, seq)]
+        others += [other for one in self._said[whose] if (other := one.copy(seq)) and (other.site, other.seq) < (copy.site, copy.seq)]
+        return any(judge.message_counts(*other) and typed(judge.message(other.site, other.seq)) == data for other in others)

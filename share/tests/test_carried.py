@@ -1,0 +1,216 @@
+"""What a log has is known by one owner: what it loses is given again, whenever it loses it, and what was dropped or
+withdrawn here is kept again."""
+import contextlib
+import pathlib
+import random
+import threading
+import unittest
+from unittest import mock
+
+from share.carried import Carried
+from share.sqlite_log import SqliteLog
+from share.tests.support import Case, change, raws_of, type_at_the_end, wait_for, written
+
+SOON = 20
+
+
+class Marks(unittest.TestCase):
+    """The marks of places, beside plain sets."""
+
+    def test_marks_are_what_sets_say(self) -> None:
+        chance = random.Random(5)
+        for _ in range(50):
+            carried, own = Carried(None), set(chance.sample(range(1, 60), 20))
+            read, given, had = set[int](), set[int](), set[int]()
+            carried.found(60, own)
+            for _ in range(30):
+                some = set(chance.sample(range(1, 60), chance.randint(0, 12)))
+                match chance.randrange(5):
+                    case 0:
+                        had, read, given = had | read | given, set(), set()
+                        carried.begin()
+                    case 1:
+                        read, given = read | some, given - some
+                        carried.read(some)
+                    case 2:
+                        given |= some - read
+                        carried.gave(some)
+                    case 3:
+                        lost = some & given
+                        self.assertEqual(carried.came_to_end(frozenset(some)), len(lost))
+                        given -= lost
+                    case 4:
+                        self.assertEqual(set(carried.end()), had - read - given)
+                        had = set()
+                there = read | given | had
+                self.assertEqual({place for place in range(61) if carried.has(place)}, there)
+                self.assertEqual({place for place in range(61) if carried.was_read(place)}, read)
+                self.assertEqual(carried.given(), given)
+                self.assertEqual(carried.unsent, len(own - there))
+
+    def test_what_is_held_back_is_no_more_lacking(self) -> None:
+        carried = Carried(None)
+        carried.found(9, [2, 5])
+        carried.read([1, 3, 4])
+        found = []
+        while (place := carried.next_lacking()) is not None:
+            found.append(place)
+            carried.holds_back([place])
+        self.assertEqual((found, carried.unsent), ([2, 5, 6, 7, 8, 9], 2))
+        carried.end()
+        self.assertEqual((carried.next_lacking(), carried.unsent), (2, 2))
+        carried.gave([2])
+        carried.holds_back([5, 6, 7, 8])
+        self.assertEqual((carried.next_lacking(), carried.unsent), (9, 1))
+        self.assertEqual(carried.came_to_end(carried.given()), 1)
+        self.assertEqual((carried.next_lacking(), carried.unsent), (9, 2))
+        carried.lets_go()
+        self.assertEqual((carried.next_lacking(), carried.unsent), (2, 2))
+        carried.took_back(1, [2])
+        self.assertEqual(carried.unsent, 1)
+
+    def test_a_million_entries_take_a_byte_each(self) -> None:
+        carried = Carried(None)
+        carried.found(1_000_000, [])
+        carried.read(range(1, 1_000_001))
+        carried.begin()
+        self.assertEqual(len(carried._marks), 1_000_001)
+        self.assertFalse(carried.given())
+
+
+class Lost(Case):
+    """A log in a file loses entries in the moment in which it is given some."""
+
+    def setUp(self) -> None:
+        super().setUp()
+        self.path = pathlib.Path(self.file_log())
+        self.anna = self.person("anna")
+
+    def assert_log_is_full(self) -> None:
+        """That the log has all that is on Anna's disk, soon."""
+        with contextlib.closing(self.anna.disk()) as disk:
+            held = {row.entry.raw for row in disk.rows()}
+        with contextlib.closing(self.anna.log()) as log:
+            wait_for(lambda: held <= {*raws_of(log)}, "the log to be filled again", SOON)
+
+    def test_what_is_lost_while_it_is_given(self) -> None:
+        note, append, done = self.opened(self.anna, url=str(self.path)), SqliteLog.append, list[int]()
+        written(note, "one ")
+        courier = note.session._courier
+
+        def appended(log: SqliteLog, raws) -> None:
+            append(log, raws)
+            if not done:
+                # Who reads the log sees that, and begins anew, before it is known here what was given.
+                done.append(courier.reading())
+                change(self.path, "DELETE FROM entry")
+                wait_for(lambda: courier.reading() > done[0], "the loss to be seen", SOON)
+
+        with mock.patch.object(SqliteLog, "append", appended):
+            type_at_the_end(note, "two ")
+            wait_for(lambda: done, "an entry to be given")
+            self.assert_log_is_full()
+        wait_for(lambda: not note.session.status().unsent, "all to be sent")
+
+    def test_a_new_log_that_loses_all_before_it_was_read(self) -> None:
+        append, read, one_at_a_time, done = SqliteLog.append, SqliteLog.read, threading.Lock(), list[int]()
+
+        def appended(log: SqliteLog, raws) -> None:
+            with one_at_a_time:
+                append(log, raws)
+                if not done:
+                    done.append(len(raws))
+                    change(self.path, "DELETE FROM entry")
+
+        def read_between(log: SqliteLog, after: str):
+            with one_at_a_time:
+                return read(log, after)
+
+        with mock.patch.object(SqliteLog, "append", appended), mock.patch.object(SqliteLog, "read", read_between):
+            note = self.opened(self.anna, url=str(self.path))
+            wait_for(lambda: done, "an entry to be given")
+            self.assert_log_is_full()
+        note.take_in()
+        self.assertRegex(note.notice, "The log has lost 1 entry that it had. It is filled again from here")
+
+    def test_a_log_that_keeps_losing_an_entry_gets_the_others(self) -> None:
+        note, append, lost = self.opened(self.anna, url=str(self.path)), SqliteLog.append, list[bytes]()
+        written(note, "one ")
+
+        def appended(log: SqliteLog, raws) -> None:
+            if not lost:
+                lost.append(raws[0])
+            append(log, [raw for raw in raws if raw != lost[0]])
+            tries.append(lost[0] in raws)
+
+        tries = list[bool]()
+        with mock.patch.object(SqliteLog, "append", appended):
+            type_at_the_end(note, "two ")
+            wait_for(lambda: lost, "an entry to be lost")
+            for number in range(5):
+                type_at_the_end(note, f"{number} ")
+                last = note.session.last()
+                with contextlib.closing(self.anna.log()) as log:
+                    wait_for(lambda: last.raw in raws_of(log), "an entry to be given", SOON)
+            wait_for(lambda: note.session.status().unsent == 1, "all but one to be sent")
+        # Each pause before that one is given again is twice as long.
+        self.assertLess(sum(tries), 12)
+        self.assert_log_is_full()
+
+    def test_what_was_withdrawn_is_kept_where_the_log_has_it(self) -> None:
+        note, append = self.opened(self.anna, url=str(self.path)), SqliteLog.append
+        written(note, "one ")
+        with mock.patch.object(SqliteLog, "append", lambda *_: None), contextlib.closing(self.anna.disk()) as disk:
+            with mock.patch.object(disk.__class__, "offer", lambda *_: []):
+                type_at_the_end(note, "two ")
+                last = note.session.last()
+                others = [disk.form.claim(site, disk.form.new_author()) for site in (7, 8)]
+                with contextlib.closing(self.anna.log()) as log:
+                    for one in others:
+                        append(log, [one.raw])
+                        wait_for(lambda of=one.hash: of in {place.hash for place in disk.places()}, "it to come")
+                    self.assertEqual(disk.withdraw([last.hash]), [last.hash])
+                    # A copy of this folder has sent it.
+                    append(log, [last.raw])
+                wait_for(lambda: not disk.withdrawn(), "it to be kept again", SOON)
+                self.assertIn(last.hash, {place.hash for place in disk.places()})
+
+    def test_what_a_copy_has_sent_is_not_withdrawn(self) -> None:
+        note = self.opened(self.anna, url=str(self.path))
+        written(note, "one ")
+        note.session.close()
+        with contextlib.closing(self.anna.disk()) as disk:
+            change(self.anna.path(), "UPDATE entry SET offered = 0")
+            hashes = [row.entry.hash for row in disk.rows() if row.made]
+            held = disk.in_log(hashes[:1])
+            self.assertEqual([*held], hashes[:1])
+            self.assertEqual(disk.withdraw(hashes), hashes[1:])
+            self.assertEqual(disk.places_of(hashes), held)
+
+
+class Gaps(Case):
+    """More entries than are kept lack one before them."""
+
+    def test_what_was_dropped_comes_once_the_gap_is_filled(self) -> None:
+        path = pathlib.Path(self.file_log())
+        anna, words = self.opened(self.person("anna"), url=str(path)), [f"{number:03} " for number in range(60)]
+        for one in words:
+            type_at_the_end(anna, one)
+        wait_for(lambda: not anna.session.status().unsent, "all to be sent")
+        link = self.person("anna").link()
+        anna.session.close()
+        # One damaged entry, and its author is off.
+        change(path, "PRAGMA wal_checkpoint(TRUNCATE)")
+        data = path.read_bytes()
+        path.write_bytes(data.replace(b"007 ", b"00x "))
+        with mock.patch("share.holdings.ROOM", 40_000), mock.patch("share.sqlite_log.PAGE", 8):
+            berta = self.opened(self.person("berta"), link=link)
+            wait_for(lambda: (berta.take_in(), berta.session._holdings.waiting_for_room())[1], "entries to be dropped")
+            self.assertEqual(berta.text.decode(), "".join(words[:7]))
+            anna = self.opened(self.person("anna"))
+            wait_for(lambda: (berta.take_in(), berta.text.decode() == "".join(words))[1], "all to be shown", SOON)
+            self.assert_meet(anna, berta)
+
+
+if __name__ == "__main__":
+    unittest.main()

@@ -1,0 +1,231 @@
+"""What is said of who is on, of cursors and of lacking entries: what was said before is nothing, whoever says it again."""
+import contextlib
+import pathlib
+import secrets
+import time
+import unittest
+from unittest import mock
+
+from share import heard, presence
+from share.courier import Courier
+from share.heard import OF_BEFORE, Heard, Lack, Others, Said, Voices, Way
+from share.log import MOST_PRESENCE, ON_SECONDS
+from share.presence import Present, Shows
+from share.redis_log import RedisLog
+from share.redis_wire import Wire
+from share.sealing import NONCE_BYTES, TAG_BYTES
+from share.tests.support import Case, change, type_at_the_end, wait_for, written
+
+SOON = 20
+ME, OTHER = heard.new_token(), heard.new_token()
+LACK = Lack(Way.IT, bytes(range(32)))
+
+
+def said(number: int, asks: int, *lacks: Lack, token: bytes = OTHER) -> bytes:
+    """What a courier says."""
+    return heard.written(Said(token, number, asks, lacks))
+
+
+class Words(unittest.TestCase):
+    """What is said, and what comes of it."""
+
+    def test_what_is_written_is_read(self) -> None:
+        one = Said(OTHER, 7, 3, [LACK, Lack(Way.AFTER, bytes(32))])
+        self.assertEqual(heard.read(heard.written(one)), one)
+        many = heard.written(one._replace(lacks=[LACK] * 20))
+        self.assertEqual(len(many), len(heard.written(one)))
+        self.assertEqual(len(many) + NONCE_BYTES + TAG_BYTES, MOST_PRESENCE)
+        # Versions of before pass it over: it isn't their own word, nor a cursor.
+        self.assertNotEqual(len(many), OF_BEFORE.size)
+        self.assertIsNone(presence.read(many))
+        for wrong in b"", many[1:], many + b"\0":
+            self.assertIsNone(heard.read(wrong))
+        self.assertEqual(heard.read(bytes([255]) * heard.BYTES), Said(b"\xff" * 16, 2**32 - 1, 2**32 - 1, []))
+
+    def test_only_what_is_greater_is_heard(self) -> None:
+        voices = Voices()
+        self.assertEqual([voices.hears(OTHER, count) for count in (5, 5, 4, 6, 5, 6, 9)],
+                         [Heard.FIRST, Heard.NOTHING, Heard.NOTHING, Heard.MORE, Heard.NOTHING, Heard.NOTHING, Heard.MORE])
+        self.assertFalse(voices.is_on(ME))
+        with mock.patch("share.heard.MOST_TOKENS", 3):
+            for number in range(3):
+                voices.hears(bytes([number]), 1)
+            self.assertEqual(voices.hears(bytes([2]), 1), Heard.NOTHING)
+            self.assertEqual(voices.hears(OTHER, 9), Heard.FIRST)
+
+    def test_asks_are_heard_once(self) -> None:
+        others = Others(ME)
+        self.assertEqual(others.heard([said(3, 2, LACK)]), ([], False))
+        self.assertEqual(others.heard([said(4, 2, LACK), said(1, 1, token=ME)]), ([], False))
+        self.assertEqual(others.heard([said(5, 3, LACK), said(3, 2, LACK)]), ([LACK], False))
+        for again in [said(5, 3, LACK)], [said(3, 2, LACK)], [], [said(4, 4, LACK)], [said(5, 3, LACK)] * 3:
+            self.assertEqual(others.heard(again), ([], False))
+
+    def test_who_says_nothing_new_is_off(self) -> None:
+        others, now = Others(ME), time.monotonic()
+        with mock.patch("share.heard.time.monotonic", lambda: now):
+            others.heard([said(3, 0), said(1, 0, token=ME)])
+            self.assertEqual(others.on, 2)
+        with mock.patch("share.heard.time.monotonic", lambda: now + ON_SECONDS + 1):
+            others.heard([said(3, 0), said(3, 0), said(2, 0)])
+            self.assertEqual(others.on, 1)
+            others.heard([said(4, 0)])
+            self.assertEqual(others.on, 2)
+
+    def test_versions_of_before(self) -> None:
+        others, old = Others(ME), secrets.token_bytes(16)
+        self.assertEqual(others.heard([OF_BEFORE.pack(old, 4), OF_BEFORE.pack(OTHER, 4), said(1, 4)]), ([], False))
+        self.assertEqual(others.on, 3)
+        # What this version says for theirs isn't heard here.
+        self.assertEqual(others.heard([OF_BEFORE.pack(old, 4), OF_BEFORE.pack(OTHER, 5)]), ([], False))
+        self.assertEqual(others.heard([OF_BEFORE.pack(old, 5), OF_BEFORE.pack(old, 4)]), ([], True))
+        self.assertEqual(others.heard([OF_BEFORE.pack(old, 4)]), ([], False))
+
+    def test_cursors_of_before(self) -> None:
+        shows, editor = Shows(ME), secrets.token_bytes(16)
+        one, two = (presence.written(Present(OTHER, editor, 7, "#000000", (0, 0), anchor, "Bo"))
+                    for anchor in (None, (0, 0)))
+        self.assertEqual(shows.heard([presence.counted(one, 1), presence.counted(one, 1)]), [one])
+        self.assertEqual(shows.heard([presence.counted(two, 2), presence.counted(one, 1)]), [two])
+        self.assertEqual(shows.heard([presence.counted(one, 1), presence.counted(two, 2)]), [two])
+        self.assertEqual(shows.heard([]), [])
+        for gone in [presence.counted(two, 2)], [presence.counted(one, 1)]:
+            self.assertEqual(shows.heard(gone), [])
+        self.assertEqual(shows.heard([presence.counted(one, 3)]), [one])
+        own = presence.written(Present(ME, editor, 7, "#000000", None, None, ""))
+        self.assertEqual(shows.heard([presence.counted(own, 9), b"", bytes(49), bytes(211)]), [])
+        # A version of before has a token that doesn't end so, and no count.
+        older = one[:8] + bytes(range(1, 9)) + one[16:]
+        self.assertEqual([shows.heard([older]), shows.heard([]), shows.heard([older])], [[older], [], [older]])
+        self.assertEqual(presence.read(presence.counted(one, 2**32 - 1))._replace(engine=OTHER), presence.read(one))
+
+
+class OnAServer(Case):
+    """Who is on, by a server whose operator writes what he likes."""
+
+    def setUp(self) -> None:
+        super().setUp()
+        self.server = self.redis()
+        self.wire = Wire(self.server.url)
+        self.addCleanup(self.wire.close)
+        quick = mock.patch("share.courier.ON_SECONDS", 1)
+        quick.start()
+        self.addCleanup(quick.stop)
+        self.ann = self.opened(self.person("ann"), url=self.server.url)
+        written(self.ann, "one ")
+        self.form = self.ann.session._form
+        self.times, self.said = (f"vialshoal:note:{{{self.form.note.hex()}}}:{part}" for part in ("times", "said"))
+
+    def puts(self, token: bytes, raw: bytes) -> None:
+        """Says something as the operator can."""
+        self.wire.ask("ZADD", self.times, int(time.time()), token)
+        self.wire.ask("HSET", self.said, token, raw)
+
+    def takes(self, token: bytes) -> None:
+        """Takes something away."""
+        self.wire.ask("ZREM", self.times, token)
+        self.wire.ask("HDEL", self.said, token)
+
+    def hears(self, how: str, times: int = 3) -> None:
+        """Waits until Ann's courier has heard who is on some times more."""
+        called, hears = list[int](), getattr(Courier, how)
+
+        def counts(courier: Courier, *what: object) -> object:
+            try:
+                return hears(courier, *what)
+            finally:
+                if courier is self.ann.session._courier:
+                    called.append(1)
+
+        with mock.patch.object(Courier, how, counts):
+            wait_for(lambda: len(called) > times, "Ann to hear", SOON)
+
+    def test_what_was_said_before_has_nobody_read_the_log(self) -> None:
+        courier, token = self.ann.session._courier, secrets.token_bytes(16)
+        before = courier.reading()
+        raw = self.form.presence(OF_BEFORE.pack(token, 3))
+        for under in b"x", b"y":
+            self.puts(under, raw)
+            wait_for(lambda: courier.on == 2, "it to be heard")
+            self.hears("_meet")
+            self.takes(under)
+            wait_for(lambda: courier.on == 1, "it to be heard")
+        self.assertEqual(courier.reading(), before)
+
+    def test_versions_of_before_have_the_log_read_once(self) -> None:
+        courier, token = self.ann.session._courier, secrets.token_bytes(16)
+        before = courier.reading()
+        for asks in range(4):
+            self.puts(b"x", self.form.presence(OF_BEFORE.pack(token, asks)))
+            self.hears("_meet", 2)
+        wait_for(lambda: courier.reading() > before, "the log to be read", SOON)
+        self.hears("_meet")
+        self.assertEqual(courier.reading(), before + 1)
+
+    def test_what_is_asked_for_is_given_alone(self) -> None:
+        courier, append, given = self.ann.session._courier, RedisLog.append, list[list[bytes]]()
+        written(self.ann, "two ")
+        last, before = self.ann.session.last(), courier.reading()
+
+        def appended(log: RedisLog, raws) -> None:
+            given.append([*raws])
+            append(log, raws)
+
+        with mock.patch.object(RedisLog, "append", appended):
+            for number, lack in enumerate((Lack(Way.IT, last.hash), Lack(Way.AFTER, last.before), LACK)):
+                self.puts(b"x", self.form.presence(said(number + 1, number, lack)))
+                self.hears("_meet", 2)
+            wait_for(lambda: given, "it to be given", SOON)
+            self.hears("_meet")
+        self.assertEqual((given, courier.reading()), ([[last.raw]], before))
+
+    def test_an_old_cursor_is_not_shown_again(self) -> None:
+        bob = self.opened(self.person("bob"), link=self.person("ann").link())
+        token, raws = secrets.token_bytes(16), list[bytes]()
+
+        for at in 1, 2:
+            data = presence.written(Present(bob.session.token(), token, bob.session.number, "#000000", (1, at), None, ""))
+            self.ann.session.show({b"ann": presence.written(Present(self.ann.session.token(), bytes(16), 7, "#000000", None,
+                                                                    None, "Ann"))})
+            bob.session.show({token: data})
+            wait_for(lambda at=at: [presence.read(one).cursor for one in self.ann.session._courier.shown()
+                                    ] == [(1, at)], "the cursor to be shown", SOON)
+            with contextlib.closing(self.person("ann").log()) as log:
+                raws += [raw for raw in log.meet(b"me", b"") if (found := self.form.present(raw))
+                         and (one := presence.read(found)) and one.editor == token]
+        for under, raw in zip((b"a", b"z"), raws):
+            self.puts(under, raw)
+        self.hears("_hear")
+        self.assertEqual([presence.read(one).cursor for one in self.ann.session._courier.shown()], [(1, 2)])
+        bob.session.show({})
+        wait_for(lambda: not self.ann.session._courier.shown(), "the cursor to be gone", SOON)
+        for under, raw in zip((b"a", b"z"), raws):
+            self.puts(under, raw)
+        self.hears("_hear")
+        self.assertEqual(self.ann.session._courier.shown(), [])
+
+
+class Damaged(Case):
+    """An entry of a log is damaged while who has the right one is on."""
+
+    def test_the_last_entry_of_its_author(self) -> None:
+        path = pathlib.Path(self.file_log())
+        ann = self.opened(self.person("ann"), url=str(path))
+        for words in "one ", "two ":
+            written(ann, words)
+        wait_for(lambda: (change(path, "PRAGMA wal_checkpoint(TRUNCATE)"), b"two " in path.read_bytes())[1], "it to be there")
+        path.write_bytes(path.read_bytes().replace(b"two ", b"twx "))
+        before = ann.session._courier.reading()
+        bob, told = self.opened(self.person("bob"), link=self.person("ann").link()), list[str]()
+        told.append(bob.notice)
+        notices = bob.session.notices
+        bob.session.notices = lambda: [told.append(one) or one for one in notices()]
+        self.assert_comes_to(bob, b"one two ")
+        wait_for(lambda: (bob.take_in(), "damaged and was left out" in " ".join(told))[1], "it to be told", SOON)
+        type_at_the_end(bob, "three ")
+        self.assertEqual(self.assert_meet(ann, bob), b"one two three ")
+        self.assertEqual(ann.session._courier.reading(), before)
+
+
+if __name__ == "__main__":
+    unittest.main()

@@ -1,0 +1,107 @@
+"""A log that is reached by a slow line: who has a number types at once, and who is new sees the text as it comes."""
+import contextlib
+import threading
+import time
+from unittest import mock
+
+from share import link as links
+from share import opening
+from share.log import open_log
+from share.tests.naive import inserting
+from share.tests.support import Case, raws_of, wait_for, written
+from share.tests.test_joining import history, in_entries
+from share.tests.throttle import Throttle
+
+LONG = 1_000
+# What is typed by somebody else meanwhile.
+MORE = b"more" * 1_000
+
+
+class SlowLine(Case):
+    """A note of some 200 KB on a server, which is reached by a slow line."""
+
+    def setUp(self) -> None:
+        super().setUp()
+        self.server = self.redis()
+        about = opening.about_new(self.server.url)
+        self.form = about.form()
+        self.link = links.Link("sealed", about.secret, self.server.url)
+        rounds, self.text = history(LONG)
+        self.raws = in_entries(self.form, rounds)
+
+    def fill(self) -> None:
+        """Puts the history into the log."""
+        with contextlib.closing(open_log(self.server.url, self.form.note)) as log:
+            log.append(self.raws)
+
+    def slow(self, rate: float) -> Throttle:
+        """A line of so many bytes a second."""
+        line = Throttle(self.server.port, rate)
+        self.addCleanup(line.close)
+        return line
+
+    def test_who_has_a_number_types_at_once(self) -> None:
+        ann = self.person("ann")
+        note = self.opened(ann, link=self.link.spelled())
+        written(note, "mine ")
+        note.session.close()
+        self.fill()
+        line = self.slow(sum(map(len, self.raws)) / 60)
+        begin = time.monotonic()
+        with mock.patch("share.session.OPEN_SECONDS", 30), mock.patch("share.redis_log.LEAST_ROOM", 2**12):
+            note = self.opened(ann, url=line.url)
+        self.assertLess(time.monotonic() - begin, 15)
+        self.assertTrue(note.session.status().can_type)
+        note.type("at once ")
+        self.assertEqual(note.text, b"at once mine ")
+        done, total = wait_for(lambda: (note.take_in(), note.session.status().reading)[1], "the log to be read")
+        self.assertGreater(total, len(self.raws))
+        self.assertLess(done, total / 2)
+        wait_for(lambda: (note.take_in(), len(note.text) > 20)[1], "text to come")
+        self.assertLess(note.session.status().reading[0], total / 2)
+        line.rate = 10**9
+        wait_for(lambda: (note.take_in(), note.session.status())[1].reading is None, "all to be read")
+        self.assertEqual(len(self.assert_meet(note)), len(self.text) + len(b"at once mine "))
+
+    def test_who_is_new_waits_for_no_log_that_grows(self) -> None:
+        self.fill()
+        rate = sum(map(len, self.raws)) / 3
+        line, ends = self.slow(rate), threading.Event()
+        writer = threading.Thread(target=self.grow, args=(ends, 2 * rate))
+        writer.start()
+        try:
+            note = self.opened(self.person("new"), link=self.link._replace(url=line.url).spelled())
+            self.assertFalse(note.session.status().can_type)
+            claim = self.form.claim(note.session.number, note.session._client.author).raw
+            with contextlib.closing(open_log(self.server.url, self.form.note)) as log:
+                wait_for(lambda: claim in raws_of(log), "the claim to be in the log")
+            # It is there before all was read that the log had.
+            self.assertFalse(note.session._courier.has_read())
+            lengths = set[int]()
+            wait_for(lambda: (note.take_in(), lengths.add(len(note.text)), note.session.status().can_type)[2], "a number")
+            with contextlib.closing(open_log(self.server.url, self.form.note)) as log:
+                self.assertGreater(log.size(), note.session._courier._size)
+        finally:
+            ends.set()
+            writer.join()
+        self.assertGreater(len(lengths), 3)
+        self.assertGreaterEqual(len(note.text), len(self.text))
+        note.type("at last ")
+        line.rate = 10**9
+        self.assertIn(b"at last ", self.assert_meet(note))
+
+    def grow(self, ends: threading.Event, rate: float) -> None:
+        """Has the log grow by so many bytes a second."""
+        author = self.form.new_author()
+        last, seq, begin, size = self.form.claim(7, author), 0, time.monotonic(), 0
+        with contextlib.closing(open_log(self.server.url, self.form.note)) as log:
+            log.append([last.raw])
+            while not ends.wait(max(0.0, begin + size / rate - time.monotonic())):
+                last = self.form.entry(last, [inserting(7, seq + 1, seq + 1, None, seq * len(MORE), MORE)], author)
+                seq, size = seq + 1, size + len(last.raw)
+                log.append([last.raw])
+
+
+if __name__ == "__main__":
+    import unittest
+    unittest.main()

@@ -1,0 +1,90 @@
+"""Which copies are hidden, by what entries of copies say: one rule, whatever came and in whatever order."""
+import itertools
+import random
+import unittest
+
+from share.disk import Row
+from share.entry import Author, Copied, Copy, Entry, Plain
+from share.message import Message
+from share.standing import Standing, in_stretches
+from share.tests.naive import inserting
+
+FORM = Plain(bytes(16))
+OLD = Author(b"who wrote it all", b"")
+
+
+def typed(site: int, seq: int, data: bytes) -> Message:
+    """What a site types as its message of a seq."""
+    return inserting(site, seq, seq, None, seq - 1, data)
+
+
+class Sets(unittest.TestCase):
+    """A message, and copies of it under several numbers, some of which were made here."""
+
+    def setUp(self) -> None:
+        claim = FORM.claim(50, OLD)
+        self.first = FORM.entry(claim, [typed(50, 1, b"a")], OLD)
+        self.old = FORM.entry(self.first, [typed(50, 2, b"b")], OLD, length=1)
+        self.rows = {entry.hash: Row(0, entry, True) for entry in (claim, self.first, self.old)}
+        self.counts: dict[tuple[int, int], bytes] = {}
+
+    def entry_of(self, site: int, seq: int) -> bytes | None:
+        """Which entry has the message that counts."""
+        return self.counts.get((site, seq))
+
+    def copied(self, site: int, own: bool, old: Entry, seq: int = 1, data: bytes = b"b") -> tuple[Row, Entry]:
+        """What says that a message stands for one of an entry, and the entry of that message."""
+        author = Author(site.to_bytes(16, "big"), b"")
+        claim = FORM.claim(site, author)
+        before = claim if seq == 1 else FORM.entry(claim, [typed(site, 1, b"x")], author)
+        made = FORM.entry(before, [typed(site, seq, data)], author, length=seq - 1)
+        said = FORM.copies(Copied(OLD.name, 50, author.name, site, ((old.first, seq, 1),), made.hash), OLD, 50, old.hash)
+        self.rows |= {entry.hash: Row(0, entry, own) for entry in (claim, before, made)}
+        return Row(0, said, own), made
+
+    def test_one_of_them_is_shown(self) -> None:
+        chance = random.Random(3)
+        for stays, *counting in itertools.product((False, True), repeat=4):
+            self.setUp()
+            found = [self.copied(site, own, self.old, site) for site, own in ((3, False), (1, True), (2, True))]
+            self.counts = {(site, site): made.hash for site, (_, made), counts in zip((3, 1, 2), found, counting) if counts}
+            if stays:
+                self.counts[50, 2] = self.old.hash
+            rows = [row for row, _ in found] + [Row(0, self.old, True)]
+            chance.shuffle(rows)
+            standing, come = Standing(), {of: row for of, row in self.rows.items() if of != self.old.hash}
+            for row in rows:
+                come[row.entry.hash] = row
+                standing.add(row, come)
+            shown = {copy.site for copy, hidden in standing.made_here(self.entry_of, come) if not hidden}
+            count = [site for site in (1, 2, 3) if (site, site) in self.counts]
+            self.assertEqual(shown, set() if stays or not count else {min(count)} - {3})
+            self.assertEqual(standing.is_stood_for(self.old, 2, self.entry_of, come), bool(count))
+            self.assertFalse(standing.is_made_here(self.first, 1))
+
+    def test_another_message_of_the_same_number_and_seq_is_none(self) -> None:
+        row, made = self.copied(3, True, self.old)
+        _, other = self.copied(3, True, self.first, data=b"other")
+        standing = Standing()
+        standing.add(row, self.rows)
+        for of, counts in (made.hash, True), (other.hash, False):
+            self.counts = {(3, 1): of}
+            self.assertEqual(standing.is_stood_for(self.old, 2, self.entry_of, self.rows), counts)
+            self.assertEqual([*standing.made_here(self.entry_of, self.rows)],
+                             [(Copy(made.author, 3, 1), False)] * counts)
+        # Nor is another history of the old number spoken of.
+        fork = FORM.entry(self.first, [typed(50, 2, b"c")], OLD, length=1)
+        self.counts = {(3, 1): made.hash}
+        self.assertFalse(standing.is_stood_for(fork, 2, self.entry_of, self.rows))
+
+    def test_only_who_made_messages_says_what_stands_for_them(self) -> None:
+        row, made = self.copied(3, True, self.old)
+        said = row.entry.copied
+        by_other = FORM.copies(said, Author(made.author, b""), 3, self.old.hash)
+        standing, self.counts = Standing(), {(3, 1): made.hash}
+        standing.add(Row(0, by_other, True), self.rows)
+        self.assertFalse(standing.is_stood_for(self.old, 2, self.entry_of, self.rows))
+
+    def test_stretches(self) -> None:
+        pairs = [(1, 5), (2, 6), (2, 7), (3, 8), (4, 0), (5, 0), (6, 9)]
+        self.assertEqual([tuple(one) for one in in_stretches(pairs)], [(1, 5, 2), (2, 7, 2), (4, 0, 2), (6, 9, 1)])
