@@ -264,6 +264,17 @@ def change(path: pathlib.Path, statement: str, *values) -> None:
         file.execute(statement, values)
 
 
+def damage(path: pathlib.Path, right: bytes, wrong: bytes) -> bool:
+    """Makes others of the same number of the bytes of an entry of a log, while others may be at it; tells whether an entry had
+    them."""
+    with contextlib.closing(sqlite3.connect(path)) as file, file:
+        file.execute("BEGIN IMMEDIATE")
+        changed = [(raw.replace(right, wrong), place) for place, raw in file.execute("SELECT place, raw FROM entry")
+                   if right in raw]
+        file.executemany("UPDATE entry SET raw = ? WHERE place = ?", changed)
+    return bool(changed)
+
+
 def edit_at_random(note: Note, chance: random.Random) -> None:
     """Types, deletes or takes back, at a random character."""
     text = note.text.decode()

@@ -9,7 +9,7 @@ from unittest import mock
 
 from share.carried import Carried
 from share.sqlite_log import SqliteLog
-from share.tests.support import Case, change, raws_of, type_at_the_end, wait_for, written
+from share.tests.support import Case, change, damage, raws_of, type_at_the_end, wait_for, written
 
 SOON = 20
 
@@ -200,9 +200,7 @@ class Gaps(Case):
         link = self.person("anna").link()
         anna.session.close()
         # One damaged entry, and its author is off.
-        change(path, "PRAGMA wal_checkpoint(TRUNCATE)")
-        data = path.read_bytes()
-        path.write_bytes(data.replace(b"007 ", b"00x "))
+        self.assertTrue(damage(path, b"007 ", b"00x "))
         with mock.patch("share.holdings.ROOM", 40_000), mock.patch("share.sqlite_log.PAGE", 8):
             berta = self.opened(self.person("berta"), link=link)
             wait_for(lambda: (berta.take_in(), berta.session._holdings.waiting_for_room())[1], "entries to be dropped")

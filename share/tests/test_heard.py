@@ -14,7 +14,7 @@ from share.presence import Present, Shows
 from share.redis_log import RedisLog
 from share.redis_wire import Wire
 from share.sealing import NONCE_BYTES, TAG_BYTES
-from share.tests.support import Case, change, type_at_the_end, wait_for, written
+from share.tests.support import Case, damage, type_at_the_end, wait_for, written
 
 SOON = 20
 ME, OTHER = heard.new_token(), heard.new_token()
@@ -213,8 +213,7 @@ class Damaged(Case):
         ann = self.opened(self.person("ann"), url=str(path))
         for words in "one ", "two ":
             written(ann, words)
-        wait_for(lambda: (change(path, "PRAGMA wal_checkpoint(TRUNCATE)"), b"two " in path.read_bytes())[1], "it to be there")
-        path.write_bytes(path.read_bytes().replace(b"two ", b"twx "))
+        wait_for(lambda: damage(path, b"two ", b"twx "), "it to be there")
         before = ann.session._courier.reading()
         bob, told = self.opened(self.person("bob"), link=self.person("ann").link()), list[str]()
         told.append(bob.notice)

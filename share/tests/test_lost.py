@@ -10,7 +10,7 @@ from collections.abc import Callable
 
 from share.tests.editors import Editor, Engines
 from share.tests.servers import RedisServer
-from share.tests.support import Case, alive, change, raws_of, type_at_the_end, wait_for, written
+from share.tests.support import Case, alive, change, damage, raws_of, type_at_the_end, wait_for, written
 
 PAGE = 4_096
 
@@ -68,7 +68,7 @@ class InAFile(Case):
         return list(self.path.parent.glob(f"{self.path.name}*"))
 
     def test_removed(self) -> None:
-        self.lost(lambda: [path.unlink() for path in self.files()])
+        self.lost(lambda: [path.unlink(missing_ok=True) for path in self.files()])
 
     def test_removed_alone(self) -> None:
         self.lost(self.path.unlink)
@@ -117,7 +117,7 @@ class InAFile(Case):
         for words in "one ", "two ", "three ":
             written(anna, words)
         anna.session.close()
-        flip(self.path)
+        wait_for(lambda: damage(self.path, b"two ", b"pwo "), "it to be there")
         link = self.person("anna").link()
         berta = self.opened(self.person("berta"), link=link)
         self.assert_comes_to(berta, b"one ")
@@ -135,7 +135,7 @@ class InAFile(Case):
         anna = self.opened(self.person("anna"), url=str(self.path))
         for words in "one ", "two ", "three ":
             written(anna, words)
-        flip(self.path)
+        wait_for(lambda: damage(self.path, b"two ", b"pwo "), "it to be there")
         berta = self.opened(self.person("berta"), link=self.person("anna").link())
         self.assertEqual(self.assert_meet(berta, anna), b"one two three ")
 
@@ -280,14 +280,6 @@ class SpoiltWhileOpen(Engines):
                 wait_for(lambda one=engine: not alive(one), "the engine to end")
                 self.assert_kept(data, what)
                 self.assertEqual(self.asides(data), 1)
-
-
-def flip(path: pathlib.Path) -> None:
-    """Changes a bit of the second message's entry."""
-    change(path, "PRAGMA wal_checkpoint(TRUNCATE)")
-    data = path.read_bytes()
-    at = data.index(b"two ")
-    path.write_bytes(data[:at] + bytes([data[at] ^ 4]) + data[at + 1:])
 
 
 class OnAServer(Case):
