@@ -744,13 +744,16 @@ there is no undo that knows the places of before."
 (defun vialshoal--left-out-words (left-out)
   "Return how much LEFT-OUT of a state is and whose it is."
   (when left-out
-    (concat ", left out: "
-            (string-join
-             (cl-loop for one in left-out repeat 3
-                      collect (format "%s of %s" (plist-get one :characters)
-                                      (vialshoal--author one)))
-             ", ")
-            (if (nthcdr 3 left-out) ", .." ""))))
+    (concat ", left out: " (vialshoal--whose left-out))))
+
+(defun vialshoal--whose (left-out)
+  "Return how much LEFT-OUT is of whom."
+  (concat (string-join
+           (cl-loop for one in left-out repeat 3
+                    collect (format "%s of %s" (plist-get one :characters)
+                                    (vialshoal--author one)))
+           ", ")
+          (if (nthcdr 3 left-out) ", .." "")))
 
 ;;;; Opening and closing
 
@@ -1028,6 +1031,8 @@ The signal that ends Emacs may keep it from hearing that a process has."
   "The buffer of the note whose history this is.")
 (defvar-local vialshoal-history--steps nil
   "The steps of the history, a vector.")
+(defvar-local vialshoal-history--left-out nil
+  "What was left out, which is shown behind the last step.")
 (defvar-local vialshoal-history--at 0
   "After how many of them the text is shown.")
 
@@ -1064,16 +1069,17 @@ The signal that ends Emacs may keep it from hearing that a process has."
                 (end (plist-get (car (last more)) :end)))
            (if (and end (< end (plist-get line :length)))
                (vialshoal--ask-history note all end)
-             (vialshoal--show-history note all)))))
+             (vialshoal--show-history note all (plist-get line :left_out))))))
      :do "history" :from from)))
 
-(defun vialshoal--show-history (note history)
-  "Show the HISTORY of NOTE, a list."
+(defun vialshoal--show-history (note history left-out)
+  "Show the HISTORY of NOTE, a list, and what was LEFT-OUT behind it."
   (let ((name (buffer-local-value 'vialshoal--note note)))
     (with-current-buffer (get-buffer-create (format "*history of %s*" name))
       (vialshoal-history-mode)
       (setq vialshoal-history--note note
-            vialshoal-history--steps (vconcat history))
+            vialshoal-history--steps (vconcat history)
+            vialshoal-history--left-out left-out)
       (vialshoal-history-jump (length vialshoal-history--steps))
       (pop-to-buffer (current-buffer)))))
 
@@ -1085,21 +1091,40 @@ The signal that ends Emacs may keep it from hearing that a process has."
 (defun vialshoal-history-jump (at)
   "Show the text of step AT."
   (interactive "nAfter how many steps: ")
-  (let ((history (current-buffer))
-        (at (max 0 (min at (length vialshoal-history--steps)))))
+  (let* ((of (length vialshoal-history--steps))
+         (at (max 0 (min at (if vialshoal-history--left-out (1+ of) of)))))
     (unless (buffer-live-p vialshoal-history--note)
       (user-error "The note isn't open any more"))
     (setq vialshoal-history--at at)
-    (let ((message (if (= at 0)
-                       0
-                     (plist-get (aref vialshoal-history--steps (1- at)) :end))))
-      (with-current-buffer vialshoal-history--note
-        (vialshoal--ask
-         (lambda (line)
-           (when (and (buffer-live-p history) (not (plist-get line :error)))
-             (with-current-buffer history
-               (vialshoal-history--show line at))))
-         :do "past" :at message)))))
+    (cond ((> at of)
+           (vialshoal-history--show
+            (vialshoal-history--as-past vialshoal-history--left-out) at))
+          ((= at 0) (vialshoal-history--ask 0 at))
+          (t (vialshoal-history--ask
+              (plist-get (aref vialshoal-history--steps (1- at)) :end) at)))))
+
+(defun vialshoal-history--ask (messages at)
+  "Ask for the text after so many MESSAGES, and show it as that of step AT."
+  (let ((history (current-buffer)))
+    (with-current-buffer vialshoal-history--note
+      (vialshoal--ask
+       (lambda (line)
+         (when (and (buffer-live-p history) (not (plist-get line :error)))
+           (with-current-buffer history
+             (vialshoal-history--show line at))))
+       :do "past" :at messages))))
+
+(defun vialshoal-history--as-past (left-out)
+  "Return LEFT-OUT, each stretch in lines of its own, as the past is answered."
+  (let ((text "") (stretches nil))
+    (dolist (one left-out)
+      (let ((lost (plist-get one :text)))
+        (push (append (list :begin (length text)
+                            :end (+ (length text) (length lost)))
+                      one)
+              stretches)
+        (setq text (concat text lost (unless (string-suffix-p "\n" lost) "\n")))))
+    (list :text text :stretches (nreverse stretches))))
 
 (defun vialshoal-history--show (line at)
   "Show the text of LINE, that of step AT."
@@ -1137,8 +1162,11 @@ The signal that ends Emacs may keep it from hearing that a process has."
 (defun vialshoal-history--header (at)
   "Return what the header line has of the step before AT."
   (let ((of (length vialshoal-history--steps)))
-    (if (= at 0)
-        (format "Before the first of %s steps" of)
+    (cond
+     ((= at 0) (format "Before the first of %s steps" of))
+     ((> at of) (concat "Left out, since others hold its place: "
+                        (vialshoal--whose vialshoal-history--left-out)))
+     (t
       (let ((step (aref vialshoal-history--steps (1- at))))
         (format "Step %s of %s: %s %s" at of (vialshoal--author step)
                 (mapconcat (pcase-lambda (`(,what . ,words))
@@ -1147,7 +1175,7 @@ The signal that ends Emacs may keep it from hearing that a process has."
                             (lambda (each)
                               (memq (plist-get step (car each)) '(nil 0)))
                             vialshoal-history--words)
-                           ", "))))))
+                           ", ")))))))
 
 (defun vialshoal-history-next (count)
   "Show the text that came COUNT later in the history."

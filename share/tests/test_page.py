@@ -390,6 +390,14 @@ class Alone(Pages):
         take(self.person("other"), other.session.number)
         window.state(f"all sent, left out: 7 of site {other.session.number}")
         window.wait_for("document.getElementById('words').textContent.includes('bin/note recover --lost note')")
+        # The history has it behind its last step.
+        window.press("history")
+        window.wait_for("document.getElementById('at').max > document.getElementById('at').value")
+        window.press("later")
+        window.wait_for("document.querySelector('#past-text .CodeMirror').CodeMirror.getValue() === 'theirs\\n'")
+        self.assertEqual(window.element("#step").text,
+                         f"left out, since others hold its place: 7 characters of site {other.session.number}")
+        self.assertEqual(window.element("#authors").text, f"site {other.session.number}")
 
     def test_an_engine_that_ended_is_started_again(self) -> None:
         server = self.server()

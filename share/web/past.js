@@ -7,6 +7,23 @@ import { OPTIONS } from "./editor.js";
 const DID = { typed: "typed", deleted: "deleted", restored: "restored", looked: "in other looks" };
 const element = (id) => document.getElementById(id);
 
+/** How much was left out and whose it is, in words. */
+function wordsOfLeftOut(leftOut) {
+  const whose = leftOut.map((one) => `${one.characters} characters of ${nameOf(one)}`);
+  return `left out, since others hold its place: ${whose.join(", ")}`;
+}
+
+/** What was left out, each stretch in lines of its own, as the past is answered. */
+function asPast(leftOut) {
+  const stretches = [];
+  let text = "";
+  for (const { text: lost, ...one } of leftOut) {
+    stretches.push({ ...one, begin: text.length, end: text.length + lost.length });
+    text += lost.endsWith("\n") ? lost : `${lost}\n`;
+  }
+  return { text, stretches };
+}
+
 /** What a step did, in words. */
 function wordsOf(step, at, of) {
   if (!step) return `at the beginning, of ${of} steps`;
@@ -18,6 +35,8 @@ export class Past {
   #ask;
   #cm;
   #steps = [];
+  // What doesn't count, behind the last step.
+  #leftOut = [];
   #stretches = [];
   #marks = [];
   // The sites' numbers, by when they came.
@@ -55,11 +74,12 @@ export class Past {
       steps.push(...all.steps);
     } while (all.steps.length && steps.at(-1).end < all.length);
     this.#steps = steps;
-    for (const { site } of steps) {
+    this.#leftOut = all.left_out ?? [];
+    for (const { site } of [...steps, ...this.#leftOut]) {
       if (!this.#sites.has(site)) this.#sites.set(site, this.#sites.size);
     }
     this.#open(true);
-    element("at").max = String(steps.length);
+    element("at").max = String(steps.length + (this.#leftOut.length ? 1 : 0));
     element("at").value = String(steps.length);
     await this.#look();
   }
@@ -86,6 +106,11 @@ export class Past {
   /** Shows the text where the slider is; one is asked for at a time. */
   async #look() {
     const at = Number(element("at").value);
+    if (at > this.#steps.length) {
+      element("step").textContent = wordsOfLeftOut(this.#leftOut);
+      this.#shows(asPast(this.#leftOut));
+      return;
+    }
     element("step").textContent = wordsOf(this.#steps[at - 1], at, this.#steps.length);
     if (this.#isAsking) return;
     this.#isAsking = true;

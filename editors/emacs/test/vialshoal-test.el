@@ -102,6 +102,36 @@
                      (concat " Note:sent, left out: 14 of A%%da, 3 of you, "
                              "2 of site 4, .., renewed by site 8"))))))
 
+(ert-deftest vialshoal-test-the-history-has-what-was-left-out ()
+  (vialshoal-support-with-note vialshoal-support--open
+    (vialshoal-history)
+    (vialshoal-support--take
+     :id vialshoal--asked :answer "history" :length 1
+     :steps [(:begin 0 :end 1 :site 7 :own :false :typed 4 :deleted 0)]
+     :left_out [(:site 8 :own :false :name "Bo" :characters 4 :messages 1
+                       :text "lost")
+                (:site 9 :own t :characters 3 :messages 1 :text "he\n")])
+    (vialshoal-support--take :id vialshoal--asked :answer "past" :at 1
+                             :text "tea\n" :stretches [])
+    (let ((note (current-buffer)))
+      (with-current-buffer "*history of picnic*"
+        (should (equal (buffer-string) "tea\n"))
+        (dotimes (_ 2)
+          (vialshoal-history-next 1)
+          (should (equal (vialshoal-support--text) "lost\nhe\n")))
+        (should (equal header-line-format
+                       (concat "Left out, since others hold its place: "
+                               "4 of Bo, 3 of you")))
+        (should (equal (get-text-property 2 'help-echo) "Bo"))
+        (should-not (get-text-property 5 'help-echo))
+        (should (equal (get-text-property 6 'help-echo) "you"))
+        (vialshoal-history-previous 1)
+        (with-current-buffer note
+          (vialshoal-support--take :id vialshoal--asked :answer "past" :at 1
+                                   :text "tea\n" :stretches []))
+        (should (equal (buffer-string) "tea\n"))
+        (kill-buffer)))))
+
 (ert-deftest vialshoal-test-point-and-region-stay ()
   (vialshoal-support-with-note (vialshoal-test--opened "one two three\n")
     (goto-char 5)

@@ -43,6 +43,38 @@ test('a status line shows what others wrote as it is', function()
   same('Note:offline, 12 kept, 3 on, trouble: %{system("x")} %#Error#', vim.api.nvim_eval_statusline(words, {}).str)
 end)
 
+test('the history has what was left out', function()
+  local note = fake.with('tea')
+  require('vialshoal.history').open(note)
+  note:take({ answer = 'history', id = note.asked, length = 1, steps = {
+    { begin = 0, ['end'] = 1, site = 7, own = false, typed = 3, deleted = 0 },
+  }, left_out = {
+    { site = 8, own = false, name = 'Bo', characters = 5, messages = 1, text = 'lost' },
+    { site = 9, own = true, characters = 3, messages = 1, text = 'hé\n' },
+  } })
+  local function past()
+    note:take({ answer = 'past', id = note.asked, at = 1, text = 'tea', stretches = {} })
+  end
+  local function lines()
+    return vim.api.nvim_buf_get_lines(0, 0, -1, false)
+  end
+  past()
+  same({ 'tea' }, lines())
+  for _ = 1, 2 do
+    vim.api.nvim_feedkeys('n', 'xt', false)
+    same({ 'lost', 'hé', '' }, lines())
+  end
+  local space = vim.api.nvim_create_namespace('vialshoal_history')
+  local marks = vim.api.nvim_buf_get_extmarks(0, space, 0, -1, { details = true })
+  same({ { 0, 0, 0, 4 }, { 1, 0, 2, 0 } }, vim.tbl_map(function(mark)
+    return { mark[2], mark[3], mark[4].end_row, mark[4].end_col }
+  end, marks))
+  vim.api.nvim_feedkeys('p', 'xt', false)
+  past()
+  same({ 'tea' }, lines())
+  vim.cmd('bwipeout!')
+end)
+
 test('a status line says what is left out', function()
   local note = fake.with('tea')
   note.job, note.state = 1, { log = 'sent', unsent = 0, on = 1, types = true, renewed = { site = 8, own = false }, left_out = {

@@ -6,6 +6,8 @@ local M = {}
 
 local SPACE = api.nvim_create_namespace('vialshoal_history')
 local GROUPS = { 'Identifier', 'Constant', 'Statement', 'PreProc', 'Type', 'Special' }
+-- Of how many authors it is said how much of their text was left out.
+local MOST_NAMED = 3
 
 --- Who wrote a stretch or made a step.
 function M.author(stretch)
@@ -14,7 +16,10 @@ function M.author(stretch)
 end
 
 --- What is said of the step that a text came of.
-local function words(steps, at)
+local function words(steps, left_out, at)
+  if at > #steps then
+    return 'Left out, since others hold its place: ' .. M.left_out(left_out)
+  end
   if at == 0 then
     return ('Before the first of %d steps'):format(#steps)
   end
@@ -27,10 +32,31 @@ local function words(steps, at)
   return ('Step %d of %d: %s %s'):format(at, #steps, M.author(step), table.concat(did, ', '))
 end
 
+--- How much was left out and whose it is, in words.
+function M.left_out(of)
+  local found = vim.tbl_map(function(one)
+    return ('%d of %s'):format(one.characters, M.author(one))
+  end, vim.list_slice(of, 1, MOST_NAMED))
+  return table.concat(found, ', ') .. (#of > MOST_NAMED and ', ..' or '')
+end
+
+--- What was left out, each stretch in lines of its own, as the past is answered.
+local function as_past(left_out)
+  local parts, stretches, length = {}, {}, 0
+  for _, one in ipairs(left_out) do
+    table.insert(stretches, { site = one.site, begin = length, ['end'] = length + #one.text })
+    local part = one.text:gsub('\n?$', '\n', 1)
+    table.insert(parts, part)
+    length = length + #part
+  end
+  return { text = table.concat(parts), stretches = stretches }
+end
+
 --- Shows the text of an answer.
 local function show(buffer, answer)
   local lines = vim.split(answer.text, '\n', { plain = true })
   vim.bo[buffer].modifiable = true
+  api.nvim_buf_clear_namespace(buffer, SPACE, 0, -1)
   api.nvim_buf_set_lines(buffer, 0, -1, false, lines)
   vim.bo[buffer].modifiable = false
   for _, stretch in ipairs(answer.stretches) do
@@ -53,16 +79,21 @@ local function scratch()
   return buffer
 end
 
---- Goes through the steps of a note.
-local function browse(note, steps)
+--- Goes through the steps of a note; behind the last one is what was left out.
+local function browse(note, steps, left_out)
   local buffer, at = scratch(), nil
 
   local function go(to)
-    at = math.max(0, math.min(to, #steps))
+    at = math.max(0, math.min(to, #left_out > 0 and #steps + 1 or #steps))
+    if at > #steps then
+      show(buffer, as_past(left_out))
+      api.nvim_echo({ { words(steps, left_out, at) } }, false, {})
+      return
+    end
     note:ask({ ['do'] = 'past', at = at == 0 and 0 or steps[at]['end'] }, function(answer)
       if answer.text and api.nvim_buf_is_valid(buffer) then
         show(buffer, answer)
-        api.nvim_echo({ { words(steps, at) } }, false, {})
+        api.nvim_echo({ { words(steps, left_out, at) } }, false, {})
       end
     end)
   end
@@ -90,7 +121,7 @@ function M.open(note, steps, from)
     if last and last['end'] < answer.length then
       M.open(note, steps, last['end'])
     else
-      browse(note, steps)
+      browse(note, steps, answer.left_out or {})
     end
   end)
 end

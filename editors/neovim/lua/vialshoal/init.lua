@@ -395,10 +395,7 @@ local function state_words(note)
     words = words .. ", can't type yet"
   end
   if state.left_out then
-    local found = vim.tbl_map(function(one)
-      return ('%d of %s'):format(one.characters, history.author(one))
-    end, vim.list_slice(state.left_out, 1, 3))
-    words = words .. ', left out: ' .. table.concat(found, ', ') .. (#state.left_out > 3 and ', ..' or '')
+    words = words .. ', left out: ' .. history.left_out(state.left_out)
   end
   if state.renewed then
     words = words .. ', renewed by ' .. history.author(state.renewed)
