@@ -126,6 +126,8 @@ class Judge:
         # What is told of what doesn't count, where nothing came since that would change it.
         self._incomplete: int | None = None
         self._left_out: list[LeftOut] | None = None
+        # Where what lost its place ends and its number didn't come to yet, as sites and seqs.
+        self._ends_of_lost: set[tuple[int, int]] = set()
         # How many characters entries inserted that aren't let through, of those that this was asked of.
         self._typed_by: dict[int, int] = {}
         self._dropped: list[Row] = []
@@ -341,6 +343,7 @@ class Judge:
         for that counts."""
         self._let_through()
         if self._left_out is None:
+            self._ends_of_lost.clear()
             self._left_out = joined([*self._lost(), *self._behind_what_was_lost()])
         return self._left_out
 
@@ -532,7 +535,7 @@ class Judge:
         while waiting and waiting[0][0] <= chain.length:
             _, other, time = heapq.heappop(waiting)
             self._has_one_more(self._chains[other], time, site, woken)
-        if run.seq <= self._copies.sites.get(site, 0):
+        if run.seq <= self._copies.sites.get(site, 0) or (site, chain.front) in self._ends_of_lost:
             self._changed()
         if site in self._lacking:
             self._turns.add(site)
@@ -691,9 +694,10 @@ class Judge:
         return any(self.is_chained(entry.hash, last) for last in self._made_anew.get((entry.site, entry.author), ()))
 
     def _stands_elsewhere(self, entry: Entry) -> bool:
-        """Whether another entry that counts has the same messages."""
+        """Whether another entry that counts has the same messages; looked at again once that may be so."""
         chain = self._chains.get(entry.site)
         if chain is None or entry.last > chain.front:
+            self._ends_of_lost.add((entry.site, entry.last))
             return False
         at = chain.line.at_seq(entry.first)
         return chain.line.first(at) == entry.first and self._ledger.spelled(chain.line.numbers[at]) == entry.spelled

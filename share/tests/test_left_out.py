@@ -1,6 +1,7 @@
 """What is left out for good is never silently gone: it is told how much and whose it is, its text is in the history, and
 it can be typed again, once."""
 import contextlib
+import itertools
 import json
 import os
 import random
@@ -11,6 +12,7 @@ from share import lost, printing
 from share.editor import state_of_others
 from share.entry import Author, Entry, Form, Kind, Plain, in_entries
 from share.judging import Judge, rank
+from share.leftout import LeftOut
 from share.message import Message, length_after, typed
 from share.session import Status
 from share.site import Site
@@ -276,6 +278,27 @@ class AtRandom(unittest.TestCase):
         for word in lost.words_of(again.copies, FORM, author, last):
             judge.add(FORM.open(word.raw))
         return text, judge
+
+
+class Elsewhere(unittest.TestCase):
+    """What lost its place and has the messages of what holds there isn't missing."""
+
+    def test_however_it_comes_and_whenever_it_is_asked(self) -> None:
+        with contextlib.closing(Site(7)) as at:
+            parts = [at.insert(0, b"one").messages, at.insert(3, b"two").messages]
+        entries = list[Entry]()
+        for author in FORM.new_author(), FORM.new_author():
+            last = FORM.claim(7, author)
+            entries.append(last)
+            for number, part in enumerate(parts):
+                last = FORM.entry(last, part, author, length=3 * number)
+                entries.append(last)
+        for order in itertools.permutations(entries):
+            judge, found = Judge([]), list[LeftOut]()
+            for one in order:
+                judge.add(one)
+                found = judge.left_out()
+            self.assertEqual(found, [])
 
 
 FORM = Plain(bytes(16))
