@@ -126,6 +126,8 @@ are made with no hook called.")
   "The lines that came and weren't looked at.")
 (vialshoal--defvar vialshoal--is-taking nil
   "Whether a line is being looked at.")
+(vialshoal--defvar vialshoal--holds 0
+  "How many commands hold places of this buffer as numbers.")
 
 (defvar vialshoal--applying nil
   "The buffer that is being changed as the engine says.")
@@ -260,11 +262,12 @@ no edit of the user's: the region stays, and undo knows nothing of it."
 
 (defun vialshoal--take-lines ()
   "Look at the lines that came, in their order.
-While something is sent more of them can come: they wait."
+While something is sent more of them can come: they wait.  So they do
+while a command holds places as numbers."
   (unless vialshoal--is-taking
     (setq vialshoal--is-taking t)
     (unwind-protect
-        (while vialshoal--lines
+        (while (and vialshoal--lines (zerop vialshoal--holds))
           (vialshoal--take-line (pop vialshoal--lines)))
       (setq vialshoal--is-taking nil))))
 
@@ -483,6 +486,7 @@ Half a second without all edits answered is how a macro types."
   "Read lines until all edits are answered, for 0.2 seconds at most."
   (let ((end (+ (vialshoal--now) 0.2)))
     (while (and (< vialshoal--answered vialshoal--made)
+                (zerop vialshoal--holds)
                 (< (vialshoal--now) end)
                 (process-live-p vialshoal--process))
       (accept-process-output vialshoal--process
@@ -505,6 +509,48 @@ Half a second without all edits answered is how a macro types."
   (vialshoal--flush-command)
   (vialshoal--tell-place))
 (put 'vialshoal--post-command 'permanent-local-hook t)
+
+;;;; Commands that hold places as numbers
+
+(defconst vialshoal--holding
+  '(perform-replace ispell-region ispell-word flyspell-correct-word
+    flyspell-correct-word-before-point)
+  "Commands that look for places, ask, and change what is at the numbers.")
+
+(defun vialshoal--hold (command &rest arguments)
+  "Call COMMAND with ARGUMENTS; what others type comes in after it.
+The engine carries over what the command did, as all that was typed
+before others' text came in."
+  (if (not vialshoal--note)
+      (apply command arguments)
+    (let ((buffer (current-buffer)))
+      (cl-incf vialshoal--holds)
+      (unwind-protect
+          (apply command arguments)
+        (vialshoal--let-go buffer)))))
+
+(defun vialshoal--let-go (buffer)
+  "Have lines come in to BUFFER that waited for a command."
+  (when (buffer-live-p buffer)
+    (with-current-buffer buffer
+      (setq vialshoal--holds (max 0 (1- vialshoal--holds)))
+      (vialshoal--take-lines))))
+
+(defun vialshoal--hold-region ()
+  "Have lines wait while a command asks which has the region's ends.
+It goes on with these numbers when it was answered."
+  (let ((buffer (and (minibuffer-selected-window)
+                     (window-buffer (minibuffer-selected-window))))
+        (depth (recursion-depth)))
+    (when (and buffer (with-current-buffer buffer
+                        (and vialshoal--note (use-region-p))))
+      (with-current-buffer buffer
+        (cl-incf vialshoal--holds))
+      (letrec ((end (lambda ()
+                      (when (< (recursion-depth) depth)
+                        (remove-hook 'post-command-hook end)
+                        (vialshoal--let-go buffer)))))
+        (add-hook 'post-command-hook end)))))
 
 ;;;; Notices
 
@@ -694,6 +740,9 @@ its text."
 (defun vialshoal--set-up ()
   "Have this buffer be a note."
   (add-hook 'kill-emacs-hook #'vialshoal--close-all)
+  (add-hook 'minibuffer-setup-hook #'vialshoal--hold-region)
+  (dolist (command vialshoal--holding)
+    (advice-add command :around #'vialshoal--hold))
   (pcase-dolist (`(,hook . ,function) vialshoal--hooks)
     (add-hook hook function nil t))
   (vialshoal--guard))

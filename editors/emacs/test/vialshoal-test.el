@@ -150,6 +150,70 @@
     (should (looking-at "new!wo"))
     (should (equal (vialshoal-support--text) ">> onnew!wo three\n"))))
 
+(defun vialshoal-test--comes (&rest changes)
+  "Have others' CHANGES come as a line from the engine's process."
+  (setq vialshoal--lines
+        (nconc vialshoal--lines
+               (list (json-serialize
+                      (list :notice "changes" :version (1+ vialshoal--version)
+                            :edits vialshoal--made
+                            :changes (vconcat changes))))))
+  (vialshoal--take-lines))
+
+(ert-deftest vialshoal-test-a-replacement-is-where-it-was-asked-for ()
+  (vialshoal-support-with-note (vialshoal-test--opened "foo and foo here\n")
+    (let ((note (current-buffer)) (answers 0))
+      (cl-letf (((symbol-function 'read-event)
+                 (lambda (&rest _)
+                   (with-current-buffer note
+                     (vialshoal-test--comes [0 0 "A line.\n"]))
+                   (cl-incf answers)
+                   ?y)))
+        (goto-char (point-min))
+        (perform-replace "foo" "bar" t nil nil))
+      (should (= answers 2))
+      (should (equal (vialshoal-support--text) "bar and bar here\n"))
+      ;; Others' text, which didn't know of these edits, is sent anew.
+      (should (equal (mapcar (lambda (line) (plist-get line :changes))
+                             (vialshoal-support--sent))
+                     '(((0 3 "bar") (8 11 "bar")))))
+      (should (zerop vialshoal--version))
+      (vialshoal-test--comes [0 0 "A line.\n"])
+      (should (equal (vialshoal-support--text)
+                     "A line.\nbar and bar here\n")))))
+
+(ert-deftest vialshoal-test-a-command-that-fails-holds-no-longer ()
+  (vialshoal-support-with-note vialshoal-support--open
+    (should-error
+     (cl-letf (((symbol-function 'read-event) (lambda (&rest _) (error "No"))))
+       (goto-char (point-min))
+       (perform-replace "tea" "milk" t nil nil)))
+    (vialshoal-test--comes [0 0 "A "])
+    (should (equal (vialshoal-support--text) "A tea\n"))))
+
+(ert-deftest vialshoal-test-a-region-is-held-while-a-command-asks ()
+  (vialshoal-support-with-note (vialshoal-test--opened "one two\n")
+    (let ((note (current-buffer)) (depth 1) (transient-mark-mode t))
+      (cl-letf (((symbol-function 'minibuffer-selected-window)
+                 #'selected-window)
+                ((symbol-function 'recursion-depth) (lambda () depth)))
+        (save-window-excursion
+          (switch-to-buffer note)
+          ;; With no region nothing is held.
+          (run-hooks 'minibuffer-setup-hook)
+          (vialshoal-test--comes [0 0 "0"])
+          (should (equal (vialshoal-support--text) "0one two\n"))
+          (goto-char 2)
+          (push-mark 5 t t)
+          (run-hooks 'minibuffer-setup-hook)
+          (vialshoal-test--comes [0 0 "A line.\n"])
+          (run-hooks 'post-command-hook)
+          (should (equal (vialshoal-support--text) "0one two\n"))
+          (setq depth 0)
+          (run-hooks 'post-command-hook)
+          (should (equal (vialshoal-support--text) "A line.\n0one two\n"))
+          (should (cl-every #'symbolp (default-value 'post-command-hook))))))))
+
 (ert-deftest vialshoal-test-a-narrowed-buffer-gets-all ()
   (vialshoal-support-with-note (vialshoal-test--opened "one\ntwo\nthree\n")
     (narrow-to-region 5 8)
