@@ -101,11 +101,18 @@ local function attach(note)
   })
 end
 
+local let_in
+
 local function set_events(note)
   local function on(events, callback)
     api.nvim_create_autocmd(events, { group = groups, buffer = note.buffer, callback = callback })
   end
   on({ 'CursorMoved', 'CursorMovedI', 'ModeChanged' }, function() note:tell_place() end)
+  on('ModeChanged', function()
+    note:mode_changed(vim.v.event.old_mode, vim.v.event.new_mode)
+    -- When the command has done what it was to do.
+    vim.schedule(function() let_in(note) end)
+  end)
   on('BufWriteCmd', function(event) M.write(note, event.match) end)
   on('BufReadCmd', function() interrupt.behind(M.read, note.buffer) end)
 end
@@ -192,13 +199,21 @@ local function take(note, line)
   end
 end
 
+--- Does what the lines say that came, unless a command holds places: it would do its work where others' text is now.
+function let_in(note)
+  while note.came[1] and not note:is_held() do
+    take(note, table.remove(note.came, 1))
+  end
+end
+
 --- Starts a note's engine, and has it open the note.
 function start(note)
-  note.begun, note.types = clock(), false
+  note.begun, note.types, note.came = clock(), false, {}
   local job
   job = engine.start(note.command, note.environment, function(line)
     if note.job == job then
-      take(note, line)
+      table.insert(note.came, line)
+      let_in(note)
     end
   end, function(words)
     if note.job == job then

@@ -238,13 +238,26 @@ function Note:before_key()
     return
   end
   self:flush_command()
-  if self:is_behind() then
+  if self:is_behind() and not self:is_held() then
     local _, why = vim.wait(PATIENCE_SECONDS * 1000, function() return self.answered == self.made end, 2)
     self:caught_up()
     if why == -2 then
       interrupt.press()
     end
   end
+end
+
+-- Commands that hold places as numbers.
+
+--- Takes note of a mode. What is typed in a block is put into its other lines as that ends, by their numbers.
+function Note:mode_changed(old, new)
+  self.in_block = old == '\22' and new:find('^[iR]') ~= nil or self.in_block and new ~= 'n'
+end
+
+--- Whether a command holds places of this note: an operator that waits for its motion, or what is typed in a block.
+function Note:is_held()
+  return api.nvim_get_current_buf() == self.buffer
+    and (self.in_block or api.nvim_get_mode().mode:find('^no') ~= nil)
 end
 
 -- Lines.
