@@ -20,7 +20,7 @@ from share.engine_note import EngineNote
 from share.link import Link
 from share.measured import swapped
 from share.messages import Messages
-from share.program import TOP
+from share.program import TOP, make_ready
 from share.scripts import VERBS as SCRIPTS
 from share.scripts import Scripts
 from share.session import Bar, Session
@@ -72,7 +72,7 @@ nobody else reads it.
 A link is read from VIALSHOAL_LINK, from the file that --link-file names, or asked for; a server's password from
 VIALSHOAL_PASSWORD or the file that --password-file names. A server needs Debian's python3-nacl.
 VIALSHOAL_NAME is what others see at your cursor, without it your account's name. VIALSHOAL_PROGRAM names another
-program than bin/built.
+program than bin/built; VIALSHOAL_BUILD, which is proved, tried or rust, one of its builds.
 
 Ends with 0; with 2 and a sentence where the note couldn't be opened; --print with 3 where something is missing
 in what it printed, which standard error says. docs/SHARING.md says more.
@@ -306,6 +306,8 @@ def recovered(given: argparse.Namespace, name: str) -> int:
 
 def done(given: argparse.Namespace) -> int:
     """Does what the command line says; the status."""
+    if given.verb != "link":
+        make_ready()
     if given.verb == "recover" and given.lost:
         return recovered(given, *given.names)
     if given.verb == "recover":

@@ -63,11 +63,12 @@ def state(status: Status) -> str:
 
 
 def state_of_others(status: Status) -> str:
-    """Whether something of the others lacks what it builds on, or was left out, and whether they go on elsewhere, in
-    words."""
+    """Whether something of the others lacks what it builds on, or was left out, whether they go on elsewhere, and whether
+    the program isn't proved, in words."""
     waiting = f"  {counted(status.waiting, 'message')} incomplete" if status.waiting else ""
     left_out = f"  left out: {lost.in_words(status.left_out)}" if status.left_out else ""
-    return waiting + left_out + (f"  renewed by {lost.called(status.renewed)}" if status.renewed else "")
+    renewed = f"  renewed by {lost.called(status.renewed)}" if status.renewed else ""
+    return waiting + left_out + renewed + ("  not proved" if status.unproved else "")
 
 
 def bar(done: int, total: int) -> str:

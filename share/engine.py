@@ -261,6 +261,8 @@ class Engine:
             state["left_out"] = lost.with_names(status.left_out, self._names)
         if status.renewed:
             state["renewed"] = status.renewed
+        if status.unproved:
+            state["unproved"] = True
         if status.reading:
             state["read"], state["of"] = status.reading
         return state

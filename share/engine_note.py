@@ -55,7 +55,7 @@ class AtEngine:
         offline = state.get("why", "away") if state["log"] == "away" else None
         return Status(state["site"], state["on"], state["unsent"], offline, state["waiting"], state.get("trouble"),
                       state["types"], state["log"] != "none", (state["read"], state["of"]) if "of" in state else None,
-                      state.get("left_out", []), state.get("renewed"))
+                      state.get("left_out", []), state.get("renewed"), state.get("unproved", False))
 
     def close(self) -> None:
         """Closes the note; what isn't sent stays in its file."""

@@ -11,11 +11,10 @@ import os
 import pathlib
 import re
 import secrets
-import shutil
 import sys
 from collections.abc import Iterable, Iterator, Sequence
 
-from share.program import BUILT, TOP, command
+from share.program import BUILT, BUILT_FROM, TOP, command, file_of, is_unproved, make_ready
 from share.words import Trouble
 
 PREFIX = "/usr/local"
@@ -24,6 +23,7 @@ TREE = re.compile(r"vialshoal-[0-9a-f]{8}")
 PARTS = ("bin/note", "bin/built", "share/*.py", "share/web/*.*", "editors/emacs/vialshoal.el", "editors/neovim/plugin/*.lua",
          "editors/neovim/lua/vialshoal/*.lua", "editors/neovim/doc/*", "docs/SHARING.md", "docs/ENGINE.md", "docs/man/*.1")
 PROGRAM = str(BUILT.relative_to(TOP))
+RECORD_OF_PROGRAM = str(BUILT.with_name(BUILT_FROM).relative_to(TOP))
 # What is looked for elsewhere, and where it is in the folder.
 LINKS = {
     "bin/note": "bin/note",
@@ -146,17 +146,19 @@ class Place:
 
 def _program() -> pathlib.Path:
     """The program that is installed: the built one, or the one that VIALSHOAL_PROGRAM names."""
-    named, *more = command()
-    path = BUILT if named == str(TOP / "bin" / "built") else pathlib.Path(shutil.which(named) or named)
-    if more or not path.is_file():
-        raise Trouble(f"{named} can't be installed as the program.")
+    words = command()
+    path = file_of(words)
+    if words[1:] or not path.is_file():
+        raise Trouble(f"{words[0]} can't be installed as the program.")
     return path
 
 
 def _files() -> dict[str, pathlib.Path]:
     """The files of an installation, and what they are copies of."""
     found = {str(path.relative_to(TOP)): path for part in PARTS for path in sorted(TOP.glob(part)) if path.is_file()}
-    return found | {PROGRAM: _program()}
+    program = _program()
+    record = program.with_name(BUILT_FROM)
+    return found | {PROGRAM: program} | ({RECORD_OF_PROGRAM: record} if record.is_file() else {})
 
 
 def _fill(tree: pathlib.Path, files: dict[str, pathlib.Path], folders: list[str]) -> None:
@@ -223,8 +225,10 @@ def run(words: Sequence[str]) -> int:
     place = Place(parser.parse_args(words[1:]).prefix)
     try:
         if verb == "install":
+            make_ready()
             place.install()
-            print(f"Installed under {place.root}. bin/note uninstall takes it away.")
+            what = ", with a program that isn't proved" if is_unproved(command()) else ""
+            print(f"Installed under {place.root}{what}. bin/note uninstall takes it away.")
         else:
             for path in place.uninstall():
                 print(f"note: {path} stays, since others have put something there.", file=sys.stderr)

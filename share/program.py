@@ -5,6 +5,7 @@ import os
 import pathlib
 import select
 import shlex
+import shutil
 import subprocess
 import time
 from collections.abc import Callable
@@ -16,6 +17,11 @@ from share.words import Trouble
 # Not resolved: where it is installed a link leads to the version of the moment.
 TOP = pathlib.Path(__file__).absolute().parent.parent
 BUILT = TOP / "crates" / "site_cli" / "out" / "site_cli"
+RUNS_BUILT, BUILDS = TOP / "bin" / "built", TOP / "bin" / "site_cli"
+# What a program was made of, in a file beside it, whose second line begins so where it isn't proved.
+BUILT_FROM = "built-from"
+NOT_PROVED = "not proved"
+NOTHING_BUILT = "Nothing is built here. Run bin/site_cli < demo/two-sites.script first: it builds the program."
 # A run takes so many lines; then another run has to go on.
 MOST_LINES = 2**20
 PIPE = 1 << 20
@@ -35,10 +41,39 @@ def command() -> list[str]:
     """What runs the program. VIALSHOAL_PROGRAM may name another executable."""
     if named := os.environ.get("VIALSHOAL_PROGRAM"):
         return shlex.split(named)
-    if not os.access(BUILT, os.X_OK):
-        raise Trouble("Nothing is built here. Run bin/site_cli < demo/two-sites.script first: it proves and "
-                      "builds the program.")
-    return [str(TOP / "bin" / "built")]
+    if not os.access(built(), os.X_OK):
+        raise Trouble(NOTHING_BUILT)
+    return [str(RUNS_BUILT)]
+
+
+def built() -> pathlib.Path:
+    """The program that bin/built runs, where it is there."""
+    name = os.environ.get("VIALSHOAL_BUILD", "")
+    if not name:
+        with contextlib.suppress(OSError):
+            name = (TOP / "out" / "last").read_text("utf-8").strip()
+    return BUILT if name in ("", "proved") else TOP / "out" / name / BUILT.name
+
+
+def file_of(words: list[str]) -> pathlib.Path:
+    """The file of the program that a command runs."""
+    return built() if words[0] == str(RUNS_BUILT) else pathlib.Path(shutil.which(words[0]) or words[0])
+
+
+def is_unproved(words: list[str]) -> bool:
+    """Whether the program that a command runs is written down as one that isn't proved."""
+    with contextlib.suppress(OSError, ValueError):
+        lines = (file_of(words).parent / BUILT_FROM).read_text("utf-8").splitlines()
+        return lines[1:] != [] and lines[1].startswith(NOT_PROVED)
+    return False
+
+
+def make_ready() -> None:
+    """Has the program be built where none is, which standard error tells of."""
+    if os.environ.get("VIALSHOAL_PROGRAM") or os.access(built(), os.X_OK) or not os.access(BUILDS, os.X_OK):
+        return
+    if subprocess.run([BUILDS], stdin=subprocess.DEVNULL, stdout=subprocess.DEVNULL, check=False).returncode:
+        raise Trouble("The program couldn't be built, and none is built here. VIALSHOAL_PROGRAM may name one.")
 
 
 class Program:
@@ -47,7 +82,8 @@ class Program:
 
     def __init__(self, site: int, folder: pathlib.Path | None = None, still: Callable[[], None] = lambda: None):
         self.site, self.lines, self._still = site, 0, still
-        words = [*command(), "--first", str(site), "--count", "1"]
+        runs = command()
+        words, self.is_unproved = [*runs, "--first", str(site), "--count", "1"], is_unproved(runs)
         # It may have been taken away meanwhile, and what isn't there is no place for files.
         self.folder = folder if folder and folder.is_dir() else None
         try:

@@ -22,6 +22,7 @@ from share.measured import swapped
 from share.message import INSERT, typed
 from share.messages import Messages
 from share.printing import Counted
+from share.program import make_ready
 from share.session import Bar, Session
 from share.site import Site
 from share.words import Trouble, counted
@@ -54,6 +55,8 @@ class Scripts:
     def run(self, words: Sequence[str]) -> int:
         """Does what a verb says; the status."""
         given = parser().parse_args(words)
+        if given.verb != "list":
+            make_ready()
         status: int = getattr(self, f"_{given.verb}")(given)
         return status
 

@@ -71,6 +71,8 @@ class Status:
     # How much was left out for good, and of which sites; and who says that the note was renewed.
     left_out: list[Line] = field(default_factory=list)
     renewed: Line | None = None
+    # Whether the program is one that isn't proved.
+    unproved: bool = False
 
 
 class _File:
@@ -288,7 +290,8 @@ class Session:
                       holdings.judge.incomplete(), self._trouble or self._unread or self._numbers.why_none or None,
                       self._client.stood,
                       bool(self._about.url), courier.progress(),
-                      self._left_out.lines(holdings.judge, holdings.anew, self.own()), renewed_by(holdings.judge, self.own()))
+                      self._left_out.lines(holdings.judge, holdings.anew, self.own()), renewed_by(holdings.judge, self.own()),
+                      self.site.is_unproved)
 
     def has_sent(self, entry: Entry) -> bool:
         """Whether the log is known to have an entry; without a log, whether the file has it."""

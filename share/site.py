@@ -79,6 +79,11 @@ class Site:
         self.history += packed
         progress(len(packed))
 
+    @property
+    def is_unproved(self) -> bool:
+        """Whether the program is known to be one that isn't proved."""
+        return self._program.is_unproved
+
     def keep(self) -> dict[int, int]:
         """Has the program write the packed file; how many messages of each site it has, nothing where it isn't written."""
         if not self._program.folder:

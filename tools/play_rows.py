@@ -1,4 +1,4 @@
-"""Plays rows through the program as it was built last."""
+"""Plays rows through the program that bin/built runs."""
 from __future__ import annotations
 
 import os
@@ -8,19 +8,30 @@ from collections.abc import Sequence
 from pathlib import Path
 
 from tools import TOP, rows
-from tools.building import BUILT
+from tools.builds import PROGRAM, PROVED_FOLDER, kept
 from tools.running import lay, run
 
 
-NOTHING_BUILT = "nothing is built here; bin/site_cli proves and builds the program"
+NOTHING_BUILT = "nothing is built here; bin/site_cli builds the program, bin/prove proves it"
+NOTHING_PROVED = "nothing is proved here; bin/prove proves the program"
 
 
-def program(runs_it: Path = TOP / "bin" / "built") -> str | None:
-    """What runs the program, if it is built. VIALSHOAL_PROGRAM may name another executable."""
-    named = os.environ.get("VIALSHOAL_PROGRAM")
-    if named:
-        return os.path.abspath(named)
-    return str(runs_it) if BUILT.is_file() else None
+def named() -> str | None:
+    """The executable that VIALSHOAL_PROGRAM names."""
+    path = os.environ.get("VIALSHOAL_PROGRAM")
+    return os.path.abspath(path) if path else None
+
+
+def program(itself: bool = False) -> str | None:
+    """What runs the program, or the program itself, if it is built. VIALSHOAL_PROGRAM may name another executable."""
+    built = kept()
+    return named() or (str(built if itself else TOP / "bin" / "built") if os.access(built, os.X_OK) else None)
+
+
+def proved_program() -> str | None:
+    """The program that is proved, if it is built. VIALSHOAL_PROGRAM may name another executable."""
+    built = PROVED_FOLDER / PROGRAM
+    return named() or (str(built) if os.access(built, os.X_OK) else None)
 
 
 def play(row: rows.Row, command: str) -> list[str]:

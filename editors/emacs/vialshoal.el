@@ -786,6 +786,8 @@ there is no undo that knows the places of before."
             (when (plist-get state :renewed)
               (concat ", renewed by "
                       (vialshoal--author (plist-get state :renewed))))
+            (when (plist-get state :unproved)
+              ", not proved")
             (when (plist-get state :trouble)
               (concat ", trouble: "
                       (vialshoal--shown-name (plist-get state :trouble) 60))))))

@@ -8,7 +8,7 @@ const path = require('path');
 const { Refused, Text } = require('../out/node');
 const { Positions } = require('../out/node/positions.js');
 
-const PROGRAM = process.env.VIALSHOAL_PROGRAM ?? path.join(__dirname, '../../crates/site_cli/out/site_cli');
+const PROGRAM = process.env.VIALSHOAL_PROGRAM ?? path.join(__dirname, '../../bin/built');
 const ROUNDS = 400;
 // Whole characters of one to four bytes, and bytes that are of none until others stand beside them.
 const ATOMS = ['61', '6263', 'c3a9', 'e282ac', 'f09f9880', '80', 'e2', '82', 'ac', 'f09f', '9880', 'eda080', 'c0', 'c3', 'f490',

@@ -125,7 +125,7 @@ class BadInput(Case):
         run = self.note("note", "--print", VIALSHOAL_PROGRAM="/nowhere")
         self.assert_says(run, "can't be run", "VIALSHOAL_PROGRAM")
         for part in "share", "bin":
-            shutil.copytree(TOP / part, self.folder / "copy" / part)
+            shutil.copytree(TOP / part, self.folder / "copy" / part, ignore=shutil.ignore_patterns("site_cli"))
         run = subprocess.run([self.folder / "copy" / "bin" / "note", "note", "--print"], capture_output=True,
                              text=True, check=False, env={**os.environ, "VIALSHOAL_PROGRAM": ""})
         self.assert_says(run, "Nothing is built here", "bin/site_cli")

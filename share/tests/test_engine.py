@@ -40,7 +40,7 @@ class Sessions(Engines):
         """Waits for a line; what is of the moment may differ, and states come at any time."""
         if "state" in wanted.values():
             editor.wait_for(lambda: editor.notices("state"), "a state")
-            self.assertEqual(set(editor.notices("state")[0]), set(wanted))
+            self.assertEqual({*editor.notices("state")[0]} - {"unproved"}, {*wanted})
             return
         def got() -> dict | None:
             known = [line for line in editor.lines if line.get("notice") not in ("state", "cursors")]

@@ -11,13 +11,15 @@ from unittest import mock
 
 from share import installing
 from share.installing import LINKS
-from share.program import command
+from share.program import command, file_of
 from share.tests.pages import Server
 from share.tests.support import TOP, Case
 from share.tests.test_terminal import Terminal
 from share.words import Trouble
 
 EMACS = '(progn (add-to-list (quote load-path) \\"SITE\\") (require (quote vialshoal)) (vialshoal-open \\"note\\"))'
+# What names another program than the installed one.
+PROGRAMS = ("VIALSHOAL_PROGRAM", "VIALSHOAL_BUILD")
 KILLED = """
 import os, pathlib, signal, sys
 sys.path[0] = sys.argv[1]
@@ -55,15 +57,14 @@ class Installed(Case):
         super().setUp()
         self.copy, self.prefix = self.folder / "copy", self.folder / "prefix"
         for name in "bin", "share", "editors", "docs":
-            shutil.copytree(TOP / name, self.copy / name, ignore=shutil.ignore_patterns("tests", "test", "__pycache__"))
+            shutil.copytree(TOP / name, self.copy / name, ignore=shutil.ignore_patterns("tests", "test", "__pycache__", "site_cli"))
         self.program = self.copy / "crates" / "site_cli" / "out" / "site_cli"
         self.program.parent.mkdir(parents=True)
-        named = command()[0]
-        shutil.copy(installing.BUILT if named == str(TOP / "bin" / "built") else named, self.program)
+        shutil.copy(file_of(command()), self.program)
 
     def run_note(self, *words: str, top: pathlib.Path | None = None, status: int = 0, **more: str) -> str:
         """What the installed command prints, or another's, which ends with this status."""
-        environment = {key: value for key, value in os.environ.items() if key != "VIALSHOAL_PROGRAM"}
+        environment = {key: value for key, value in os.environ.items() if key not in PROGRAMS}
         done = subprocess.run([str((top or self.prefix) / "bin" / "note"), *words], capture_output=True, timeout=120,
                               check=False, text=True, env={**environment, **more})
         self.assertEqual(done.returncode, status, (words, done.stdout, done.stderr))
@@ -85,7 +86,8 @@ class Installed(Case):
         self.install()
         shutil.rmtree(self.copy)
         with mock.patch.dict(os.environ):
-            os.environ.pop("VIALSHOAL_PROGRAM", None)
+            for name in PROGRAMS:
+                os.environ.pop(name, None)
             note = str(self.prefix / "bin" / "note")
             self.run_note("append", "note", "one")
             terminal = Terminal(self, "data", "note", command=note)
@@ -120,8 +122,8 @@ class Installed(Case):
 
     def site_cli(self, script: str) -> str:
         """What the installed program answers."""
-        return subprocess.run([str(self.prefix / "bin" / "site_cli")], input=script, capture_output=True, text=True,
-                              check=True, timeout=120).stdout
+        return subprocess.run([str(self.prefix / "bin" / "site_cli")], input=script, capture_output=True, text=True, check=True,
+                              timeout=120, env={key: value for key, value in os.environ.items() if key not in PROGRAMS}).stdout
 
     def test_what_is_taken_away(self) -> None:
         others = {"bin/other": "x", "share/man/man1/other.1": "y", "share/emacs/site-lisp/vialshoal.elc": "z"}
@@ -218,7 +220,7 @@ class Installed(Case):
             self.here("install")
         done = subprocess.run([sys.executable, "-B", "-c", KILLED, str(self.copy), str(self.prefix), str(number), verb],
                               check=False, timeout=120, stdout=subprocess.DEVNULL,
-                              env={key: value for key, value in os.environ.items() if key != "VIALSHOAL_PROGRAM"})
+                              env={key: value for key, value in os.environ.items() if key not in PROGRAMS})
         self.assertIn(done.returncode, (0, -signal.SIGKILL))
         if (self.prefix / "bin/note").exists():
             self.assertIn("usage", self.run_note("cat", "--help"))

@@ -16,7 +16,6 @@ import time
 from collections.abc import Callable, Sequence
 from pathlib import Path
 
-from tools.building import BUILT
 from tools.faults.cases import CASES
 from tools.faults.playing import Player
 from tools.faults.scripts import four_mib, scripts
@@ -97,7 +96,7 @@ def parser() -> argparse.ArgumentParser:
 
 
 def main(words: Sequence[str]) -> int:
-    given, command = parser().parse_args(words), program(BUILT)
+    given, command = parser().parse_args(words), program(itself=True)
     tries = all_tries(given.few)
     names = given.names or (FEW if given.few else list(tries))
     unknown = [name for name in names if name not in tries]

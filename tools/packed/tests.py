@@ -333,7 +333,7 @@ class Files(Packed):
 
 
 def main() -> int:
-    modules = ["tools.packed.tests", "tools.packed.chunk_tests", "tools.converging.tests", "tools.rust.tests"]
+    modules = ["tools.packed.tests", "tools.packed.chunk_tests", "tools.converging.tests", "tools.rust.tests", "tools.build_tests"]
     result = unittest.TextTestRunner().run(unittest.defaultTestLoader.loadTestsFromNames(modules))
     failed = len({str(test) for test, _ in [*result.failures, *result.errors]})
     print(f"{result.testsRun - failed} passed, {failed} failed")

@@ -13,7 +13,7 @@ from contextlib import contextmanager, redirect_stdout
 from io import StringIO
 from pathlib import Path
 
-from tools.play_rows import NOTHING_BUILT, program
+from tools.play_rows import NOTHING_PROVED, proved_program
 from tools.running import folder_in_memory
 from tools.rust.comparing import CARGO, Comparison, compare_edges, compare_events, compare_scripts
 from tools.rust.workspace import RUST, made
@@ -67,9 +67,9 @@ def seen(proved: str, room: Path, target: Path) -> str:
 
 
 def main(numbers: Sequence[str]) -> int:
-    proved = program()
+    proved = proved_program()
     if proved is None:
-        print(f"broken: {NOTHING_BUILT}", file=sys.stderr)
+        print(f"broken: {NOTHING_PROVED}", file=sys.stderr)
         return 2
     wanted = [BROKEN[int(number)] for number in numbers] or BROKEN
     failed = 0

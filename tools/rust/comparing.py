@@ -1,4 +1,4 @@
-"""Compares the program that Rust builds from rust/ with the one that was built from the proved sources: rows, scripts, sites that meet,
+"""Compares the program that Rust builds from rust/ with the proved one: rows, scripts, sites that meet,
 packed lists, and random events have to be answered by the same bytes, with the same status, and leave the same files; and the library that
 Rust builds has to pass the library's tests."""
 from __future__ import annotations
@@ -16,7 +16,7 @@ from pathlib import Path
 
 from tools import TOP, rows
 from tools.packed.packed import spelled_number
-from tools.play_rows import NOTHING_BUILT, program
+from tools.play_rows import NOTHING_PROVED, proved_program
 from tools.running import Ended, Files, Stream, Word, folder_in_memory, lay, run
 from tools.rust.drawing import Draw, Found, written_in
 from tools.rust.workspace import RUST
@@ -238,9 +238,9 @@ def compare_events(both: Comparison, events: int, seed: int) -> None:
 
 
 def compare(events: int, seed: int) -> int:
-    proved = program()
+    proved = proved_program()
     if proved is None:
-        print(f"rust: {NOTHING_BUILT}", file=sys.stderr)
+        print(f"rust: {NOTHING_PROVED}", file=sys.stderr)
         return 2
     if subprocess.run([*CARGO, "-p", "site_cli", "-p", "vialshoal_c"]).returncode:
         return 2

@@ -65,7 +65,7 @@ def main(words: Sequence[str]) -> int:
         "--check", action="store_true", help="write nothing; say where rust/ isn't what the sources make"
     )
     parser.add_argument(
-        "--compare", action="store_true", help="compare the program that Rust builds with the one that was built last"
+        "--compare", action="store_true", help="compare the program that Rust builds with the proved one"
     )
     parser.add_argument("--events", type=int, default=0, metavar="N", help="with --compare: play so many random events")
     parser.add_argument(

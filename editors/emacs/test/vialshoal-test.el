@@ -96,11 +96,11 @@
                 (:site 9 :own t :characters 3 :messages 2)
                 (:site 4 :own :false :characters 2 :messages 2)
                 (:site 5 :own :false :characters 1 :messages 1)]
-     :renewed '(:site 8 :own :false))
+     :renewed '(:site 8 :own :false) :unproved t)
     (cl-letf (((symbol-function 'process-live-p) (lambda (_) t)))
       (should (equal (vialshoal--lighter)
                      (concat " Note:sent, left out: 14 of A%%da, 3 of you, "
-                             "2 of site 4, .., renewed by site 8"))))))
+                             "2 of site 4, .., renewed by site 8, not proved"))))))
 
 (ert-deftest vialshoal-test-the-history-has-what-was-left-out ()
   (vialshoal-support-with-note vialshoal-support--open

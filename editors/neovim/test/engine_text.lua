@@ -98,7 +98,7 @@ with_folder('others\' cursors are shown with their names', function(open)
     ]])
     return #marks == 1 and marks[1][3] == 5 and marks[1][4].virt_text[1][1] == ' Ada '
   end, 'a cursor')
-  support.wait(function() return bo:run('return v.statusline()') == 'Note:kept, 2 on' end, 'two to be on')
+  support.wait(function() return vim.startswith(bo:run('return v.statusline()'), 'Note:kept, 2 on') end, 'two to be on')
   local function selected(at, anchor)
     support.wait(function()
       local cursor = bo:run('return v.note().cursors[1]')

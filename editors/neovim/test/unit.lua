@@ -77,7 +77,7 @@ end)
 
 test('a status line says what is left out', function()
   local note = fake.with('tea')
-  note.job, note.state = 1, { log = 'sent', unsent = 0, on = 1, types = true, renewed = { site = 8, own = false }, left_out = {
+  note.job, note.state = 1, { log = 'sent', unsent = 0, on = 1, types = true, renewed = { site = 8, own = false }, unproved = true, left_out = {
     { site = 7, own = false, name = 'A%da\27', characters = 14, messages = 1 },
     { site = 9, own = true, characters = 3, messages = 2 },
     { site = 4, own = false, characters = 2, messages = 2 },
@@ -87,7 +87,7 @@ test('a status line says what is left out', function()
   local words = vialshoal.statusline()
   package.loaded['vialshoal'] = nil
   vialshoal = require('vialshoal')
-  same('Note:sent, left out: 14 of A%%da, 3 of you, 2 of site 4, .., renewed by site 8', words)
+  same('Note:sent, left out: 14 of A%%da, 3 of you, 2 of site 4, .., renewed by site 8, not proved', words)
 end)
 
 test('bytes that are of no character are replaced where they are typed', function()

@@ -22,7 +22,7 @@ sys.path.insert(0, str(TOP))
 
 from tools.packed.packed import pack
 
-PROGRAM = os.environ.get("VIALSHOAL_PROGRAM", str(TOP / "crates" / "site_cli" / "out" / "site_cli"))
+PROGRAM = os.environ.get("VIALSHOAL_PROGRAM", str(TOP / "bin" / "built"))
 
 Edit = tuple[str, int, int, bytes]
 one_edit = st.tuples(st.sampled_from(("type", "cut", "looks", "recall", "restore", "hide", "show")), st.integers(0, 2**16),

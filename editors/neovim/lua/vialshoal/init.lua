@@ -415,6 +415,9 @@ local function state_words(note)
   if state.renewed then
     words = words .. ', renewed by ' .. history.author(state.renewed)
   end
+  if state.unproved then
+    words = words .. ', not proved'
+  end
   if state.trouble then
     words = words .. ', trouble: ' .. text.name(state.trouble, 60)
   end
