@@ -261,16 +261,18 @@ class Server:
         return not self._editors
 
     def _listen(self) -> None:
-        with _socket_path(self._name) as path:
+        """Puts the note's socket in its place once it listens, so that who finds it is heard."""
+        with _socket_path(self._name) as path, _socket_path(f".{os.getpid()}") as fresh:
             with contextlib.suppress(FileNotFoundError):
-                os.unlink(path)
+                os.unlink(fresh)
             before = os.umask(0o177)
             try:
-                self._listener.bind(path)
+                self._listener.bind(fresh)
             finally:
                 os.umask(before)
-        self._listener.listen()
-        self._listener.setblocking(False)
+            self._listener.listen()
+            self._listener.setblocking(False)
+            os.replace(fresh, path)
         self._selector.register(self._listener, selectors.EVENT_READ)
 
     def _progress(self, done: int, total: int) -> None:

@@ -3,6 +3,7 @@ import json
 import os
 import random
 import signal
+import socket
 import subprocess
 import time
 from concurrent.futures import ThreadPoolExecutor
@@ -233,6 +234,25 @@ class Apart(Engines):
                 agrees.result(0.5)
             self.assertNotIn("error", first.ask("open", protocol=1, units=["utf-16"]))
             agrees.result(PATIENCE)
+
+    def test_a_socket_is_there_once_it_listens(self) -> None:
+        found, listen = list[bool](), socket.socket.listen
+        with self.person("bo").here():
+            folder = serving.run_folder()
+            folder.mkdir(parents=True)
+
+            def listened(one: socket.socket) -> None:
+                found.append((folder / "note.sock").exists())
+                listen(one)
+
+            server = serving.Server("note", mock.Mock())
+            with mock.patch.object(socket.socket, "listen", listened):
+                server._listen()
+            self.addCleanup(server._listener.close)
+            self.assertEqual((found, os.listdir(folder)), ([False], ["note.sock"]))
+            line = serving.connected("note")
+            self.assertIsNotNone(line)
+            line.close()
 
     def test_what_is_for_another_note_is_not_typed_into_this_one(self) -> None:
         other = self.opened(self.person("other"), "note", self.file_log())
