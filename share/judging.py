@@ -33,6 +33,7 @@ given back, and may be added again when there is room.
 """
 import hashlib
 import heapq
+from bisect import bisect_left, bisect_right
 from collections.abc import Callable, Iterable, Iterator, Sequence
 from enum import Enum
 from typing import NamedTuple
@@ -126,8 +127,8 @@ class Judge:
         # What is told of what doesn't count, where nothing came since that would change it.
         self._incomplete: int | None = None
         self._left_out: list[LeftOut] | None = None
-        # Where what lost its place ends and its number didn't come to yet, as sites and seqs.
-        self._ends_of_lost: set[tuple[int, int]] = set()
+        # Where what lost its place ends that its number didn't come to yet, by the sites; they rise.
+        self._ends_of_lost: dict[int, list[int]] = {}
         # How many characters entries inserted that aren't let through, of those that this was asked of.
         self._typed_by: dict[int, int] = {}
         self._dropped: list[Row] = []
@@ -345,6 +346,8 @@ class Judge:
         if self._left_out is None:
             self._ends_of_lost.clear()
             self._left_out = joined([*self._lost(), *self._behind_what_was_lost()])
+            for ends in self._ends_of_lost.values():
+                ends.sort()
         return self._left_out
 
     def held_up(self, site: int) -> list[Entry]:
@@ -535,7 +538,8 @@ class Judge:
         while waiting and waiting[0][0] <= chain.length:
             _, other, time = heapq.heappop(waiting)
             self._has_one_more(self._chains[other], time, site, woken)
-        if run.seq <= self._copies.sites.get(site, 0) or (site, chain.front) in self._ends_of_lost:
+        ends = self._ends_of_lost.get(site, [])
+        if run.seq <= self._copies.sites.get(site, 0) or bisect_left(ends, run.seq) < bisect_right(ends, chain.front):
             self._changed()
         if site in self._lacking:
             self._turns.add(site)
@@ -697,7 +701,7 @@ class Judge:
         """Whether another entry that counts has the same messages; looked at again once that may be so."""
         chain = self._chains.get(entry.site)
         if chain is None or entry.last > chain.front:
-            self._ends_of_lost.add((entry.site, entry.last))
+            self._ends_of_lost.setdefault(entry.site, []).append(entry.last)
             return False
         at = chain.line.at_seq(entry.first)
         return chain.line.first(at) == entry.first and self._ledger.spelled(chain.line.numbers[at]) == entry.spelled
