@@ -1,0 +1,3 @@
+import vialshoal from './index.js';
+
+export const { Past, Refused, Shown, Text } = vialshoal;
