@@ -1,5 +1,5 @@
-"""Puts the package for Node and for pages into a folder: python3 -B -m tools.npm FOLDER [--wasm]. With --wasm Rust compiles the
-library from rust/ as WebAssembly; where it can't, what is lacking is told, and the status is 3."""
+"""Makes a folder that is the package for Node and for pages: python3 -B -m tools.npm FOLDER [--wasm]. With --wasm Rust compiles the
+library from rust/ as WebAssembly; where it can't, what is lacking is told, nothing is changed, and the status is 3."""
 from __future__ import annotations
 
 import argparse
@@ -40,7 +40,10 @@ function require(name) {{
     return loaded[name].exports;
 }}
 
-export const {{ Past, Refused, Shown, Text }} = require('./index.js');
+const vialshoal = require('./index.js');
+
+export default vialshoal;
+export const {{ Past, Refused, Shown, Text }} = vialshoal;
 """
 
 
@@ -118,7 +121,8 @@ def main(words: Sequence[str]) -> int:
     except Lacking as why:
         print(f"WebAssembly: {why} (docs/LIBRARY.md)", file=sys.stderr)
         return LACKING
-    given.folder.mkdir(parents=True, exist_ok=True)
+    shutil.rmtree(given.folder, ignore_errors=True)
+    given.folder.mkdir(parents=True)
     for file in FILES:
         shutil.copyfile(NODE / file, given.folder / file)
     if made is not None:

@@ -16,7 +16,12 @@ const HANDLE = 4;
 const SITE = 2;
 const NAME = 8;
 const CHANGE = 24;
-const NO_MEMORY = Symbol('no memory');
+
+class NoMemory extends Error {
+    constructor() {
+        super('vialshoal: memory was refused');
+    }
+}
 
 // A text, or one as it was: where the module has its handle.
 class Handle {
@@ -76,7 +81,7 @@ class Library {
 
     #allocated(length) {
         const at = length <= MOST ? this.call(this.#allocate, length) : 0;
-        if (at === 0) throw NO_MEMORY;
+        if (at === 0) throw new NoMemory();
         return at;
     }
 
@@ -280,7 +285,7 @@ function answering(asked) {
         try {
             return asked(...given);
         } catch (why) {
-            if (why !== NO_MEMORY) throw why;
+            if (!(why instanceof NoMemory)) throw why;
             return [OUT_OF_MEMORY, 0];
         }
     };
