@@ -98,6 +98,12 @@ def linker(root: Path) -> dict[str, str]:
     raise Lacking("there is no wasm-ld")
 
 
+def flags(root: Path) -> dict[str, str]:
+    """The environment by which the same is made wherever the sources lie."""
+    places = {RUST: "rust", root / "lib/rustlib/src/rust": "std"}
+    return {"CARGO_ENCODED_RUSTFLAGS": "\x1f".join(f"--remap-path-prefix={at}={name}" for at, name in places.items())}
+
+
 def compiled() -> Path:
     """The library as WebAssembly."""
     root = sysroot()
@@ -106,7 +112,7 @@ def compiled() -> Path:
     subprocess.run(
         ["cargo", "build", "--offline", "--locked", "--quiet", "--profile", "wasm", "--target", TARGET,
          "--target-dir", str(RUST / "target"), "--package", "vialshoal_wasm", *words],
-        cwd=RUST, env={**kept, **linker(root), **environment}, check=True,
+        cwd=RUST, env={**kept, **flags(root), **linker(root), **environment}, check=True,
     )  # fmt: skip
     return RUST / "target" / TARGET / "wasm" / "vialshoal_wasm.wasm"
 
