@@ -1,11 +1,15 @@
-"""Chromium over the package for pages, which bin/library --wasm makes: the tests of library/node/test.js in a page and in a worker, and
-the example. The last line is 'N passed, M failed'."""
+"""Chromium over the package for pages, which bin/library --wasm makes: the tests of library/node/test.js in a page and in a worker, the
+example, and the page that docs/LIBRARY.md shows. The last line is 'N passed, M failed'."""
 import functools
 import http.server
+import re
 import shutil
 import sys
+import tempfile
 import threading
 import unittest
+from collections.abc import Iterator
+from contextlib import contextmanager
 from pathlib import Path
 from typing import Any
 
@@ -19,6 +23,7 @@ except ImportError:
     HAS_SELENIUM = False
 
 LIBRARY = Path(__file__).resolve().parent.parent
+DOCS = LIBRARY.parent / "docs" / "LIBRARY.md"
 CHROMIUM, DRIVER = shutil.which("chromium"), shutil.which("chromedriver")
 WORDS = ["--headless=new", "--no-sandbox", "--disable-gpu", "--disable-dev-shm-usage", "--no-first-run", "--disable-extensions",
          "--no-proxy-server"]
@@ -45,16 +50,25 @@ class Quiet(http.server.SimpleHTTPRequestHandler):
         """Nothing is said."""
 
 
-class Page(unittest.TestCase):
-    """Pages of a server over the library's folder."""
+@contextmanager
+def served(folder: Path) -> Iterator[str]:
+    """A folder's address, while it is served."""
+    server = http.server.ThreadingHTTPServer(("127.0.0.1", 0), functools.partial(Quiet, directory=str(folder)))
+    threading.Thread(target=server.serve_forever, daemon=True).start()
+    try:
+        yield f"http://127.0.0.1:{server.server_port}"
+    finally:
+        server.shutdown()
+        server.server_close()
 
-    server: http.server.ThreadingHTTPServer
+
+class Page(unittest.TestCase):
+    """Pages in a browser."""
+
     driver: Any
 
     @classmethod
     def setUpClass(cls) -> None:
-        cls.server = http.server.ThreadingHTTPServer(("127.0.0.1", 0), functools.partial(Quiet, directory=str(LIBRARY)))
-        threading.Thread(target=cls.server.serve_forever, daemon=True).start()
         options: Any = webdriver.ChromeOptions()
         options.binary_location = CHROMIUM
         for word in WORDS:
@@ -65,11 +79,10 @@ class Page(unittest.TestCase):
     @classmethod
     def tearDownClass(cls) -> None:
         cls.driver.quit()
-        cls.server.shutdown()
-        cls.server.server_close()
 
     def setUp(self) -> None:
-        self.driver.get(f"http://127.0.0.1:{self.server.server_port}/node/example/")
+        address = self.enterContext(served(LIBRARY))
+        self.driver.get(f"{address}/node/example/")
 
     def wait_for(self, condition: str, *words: object) -> None:
         """Waits until a condition of the page's holds, in which `words` are these."""
@@ -109,6 +122,16 @@ class Page(unittest.TestCase):
             script = "const [box, text] = arguments; box.value = text; box.dispatchEvent(new Event('input'))"
             self.driver.execute_script(script, one, text)
             self.both_show(text)
+
+
+    def test_page_of_the_docs(self) -> None:
+        found = re.search(r"    <script type=\"module\">.*?</script>\n", DOCS.read_text(encoding="utf-8"), re.DOTALL)
+        assert found
+        with tempfile.TemporaryDirectory() as name, served(Path(name)) as address:
+            shutil.copytree(LIBRARY / "out" / "node", Path(name, "node"))
+            Path(name, "page.html").write_text(f"<!doctype html>\n<body>\n{found[0]}", encoding="utf-8")
+            self.driver.get(f"{address}/page.html")
+            self.wait_for("document.body.textContent === words[0]", "Oberon")
 
 
 def main() -> int:
