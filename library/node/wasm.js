@@ -17,6 +17,9 @@ const SITE = 2;
 const NAME = 8;
 const CHANGE = 24;
 
+// Of which class typed arrays are, wherever they come from.
+const kindOf = Object.getOwnPropertyDescriptor(Object.getPrototypeOf(Uint8Array.prototype), Symbol.toStringTag).get;
+
 class NoMemory extends Error {
     constructor() {
         super('vialshoal: memory was refused');
@@ -101,7 +104,7 @@ class Library {
 
     // What `use` answers, which is called with where these bytes stand and how many they are.
     handed(data, use) {
-        if (!(data instanceof Uint8Array)) throw new TypeError('vialshoal: an argument is none');
+        if (kindOf.call(data) !== 'Uint8Array') throw new TypeError('vialshoal: an argument is none');
         return this.#within(this.given, data.length, (at) => {
             this.#bytes.set(data, at);
             return use(at, data.length);
@@ -110,8 +113,11 @@ class Library {
 
     // The same of rows of so many numbers.
     rows(numbers, width, use) {
-        const count = Math.floor(numbers.length / width);
-        return this.handed(new Uint8Array(numbers.buffer, numbers.byteOffset, 4 * width * count), (at) => use(at, count));
+        const count = Math.floor(numbers.length / width), length = width * count;
+        return this.#within(this.given, 4 * length, (at) => {
+            for (let index = 0; index < length; index += 1) this.#words.setUint32(at + 4 * index, numbers[index], true);
+            return use(at, count);
+        });
     }
 
     // What `read` makes of what `put` puts into a room for so many items of this size; or the number that refuses it.

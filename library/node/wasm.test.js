@@ -7,6 +7,7 @@ const { execFileSync } = require('child_process');
 const { cpSync, mkdtempSync, readFileSync, rmSync, writeFileSync } = require('fs');
 const { tmpdir } = require('os');
 const path = require('path');
+const { runInNewContext } = require('vm');
 
 const PACKAGE = path.resolve(__dirname, process.env.VIALSHOAL_PACKAGE ?? '../out/node');
 const WASM = readFileSync(path.join(PACKAGE, 'vialshoal.wasm'));
@@ -161,6 +162,20 @@ function lengthsAreLong() {
     });
 }
 
+// Bytes of another context are bytes, and nothing else is.
+function bytesAreTold() {
+    packageOver(WASM, (folder) => {
+        const { Text } = require(folder);
+        const text = new Text(1, 1);
+        text.insert(0, runInNewContext('new Uint8Array([79, 98])'));
+        assert.strictEqual(`${text}`, 'Ob');
+        for (const wrong of [7, null, [79], new Uint16Array(2), new ArrayBuffer(2), { [Symbol.toStringTag]: 'Uint8Array', length: 1 }]) {
+            assert.throws(() => text.insert(0, wrong), /an argument is none/);
+            assert.throws(() => text.take(wrong), /an argument is none/);
+        }
+    });
+}
+
 // An addon that doesn't load is none.
 function addonsAreChosen() {
     packageOver(WASM, (folder) => {
@@ -213,6 +228,6 @@ function fills() {
     });
 }
 
-[memoryEnds, addressesAreHigh, lengthsAreLong, addonsAreChosen, nothingFollowsATrap].forEach((test) => test());
+[memoryEnds, addressesAreHigh, lengthsAreLong, bytesAreTold, addonsAreChosen, nothingFollowsATrap].forEach((test) => test());
 if (process.argv[2] === '--large') fills();
 console.log('node, WebAssembly: all is so');
