@@ -76,7 +76,8 @@ def words_for_std(root: Path) -> tuple[list[str], dict[str, str]]:
     if not (library / "vendor").is_dir():
         raise Lacking(f"Rust's standard library for {TARGET} isn't there, nor its sources")
     vendored = ["--config", 'source.crates-io.replace-with="std"', "--config", f'source.std.directory="{library}/vendor"']
-    return ["-Zbuild-std=std,panic_abort", *vendored], {"RUSTC_BOOTSTRAP": "1"}
+    # (without a feature that is named it would be compiled with those that print where a panic was)
+    return ["-Zbuild-std=std,panic_abort", "-Zbuild-std-features=compiler-builtins-mem", *vendored], {"RUSTC_BOOTSTRAP": "1"}
 
 
 def linkers() -> Iterator[str]:
