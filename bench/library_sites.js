@@ -9,7 +9,7 @@ const READINGS = 10;
 
 class AddonSite {
     constructor(site, units) {
-        const { Text } = require('../library/out/node');
+        const { Text } = require(process.env.VIALSHOAL_PACKAGE ?? '../library/out/node');
         this.text = new Text(1, site, { units });
     }
 

@@ -1,8 +1,9 @@
 'use strict';
 
-// What the addon adds to the library: numbers in and out, buffers, errors. `node library/node/test.js`
+// What the addon, or WebAssembly in its place, adds to the library: numbers in and out, buffers, errors.
+// `node library/node/test.js`; VIALSHOAL_PACKAGE may name another package.
 const assert = require('assert');
-const { Past, Refused, Shown, Text } = require('../out/node');
+const { Past, Refused, Shown, Text } = require(process.env.VIALSHOAL_PACKAGE ?? '../out/node');
 
 function refuses(number, call) {
     assert.throws(call, (error) => error instanceof Refused && error.number === number);

@@ -5,8 +5,10 @@ const assert = require('assert');
 const { spawnSync } = require('child_process');
 const { existsSync } = require('fs');
 const path = require('path');
-const { Refused, Text } = require('../out/node');
-const { Positions } = require('../out/node/positions.js');
+
+const PACKAGE = process.env.VIALSHOAL_PACKAGE ?? '../out/node';
+const { Refused, Text } = require(PACKAGE);
+const { Positions } = require(`${PACKAGE}/positions.js`);
 
 const PROGRAM = process.env.VIALSHOAL_PROGRAM ?? path.join(__dirname, '../../bin/built');
 const ROUNDS = 400;

@@ -8,7 +8,7 @@ from tools.rust.proofs import Clause, Function, Guard
 from tools.rust.tokens import Unknown
 
 WIDTH = 100
-HAS_TAG = "(tag as usize) < self.nodes.table.len()"
+HAS_TAG = "tag < self.nodes.table.len() as u64"
 NO_MEMBER = '"no member has this tag"'
 # The public functions over unsafe code that ask something of their caller, each with what tests it.
 ASSERTED = {

@@ -39,6 +39,16 @@ INSTEAD: dict[str, list[tuple[str, str]]] = {
         ),
         ("use looks::Refusal;\n", "use looks::Refusal;\nuse std::mem::ManuallyDrop;\n"),
     ],
+    # Of a limit and a length that pass the sizes of 32 bits the one becomes the greatest size, the other is more than bytes can be.
+    "op_log/src/lib.rs": [
+        ("pub const MAX_OPS: usize = 1 << 32;", "pub const MAX_OPS: usize = (u32::MAX as usize).saturating_add(1);"),
+    ],
+    "piece_raw/src/lib.rs": [
+        ("pub const MAX_TAGS: usize = 1 << 32;", "pub const MAX_TAGS: usize = (u32::MAX as usize).saturating_add(1);"),
+    ],
+    "packed/src/reading.rs": [
+        ("stretch_at(more as usize + 2, rest)", "stretch_at(usize::try_from(more).ok()?.checked_add(2)?, rest)"),
+    ],
     "folder_shelf/src/folder_shelf.rs": [
         ("pub type HostShelf<R> = FolderShelf<HostFolder<R>>;", "pub type HostShelf = FolderShelf<HostFolder>;"),
     ],

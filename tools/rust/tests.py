@@ -7,6 +7,7 @@ from tools.rust.forms import laid_out, with_forms
 from tools.rust.guards import Guards
 from tools.rust.places import with_exports
 from tools.rust.proofs import strip
+from tools.rust.sizes import conversions, listed
 from tools.rust.tokens import Unknown, tokens_of
 from tools.rust.uses import rewritten, without_names
 from tools.rust.workspace import has_items, without_module
@@ -100,7 +101,7 @@ class Conditions(unittest.TestCase):
 
     def test_what_guards_unsafe_code_is_asserted(self) -> None:
         made = rust(self.SOURCE, "piece_raw", has_unsafe=True)
-        self.assertIn("{\n        assert!((tag as usize) < self.nodes.table.len(),", made)
+        self.assertIn("{\n        assert!(tag < self.nodes.table.len() as u64,", made)
 
     def test_what_guards_unsafe_code_without_a_test_is_an_error(self) -> None:
         with self.assertRaises(Unknown):
@@ -109,3 +110,11 @@ class Conditions(unittest.TestCase):
     def test_private_functions_are_as_they_were(self) -> None:
         made = rust(self.SOURCE.replace("pub fn", "pub(crate) fn"), "piece_raw", has_unsafe=True)
         self.assertNotIn("Asks", made)
+
+
+class Sizes(unittest.TestCase):
+    def test_each_number_that_becomes_a_size_was_looked_at(self) -> None:
+        found = set(conversions())
+        self.assertEqual(sorted(found - set(listed())), [], "does it stay right where sizes have 32 bits? Put it into sizes.txt")
+        self.assertEqual(sorted(set(listed()) - found), [], "it isn't there any more")
+        self.assertEqual(len(listed()), len(set(listed())))

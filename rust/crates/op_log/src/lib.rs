@@ -13,4 +13,4 @@ mod stretch;
 pub use log::Log;
 
 /// The most operations of a log, so that the place of each has 32 bits. This project's own.
-pub const MAX_OPS: usize = 1 << 32;
+pub const MAX_OPS: usize = (u32::MAX as usize).saturating_add(1);

@@ -228,7 +228,7 @@ fn place_at(caret: Anchor, bytes: &[u8]) -> Option<(Anchor, &[u8])> {
 // Two bytes or more.
 fn long_at(bytes: &[u8]) -> Option<(&[u8], &[u8])> {
     let (more, rest) = number_at(bytes)?;
-    stretch_at(more as usize + 2, rest)
+    stretch_at(usize::try_from(more).ok()?.checked_add(2)?, rest)
 }
 
 // A byte that is a code.

@@ -12,4 +12,4 @@ pub use members::Members;
 pub use ring::Ring;
 
 /// The most members of a ring, so that a tag has 32 bits: the table isn't grown past it. This project's own.
-pub const MAX_TAGS: usize = 1 << 32;
+pub const MAX_TAGS: usize = (u32::MAX as usize).saturating_add(1);

@@ -36,7 +36,7 @@ impl<T> Ring<T> {
     ///
     /// Asks of its caller: `HasTag self.now.items tag`.
     pub fn after(&self, tag: u64) -> Option<u64> {
-        assert!((tag as usize) < self.nodes.table.len(), "no member has this tag");
+        assert!(tag < self.nodes.table.len() as u64, "no member has this tag");
         self.nodes.next(Some(tag))
     }
 
@@ -44,7 +44,7 @@ impl<T> Ring<T> {
     ///
     /// Asks of its caller: `HasTag self.now.items tag`.
     pub fn before(&self, tag: u64) -> Option<u64> {
-        assert!((tag as usize) < self.nodes.table.len(), "no member has this tag");
+        assert!(tag < self.nodes.table.len() as u64, "no member has this tag");
         self.nodes.prev(Some(tag))
     }
 
@@ -52,7 +52,7 @@ impl<T> Ring<T> {
     ///
     /// Asks of its caller: `IfSome at (HasTag self.now.items)`.
     pub fn from(&self, at: Option<u64>) -> Members<'_, T> {
-        assert!(at.is_none_or(|tag| (tag as usize) < self.nodes.table.len()), "no member has this tag");
+        assert!(at.is_none_or(|tag| tag < self.nodes.table.len() as u64), "no member has this tag");
         Members::from(&self.nodes, at)
     }
 
@@ -60,7 +60,7 @@ impl<T> Ring<T> {
     ///
     /// Asks of its caller: `IfSome last (HasTag self.now.items)`.
     pub fn rest_after(&self, last: Option<u64>) -> Members<'_, T> {
-        assert!(last.is_none_or(|tag| (tag as usize) < self.nodes.table.len()), "no member has this tag");
+        assert!(last.is_none_or(|tag| tag < self.nodes.table.len() as u64), "no member has this tag");
         Members::rest_after(&self.nodes, last)
     }
 
@@ -68,7 +68,7 @@ impl<T> Ring<T> {
     ///
     /// Asks of its caller: `HasTag self.now.items tag`.
     pub fn value_at(&self, tag: u64) -> &T {
-        assert!((tag as usize) < self.nodes.table.len(), "no member has this tag");
+        assert!(tag < self.nodes.table.len() as u64, "no member has this tag");
         self.nodes.value(tag)
     }
 
@@ -91,7 +91,7 @@ impl<T> Ring<T> {
     ///
     /// Asks of its caller: `HasTag self.old.items tag`.
     pub fn seek(&mut self, tag: u64) {
-        assert!((tag as usize) < self.nodes.table.len(), "no member has this tag");
+        assert!(tag < self.nodes.table.len() as u64, "no member has this tag");
         self.cursor = Some(tag);
     }
 

@@ -4,10 +4,11 @@
 //! refused. This crate gives Rust's own types those calls, so that the code that was proved stays as it is: where memory is
 //! refused, it goes the way that it was proved to go. Nothing here is proved.
 //!
-//! Numbers and sizes have 64 bits in what was proved, so no narrower machine is taken.
+//! Sizes have 64 bits in what was proved. Where they have 32, each conversion to a size is one that stays right, as
+//! docs/RUST.md lists; of a narrower machine nothing was looked at.
 
-#[cfg(not(target_pointer_width = "64"))]
-compile_error!("sizes and pointers have 64 bits here");
+#[cfg(not(any(target_pointer_width = "32", target_pointer_width = "64")))]
+compile_error!("sizes and pointers have 32 or 64 bits here");
 
 mod alloc;
 mod boxed;

@@ -1,0 +1,306 @@
+'use strict';
+
+// The calls of addon.c, by the same names, over the library as a module of WebAssembly: index.js takes either. What the module
+// reads and writes is as vialshoal.h has it, with sizes and pointers of 32 bits.
+
+const OUT_OF_MEMORY = 7;
+const TOO_SHORT = 107;
+// The most bytes that memory is asked for at once.
+const MOST = 2 ** 31 - 1;
+// How much is kept for the numbers that a call answers, for what it reads, and for what it writes. A call that reads or writes
+// more takes memory of its own.
+const ANSWER = 64;
+const ROOM = 65536;
+// How long the header's types are.
+const HANDLE = 4;
+const SITE = 2;
+const NAME = 8;
+const CHANGE = 24;
+
+// Of which class typed arrays are, wherever they come from.
+const kindOf = Object.getOwnPropertyDescriptor(Object.getPrototypeOf(Uint8Array.prototype), Symbol.toStringTag).get;
+
+class NoMemory extends Error {
+    constructor() {
+        super('vialshoal: memory was refused');
+    }
+}
+
+// A text, or one as it was: where the module has its handle.
+class Handle {
+    constructor(at, isPast) {
+        this.at = at;
+        this.isPast = isPast;
+    }
+}
+
+function shown(handle) {
+    if (!(handle instanceof Handle)) throw new TypeError('vialshoal: a text was expected');
+    return handle.at;
+}
+
+function text(handle) {
+    const at = shown(handle);
+    if (handle.isPast) throw new TypeError('vialshoal: a text was expected');
+    return at;
+}
+
+// The module's memory, and how its functions are called.
+class Library {
+    #memory;
+    #bytes;
+    #words;
+    #allocate;
+    #free;
+    #isLost = false;
+    #dropped = new FinalizationRegistry((handle) => this.#drop(handle));
+
+    constructor(module) {
+        this.exports = new WebAssembly.Instance(module).exports;
+        this.#memory = this.exports.memory;
+        this.#allocate = this.exports.vialshoal_wasm_allocate;
+        this.#free = this.exports.vialshoal_wasm_free;
+        this.#view();
+        this.answer = this.#allocated(ANSWER + 2 * ROOM);
+        this.given = this.answer + ANSWER;
+        this.room = this.given + ROOM;
+    }
+
+    // (a memory that grew has other views)
+    #view() {
+        this.#bytes = new Uint8Array(this.#memory.buffer);
+        this.#words = new DataView(this.#memory.buffer);
+    }
+
+    // Calls a function of the module. One that didn't come back may have left things half done, so none is called after it.
+    call(wanted, ...given) {
+        if (this.#isLost) throw new Error('vialshoal: a call before this one did not come back');
+        this.#isLost = true;
+        const number = wanted(...given) >>> 0;
+        this.#isLost = false;
+        if (this.#words.buffer !== this.#memory.buffer) this.#view();
+        return number;
+    }
+
+    #allocated(length) {
+        const at = length <= MOST ? this.call(this.#allocate, length) : 0;
+        if (at === 0) throw new NoMemory();
+        return at;
+    }
+
+    #freed(at, length) {
+        if (!this.#isLost) this.call(this.#free, at, length);
+    }
+
+    #within(kept, length, use) {
+        if (length <= ROOM) return use(kept);
+        const at = this.#allocated(length);
+        try {
+            return use(at);
+        } finally {
+            this.#freed(at, length);
+        }
+    }
+
+    // What `use` answers, which is called with where these bytes stand and how many they are.
+    handed(data, use) {
+        if (kindOf.call(data) !== 'Uint8Array') throw new TypeError('vialshoal: an argument is none');
+        return this.#within(this.given, data.length, (at) => {
+            this.#bytes.set(data, at);
+            return use(at, data.length);
+        });
+    }
+
+    // The same of rows of so many numbers.
+    rows(numbers, width, use) {
+        const count = Math.floor(numbers.length / width), length = width * count;
+        return this.#within(this.given, 4 * length, (at) => {
+            for (let index = 0; index < length; index += 1) this.#words.setUint32(at + 4 * index, numbers[index], true);
+            return use(at, count);
+        });
+    }
+
+    // What `read` makes of what `put` puts into a room for so many items of this size; or the number that refuses it.
+    filled(size, put, read) {
+        let number = put(this.room, Math.floor(ROOM / size));
+        const need = this.wide(this.answer);
+        if (number === 0) return read(this.room, need);
+        if (number !== TOO_SHORT) return [number];
+        return this.#within(this.room, size * need, (at) => {
+            number = put(at, need);
+            return number === 0 ? read(at, need) : [number];
+        });
+    }
+
+    // The handle that `open` opened; or the number that refuses it.
+    opened(isPast, open) {
+        const at = this.#allocated(HANDLE);
+        this.#words.setUint32(at, 0, true);
+        const number = open(at);
+        if (number !== 0) {
+            this.#freed(at, HANDLE);
+            return [number];
+        }
+        const handle = new Handle(at, isPast);
+        this.#dropped.register(handle, { at, isPast });
+        return handle;
+    }
+
+    close({ at, isPast }) {
+        return this.call(isPast ? this.exports.vialshoal_past_free : this.exports.vialshoal_free, at);
+    }
+
+    #drop(handle) {
+        if (this.#isLost) return;
+        this.close(handle);
+        this.#freed(handle.at, HANDLE);
+    }
+
+    byte(at) {
+        return this.#bytes[at];
+    }
+
+    number(at) {
+        return this.#words.getUint32(at, true);
+    }
+
+    wide(at) {
+        return this.number(at) + 2 ** 32 * this.number(at + 4);
+    }
+
+    setWide(at, number) {
+        this.#words.setBigUint64(at, BigInt(number), true);
+    }
+
+    site(at) {
+        return this.#words.getUint16(at, true);
+    }
+
+    bytes(at, length) {
+        return this.#bytes.subarray(at, at + length);
+    }
+}
+
+// The numbers that `of` makes of items of this size.
+function listed(at, count, size, of) {
+    const found = [0];
+    for (let item = at; item < at + size * count; item += size) found.push(...of(item));
+    return found;
+}
+
+function calls(library) {
+    const { answer, room, exports: c } = library;
+    const call = library.call.bind(library);
+    const number = library.number.bind(library);
+    const wide = library.wide.bind(library);
+
+    const edited = (refused) => [refused, number(answer)];
+    const copied = (at, length) => Buffer.from(library.bytes(at, length));
+    const file = (put) => library.filled(1, put, copied);
+    const names = (edit) => (it, ranges) =>
+        library.rows(ranges, 3, (at, count) => edited(call(edit, text(it), at, count, answer)));
+    // What a text and one as it was are asked alike.
+    const asked = (now, past) => (it, ...words) => call(it.isPast ? past : now, shown(it), ...words);
+    const lengthOf = asked(c.vialshoal_length, c.vialshoal_past_length);
+    const bytesOf = asked(c.vialshoal_bytes, c.vialshoal_past_bytes);
+    const looksOf = asked(c.vialshoal_looks, c.vialshoal_past_looks);
+    const namesOf = asked(c.vialshoal_names, c.vialshoal_past_names);
+    const findIn = asked(c.vialshoal_find, c.vialshoal_past_find);
+
+    return {
+        open: (number, site) => library.opened(false, (at) => call(c.vialshoal_new, at, number, site)),
+        load: (data) => library.handed(data, (from, length) =>
+            library.opened(false, (at) => call(c.vialshoal_load, at, from, length))),
+        store: (it) => file((at, length) => call(c.vialshoal_store, text(it), at, length, answer)),
+        storePacked: (it) => file((at, length) => call(c.vialshoal_store_packed, text(it), at, length, answer)),
+        save: (it) => file((at, length) => call(c.vialshoal_save, text(it), at, length, answer)),
+        close: (it) => [library.close({ at: shown(it), isPast: it.isPast })],
+        insert: (it, pos, data) => library.handed(data, (at, length) =>
+            edited(call(c.vialshoal_insert, text(it), BigInt(pos), at, length, answer))),
+        insertInLooks: (it, pos, data, font, colour, offset) => library.handed(Buffer.concat([data, font]), (at) =>
+            edited(call(c.vialshoal_insert_in_looks, text(it), BigInt(pos), at, data.length, at + data.length, font.length, colour,
+                offset, answer))),
+        delete: (it, beg, end) => edited(call(c.vialshoal_delete, text(it), BigInt(beg), BigInt(end), answer)),
+        looks: (it, beg, end, selected, font, colour, offset) => library.handed(font, (at, length) =>
+            edited(call(c.vialshoal_change_looks, text(it), BigInt(beg), BigInt(end), selected, at, length, colour, offset,
+                answer))),
+        restore: (it) => edited(call(c.vialshoal_restore, text(it), answer)),
+        recall: (it, pos) => edited(call(c.vialshoal_recall, text(it), BigInt(pos), answer)),
+        deleteNames: names(c.vialshoal_delete_names),
+        restoreNames: names(c.vialshoal_restore_names),
+        messages(it) {
+            const at = text(it), found = [];
+            const count = call(c.vialshoal_messages, at, answer) === 0 ? wide(answer) : 0;
+            for (let index = 0; index < count; index += 1) {
+                call(c.vialshoal_message, at, BigInt(index), room, ROOM, answer);
+                found.push(copied(room, wide(answer)));
+            }
+            call(c.vialshoal_let_go, at);
+            return found;
+        },
+        take: (it, message) => library.handed(message, (at, length) => {
+            const refused = call(c.vialshoal_take, text(it), at, length, answer);
+            return [refused, number(answer), number(answer + 4), number(answer + 8), library.byte(answer + 12)];
+        }),
+        unpack: (it, chunk) => library.handed(chunk, (at, length) => {
+            library.setWide(answer + 24, 0);
+            const refused = call(c.vialshoal_unpack, text(it), at, length, answer);
+            return [refused, wide(answer + 24), wide(answer), wide(answer + 8), wide(answer + 16), library.byte(answer + 32)];
+        }),
+        settle(it) {
+            const refused = call(c.vialshoal_settle, text(it), answer);
+            return [refused, number(answer), number(answer + 4), library.byte(answer + 8)];
+        },
+        forget: (it) => [call(c.vialshoal_forget, text(it), answer), number(answer)],
+        merge(it, other) {
+            const [at, from] = [text(it), text(other)];
+            return at === from ? [0, 0] : [call(c.vialshoal_merge, at, from, answer), wide(answer)];
+        },
+        waiting: (it) => [call(c.vialshoal_waiting, text(it), answer), number(answer)],
+        front: (it, site) => [call(c.vialshoal_front, text(it), site, answer), number(answer)],
+        sites: (it) => library.filled(SITE, (at, count) => call(c.vialshoal_sites, text(it), at, count, answer),
+            (at, count) => listed(at, count, SITE, (site) => [library.site(site)])),
+        since: (it, fronts, index) => library.rows(fronts, 2, (at, count) => {
+            library.setWide(answer, index);
+            const refused = call(c.vialshoal_since, text(it), at, count, answer, room, ROOM, answer + 8);
+            return refused === 0 ? [0, wide(answer), copied(room, wide(answer + 8))] : [refused, wide(answer)];
+        }),
+        pack: (it, fronts) => library.rows(fronts, 2, (from, many) =>
+            file((at, length) => call(c.vialshoal_pack, text(it), from, many, at, length, answer))),
+        past: (it, fronts) => library.rows(fronts, 2, (from, many) =>
+            library.opened(true, (at) => call(c.vialshoal_past, text(it), from, many, at))),
+        length: (it) => [lengthOf(it, answer), wide(answer)],
+        bytes: (it, beg, end) => file((at, length) => bytesOf(it, BigInt(beg), BigInt(end), at, length, answer)),
+        look(it, pos) {
+            const refused = looksOf(it, BigInt(pos), answer + 8, room, ROOM, answer);
+            if (refused !== 0) return [refused];
+            const offset = library.byte(answer + 17) << 24 >> 24;
+            return [0, wide(answer + 8), library.byte(answer + 16), offset, ...library.bytes(room, wide(answer))];
+        },
+        names: (it, beg, end) => library.filled(NAME, (at, count) => namesOf(it, BigInt(beg), BigInt(end), at, count, answer),
+            (at, count) => listed(at, count, NAME, (name) => [library.site(name), number(name + 4)])),
+        find: (it, site, offset) => [findIn(it, site, offset, answer), wide(answer), library.byte(answer + 8)],
+        changes: (it) => library.filled(CHANGE, (at, count) => call(c.vialshoal_changes, text(it), at, count, answer),
+            (at, count) => listed(at, count, CHANGE, (change) => [number(change), wide(change + 8), wide(change + 16)])),
+    };
+}
+
+// What an addon answers that wants for memory.
+function answering(asked) {
+    return (...given) => {
+        try {
+            return asked(...given);
+        } catch (why) {
+            if (!(why instanceof NoMemory)) throw why;
+            return [OUT_OF_MEMORY, 0];
+        }
+    };
+}
+
+// The calls over a compiled module.
+function callsOf(module) {
+    const found = calls(new Library(module));
+    return Object.fromEntries(Object.entries(found).map(([name, asked]) => [name, answering(asked)]));
+}
+
+module.exports = { callsOf };

@@ -1,0 +1,150 @@
+"""Chromium over the package for pages, which bin/library --wasm makes: the tests of library/node/test.js in a page and in a worker, the
+example, and the page that docs/LIBRARY.md shows. The last line is 'N passed, M failed'."""
+import functools
+import http.server
+import re
+import shutil
+import sys
+import tempfile
+import threading
+import unittest
+from collections.abc import Iterator
+from contextlib import contextmanager
+from pathlib import Path
+from typing import Any
+
+try:
+    from selenium import webdriver
+    from selenium.webdriver.chrome.service import Service
+    from selenium.webdriver.common.by import By
+
+    HAS_SELENIUM = True
+except ImportError:
+    HAS_SELENIUM = False
+
+LIBRARY = Path(__file__).resolve().parent.parent
+DOCS = LIBRARY.parent / "docs" / "LIBRARY.md"
+CHROMIUM, DRIVER = shutil.which("chromium"), shutil.which("chromedriver")
+WORDS = ["--headless=new", "--no-sandbox", "--disable-gpu", "--disable-dev-shm-usage", "--no-first-run", "--disable-extensions",
+         "--no-proxy-server"]
+PATIENCE = 120
+SAID = "node: all is so"
+IN_PAGE = "const done = arguments[0]; import('/test/page.mjs').then((it) => it.tested()).then(done, (why) => done(String(why)))"
+IN_WORKER = """const done = arguments[0];
+const worker = new Worker('/test/page_worker.mjs', { type: 'module' });
+worker.onmessage = ({ data }) => done(data);
+worker.onerror = ({ message }) => done(message);"""
+WAITING = """const [words, seconds, done] = arguments, end = Date.now() + 1000 * seconds;
+(function look() {
+  if (CONDITION) done(true);
+  else if (Date.now() > end) done(false);
+  else setTimeout(look, 10);
+})();"""
+BOXES = "[...document.querySelectorAll('textarea')].map((box) => box.value)"
+
+
+class Quiet(http.server.SimpleHTTPRequestHandler):
+    """A server of files that says nothing."""
+
+    def log_message(self, format: str, *words: Any) -> None:
+        """Nothing is said."""
+
+
+@contextmanager
+def served(folder: Path) -> Iterator[str]:
+    """A folder's address, while it is served."""
+    server = http.server.ThreadingHTTPServer(("127.0.0.1", 0), functools.partial(Quiet, directory=str(folder)))
+    threading.Thread(target=server.serve_forever, daemon=True).start()
+    try:
+        yield f"http://127.0.0.1:{server.server_port}"
+    finally:
+        server.shutdown()
+        server.server_close()
+
+
+class Page(unittest.TestCase):
+    """Pages in a browser."""
+
+    driver: Any
+
+    @classmethod
+    def setUpClass(cls) -> None:
+        options: Any = webdriver.ChromeOptions()
+        options.binary_location = CHROMIUM
+        for word in WORDS:
+            options.add_argument(word)
+        cls.driver = webdriver.Chrome(service=Service(DRIVER or ""), options=options)
+        cls.driver.set_script_timeout(2 * PATIENCE)
+
+    @classmethod
+    def tearDownClass(cls) -> None:
+        cls.driver.quit()
+
+    def setUp(self) -> None:
+        address = self.enterContext(served(LIBRARY))
+        self.driver.get(f"{address}/node/example/")
+
+    def wait_for(self, condition: str, *words: object) -> None:
+        """Waits until a condition of the page's holds, in which `words` are these."""
+        if not self.driver.execute_async_script(WAITING.replace("CONDITION", condition), words, PATIENCE):
+            shown = self.driver.execute_script(f"return {BOXES}")
+            self.fail(f"waited {PATIENCE} seconds for {condition}, {words}; the boxes: {shown}; {self.driver.get_log('browser')}")
+
+    def both_show(self, text: str) -> None:
+        """Waits until both boxes show a text."""
+        self.wait_for(f"{BOXES}.every((shown) => shown === words[0])", text)
+
+    def test_calls_in_a_page(self) -> None:
+        self.assertEqual(self.driver.execute_async_script(IN_PAGE), SAID)
+
+    def test_calls_in_a_worker(self) -> None:
+        self.assertEqual(self.driver.execute_async_script(IN_WORKER), SAID)
+
+    def test_example(self) -> None:
+        self.wait_for("[...document.querySelectorAll('textarea')].every((box) => !box.disabled)")
+        one, other = self.driver.find_elements(By.TAG_NAME, "textarea")
+        _, on_line = self.driver.find_elements(By.TAG_NAME, "input")
+        one.send_keys("Project")
+        self.both_show("Project")
+        other.send_keys(" Oberon")
+        self.both_show("Project Oberon")
+        on_line.click()
+        one.send_keys("!")
+        other.send_keys("?")
+        self.wait_for("document.getElementById('kept').textContent.includes('bytes of history')")
+        self.assertEqual(self.driver.execute_script(f"return {BOXES}[1]"), "Project Oberon?")
+        on_line.click()
+        self.wait_for(f"new Set({BOXES}).size === 1 && {BOXES}[0].length === 16")
+        shown = self.driver.execute_script(f"return {BOXES}[0]")
+        self.assertEqual(shown[:14] + "".join(sorted(shown[14:])), "Project Oberon!?")
+        # Halves of pairs aren't told apart.
+        for text in ("a\U0001f600b", "a\U0001f601b", "\U0001f601b", "\U0001f601\U0001f602b"):
+            script = "const [box, text] = arguments; box.value = text; box.dispatchEvent(new Event('input'))"
+            self.driver.execute_script(script, one, text)
+            self.both_show(text)
+
+
+    def test_page_of_the_docs(self) -> None:
+        found = re.search(r"    <script type=\"module\">.*?</script>\n", DOCS.read_text(encoding="utf-8"), re.DOTALL)
+        assert found
+        with tempfile.TemporaryDirectory() as name, served(Path(name)) as address:
+            shutil.copytree(LIBRARY / "out" / "node", Path(name, "node"))
+            Path(name, "page.html").write_text(f"<!doctype html>\n<body>\n{found[0]}", encoding="utf-8")
+            self.driver.get(f"{address}/page.html")
+            self.wait_for("document.body.textContent === words[0]", "Oberon")
+
+
+def main() -> int:
+    """Runs all, where there is Chromium."""
+    if not HAS_SELENIUM or CHROMIUM is None or DRIVER is None:
+        print("page: there is no Chromium with its driver and Selenium, so nothing is tested")
+        print("0 passed, 0 failed")
+        return 0
+    ran = unittest.main(argv=[sys.argv[0]], exit=False).result
+    failed = len(ran.failures) + len(ran.errors)
+    print(f"{ran.testsRun - failed} passed, {failed} failed")
+    return 1 if failed else 0
+
+
+if __name__ == "__main__":
+    sys.exit(main())

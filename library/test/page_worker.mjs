@@ -1,0 +1,3 @@
+import { tested } from './page.mjs';
+
+tested().then(postMessage, (why) => postMessage(String(why)));

@@ -1,0 +1,142 @@
+"""Makes a folder that is the package for Node and for pages: python3 -B -m tools.npm FOLDER [--wasm]. With --wasm Rust compiles the
+library from rust/ as WebAssembly; where it can't, what is lacking is told, nothing is changed, and the status is 3."""
+from __future__ import annotations
+
+import argparse
+import os
+import re
+import shutil
+import subprocess
+import sys
+from collections.abc import Iterator, Sequence
+from pathlib import Path
+
+from tools import TOP
+
+NODE = TOP / "library" / "node"
+RUST = TOP / "rust"
+TARGET = "wasm32-unknown-unknown"
+LACKING = 3
+FILES = ("index.js", "index.mjs", "index.d.ts", "positions.js", "calls.js", "wasm.js", "package.json")
+# What a page has of these, by the names under which they ask for one another.
+IN_PAGES = {"buffer": "bytes.js", "./positions.js": "positions.js", "./wasm.js": "wasm.js", "./index.js": "index.js"}
+PAGE = """// Written by bin/library: the package for pages and workers, in one module. Its parts are as they are in Node.
+const response = await fetch(new URL('vialshoal.wasm', import.meta.url));
+if (!response.ok) throw new Error(`vialshoal.wasm: ${{response.status}}`);
+const compiled = await WebAssembly.compile(await response.arrayBuffer());
+
+const parts = {{
+    './calls.js'(module) {{
+        module.exports = require('./wasm.js').callsOf(compiled);
+    }},
+{parts}}};
+const loaded = {{}};
+
+function require(name) {{
+    if (loaded[name] === undefined) {{
+        loaded[name] = {{}};
+        parts[name](loaded[name], name === 'buffer' ? undefined : require('buffer').Buffer);
+    }}
+    return loaded[name].exports;
+}}
+
+const vialshoal = require('./index.js');
+
+export default vialshoal;
+export const {{ Past, Refused, Shown, Text }} = vialshoal;
+"""
+
+
+class Lacking(Exception):
+    """What is needed isn't installed."""
+
+
+def page() -> str:
+    """The module for pages."""
+    parts = (
+        f"    {name!r}(module, Buffer) {{\n{(NODE / file).read_text()}    }},\n" for name, file in IN_PAGES.items()
+    )
+    return PAGE.format(parts="".join(parts))
+
+
+def sysroot() -> Path:
+    """Where Rust's libraries are."""
+    if shutil.which("cargo") is None or shutil.which("rustc") is None:
+        raise Lacking("there is no Rust")
+    ran = subprocess.run(["rustc", "--print", "sysroot"], stdout=subprocess.PIPE, text=True, check=True, cwd=RUST)
+    return Path(ran.stdout.strip())
+
+
+def words_for_std(root: Path) -> tuple[list[str], dict[str, str]]:
+    """What cargo is told about Rust's standard library for the target, and in which environment: it lies there, or is compiled from
+    its sources with those that it uses, as Debian has them."""
+    if any((root / "lib/rustlib" / TARGET / "lib").glob("libstd-*.rlib")):
+        return [], {}
+    library = root / "lib/rustlib/src/rust/library"
+    if not (library / "vendor").is_dir():
+        raise Lacking(f"Rust's standard library for {TARGET} isn't there, nor its sources")
+    vendored = ["--config", 'source.crates-io.replace-with="std"', "--config", f'source.std.directory="{library}/vendor"']
+    # (without a feature that is named it would be compiled with those that print where a panic was)
+    return ["-Zbuild-std=std,panic_abort", "-Zbuild-std-features=compiler-builtins-mem", *vendored], {"RUSTC_BOOTSTRAP": "1"}
+
+
+def linkers() -> Iterator[str]:
+    """LLVM's linkers for WebAssembly that are installed: the one without a version, and then the newest first."""
+    if shutil.which("wasm-ld"):
+        yield "wasm-ld"
+    folders = [Path(folder) for folder in os.environ.get("PATH", "").split(os.pathsep) if folder]
+    names = {path.name for folder in folders for path in folder.glob("wasm-ld-*")}
+    found = [name for name in names if re.fullmatch(r"wasm-ld-\d+", name)]
+    yield from sorted(found, key=lambda name: -int(name.rpartition("-")[2]))
+
+
+def linker(root: Path) -> dict[str, str]:
+    """The environment that names a linker where Rust brings none."""
+    if any((root / "lib/rustlib").glob("*/bin/rust-lld")):
+        return {}
+    for name in linkers():
+        return {"CARGO_TARGET_WASM32_UNKNOWN_UNKNOWN_LINKER": name}
+    raise Lacking("there is no wasm-ld")
+
+
+def flags(root: Path) -> dict[str, str]:
+    """The environment by which the same is made wherever the sources lie."""
+    places = {RUST: "rust", root / "lib/rustlib/src/rust": "std"}
+    return {"CARGO_ENCODED_RUSTFLAGS": "\x1f".join(f"--remap-path-prefix={at}={name}" for at, name in places.items())}
+
+
+def compiled() -> Path:
+    """The library as WebAssembly."""
+    root = sysroot()
+    words, environment = words_for_std(root)
+    kept = {name: value for name, value in os.environ.items() if not name.endswith("RUSTFLAGS")}
+    subprocess.run(
+        ["cargo", "build", "--offline", "--locked", "--quiet", "--profile", "wasm", "--target", TARGET,
+         "--target-dir", str(RUST / "target"), "--package", "vialshoal_wasm", *words],
+        cwd=RUST, env={**kept, **flags(root), **linker(root), **environment}, check=True,
+    )  # fmt: skip
+    return RUST / "target" / TARGET / "wasm" / "vialshoal_wasm.wasm"
+
+
+def main(words: Sequence[str]) -> int:
+    parser = argparse.ArgumentParser(prog="tools.npm", description=__doc__)
+    parser.add_argument("folder", type=Path)
+    parser.add_argument("--wasm", action="store_true")
+    given = parser.parse_args(words)
+    try:
+        made = compiled() if given.wasm else None
+    except Lacking as why:
+        print(f"WebAssembly: {why} (docs/LIBRARY.md)", file=sys.stderr)
+        return LACKING
+    shutil.rmtree(given.folder, ignore_errors=True)
+    given.folder.mkdir(parents=True)
+    for file in FILES:
+        shutil.copyfile(NODE / file, given.folder / file)
+    if made is not None:
+        shutil.copyfile(made, given.folder / "vialshoal.wasm")
+        (given.folder / "browser.mjs").write_text(page())
+    return 0
+
+
+if __name__ == "__main__":
+    sys.exit(main(sys.argv[1:]))
