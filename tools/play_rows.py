@@ -9,7 +9,7 @@ from pathlib import Path
 
 from tools import TOP, rows
 from tools.building import BUILT
-from tools.running import lay, run
+from tools.running import SECONDS, lay, run
 
 
 NOTHING_BUILT = "nothing is built here; bin/site_cli proves and builds the program"
@@ -23,12 +23,12 @@ def program(runs_it: Path = TOP / "bin" / "built") -> str | None:
     return str(runs_it) if BUILT.is_file() else None
 
 
-def play(row: rows.Row, command: str) -> list[str]:
+def play(row: rows.Row, command: str, seconds: float = SECONDS) -> list[str]:
     """What isn't as the row has it."""
     with tempfile.TemporaryDirectory() as room:
         folder = Path(room) / "folder"
         lay(row.files, folder)
-        ended = run([command, *row.words], row.script, folder, output=row.output, errors=row.errors)
+        ended = run([command, *row.words], row.script, folder, output=row.output, errors=row.errors, seconds=seconds)
     return rows.faults(row, ended)
 
 

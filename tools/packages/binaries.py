@@ -2,7 +2,9 @@
 from __future__ import annotations
 
 import subprocess
+from collections.abc import Callable
 from dataclasses import dataclass
+from functools import cache
 from pathlib import Path
 
 from tools import TOP, building
@@ -19,17 +21,17 @@ EXPORTS = "{ global: vialshoal_*; local: *; };\n"
 
 @dataclass(frozen=True)
 class Binaries:
-    """The program, and the archive of the library's objects."""
+    """The program, and the archive of the library's objects; each is built when it is asked for."""
 
     processor: Processor
-    program: Path
-    archive: Path
+    program: Callable[[], Path]
+    archive: Callable[[], Path]
 
     def shared(self, room: Path) -> Path:
         """Links the library that Python loads."""
         made, exports = room / "libvialshoal.so", room / "exports"
         exports.write_text(EXPORTS)
-        words: Words = ["-shared", "-Wl,-soname,libvialshoal.so", f"-Wl,--version-script,{exports}", "-Wl,--whole-archive", self.archive]
+        words: Words = ["-shared", "-Wl,-soname,libvialshoal.so", f"-Wl,--version-script,{exports}", "-Wl,--whole-archive", self.archive()]
         call([self.processor.compiler, "-o", made, *words, "-Wl,--no-whole-archive"])
         return made
 
@@ -37,30 +39,53 @@ class Binaries:
         """Compiles and links the library that Node loads, with what the sources have for that."""
         made = room / "vialshoal.node"
         words: Words = ["-std=c11", "-O2", "-Wall", "-Wextra", "-shared", "-fPIC", "-fvisibility=hidden"]
-        words += ["-I/usr/include/node", "-I", sources, sources / "node" / "addon.c", self.archive]
+        words += ["-I/usr/include/node", "-I", sources, sources / "node" / "addon.c", self.archive()]
         call([self.processor.compiler, "-o", made, *words])
         return made
 
 
 def unproved(folder: Path, processor: Processor) -> Binaries:
     """What a folder has under the names by which cargo leaves them."""
-    return Binaries(processor, folder.resolve() / PROGRAM, folder.resolve() / ARCHIVE)
+    return Binaries(processor, lambda: folder.resolve() / PROGRAM, lambda: folder.resolve() / ARCHIVE)
 
 
 def proved(processor: Processor, release: Release, room: Path) -> Binaries:
-    """Proves this checkout, where that wasn't done, and builds it."""
-    building.build()
-    subprocess.run([TOP / "bin" / "library"], env=release.environment(), stdout=2, check=True)
+    """What is proved and built of this checkout, where that wasn't done here."""
     if processor == FIRST:
-        return Binaries(processor, building.BUILT, TOP / "library" / "out" / "libvialshoal.a")
+        return Binaries(processor, proved_program, cache(lambda: proved_archive(release)))
+    return Binaries(processor, lambda: program_for(processor, room), cache(lambda: archive_for(processor, room)))
+
+
+def proved_program() -> Path:
+    building.build()
+    return building.BUILT
+
+
+def proved_archive(release: Release) -> Path:
+    subprocess.run([TOP / "bin" / "library"], env=release.environment(), stdout=2, check=True)
+    return TOP / "library" / "out" / "libvialshoal.a"
+
+
+def program_for(processor: Processor, room: Path) -> Path:
+    """The program for another processor."""
+    code, program = room / f"{PROGRAM}.o", room / PROGRAM
+    prove(PROGRAM, ["src/main.rt"], processor, code)
+    call([processor.compiler, "-o", program, code, compiled_host(processor, room)])
+    return program
+
+
+def archive_for(processor: Processor, room: Path) -> Path:
+    """The library's objects for another processor."""
+    archive = room / ARCHIVE
+    prove(LIBRARY, ["src/lib.rt", "--crate-type", "staticlib"], processor, archive)
+    call([f"{processor.tools}-ar", "rsD", archive, compiled_host(processor, room)])
+    return archive
+
+
+def compiled_host(processor: Processor, room: Path) -> Path:
     host = room / "host.o"
     call([processor.compiler, "-std=c11", "-O2", "-Wall", "-Wextra", "-fPIC", "-c", HOST, "-o", host])
-    code, archive, program = room / f"{PROGRAM}.o", room / ARCHIVE, room / PROGRAM
-    prove(PROGRAM, ["src/main.rt"], processor, code)
-    prove(LIBRARY, ["src/lib.rt", "--crate-type", "staticlib"], processor, archive)
-    call([processor.compiler, "-o", program, code, host])
-    call([f"{processor.tools}-ar", "rsD", archive, host])
-    return Binaries(processor, program, archive)
+    return host
 
 
 def prove(crate: str, root: list[str], processor: Processor, to: Path) -> None:
@@ -75,11 +100,14 @@ def prove(crate: str, root: list[str], processor: Processor, to: Path) -> None:
 def libraries(crate: str, folder: Path) -> list[str]:
     """The words that name what a crate uses: the toolchain's libraries, and ours as they were proved here."""
     uses = uses_of_crates()
+    ours = below(crate, uses)
+    if lacking := [name for name in ours if not (TOP / "crates" / name / "out" / "rlib").is_dir()]:
+        raise building.Unproved(f"the crate {lacking[0]} isn't proved in this checkout; bin/test proves all")
     words = [f"-Ldependency={folder}/rlibs"]
     for name in dict.fromkeys(["std", *uses[crate]]):
         path = f"../{name}/out/rlib/{name}.rlib" if name in uses else f"{folder}/rlibs/{name}.rlib"
         words += ["--extern", f"{name}={path}"]
-    return words + [f"-Ldependency=../{name}/out/rlib" for name in below(crate, uses)]
+    return words + [f"-Ldependency=../{name}/out/rlib" for name in ours]
 
 
 def uses_of_crates() -> dict[str, list[str]]:

@@ -25,7 +25,7 @@ def make(release: Release, sources: Path, binaries: Binaries, room: Path, to: Pa
     shutil.copytree(sources, folder, symlinks=True)
     program = folder / "crates" / PROGRAM / "out" / PROGRAM
     program.parent.mkdir(parents=True)
-    shutil.copy(binaries.program, program)
+    shutil.copy(binaries.program(), program)
     shutil.copytree(sources / "tools" / "packages" / "debian", folder / "debian")
     _fill(folder / "debian", release)
     words = ["dpkg-buildpackage", f"--host-arch={binaries.processor.debian}", "--build=any", "--no-sign", "--no-check-builddeps"]

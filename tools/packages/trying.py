@@ -13,7 +13,7 @@ from pathlib import Path
 from unittest import mock
 
 from tools import TOP
-from tools.packages import debian_tries, verifying
+from tools.packages import debian_tries, emulated_tries, verifying
 from tools.packages.archives import PYTHON
 from tools.packages.calling import call
 from tools.packages.making import SUMS, Wish, make
@@ -77,15 +77,24 @@ def steps(wish: Wish, is_short: bool) -> Iterator[tuple[str, Callable[[Trial], N
     if "deb" in wish.kinds:
         yield "lintian finds no error", debian_tries.no_errors
         yield "the Debian package's program answers, unpacked", debian_tries.unpacked
+    is_emulated = bool(wish.processors[0].runs)
+    if is_emulated and not is_short:
+        yield "all rows, by the emulator", emulated_tries.all_rows
+        yield "each call of the library, by the emulator", emulated_tries.calls
+    if not is_emulated:
+        yield from steps_here(wish, is_short)
+
+
+def steps_here(wish: Wish, is_short: bool) -> Iterator[tuple[str, Callable[[Trial], None]]]:
+    """What is tried of packages for the processor that is here."""
     if "wheel" in wish.kinds:
         yield "the wheel, in a bare environment of Python", in_python
     if "npm" in wish.kinds:
         yield "npm's archive, in a bare folder", in_node
-    if not is_short:
-        if "source" in wish.kinds:
-            yield "the sources' first line, with cargo and no network", by_cargo
-        if "deb" in wish.kinds:
-            yield "the Debian package, in a fresh Debian", debian_tries.installed
+    if "source" in wish.kinds and not is_short:
+        yield "the sources' first line, with cargo and no network", by_cargo
+    if "deb" in wish.kinds and not is_short:
+        yield "the Debian package, in a fresh Debian", debian_tries.installed
 
 
 def made_again(trial: Trial) -> None:
