@@ -3,7 +3,7 @@ import os
 import re
 import subprocess
 
-from setuptools import setup
+from setuptools import Distribution, setup
 from wheel.bdist_wheel import bdist_wheel
 
 LIBRARY = "vialshoal/libvialshoal.so"
@@ -25,13 +25,16 @@ def platform(library: str) -> str:
     return "manylinux_{}_{}_{}".format(*max(FIRST[machine], *((int(a), int(b)) for a, b in versions)), machine)
 
 
-class Wheel(bdist_wheel):
-    def finalize_options(self) -> None:
-        super().finalize_options()
-        self.root_is_pure = False
+class WithLibrary(Distribution):
+    """Is installed where such packages are that run on some systems alone."""
 
+    def has_ext_modules(self) -> bool:
+        return True
+
+
+class Wheel(bdist_wheel):
     def get_tag(self) -> tuple[str, str, str]:
         return "py3", "none", platform(LIBRARY)
 
 
-setup(cmdclass={"bdist_wheel": Wheel})
+setup(cmdclass={"bdist_wheel": Wheel}, distclass=WithLibrary)
