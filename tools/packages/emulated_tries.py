@@ -3,13 +3,16 @@ from __future__ import annotations
 
 import os
 import shlex
+import subprocess
 from concurrent.futures import ThreadPoolExecutor
 from typing import TYPE_CHECKING
 
 from tools import TOP, rows
 from tools.packages import making
 from tools.packages.calling import Words, call
+from tools.packages.examples import MEETS, example
 from tools.packages.release import NAME
+from tools.packages.roots import foreign_root
 from tools.play_rows import play
 
 if TYPE_CHECKING:
@@ -43,3 +46,16 @@ def calls(trial: Trial) -> None:
     words: Words = [built.processor.compiler, "-std=c11", "-O2", "-Wl,--wrap=malloc,--wrap=realloc", "-I", library, "-o", border]
     call([*words, library / "test" / "border.c", built.archive(), MORE])
     call([*built.processor.runs, border], folder)
+
+
+def in_python(trial: Trial) -> None:
+    """Runs the page's lines over the wheel, by Python for that processor."""
+    folder, processor = trial.folder("python"), trial.wish.processors[0]
+    root = foreign_root(folder / "root", processor.debian, "python3")
+    call(["unzip", "-q", trial.of(".whl"), "-d", folder / "site"])
+    python = min((root / "usr" / "bin").glob("python3.*[0-9]"))
+    environment = {**os.environ, "PYTHONPATH": str(folder / "site")}
+    meets = example("LIBRARY.md", "In Python", folder, "meet.py")
+    said = call([processor.emulator, "-L", root, python, "-B", meets], folder, environment)
+    subprocess.run(["rm", "-rf", "--one-file-system", root], check=True)
+    assert said == f"b'{MEETS}'\n", said

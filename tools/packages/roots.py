@@ -13,6 +13,16 @@ USER = "anna"
 CERTAIN = {"DEBIAN_FRONTEND": "noninteractive", "PATH": "/usr/sbin:/usr/bin:/sbin:/bin", "LC_ALL": "C.UTF-8"}
 
 
+def foreign_root(folder: Path, architecture: str, *packages: str) -> Path:
+    """A folder with the files of Debian for another processor, whose programs an emulator runs from outside."""
+    call(["debootstrap", "--foreign", f"--arch={architecture}", "--variant=minbase", f"--include={','.join(packages)}", SUITE, folder])
+    for package in folder.glob("var/cache/apt/archives/*.deb"):
+        if package.name.startswith(("lib", "python3", "zlib1g")):
+            files = subprocess.run(["dpkg-deb", "--fsys-tarfile", package], stdout=subprocess.PIPE, check=True).stdout
+            subprocess.run(["tar", "--extract", "--keep-directory-symlink", "--directory", folder], input=files, check=True)
+    return folder
+
+
 class Root:
     """A folder that debootstrap makes, with an account in it. It has its own /proc as long as it is used."""
 

@@ -2,7 +2,6 @@
 from __future__ import annotations
 
 import os
-import re
 import shutil
 import tempfile
 import traceback
@@ -12,17 +11,13 @@ from dataclasses import dataclass, field
 from pathlib import Path
 from unittest import mock
 
-from tools import TOP
 from tools.packages import debian_tries, emulated_tries, verifying
 from tools.packages.archives import PYTHON
 from tools.packages.calling import call
+from tools.packages.examples import MEETS, example
 from tools.packages.making import SUMS, Wish, make
 from tools.packages.release import NAME, Release, current
 from tools.packages.scripts import plain_rows
-
-# A line of the note that begins a page's example, and the lines that follow, which are set in.
-BLOCK = r"{}.*?\n\n((?:    .*\n|\n)+)"
-MEETS = "Oberon"
 
 
 @dataclass
@@ -79,10 +74,18 @@ def steps(wish: Wish, is_short: bool) -> Iterator[tuple[str, Callable[[Trial], N
         yield "the Debian package's program answers, unpacked", debian_tries.unpacked
     is_emulated = bool(wish.processors[0].runs)
     if is_emulated and not is_short:
-        yield "all rows, by the emulator", emulated_tries.all_rows
-        yield "each call of the library, by the emulator", emulated_tries.calls
+        yield from steps_emulated(wish)
     if not is_emulated:
         yield from steps_here(wish, is_short)
+
+
+def steps_emulated(wish: Wish) -> Iterator[tuple[str, Callable[[Trial], None]]]:
+    """What is tried of packages for another processor."""
+    if "deb" in wish.kinds:
+        yield "all rows, by the emulator", emulated_tries.all_rows
+    if "wheel" in wish.kinds:
+        yield "each call of the library, by the emulator", emulated_tries.calls
+        yield "the wheel, by Python for that processor", emulated_tries.in_python
 
 
 def steps_here(wish: Wish, is_short: bool) -> Iterator[tuple[str, Callable[[Trial], None]]]:
@@ -136,15 +139,6 @@ def told_apart(trial: Trial) -> None:
     except verifying.Unknown:
         return
     raise AssertionError(f"{other.name} isn't refused")
-
-
-def example(page: str, begins: str, room: Path, name: str) -> Path:
-    """The lines of a page that follow a sentence, as a file."""
-    found = re.search(BLOCK.format(re.escape(begins)), (TOP / "docs" / page).read_text())
-    assert found, f"docs/{page} has no example after {begins}"
-    file = room / name
-    file.write_text(re.sub(r"^    ", "", found[1], flags=re.MULTILINE))
-    return file
 
 
 def in_python(trial: Trial) -> None:
