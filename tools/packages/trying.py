@@ -7,7 +7,7 @@ import tempfile
 import traceback
 from collections.abc import Callable, Iterator
 from contextlib import contextmanager
-from dataclasses import dataclass, field
+from dataclasses import dataclass, field, replace
 from pathlib import Path
 from unittest import mock
 
@@ -16,8 +16,15 @@ from tools.packages.archives import PYTHON
 from tools.packages.calling import call
 from tools.packages.examples import MEETS, example
 from tools.packages.making import SUMS, Wish, make
-from tools.packages.release import NAME, Release, current
+from tools.packages.release import CHANGED, NAME, Release, current
 from tools.packages.scripts import plain_rows
+
+
+SORTS = """
+import sys
+from pip._vendor.packaging.version import Version
+assert sorted(sys.argv[1:], key=Version) == sys.argv[1:], sys.argv[1:]
+"""
 
 
 @dataclass
@@ -67,6 +74,7 @@ def main(wish: Wish, is_short: bool) -> int:
 
 def steps(wish: Wish, is_short: bool) -> Iterator[tuple[str, Callable[[Trial], None]]]:
     """What is tried."""
+    yield "versions sort as their commits follow one another", versions_sort
     yield "made again, elsewhere: the same bytes", made_again
     yield "a package that is right, and one with a byte changed", told_apart
     if "deb" in wish.kinds:
@@ -98,6 +106,18 @@ def steps_here(wish: Wish, is_short: bool) -> Iterator[tuple[str, Callable[[Tria
         yield "the sources' first line, with cargo and no network", by_cargo
     if "deb" in wish.kinds and not is_short:
         yield "the Debian package, in a fresh Debian", debian_tries.installed
+
+
+def versions_sort(trial: Trial) -> None:
+    """Compares versions as Debian and Python do: by time, then what was changed, and all before the number that they have."""
+    commit = replace(trial.release, marks=())
+    later = replace(commit, seconds=commit.seconds + 1, commit="0" * 40)
+    releases = [commit, replace(commit, marks=(CHANGED,)), later]
+    debian = [*(it.version for it in releases), commit.number]
+    for first, second in zip(debian, debian[1:]):
+        call(["dpkg", "--compare-versions", first, "lt", second])
+    python = [*(it.python_version for it in releases), commit.number]
+    call([PYTHON, "-c", SORTS, *python])
 
 
 def made_again(trial: Trial) -> None:
