@@ -89,7 +89,10 @@ def compiled_host(processor: Processor, room: Path) -> Path:
 
 
 def prove(crate: str, root: list[str], processor: Processor, to: Path) -> None:
-    """Proves a crate for a processor, over those below it as they were proved here, and compiles it."""
+    """Proves a crate for a processor, over those below it, and compiles it. Those are proved anew where they were changed: the
+    toolchain does so as it proves the crate for the processor that is here."""
+    here: Words = ["rt", "run" if crate == PROGRAM else "lib"]
+    subprocess.run(here, cwd=TOP / "crates" / crate, stdin=subprocess.DEVNULL, stdout=2, check=True)
     folder = toolchain_folder()
     words: Words = [folder / "bin" / "rattle", "build", "--crate-name", crate, *root, *libraries(crate, folder), "--links", f"{crate}="]
     words += ["--antt-project", folder / "rattle" / "logic" / "antt-project.json", "--logic-built", folder / "logic_built"]
@@ -101,8 +104,6 @@ def libraries(crate: str, folder: Path) -> list[str]:
     """The words that name what a crate uses: the toolchain's libraries, and ours as they were proved here."""
     uses = uses_of_crates()
     ours = below(crate, uses)
-    if lacking := [name for name in ours if not (TOP / "crates" / name / "out" / "rlib").is_dir()]:
-        raise building.Unproved(f"the crate {lacking[0]} isn't proved in this checkout; bin/test proves all")
     words = [f"-Ldependency={folder}/rlibs"]
     for name in dict.fromkeys(["std", *uses[crate]]):
         path = f"../{name}/out/rlib/{name}.rlib" if name in uses else f"{folder}/rlibs/{name}.rlib"
