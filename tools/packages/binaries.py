@@ -15,7 +15,7 @@ from tools.packages.release import Release
 PROGRAM, ARCHIVE = building.PROGRAM, "libvialshoal_c.a"
 LIBRARY = "vialshoal_c"
 # What the toolchain has as objects for x86-64 alone, for any other processor.
-HOST = Path(__file__).with_name("host.c")
+HEAP, HOST = (Path(__file__).with_name(name) for name in ("heap.c", "host.c"))
 EXPORTS = "{ global: vialshoal_*; local: *; };\n"
 
 
@@ -70,7 +70,7 @@ def program_for(processor: Processor, room: Path) -> Path:
     """The program for another processor."""
     code, program = room / f"{PROGRAM}.o", room / PROGRAM
     prove(PROGRAM, ["src/main.rt"], processor, code)
-    call([processor.compiler, "-o", program, code, compiled_host(processor, room)])
+    call([processor.compiler, "-o", program, code, *(compiled(source, processor, room) for source in (HEAP, HOST))])
     return program
 
 
@@ -78,14 +78,14 @@ def archive_for(processor: Processor, room: Path) -> Path:
     """The library's objects for another processor."""
     archive = room / ARCHIVE
     prove(LIBRARY, ["src/lib.rt", "--crate-type", "staticlib"], processor, archive)
-    call([f"{processor.tools}-ar", "rsD", archive, compiled_host(processor, room)])
+    call([f"{processor.tools}-ar", "rsD", archive, compiled(HEAP, processor, room)])
     return archive
 
 
-def compiled_host(processor: Processor, room: Path) -> Path:
-    host = room / "host.o"
-    call([processor.compiler, "-std=c11", "-O2", "-Wall", "-Wextra", "-fPIC", "-c", HOST, "-o", host])
-    return host
+def compiled(source: Path, processor: Processor, room: Path) -> Path:
+    made = room / f"{source.stem}.o"
+    call([processor.compiler, "-std=c11", "-O2", "-Wall", "-Wextra", "-fPIC", "-c", source, "-o", made])
+    return made
 
 
 def prove(crate: str, root: list[str], processor: Processor, to: Path) -> None:

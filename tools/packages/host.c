@@ -1,30 +1,8 @@
-/* What the toolchain has as objects for x86-64 alone, for any other Linux: memory, the number of the last error, and the program's
- * words. Written from what the toolchain's libraries declare of each. Nothing here is proved, as nothing of those objects is. */
+/* What a program asks of its system beside memory and files, for a processor for which the toolchain has no objects of it, on any
+ * Linux: the number of the last error, and the program's words. Nothing here is proved, as nothing of those objects is. */
 #include <errno.h>
-#include <stdbool.h>
 #include <stddef.h>
 #include <stdint.h>
-#include <stdlib.h>
-
-typedef struct {
-    bool is_there;
-    void *at;
-} tried;
-
-/* Where memory that wasn't given lies. */
-static uint8_t nothing;
-
-static tried told(void *at) { return (tried){at != NULL, at ? at : &nothing}; }
-
-/* A place of no bytes has an address of its own, too. */
-tried rattle_alloc(size_t size, size_t align) { return told(malloc(size ? size : align)); }
-
-tried rattle_realloc(void *was, size_t kept, size_t size, size_t align) {
-    (void)kept;
-    return told(realloc(was, size ? size : align));
-}
-
-void rattle_dealloc(void *at) { free(at); }
 
 int32_t rattle_errno(void) { return errno; }
 void rattle_set_errno(int32_t error) { errno = error; }
