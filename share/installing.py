@@ -20,14 +20,17 @@ from share.words import Trouble
 PREFIX = "/usr/local"
 LIB, CURRENT, RECORD, NEW = "lib", "vialshoal", "installed", "new"
 TREE = re.compile(r"vialshoal-[0-9a-f]{8}")
-PARTS = ("bin/note", "bin/built", "share/*.py", "share/web/*.*", "editors/emacs/vialshoal.el", "editors/neovim/plugin/*.lua",
-         "editors/neovim/lua/vialshoal/*.lua", "editors/neovim/doc/*", "docs/SHARING.md", "docs/ENGINE.md", "docs/man/*.1")
+PARTS = ("bin/note", "bin/built", "share/*.py", "share/web/*.*", "share/completions/*.bash", "editors/emacs/vialshoal.el",
+         "editors/neovim/plugin/*.lua", "editors/neovim/lua/vialshoal/*.lua", "editors/neovim/doc/*", "docs/SHARING.md",
+         "docs/ENGINE.md", "docs/man/*.1")
 PROGRAM = str(BUILT.relative_to(TOP))
 RECORD_OF_PROGRAM = str(BUILT.with_name(BUILT_FROM).relative_to(TOP))
 # What is looked for elsewhere, and where it is in the folder.
 LINKS = {
     "bin/note": "bin/note",
     "bin/site_cli": "bin/built",
+    "share/bash-completion/completions/note": "share/completions/note.bash",
+    "share/bash-completion/completions/site_cli": "share/completions/site_cli.bash",
     "share/doc/vialshoal": "docs",
     "share/emacs/site-lisp/vialshoal.el": "editors/emacs/vialshoal.el",
     "share/man/man1/note.1": "docs/man/note.1",
@@ -39,8 +42,8 @@ FILE_MODE, RUN_MODE = 0o644, 0o755
 Record = dict[str, list[str]]
 VERBS = ("install", "uninstall")
 ABOUT = {
-    "install": "Installs note and site_cli, the Emacs package, the Neovim plug-in and the manual's pages, in place of what "
-               "was installed before. What is there of others is refused.",
+    "install": "Installs note and site_cli, the Emacs package, the Neovim plug-in, the manual's pages and what bash "
+               "completes, in place of what was installed before. What is there of others is refused.",
     "uninstall": "Takes away what install has put there, and nothing else.",
 }
 END = "A packager sets DESTDIR, the folder below which the files are to be. Ends with 2 and a sentence where it can't be done."

@@ -9,7 +9,7 @@ from pathlib import Path
 
 from tools import TOP, rows
 from tools.builds import PROGRAM, PROVED_FOLDER, kept
-from tools.running import lay, run
+from tools.running import SECONDS, lay, run
 
 
 NOTHING_BUILT = "nothing is built here; bin/site_cli builds the program, bin/prove proves it"
@@ -34,12 +34,12 @@ def proved_program() -> str | None:
     return named() or (str(built) if os.access(built, os.X_OK) else None)
 
 
-def play(row: rows.Row, command: str) -> list[str]:
+def play(row: rows.Row, command: str, seconds: float = SECONDS) -> list[str]:
     """What isn't as the row has it."""
     with tempfile.TemporaryDirectory() as room:
         folder = Path(room) / "folder"
         lay(row.files, folder)
-        ended = run([command, *row.words], row.script, folder, output=row.output, errors=row.errors)
+        ended = run([command, *row.words], row.script, folder, output=row.output, errors=row.errors, seconds=seconds)
     return rows.faults(row, ended)
 
 

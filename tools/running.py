@@ -82,8 +82,9 @@ def run(
     errors: Stream = Stream.READ,
     env: Mapping[str, str] | None = None,
     starting: AbstractContextManager[Any] = nullcontext(),
+    seconds: float = SECONDS,
 ) -> Ended:
-    """Runs a program in a folder. It has no status where it was stopped after SECONDS."""
+    """Runs a program in a folder. It has no status where it was stopped after some time."""
     pipes = [unread_pipe() if it is Stream.UNREAD else subprocess.PIPE for it in (output, errors)]
     try:
         with starting:
@@ -96,7 +97,7 @@ def run(
                 os.close(pipe)
     with program:
         try:
-            wrote, complained = program.communicate(script, SECONDS)
+            wrote, complained = program.communicate(script, seconds)
         except subprocess.TimeoutExpired:
             program.kill()
             return Ended(None, b"", b"", {})

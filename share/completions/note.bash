@@ -1,0 +1,65 @@
+# Completes what note is given in bash: verbs, options, and the names of the notes that are here.
+
+# The notes of the data folder that begin so.
+_note_names() {
+    local data=${VIALSHOAL_DATA:-${XDG_DATA_HOME:-$HOME/.local/share}/vialshoal} file
+    for file in "$data/notes/$1"*.note; do
+        [[ -e $file ]] || continue
+        file=${file##*/}
+        printf '%s\n' "${file%.note}"
+    done
+}
+
+# The options of a verb, or those without one.
+_note_options() {
+    local log='--log --link-file --password-file'
+    case $1 in
+        cat | append | replace | import | log) echo "--help $log --json" ;;
+        export) echo "--help $log --json --format --replace" ;;
+        history) echo "--help $log --json --at" ;;
+        list) echo '--help --json' ;;
+        install | uninstall) echo '--help --prefix' ;;
+        web) echo "--help $log --no-browser" ;;
+        renew) echo "--help $log --fresh --without --yes" ;;
+        recover) echo "--help $log --lost" ;;
+        open | engine | link) echo "--help $log" ;;
+        *) echo "--help $log --print --lost --fresh --without --yes --no-browser" ;;
+    esac
+}
+
+_note() {
+    local word=${COMP_WORDS[COMP_CWORD]} before=${COMP_WORDS[COMP_CWORD - 1]} verb='' offered=''
+    local verbs='append cat engine export history import install link list log open recover renew replace uninstall web'
+    [[ $COMP_CWORD -gt 1 ]] && verb=${COMP_WORDS[1]}
+    COMPREPLY=()
+    case $before in
+        --link-file | --password-file)
+            mapfile -t COMPREPLY < <(compgen -f -- "$word")
+            return
+            ;;
+        --prefix)
+            mapfile -t COMPREPLY < <(compgen -d -- "$word")
+            return
+            ;;
+        --format)
+            mapfile -t COMPREPLY < <(compgen -W 'text html' -- "$word")
+            return
+            ;;
+        --log | --at | --without) return ;;
+        *)
+            case $word,$verb in
+                -*) offered=$(_note_options "$verb") ;;
+                *,'') offered="$verbs $(_note_names "$word")" ;;
+                *,install | *,uninstall | *,list) ;;
+                *) offered=$(_note_names "$word") ;;
+            esac
+            ;;
+    esac
+    mapfile -t COMPREPLY < <(compgen -W "$offered" -- "$word")
+    # What follows a note's name may be a file.
+    case $verb,$COMP_CWORD in
+        import,[3-9] | export,[3-9] | recover,*) [[ $word == -* ]] || mapfile -t COMPREPLY < <(compgen -f -- "$word") ;;
+    esac
+}
+
+complete -o filenames -F _note note

@@ -1,0 +1,62 @@
+"""The packages of the library: a wheel for Python and an archive for npm."""
+from __future__ import annotations
+
+import json
+import shutil
+import subprocess
+import sys
+from pathlib import Path
+
+from tools.npm import LACKING
+from tools.packages.binaries import Binaries
+from tools.packages.calling import Failed, Words, call
+from tools.packages.release import Release
+
+PYTHON = "/usr/bin/python3"
+
+
+def wheel(release: Release, sources: Path, binaries: Binaries, room: Path, to: Path) -> Path:
+    """Makes the wheel, whose setup.py reads off the library on which systems it runs."""
+    folder, made = room / "python", room / "wheels"
+    shutil.copytree(sources / "library" / "python", folder)
+    shutil.move(binaries.shared(room), folder / "vialshoal")
+    project = folder / "pyproject.toml"
+    lines = {"name": release.name, "version": release.python_version}
+    project.write_text("".join(_line(line, lines) for line in project.read_text().splitlines(keepends=True)))
+    words: Words = ["-B", "-m", "pip", "wheel", "--quiet", "--no-deps", "--no-build-isolation", "--no-index", "--wheel-dir", made, "."]
+    call([PYTHON, *words], folder, release.environment())
+    (one,) = made.iterdir()
+    return Path(shutil.move(one, to / one.name))
+
+
+def _line(line: str, values: dict[str, str]) -> str:
+    """A line of a TOML file, with its value where it has another one."""
+    name = line.partition(" = ")[0]
+    return f'{name} = "{values[name]}"\n' if name in values else line
+
+
+def npm(release: Release, sources: Path, binaries: Binaries, room: Path, to: Path) -> Path:
+    """Makes npm's archive: with WebAssembly where Rust can compile it here; else npm installs it on such systems alone as the
+    addon is for."""
+    folder = room / "npm"
+    has_wasm = _filled(folder, release, sources)
+    shutil.move(binaries.addon(sources / "library", room), folder)
+    path = folder / "package.json"
+    package = json.loads(path.read_text()) | {"name": release.name, "version": release.node_version}
+    if not has_wasm:
+        package |= {"os": ["linux"], "cpu": [binaries.processor.node], "libc": ["glibc"]}
+    path.write_text(json.dumps(package, indent=2) + "\n")
+    words: Words = ["npm", "pack", "--silent", "--offline", "--ignore-scripts", "--pack-destination", room]
+    made = room / call(words, folder, release.environment()).strip()
+    return Path(shutil.move(made, to / f"{made.stem}-linux-{binaries.processor.node}.tgz"))
+
+
+def _filled(folder: Path, release: Release, sources: Path) -> bool:
+    """Fills a folder with the package for Node, and tells whether WebAssembly is in it."""
+    words = [sys.executable, "-B", "-m", "tools.npm", str(folder)]
+    status = subprocess.run([*words, "--wasm"], cwd=sources, env=release.environment(), stdout=2).returncode
+    if status not in (0, LACKING):
+        raise Failed(f"tools.npm ended with {status}")
+    if status:
+        call(words, sources, release.environment())
+    return status == 0
