@@ -8,11 +8,12 @@ from functools import cache
 from pathlib import Path
 
 from tools import TOP, building
+from tools.builds import PROGRAM
 from tools.packages.calling import Words, call
 from tools.packages.processors import FIRST, Processor
 from tools.packages.release import Release
 
-PROGRAM, ARCHIVE = building.PROGRAM, "libvialshoal_c.a"
+ARCHIVE = "libvialshoal_c.a"
 LIBRARY = "vialshoal_c"
 # What the toolchain has as objects for x86-64 alone, for any other processor.
 HEAP, HOST = (Path(__file__).with_name(name) for name in ("heap.c", "host.c"))

@@ -5,8 +5,8 @@ import shutil
 from email.utils import formatdate
 from pathlib import Path
 
-from tools.builds import BUILT_FROM
-from tools.packages.binaries import PROGRAM, Binaries
+from tools.builds import BUILT_FROM, PROGRAM
+from tools.packages.binaries import Binaries
 from tools.packages.calling import call
 from tools.packages.release import NAME, UNPROVED, Release
 
