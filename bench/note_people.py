@@ -13,15 +13,20 @@ import sys
 import threading
 import time
 from collections.abc import Callable, Iterator
+from concurrent.futures import ProcessPoolExecutor
+from functools import partial
 from typing import Any, NamedTuple
+
+from nacl import bindings
 
 from share import link as links
 from share import opening
+from share.chunks import packed
 from share.client import InPlace
 from share.disk import About, Client, Row, make
+from share.entry import Author, Kind, digest
 from share.lines import written
 from share.mirror import Mirror
-from share.sealing import new_key
 from share.session import Session
 from share.sqlite_log import SqliteLog
 from share.tests.attacks import Attack, Hostile, typed
@@ -38,6 +43,9 @@ QUIET, QUIET_SECONDS, LEAST_SECONDS = 0.3, 2.0, 6.0
 # What goes on as long as others type does so for so long.
 DOES_SECONDS = 45.0
 COUNTED_KEYS = 3
+# What was typed by hand was typed by so many people, so many letters each in their turn.
+PEOPLE, AT_A_TIME = 4, 30
+KEY = bytes(range(32))
 
 
 class Figures(NamedTuple):
@@ -95,23 +103,46 @@ def memory(process: int) -> int:
     return int(found[1]) * 1024 if found else 0
 
 
+def typed_by(key: bytes, site: int, keys: int, people: int) -> list[tuple[bytes, bytes]]:
+    """The entries of one of some people who type letters in turn, some at a time, each at the end of what they typed before, and what
+    is sealed in them: the same ones each time."""
+    form = About(True, key, "").form()
+    author = Author(*bindings.crypto_sign_seed_keypair(digest(key + bytes([site]))))
+    claim = last = form.claim(site, author)
+    made = [(claim.raw, claim.body)]
+    for seq in range(1, keys + 1):
+        turn, within = divmod(seq - 1, AT_A_TIME)
+        chunk = packed([*typed(site, seq, 1 + (turn * people + site - 1) * AT_A_TIME + within, 1).messages()])
+        last = form._made(Kind.CHUNK, site, seq, 1, last.hash, author, b"", chunk or b"")
+        made.append((last.raw, last.body))
+    return made
+
+
+def typed_in_turn(key: bytes, keys: int) -> Iterator[tuple[bytes, bytes]]:
+    """The entries of some people who typed so many letters by hand, in the order of their typing."""
+    with ProcessPoolExecutor() as processes:
+        made = [*processes.map(partial(typed_by, key, keys=keys // PEOPLE, people=PEOPLE), range(1, PEOPLE + 1))]
+    yield from (of_one[0] for of_one in made)
+    for begin in range(1, keys // PEOPLE + 1, AT_A_TIME):
+        for of_one in made:
+            yield from of_one[begin:begin + AT_A_TIME]
+
+
 class Room:
     """A note of somebody, in whose log others write; and a folder for a newcomer."""
 
     def __init__(self, folder: pathlib.Path, keys: int = 0):
         self.folder, self.log = folder, str(folder / "log" / "note.log")
-        self.about = About(True, new_key(), self.log)
+        self.about = About(True, KEY, self.log)
         self.form = self.about.form()
         self.ann = folder / "ann"
         SqliteLog(pathlib.Path(self.log), self.form.note).close()
         client = Client(4_711, self.form.new_author(), stood=True)
         claim = self.form.claim(client.site, client.author)
-        rows, hostile = [Row(0, claim, True)], Hostile(self.form, self.log)
-        for seq in range(1, keys + 1):
-            rows.append(Row(0, hostile.entry(rows[-1].entry, client.author, [typed(client.site, seq, seq, 1)]), True))
-        path = self.ann / "notes" / "note.note"
-        make(path, self.about, rows, [client], offered=True)
-        hostile.send(row.entry.raw for row in rows)
+        made = [(claim.raw, claim.body), *(typed_in_turn(KEY, keys) if keys else ())]
+        rows = (Row(0, self.form.reopened(raw, body, digest(raw)), raw == claim.raw) for raw, body in made)
+        make(self.ann / "notes" / "note.note", self.about, rows, [client], offered=True)
+        Hostile(self.form, self.log).send(raw for raw, _ in made)
         self.link = links.Link("sealed", self.about.secret, self.log).spelled()
 
     def hostile(self) -> Hostile:

@@ -158,10 +158,10 @@ class Judge:
         number = self._ledger.number(of)
         return self._words.get(of) if number is None else self._ledger.row(number)
 
-    def add(self, entry: Entry, place: int = 0, made: bool = False) -> None:
+    def add(self, entry: Entry, place: int = 0, made: bool = False, types_on: bool = False) -> None:
         """Adds an entry that was opened. What is known already changes nothing."""
         if entry.hash not in self:
-            self.add_new(Row(place, entry, made))
+            self.add_new(Row(place, entry, made, types_on))
 
     def add_new(self, row: Row) -> None:
         """Adds an entry that isn't known yet."""
@@ -188,8 +188,10 @@ class Judge:
                 self._renewed.setdefault((entry.site, entry.author), entry.spelled)
 
     def let_through(self) -> None:
-        """Lets through what can be of what came, while what was read of it last is at hand."""
-        self._let_through()
+        """Lets through what can be of what came, while what was read of it last is at hand; not where all is let through anew next,
+        which might happen with each part of it."""
+        if not self._anew:
+            self._let_through()
 
     def count(self) -> Counted:
         """What counts since this was last asked."""

@@ -100,12 +100,12 @@ def renew(name: str, url: str | None, password: str | None, called: str = "",
     the old one are told so by one of this name."""
     path = path_of(name)
     if path.exists():
-        found = reading.found_in(path)
+        found = reading.judged(path)
         url = url or _log_of_new(found.about.url)
         if found.about.url:
             # What others wrote while nobody had the note open here is in its log alone.
             found = with_log(found, found.about.url, password)
-        judge = Judge(found.entries)
+        judge = found.judge
         messages, missing = judge.count().messages, reading.missing(judge, found.faults)
         left_out = lost.left_out(judge, reading.own(path).anew)
     elif kept := of_before(name, url, password):

@@ -417,9 +417,7 @@ class Session:
         self._most = OPENED_BYTES
         while not self._unread:
             self._read()
-            if not self._holdings.is_anew():
-                # Else all of it would be let through anew with each part.
-                self._holdings.judge.let_through()
+            self._holdings.judge.let_through()
             if not self._holdings.has_more:
                 break
         self._most = math.inf
