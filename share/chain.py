@@ -16,8 +16,8 @@ class Chain:
 
     def __init__(self, ledger: Ledger, site: int):
         self.line = Line(ledger, site)
-        # How many bytes are kept of entries that aren't let through; and how often it began to wait for something.
-        self.pending = self.time = 0
+        # How often it began to wait for something.
+        self.time = 0
         self.begin_anew()
 
     def begin_anew(self) -> None:
@@ -27,6 +27,8 @@ class Chain:
         # Which entry has the message that is next, its runs, and which of these it begins.
         self.at = self.run = 0
         self._runs: Sequence[Run] | None = None
+        # How many bytes are kept of entries that aren't let through.
+        self.pending = sum(map(self.line.ledger.weight, self.line.numbers))
         # Whether the next message is wrong.
         self.ended = False
         # The sites of which it mentions characters that aren't there, from where on, and how long their files have to be.
