@@ -390,6 +390,8 @@ class Disk:
 
     def _taken_from_withdrawn(self, entries: Sequence[Entry]) -> set[bytes]:
         """Takes those of these entries out that were withdrawn, so that they can be put in once more; their hashes."""
+        if not self._one("SELECT EXISTS (SELECT 1 FROM withdrawn)"):
+            return set()
         back = {entry.hash for entry in entries if self._one("SELECT count(*) FROM withdrawn WHERE hash = ?", entry.hash)}
         for of in back:
             for statement in FOUND:

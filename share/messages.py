@@ -78,6 +78,12 @@ class Messages(Sequence[Message]):
             yield Part(holder, begin, begin + end - before)
             before = end
 
+    def runs(self) -> Iterator[Run]:
+        """The messages, those in one that are letters typed one after the other."""
+        for part in self.parts():
+            for chunk, runs, _ in part.holder.parts(part.begin, part.end):
+                yield from runs_in(chunk) if chunk else runs
+
     def chunks(self) -> Iterator[tuple[bytes, int]]:
         """Chunks of all of them, and how many each has."""
         writer, count = Writer(), 0

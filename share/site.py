@@ -10,6 +10,7 @@ from collections.abc import Callable, Iterable, Iterator, Sequence
 from itertools import accumulate, chain, islice
 from typing import NamedTuple
 
+from share.chunks import Run as Typed
 from share.coming import Coming
 from share.looks import Looks, Run, in_words
 from share.message import MOST_RANGES, Message, Names
@@ -17,7 +18,7 @@ from share.messages import Messages
 from share.names import halves, united
 from share.note_text import Change, boundary
 from share.program import MOST_LINES, Ended, Program, escaped, shown
-from share.telling import Stretch, answered, asking, count, stretches, told
+from share.telling import Stretch, answered, asking, count, stretches, told, told_as_one
 from share.words import Trouble
 
 # One message has so many bytes of an insertion at most.
@@ -124,11 +125,11 @@ class Site:
 
     def _take_few(self, coming: Messages) -> list[Change] | None:
         """Takes in messages; what they changed, None where that isn't known."""
-        some = [*coming]
-        if len(self.history) >= MOST_MESSAGES or count(some) > MOST_NAMES:
+        runs = [*coming.runs()]
+        if len(self.history) >= MOST_MESSAGES or count(runs) > MOST_NAMES:
             self._hand_in_chunks(coming)
             return None
-        changes = self._hand_in(some)
+        changes = self._hand_in([*told_as_one(runs)])
         self.history += coming
         return changes
 
@@ -207,13 +208,16 @@ class Site:
         """Ends the program."""
         self._program.close()
 
-    def _hand_in(self, messages: list[Message]) -> list[Change] | None:
-        """What messages changed that the program takes in; None where that can't be told."""
+    def _hand_in(self, messages: list[Message | Typed]) -> list[Change] | None:
+        """What messages changed that the program takes in, or letters that were typed one after the other; None where that can't be
+        told."""
         asked = [asking(self._program, message) for message in messages]
         found = iter(self._ask([*chain.from_iterable(asked)]))
         done = [answered(message, [*islice(found, len(events))]) for message, events in zip(messages, asked)]
         for message, (answer, _) in zip(messages, done):
-            if answer not in (b"taken 0 0", b"repeat"):
+            if isinstance(message, Typed):
+                _check_unpacked(answer, message.size, message)
+            elif answer not in (b"taken 0 0", b"repeat"):
                 raise _not_taken(answer, message)
         if any(changed is None for _, changed in done):
             return None
@@ -231,9 +235,7 @@ class Site:
 
     def _unpacked(self, answer: bytes, messages: Messages) -> None:
         """Checks the answer to a chunk of messages, and adds them to the history."""
-        found = UNPACKED.fullmatch(answer)
-        if not found or int(found[1]) + int(found[2]) != len(messages):
-            raise _not_taken(answer, messages[0])
+        _check_unpacked(answer, len(messages), messages[0])
         self.history += messages
 
     def _lines(self, verb: str, *words: int) -> list[list[str]]:
@@ -316,7 +318,14 @@ class Site:
                           "kept.") from why
 
 
-def _not_taken(answer: bytes, message: Message) -> Trouble:
+def _check_unpacked(answer: bytes, size: int, first: Message | Typed) -> None:
+    """Raises Trouble where this isn't the answer to a chunk of so many messages, of which this is the first."""
+    found = UNPACKED.fullmatch(answer)
+    if not found or int(found[1]) + int(found[2]) != size:
+        raise _not_taken(answer, first)
+
+
+def _not_taken(answer: bytes, message: Message | Typed) -> Trouble:
     """What is told where the program doesn't take in what counts: a message, or one of those from it on."""
     if answer.split()[-1:] == [b"%d" % NO_MEMORY] and answer.split()[0] in (b"refused", b"partial"):
         return Trouble("There is no memory for what came in. End other programs and open the note again.")
