@@ -23,8 +23,9 @@ from share import link as links
 from share import opening
 from share.chunks import packed
 from share.client import InPlace
-from share.disk import About, Client, Row, make
+from share.disk import About, Client, make
 from share.entry import Author, Kind, digest
+from share.ledger import Row
 from share.lines import written
 from share.mirror import Mirror
 from share.session import Session
@@ -126,6 +127,22 @@ def typed_in_turn(key: bytes, keys: int) -> Iterator[tuple[bytes, bytes]]:
     for begin in range(1, keys // PEOPLE + 1, AT_A_TIME):
         for of_one in made:
             yield from of_one[begin:begin + AT_A_TIME]
+
+
+class Memory(NamedTuple):
+    """The bytes that an engine has for itself now, that it had at most, and that its program has."""
+
+    now: int
+    most: int
+    program: int
+
+
+def memory_of(engine: int) -> Memory:
+    """What an engine and its program have in memory."""
+    status = pathlib.Path(f"/proc/{engine}/status").read_text()
+    most = re.search(r"^VmHWM:\s+(\d+) kB", status, re.MULTILINE)
+    children = [int(one) for task in _tasks(engine) for one in (task / "children").read_text().split()]
+    return Memory(memory(engine), int(most[1]) * 1024 if most else 0, sum(map(memory, children)))
 
 
 class Room:
