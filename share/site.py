@@ -215,9 +215,9 @@ class Site:
         found = iter(self._ask([*chain.from_iterable(asked)]))
         done = [answered(message, [*islice(found, len(events))]) for message, events in zip(messages, asked)]
         for message, (answer, _) in zip(messages, done):
-            if isinstance(message, Typed):
-                _check_unpacked(answer, message.size, message)
-            elif answer not in (b"taken 0 0", b"repeat"):
+            is_taken = (_is_unpacked(answer, message.size) if isinstance(message, Typed) else
+                        answer in (b"taken 0 0", b"repeat"))
+            if not is_taken:
                 raise _not_taken(answer, message)
         if any(changed is None for _, changed in done):
             return None
@@ -235,7 +235,8 @@ class Site:
 
     def _unpacked(self, answer: bytes, messages: Messages) -> None:
         """Checks the answer to a chunk of messages, and adds them to the history."""
-        _check_unpacked(answer, len(messages), messages[0])
+        if not _is_unpacked(answer, len(messages)):
+            raise _not_taken(answer, messages[0])
         self.history += messages
 
     def _lines(self, verb: str, *words: int) -> list[list[str]]:
@@ -318,11 +319,10 @@ class Site:
                           "kept.") from why
 
 
-def _check_unpacked(answer: bytes, size: int, first: Message | Typed) -> None:
-    """Raises Trouble where this isn't the answer to a chunk of so many messages, of which this is the first."""
+def _is_unpacked(answer: bytes, size: int) -> bool:
+    """Whether this is the answer to a chunk of so many messages that was taken in."""
     found = UNPACKED.fullmatch(answer)
-    if not found or int(found[1]) + int(found[2]) != size:
-        raise _not_taken(answer, first)
+    return found is not None and int(found[1]) + int(found[2]) == size
 
 
 def _not_taken(answer: bytes, message: Message | Typed) -> Trouble:

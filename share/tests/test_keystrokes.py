@@ -295,6 +295,13 @@ class Opened(Case):
             self.assertEqual(note.session.text(), self.text)
         self.assertLess(read.call_count, KEYS // 10)
 
+    def test_no_message_is_unfolded(self) -> None:
+        with mock.patch.object(chunks, "messages", side_effect=AssertionError):
+            note = self.opened(self.ann)
+            self.assertEqual(note.session.text(), self.text)
+            with self.ann.here():
+                self.assertEqual(printing.printed("note", None, None, None).text, self.text)
+
     def test_none_is_opened_as_a_strangers(self) -> None:
         with self.ann.here(), mock.patch.object(Sealed, "_opened", side_effect=AssertionError):
             self.assertEqual(printing.printed("note", None, None, None).text, self.text)
