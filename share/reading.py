@@ -20,8 +20,8 @@ from share.site import Site
 from share.words import NEWER, Trouble, entries
 
 Result = TypeVar("Result")
-ROWS = """SELECT place, coalesce(CAST(raw AS BLOB), x''), hash, body, sum FROM entry
-          WHERE place {} ? AND hash NOT IN (SELECT hash FROM withdrawn) ORDER BY place {}"""
+RAW, KEPT = "coalesce(CAST(raw AS BLOB), x'')", ", hash, body, sum"
+ROWS = """SELECT place, {} FROM entry WHERE place {} ? AND hash NOT IN (SELECT hash FROM withdrawn) ORDER BY place {}"""
 OWN_CLIENTS = "SELECT site, author FROM client WHERE retired != ?"
 GREATEST_PLACE = 2**63 - 1
 # So many faults of a kind are told one by one.
@@ -160,7 +160,7 @@ def opened(about_it: About, raws: list[bytes], of: str) -> tuple[list[Entry], li
 
 def _found(file: sqlite3.Connection) -> Found:
     about_it, broken = about_of(file), list[str]()
-    right, faults = opened(about_it, [raw for raw, *_ in _rows(file, broken)], "the file")
+    right, faults = opened(about_it, [raw for raw, in _rows(file, RAW, broken)], "the file")
     return Found(about_it, right, broken + faults)
 
 
@@ -168,7 +168,7 @@ def _judged(file: sqlite3.Connection) -> Judged:
     about_it, broken, wrong = about_of(file), list[str](), Faults("the file")
     form, keystrokes = about_it.form(), Keystrokes()
     found = Judged(about_it, Judge(form=form), [], set())
-    for number, row in enumerate(_rows(file, broken), 1):
+    for number, row in enumerate(_rows(file, RAW + KEPT, broken), 1):
         try:
             found.add(_as_kept(form, keystrokes, row))
         except Bad as why:
@@ -178,17 +178,17 @@ def _judged(file: sqlite3.Connection) -> Judged:
     return found._replace(faults=broken + wrong.words())
 
 
-def _rows(file: sqlite3.Connection, broken: list[str]) -> Iterator[Kept]:
+def _rows(file: sqlite3.Connection, columns: str, broken: list[str]) -> Iterator[Kept]:
     """All entries that can be read, from the front; where the file is damaged, which is told, also from the other end."""
     last = 0
     try:
-        for place, *row in file.execute(ROWS.format(">", "ASC"), (0,)):
+        for place, *row in file.execute(ROWS.format(columns, ">", "ASC"), (0,)):
             yield (*row,)
             last = place
     except sqlite3.DatabaseError as why:
         broken.append(f"The file is damaged ({why}); some of it may be lost.")
         with contextlib.suppress(sqlite3.DatabaseError):
-            for place, *row in file.execute(ROWS.format("<", "DESC"), (GREATEST_PLACE,)):
+            for place, *row in file.execute(ROWS.format(columns, "<", "DESC"), (GREATEST_PLACE,)):
                 if place <= last:
                     break
                 yield (*row,)

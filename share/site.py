@@ -35,6 +35,8 @@ KEPT = "text"
 MOST_NAMES = 10_000
 # So many messages a note has at most when it is edited: the program has half a gigabyte for a million.
 MOST_MESSAGES = 2_000_000
+# Where there is room for one in so many alone it is told that the note is nearly full.
+NEARLY = 20
 SCATTERED, NO_MEMORY, TOO_MANY = 12, 7, 21
 # The answer to a chunk of which some are taken in, some were held already, and none waits.
 UNPACKED = re.compile(rb"unpacked (\d+) (\d+) 0")
@@ -126,7 +128,7 @@ class Site:
     def _take_few(self, coming: Messages) -> list[Change] | None:
         """Takes in messages; what they changed, None where that isn't known."""
         runs = [*coming.runs()]
-        if len(self.history) >= MOST_MESSAGES or count(runs) > MOST_NAMES:
+        if is_full(len(self.history)) or count(runs) > MOST_NAMES:
             self._hand_in_chunks(coming)
             return None
         changes = self._hand_in([*told_as_one(runs)])
@@ -277,7 +279,7 @@ class Site:
         return self._sent(self._ask([self._program.event(verb, *words)]))
 
     def _full(self) -> int | None:
-        return TOO_MANY if len(self.history) >= MOST_MESSAGES else None
+        return TOO_MANY if is_full(len(self.history)) else None
 
     def _ask(self, events: list[bytes]) -> list[list[bytes]]:
         """The program's answers. Where it ended it is started again: none of these events was kept, so they
@@ -317,6 +319,16 @@ class Site:
         except Ended as why:
             raise Trouble("The program ended and couldn't be started again. All that was typed before is "
                           "kept.") from why
+
+
+def is_full(many: int) -> bool:
+    """Whether a note of so many messages has as many as a note may have."""
+    return many >= MOST_MESSAGES
+
+
+def is_nearly_full(many: int) -> bool:
+    """Whether a note of so many messages has room for few more."""
+    return many * NEARLY >= MOST_MESSAGES * (NEARLY - 1)
 
 
 def _is_unpacked(answer: bytes, size: int) -> bool:
