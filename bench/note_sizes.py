@@ -10,6 +10,7 @@ from typing import NamedTuple
 
 from note_people import Keys, Memory, Room, gone, memory_of, types
 
+from share.tests import editors
 from share.tests.attacks import full
 from share.tests.support import NOTE
 
@@ -60,6 +61,7 @@ def _sizes(room: Room, letters: int) -> Sizes:
 
 def _opened(room: Room, name: str, letters: int, keys: int = 0, **more: str) -> tuple[Opened, list[float], str]:
     """What it takes somebody to open a note of so many letters; the seconds of some keys, and why these are refused."""
+    editors.PATIENCE = int(MOST_SECONDS)
     begin = time.monotonic()
     editor, when = room.editor(name, **more), dict[str, float]()
     while len(when) < 2 and time.monotonic() < begin + MOST_SECONDS:
