@@ -506,8 +506,8 @@ class Judge:
             self._stirred.add(site)
 
     def _let_through(self) -> None:
-        """Lets through what can be, the lowest stamp first, and with a message those after it in its entry. What more it
-        lets through has all that was let through before among its causes or beside it, so the order says nothing of
+        """Lets through what can be, the lowest stamp first, and with a message those after it in its entry, and some that type on. What
+        more it lets through has all that was let through before among its causes or beside it, so the order says nothing of
         what is let through in the end."""
         if not self._stirred:
             return
